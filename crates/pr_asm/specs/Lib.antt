@@ -1,0 +1,12 @@
+pub mod Assembly
+pub mod Limits
+pub mod Mnemonics
+pub mod Names
+pub mod Numerals
+pub mod Operands
+pub mod Parts
+pub mod Placing
+pub mod Quotes
+pub mod Reading
+pub mod Statements
+pub mod Symbols

@@ -1,0 +1,29 @@
+//! Programs for the machine: their instructions, data and labels.
+#![tactic(auto)]
+
+mod assembly;
+mod keys;
+mod labels;
+mod layouts;
+mod mnemonics;
+mod names;
+mod numerals;
+mod operands;
+mod parts;
+mod places;
+mod programs;
+mod quotes;
+mod reading;
+mod refusals;
+mod statements;
+mod symbols;
+mod tokens;
+
+pub use labels::Label;
+pub use programs::Program;
+pub use reading::read_program;
+pub(crate) use refusals::Refused;
+pub use refusals::{AsmFault, AsmKind, AsmRefusal};
+
+#[cfg(test)]
+mod tests;

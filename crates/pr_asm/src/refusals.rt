@@ -1,0 +1,86 @@
+use pr_num::NoMemory;
+use std::error::Error;
+use std::fmt;
+
+/// Why a line of a program is refused. Of several kinds in one line the first is named.
+#[derive(Clone, Copy, Debug, PartialEq, Eq)]
+pub enum AsmKind {
+    /// The first word is no label and no instruction.
+    UnknownWord,
+    /// The operands are too many or too few, or one of them has not the form that it needs.
+    BadOperand,
+    /// An operand is a name that the program does not place, or no system call has the name.
+    UnknownName,
+    /// The line places a name that an earlier line places.
+    Double,
+    /// The line goes past 4,096 instructions or 65,536 bytes of data.
+    TooBig,
+}
+
+/// The first line of a program that is refused, and why.
+#[derive(Clone, Copy, Debug, PartialEq, Eq)]
+pub struct AsmFault {
+    pub line: u32,
+    pub kind: AsmKind,
+}
+
+/// Why a program was not read.
+#[derive(Clone, Copy, Debug, PartialEq, Eq)]
+pub enum AsmRefusal {
+    Fault(AsmFault),
+    NoMemory,
+}
+
+impl fmt::Display for AsmRefusal {
+    fn fmt<W: fmt::Write>(&self, f: &mut fmt::Formatter<W>) -> fmt::Result {
+        match self {
+            AsmRefusal::Fault(fault) => {
+                let AsmFault { line, kind } = fault;
+                write!(f, "line {line}: {kind:?}")
+            }
+            AsmRefusal::NoMemory => write!(f, "out of memory"),
+        }
+    }
+}
+
+impl Error for AsmRefusal {}
+
+impl From<NoMemory> for AsmRefusal {
+    ghost use Rattle.std.specs.Prelude.{◌≡◌};
+    ghost use Rattle.pr_asm.specs.declared.refusals.AsmRefusal.TheVariants as variants;
+
+    ghost from_gives = { λ _ e. e ≡ variants.NoMemory };
+
+    fn from(_error: NoMemory) -> AsmRefusal {
+        AsmRefusal::NoMemory
+    }
+}
+
+/// Why one line is refused.
+#[derive(Clone, Copy)]
+pub(crate) enum Refused {
+    Kind(AsmKind),
+    NoMemory(NoMemory),
+}
+
+impl From<AsmKind> for Refused {
+    ghost use Rattle.std.specs.Prelude.{◌≡◌};
+    ghost use Rattle.pr_asm.specs.declared.refusals.Refused.TheVariants as variants;
+
+    ghost from_gives = { λ kind e. e ≡ variants.Kind kind };
+
+    fn from(kind: AsmKind) -> Refused {
+        Refused::Kind(kind)
+    }
+}
+
+impl From<NoMemory> for Refused {
+    ghost use Rattle.std.specs.Prelude.{◌≡◌};
+    ghost use Rattle.pr_asm.specs.declared.refusals.Refused.TheVariants as variants;
+
+    ghost from_gives = { λ error e. e ≡ variants.NoMemory error };
+
+    fn from(error: NoMemory) -> Refused {
+        Refused::NoMemory(error)
+    }
+}

@@ -1,0 +1,242 @@
+//! The statements of a program, each read on its own line.
+ghost use Rattle.std.specs.Prelude.{◌≡◌, ◌==◌, Some, None, slice_index};
+ghost use Rattle.pr_asm.specs.Reading.{Gives};
+ghost use Rattle.pr_asm.specs.Statements.{code_of, text_of, space_of, statement_with, statement_of};
+
+use crate::mnemonics::Mnemonic;
+use crate::names::{label_of, name_of};
+use crate::numerals::number_of;
+use crate::operands::{
+    one_call, one_immediate, register_and_immediate, registers_and_immediate, two_registers,
+};
+use crate::parts::{none, two};
+use crate::quotes::quoted_bytes;
+use crate::tokens::Tokens;
+use crate::{AsmKind, Refused};
+use pr_num::{Bytes, Instruction, Name, NoMemory};
+use std::alloc::Global;
+
+/// What a line of a program says.
+#[derive(Drop)]
+pub enum Statement {
+    /// Nothing: a comment, or a line without words.
+    Blank,
+    /// A label before the next instruction.
+    Label {
+        name: Name,
+    },
+    /// Bytes in the data, with so many zero bytes behind them.
+    Data {
+        name: Name,
+        bytes: Bytes,
+        zeros: u64,
+    },
+    /// An instruction. Where a name stands for its immediate, the immediate is 0 here.
+    Code {
+        instruction: Instruction,
+        name: Option<Name>,
+    },
+}
+
+fn plain(instruction: Instruction) -> Statement
+    ensures { result ≡ Statement.Code instruction None }
+{
+    Statement::Code {
+        instruction,
+        name: None,
+    }
+}
+
+/// The statement of an instruction.
+#[tactic(auto, unfolding(crate::specs::Statements::code_of))]
+fn code_of(mnemonic: Mnemonic, operands: Tokens) -> Result<Statement, AsmKind>
+    ensures { result ≡ code_of mnemonic operands.entry }
+{
+    match mnemonic {
+        Mnemonic::Bpt => none(operands).map(|()| plain(Instruction::Bpt)),
+        Mnemonic::Nop => none(operands).map(|()| plain(Instruction::Nop)),
+        Mnemonic::Set => register_and_immediate(operands).map(|(to, value)| Statement::Code {
+            instruction: Instruction::Set {
+                to,
+                imm: value.value,
+            },
+            name: value.name,
+        }),
+        Mnemonic::Mov => two_registers(operands).map(|(to, from)| plain(Instruction::Mov {
+            to,
+            from,
+        })),
+        Mnemonic::Add => two_registers(operands).map(|(to, from)| plain(Instruction::Add {
+            to,
+            from,
+        })),
+        Mnemonic::Sub => two_registers(operands).map(|(to, from)| plain(Instruction::Sub {
+            to,
+            from,
+        })),
+        Mnemonic::Mul => two_registers(operands).map(|(to, from)| plain(Instruction::Mul {
+            to,
+            from,
+        })),
+        Mnemonic::Div => two_registers(operands).map(|(to, from)| plain(Instruction::Div {
+            to,
+            from,
+        })),
+        Mnemonic::Ld => registers_and_immediate(operands).map(|(to, base, value)| Statement::Code {
+            instruction: Instruction::Ld {
+                to,
+                base,
+                offset: value.value,
+            },
+            name: value.name,
+        }),
+        Mnemonic::St => registers_and_immediate(operands).map(|(
+            from,
+            base,
+            value,
+        )| Statement::Code {
+            instruction: Instruction::St {
+                from,
+                base,
+                offset: value.value,
+            },
+            name: value.name,
+        }),
+        Mnemonic::Ldb => registers_and_immediate(operands).map(|(to, base, value)| Statement::Code {
+            instruction: Instruction::Ldb {
+                to,
+                base,
+                offset: value.value,
+            },
+            name: value.name,
+        }),
+        Mnemonic::Stb => registers_and_immediate(operands).map(|(
+            from,
+            base,
+            value,
+        )| Statement::Code {
+            instruction: Instruction::Stb {
+                from,
+                base,
+                offset: value.value,
+            },
+            name: value.name,
+        }),
+        Mnemonic::Jmp => one_immediate(operands).map(|value| Statement::Code {
+            instruction: Instruction::Jmp {
+                target: value.value,
+            },
+            name: value.name,
+        }),
+        Mnemonic::Jz => register_and_immediate(operands).map(|(test, value)| Statement::Code {
+            instruction: Instruction::Jz {
+                test,
+                target: value.value,
+            },
+            name: value.name,
+        }),
+        Mnemonic::Jnz => register_and_immediate(operands).map(|(test, value)| Statement::Code {
+            instruction: Instruction::Jnz {
+                test,
+                target: value.value,
+            },
+            name: value.name,
+        }),
+        Mnemonic::Jlt => registers_and_immediate(operands).map(|(
+            left,
+            right,
+            value,
+        )| Statement::Code {
+            instruction: Instruction::Jlt {
+                left,
+                right,
+                target: value.value,
+            },
+            name: value.name,
+        }),
+        Mnemonic::Call => one_immediate(operands).map(|value| Statement::Code {
+            instruction: Instruction::Call {
+                target: value.value,
+            },
+            name: value.name,
+        }),
+        Mnemonic::Ret => none(operands).map(|()| plain(Instruction::Ret)),
+        Mnemonic::Sys => one_call(operands).map(|call| plain(Instruction::Sys { call })),
+    }
+}
+
+/// `text NAME "..."`.
+#[tactic(auto, unfolding(crate::specs::Statements::text_of))]
+fn text_of(alloc: Global, operands: Tokens) -> Result<Statement, Refused>
+    ensures { Gives (λ s. s) result (text_of operands.entry) }
+{
+    let (name, text) = two(operands)?;
+    let name = name_of(name).ok_or(AsmKind::BadOperand)?;
+    let bytes = quoted_bytes(alloc, text)?.ok_or(AsmKind::BadOperand)?;
+    Ok(Statement::Data {
+        name,
+        bytes,
+        zeros: 1,
+    })
+}
+
+/// `space NAME N`.
+#[tactic(auto, unfolding(crate::specs::Statements::space_of))]
+fn space_of(alloc: Global, operands: Tokens) -> Result<Statement, AsmKind>
+    ensures { result ≡ space_of operands.entry }
+{
+    let (name, size) = two(operands)?;
+    let name = name_of(name).ok_or(AsmKind::BadOperand)?;
+    let zeros = number_of(size).ok_or(AsmKind::BadOperand)?;
+    if zeros == 0 || zeros > 65_536 {
+        return Err(AsmKind::BadOperand);
+    }
+    Ok(Statement::Data {
+        name,
+        bytes: Bytes::from_vec(Vec::new(alloc)),
+        zeros,
+    })
+}
+
+/// A line that is not a label: data or an instruction.
+#[tactic(auto, unfolding(crate::specs::Statements::statement_with, crate::specs::Statements::instruction_of))]
+fn statement_with(alloc: Global, first: &[u8], operands: Tokens) -> Result<Statement, Refused>
+    ensures { Gives (λ s. s) result (statement_with first.now operands.entry) }
+{
+    if first == b"text".as_slice() {
+        return text_of(alloc, operands);
+    }
+    if first == b"space".as_slice() {
+        return Ok(space_of(alloc, operands)?);
+    }
+    let mnemonic = Mnemonic::from_word(first).ok_or(AsmKind::UnknownWord)?;
+    Ok(code_of(mnemonic, operands)?)
+}
+
+fn is_comment(first: &[u8]) -> bool
+    ensures { result ≡ (slice_index first.now 0 == 35) }
+{
+    match first.first() {
+        Some(b) => *b == b'#',
+        None => false,
+    }
+}
+
+/// What a line says on its own.
+#[tactic(auto, unfolding(crate::specs::Statements::statement_of, crate::specs::Statements::statement_in, crate::specs::Statements::label_or))]
+pub fn statement_of(alloc: Global, line: &[u8]) -> Result<Statement, Refused>
+    ensures { Gives (λ s. s) result (statement_of line.now) }
+{
+    let mut words = Tokens::of(line);
+    let Some(first) = words.next() else {
+        return Ok(Statement::Blank);
+    };
+    if is_comment(first) {
+        return Ok(Statement::Blank);
+    }
+    if let Some(name) = label_of(first) {
+        none(words)?;
+        return Ok(Statement::Label { name });
+    }
+    statement_with(alloc, first, words)
+}

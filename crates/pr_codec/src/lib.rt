@@ -1,0 +1,11 @@
+//! Words in bytes: a word is its eight bytes, the least first.
+#![tactic(auto)]
+
+mod laws;
+mod words;
+
+pub use laws::{a_word_is_its_bytes, words_are_their_bytes};
+pub use words::{Short, WORD, put, put_words, read_words, word};
+
+#[cfg(test)]
+mod tests;

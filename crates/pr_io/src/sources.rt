@@ -1,0 +1,121 @@
+ghost use Rattle.std.specs.Prelude.{◌≡◌, ℕ, ◌+◌, ◌++◌, ◌<◌, ◌≤◌, List, [], length, take, Option, OnOk, IfOk, OnErr, IsErrOf};
+ghost use Rattle.std.specs.Io.KnownBytes.{IsAtEnd};
+ghost use Rattle.pr_io.specs.Known.{with_front};
+ghost use Rattle.pr_io.specs.Faults.{Rose};
+ghost use Rattle.pr_io.specs.Reading.{ReadsAll, Came, CameWithin, CameAbove};
+ghost use Rattle.pr_io.specs.declared.sources.ReadEnd.TheVariants as variants;
+
+use crate::Failed;
+use pr_num::{Bytes, NoMemory};
+use std::alloc::Global;
+use std::error::Error;
+use std::fmt;
+
+/// Where bytes come from.
+pub trait Source {
+    /// The bytes that are still to come, where the source tells them.
+    ghost left: { Self → Option (List ℕ) };
+
+    /// The faults so far. The count never falls, and stays at 2^64 - 1.
+    ghost faults: { Self → ℕ };
+
+    /// The reads so far, where the source counts them: each adds one at most.
+    ghost reads: { Self → ℕ } = { λ _. 0 };
+
+    /// Moves the next bytes to the front of `buf`, and answers how many: 0 only at the end.
+    /// A read that fails leaves what is to come as it was. What stands in `buf` then, and
+    /// behind the bytes that came, is not said.
+    fn read(&mut self, buf: &mut [u8]) -> Result<usize, Failed>
+        requires { 0 < length buf.old }
+        ensures fits { IfOk result (λ n. n ≤ length buf.new) }
+        ensures moved { IfOk result
+            (λ n. left self.old ≡ with_front (take n buf.new) (left self.new)) }
+        ensures end { IfOk result (λ n. n ≡ 0 → IsAtEnd (left self.new)) }
+        ensures kept { OnErr result (left self.new ≡ left self.old) }
+        ensures failed { OnErr result (Rose (faults self.old) (faults self.new)) }
+        ensures never_falls { faults self.old ≤ faults self.new }
+        ensures counted { reads self.new ≤ reads self.old + 1 };
+}
+
+/// Why not all bytes were read.
+#[derive(Clone, Copy, Debug, PartialEq, Eq)]
+pub enum ReadEnd {
+    /// A read failed.
+    Failed,
+    /// More bytes came than were allowed.
+    TooLong,
+    /// Memory ran out.
+    NoMemory,
+}
+
+impl fmt::Display for ReadEnd {
+    fn fmt<W: fmt::Write>(&self, f: &mut fmt::Formatter<W>) -> fmt::Result {
+        match self {
+            ReadEnd::Failed => write!(f, "{Failed}"),
+            ReadEnd::TooLong => write!(f, "the input is too long"),
+            ReadEnd::NoMemory => write!(f, "out of memory"),
+        }
+    }
+}
+
+impl Error for ReadEnd {}
+
+impl From<Failed> for ReadEnd {
+    ghost from_gives = { λ _ e. e ≡ variants.Failed };
+
+    fn from(_failed: Failed) -> ReadEnd {
+        ReadEnd::Failed
+    }
+}
+
+impl From<NoMemory> for ReadEnd {
+    ghost from_gives = { λ _ e. e ≡ variants.NoMemory };
+
+    fn from(_error: NoMemory) -> ReadEnd {
+        ReadEnd::NoMemory
+    }
+}
+
+// Appends what came to what came before.
+fn keep(bytes: &mut Vec<u8>, more: &[u8]) -> Result<(), NoMemory>
+    ensures { OnOk result (bytes.new.items ≡ bytes.old.items ++ more.now) }
+{
+    Ok(bytes.extend_from_slice(more)?)
+}
+
+/// The bytes that one read asks for.
+const PIECE: usize = 4096;
+
+/// Reads all bytes up to the end, of which at most `limit` are allowed, in at most
+/// `limit + 1` reads. An error loses the bytes that came before it.
+#[tactic(auto, using(crate::proofs::Counts::counts, crate::proofs::Known::known))]
+pub fn read_all<S: Source>(alloc: Global, source: &mut S, limit: usize) -> Result<Bytes, ReadEnd>
+    ensures all { IfOk result (λ bytes. ReadsAll (S.left source.old) (S.left source.new) bytes) }
+    ensures allowed { IfOk result (λ bytes. length bytes ≤ limit) }
+
+    // More than the limit came.
+    ensures too_long { IsErrOf result ReadEnd.TooLong
+        → CameAbove limit (S.left source.old) (S.left source.new) }
+
+    // No more than the limit came, and then a read failed.
+    ensures failed { IsErrOf result ReadEnd.Failed
+        → Rose (S.faults source.old) (S.faults source.new) }
+    ensures failed_within { IsErrOf result ReadEnd.Failed
+        → CameWithin limit (S.left source.old) (S.left source.new) }
+    ensures out_of_memory { IsErrOf result ReadEnd.NoMemory
+        → Came (S.left source.old) (S.left source.new) }
+
+    ensures never_falls { S.faults source.old ≤ S.faults source.new }
+    ensures counted { S.reads source.new ≤ S.reads source.old + (limit + 1) }
+{
+    let mut bytes = Vec::new(alloc);
+    let mut piece = [0; PIECE];
+    while bytes.len() <= limit {
+        let n = source.read(&mut piece)?;
+        if n == 0 {
+            return Ok(Bytes::from_vec(bytes));
+        }
+        keep(&mut bytes, &piece[..n])?;
+    }
+    Err(ReadEnd::TooLong)
+}

@@ -1,0 +1,5 @@
+pub mod FoundLemmas
+pub mod MessageLemmas
+pub mod RefusalLemmas
+pub mod StopLemmas
+pub mod TurnLemmas

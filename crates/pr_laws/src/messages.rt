@@ -1,0 +1,20 @@
+ghost use Rattle.std.specs.Prelude.{◌≡◌, ◌≤◌, ◌++◌, ℕ, List, Ok, length, take};
+ghost use Rattle.pr_num.specs.Messages.{Spells, first_message};
+ghost use Rattle.pr_num.specs.declared.messages.Message.{Message};
+
+/// Bytes that spell a message are read as that message, whatever follows them, and as so many bytes.
+#[tactic(auto, using(crate::proofs::MessageLemmas::readings))]
+pub fn spelt_is_read()
+    ensures { (bytes rest : List ℕ) (m : Message) (tail : List ℕ) → Spells bytes m tail → first_message (bytes ++ rest) ≡ Ok (m, length bytes) }
+{}
+
+/// The same bytes spell one message, with the same bytes behind its operands, and that is spelt by no other bytes.
+pub fn one_spelling_one_message()
+    ensures message { (a : List ℕ) (m n : Message) (s t : List ℕ) → Spells a m s → Spells a n t → (m ≡ n) × (s ≡ t) }
+    ensures spelling { (a b : List ℕ) (m : Message) (t : List ℕ) → Spells a m t → Spells b m t → a ≡ b }
+{}
+
+/// No spelling of a message begins the spelling of another: messages that stand one behind the other are told apart.
+pub fn no_spelling_begins_another()
+    ensures { (a b rest : List ℕ) (m n : Message) (s t : List ℕ) → Spells a m s → Spells b n t → a ++ rest ≡ b → (a ≡ b) × (m ≡ n) }
+{}

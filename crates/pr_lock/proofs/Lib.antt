@@ -1,0 +1,4 @@
+pub mod Sums
+pub mod Histories
+pub mod Keeps
+pub mod Sent

@@ -1,0 +1,56 @@
+-- The rule of the lock, over two words, one slot and what all seats know.
+-- Word 0 is 1 while a seat is between `enter` and `leave`, and else 0. Word 1 is 0 until the first seat has its shares, and 1 from then on.
+use Rattle.std.specs.Prelude.{◌≡◌, ℕ, ◌+◌, ◌<◌, Bool, true, Option, None, Some, is_some, IfSome, List, [], ◌∷◌, length, sum_by, if◌then◌else◌, nat_lt}
+use mathlib.Core.Option.{some}
+use mathlib.Core.Option as place
+use lib.ListN.{get_elem?}
+use Rattle.atomic_table.specs.Table.{State}
+use Rattle.pr_lock.specs.declared.views.Origin.{Origin}
+use Rattle.pr_lock.specs.declared.views.View.{View}
+use Rattle.pr_lock.specs.History.{StartsWith, StandIn, times_at}
+
+abbrev pub one_if : Bool → ℕ
+one_if b = if b then 1 else 0
+
+-- the first seat of a lock
+abbrev pub newcomer : {V I : Type 0} → Origin V → View V I
+newcomer made = record { origin = Some made; fresh = true; seen = []; own = []; entered = None; shares = 0 }
+
+module _ {V I : Type 0} where
+  -- what a seat knows is true of the history
+  pub record Fits (made : Origin V) (log : List I) (v : View V I) : Type 0 where
+    pub source : IfSome v.origin (λ o. o ≡ made)
+    pub inside : IfSome v.entered (λ l. l ≡ log)
+    pub begins : StartsWith log v.seen
+    pub stand : StandIn log v.own
+    -- a seat without a share does not hold, and has seen and added nothing
+    pub idle : v.shares ≡ 0 → (v.entered ≡ None) × (v.own ≡ []) × (v.seen ≡ [])
+
+  module _ (entries : V → List I) (comes : V → V → Type 0) (made : Origin V) where
+    -- the slot has the value, which stands for the whole history
+    pub record IsAtHome (log : List I) (slot : place.Option (Option V)) : Type 0 where
+      pub value : V
+      pub is : slot ≡ some (Some value)
+      pub stands : entries value ≡ log
+      pub source : comes value made.first.value
+
+    pub record IsKept (s : State (Option V) (View V I)) : Type 0 where
+      pub log : List I
+      pub held : ℕ
+      pub begun : ℕ
+      pub slot : place.Option (Option V)
+      pub words : s.words ≡ held ∷ begun ∷ []
+      pub homes : s.homes ≡ slot ∷ []
+      pub bit : held < 2
+      -- word 0 counts the seats that hold
+      pub inside : sum_by (λ (v : View V I). one_if (is_some v.entered)) s.views ≡ held
+      pub at_home : held ≡ 0 → IsAtHome log slot
+      pub fits : (seat : ℕ) (v : View V I) → get_elem? s.views seat ≡ some v → Fits made log v
+      -- some seat has seen the whole history
+      pub whole : (seat : ℕ) × (v : View V I) × (get_elem? s.views seat ≡ some v) × (v.seen ≡ log)
+      -- each place of the history is some one seat's own
+      pub once : (at : ℕ) → sum_by (λ (v : View V I). times_at at v.own) s.views ≡ one_if (nat_lt at (length log))
+      -- word 1 is 1 once no seat is fresh
+      pub opened : sum_by (λ (v : View V I). one_if v.fresh) s.views + begun ≡ 1
+      pub before : begun ≡ 0 → sum_by (λ (v : View V I). v.shares) s.views ≡ 0
+      pub after : begun ≡ 1 → sum_by (λ (v : View V I). v.shares) s.views ≡ made.seats

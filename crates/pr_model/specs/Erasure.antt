@@ -1,0 +1,65 @@
+use Rattle.std.specs.Prelude.{ℕ, List, map}
+use Rattle.pr_num.specs.Faults.{fault_signal}
+use Rattle.pr_num.specs.Sets.{with_number}
+use Rattle.pr_num.specs.Signals.{signal_number}
+use Rattle.pr_model.specs.State.{TracedState, TracedProcess, TracedLwp}
+use Rattle.pr_model.specs.System.{Place, in_program, at_call, sleeping, SystemLwp, SystemProcess, SystemState}
+use Rattle.pr_model.specs.declared.lwps.Phase.{Phase}
+use Rattle.pr_model.specs.declared.lwps.Phase.TheVariants.{User, Entered, Asleep, Exiting, Faulted}
+
+-- Erasure forgets what controllers have set, and the counts of usage, which only they can read: of the traced state it
+-- keeps the system state.
+
+-- An lwp at a call that it has not made is at the call; one on its way out of a call, or between a fault and its
+-- posting, is in its program.
+unfoldable pub erased_phase : Phase → Place
+erased_phase User = in_program
+erased_phase (Entered call) = at_call call
+erased_phase (Asleep call args since) = sleeping call args since
+erased_phase (Exiting call args result) = in_program
+erased_phase (Faulted f address) = in_program
+
+-- the signal of a fault that was incurred is pending already, although it is posted later
+unfoldable pub erased_pending : Phase → ℕ → ℕ
+erased_pending User pending = pending
+erased_pending (Entered call) pending = pending
+erased_pending (Asleep call args since) pending = pending
+erased_pending (Exiting call args result) pending = pending
+erased_pending (Faulted f address) pending = with_number pending (signal_number (fault_signal f))
+
+unfoldable pub erased_lwp : TracedLwp → SystemLwp
+erased_lwp l = record {
+  id = l.id;
+  regs = l.regs;
+  held = l.held;
+  pending = erased_pending l.phase l.pending;
+  current = l.current;
+  frames = l.frames;
+  suspended = l.suspended;
+  place = erased_phase l.phase;
+}
+
+unfoldable pub erased_process : TracedProcess → SystemProcess
+erased_process p = record {
+  id = p.id;
+  parent = p.parent;
+  program = p.program;
+  made_at = p.made_at;
+  ended = p.ended;
+  space = p.space;
+  fds = p.fds;
+  dispositions = p.dispositions;
+  pending = p.pending;
+  job_stop = p.job_stop;
+  next_lwp = p.next_lwp;
+  lwps = map erased_lwp p.lwps;
+}
+
+unfoldable pub erased : TracedState → SystemState
+erased s = record {
+  programs = s.programs;
+  clock = s.clock;
+  made = s.made;
+  files = s.files;
+  processes = map erased_process s.processes;
+}

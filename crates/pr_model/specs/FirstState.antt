@@ -1,0 +1,36 @@
+use Rattle.std.specs.Prelude.{ℕ, List, [], ◌∷◌, Option, Some, None, false, codes, slice_get}
+use Rattle.pr_num.specs.Programs.{Program}
+use Rattle.pr_num.specs.declared.files.StoredFile.{StoredFile}
+use Rattle.pr_model.specs.Lives.{bare_process, with_spawned}
+use Rattle.pr_model.specs.State.{TracedState, TracedProcess, nothing_open}
+
+-- The state before the first step.
+
+-- process 0, the system process: it has no lwp, no memory and no descriptor, and is never stopped
+unfoldable pub system_process : TracedProcess
+system_process = bare_process 0 0 (codes "sched") 0
+
+-- nothing but process 0, these programs and these files
+unfoldable pub bare_state : List Program → List StoredFile → TracedState
+bare_state programs files = record {
+  programs = programs;
+  clock = 0;
+  made = 1;
+  files = record { files = files; pipes = []; opens = [] };
+  processes = system_process ∷ [];
+  opens = nothing_open;
+  interrupted = 0;
+}
+
+-- a process of the program at a place
+abbrev pub spawned_at : Option Program → TracedState → TracedState
+spawned_at None s = s
+spawned_at (Some program) s = with_spawned program false s
+
+-- processes of these programs, one after another, each of the program at a place
+unfoldable pub with_spawns : List ℕ → TracedState → TracedState
+with_spawns [] s = s
+with_spawns (place ∷ places) s = with_spawns places (spawned_at (slice_get s.programs place) s)
+
+unfoldable pub first_state : List Program → List StoredFile → List ℕ → TracedState
+first_state programs files spawns = with_spawns spawns (bare_state programs files)

@@ -1,0 +1,77 @@
+ghost use Rattle.std.specs.Prelude.{◌≡◌, ◌≤◌, ◌<◌, ◌-◌, List, [], ◌∷◌, ◌++◌, length, take, slice_get, option_copied};
+
+use arrayvec::ArrayVec;
+use pr_num::SigSet;
+use std::marker::Model;
+
+/// What a signal handler interrupted, and comes back with sigreturn.
+#[derive(Clone, Copy, Debug, PartialEq, Eq)]
+pub struct Frame {
+    /// r0 to r7, sp, fp and pc.
+    pub regs: [u64; 11],
+    /// The held set.
+    pub held: SigSet,
+}
+
+impl Default for Frame {
+    fn default() -> Frame {
+        Frame {
+            regs: [0; 11],
+            held: SigSet::empty(),
+        }
+    }
+}
+
+/// The frames of an lwp's signal handlers, the latest last: at most 32, kept in place, and seen by contracts as their
+/// list.
+#[derive(Drop)]
+pub struct Frames {
+    items: ArrayVec<Frame, 32>,
+}
+
+impl Model for Frames {
+    ghost use Rattle.std.specs.Prelude.{List};
+    ghost use Rattle.pr_model.specs.declared.frames.Frame.{Frame};
+
+    ghost Value = { List Frame };
+
+    ghost view = { λ a. a.items.items };
+}
+
+impl Frames {
+    /// How many frames there can be.
+    pub const MAX: usize = 32;
+
+    /// No frames.
+    pub fn new() -> Frames
+        ensures { result ≡ [] }
+    {
+        Frames {
+            items: ArrayVec::new(),
+        }
+    }
+
+    /// How many frames there are, at most 32.
+    pub fn len(&self) -> usize
+        ensures value { result ≡ length self.now }
+        ensures limit { length self.now ≤ 32 }
+    {
+        self.items.len()
+    }
+
+    /// Puts a frame behind the others.
+    pub fn push(&mut self, frame: Frame)
+        requires { length self.old < 32 }
+        ensures { self.new ≡ self.old ++ frame ∷ [] }
+    {
+        self.items.push(frame);
+    }
+
+    /// Takes the last frame away and answers it, if there is one.
+    pub fn pop(&mut self) -> Option<Frame>
+        ensures last { result ≡ slice_get self.old (length self.old - 1) }
+        ensures front { self.new ≡ take (length self.old - 1) self.old }
+    {
+        self.items.pop()
+    }
+}

@@ -1,0 +1,24 @@
+ghost use Rattle.std.specs.Prelude.{◌≡◌, ℕ, List, [], ◌∷◌, ◌++◌};
+ghost use Rattle.pr_model.specs.Legal.{IsLegal, IsLegalEntry, after, state_after};
+ghost use Rattle.pr_model.specs.State.{TracedState};
+ghost use Rattle.std.specs.List.{flat_map};
+ghost use Rattle.pr_model.specs.UntracedMachine.{traced_step};
+ghost use Rattle.pr_model.specs.UntracedSteps.{latest_first, steps_of, untraced_steps, untraced_trace};
+ghost use Rattle.pr_model.specs.declared.events.Entry.{Entry};
+
+/// A history that grows by one entry leads to the state after that entry; it stays legal exactly where the entry is
+/// legal in the state that it finds; and its untraced steps grow by those of the entry.
+#[tactic(auto, using(crate::proofs::HistoryLemmas::one_longer))]
+pub fn history_grows_at_its_end()
+    ensures state { (s : TracedState) (h : List Entry) (e : Entry) → state_after s (h ++ e ∷ []) ≡ after (state_after s h) e }
+    ensures legal { (n : ℕ) (s : TracedState) (h : List Entry) (e : Entry) → IsLegal n s h → IsLegalEntry n (state_after s h) e → IsLegal n s (h ++ e ∷ []) }
+    ensures front { (n : ℕ) (s : TracedState) (h : List Entry) (e : Entry) → IsLegal n s (h ++ e ∷ []) → IsLegal n s h }
+    ensures last { (n : ℕ) (s : TracedState) (h : List Entry) (e : Entry) → IsLegal n s (h ++ e ∷ []) → IsLegalEntry n (state_after s h) e }
+    ensures steps { (h : List Entry) (e : Entry) → untraced_steps (h ++ e ∷ []) ≡ untraced_steps h ++ steps_of (latest_first [] h) e }
+{}
+
+/// The trace of a history is the trace of its untraced steps.
+#[tactic(auto, using(crate::proofs::HistoryLemmas::traces))]
+pub fn trace_is_that_of_the_steps()
+    ensures { (h : List Entry) → untraced_trace h ≡ flat_map traced_step (untraced_steps h) }
+{}

@@ -1,0 +1,60 @@
+use crate::Lwp;
+use pr_num::{FltSet, Keyed, Modes, Name, Sig, SigSet, SysSet, Table};
+
+/// What a process has used, counted from its making (proc(4), "usage").
+#[derive(Clone, Copy, Debug, PartialEq, Eq)]
+pub struct Usage {
+    /// System calls ended.
+    pub calls: u64,
+    /// Signals taken.
+    pub signals: u64,
+    /// Faults incurred.
+    pub faults: u64,
+    /// Instructions begun.
+    pub instructions: u64,
+}
+
+/// A process. `S` is how its address space is kept, `F` its descriptors, `P` pending signals, and `A` its watched
+/// areas.
+///
+/// A zombie has ended and waits to be reaped. It has nothing of what stands from `space` on: no memory, no
+/// descriptors, no lwps, no traced events and no modes; its next lwp would be the first.
+#[derive(Drop)]
+pub struct Process<S, F, P, A> {
+    pub id: u32,
+    /// The parent's id, 0 once the parent has ended.
+    pub parent: u32,
+    /// The name of the program that it runs.
+    pub program: Name,
+    /// The clock at its making, in milliseconds.
+    pub made_at: u64,
+    pub usage: Usage,
+    /// The wait status of a zombie (wait.h(3HEAD)).
+    pub ended: Option<u64>,
+    pub space: S,
+    pub fds: F,
+    /// For each signal from 1 on: 0 default, 1 ignored, else the address of its handler.
+    pub dispositions: [u64; 31],
+    /// The signals sent to the process that no lwp has taken yet.
+    pub pending: P,
+    /// The signal that stopped it by job control.
+    pub job_stop: Option<Sig>,
+    /// The id that the next lwp gets.
+    pub next_lwp: u32,
+    /// By rising id.
+    pub lwps: Table<Lwp<P>>,
+    pub traced_signals: SigSet,
+    pub traced_faults: FltSet,
+    pub traced_entries: SysSet,
+    pub traced_exits: SysSet,
+    pub modes: Modes,
+    pub areas: A,
+}
+
+impl<S, F, P, A> Keyed for Process<S, F, P, A> {
+    ghost key = { λ p. p.id };
+
+    fn id(&self) -> u32 {
+        self.id
+    }
+}

@@ -1,0 +1,265 @@
+ghost use Rattle.std.specs.Prelude.{◌≡◌, ◌==◌, ◌+◌, ◌*◌, ◌≤◌, length, Some, None, IfOk, if◌then◌else◌};
+ghost use Rattle.std.specs.List.{list_all};
+ghost use Rattle.pr_num.specs.Messages.{nth_word, one_word, two_words, three_words, eleven_words, message_read, bad_operand, in_columns, tail_length, operand_count, unpadded_length, spelt_length, with_tail, first_message};
+
+use byteorder::{ByteOrder, LittleEndian};
+use pr_num::{Message, MsgFault};
+
+/// The most milliseconds that a wait may ask for.
+const LONGEST_WAIT: u64 = 1_000_000_000;
+
+/// The most bytes that one message reads or writes.
+const MOST_BYTES: u64 = 4_096;
+
+/// The word at a place, counted in words.
+#[tactic(auto, unfolding(pr_num::specs::Messages::nth_word, pr_num::specs::Words::word_of), using(crate::proofs::ReadLemmas::reads))]
+fn nth_word(bytes: &[u8], place: usize) -> u64
+    requires { 8 * place + 8 ≤ length bytes.now }
+    ensures { result ≡ nth_word bytes.now place }
+{
+    let at = 8 * place;
+    LittleEndian::read_u64(&bytes[at..at + 8])
+}
+
+#[tactic(auto, unfolding(pr_num::specs::Messages::one_word))]
+fn one_word(bytes: &[u8]) -> Result<u64, MsgFault>
+    ensures { result ≡ one_word bytes.now }
+{
+    if bytes.len() < 16 {
+        return Err(MsgFault::Short);
+    }
+    Ok(nth_word(bytes, 1))
+}
+
+#[tactic(auto, unfolding(pr_num::specs::Messages::two_words))]
+fn two_words(bytes: &[u8]) -> Result<(u64, u64), MsgFault>
+    ensures { result ≡ two_words bytes.now }
+{
+    if bytes.len() < 24 {
+        return Err(MsgFault::Short);
+    }
+    Ok((nth_word(bytes, 1), nth_word(bytes, 2)))
+}
+
+#[tactic(auto, unfolding(pr_num::specs::Messages::three_words))]
+fn three_words(bytes: &[u8]) -> Result<(u64, u64, u64), MsgFault>
+    ensures { result ≡ three_words bytes.now }
+{
+    if bytes.len() < 32 {
+        return Err(MsgFault::Short);
+    }
+    Ok((nth_word(bytes, 1), nth_word(bytes, 2), nth_word(bytes, 3)))
+}
+
+#[tactic(auto, unfolding(pr_num::specs::Messages::eleven_words))]
+fn eleven_words(bytes: &[u8]) -> Result<[u64; 11], MsgFault>
+    ensures { result ≡ eleven_words bytes.now }
+{
+    if bytes.len() < 96 {
+        return Err(MsgFault::Short);
+    }
+    Ok([
+        nth_word(bytes, 1),
+        nth_word(bytes, 2),
+        nth_word(bytes, 3),
+        nth_word(bytes, 4),
+        nth_word(bytes, 5),
+        nth_word(bytes, 6),
+        nth_word(bytes, 7),
+        nth_word(bytes, 8),
+        nth_word(bytes, 9),
+        nth_word(bytes, 10),
+        nth_word(bytes, 11),
+    ])
+}
+
+#[tactic(auto, unfolding(pr_num::specs::Messages::message_read))]
+fn set_registers(bytes: &[u8]) -> Result<Message, MsgFault>
+    ensures { result ≡ message_read 18 bytes.now }
+{
+    let regs = eleven_words(bytes)?;
+    Ok(Message::Sreg { regs })
+}
+
+#[tactic(auto, unfolding(pr_num::specs::Messages::message_read))]
+fn make_agent(bytes: &[u8]) -> Result<Message, MsgFault>
+    ensures { result ≡ message_read 21 bytes.now }
+{
+    let regs = eleven_words(bytes)?;
+    Ok(Message::Agent { regs })
+}
+
+/// The message of a code, with the operand words that stand behind it.
+#[tactic(auto, unfolding(pr_num::specs::Messages::message_read))]
+fn message_read(code: u64, bytes: &[u8]) -> Result<Message, MsgFault>
+    ensures { result ≡ message_read code bytes.now }
+{
+    match code {
+        1 => Ok(Message::Stop),
+        2 => Ok(Message::Dstop),
+        3 => Ok(Message::Wstop),
+        4 => one_word(bytes).map(|ms| Message::Twstop { ms }),
+        5 => one_word(bytes).map(|flags| Message::Run { flags }),
+        6 => Ok(Message::Csig),
+        7 => Ok(Message::Cfault),
+        8 => one_word(bytes).map(|signal| Message::Ssig { signal }),
+        9 => one_word(bytes).map(|signal| Message::Kill { signal }),
+        10 => one_word(bytes).map(|signal| Message::Unkill { signal }),
+        11 => one_word(bytes).map(|signals| Message::Shold { signals }),
+        12 => one_word(bytes).map(|signals| Message::Strace { signals }),
+        13 => one_word(bytes).map(|faults| Message::Sfault { faults }),
+        14 => one_word(bytes).map(|calls| Message::Sentry { calls }),
+        15 => one_word(bytes).map(|calls| Message::Sexit { calls }),
+        16 => one_word(bytes).map(|modes| Message::Set { modes }),
+        17 => one_word(bytes).map(|modes| Message::Unset { modes }),
+        18 => set_registers(bytes),
+        19 => one_word(bytes).map(|pc| Message::Svaddr { pc }),
+        20 => three_words(bytes).map(|(at, size, flags)| Message::Watch { at, size, flags }),
+        21 => make_agent(bytes),
+        22 => two_words(bytes).map(|(at, len)| Message::Read { at, len }),
+        23 => two_words(bytes).map(|(at, len)| Message::Write { at, len }),
+        _ => Err(MsgFault::UnknownOp),
+    }
+}
+
+/// Which operand word of a message is the first that lies outside its column, if one does.
+#[tactic(auto, unfolding(pr_num::specs::Messages::bad_operand))]
+fn bad_operand(message: &Message) -> Option<u32>
+    ensures { result ≡ bad_operand message.now }
+{
+    match *message {
+        Message::Twstop { ms } => outside(ms <= LONGEST_WAIT, 1),
+        Message::Run { flags } => outside(flags < 32, 1),
+        Message::Ssig { signal } => outside(signal <= 31, 1),
+        Message::Kill { signal } => outside(1 <= signal && signal <= 31, 1),
+        Message::Unkill { signal } => outside(1 <= signal && signal <= 31 && signal != 9, 1),
+        Message::Shold { signals } | Message::Strace { signals } => outside(signals < 1 << 31, 1),
+        Message::Sfault { faults } => outside(faults < 1 << 8, 1),
+        Message::Sentry { calls } | Message::Sexit { calls } => outside(calls < 1 << 29, 1),
+        Message::Set { modes } | Message::Unset { modes } => outside(modes < 16, 1),
+        Message::Watch { at, size, flags } => bad_area(at, size, flags),
+        Message::Read { len, .. } | Message::Write { len, .. } => {
+            outside(1 <= len && len <= MOST_BYTES, 2)
+        }
+        Message::Stop
+        | Message::Dstop
+        | Message::Wstop
+        | Message::Csig
+        | Message::Cfault
+        | Message::Sreg { .. }
+        | Message::Svaddr { .. }
+        | Message::Agent { .. } => None,
+    }
+}
+
+/// A word's number, where that word is outside its column.
+fn outside(fits: bool, word: u32) -> Option<u32>
+    ensures { result ≡ (if fits then None else Some word) }
+{
+    if fits { None } else { Some(word) }
+}
+
+/// Which word of a watched area is the first that lies outside its column.
+#[tactic(auto, unfolding(pr_num::specs::Messages::bad_operand))]
+fn bad_area(at: u64, size: u64, flags: u64) -> Option<u32>
+    ensures { result ≡ bad_operand (Message.Watch at size flags) }
+{
+    if flags == 0 {
+        return None;
+    }
+    if size == 0 || u128::from(at) + u128::from(size) > 1 << 64 {
+        return Some(2);
+    }
+    outside(flags < 16 && flags != 8, 3)
+}
+
+#[tactic(auto, unfolding(pr_num::specs::Messages::in_columns, pr_num::specs::Messages::bad_operand, pr_num::specs::Messages::tail_length))]
+fn in_columns(message: Message) -> Result<Message, MsgFault>
+    ensures value { result ≡ in_columns message }
+    ensures tail { IfOk result (λ m. tail_length m ≤ 4096) }
+{
+    match bad_operand(&message) {
+        None => Ok(message),
+        Some(word) => Err(MsgFault::BadOperand { word }),
+    }
+}
+
+/// How many bytes stand behind the operand words of a message, the padding aside.
+#[tactic(auto, unfolding(pr_num::specs::Messages::tail_length))]
+fn tail_length(message: &Message) -> u64
+    ensures { result ≡ tail_length message.now }
+{
+    match *message {
+        Message::Write { len, .. } => len,
+        _ => 0,
+    }
+}
+
+/// How many operand words a message has.
+#[tactic(auto, unfolding(pr_num::specs::Messages::operand_count))]
+fn operand_count(message: &Message) -> usize
+    ensures count { result ≡ operand_count message.now }
+    ensures limit { result ≤ 11 }
+{
+    match message {
+        Message::Stop | Message::Dstop | Message::Wstop | Message::Csig | Message::Cfault => 0,
+        Message::Twstop { .. }
+        | Message::Run { .. }
+        | Message::Ssig { .. }
+        | Message::Kill { .. }
+        | Message::Unkill { .. }
+        | Message::Shold { .. }
+        | Message::Strace { .. }
+        | Message::Sfault { .. }
+        | Message::Sentry { .. }
+        | Message::Sexit { .. }
+        | Message::Set { .. }
+        | Message::Unset { .. }
+        | Message::Svaddr { .. } => 1,
+        Message::Read { .. } | Message::Write { .. } => 2,
+        Message::Watch { .. } => 3,
+        Message::Sreg { .. } | Message::Agent { .. } => 11,
+    }
+}
+
+/// The first message of bytes, and how many of them spell it. The faults are tried in the order: 8 bytes for the code,
+/// a known code, the operand words, their columns, and for PCWRITE its bytes and then zeros up to a multiple of 8.
+/// Takes no memory.
+#[tactic(auto, unfolding(pr_num::specs::Messages::first_message))]
+pub fn decode_one(bytes: &[u8]) -> Result<(Message, usize), MsgFault>
+    ensures { result ≡ first_message bytes.now }
+{
+    if bytes.len() < 8 {
+        return Err(MsgFault::Short);
+    }
+    let message = message_read(nth_word(bytes, 0), bytes)?;
+    let message = in_columns(message)?;
+    with_tail(bytes, message)
+}
+
+fn are_zeros(bytes: &[u8]) -> bool
+    ensures { result ≡ list_all (λ b. b == 0) bytes.now }
+{
+    bytes.iter().all(|byte| *byte == 0)
+}
+
+#[tactic(auto, unfolding(pr_num::specs::Messages::with_tail, pr_num::specs::Messages::spelt_length, pr_num::specs::Messages::unpadded_length))]
+fn with_tail(bytes: &[u8], message: Message) -> Result<(Message, usize), MsgFault>
+    requires { tail_length message ≤ 4096 }
+    ensures { result ≡ with_tail bytes.now message }
+{
+    let tail = tail_length(&message) as usize;
+    let unpadded = 8 * (1 + operand_count(&message)) + tail;
+    let spelt = unpadded + (8 - tail % 8) % 8;
+    if bytes.len() < spelt {
+        return Err(MsgFault::Short);
+    }
+    let padding = &bytes[unpadded..spelt];
+    if are_zeros(padding) {
+        Ok((message, spelt))
+    } else {
+        Err(MsgFault::BadOperand {
+            word: (spelt / 8 - 1) as u32,
+        })
+    }
+}

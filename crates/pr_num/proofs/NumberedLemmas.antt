@@ -1,0 +1,171 @@
+use Rattle.std.proofs.Common.{◌≡◌, ◌↔◌, ◌⊎◌, ℕ, zero, suc, ◌+◌, ◌-◌, ◌^◌, ◌<◌, ◌≤◌, Bool, true, false, ◌&&◌, eqb, cond, Option, Some, None, IsNone, IsSome, is_some, List, [], ◌∷◌, length, refl, sym, ◌∙◌, ap, arith, inl, inr}
+use Rattle.std.specs.List.{slice_get}
+use Rattle.std.proofs.lemmas.Option.{slice_get_past, same_Some}
+use Rattle.std.proofs.lemmas.Bool.{and_parts, eqb-true, cases_eq, cases_lt, cond-false, ne_eqb, false≢true}
+use Rattle.pr_num.specs.declared.signals.Sig.{Sig}
+use Rattle.pr_num.specs.declared.faults.Flt.{Flt}
+use Rattle.pr_num.specs.declared.syscalls.Sysno.{Sysno}
+use Rattle.pr_num.specs.Sets.{has_number, least_entry}
+use Rattle.pr_num.specs.Tables.{entry_at}
+use Rattle.pr_num.specs.Signals.{signals, signal_number, least_signal}
+use Rattle.pr_num.specs.Faults.{faults, fault_number, least_fault}
+use Rattle.pr_num.specs.Syscalls.{syscalls, syscall_number, least_syscall}
+use Rattle.pr_num.proofs.SetLemmas.{has_number-zero, same_set}
+
+-- ---- tables whose entries are numbered in their order
+
+-- whether the numbers of these entries count up from n
+abbrev pub counts_from : {T : Type 0} → (T → ℕ) → ℕ → List T → Bool
+counts_from number n [] = true
+counts_from number n (x ∷ xs) = eqb (number x) n && counts_from number (suc n) xs
+
+-- the entry at a place has the number of the place
+pub number-slice_get : {T : Type 0} (number : T → ℕ) (n : ℕ) (xs : List T) → counts_from number n xs ≡ true → (i : ℕ) (x : T) → slice_get xs i ≡ Some x → number x ≡ n + i
+number-slice_get number n [] ok i x e = cc
+number-slice_get number n (y ∷ ys) ok zero x e =
+    let same : y ≡ x = cc in
+    ap number (sym same) ∙ eqb-true _ _ (and_parts (eqb (number y) n) _ ok).0 ∙ omega arith
+number-slice_get number n (y ∷ ys) ok (suc i) x e =
+    number-slice_get number (suc n) ys (and_parts (eqb (number y) n) _ ok).1 i x e ∙ omega arith
+
+slice_get-some : {T : Type 0} (xs : List T) (i : ℕ) → i < length xs → IsSome (slice_get xs i)
+slice_get-some [] i below = absurd (omega arith)
+slice_get-some (x ∷ xs) zero below = refl
+slice_get-some (x ∷ xs) (suc i) below = slice_get-some xs i (omega arith)
+
+-- the entry of a number, at a number that is not 0
+entry_at-suc : {T : Type 0} (xs : List T) (n : ℕ) → entry_at xs (suc n) ≡ slice_get xs n
+unfolding entry_at
+entry_at-suc xs n =
+    let counted : suc n ≡ 0 → ⊥ = λ e. omega arith in
+    let place : suc n - 1 ≡ n = omega arith in
+    cond-false (eqb (suc n) 0) None (slice_get xs (suc n - 1)) (ne_eqb (suc n) 0 counted) ∙ ap (slice_get xs) place
+
+pub number-entry_at : {T : Type 0} (number : T → ℕ) (xs : List T) → counts_from number 1 xs ≡ true → (n : ℕ) (x : T) → entry_at xs n ≡ Some x → number x ≡ n
+unfolding entry_at
+number-entry_at number xs ok zero x e = cc
+number-entry_at number xs ok (suc n) x e =
+    number-slice_get number 1 xs ok n x (sym (entry_at-suc xs n) ∙ e) ∙ omega arith
+
+-- a table has as many numbers as entries
+pub IsSome-entry_at : {T : Type 0} (xs : List T) (n : ℕ) → IsSome (entry_at xs n) ↔ ((1 ≤ n) × (n ≤ length xs))
+unfolding entry_at
+IsSome-entry_at xs zero = (λ e. cc, λ within. absurd (omega arith))
+IsSome-entry_at xs (suc n) = (λ e. inside (cases_lt n (length xs)) (ap is_some (sym (entry_at-suc xs n)) ∙ e), λ within. ap is_some (entry_at-suc xs n) ∙ found (omega arith)) where
+  inside : (n < length xs) ⊎ (length xs ≤ n) → IsSome (slice_get xs n) → (1 ≤ suc n) × (suc n ≤ length xs)
+  inside (inl below) e = (omega arith, omega arith)
+  inside (inr past) e = absurd (false≢true (sym (ap is_some (slice_get_past xs n past)) ∙ e))
+
+  found : n < length xs → IsSome (slice_get xs n)
+  found below = slice_get-some xs n below
+
+-- nothing is found first, and nothing after
+none_here : {T : Type 0} (b : Bool) (x : T) (rest : Option T) → cond b (Some x) rest ≡ None → b ≡ false
+none_here true x rest e = cc
+none_here false x rest e = refl
+
+none_after : {T : Type 0} (b : Bool) (x : T) (rest : Option T) → cond b (Some x) rest ≡ None → rest ≡ None
+none_after true x rest e = cc
+none_after false x rest e = e
+
+-- a set with no least entry has no number of the table
+has_number-none : {T : Type 0} (number : T → ℕ) (w n : ℕ) (xs : List T) → counts_from number n xs ≡ true → least_entry number xs w ≡ None → (m : ℕ) → n ≤ m → m < n + length xs → has_number w m ≡ false
+has_number-none number w n [] ok none m least most = absurd (omega arith)
+has_number-none number w n (x ∷ xs) ok none m least most =
+    let here : number x ≡ n = eqb-true _ _ (and_parts (eqb (number x) n) _ ok).0 in
+    let rest : counts_from number (suc n) xs ≡ true = (and_parts (eqb (number x) n) _ ok).1 in
+    elim (cases_eq m n) [ inl e ↦ ap (has_number w) (e ∙ sym here) ∙ none_here (has_number w (number x)) x _ none | inr ne ↦ has_number-none number w (suc n) xs rest (none_after (has_number w (number x)) x _ none) m (omega arith) (omega arith) ]
+
+pub zero-from-none : {T : Type 0} (number : T → ℕ) (w : ℕ) (xs : List T) → counts_from number 1 xs ≡ true → w < 2 ^ length xs → least_entry number xs w ≡ None → w ≡ 0
+zero-from-none number w xs ok small none =
+    same_set (length xs) w 0 small (omega arith) (λ m least most. has_number-none number w 1 xs ok none m least (omega arith) ∙ sym (has_number-zero m))
+
+pub least_entry-zero : {T : Type 0} (number : T → ℕ) (xs : List T) → least_entry number xs 0 ≡ None
+least_entry-zero number [] = refl
+least_entry-zero number (x ∷ xs) =
+    ap (λ b. cond b (Some x) (least_entry number xs 0)) (has_number-zero (number x)) ∙ least_entry-zero number xs
+
+-- the least entry of a set is in it
+has_number-least_entry : {T : Type 0} (number : T → ℕ) (w : ℕ) (xs : List T) (x : T) → least_entry number xs w ≡ Some x → has_number w (number x) ≡ true
+has_number-least_entry number w [] x found = cc
+has_number-least_entry number w (y ∷ ys) x found =
+    elim (has_number w (number y)) as (λ b. has_number w (number y) ≡ b → cond b (Some y) (least_entry number ys w) ≡ Some x → has_number w (number x) ≡ true) [ true ↦ λ here e. ap (λ z. has_number w (number z)) (sym (same_Some y x e)) ∙ here | false ↦ λ _ e. has_number-least_entry number w ys x e ] refl found
+
+-- and no number of the table below it is
+least_entry-least : {T : Type 0} (number : T → ℕ) (w n : ℕ) (xs : List T) (x : T) → counts_from number n xs ≡ true → least_entry number xs w ≡ Some x → (m : ℕ) → n ≤ m → m < number x → has_number w m ≡ false
+least_entry-least number w n [] x ok found m least below = cc
+least_entry-least number w n (y ∷ ys) x ok found m least below =
+    let here : number y ≡ n = eqb-true _ _ (and_parts (eqb (number y) n) _ ok).0 in
+    let rest : counts_from number (suc n) ys ≡ true = (and_parts (eqb (number y) n) _ ok).1 in
+    elim (has_number w (number y)) as (λ b. has_number w (number y) ≡ b → cond b (Some y) (least_entry number ys w) ≡ Some x → has_number w m ≡ false) [ true ↦ λ _ e. (let same : number y ≡ number x = ap number (same_Some y x e) in absurd (omega arith)) | false ↦ λ not_here e. (elim (cases_eq m n) [ inl at ↦ ap (has_number w) (at ∙ sym here) ∙ not_here | inr ne ↦ least_entry-least number w (suc n) ys x rest e m (omega arith) below ]) ] refl found
+
+-- ---- the three tables
+
+pub signals_counted : counts_from signal_number 1 signals ≡ true
+unfolding signal_number
+signals_counted = refl
+
+pub faults_counted : counts_from fault_number 1 faults ≡ true
+unfolding fault_number
+faults_counted = refl
+
+pub syscalls_counted : counts_from syscall_number 1 syscalls ≡ true
+unfolding syscall_number
+syscalls_counted = refl
+
+from_is_none : {T : Type 0} (o : Option T) → IsNone o → o ≡ None
+from_is_none None e = refl
+from_is_none (Some x) e = cc
+
+pub least_signal-zero : least_signal 0 ≡ None
+unfolding least_signal
+least_signal-zero = least_entry-zero signal_number signals
+
+pub zero-least_signal : (w : ℕ) → w < 2 ^ 31 → IsNone (least_signal w) → w ≡ 0
+unfolding least_signal
+zero-least_signal w small e = zero-from-none signal_number w signals signals_counted small (from_is_none _ e)
+
+pub least_fault-zero : least_fault 0 ≡ None
+unfolding least_fault
+least_fault-zero = least_entry-zero fault_number faults
+
+pub zero-least_fault : (w : ℕ) → w < 2 ^ 8 → IsNone (least_fault w) → w ≡ 0
+unfolding least_fault
+zero-least_fault w small e = zero-from-none fault_number w faults faults_counted small (from_is_none _ e)
+
+pub least_syscall-zero : least_syscall 0 ≡ None
+unfolding least_syscall
+least_syscall-zero = least_entry-zero syscall_number syscalls
+
+pub zero-least_syscall : (w : ℕ) → w < 2 ^ 29 → IsNone (least_syscall w) → w ≡ 0
+unfolding least_syscall
+zero-least_syscall w small e = zero-from-none syscall_number w syscalls syscalls_counted small (from_is_none _ e)
+
+pub has_number-least_signal : (w : ℕ) (least : Sig) → least_signal w ≡ Some least → has_number w (signal_number least) ≡ true
+unfolding least_signal
+has_number-least_signal w least found = has_number-least_entry signal_number w signals least found
+
+pub least_signal-least : (w : ℕ) (least : Sig) → least_signal w ≡ Some least → (n : ℕ) → 1 ≤ n → n < signal_number least → has_number w n ≡ false
+unfolding least_signal
+least_signal-least w least found n from below =
+    least_entry-least signal_number w 1 signals least signals_counted found n from below
+
+pub has_number-least_fault : (w : ℕ) (least : Flt) → least_fault w ≡ Some least → has_number w (fault_number least) ≡ true
+unfolding least_fault
+has_number-least_fault w least found = has_number-least_entry fault_number w faults least found
+
+pub least_fault-least : (w : ℕ) (least : Flt) → least_fault w ≡ Some least → (n : ℕ) → 1 ≤ n → n < fault_number least → has_number w n ≡ false
+unfolding least_fault
+least_fault-least w least found n from below =
+    least_entry-least fault_number w 1 faults least faults_counted found n from below
+
+pub has_number-least_syscall : (w : ℕ) (least : Sysno) → least_syscall w ≡ Some least → has_number w (syscall_number least) ≡ true
+unfolding least_syscall
+has_number-least_syscall w least found = has_number-least_entry syscall_number w syscalls least found
+
+pub least_syscall-least : (w : ℕ) (least : Sysno) → least_syscall w ≡ Some least → (n : ℕ) → 1 ≤ n → n < syscall_number least → has_number w n ≡ false
+unfolding least_syscall
+least_syscall-least w least found n from below =
+    least_entry-least syscall_number w 1 syscalls least syscalls_counted found n from below
+
+pub ruleset none_where_empty = (least_signal-zero, zero-least_signal, least_fault-zero, zero-least_fault, least_syscall-zero, zero-least_syscall)

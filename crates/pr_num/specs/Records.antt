@@ -1,0 +1,120 @@
+use Rattle.std.specs.Prelude.{◌≡◌, ◌-◌, length, replicate, ◌==◌, ◌||◌, ◌&&◌, ◌+◌, ◌^◌, ℕ, Bool, List, [], ◌∷◌, ◌++◌, Option, Some, None, nat_lt, nat_le, if◌then◌else◌}
+use Rattle.std.specs.List.{list_any}
+use Rattle.pr_num.specs.Errnos.{errnos, errno_number}
+use Rattle.pr_num.specs.Words.{words_bytes}
+
+-- The records of the process file system (proc(4)), each a list of words. Here stands what each word may hold; the
+-- words of a state's records are told by the state.
+
+-- a test that a word of a record has to pass
+abbrev pub Range : Type 0
+Range = ℕ → Bool
+
+-- a word below a bound
+abbrev pub below : ℕ → Range
+below bound w = nat_lt w bound
+
+-- a truth value
+abbrev pub truth : Range
+truth = below 2
+
+-- any word
+abbrev pub any_word : Range
+any_word = below (2 ^ 64)
+
+-- a process id or an lwp id
+abbrev pub an_id : Range
+an_id = below (2 ^ 32)
+
+-- a signal's number, or 0 for none
+abbrev pub a_signal : Range
+a_signal = below 32
+
+-- a fault's number, or 0 for none
+abbrev pub a_fault : Range
+a_fault = below 9
+
+-- a system call's number, or 0 for none
+abbrev pub a_call : Range
+a_call = below 30
+
+-- a stop reason's number, or 0 for none
+abbrev pub a_reason : Range
+a_reason = below 8
+
+-- what a stop is about: a signal's, a fault's or a call's number, or 0
+abbrev pub a_matter : Range
+a_matter = below 32
+
+-- a set of signals, of faults, of system calls
+abbrev pub signal_set : Range
+signal_set = below (2 ^ 31)
+
+abbrev pub fault_set : Range
+fault_set = below (2 ^ 8)
+
+abbrev pub call_set : Range
+call_set = below (2 ^ 29)
+
+-- the number of an errno, or 0 for none
+abbrev pub an_errno : Range
+an_errno w = (w == 0) || list_any (λ e. errno_number e == w) errnos
+
+-- how a process disposes of a signal: by default, by ignoring it, by catching it
+abbrev pub a_disposition : Range
+a_disposition = below 3
+
+-- a kind of mapping: text, data, heap, stack, mapped
+abbrev pub a_mapping_kind : Range
+a_mapping_kind w = nat_le 1 w && nat_le w 5
+
+-- The 30 words of an lwp's status: flags, lwp id, why and what it stands stopped for, current signal, current fault
+-- and its address, system call, its 6 arguments, result and errno, held set, pending set, the registers r0 to r7,
+-- sp, fp and pc, and the disposition of the current signal.
+abbrev pub lwpstatus_ranges : List Range
+lwpstatus_ranges =
+    below 64 ∷ an_id ∷ a_reason ∷ a_matter ∷ a_signal ∷ a_fault ∷ any_word ∷ a_call
+    ∷ any_word ∷ any_word ∷ any_word ∷ any_word ∷ any_word ∷ any_word ∷ any_word ∷ an_errno ∷ signal_set ∷ signal_set
+    ∷ any_word ∷ any_word ∷ any_word ∷ any_word ∷ any_word ∷ any_word ∷ any_word ∷ any_word ∷ any_word ∷ any_word ∷ any_word
+    ∷ a_disposition ∷ []
+
+-- The 43 words of a process's status: flags, process id, parent's id, number of lwps, pending set, traced signals,
+-- traced faults, calls traced at entry and at exit, base and size of the heap, the agent's id or 0, number of
+-- watched areas, and the status of the representative lwp.
+abbrev pub status_ranges : List Range
+status_ranges =
+    (below 32 ∷ an_id ∷ an_id ∷ any_word ∷ signal_set ∷ signal_set ∷ fault_set ∷ call_set ∷ call_set
+    ∷ any_word ∷ any_word ∷ an_id ∷ any_word ∷ []) ++ lwpstatus_ranges
+
+-- The 12 words of what ps(1) shows of a process: process id, parent's id, number of lwps, whether it is a zombie, its
+-- wait status, mapped bytes, the clock at its making, the job stop's signal, and the 4 words of its program's name.
+abbrev pub psinfo_ranges : List Range
+psinfo_ranges =
+    an_id ∷ an_id ∷ any_word ∷ truth ∷ any_word ∷ any_word ∷ any_word ∷ a_signal ∷ any_word ∷ any_word ∷ any_word ∷ any_word ∷ []
+
+-- The 8 words of a mapping: address, size, protection, kind, and the 4 words of a name.
+abbrev pub map_entry_ranges : List Range
+map_entry_ranges = any_word ∷ any_word ∷ below 8 ∷ a_mapping_kind ∷ any_word ∷ any_word ∷ any_word ∷ any_word ∷ []
+
+-- The 5 words of a process's usage: process id, calls ended, signals taken, faults incurred, instructions begun.
+abbrev pub usage_ranges : List Range
+usage_ranges = an_id ∷ any_word ∷ any_word ∷ any_word ∷ any_word ∷ []
+
+-- The place of the first word that is out of its range, if there is one; words and ranges are as many.
+abbrev pub first_out_of_range : List Range → List ℕ → Option ℕ
+first_out_of_range ranges words = out_from 0 ranges words
+  where
+    out_from : ℕ → List Range → List ℕ → Option ℕ
+    out_from at [] words = None
+    out_from at (r ∷ rs) [] = None
+    out_from at (r ∷ rs) (w ∷ ws) = if r w then out_from (at + 1) rs ws else Some at
+
+-- The wire format of records: these bytes spell a record of these words, each in its range.
+pub record SpellsRecord (ranges : List Range) (bytes words : List ℕ) : Type 0 where
+  pub count : length words ≡ length ranges
+  pub ranged : first_out_of_range ranges words ≡ None
+  pub spelt : bytes ≡ words_bytes words
+
+-- a name of at most 31 bytes in a record: 32 bytes, with zeros behind the name
+abbrev pub name_field : List ℕ → List ℕ
+name_field name = name ++ replicate (32 - length name) 0

@@ -1,0 +1,49 @@
+//! The words that every other crate uses: numbers with names, sets of them, byte strings and names.
+#![tactic(auto)]
+
+mod bytes;
+mod call_sets;
+mod control;
+mod errnos;
+mod fault_sets;
+mod faults;
+mod files;
+mod instruction_laws;
+mod instructions;
+mod keyed_tables;
+mod mappings;
+mod memory;
+mod messages;
+mod names;
+pub mod set_laws;
+mod sets;
+mod signal_sets;
+mod signals;
+mod stop_reasons;
+mod syscalls;
+pub mod table_laws;
+mod tables;
+/// The lwp id of the agent: no other lwp ever gets it.
+pub const AGENT: u32 = 65_535;
+
+#[cfg(test)]
+mod tests;
+
+pub use bytes::{Bytes, Handles};
+pub use call_sets::SysSet;
+pub use control::{Modes, Prot, WatchFlags};
+pub use errnos::Errno;
+pub use fault_sets::FltSet;
+pub use faults::Flt;
+pub use files::{Access, OpenFile, StoredFile, Target};
+pub use instruction_laws::an_instruction_is_its_bytes;
+pub use instructions::{Instruction, Reg};
+pub use keyed_tables::{Keyed, Table};
+pub use mappings::{Area, BadByte, Mapping, MappingKind};
+pub use memory::NoMemory;
+pub use messages::{Message, MsgFault};
+pub use names::Name;
+pub use signal_sets::SigSet;
+pub use signals::{DefAct, Sig};
+pub use stop_reasons::StopReason;
+pub use syscalls::{ArgKind, Sysno};

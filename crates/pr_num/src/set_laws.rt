@@ -1,0 +1,89 @@
+ghost use Rattle.std.specs.Prelude.{◌≡◌, ◌≢◌, ◌==◌, ◌-◌, ◌^◌, ◌<◌, ◌≤◌, ◌↔◌, ◌&&◌, ◌||◌, ℕ, not, true, false, Some, IsSome, [], ◌∷◌};
+ghost use Rattle.pr_num.specs.Sets.{has_number, union_word, common_word, minus_word, with_number, without_number, set_of_word};
+ghost use Rattle.pr_num.specs.Signals.{signal_number, least_signal, holdable_word};
+ghost use Rattle.pr_num.specs.Faults.{fault_number, least_fault};
+ghost use Rattle.pr_num.specs.Syscalls.{syscall_number, least_syscall};
+ghost use Rattle.pr_num.specs.Control.{has_flags, fork_mode, rlc_mode, klc_mode, async_mode, watch_read, watch_write, watch_exec, watch_trap_after, prot_read, prot_write, prot_exec};
+ghost use Rattle.pr_num.specs.declared.signals.Sig.{Sig as AnySignal};
+ghost use Rattle.pr_num.specs.declared.faults.Flt.{Flt as AnyFault};
+ghost use Rattle.pr_num.specs.declared.syscalls.Sysno.{Sysno as AnySyscall};
+
+use crate::control::{Modes, Prot, WatchFlags};
+
+// A set is known by the numbers that it has.
+
+/// What the sets have that are made of others, number by number.
+pub fn members_of_made_sets()
+    ensures empty { (n : ℕ) → has_number 0 n ≡ false }
+    ensures union { (a b n : ℕ) → has_number (union_word a b) n ≡ (has_number a n || has_number b n) }
+    ensures common { (a b n : ℕ) → has_number (common_word a b) n ≡ (has_number a n && has_number b n) }
+    ensures minus { (a b n : ℕ) → b < 2 ^ 64 → 1 ≤ n → n ≤ 64 → has_number (minus_word a b) n ≡ (has_number a n && not (has_number b n)) }
+    ensures added { (w n m : ℕ) → 1 ≤ n → 1 ≤ m → has_number (with_number w n) m ≡ (has_number w m || m == n) }
+    ensures taken_out { (w n m : ℕ) → 1 ≤ n → n ≤ 64 → 1 ≤ m → m ≤ 64 → has_number (without_number w n) m ≡ (has_number w m && not (m == n)) }
+    ensures holdable { (w n : ℕ) → 1 ≤ n → n ≤ 64 → has_number (holdable_word w) n ≡ (has_number w n && not (n == 9) && not (n == 23)) }
+{}
+
+/// Sets over a table of so many entries that have the same numbers are the same.
+pub fn set_is_its_members()
+    ensures { (entries a b : ℕ) → a < 2 ^ entries → b < 2 ^ entries → ((n : ℕ) → 1 ≤ n → n ≤ entries → has_number a n ≡ has_number b n) → a ≡ b }
+{}
+
+/// A word is a set exactly where it has no number beyond its table, and then it is the set's word.
+pub fn words_of_sets()
+    ensures accepted { (entries w : ℕ) → IsSome (set_of_word entries w) ↔ ((n : ℕ) → entries < n → has_number w n ≡ false) }
+    ensures back { (entries w set : ℕ) → set_of_word entries w ≡ Some set → set ≡ w }
+{}
+
+/// The least signal of a set is in it, and no signal below it is.
+pub fn least_signals()
+    ensures member { (w : ℕ) (least : AnySignal) → least_signal w ≡ Some least → has_number w (signal_number least) ≡ true }
+    ensures least { (w : ℕ) (least : AnySignal) → least_signal w ≡ Some least → (n : ℕ) → 1 ≤ n → n < signal_number least → has_number w n ≡ false }
+{}
+
+/// The least fault of a set is in it, and no fault below it is.
+pub fn least_faults()
+    ensures member { (w : ℕ) (least : AnyFault) → least_fault w ≡ Some least → has_number w (fault_number least) ≡ true }
+    ensures least { (w : ℕ) (least : AnyFault) → least_fault w ≡ Some least → (n : ℕ) → 1 ≤ n → n < fault_number least → has_number w n ≡ false }
+{}
+
+/// The least call of a set is in it, and no call below it is.
+pub fn least_syscalls()
+    ensures member { (w : ℕ) (least : AnySyscall) → least_syscall w ≡ Some least → has_number w (syscall_number least) ≡ true }
+    ensures least { (w : ℕ) (least : AnySyscall) → least_syscall w ≡ Some least → (n : ℕ) → 1 ≤ n → n < syscall_number least → has_number w n ≡ false }
+{}
+
+/// One flag is one number of its word, so that the laws of sets are those of flags.
+pub fn flags_are_members()
+    ensures { (w n : ℕ) → 1 ≤ n → has_flags w (2 ^ (n - 1)) ≡ has_number w n }
+{}
+
+/// The words of the modes.
+pub fn words_of_modes() -> [u64; 4]
+    ensures { result ≡ fork_mode ∷ rlc_mode ∷ klc_mode ∷ async_mode ∷ [] }
+{
+    [
+        Modes::FORK.word(),
+        Modes::RLC.word(),
+        Modes::KLC.word(),
+        Modes::ASYNC.word(),
+    ]
+}
+
+/// The words of the watch flags.
+pub fn words_of_watch_flags() -> [u64; 4]
+    ensures { result ≡ watch_read ∷ watch_write ∷ watch_exec ∷ watch_trap_after ∷ [] }
+{
+    [
+        WatchFlags::READ.word(),
+        WatchFlags::WRITE.word(),
+        WatchFlags::EXEC.word(),
+        WatchFlags::TRAPAFTER.word(),
+    ]
+}
+
+/// The words of the protections.
+pub fn words_of_protections() -> [u64; 3]
+    ensures { result ≡ prot_read ∷ prot_write ∷ prot_exec ∷ [] }
+{
+    [Prot::READ.word(), Prot::WRITE.word(), Prot::EXEC.word()]
+}

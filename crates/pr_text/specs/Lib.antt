@@ -1,0 +1,5 @@
+pub mod Bytes
+pub mod Numerals
+pub mod Quotes
+pub mod Words
+pub mod Division

@@ -1,0 +1,51 @@
+use Rattle.std.specs.Prelude.{ℕ, Bool, true, false, ◌&&◌, List, [], ◌∷◌, Option, Some, None, option_map, find, codes, decimal, if◌then◌else◌}
+use Rattle.std.specs.List.{range_with_len}
+use Rattle.std.specs.Str.{bytes_eq}
+use Rattle.proclab.specs.declared.commands.Command.{Command}
+use Rattle.proclab.specs.declared.commands.Command.TheVariants.{Run, Check, Plain, Generate}
+
+-- What the words after the program's name ask for. The shapes are run, run -q, run -j N, run -q -j N, run -j N -q,
+-- check, plain and gen N; words of no other shape ask for anything.
+
+-- The number from 1 on, of so many, that a word writes in decimal. No numeral has a leading zero or a sign.
+unfoldable pub number_up_to : ℕ → List ℕ → Option ℕ
+number_up_to most word = find (λ n. bytes_eq (decimal n) word) (range_with_len 1 most)
+
+-- a run with the processor shared by as many threads as a word says, 1 to 16
+unfoldable pub shared_run : Bool → List ℕ → Option Command
+shared_run quiet workers = option_map (λ n. Run quiet (Some n)) (number_up_to 16 workers)
+
+-- a scenario with as many children as a word says, 1 to 64
+unfoldable pub generation : List ℕ → Option Command
+generation children = option_map Generate (number_up_to 64 children)
+
+unfoldable pub of_one_word : List ℕ → Option Command
+of_one_word a =
+    if bytes_eq a (codes "run") then Some (Run false None)
+    else (if bytes_eq a (codes "check") then Some Check
+    else (if bytes_eq a (codes "plain") then Some Plain
+    else None))
+
+unfoldable pub of_two_words : List ℕ → List ℕ → Option Command
+of_two_words a b =
+    if bytes_eq a (codes "run") && bytes_eq b (codes "-q") then Some (Run true None)
+    else (if bytes_eq a (codes "gen") then generation b
+    else None)
+
+unfoldable pub of_three_words : List ℕ → List ℕ → List ℕ → Option Command
+of_three_words a b c =
+    if bytes_eq a (codes "run") && bytes_eq b (codes "-j") then shared_run false c
+    else None
+
+unfoldable pub of_four_words : List ℕ → List ℕ → List ℕ → List ℕ → Option Command
+of_four_words a b c d =
+    if bytes_eq a (codes "run") && bytes_eq b (codes "-q") && bytes_eq c (codes "-j") then shared_run true d
+    else (if bytes_eq a (codes "run") && bytes_eq b (codes "-j") && bytes_eq d (codes "-q") then shared_run true c
+    else None)
+
+unfoldable pub command_of : List (List ℕ) → Option Command
+command_of (a ∷ []) = of_one_word a
+command_of (a ∷ b ∷ []) = of_two_words a b
+command_of (a ∷ b ∷ c ∷ []) = of_three_words a b c
+command_of (a ∷ b ∷ c ∷ d ∷ []) = of_four_words a b c d
+command_of _ = None

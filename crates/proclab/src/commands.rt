@@ -1,0 +1,121 @@
+ghost use Rattle.std.specs.Prelude.{◌≡◌, ◌<◌, ◌-◌, ◌^◌, map, string_bytes};
+ghost use Rattle.proclab.specs.Commands.{command_of, number_up_to, shared_run, generation, of_one_word, of_two_words, of_three_words, of_four_words};
+
+use itoa::Buffer;
+
+/// What the words after the program's name may ask for.
+#[derive(Clone, Copy, Debug, PartialEq, Eq)]
+pub enum Command {
+    /// Run the scenario of the input. `quiet`: the history is not written. `workers`: so many threads share the
+    /// processor, 1 to 16; `None`: one thread makes the whole run.
+    Run { quiet: bool, workers: Option<u32> },
+    /// Judge a history that was written.
+    Check,
+    /// Run the scenario on one thread, and write what the untraced machine did in that run.
+    Plain,
+    /// Write a scenario in which so many children are forked, 1 to 64.
+    Generate { children: u32 },
+}
+
+// The most threads that share the processor.
+const MAX_WORKERS: u32 = 16;
+
+// The most children of a scenario that is written.
+const MAX_CHILDREN: u32 = 64;
+
+/// What words ask for; `None` where no command has these words.
+#[tactic(auto, unfolding(crate::specs::Commands::command_of))]
+pub fn command_of(words: &[String]) -> Option<Command>
+    ensures { result ≡ command_of (map string_bytes words.now) }
+{
+    match words {
+        [first] => of_one_word(first.as_str()),
+        [first, second] => of_two_words(first.as_str(), second.as_str()),
+        [first, second, third] => of_three_words(first.as_str(), second.as_str(), third.as_str()),
+        [first, second, third, fourth] => of_four_words(
+            first.as_str(),
+            second.as_str(),
+            third.as_str(),
+            fourth.as_str(),
+        ),
+        _ => None,
+    }
+}
+
+#[tactic(auto, unfolding(crate::specs::Commands::of_one_word))]
+fn of_one_word(first: &str) -> Option<Command>
+    ensures { result ≡ of_one_word first.now }
+{
+    match first {
+        "run" => Some(Command::Run {
+            quiet: false,
+            workers: None,
+        }),
+        "check" => Some(Command::Check),
+        "plain" => Some(Command::Plain),
+        _ => None,
+    }
+}
+
+#[tactic(auto, unfolding(crate::specs::Commands::of_two_words))]
+fn of_two_words(first: &str, second: &str) -> Option<Command>
+    ensures { result ≡ of_two_words first.now second.now }
+{
+    match (first, second) {
+        ("run", "-q") => Some(Command::Run {
+            quiet: true,
+            workers: None,
+        }),
+        ("gen", children) => generation(children),
+        _ => None,
+    }
+}
+
+#[tactic(auto, unfolding(crate::specs::Commands::of_three_words))]
+fn of_three_words(first: &str, second: &str, third: &str) -> Option<Command>
+    ensures { result ≡ of_three_words first.now second.now third.now }
+{
+    match (first, second, third) {
+        ("run", "-j", workers) => shared_run(false, workers),
+        _ => None,
+    }
+}
+
+#[tactic(auto, unfolding(crate::specs::Commands::of_four_words))]
+fn of_four_words(first: &str, second: &str, third: &str, fourth: &str) -> Option<Command>
+    ensures { result ≡ of_four_words first.now second.now third.now fourth.now }
+{
+    match (first, second, third, fourth) {
+        ("run", "-q", "-j", workers) => shared_run(true, workers),
+        ("run", "-j", workers, "-q") => shared_run(true, workers),
+        _ => None,
+    }
+}
+
+#[tactic(auto, unfolding(crate::specs::Commands::shared_run))]
+fn shared_run(quiet: bool, workers: &str) -> Option<Command>
+    ensures { result ≡ shared_run quiet workers.now }
+{
+    let workers = number_up_to(MAX_WORKERS, workers)?;
+    Some(Command::Run {
+        quiet,
+        workers: Some(workers),
+    })
+}
+
+#[tactic(auto, unfolding(crate::specs::Commands::generation))]
+fn generation(children: &str) -> Option<Command>
+    ensures { result ≡ generation children.now }
+{
+    let children = number_up_to(MAX_CHILDREN, children)?;
+    Some(Command::Generate { children })
+}
+
+// The number from 1 to `most` that is written so.
+#[tactic(auto, unfolding(crate::specs::Commands::number_up_to))]
+fn number_up_to(most: u32, word: &str) -> Option<u32>
+    requires { most < 2 ^ 32 - 1 }
+    ensures { result ≡ number_up_to most word.now }
+{
+    (1..most + 1).find(|n| Buffer::new().format(*n) == word)
+}
