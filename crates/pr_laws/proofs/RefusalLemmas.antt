@@ -1,4 +1,4 @@
-use Rattle.std.proofs.Common.{◌≡◌, ◌⊎◌, ◌==◌, ℕ, Bool, true, false, not, ◌||◌, eqb, leb, ltb, Option, Some, None, List, Result, Ok, Err, IfSome, refl, inl, inr, subst, cond, sym}
+use Rattle.std.proofs.Common.{◌≡◌, ◌==◌, ℕ, Bool, true, false, Option, Some, None, List, Result, Ok, Err, IfSome, refl, inl, inr, subst, cond}
 use Rattle.pr_num.specs.Messages.{first_message}
 use Rattle.pr_num.specs.declared.messages.MsgFault.{MsgFault}
 use Rattle.pr_num.specs.declared.errnos.Errno.{Errno}
@@ -7,8 +7,7 @@ use Rattle.pr_num.specs.declared.messages.Message.{Message}
 use Rattle.pr_num.specs.declared.messages.Message.TheVariants.{Stop, Dstop, Wstop, Twstop, Run, Csig, Cfault, Ssig, Kill, Unkill, Shold, Strace, Sfault, Sentry, Sexit, Set, Unset, Sreg, Svaddr, Watch, Agent, Read, Write}
 use Rattle.pr_model.specs.Calls.{answer_to, open_unless, opened, open_answer, close_held, close_answer, read_held, read_answer, read_file, read_status, readable}
 use Rattle.pr_model.specs.ControlMessages.{Answer, refused, control_answer, wait_answer, held_answer, targeted_answer, decoded_answer, message_answer, run_answer, held_wait, targeted_wait, decoded_wait, waiting_answer, waits, target_of, control_handle, is_interrupted, wait_over, with_interrupt_seen}
-use Rattle.pr_model.specs.Handles.{handle_of, open_refusal}
-use Rattle.pr_model.specs.Running.{run_refused}
+use Rattle.pr_model.specs.Handles.{handle_of}
 use Rattle.pr_model.specs.State.{TracedState, TracedProcess, live_process}
 use Rattle.pr_model.specs.declared.calls.Call as calls
 use Rattle.pr_model.specs.declared.calls.Call.TheVariants as call

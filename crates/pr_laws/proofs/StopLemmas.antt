@@ -1,30 +1,22 @@
-use Rattle.std.proofs.Common.{◌≡◌, ℕ, Bool, true, false, ◌==◌, ◌&&◌, eqb, Option, Some, None, IfSome, is_some, List, [], ◌∷◌, map, cond, refl, sym, ◌∙◌, ap, subst}
-use Rattle.std.proofs.lemmas.Option.{same_Some}
+use Rattle.std.proofs.Common.{◌≡◌, ℕ, Bool, true, false, ◌==◌, Option, Some, None, List, [], ◌∷◌, cond, refl, sym, ◌∙◌, ap}
 use Rattle.std.specs.List.{find}
-use Rattle.std.specs.Option.{option_map}
-use Rattle.pr_laws.proofs.FoundLemmas.{found-passes, map-change_first}
-use Rattle.pr_laws.proofs.TurnLemmas.{IsLive, TakesTurn, turn-taken}
+use Rattle.pr_laws.proofs.FoundLemmas.{map-change_first}
+use Rattle.pr_laws.proofs.TurnLemmas.{IsLive, turn-taken}
 use Rattle.pr_model.specs.Erasure.{erased, erased_lwp, erased_process}
 use Rattle.pr_model.specs.LwpTurns.{LwpTurn, turn_of, settled, with_row, lwp_made, rest_made, made_by, posted}
 use Rattle.pr_model.specs.declared.effects.TurnRow.{TurnRow}
 use Rattle.pr_model.specs.declared.effects.TurnRow.TheVariants as rows
 use Rattle.pr_model.specs.declared.effects.TurnRow.TheVariants.{Requested}
-use Rattle.pr_model.specs.Turns.{Row, requested_stop, with_step_taken, incurred, ran, entered, made, returned, pc_of, arguments}
+use Rattle.pr_model.specs.Turns.{Row, requested_stop, with_step_taken, incurred, ran, entered, made, returned, pc_of}
 use Rattle.pr_model.specs.declared.events.Did.{Did}
 use Rattle.pr_model.specs.declared.events.Did.TheVariants.{Stopped, Ran, Entered, Made, Slept, Woke, Returned, Faulted, Posted, Took, Acted}
-use Rattle.pr_model.specs.declared.events.Res.TheVariants.{Ended, Error}
-use Rattle.pr_model.specs.declared.lwps.Phase.{Phase}
-use Rattle.pr_model.specs.declared.lwps.Phase.TheVariants as phase
-use Rattle.pr_model.specs.declared.lwps.Phase.TheVariants.{User, Asleep, Exiting}
-use Rattle.pr_num.specs.declared.errnos.Errno.TheVariants.{Intr}
+use Rattle.pr_model.specs.declared.lwps.Phase.TheVariants.{User}
 use Rattle.pr_num.specs.declared.faults.Flt.TheVariants.{Trace}
-use Rattle.pr_num.specs.declared.syscalls.Sysno.{Sysno}
 use Rattle.pr_num.specs.declared.signals.Sig.{Sig}
 use Rattle.pr_model.specs.Lwps.{is_lwp, is_process}
 use Rattle.pr_num.specs.Agents.{agent_id}
 use Rattle.pr_model.specs.State.{TracedState, TracedProcess, TracedLwp, with_process}
 use Rattle.pr_model.specs.Stops.{class_of_shown, class_of, shown, or_else, first_in_class, representative, is_stopped, stands_on_event, has_event_stop}
-use Rattle.pr_model.specs.declared.stops.Stop.{Stop}
 use Rattle.pr_model.specs.declared.stops.Stop.TheVariants as stop
 use Rattle.pr_model.specs.declared.stops.Shown.{Shown}
 use Rattle.pr_model.specs.declared.stops.Shown.TheVariants.{Event, Suspended, JobControl}

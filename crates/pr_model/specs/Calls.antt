@@ -1,9 +1,8 @@
-use Rattle.std.specs.Prelude.{◌≡◌, ◌==◌, ◌||◌, ◌<◌, ◌+◌, ◌^◌, ℕ, Bool, true, false, not, List, [], ◌∷◌, Option, Some, None, is_none, position, nat_lt, unwrap_or, if◌then◌else◌}
+use Rattle.std.specs.Prelude.{◌==◌, ◌||◌, ℕ, Option, Some, None, is_none, position, nat_lt, if◌then◌else◌}
 use Rattle.pr_num.specs.declared.errnos.Errno.{Errno}
 use Rattle.pr_num.specs.declared.errnos.Errno.TheVariants.{Inval, Noent, Badf, Mfile}
 use Rattle.pr_model.specs.ControlMessages.{Answer, refused, control_answer, wait_answer}
-use Rattle.pr_model.specs.Handles.{is_control, is_of_lwp, outlives, handle_of, open_refusal, with_opened, with_closed}
-use Rattle.pr_model.specs.Lwps.{lwp_of}
+use Rattle.pr_model.specs.Handles.{is_control, handle_of, open_refusal, with_opened, with_closed}
 use Rattle.pr_model.specs.State.{TracedState, TracedProcess, live_process}
 use Rattle.pr_model.specs.StatusRecords.{status_words, part_read}
 use Rattle.pr_model.specs.declared.calls.Call.{Call}
@@ -11,7 +10,6 @@ use Rattle.pr_model.specs.declared.calls.Call.TheVariants.{Open, Close, Ctl, Ctl
 use Rattle.pr_model.specs.declared.calls.File.{File}
 use Rattle.pr_model.specs.declared.calls.File.TheVariants.{Status}
 use Rattle.pr_model.specs.declared.calls.Mode.{Mode}
-use Rattle.pr_model.specs.declared.calls.Reply.{Reply}
 use Rattle.pr_model.specs.declared.calls.Reply.TheVariants.{Handle, Done, Bytes}
 use Rattle.pr_model.specs.declared.handles.Held.{Held}
 

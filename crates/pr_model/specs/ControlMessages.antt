@@ -1,4 +1,4 @@
-use Rattle.std.specs.Prelude.{◌==◌, ◌||◌, ◌&&◌, ◌+◌, ◌*◌, ◌-◌, ◌/◌, ◌^◌, ◌%◌, ℕ, Bool, true, false, not, List, [], ◌∷◌, Option, Some, None, Result, Ok, Err, is_some, is_none, map, nat_le, if◌then◌else◌, option_map}
+use Rattle.std.specs.Prelude.{◌==◌, ◌||◌, ◌&&◌, ◌+◌, ◌-◌, ◌^◌, ℕ, Bool, true, false, not, List, Option, Some, None, Result, Ok, Err, is_some, nat_le, if◌then◌else◌}
 use Rattle.std.specs.Int.{bit_at}
 use Rattle.pr_num.specs.KeyedTables.{change_first}
 use Rattle.pr_num.specs.Messages.{first_message}
@@ -6,13 +6,12 @@ use Rattle.pr_num.specs.declared.messages.MsgFault.{MsgFault}
 use Rattle.pr_num.specs.declared.errnos.Errno.{Errno}
 use Rattle.pr_num.specs.declared.errnos.Errno.TheVariants.{Inval, Noent, Busy, Badf, Intr as Interrupted}
 use Rattle.pr_num.specs.declared.messages.Message.{Message}
-use Rattle.pr_num.specs.declared.messages.Message.TheVariants.{Stop, Dstop, Wstop, Twstop, Run, Csig, Cfault, Ssig, Kill, Unkill, Shold, Strace, Sfault, Sentry, Sexit, Set, Unset, Sreg, Svaddr, Watch, Agent, Read, Write}
+use Rattle.pr_num.specs.declared.messages.Message.TheVariants.{Stop, Dstop, Wstop, Twstop, Run, Set, Unset}
 use Rattle.pr_model.specs.Handles.{is_control, is_of_lwp, handle_of}
-use Rattle.pr_model.specs.Lwps.{is_lwp, lwp_of, has_agent}
-use Rattle.pr_model.specs.State.{TracedState, TracedProcess, TracedLwp, live_process, with_process}
+use Rattle.pr_model.specs.Lwps.{is_lwp, lwp_of}
+use Rattle.pr_model.specs.State.{TracedState, TracedProcess, live_process, with_process}
 use Rattle.pr_model.specs.Running.{run_refused, with_run}
-use Rattle.pr_model.specs.Stops.{has_event_stop, is_stopped, stands_on_event, directed, with_all_directed}
-use Rattle.pr_model.specs.declared.calls.File.TheVariants.{Ctl, Lwpctl}
+use Rattle.pr_model.specs.Stops.{is_stopped, stands_on_event, directed, with_all_directed}
 use Rattle.pr_model.specs.declared.calls.Reply.{Reply}
 use Rattle.pr_model.specs.declared.calls.Reply.TheVariants.{Used, Half, Fail}
 use Rattle.pr_model.specs.declared.handles.Held.{Held}

@@ -1,17 +1,16 @@
-use Rattle.std.specs.Prelude.{◌==◌, ◌||◌, ◌&&◌, ◌+◌, ◌-◌, ℕ, Bool, true, false, not, List, [], ◌∷◌, Option, Some, None, Result, Ok, Err, is_some, is_none, map, position, slice_get, slice_set, nat_lt, if◌then◌else◌}
+use Rattle.std.specs.Prelude.{◌==◌, ◌||◌, ◌&&◌, ℕ, Bool, true, false, not, List, [], Option, Some, None, is_some, is_none, map, slice_get, slice_set, if◌then◌else◌}
 use Rattle.std.specs.List.{list_any}
 use Rattle.pr_num.specs.Control.{has_flags, rlc_mode, klc_mode}
 use Rattle.pr_num.specs.declared.errnos.Errno.{Errno}
 use Rattle.pr_num.specs.declared.errnos.Errno.TheVariants.{Inval, Noent, Busy}
 use Rattle.pr_model.specs.Lives.{with_ended}
-use Rattle.pr_model.specs.Lwps.{is_process, lwp_of}
+use Rattle.pr_model.specs.Lwps.{lwp_of}
 use Rattle.pr_model.specs.State.{TracedState, TracedProcess, TracedLwp, process_of, live_process, with_process}
 use Rattle.pr_model.specs.declared.calls.File.{File}
-use Rattle.pr_model.specs.declared.calls.File.TheVariants.{Ctl, Status, Lstatus, Psinfo, Map, Usage, Mem, Sigact, Watch, Fds, Lwpctl, Lwpstatus}
+use Rattle.pr_model.specs.declared.calls.File.TheVariants.{Ctl, Psinfo, Usage, Lwpctl, Lwpstatus}
 use Rattle.pr_model.specs.declared.calls.Mode.{Mode}
 use Rattle.pr_model.specs.declared.calls.Mode.TheVariants.{Read, Write, WriteExcl}
 use Rattle.pr_model.specs.declared.handles.Held.{Held}
-use Rattle.pr_model.specs.Stops.{or_else}
 
 -- Opening and closing the files of a process (proc(4), "PROGRAMMING NOTES").
 

@@ -1,4 +1,4 @@
-use Rattle.std.specs.Prelude.{◌==◌, ℕ, List, Option, Some, None, Result, Ok, Err, slice_set, if◌then◌else◌}
+use Rattle.std.specs.Prelude.{ℕ, List, Option, Some, None, Result, Ok, Err, slice_set}
 use Rattle.pr_num.specs.Control.{prot_exec}
 use Rattle.pr_num.specs.Instructions.{instruction_in, register_number}
 use Rattle.pr_num.specs.Spaces.{Space, bytes_for}
@@ -6,8 +6,6 @@ use Rattle.pr_num.specs.declared.mappings.BadByte.{BadByte}
 use Rattle.pr_num.specs.declared.mappings.BadByte.TheVariants.{Hole, NotAllowed}
 use Rattle.pr_num.specs.declared.instructions.Instruction.{Instruction}
 use Rattle.pr_num.specs.declared.instructions.Instruction.TheVariants.{Set, Sys}
-use Rattle.pr_num.specs.declared.syscalls.Sysno.{Sysno}
-use Rattle.pr_num.specs.declared.faults.Flt.{Flt}
 use Rattle.pr_num.specs.declared.faults.Flt.TheVariants.{Ill, Bounds, Access}
 use Rattle.pr_model.specs.Turns.{pc_of, moved_on}
 use Rattle.pr_model.specs.declared.effects.InstructionEffect.{InstructionEffect}

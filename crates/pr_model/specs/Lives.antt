@@ -1,8 +1,8 @@
-use Rattle.std.specs.Prelude.{◌==◌, ◌+◌, ◌-◌, ℕ, Bool, false, List, [], ◌∷◌, ◌++◌, Option, Some, None, map, replicate, length, if◌then◌else◌}
+use Rattle.std.specs.Prelude.{◌==◌, ◌+◌, ℕ, Bool, false, List, [], ◌∷◌, ◌++◌, Option, Some, None, map, replicate, if◌then◌else◌}
 use Rattle.pr_num.specs.Sets.{with_number}
-use Rattle.pr_num.specs.Files.{FileTable, Descriptors, no_descriptors, with_all_closed}
+use Rattle.pr_num.specs.Files.{no_descriptors, with_all_closed}
 use Rattle.pr_num.specs.Programs.{Program}
-use Rattle.pr_num.specs.Spaces.{Space, first_space, first_registers}
+use Rattle.pr_num.specs.Spaces.{first_space, first_registers}
 use Rattle.pr_num.specs.KeyedTables.{change_first}
 use Rattle.pr_model.specs.Lwps.{is_process}
 use Rattle.pr_model.specs.State.{TracedState, TracedLwp, TracedProcess, with_process}

@@ -1,4 +1,4 @@
-use Rattle.std.specs.Prelude.{◌≡◌, ◌==◌, ◌||◌, ◌&&◌, ℕ, Bool, true, false, not, List, Result, Ok, Err, IsTrue, All, bit_and}
+use Rattle.std.specs.Prelude.{◌==◌, ◌||◌, ℕ, Bool, true, false, not, List, Result, Ok, Err, IsTrue, All}
 use Rattle.pr_num.specs.Control.{has_flags, klc_mode}
 use Rattle.pr_num.specs.Messages.{first_message}
 use Rattle.pr_num.specs.declared.messages.MsgFault.{MsgFault}

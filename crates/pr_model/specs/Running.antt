@@ -1,4 +1,4 @@
-use Rattle.std.specs.Prelude.{◌==◌, ◌||◌, ◌&&◌, ℕ, Bool, true, false, not, List, Option, Some, None, map, is_some, if◌then◌else◌}
+use Rattle.std.specs.Prelude.{◌||◌, Bool, true, false, not, List, Option, Some, None, map, if◌then◌else◌}
 use Rattle.std.specs.List.{list_all}
 use Rattle.pr_num.specs.KeyedTables.{change_first}
 use Rattle.pr_num.specs.declared.signals.Sig.{Sig}

@@ -1,4 +1,4 @@
-use Rattle.std.specs.Prelude.{ℕ, List, [], ◌∷◌, Option, Some, None, find, is_none, replicate, if◌then◌else◌, option_and_then}
+use Rattle.std.specs.Prelude.{ℕ, List, Option, Some, None, find, is_none, replicate, if◌then◌else◌, option_and_then}
 use Rattle.pr_num.specs.KeyedTables.{change_first}
 use Rattle.pr_num.specs.Files.{FileTable, Descriptors}
 use Rattle.pr_num.specs.Programs.{Program}

@@ -1,4 +1,4 @@
-use Rattle.std.specs.Prelude.{◌==◌, ◌||◌, ◌&&◌, ◌+◌, ◌-◌, ◌*◌, ◌/◌, ◌^◌, ℕ, Bool, true, false, not, List, [], ◌∷◌, ◌++◌, Option, Some, None, is_some, length, slice_index, take, drop, replicate, nat_le, if◌then◌else◌}
+use Rattle.std.specs.Prelude.{◌==◌, ◌+◌, ◌-◌, ℕ, Bool, true, false, List, [], ◌∷◌, ◌++◌, Option, Some, None, is_some, length, slice_index, take, drop, replicate, nat_le, if◌then◌else◌}
 use Rattle.pr_num.specs.Control.{stopped_flag, istop_flag, dstop_flag, step_flag, asleep_flag, agent_flag, issys_flag}
 use Rattle.pr_num.specs.Errnos.{errno_number}
 use Rattle.pr_num.specs.Faults.{fault_number}
@@ -9,7 +9,6 @@ use Rattle.pr_num.specs.Syscalls.{syscall_number}
 use Rattle.pr_num.specs.Words.{words_bytes}
 use Rattle.pr_num.specs.declared.signals.Sig.{Sig}
 use Rattle.pr_num.specs.declared.stop_reasons.StopReason.TheVariants as reason
-use Rattle.pr_num.specs.declared.syscalls.Sysno.{Sysno}
 use Rattle.pr_model.specs.Lwps.{has_agent}
 use Rattle.pr_num.specs.Agents.{agent_id}
 use Rattle.pr_model.specs.State.{TracedProcess, TracedLwp}

@@ -1,10 +1,9 @@
-use Rattle.std.specs.Prelude.{◌==◌, ◌||◌, ◌&&◌, ℕ, Bool, true, false, not, List, Option, Some, None, find, is_some, map, if◌then◌else◌}
+use Rattle.std.specs.Prelude.{◌==◌, ℕ, Bool, true, false, List, Option, Some, None, find, is_some, map, if◌then◌else◌}
 use Rattle.pr_num.specs.Control.{has_flags, async_mode}
 use Rattle.pr_num.specs.Sets.{has_number}
 use Rattle.pr_num.specs.Signals.{signal_number}
 use Rattle.pr_num.specs.Faults.{fault_number}
 use Rattle.pr_num.specs.Syscalls.{syscall_number}
-use Rattle.pr_num.specs.KeyedTables.{has_key}
 use Rattle.pr_num.specs.declared.signals.Sig.{Sig}
 use Rattle.pr_model.specs.Lwps.{lwp_of}
 use Rattle.pr_num.specs.Agents.{agent_id}

@@ -1,4 +1,4 @@
-use Rattle.std.specs.Prelude.{◌==◌, ℕ, Bool, List, [], ◌∷◌, ◌++◌, Option, Some, None, find, is_none, map, replicate, if◌then◌else◌, option_and_then}
+use Rattle.std.specs.Prelude.{◌==◌, ℕ, Bool, List, [], Option, Some, None, find, is_none, map, if◌then◌else◌, option_and_then}
 use Rattle.pr_num.specs.KeyedTables.{has_key, change_first}
 use Rattle.pr_num.specs.Files.{FileTable, Descriptors, no_descriptors, with_all_closed}
 use Rattle.pr_num.specs.Programs.{Program}

@@ -1,18 +1,14 @@
-use Rattle.std.specs.Prelude.{◌==◌, ◌||◌, ◌&&◌, ◌+◌, ◌^◌, ◌%◌, ℕ, Bool, true, false, not, List, Option, Some, None, is_some, slice_set, slice_index, take, drop, if◌then◌else◌}
+use Rattle.std.specs.Prelude.{◌+◌, ◌^◌, ◌%◌, ℕ, Bool, true, false, List, Some, None, slice_set, slice_index, take, drop, if◌then◌else◌}
 use Rattle.pr_num.specs.Errnos.{errno_number}
 use Rattle.pr_num.specs.declared.syscalls.Sysno.{Sysno}
 use Rattle.pr_num.specs.declared.faults.Flt.{Flt}
 use Rattle.pr_num.specs.declared.faults.Flt.TheVariants.{Trace}
-use Rattle.pr_num.specs.Agents.{agent_id}
-use Rattle.pr_model.specs.Stops.{has_event_stop}
 use Rattle.pr_model.specs.declared.events.Res.{Res}
 use Rattle.pr_model.specs.declared.events.Res.TheVariants.{Value, Error, Ended}
 use Rattle.pr_model.specs.declared.events.Did.{Did}
-use Rattle.pr_model.specs.declared.events.Did.TheVariants.{Stopped, Ran, Entered, Made, Slept, Woke, Returned, Faulted, Posted, Took, Acted}
+use Rattle.pr_model.specs.declared.events.Did.TheVariants.{Stopped, Ran, Entered, Made, Woke, Returned, Faulted, Took}
 use Rattle.pr_model.specs.declared.lwps.Lwp.{Lwp}
-use Rattle.pr_model.specs.declared.lwps.Phase.{Phase}
 use Rattle.pr_model.specs.declared.lwps.Phase.TheVariants as phase
-use Rattle.pr_model.specs.declared.processes.Process.{Process}
 use Rattle.pr_model.specs.declared.processes.Usage.{Usage}
 use Rattle.pr_model.specs.declared.stops.Stop.TheVariants.{Requested}
 use Rattle.pr_model.specs.declared.stops.Point.TheVariants.{Fault, Entry, Exit}

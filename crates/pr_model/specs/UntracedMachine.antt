@@ -1,4 +1,4 @@
-use Rattle.std.specs.Prelude.{◌≡◌, ◌==◌, ◌||◌, ◌&&◌, ◌+◌, ℕ, Bool, true, false, not, List, [], ◌∷◌, Option, Some, None, find, is_some, is_none, IsTrue, option_map, if◌then◌else◌}
+use Rattle.std.specs.Prelude.{◌≡◌, ◌==◌, ◌||◌, ◌+◌, ℕ, Bool, false, not, List, [], ◌∷◌, Some, None, find}
 use Rattle.pr_num.specs.Faults.{fault_signal}
 use Rattle.pr_num.specs.Sets.{minus_word, with_number}
 use Rattle.pr_num.specs.Signals.{signal_number}
@@ -6,7 +6,7 @@ use Rattle.pr_num.specs.declared.faults.Flt.{Flt}
 use Rattle.pr_num.specs.declared.syscalls.Sysno.{Sysno}
 use Rattle.pr_model.specs.CallEffects.{call_effect}
 use Rattle.pr_model.specs.InstructionEffects.{instruction_effect}
-use Rattle.pr_model.specs.System.{Place, in_program, at_call, sleeping, SystemLwp, SystemProcess, SystemState, is_system_lwp, live_in_system, with_system_lwp, with_system_ended}
+use Rattle.pr_model.specs.System.{in_program, at_call, SystemLwp, SystemProcess, SystemState, is_system_lwp, live_in_system, with_system_lwp, with_system_ended}
 use Rattle.pr_model.specs.Turns.{arguments, with_result}
 use Rattle.pr_model.specs.declared.effects.CallEffect.{CallEffect}
 use Rattle.pr_model.specs.declared.effects.CallEffect.TheVariants.{Done, EndsProcess}
@@ -14,7 +14,7 @@ use Rattle.pr_model.specs.declared.effects.InstructionEffect.TheVariants.{Runs, 
 use Rattle.pr_model.specs.declared.events.Res.{Res}
 use Rattle.pr_model.specs.declared.events.Res.TheVariants.{Ended}
 use Rattle.pr_model.specs.declared.steps.Step.{Step}
-use Rattle.pr_model.specs.declared.steps.Step.TheVariants.{Exec, Call, Sleep, Finish, Fault, Take, Act, Spawn, Kill, Tick}
+use Rattle.pr_model.specs.declared.steps.Step.TheVariants.{Exec, Call, Finish, Fault, Take, Tick}
 
 -- The untraced machine: the system as it runs with no controller. It may choose which lwp goes on; what a step of that
 -- lwp does is determined. A system call is one step. Steps that are not built yet are never made.

@@ -14,7 +14,6 @@ use Rattle.pr_model.specs.declared.events.Actor.TheVariants.{Controller, Lwp, Cl
 use Rattle.pr_model.specs.declared.events.Did.{Did}
 use Rattle.pr_model.specs.declared.events.Did.TheVariants.{Stopped, Ran, Entered, Made, Slept, Woke, Returned, Faulted, Posted, Took, Acted}
 use Rattle.pr_model.specs.declared.events.Entry.{Entry}
-use Rattle.pr_model.specs.declared.events.How.{How}
 use Rattle.pr_model.specs.declared.events.How.TheVariants.{Caught, Ignored, JobStop, Died}
 use Rattle.pr_model.specs.declared.events.Res.{Res}
 use Rattle.pr_model.specs.declared.events.Res.TheVariants.{Value, Error, Ended}
