@@ -2,27 +2,28 @@
 # answer (`AllocError`, `AllocFailed`) as a value.
 #
 # Not printed: their names where they are a type or a pattern (an import, a parameter, a result, an argument of a type,
-# the head of an impl, a variant's declaration, the left side of an arm or of a let), in clauses, other ghost text,
-# strings and comments, and where want of memory is handed on (a variant that is made in `fn from(_: NoMemory)`).
+# the head of an impl, the declaration of a struct or an enum, the left side of an arm or of a let), in clauses, other
+# ghost text, strings and comments, and where want of memory is handed on (a variant that is made in
+# `fn from(_: NoMemory)`).
 
 function depth_of(text,  opened) {
   opened = gsub(/\{/, "", text)
   return opened - gsub(/\}/, "", text)
 }
 
-FNR == 1 { depth = 0; enum_at = from_at = ghost_at = -1 }
+FNR == 1 { depth = 0; type_at = from_at = ghost_at = -1 }
 
 {
   code = $0
+  gsub(/'([^'\\]|\\.|\\u\{[^}]*\})'/, "", code)
   gsub(/"([^"\\]|\\.)*"/, "\"\"", code)
   sub(/\/\/.*/, "", code)
   if (ghost_at < 0 && code ~ /^[ \t]*(pub )?(ghost|requires\*?|ensures\*?)[ \t]/) ghost_at = depth
-  if (code ~ /^[ \t]*(pub(\([a-z]+\))? )?enum /) enum_at = depth
+  if (type_at < 0 && code ~ /^[ \t]*(pub(\([a-z]+\))? )?(enum|struct) /) type_at = depth
   if (code ~ /fn from\([a-z_]+: NoMemory\)/) from_at = depth
 
-  line = ghost_at >= 0 || code ~ /^[ \t]*(pub(\([a-z]+\))? )?use / ? "" : code
+  line = ghost_at >= 0 || type_at >= 0 || code ~ /^[ \t]*(pub(\([a-z]+\))? )?use / ? "" : code
   name = "(NoMemory|AllocError|AllocFailed)"
-  if (enum_at >= 0 && depth == enum_at + 1) sub("^[ \t]*" name ",", "", line)
   if (from_at >= 0 && depth == from_at + 1) sub(/[A-Za-z]+::NoMemory/, "", line)
   if (line ~ /(^|[ \t])fn /) gsub(": " name "[,)]", "", line)
   if (line ~ /(^|[ \t])impl[ <]/) gsub(" for " name "( |$)", "", line)
@@ -33,7 +34,7 @@ FNR == 1 { depth = 0; enum_at = from_at = ghost_at = -1 }
   if (line ~ "(^|[^A-Za-z0-9_])" name "([^A-Za-z0-9_]|$)") print FILENAME ":" FNR ":" $0
 
   depth += depth_of(code)
-  if (depth <= enum_at) enum_at = -1
+  if (depth <= type_at) type_at = -1
   if (depth <= from_at) from_at = -1
   if (depth <= ghost_at) ghost_at = -1
 }

@@ -25,33 +25,37 @@ IsAbove pc l = pc < label_address l
 
 -- a label above pc, or below the best, changes nothing
 stays : (pc : ℕ) (labels : List Label) (b : List ℕ × ℕ) (l : Label) → (label_address l ≤ pc → label_address l < b.1) → Stands pc labels (Some b) → Stands pc (labels ++ l ∷ []) (Some b)
-stays pc labels b l lower (s, below) =
-    (record {
-      label = s.label;
-      before = s.before;
-      after = s.after ++ l ∷ [];
-      whole = ap (λ xs. xs ++ l ∷ []) s.whole ∙ append_assoc s.before (s.label ∷ s.after) (l ∷ []);
-      named = s.named;
-      far = s.far;
-      highest = s.highest;
-      latest = let P : Label → Type 0 = IsUnder pc (label_address s.label) in
-          let here : P l = λ in_reach. let low = lower in_reach in let far = s.far in omega arith in
-          All-append P s.after (l ∷ []) s.latest (All-cons P l [] here (All-nil P));
-    }, below)
+stays pc labels b l lower (s, below) = (
+  record {
+    label = s.label;
+    before = s.before;
+    after = s.after ++ l ∷ [];
+    whole = ap (λ xs. xs ++ l ∷ []) s.whole ∙ append_assoc s.before (s.label ∷ s.after) (l ∷ []);
+    named = s.named;
+    far = s.far;
+    highest = s.highest;
+    latest = let P : Label → Type 0 = IsUnder pc (label_address s.label) in
+        let here : P l = λ in_reach. let low = lower in_reach in let far = s.far in omega arith in
+        All-append P s.after (l ∷ []) s.latest (All-cons P l [] here (All-nil P));
+  },
+  below,
+)
 
 -- a label at or below pc that is as high as the best takes its place
 takes : (pc : ℕ) (labels : List Label) (l : Label) → label_address l ≤ pc → All (λ m. label_address m ≤ pc → label_address m ≤ label_address l) labels → Stands pc (labels ++ l ∷ []) (Some (l.name, label_address l))
-takes pc labels l under highest =
-    (record {
-      label = l;
-      before = labels;
-      after = [];
-      whole = refl;
-      named = refl;
-      far = omega arith;
-      highest = highest;
-      latest = All-nil (IsUnder pc (label_address l));
-    }, under)
+takes pc labels l under highest = (
+  record {
+    label = l;
+    before = labels;
+    after = [];
+    whole = refl;
+    named = refl;
+    far = omega arith;
+    highest = highest;
+    latest = All-nil (IsUnder pc (label_address l));
+  },
+  under,
+)
 
 -- each label at or below pc is no higher than the best
 under_best : (pc : ℕ) (labels : List Label) (b : List ℕ × ℕ) (top : ℕ) → b.1 ≤ top → Stands pc labels (Some b) → All (λ m. label_address m ≤ pc → label_address m ≤ top) labels
