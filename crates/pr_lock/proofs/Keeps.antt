@@ -3,7 +3,7 @@ use Rattle.std.proofs.Common.{◌≡◌, ◌≢◌, ℕ, zero, suc, ◌+◌, ◌
 use Rattle.std.proofs.lemmas.List.Elements.{All-nil, All-append}
 use Rattle.std.proofs.lemmas.List.Sums.{sum_by-append, sum_by_push}
 use mathlib.Core.Option.{some, some-injective, some-ne-none, none}
-use mathlib.Core.Option as place
+use mathlib.Core.Option as logic
 use mathlib.Core.Logic.{dite}
 use native.Mathlib.Decide.{ℕ_discrete}
 use lib.ListN.{get_elem?}
@@ -197,7 +197,7 @@ module _ {V I : Type 0} (entries : V → List I) (comes : V → V → Type 0) (m
       none_where (Some l) e = absurd (omega (arith, e))
 
   -- a seat gives the value back, with a longer history
-  home_after : (s : State (Option V) (View V I)) (kept : IsKept entries comes made s) (id : ℕ) (v : View V I) (homes : List (place.Option (Option V))) (old : List I) (value : V)
+  home_after : (s : State (Option V) (View V I)) (kept : IsKept entries comes made s) (id : ℕ) (v : View V I) (homes : List (logic.Option (Option V))) (old : List I) (value : V)
       → get_elem? s.views id ≡ some v → v.entered ≡ Some old → 0 < v.shares → StartsWith (entries value) old → comes value made.first.value
       → homes ≡ slice_set s.homes 0 (some (Some value))
       → IsKept entries comes made (record { words = slice_set s.words 0 0; homes = homes; views = slice_set s.views id (departed v (entries value)) })

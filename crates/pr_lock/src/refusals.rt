@@ -7,8 +7,10 @@ use std::fmt;
 /// Why there is no new lock.
 #[derive(Clone, Copy, Debug, PartialEq, Eq)]
 pub enum NewNo {
+    /// There was no memory for the lock.
     NoMemory,
-    /// The first swap on the new table found this word, which is not 0. It never comes.
+    /// The first swap on the new lock found this word, which is not 0. No run reaches it, and the contract of
+    /// `Shared::new` says so.
     Taken { found: u64 },
 }
 

@@ -18,11 +18,13 @@ pub struct View<V, I> {
     pub origin: Option<Origin<V>>,
     /// The first seat, before it has its shares.
     pub fresh: bool,
+    /// The history that it has seen.
     pub seen: LinkedList<I>,
     /// The seat's own entries, each with its place in the history.
     pub own: LinkedList<(u64, I)>,
     /// The history that was entered, between `enter` and `leave`.
     pub entered: Option<LinkedList<I>>,
+    /// Its shares of the lock.
     pub shares: u32,
 }
 
