@@ -36,6 +36,12 @@ pub word_of-word_bytes : (w : ℕ) → w < 2 ^ 64 → word_of (word_bytes w) ≡
 unfolding word_bytes word_of
 word_of-word_bytes w fits = from_le_bytes-to_le_bytes_8 w fits
 
+-- what bytes give fits in a word
+pub word_of-below : (bytes : List ℕ) → AreBytes bytes → word_of bytes < 2 ^ 64
+unfolding word_of
+word_of-below bytes small =
+    omega (arith, byte_below bytes small 0, byte_below bytes small 1, byte_below bytes small 2, byte_below bytes small 3, byte_below bytes small 4, byte_below bytes small 5, byte_below bytes small 6, byte_below bytes small 7)
+
 -- two words with the same bytes are the same
 pub same_word : (v w : ℕ) → v < 2 ^ 64 → w < 2 ^ 64 → word_bytes v ≡ word_bytes w → v ≡ w
 same_word v w v_fits w_fits same =

@@ -1,5 +1,6 @@
 pub mod FoundLemmas
 pub mod MessageLemmas
 pub mod RefusalLemmas
+pub mod SpellingLemmas
 pub mod StopLemmas
 pub mod TurnLemmas

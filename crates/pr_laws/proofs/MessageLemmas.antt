@@ -46,7 +46,7 @@ three_words-words code u v w more fit =
     rw (not_short (code ∷ u ∷ v ∷ w ∷ []) more 32 (omega arith), nth_word-words (code ∷ u ∷ v ∷ w ∷ []) more 1 fit (omega arith), nth_word-words (code ∷ u ∷ v ∷ w ∷ []) more 2 fit (omega arith), nth_word-words (code ∷ u ∷ v ∷ w ∷ []) more 3 fit (omega arith))
 
 -- the values of a function at the first places
-abbrev each_of : ℕ → (ℕ → ℕ) → List ℕ
+abbrev pub each_of : ℕ → (ℕ → ℕ) → List ℕ
 each_of zero f = []
 each_of (suc n) f = f 0 ∷ each_of n (λ k. f (suc k))
 

@@ -7,5 +7,7 @@ mod messages;
 mod stops;
 
 pub use calls::refused_call_leaves_state;
-pub use messages::{no_spelling_begins_another, one_spelling_one_message, spelt_is_read};
+pub use messages::{
+    no_spelling_begins_another, one_spelling_one_message, read_is_spelt, spelt_is_read,
+};
 pub use stops::{directed_stop_is_hidden, one_lwp_is_its_process};

@@ -1,4 +1,6 @@
 ghost use Rattle.std.specs.Prelude.{◌≡◌, ◌≤◌, ◌++◌, ℕ, List, Ok, length, take};
+ghost use Rattle.std.specs.List.{All};
+ghost use Rattle.pr_num.specs.Words.{IsByte};
 ghost use Rattle.pr_num.specs.Messages.{Spells, first_message};
 ghost use Rattle.pr_num.specs.declared.messages.Message.{Message};
 
@@ -6,6 +8,12 @@ ghost use Rattle.pr_num.specs.declared.messages.Message.{Message};
 #[tactic(auto, using(crate::proofs::MessageLemmas::readings))]
 pub fn spelt_is_read()
     ensures { (bytes rest : List ℕ) (m : Message) (tail : List ℕ) → Spells bytes m tail → first_message (bytes ++ rest) ≡ Ok (m, length bytes) }
+{}
+
+/// What is read at the front of bytes is spelt there by as many bytes as it was read as.
+pub fn read_is_spelt()
+    ensures { (bytes : List ℕ) (m : Message) (n : ℕ) → All IsByte bytes → first_message bytes ≡ Ok (m, n)
+        → (n ≤ length bytes) × ((tail : List ℕ) × Spells (take n bytes) m tail) }
 {}
 
 /// The same bytes spell one message, with the same bytes behind its operands, and that is spelt by no other bytes.
