@@ -1,1 +1,3 @@
+pub mod MessageLemmas
+pub mod SpellingLemmas
 pub mod WordLemmas

@@ -5,7 +5,7 @@ ghost use Rattle.pr_num.specs.Messages.{Spells, first_message};
 ghost use Rattle.pr_num.specs.declared.messages.Message.{Message};
 
 /// Bytes that spell a message are read as that message, whatever follows them, and as so many bytes.
-#[tactic(auto, using(crate::proofs::MessageLemmas::readings))]
+#[tactic(auto, using(pr_codec::proofs::MessageLemmas::readings))]
 pub fn spelt_is_read()
     ensures { (bytes rest : List ℕ) (m : Message) (tail : List ℕ) → Spells bytes m tail → first_message (bytes ++ rest) ≡ Ok (m, length bytes) }
 {}

@@ -1,1 +1,4 @@
+pub mod DecodeLemmas
+pub mod EncodeLemmas
 pub mod ReadLemmas
+pub mod RunFlagBounds

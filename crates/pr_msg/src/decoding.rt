@@ -1,7 +1,10 @@
-ghost use Rattle.std.specs.Prelude.{◌≡◌, ◌==◌, ◌+◌, ◌*◌, ◌≤◌, length, Some, None, IfOk, if◌then◌else◌};
+ghost use Rattle.std.specs.Prelude.{◌≡◌, ◌↔◌, ◌==◌, ◌+◌, ◌*◌, ◌≤◌, ℕ, length, Some, None, Ok, IfOk, if◌then◌else◌};
 ghost use Rattle.std.specs.List.{list_all};
+ghost use Rattle.pr_num.specs.declared.messages.Message.{Message};
+ghost use Rattle.pr_msg.specs.Beginnings.{BeginsWith};
 ghost use Rattle.pr_num.specs.Messages.{nth_word, one_word, two_words, three_words, eleven_words, message_read, bad_operand, in_columns, tail_length, operand_count, unpadded_length, spelt_length, with_tail, first_message};
 
+use crate::paddings::padding;
 use byteorder::{ByteOrder, LittleEndian};
 use pr_num::{Message, MsgFault};
 
@@ -222,11 +225,18 @@ fn operand_count(message: &Message) -> usize
     }
 }
 
-/// The first message of bytes, and how many of them spell it. The faults are tried in the order: 8 bytes for the code,
-/// a known code, the operand words, their columns, and for PCWRITE its bytes and then zeros up to a multiple of 8.
-/// Takes no memory.
-#[tactic(auto, unfolding(pr_num::specs::Messages::first_message))]
+/// The first message of bytes, and how many of them spell it: `Ok((m, n))` exactly where the first `n` bytes spell `m`.
+/// The faults are tried in the order: 8 bytes for the code, a known code, the operand words, their columns, and for
+/// PCWRITE its bytes and then zeros up to a multiple of 8. Takes no memory.
 pub fn decode_one(bytes: &[u8]) -> Result<(Message, usize), MsgFault>
+    ensures value { result ≡ first_message bytes.now }
+    ensures spelt { (m : Message) (n : ℕ) → (result ≡ Ok (m, n)) ↔ BeginsWith bytes.now m n }
+{
+    first_message(bytes)
+}
+
+#[tactic(auto, unfolding(pr_num::specs::Messages::first_message))]
+fn first_message(bytes: &[u8]) -> Result<(Message, usize), MsgFault>
     ensures { result ≡ first_message bytes.now }
 {
     if bytes.len() < 8 {
@@ -250,12 +260,11 @@ fn with_tail(bytes: &[u8], message: Message) -> Result<(Message, usize), MsgFaul
 {
     let tail = tail_length(&message) as usize;
     let unpadded = 8 * (1 + operand_count(&message)) + tail;
-    let spelt = unpadded + (8 - tail % 8) % 8;
+    let spelt = unpadded + padding(tail);
     if bytes.len() < spelt {
         return Err(MsgFault::Short);
     }
-    let padding = &bytes[unpadded..spelt];
-    if are_zeros(padding) {
+    if are_zeros(&bytes[unpadded..spelt]) {
         Ok((message, spelt))
     } else {
         Err(MsgFault::BadOperand {

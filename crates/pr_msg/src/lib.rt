@@ -2,6 +2,14 @@
 #![tactic(auto)]
 
 mod decoding;
+mod encoding;
+mod paddings;
+mod run_flags;
 
 pub use decoding::decode_one;
+pub use encoding::encode;
 pub use pr_num::{Message, MsgFault};
+pub use run_flags::{RunFlags, words_of_run_flags};
+
+#[cfg(test)]
+mod tests;

@@ -1,4 +1,4 @@
-use Rattle.pr_laws.proofs.MessageLemmas.{begins_another}
+use Rattle.pr_codec.proofs.MessageLemmas.{begins_another}
 use Rattle.pr_laws.proofs.messages.no_spelling_begins_another.Goals as goal
 
 pub returns : goal.returns

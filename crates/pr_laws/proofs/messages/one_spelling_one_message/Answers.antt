@@ -1,4 +1,4 @@
-use Rattle.pr_laws.proofs.MessageLemmas.{one_message, one_spelling}
+use Rattle.pr_codec.proofs.MessageLemmas.{one_message, one_spelling}
 use Rattle.pr_laws.proofs.messages.one_spelling_one_message.Goals as goal
 
 pub returns-clause-message : goal.returns-clause-message

@@ -13,7 +13,7 @@ use Rattle.pr_num.specs.declared.messages.MsgFault.{MsgFault}
 use Rattle.pr_num.specs.declared.messages.MsgFault.TheVariants.{Short, BadOperand}
 use Rattle.pr_codec.specs.Words.{word_at}
 use Rattle.pr_codec.proofs.WordLemmas.{word_of-below, words_bytes-read}
-use Rattle.pr_laws.proofs.MessageLemmas.{each_of}
+use Rattle.pr_codec.proofs.MessageLemmas.{each_of}
 
 -- This code and the words behind it are those of a message.
 record Stands (bytes : List ℕ) (code : ℕ) (m : Message) : Type 0 where
