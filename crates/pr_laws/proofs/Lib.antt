@@ -1,3 +1,4 @@
+pub mod ErasureLemmas
 pub mod FoundLemmas
 pub mod RefusalLemmas
 pub mod StopLemmas

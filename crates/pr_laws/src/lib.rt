@@ -3,10 +3,12 @@
 #![tactic(auto)]
 
 mod calls;
+mod erasure;
 mod messages;
 mod stops;
 
 pub use calls::refused_call_leaves_state;
+pub use erasure::{stopping_and_running_are_hidden, untraced_runs_follow_one_another};
 pub use messages::{
     no_spelling_begins_another, one_spelling_one_message, read_is_spelt, spelt_is_read,
 };
