@@ -187,9 +187,10 @@ fn in_columns(message: Message) -> Result<Message, MsgFault>
     }
 }
 
-/// How many bytes stand behind the operand words of a message, the padding aside.
+/// How many bytes stand behind the operand words of a message, the padding aside: for PCWRITE those to write, and else
+/// none. Takes no memory.
 #[tactic(auto, unfolding(pr_num::specs::Messages::tail_length))]
-fn tail_length(message: &Message) -> u64
+pub fn tail_length(message: &Message) -> u64
     ensures { result ≡ tail_length message.now }
 {
     match *message {

@@ -10,9 +10,9 @@ use std::alloc::{AllocError, Global};
 /// As many zeros as can be wanted.
 const ZEROS: [u8; 7] = [0; 7];
 
-/// The bytes that spell a message: its code, its operand words and `tail`, which for PCWRITE are the bytes to write and
-/// for every other message is empty, padded with zeros to a multiple of 8. Operands may lie outside their columns: then
-/// the bytes spell nothing, and who reads them refuses the first such operand.
+/// The bytes that spell a message: its code, its operand words and `tail`, padded with zeros to a multiple of 8. The tail
+/// has as many bytes as `tail_length` says. Operands may lie outside their columns: then the bytes spell nothing, and
+/// `decode_one` refuses the first such operand.
 pub fn encode(alloc: Global, message: &Message, tail: &[u8]) -> Result<Bytes, NoMemory>
     requires { length tail.now ≡ tail_length message.now }
     ensures bytes { IfOk result (λ b. b ≡ spelling message.now tail.now) }

@@ -300,6 +300,7 @@ fn bytes_of(alloc: Global, texts: &[&str]) -> Result<Vec<u8>, FromHexError> {
 fn spells_and_reads_each_message(rt: HostRuntime) -> Result<(), Fail> {
     for (message, tail, texts) in SPELLINGS {
         let mut bytes = bytes_of(rt.alloc(), texts)?;
+        assert!(rt; tail.len() as u64 == tail_length(&message));
         assert_eq!(rt;
             encode(rt.alloc(), &message, tail)?.as_slice(),
             bytes.as_slice()
