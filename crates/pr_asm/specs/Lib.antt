@@ -1,4 +1,5 @@
 pub mod Assembly
+pub mod Faults
 pub mod Limits
 pub mod Mnemonics
 pub mod Names
@@ -8,5 +9,6 @@ pub mod Parts
 pub mod Placing
 pub mod Quotes
 pub mod Reading
+pub mod Spelling
 pub mod Statements
 pub mod Symbols

@@ -1,7 +1,7 @@
 -- The operands of instructions.
-use Rattle.std.specs.Prelude.{◌==◌, ◌&&◌, ◌-◌, ℕ, Option, Some, None, List, [], ◌∷◌, length, slice_index, slice_get, Result, Ok, Err, find, nat_le, if◌then◌else◌}
+use Rattle.std.specs.Prelude.{◌==◌, ◌&&◌, ◌-◌, ℕ, Option, Some, None, List, [], ◌∷◌, length, slice_index, slice_get, Result, Ok, Err, nat_le, if◌then◌else◌}
 use Rattle.pr_num.specs.Instructions.{registers}
-use Rattle.pr_num.specs.Syscalls.{syscalls, is_named}
+use Rattle.pr_num.specs.Syscalls.{syscall_of_name}
 use Rattle.pr_num.specs.declared.instructions.Reg.{Reg}
 use Rattle.pr_num.specs.declared.syscalls.Sysno.{Sysno}
 use Rattle.pr_asm.specs.Names.{is_name, name_of}
@@ -28,7 +28,7 @@ immediate word = immediate_of (number_of word) word
 
 -- a system call goes by its name
 unfoldable pub call : List ℕ → Result Sysno AsmKind
-call word = if is_name word then ok_or UnknownName (find (is_named word) syscalls) else Err BadOperand
+call word = if is_name word then ok_or UnknownName (syscall_of_name word) else Err BadOperand
 
 -- operands: two registers; a register and an immediate; two registers and an immediate; an immediate; a system call
 unfoldable pub two_registers : List (List ℕ) → Result (Reg × Reg) AsmKind

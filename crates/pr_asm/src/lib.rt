@@ -4,6 +4,7 @@
 mod assembly;
 mod keys;
 mod labels;
+mod laws;
 mod layouts;
 mod mnemonics;
 mod names;
@@ -20,6 +21,7 @@ mod symbols;
 mod tokens;
 
 pub use labels::Label;
+pub use laws::{a_refusal_names_the_first_line, statements_are_read_as_they_are_spelled};
 pub use programs::Program;
 pub use reading::read_program;
 pub(crate) use refusals::Refused;

@@ -1,5 +1,6 @@
 use super::*;
 use pr_num::{Instruction, Name, Reg, Sysno};
+use std::alloc::Global;
 use std::process::Abort;
 use std::test::Fail;
 
@@ -7,6 +8,26 @@ fn name(rt: &impl Abort, text: &[u8]) -> Name {
     match Name::from_slice(text) {
         Some(name) => name,
         None => panic!(rt; "no name"),
+    }
+}
+
+fn read(rt: &(impl Abort + Alloc<A = Global>), text: &[u8]) -> Result<Program, AsmRefusal> {
+    assert!(rt; text.len() < 65_536);
+    read_program(rt.alloc(), name(rt, b"p"), text, 1)
+}
+
+fn program(rt: &(impl Abort + Alloc<A = Global>), text: &[u8]) -> Program {
+    match read(rt, text) {
+        Ok(program) => program,
+        Err(refusal) => panic!(rt; "refused: {refusal:?}"),
+    }
+}
+
+fn fault(rt: &(impl Abort + Alloc<A = Global>), text: &[u8]) -> AsmFault {
+    match read(rt, text) {
+        Err(AsmRefusal::Fault(fault)) => fault,
+        Err(AsmRefusal::NoMemory) => panic!(rt; "out of memory"),
+        Ok(_) => panic!(rt; "read"),
     }
 }
 
@@ -38,4 +59,202 @@ fn shows_its_parts(rt: HostRuntime) -> Result<(), Fail> {
     want[16..].copy_from_slice(&[19, 0, 0, 0, 0, 0, 0, 0, 2, 0, 0, 0, 0, 0, 0, 0]);
     assert_eq!(rt; text.as_slice(), want.as_slice());
     Ok(())
+}
+
+// Each form once: operation code, two register bytes, immediate.
+#[test]
+fn reads_each_form(rt: HostRuntime) {
+    let rows: [(&[u8], [u8; 3], u64); 20] = [
+        (b"bpt", [1, 0, 0], 0),
+        (b"nop", [2, 0, 0], 0),
+        (b"set r1, 18446744073709551615", [3, 1, 0], u64::MAX),
+        (b"mov r7,r0", [4, 7, 0], 0),
+        (b"add r1 r2", [5, 1, 2], 0),
+        (b"sub r1, r2", [6, 1, 2], 0),
+        (b"mul r1, r2", [7, 1, 2], 0),
+        (b"div\tr1 , r2", [8, 1, 2], 0),
+        (b"ld r1, r2, 0x0010", [9, 1, 2], 16),
+        (b"st r3, r2, 0", [10, 3, 2], 0),
+        (b"ldb r1, r2, 0xfF", [11, 1, 2], 255),
+        (b"stb r1, r2, 1", [12, 1, 2], 1),
+        (b"jmp 0x10000", [13, 0, 0], 0x10000),
+        (b"jz r4, 7", [14, 4, 0], 7),
+        (b"jnz r5, 8", [15, 5, 0], 8),
+        (b"jlt r1, r2, 9", [16, 1, 2], 9),
+        (b"call 10", [17, 0, 0], 10),
+        (b"ret", [18, 0, 0], 0),
+        (b"sys exit", [19, 0, 0], 1),
+        (b"sys lwp_create", [19, 0, 0], 25),
+    ];
+    for (text, head, immediate) in rows {
+        let program = program(&rt, text);
+        let mut want = [0; 16];
+        want[..3].copy_from_slice(&head);
+        want[8..].copy_from_slice(&immediate.to_le_bytes());
+        assert_eq!(rt; program.code().len(), 1);
+        assert_eq!(rt; program.encode(0), want);
+    }
+}
+
+// Names before and behind their place: labels at multiples of 16 from 0x10000, data at multiples of 8 from 0x80000.
+#[test]
+fn places_names(rt: HostRuntime) {
+    let program = program(
+        &rt,
+        b"# a comment, \xff\n\n  ,\nset r1, b\nstart:\ntext a \"x\\n\\\\\\\"\\x4A\"\nspace b 3\nset r2, a\ntext c \"a,  b\"\nset r1, c\nr1:\njmp r1\njmp start",
+    );
+    let want: [u64; 5] = [0x80008, 0x80000, 0x80010, 0x10030, 0x10010];
+    assert_eq!(rt; program.code().len(), 5);
+    for (index, value) in want.iter().enumerate() {
+        let bytes = program.encode(index);
+        assert_eq!(rt; &bytes[8..16], value.to_le_bytes().as_slice());
+    }
+    assert_eq!(rt;
+        program.data(),
+        b"x\n\\\"J\0\0\0\0\0\0\0\0\0\0\0a,  b\0".as_slice()
+    );
+    assert_eq!(rt; program.labels().len(), 2);
+}
+
+#[test]
+fn names_the_first_fault(rt: HostRuntime) {
+    let rows: [(&[u8], u32, AsmKind); 41] = [
+        (b"nap", 1, AsmKind::UnknownWord),
+        (b"9a:", 1, AsmKind::UnknownWord),
+        (b":", 1, AsmKind::UnknownWord),
+        (b"a", 1, AsmKind::UnknownWord),
+        (b"Nop", 1, AsmKind::UnknownWord),
+        (b"\"nop\"", 1, AsmKind::UnknownWord),
+        (b"nop\r", 1, AsmKind::UnknownWord),
+        (b"a: nop", 1, AsmKind::BadOperand),
+        (b"nop r1", 1, AsmKind::BadOperand),
+        (b"mov r1", 1, AsmKind::BadOperand),
+        (b"mov r1, r2, r3", 1, AsmKind::BadOperand),
+        (b"mov r1, r8", 1, AsmKind::BadOperand),
+        (b"mov r1, a\na:", 1, AsmKind::BadOperand),
+        (b"set a, 1\na:", 1, AsmKind::BadOperand),
+        (b"set r1, 18446744073709551616", 1, AsmKind::BadOperand),
+        (b"set r1, 0x10000000000000000", 1, AsmKind::BadOperand),
+        (b"set r1, 01", 1, AsmKind::BadOperand),
+        (b"set r1, -1", 1, AsmKind::BadOperand),
+        (b"set r1, 0x", 1, AsmKind::BadOperand),
+        (b"set r1, 0xg", 1, AsmKind::BadOperand),
+        (b"set r1, 9a", 1, AsmKind::BadOperand),
+        (b"set r1, \"a\"", 1, AsmKind::BadOperand),
+        (b"sys 2", 1, AsmKind::BadOperand),
+        (b"sys", 1, AsmKind::BadOperand),
+        (b"sys getpit", 1, AsmKind::UnknownName),
+        (b"nop\nsys fork fork", 2, AsmKind::BadOperand),
+        (b"jmp a\na: nop", 1, AsmKind::UnknownName),
+        (b"jmp a\nb:\nb:", 1, AsmKind::UnknownName),
+        (b"jmp a\na:\na:\nnap", 3, AsmKind::Double),
+        (b"a:\nspace a 1", 2, AsmKind::Double),
+        (b"text a \"\"\ntext a \"x", 2, AsmKind::BadOperand),
+        (b"text a x", 1, AsmKind::BadOperand),
+        (b"text a \"x", 1, AsmKind::BadOperand),
+        (b"text a \"x\\\"", 1, AsmKind::BadOperand),
+        (b"text a \"\\t\"", 1, AsmKind::BadOperand),
+        (b"text a \"\\x4\"", 1, AsmKind::BadOperand),
+        (b"text a \"x\"y", 1, AsmKind::BadOperand),
+        (b"text 9 \"x\"", 1, AsmKind::BadOperand),
+        (b"space a 0", 1, AsmKind::BadOperand),
+        (b"space a 65537", 1, AsmKind::BadOperand),
+        (b"space a 65529\nspace b 1", 2, AsmKind::TooBig),
+    ];
+    for (text, line, kind) in rows {
+        assert_eq!(rt; fault(&rt, text), AsmFault { line, kind });
+    }
+}
+
+// The limits: 65,536 bytes of data, where data begins at a multiple of 8, and 4,096 instructions.
+#[test]
+fn keeps_to_its_limits(rt: HostRuntime) -> Result<(), Fail> {
+    assert_eq!(rt; program(&rt, b"space a 65536").data().len(), 65_536);
+    assert_eq!(rt;
+        program(&rt, b"space a 65528\nspace b 8").data().len(),
+        65_536
+    );
+    assert_eq!(rt;
+        fault(&rt, b"space a 65536\ntext b \"\""),
+        AsmFault {
+            line: 2,
+            kind: AsmKind::TooBig
+        }
+    );
+    let mut text = Vec::new(rt.alloc());
+    for _ in 0..4096 {
+        text.extend_from_slice(b"jmp z\n")?;
+    }
+    text.extend_from_slice(b"z:\n")?;
+    let full = program(&rt, &text);
+    assert_eq!(rt; full.code().len(), 4096);
+    assert_eq!(rt; &full.encode(0)[8..12], [0, 0, 2, 0].as_slice());
+    text.extend_from_slice(b"nop\n")?;
+    assert_eq!(rt;
+        fault(&rt, &text),
+        AsmFault {
+            line: 4098,
+            kind: AsmKind::TooBig
+        }
+    );
+    // Of the kinds of one line the first is named.
+    text.extend_from_slice(b"z:")?;
+    assert_eq!(rt;
+        fault(&rt, &text),
+        AsmFault {
+            line: 4098,
+            kind: AsmKind::TooBig
+        }
+    );
+    Ok(())
+}
+
+// The last label at or below an address; of two at one address the later one.
+#[test]
+fn finds_symbols(rt: HostRuntime) {
+    let program = program(&rt, b"nop\nb:\nnop\na:\nc:\nspace d 1\nnop");
+    let rows: [(u64, Option<(&[u8], u64)>); 6] = [
+        (0, None),
+        (0x1000f, None),
+        (0x10010, Some((b"b", 0))),
+        (0x1001f, Some((b"b", 15))),
+        (0x10020, Some((b"c", 0))),
+        (u64::MAX, Some((b"c", u64::MAX - 0x10020))),
+    ];
+    for (pc, want) in rows {
+        assert_eq!(rt; program.symbol_at(pc), want);
+    }
+}
+
+// A program of fork and wait, and one that stores to its data.
+#[test]
+fn reads_whole_programs(rt: HostRuntime) {
+    let f = program(
+        &rt,
+        b"sys fork\njz r0, kid\nset r1, 0\nsys wait\nset r1, 0\nsys exit\nkid:\nset r1, 3\nsys exit\n",
+    );
+    assert_eq!(rt; f.code().len(), 8);
+    assert_eq!(rt;
+        f.encode(1),
+        [14, 0, 0, 0, 0, 0, 0, 0, 0x60, 0, 1, 0, 0, 0, 0, 0]
+    );
+    assert_eq!(rt;
+        f.encode(3),
+        [19, 0, 0, 0, 0, 0, 0, 0, 7, 0, 0, 0, 0, 0, 0, 0]
+    );
+    let s = program(
+        &rt,
+        b"space w 8\nset r2, w\nset r3, 1\nst r3, r2, 0\nsys fork\njz r0, kid\nset r1, 0\nsys wait\nld r1, r2, 0\nsys exit\nkid:\nset r3, 2\nst r3, r2, 0\nld r1, r2, 0\nsys exit\n",
+    );
+    assert_eq!(rt; s.code().len(), 13);
+    assert_eq!(rt; s.data(), [0; 8].as_slice());
+    assert_eq!(rt;
+        s.encode(0),
+        [3, 2, 0, 0, 0, 0, 0, 0, 0, 0, 8, 0, 0, 0, 0, 0]
+    );
+    assert_eq!(rt;
+        s.encode(4),
+        [14, 0, 0, 0, 0, 0, 0, 0, 0x90, 0, 1, 0, 0, 0, 0, 0]
+    );
+    assert_eq!(rt; s.symbol_at(0x100a0), Some((b"kid".as_slice(), 16)));
 }
