@@ -1,6 +1,5 @@
 -- The first line of a program that is refused.
-use Rattle.std.proofs.Common.{◌≡◌, ℕ, zero, suc, ◌+◌, Option, Some, None, List, [], ◌∷◌, take, Result, Ok, Err, refl, sym, ◌∙◌, ap, arith}
-use Rattle.std.specs.List.{slice_get}
+use Rattle.std.proofs.Common.{◌≡◌, ℕ, suc, ◌+◌, Option, List, [], ◌∷◌, take, Result, Ok, Err, refl, sym, ◌∙◌, ap, arith}
 use Rattle.pr_num.specs.Programs.{Program}
 use Rattle.pr_asm.specs.declared.places.Place.{Place}
 use Rattle.pr_asm.specs.declared.refusals.AsmFault.{AsmFault}

@@ -1,12 +1,11 @@
 -- The last label at or below an address.
-use Rattle.std.proofs.Common.{◌≡◌, ℕ, ◌+◌, ◌-◌, ◌≤◌, ◌<◌, Bool, true, false, ◌&&◌, leb, cond, Option, Some, None, List, [], ◌∷◌, ◌++◌, length, drop, get_or, ◌↔◌, refl, sym, ◌∙◌, ap, arith, subst, inl, inr, ⊎_elim}
-use Rattle.std.specs.Option.{option_map, IsNone, IfSome}
+use Rattle.std.proofs.Common.{◌≡◌, ℕ, ◌+◌, ◌-◌, ◌≤◌, ◌<◌, true, false, ◌&&◌, leb, cond, Option, Some, None, List, [], ◌∷◌, ◌++◌, length, drop, get_or, refl, sym, ◌∙◌, ap, arith, subst, ⊎_elim}
 use Rattle.std.specs.List.{All}
 use Rattle.std.proofs.lemmas.List.{append_assoc, append-nil, drop_all, drop_at, drop_more}
 use Rattle.std.proofs.lemmas.List.Elements.{All-nil, All-append, All-cons, All-drop, All-get_or, All-head, All-weaker}
 use Rattle.std.proofs.lemmas.Bool.Decides.{leb_tells}
-use Rattle.pr_num.specs.Programs.{Program, Label}
-use Rattle.pr_asm.specs.Symbols.{label_address, reaches, nearer, nearest, symbol_at, IsSymbol}
+use Rattle.pr_num.specs.Programs.{Label}
+use Rattle.pr_asm.specs.Symbols.{label_address, reaches, nearer, nearest, IsSymbol}
 
 -- what the best label of some labels is: none where all stand above pc, else the last at or below
 abbrev pub Stands : ℕ → List Label → Option (List ℕ × ℕ) → Type 0

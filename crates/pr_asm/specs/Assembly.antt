@@ -1,5 +1,5 @@
 -- The program that statements make, and the first line that is refused.
-use Rattle.std.specs.Prelude.{◌==◌, ◌+◌, ◌-◌, ◌*◌, ◌/◌, ℕ, Bool, true, false, Option, Some, None, List, [], ◌∷◌, ◌++◌, length, replicate, map, Result, Ok, Err, nat_le, nat_lt, if◌then◌else◌}
+use Rattle.std.specs.Prelude.{◌==◌, ◌+◌, ◌-◌, ℕ, Bool, false, Option, Some, None, List, [], ◌∷◌, ◌++◌, length, replicate, map, Result, Ok, Err, nat_lt, if◌then◌else◌}
 use Rattle.std.specs.List.{slice_split}
 use Rattle.pr_num.specs.Programs.{Program}
 use Rattle.pr_num.specs.declared.instructions.Instruction.{Instruction}

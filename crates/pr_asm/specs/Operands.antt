@@ -1,10 +1,10 @@
 -- The operands of instructions.
-use Rattle.std.specs.Prelude.{◌==◌, ◌&&◌, ◌-◌, ℕ, Option, Some, None, List, [], ◌∷◌, length, slice_index, slice_get, Result, Ok, Err, nat_le, if◌then◌else◌}
+use Rattle.std.specs.Prelude.{◌==◌, ◌&&◌, ◌-◌, ℕ, Option, Some, None, List, length, slice_index, slice_get, Result, Ok, Err, nat_le, if◌then◌else◌}
 use Rattle.pr_num.specs.Instructions.{registers}
 use Rattle.pr_num.specs.Syscalls.{syscall_of_name}
 use Rattle.pr_num.specs.declared.instructions.Reg.{Reg}
 use Rattle.pr_num.specs.declared.syscalls.Sysno.{Sysno}
-use Rattle.pr_asm.specs.Names.{is_name, name_of}
+use Rattle.pr_asm.specs.Names.{is_name}
 use Rattle.pr_asm.specs.Numerals.{number_of}
 use Rattle.pr_asm.specs.Parts.{◌>>=◌, ok_or, one, two, three}
 use Rattle.pr_asm.specs.declared.operands.Immediate.{Immediate}

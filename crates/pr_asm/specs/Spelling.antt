@@ -1,7 +1,7 @@
 -- How the statements of a program are spelled, one on a line.
-use Rattle.std.specs.Prelude.{◌≡◌, ◌==◌, ◌||◌, ◌+◌, ◌≤◌, ◌<◌, ◌^◌, ◌⊎◌, ℕ, Bool, true, Option, Some, None, List, [], ◌∷◌, ◌++◌, IfSome, codes, decimal, map, unwrap_or, if◌then◌else◌}
-use Rattle.std.specs.List.{All, flat_map, join_with_byte}
-use Rattle.pr_num.specs.Instructions.{register_number, fields_of}
+use Rattle.std.specs.Prelude.{◌≡◌, ◌==◌, ◌+◌, ◌≤◌, ◌<◌, ◌^◌, ℕ, true, Option, Some, None, List, [], ◌∷◌, ◌++◌, codes, decimal, map, if◌then◌else◌}
+use Rattle.std.specs.List.{flat_map, join_with_byte}
+use Rattle.pr_num.specs.Instructions.{register_number}
 use Rattle.pr_num.specs.Syscalls.{syscall_name}
 use Rattle.pr_num.specs.declared.instructions.Instruction.{Instruction}
 use Rattle.pr_num.specs.declared.instructions.Instruction.TheVariants.{Bpt, Nop, Set, Mov, Add, Sub, Mul, Div, Ld, St, Ldb, Stb, Jmp, Jz, Jnz, Jlt, Call, Ret, Sys}

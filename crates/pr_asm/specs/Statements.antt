@@ -1,11 +1,9 @@
 -- The statements of a program, each read on its own line.
-use Rattle.std.specs.Prelude.{◌==◌, ℕ, Option, Some, None, List, [], ◌∷◌, length, slice_index, codes, Result, Ok, Err, find, nat_le, ◌&&◌, if◌then◌else◌}
+use Rattle.std.specs.Prelude.{◌==◌, ℕ, Option, Some, None, List, [], ◌∷◌, slice_index, codes, Result, Ok, Err, find, nat_le, ◌&&◌, if◌then◌else◌}
 use Rattle.std.specs.Str.{bytes_eq}
-use Rattle.pr_num.specs.declared.instructions.Instruction.{Instruction}
 use Rattle.pr_num.specs.declared.instructions.Instruction.TheVariants as does
 use Rattle.pr_asm.specs.declared.mnemonics.Mnemonic.{Mnemonic}
 use Rattle.pr_asm.specs.declared.mnemonics.Mnemonic.TheVariants.{Bpt, Nop, Set, Mov, Add, Sub, Mul, Div, Ld, St, Ldb, Stb, Jmp, Jz, Jnz, Jlt, Call, Ret, Sys}
-use Rattle.pr_asm.specs.declared.operands.Immediate.{Immediate}
 use Rattle.pr_asm.specs.declared.statements.Statement.{Statement}
 use Rattle.pr_asm.specs.declared.statements.Statement.TheVariants.{Blank, Label, Data, Code}
 use Rattle.pr_asm.specs.declared.refusals.AsmKind.{AsmKind}

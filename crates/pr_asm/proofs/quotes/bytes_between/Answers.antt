@@ -1,5 +1,4 @@
 use Rattle.std.proofs.Common.{◌∙◌, sym, ap}
-use Rattle.pr_asm.specs.Quotes.{bytes_between}
 use Rattle.pr_asm.proofs.QuoteLemmas.{between-step, between-stop, between-end}
 use Rattle.pr_asm.proofs.quotes.bytes_between.Goals as goal
 use Rattle.std.proofs.Common.{Some}

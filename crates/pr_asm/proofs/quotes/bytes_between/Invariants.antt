@@ -1,4 +1,4 @@
-use Rattle.std.proofs.Common.{◌≡◌, ◌++◌, length}
+use Rattle.std.proofs.Common.{◌≡◌, length}
 use Rattle.pr_asm.specs.Quotes.{bytes_between, in_front}
 use Rattle.pr_asm.proofs.quotes.bytes_between.Given as goal
 
