@@ -1,4 +1,4 @@
-use Rattle.std.proofs.Common.{◌≡◌, ℕ, Bool, true, false, Option, Some, None, List, [], ◌∷◌, ◌++◌, map, cond, refl, sym, ◌∙◌, ap}
+use Rattle.std.proofs.Common.{◌≡◌, Bool, true, false, Option, Some, None, List, [], ◌∷◌, ◌++◌, map, cond, refl, ◌∙◌, ap}
 use Rattle.std.specs.List.{list_all}
 use Rattle.pr_num.specs.KeyedTables.{change_first}
 use Rattle.pr_num.specs.declared.signals.Sig.{Sig}
@@ -9,10 +9,9 @@ use Rattle.pr_model.specs.Lwps.{is_lwp}
 use Rattle.pr_model.specs.Running.{with_run, with_representative_run, if_all_requested, shows_run, without_directive, with_request, without_request, was_requested}
 use Rattle.pr_model.specs.State.{TracedProcess, TracedLwp}
 use Rattle.pr_model.specs.Stops.{has_event_stop, directed, with_all_directed, representative}
-use Rattle.pr_model.specs.System.{SystemState, SystemLwp}
+use Rattle.pr_model.specs.System.{SystemState}
 use Rattle.pr_model.specs.UntracedMachine.{UntracedRun, ends_here, by_call_entry, step_by}
 use Rattle.pr_model.specs.declared.handles.Held.{Held}
-use Rattle.pr_model.specs.declared.lwps.Lwp as lwp
 use Rattle.pr_model.specs.declared.steps.Step.{Step}
 use Rattle.pr_model.specs.declared.stops.Stop.TheVariants.{Requested}
 
