@@ -1,5 +1,5 @@
 use Rattle.std.specs.Prelude.{◌==◌, ◌||◌, ℕ, Bool, true, false, not, List, Result, Ok, Err, IsTrue, All}
-use Rattle.pr_num.specs.Control.{has_flags, klc_mode}
+use Rattle.pr_num.specs.Control.{has_flags, klc_mode, stop_again}
 use Rattle.pr_num.specs.Messages.{first_message}
 use Rattle.pr_num.specs.declared.messages.MsgFault.{MsgFault}
 use Rattle.pr_num.specs.declared.messages.Message.{Message}
@@ -16,18 +16,14 @@ use Rattle.pr_model.specs.declared.events.Entry.{Entry}
 -- PR_FORK, PR_RLC and PR_ASYNC. Every other call is passive too: processes that are made and signals that are sent from
 -- outside are steps of the untraced machine as well. A call that was refused did nothing.
 
--- the run flag PRSTOP
-abbrev pub prstop : ℕ
-prstop = 16
-
 -- whether a message is one of those
 unfoldable pub is_passive_message : Message → Bool
 is_passive_message Stop = true
 is_passive_message Dstop = true
 is_passive_message Wstop = true
 is_passive_message (Twstop ms) = true
--- with no flag, or PRSTOP alone
-is_passive_message (Run flags) = (flags == 0) || (flags == prstop)
+-- with no run flag, or PRSTOP alone
+is_passive_message (Run flags) = (flags == 0) || (flags == stop_again)
 is_passive_message Csig = false
 is_passive_message Cfault = false
 is_passive_message (Ssig signal) = false

@@ -1,7 +1,6 @@
 ghost use Rattle.std.specs.Prelude.{◌≡◌, ◌==◌, ◌^◌, ◌<◌, [], ◌∷◌};
 ghost use Rattle.pr_num.specs.Sets.{union_word, minus_word, set_of_word};
-ghost use Rattle.pr_num.specs.Control.{has_flags};
-ghost use Rattle.pr_msg.specs.RunFlags.{clear_signal, clear_fault, single_step, abort_call, stop_again};
+ghost use Rattle.pr_num.specs.Control.{has_flags, clear_signal, clear_fault, single_step, abort_call, stop_again};
 
 use std::marker::Model;
 

@@ -1,5 +1,5 @@
 use Rattle.std.specs.Prelude.{◌≡◌, ◌-◌, length, replicate, ◌==◌, ◌||◌, ◌&&◌, ◌+◌, ◌^◌, ℕ, Bool, List, [], ◌∷◌, ◌++◌, Option, Some, None, nat_lt, nat_le, if◌then◌else◌}
-use Rattle.std.specs.List.{list_any}
+use Rattle.std.specs.List.{flat_map, list_any}
 use Rattle.pr_num.specs.Errnos.{errnos, errno_number}
 use Rattle.pr_num.specs.Words.{words_bytes}
 
@@ -99,6 +99,43 @@ map_entry_ranges = any_word ∷ any_word ∷ below 8 ∷ a_mapping_kind ∷ any_
 -- The 5 words of a process's usage: process id, calls ended, signals taken, faults incurred, instructions begun.
 abbrev pub usage_ranges : List Range
 usage_ranges = an_id ∷ any_word ∷ any_word ∷ any_word ∷ any_word ∷ []
+
+-- The 31 words of a process's dispositions, of the signals 1 to 31: 0 default, 1 ignored, and else the address of a
+-- handler.
+abbrev pub sigact_ranges : List Range
+sigact_ranges = replicate 31 any_word
+
+-- The 3 words of a watched area: address, size, flags.
+abbrev pub watch_entry_ranges : List Range
+watch_entry_ranges = any_word ∷ any_word ∷ below 16 ∷ []
+
+-- a descriptor's number
+abbrev pub a_descriptor : Range
+a_descriptor = below 64
+
+-- what a descriptor stands for: a file, the read end of a pipe, its write end
+abbrev pub a_file_kind : Range
+a_file_kind w = nat_le 1 w && nat_le w 3
+
+-- for what a file is open: reading, writing, both
+abbrev pub an_access : Range
+an_access = below 3
+
+-- The 8 words of a descriptor: its number, kind, open mode, offset, and the 4 words of the file's name.
+abbrev pub fd_entry_ranges : List Range
+fd_entry_ranges = a_descriptor ∷ a_file_kind ∷ an_access ∷ any_word ∷ any_word ∷ any_word ∷ any_word ∷ any_word ∷ []
+
+-- The 6 words of a process in a list of processes: process id, parent's id, and the 4 words of its program's name.
+abbrev pub list_entry_ranges : List Range
+list_entry_ranges = an_id ∷ an_id ∷ any_word ∷ any_word ∷ any_word ∷ any_word ∷ []
+
+-- Entries one behind the other, as in the records of mappings, watched areas, descriptors and processes; and behind
+-- their number, as in the record of all lwps of a process.
+abbrev pub entries_words : List (List ℕ) → List ℕ
+entries_words entries = flat_map (λ (words : List ℕ). words) entries
+
+abbrev pub counted_words : List (List ℕ) → List ℕ
+counted_words entries = length entries ∷ entries_words entries
 
 -- The place of the first word that is out of its range, if there is one; words and ranges are as many.
 abbrev pub first_out_of_range : List Range → List ℕ → Option ℕ
