@@ -1,24 +1,84 @@
-use Rattle.std.proofs.Common.{◌≡◌, ◌==◌, ℕ, Bool, true, false, Option, Some, None, List, Result, Ok, Err, IfSome, refl, inl, inr, subst, cond}
+use Rattle.std.proofs.Common.{◌≡◌, ◌==◌, ℕ, Bool, true, false, Option, Some, None, List, Result, Ok, Err, IfSome, refl, ap, inl, inr, subst, cond}
+use Rattle.std.specs.Option.{option_map}
 use Rattle.pr_num.specs.Messages.{first_message}
 use Rattle.pr_num.specs.declared.messages.MsgFault.{MsgFault}
 use Rattle.pr_num.specs.declared.errnos.Errno.{Errno}
-use Rattle.pr_num.specs.declared.errnos.Errno.TheVariants.{Busy, Intr, Inval}
+use Rattle.pr_num.specs.declared.errnos.Errno.TheVariants.{Intr}
 use Rattle.pr_num.specs.declared.messages.Message.{Message}
 use Rattle.pr_num.specs.declared.messages.Message.TheVariants.{Stop, Dstop, Wstop, Twstop, Run, Csig, Cfault, Ssig, Kill, Unkill, Shold, Strace, Sfault, Sentry, Sexit, Set, Unset, Sreg, Svaddr, Watch, Agent, Read, Write}
-use Rattle.pr_model.specs.Calls.{answer_to, open_unless, opened, open_answer, close_held, close_answer, read_held, read_answer, read_file, read_status, readable}
-use Rattle.pr_model.specs.ControlMessages.{Answer, refused, control_answer, wait_answer, held_answer, targeted_answer, decoded_answer, message_answer, run_answer, held_wait, targeted_wait, decoded_wait, waiting_answer, waits, target_of, control_handle, is_interrupted, wait_over, with_interrupt_seen}
+use Rattle.pr_model.specs.Calls.{Answer, refused, answer_to, open_unless, opened, open_answer, close_held, close_answer, read_held, read_answer, read_file, read_status, readable, controlled, waited, is_interrupted, with_interrupt_seen}
+use Rattle.pr_model.specs.ControlMessages.{Controlled, refused as message_refused, control_answer, wait_reply, held_answer, targeted_answer, decoded_answer, message_answer, run_answer, target_of, control_handle}
 use Rattle.pr_model.specs.Handles.{handle_of}
-use Rattle.pr_model.specs.State.{TracedState, TracedProcess, live_process}
+use Rattle.pr_model.specs.State.{TracedState, TracedSystem, TracedProcess, live_process}
 use Rattle.pr_model.specs.declared.calls.Call as calls
 use Rattle.pr_model.specs.declared.calls.Call.TheVariants as call
 use Rattle.pr_model.specs.declared.calls.File.{File}
 use Rattle.pr_model.specs.declared.calls.File.TheVariants.{Ctl, Status, Lstatus, Psinfo, Map, Usage, Mem, Sigact, Watch as WatchFile, Fds, Lwpctl, Lwpstatus}
-use Rattle.pr_model.specs.declared.calls.Reply.TheVariants.{Used}
+use Rattle.pr_model.specs.declared.calls.Reply.{Reply}
+use Rattle.pr_model.specs.declared.calls.Reply.TheVariants.{Handle, Done, Used, Half, Bytes, Pid, Ready, Fail}
 use Rattle.pr_model.specs.declared.handles.Held.{Held}
 use Rattle.pr_laws.specs.Refusals.{LeavesIfRefused}
 
--- One lemma a row: each either refuses and leaves the state, or does not refuse.
+-- A control message that is refused leaves the system. One lemma a row: each refuses and leaves it, or does not refuse.
+module _ (s : TracedSystem) where
+  LeavesSystem : Controlled → Type 0
+  LeavesSystem c = leaves c.reply
+    where
+      leaves : Reply → Type 0
+      leaves (Fail e) = c.system ≡ s
+      leaves _ = Unit {0}
 
+  Kept : Option Controlled → Type 0
+  Kept c = IfSome c LeavesSystem
+
+  granted : (c : Controlled) → LeavesSystem c → Kept (Some c)
+  unfolding Kept
+  granted c h = h
+
+  no_row : Kept None
+  unfolding Kept
+  no_row = tt
+
+  refusal : (e : Errno) → Kept (Some (message_refused s e))
+  unfolding Kept LeavesSystem
+  refusal e = refl
+
+  none-kept : (b : Bool) (c : Option Controlled) → Kept c → Kept (cond b None c)
+  unfolding Kept
+  none-kept true c h = tt
+  none-kept false c h = h
+
+  unless-kept : (b : Bool) (e : Errno) (c : Option Controlled) → Kept c → Kept (cond b (Some (message_refused s e)) c)
+  unfolding Kept LeavesSystem
+  unless-kept true e c h = refl
+  unless-kept false e c h = h
+
+  run-kept : (h : Held) (p : TracedProcess) (flags length : ℕ) → Kept (run_answer s h p flags length)
+  unfolding LeavesSystem
+  run-kept h p flags length = none-kept _ _ (unless-kept _ _ _ (granted _ tt))
+
+  message-kept : (h : Held) (p : TracedProcess) (m : Message) (length : ℕ) → Kept (message_answer s h p m length)
+  unfolding message_answer LeavesSystem
+  message-kept h p Stop length = granted _ tt
+  message-kept h p Dstop length = granted _ tt
+  message-kept h p Wstop length = granted _ tt
+  message-kept h p (Twstop ms) length = granted _ tt
+  message-kept h p (Run flags) length = run-kept h p flags length
+  message-kept h p _ length = no_row
+
+  decoded-kept : (h : Held) (p : TracedProcess) (m : Result (Message × ℕ) MsgFault) → Kept (decoded_answer s h p m)
+  decoded-kept h p (Err fault) = refusal _
+  decoded-kept h p (Ok (m, length)) = unless-kept _ _ _ (message-kept h p m length)
+
+  targeted-kept : (h : Held) (p : Option TracedProcess) (bytes : List ℕ) → Kept (targeted_answer s h p bytes)
+  targeted-kept h None bytes = refusal _
+  targeted-kept h (Some p) bytes = decoded-kept h p (first_message bytes)
+
+  control-kept : (h : Option Held) (bytes : List ℕ) → Kept (held_answer s h bytes)
+  control-kept None bytes = refusal _
+  control-kept (Some h) bytes = targeted-kept h (target_of s h) bytes
+
+-- A call that is refused leaves the state, or ends an interrupt.
 module _ (s : TracedState) (by : ℕ) where
   Leaves : Option Answer → Type 0
   Leaves a = IfSome a (LeavesIfRefused s by)
@@ -52,7 +112,7 @@ module _ (s : TracedState) (by : ℕ) where
   status-leaves (Some p) from len = tt
 
   file-leaves : (h : Held) (from len : ℕ) (file : File) → Leaves (read_file s h from len file)
-  file-leaves h from len Status = answered _ (status-leaves (live_process s h.pid) from len)
+  file-leaves h from len Status = answered _ (status-leaves (live_process s.system h.pid) from len)
   file-leaves h from len Ctl = not_built
   file-leaves h from len Lstatus = not_built
   file-leaves h from len Psinfo = not_built
@@ -74,92 +134,39 @@ module _ (s : TracedState) (by : ℕ) where
   read-leaves None from len = refused-here _
   read-leaves (Some h) from len = unless-leaves _ _ _ (file-leaves h from len h.file)
 
-  -- a test that comes before
-  none-leaves : (b : Bool) (a : Option Answer) → Leaves a → Leaves (cond b None a)
+  -- what a message leaves of the system, its call leaves of the state
+  controlled-leaves : (c : Controlled) → LeavesSystem s.system c → LeavesIfRefused s by (controlled s c)
+  unfolding LeavesSystem
+  controlled-leaves c kept = of c.reply kept
+    where
+      of : (r : Reply) → LeavesSystem s.system (record { system = c.system; reply = r }) → LeavesIfRefused s by (controlled s (record { system = c.system; reply = r }))
+      of (Fail e) kept = inl (ap (λ system. record s { system = system }) kept)
+      of _ kept = tt
+
+  control-leaves : (c : Option Controlled) → Kept s.system c → Leaves (option_map (controlled s) c)
+  unfolding Leaves Kept
+  control-leaves None kept = tt
+  control-leaves (Some c) kept = controlled-leaves c kept
+
+  -- a wait changes nothing, but that an interrupt is seen
+  waited-leaves : (r : Reply) → LeavesIfRefused s by (waited s by r)
+  waited-leaves (Fail Intr) = inr (refl, refl)
+  waited-leaves (Fail _) = inl refl
+  waited-leaves _ = tt
+
+  wait-leaves : (r : Option Reply) → Leaves (option_map (waited s by) r)
   unfolding Leaves
-  none-leaves true a h = tt
-  none-leaves false a h = h
-
-  then-leaves : (b : Bool) (a : Answer) → LeavesIfRefused s by a → Leaves (cond b (Some a) None)
-  unfolding Leaves
-  then-leaves true a h = h
-  then-leaves false a h = tt
-
-  run-leaves : (h : Held) (p : TracedProcess) (flags length : ℕ) → Leaves (run_answer s h p flags length)
-  run-leaves h p flags length = none-leaves _ _ (unless-leaves _ _ _ (answered _ tt))
-
-  message-leaves : (h : Held) (p : TracedProcess) (m : Message) (length : ℕ) → Leaves (message_answer s h p m length)
-  unfolding message_answer
-  message-leaves h p Stop length = answered _ tt
-  message-leaves h p Dstop length = answered _ tt
-  message-leaves h p Wstop length = answered _ tt
-  message-leaves h p (Twstop ms) length = answered _ tt
-  message-leaves h p (Run flags) length = run-leaves h p flags length
-  message-leaves h p Csig length = not_built
-  message-leaves h p Cfault length = not_built
-  message-leaves h p (Ssig signal) length = not_built
-  message-leaves h p (Kill signal) length = not_built
-  message-leaves h p (Unkill signal) length = not_built
-  message-leaves h p (Shold signals) length = not_built
-  message-leaves h p (Strace signals) length = not_built
-  message-leaves h p (Sfault faults) length = not_built
-  message-leaves h p (Sentry calls) length = not_built
-  message-leaves h p (Sexit calls) length = not_built
-  message-leaves h p (Set modes) length = not_built
-  message-leaves h p (Unset modes) length = not_built
-  message-leaves h p (Sreg regs) length = not_built
-  message-leaves h p (Svaddr pc) length = not_built
-  message-leaves h p (Watch at size flags) length = not_built
-  message-leaves h p (Agent regs) length = not_built
-  message-leaves h p (Read at len) length = not_built
-  message-leaves h p (Write at len) length = not_built
-
-  decoded-leaves : (h : Held) (p : TracedProcess) (m : Result (Message × ℕ) MsgFault) → Leaves (decoded_answer s h p m)
-  decoded-leaves h p (Err fault) = refused-here _
-  decoded-leaves h p (Ok (m, length)) = unless-leaves _ _ _ (message-leaves h p m length)
-
-  targeted-leaves : (h : Held) (p : Option TracedProcess) (bytes : List ℕ) → Leaves (targeted_answer s h p bytes)
-  targeted-leaves h None bytes = refused-here _
-  targeted-leaves h (Some p) bytes = decoded-leaves h p (first_message bytes)
-
-  control-leaves : (h : Option Held) (bytes : List ℕ) → Leaves (held_answer s h bytes)
-  control-leaves None bytes = refused-here _
-  control-leaves (Some h) bytes = targeted-leaves h (target_of s h) bytes
-
-  -- an interrupt is seen, or the wait is over or goes on
-  seen-leaves : (b : Bool) (a : Option Answer) → Leaves a → Leaves (cond b (Some (refused (with_interrupt_seen by s) Intr)) a)
-  unfolding Leaves
-  seen-leaves true a h = inr (refl, refl)
-  seen-leaves false a h = h
-
-  waiting-leaves : (h : Held) (p : TracedProcess) (until length : ℕ) → Leaves (waiting_answer s by h p until length)
-  waiting-leaves h p until length =
-      unless-leaves (p.id == 0) Busy _ (seen-leaves (is_interrupted s by) _ (then-leaves (wait_over s h p until) (record { state = s; reply = Used length }) tt))
-
-  waits-leaves : (b : Bool) (a : Option Answer) → Leaves a → Leaves (cond b a (Some (refused s Inval)))
-  waits-leaves true a h = h
-  waits-leaves false a h = refused-here Inval
-
-  decoded_wait-leaves : (h : Held) (p : TracedProcess) (until : ℕ) (m : Result (Message × ℕ) MsgFault) → Leaves (decoded_wait s by h p until m)
-  decoded_wait-leaves h p until (Err fault) = refused-here _
-  decoded_wait-leaves h p until (Ok (m, length)) = waits-leaves (waits m) _ (waiting-leaves h p until length)
-
-  targeted_wait-leaves : (h : Held) (p : Option TracedProcess) (until : ℕ) (bytes : List ℕ) → Leaves (targeted_wait s by h p until bytes)
-  targeted_wait-leaves h None until bytes = refused-here _
-  targeted_wait-leaves h (Some p) until bytes = decoded_wait-leaves h p until (first_message bytes)
-
-  wait-leaves : (h : Option Held) (until : ℕ) (bytes : List ℕ) → Leaves (held_wait s by h until bytes)
-  wait-leaves None until bytes = refused-here _
-  wait-leaves (Some h) until bytes = targeted_wait-leaves h (target_of s h) until bytes
+  wait-leaves None = tt
+  wait-leaves (Some r) = waited-leaves r
 
   -- every call
   answer-leaves : (c : calls.Call) → Leaves (answer_to s by c)
-  unfolding answer_to open_answer close_answer control_answer wait_answer read_answer
+  unfolding answer_to open_answer close_answer read_answer control_answer
   answer-leaves (call.Open pid id file mode) = answered _ (open-leaves _ _)
-  answer-leaves (call.Close handle) = answered _ (close-leaves handle (handle_of s by handle))
-  answer-leaves (call.Ctl handle bytes) = control-leaves (control_handle (handle_of s by handle)) bytes
-  answer-leaves (call.CtlWait handle until bytes) = wait-leaves (control_handle (handle_of s by handle)) until bytes
-  answer-leaves (call.Read handle from len) = read-leaves (readable (handle_of s by handle)) from len
+  answer-leaves (call.Close handle) = answered _ (close-leaves handle (handle_of s.opens by handle))
+  answer-leaves (call.Ctl handle bytes) = control-leaves _ (control-kept s.system (control_handle (handle_of s.opens by handle)) bytes)
+  answer-leaves (call.CtlWait handle until bytes) = wait-leaves _
+  answer-leaves (call.Read handle from len) = read-leaves (readable (handle_of s.opens by handle)) from len
   answer-leaves (call.Poll handles) = not_built
   answer-leaves (call.Interrupt controller) = not_built
   answer-leaves (call.Spawn program held) = not_built

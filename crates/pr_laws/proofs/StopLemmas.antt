@@ -2,7 +2,7 @@ use Rattle.std.proofs.Common.{◌≡◌, ℕ, Bool, true, false, ◌==◌, Optio
 use Rattle.std.specs.List.{find}
 use Rattle.pr_laws.proofs.FoundLemmas.{map-change_first}
 use Rattle.pr_laws.proofs.TurnLemmas.{IsLive, turn-taken}
-use Rattle.pr_model.specs.Erasure.{erased, erased_lwp, erased_process}
+use Rattle.pr_model.specs.Erasure.{erased_system, erased_lwp, erased_process}
 use Rattle.pr_model.specs.LwpTurns.{LwpTurn, turn_of, settled, with_row, lwp_made, rest_made, made_by, posted}
 use Rattle.pr_model.specs.declared.effects.TurnRow.{TurnRow}
 use Rattle.pr_model.specs.declared.effects.TurnRow.TheVariants as rows
@@ -15,7 +15,7 @@ use Rattle.pr_num.specs.declared.faults.Flt.TheVariants.{Trace}
 use Rattle.pr_num.specs.declared.signals.Sig.{Sig}
 use Rattle.pr_model.specs.Lwps.{is_lwp, is_process}
 use Rattle.pr_num.specs.Agents.{agent_id}
-use Rattle.pr_model.specs.State.{TracedState, TracedProcess, TracedLwp, with_process}
+use Rattle.pr_model.specs.State.{TracedSystem, TracedProcess, TracedLwp, with_process}
 use Rattle.pr_model.specs.Stops.{class_of_shown, class_of, shown, or_else, first_in_class, representative, is_stopped, stands_on_event, has_event_stop}
 use Rattle.pr_model.specs.declared.stops.Stop.TheVariants as stop
 use Rattle.pr_model.specs.declared.stops.Shown.{Shown}
@@ -109,23 +109,23 @@ only_requested row l did = by row (ap is_stop did)
     by (rows.Incurred f address) e = cc
 
 -- The state in which an lwp stops as it was directed to is the same to programs.
-erased-requested : (s : TracedState) (p : TracedProcess) (l : TracedLwp) (pid id : ℕ) → IsLive s pid p → find (is_lwp id) p.lwps ≡ Some l → l.id ≡ id → erased (settled s p l Requested).state ≡ erased s
-unfolding erased settled with_process
+erased-requested : (s : TracedSystem) (p : TracedProcess) (l : TracedLwp) (pid id : ℕ) → IsLive s pid p → find (is_lwp id) p.lwps ≡ Some l → l.id ≡ id → erased_system (settled s p l Requested).system ≡ erased_system s
+unfolding erased_system settled with_process
 erased-requested s p l pid id live found same =
     let here : find (is_process p.id) s.processes ≡ Some p = ap (λ n. find (is_process n) s.processes) live.same_id ∙ live.found in
     let seen = map-change_first erased_process (is_process p.id) (with_row Requested l) s.processes p here (erased_process-requested p l id found same) in
-    ap (λ ps. record (erased s) { processes = ps }) seen
+    ap (λ ps. record (erased_system s) { processes = ps }) seen
 
-settled-did : (s : TracedState) (p : TracedProcess) (l : TracedLwp) (row : TurnRow) → (settled s p l row).turned.did ≡ (rest_made row l).did
+settled-did : (s : TracedSystem) (p : TracedProcess) (l : TracedLwp) (row : TurnRow) → (settled s p l row).turned.did ≡ (rest_made row l).did
 unfolding settled
 settled-did s p l row = refl
 
-pub stop-hidden : (s : TracedState) (pid id : ℕ) (t : LwpTurn) → turn_of s pid id ≡ Some t → t.turned.did ≡ Stopped → erased t.state ≡ erased s
+pub stop-hidden : (s : TracedSystem) (pid id : ℕ) (t : LwpTurn) → turn_of s pid id ≡ Some t → t.turned.did ≡ Stopped → erased_system t.system ≡ erased_system s
 stop-hidden s pid id t e did =
     let taken = turn-taken s pid id t e in
     let was : (rest_made taken.row taken.lwp).did ≡ Stopped = sym (settled-did s taken.process taken.lwp taken.row) ∙ sym (ap (λ (u : LwpTurn). u.turned.did) taken.is) ∙ did in
     let it = only_requested taken.row taken.lwp was in
-    ap (λ (u : LwpTurn). erased u.state) (taken.is ∙ ap (settled s taken.process taken.lwp) it)
+    ap (λ (u : LwpTurn). erased_system u.system) (taken.is ∙ ap (settled s taken.process taken.lwp) it)
     ∙ erased-requested s taken.process taken.lwp pid id taken.live taken.found taken.same_id
 
 pub ruleset hidden = (stop-hidden)

@@ -5,18 +5,18 @@ use Rattle.std.specs.List.{find}
 use Rattle.std.specs.Option.{option_map, option_and_then}
 use Rattle.pr_model.specs.LwpTurns.{LwpTurn, turn_of, turn_in, is_kept, row_for, settled}
 use Rattle.pr_model.specs.Lwps.{is_process, is_lwp, lwp_of}
-use Rattle.pr_model.specs.State.{TracedState, TracedProcess, TracedLwp, process_of, if_live, live_process}
+use Rattle.pr_model.specs.State.{TracedSystem, TracedProcess, TracedLwp, process_of, if_live, live_process}
 use Rattle.pr_model.specs.declared.effects.TurnRow.{TurnRow}
 use Rattle.pr_laws.proofs.FoundLemmas.{found-passes}
 
 -- a live process that was found
-pub record IsLive (s : TracedState) (pid : ℕ) (p : TracedProcess) : Type 0 where
+pub record IsLive (s : TracedSystem) (pid : ℕ) (p : TracedProcess) : Type 0 where
   pub found : find (is_process pid) s.processes ≡ Some p
   pub same_id : p.id ≡ pid
   pub no_zombie : p.ended ≡ None
 
 -- what a turn that an lwp takes is made of
-pub record TakesTurn (s : TracedState) (pid id : ℕ) (t : LwpTurn) : Type 0 where
+pub record TakesTurn (s : TracedSystem) (pid id : ℕ) (t : LwpTurn) : Type 0 where
   pub process : TracedProcess
   pub lwp : TracedLwp
   pub row : TurnRow
@@ -31,7 +31,7 @@ none_is : {X : Type 0} (o : Option X) → is_none o ≡ true → o ≡ None
 none_is None h = refl
 none_is (Some x) h = cc
 
-pub live-found : (s : TracedState) (pid : ℕ) (p : TracedProcess) → live_process s pid ≡ Some p → IsLive s pid p
+pub live-found : (s : TracedSystem) (pid : ℕ) (p : TracedProcess) → live_process s pid ≡ Some p → IsLive s pid p
 unfolding live_process
 live-found s pid p e = option_and_then_some if_live (process_of s pid) p e (λ q there kept.
     let parts = by (is_none q.ended) refl kept in
@@ -51,7 +51,7 @@ mapped : {X Y : Type 0} (f : X → Y) (o : Option X) (y : Y) → option_map f o 
 mapped f None y e = cc
 mapped f (Some x) y e = (x, (refl, sym (same_Some (f x) y e)))
 
-pub turn-taken : (s : TracedState) (pid id : ℕ) (t : LwpTurn) → turn_of s pid id ≡ Some t → TakesTurn s pid id t
+pub turn-taken : (s : TracedSystem) (pid id : ℕ) (t : LwpTurn) → turn_of s pid id ≡ Some t → TakesTurn s pid id t
 unfolding turn_of turn_in
 turn-taken s pid id t e =
     option_and_then_some (λ p. option_and_then (λ l. turn_in s p l) (lwp_of p id)) (live_process s pid) t e (λ p live there.

@@ -1,6 +1,5 @@
 ghost use Rattle.std.specs.Prelude.{◌≡◌, ℕ, Some};
-ghost use Rattle.pr_model.specs.Calls.{answer_to};
-ghost use Rattle.pr_model.specs.ControlMessages.{Answer};
+ghost use Rattle.pr_model.specs.Calls.{Answer, answer_to};
 ghost use Rattle.pr_model.specs.State.{TracedState};
 ghost use Rattle.pr_model.specs.declared.calls.Call as calls;
 ghost use Rattle.pr_laws.specs.Refusals.{LeavesIfRefused};

@@ -1,7 +1,7 @@
 ghost use Rattle.std.specs.Prelude.{◌≡◌, ℕ, List, [], ◌∷◌, Some};
-ghost use Rattle.pr_model.specs.Erasure.{erased};
+ghost use Rattle.pr_model.specs.Erasure.{erased_system};
 ghost use Rattle.pr_model.specs.LwpTurns.{LwpTurn, turn_of};
-ghost use Rattle.pr_model.specs.State.{TracedState, TracedProcess, TracedLwp};
+ghost use Rattle.pr_model.specs.State.{TracedSystem, TracedProcess, TracedLwp};
 ghost use Rattle.pr_model.specs.Stops.{has_event_stop, is_stopped};
 ghost use Rattle.pr_model.specs.declared.events.Did.TheVariants.{Stopped};
 
@@ -14,5 +14,5 @@ pub fn one_lwp_is_its_process()
 /// An lwp that stops because it was directed to leaves everything that programs can see.
 #[tactic(auto, using(crate::proofs::StopLemmas::hidden))]
 pub fn directed_stop_is_hidden()
-    ensures { (s : TracedState) (pid id : ℕ) (t : LwpTurn) → turn_of s pid id ≡ Some t → t.turned.did ≡ Stopped → erased t.state ≡ erased s }
+    ensures { (s : TracedSystem) (pid id : ℕ) (t : LwpTurn) → turn_of s pid id ≡ Some t → t.turned.did ≡ Stopped → erased_system t.system ≡ erased_system s }
 {}

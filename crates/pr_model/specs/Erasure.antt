@@ -2,7 +2,7 @@ use Rattle.std.specs.Prelude.{ℕ, map}
 use Rattle.pr_num.specs.Faults.{fault_signal}
 use Rattle.pr_num.specs.Sets.{with_number}
 use Rattle.pr_num.specs.Signals.{signal_number}
-use Rattle.pr_model.specs.State.{TracedState, TracedProcess, TracedLwp}
+use Rattle.pr_model.specs.State.{TracedState, TracedSystem, TracedProcess, TracedLwp}
 use Rattle.pr_model.specs.System.{Place, in_program, at_call, sleeping, SystemLwp, SystemProcess, SystemState}
 use Rattle.pr_model.specs.declared.lwps.Phase.{Phase}
 use Rattle.pr_model.specs.declared.lwps.Phase.TheVariants.{User, Entered, Asleep, Exiting, Faulted}
@@ -55,11 +55,15 @@ erased_process p = record {
   lwps = map erased_lwp p.lwps;
 }
 
-unfoldable pub erased : TracedState → SystemState
-erased s = record {
+unfoldable pub erased_system : TracedSystem → SystemState
+erased_system s = record {
   programs = s.programs;
   clock = s.clock;
   made = s.made;
   files = s.files;
   processes = map erased_process s.processes;
 }
+
+-- open handles and interrupts are forgotten
+abbrev pub erased : TracedState → SystemState
+erased s = erased_system s.system

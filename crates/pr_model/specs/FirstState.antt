@@ -2,7 +2,7 @@ use Rattle.std.specs.Prelude.{ℕ, List, [], ◌∷◌, Option, Some, None, fals
 use Rattle.pr_num.specs.Programs.{Program}
 use Rattle.pr_num.specs.declared.files.StoredFile.{StoredFile}
 use Rattle.pr_model.specs.Lives.{bare_process, with_spawned}
-use Rattle.pr_model.specs.State.{TracedState, TracedProcess, nothing_open}
+use Rattle.pr_model.specs.State.{TracedState, TracedSystem, TracedProcess, nothing_open}
 
 -- The state before the first step.
 
@@ -11,26 +11,29 @@ unfoldable pub system_process : TracedProcess
 system_process = bare_process 0 0 (codes "sched") 0
 
 -- nothing but process 0, these programs and these files
-unfoldable pub bare_state : List Program → List StoredFile → TracedState
-bare_state programs files = record {
+unfoldable pub bare_system : List Program → List StoredFile → TracedSystem
+bare_system programs files = record {
   programs = programs;
   clock = 0;
   made = 1;
   files = record { files = files; pipes = []; opens = [] };
   processes = system_process ∷ [];
-  opens = nothing_open;
-  interrupted = 0;
 }
 
 -- a process of the program at a place
-abbrev pub spawned_at : Option Program → TracedState → TracedState
+abbrev pub spawned_at : Option Program → TracedSystem → TracedSystem
 spawned_at None s = s
 spawned_at (Some program) s = with_spawned program false s
 
 -- processes of these programs, one after another, each of the program at a place
-unfoldable pub with_spawns : List ℕ → TracedState → TracedState
+unfoldable pub with_spawns : List ℕ → TracedSystem → TracedSystem
 with_spawns [] s = s
 with_spawns (place ∷ places) s = with_spawns places (spawned_at (slice_get s.programs place) s)
 
+-- the system with the processes that are spawned at the start
+abbrev pub first_system : List Program → List StoredFile → List ℕ → TracedSystem
+first_system programs files spawns = with_spawns spawns (bare_system programs files)
+
+-- nobody has opened anything or was interrupted
 unfoldable pub first_state : List Program → List StoredFile → List ℕ → TracedState
-first_state programs files spawns = with_spawns spawns (bare_state programs files)
+first_state programs files spawns = record { system = first_system programs files spawns; opens = nothing_open; interrupted = 0 }

@@ -5,7 +5,7 @@ use Rattle.pr_num.specs.declared.errnos.Errno.{Errno}
 use Rattle.pr_num.specs.declared.errnos.Errno.TheVariants.{Inval, Noent, Busy}
 use Rattle.pr_model.specs.Lives.{with_ended}
 use Rattle.pr_model.specs.Lwps.{lwp_of}
-use Rattle.pr_model.specs.State.{TracedState, TracedProcess, TracedLwp, process_of, live_process, with_process}
+use Rattle.pr_model.specs.State.{TracedState, TracedSystem, Places, TracedProcess, TracedLwp, process_of, live_process, with_process}
 use Rattle.pr_model.specs.declared.calls.File.{File}
 use Rattle.pr_model.specs.declared.calls.File.TheVariants.{Ctl, Psinfo, Usage, Lwpctl, Lwpstatus}
 use Rattle.pr_model.specs.declared.calls.Mode.{Mode}
@@ -58,14 +58,14 @@ is_exclusive_writer pid None = false
 is_exclusive_writer pid (Some h) = (h.pid == pid) && is_exclusive h.mode
 
 -- whether somebody has the process open for writing; for writing exclusively
-abbrev pub has_writer : ℕ → List (Option Held) → Bool
+abbrev pub has_writer : ℕ → Places → Bool
 has_writer pid opens = list_any (is_writer pid) opens
 
-abbrev pub has_exclusive_writer : ℕ → List (Option Held) → Bool
+abbrev pub has_exclusive_writer : ℕ → Places → Bool
 has_exclusive_writer pid opens = list_any (is_exclusive_writer pid) opens
 
 -- An exclusive open wants no writer beside it, and a writer no exclusive one.
-abbrev pub conflicts : ℕ → Mode → List (Option Held) → Bool
+abbrev pub conflicts : ℕ → Mode → Places → Bool
 conflicts pid mode opens = (is_exclusive mode && has_writer pid opens) || (is_writable mode && has_exclusive_writer pid opens)
 
 -- whether a process, if there is one, has the file that is asked for
@@ -78,7 +78,7 @@ has_file (Some p) file id =
 unfoldable pub open_refusal : TracedState → ℕ → ℕ → File → Mode → Option Errno
 open_refusal s pid id file mode =
     if not (fits_file file mode id) then Some Inval
-    else (if not (has_file (process_of s pid) file id) then Some Noent
+    else (if not (has_file (process_of s.system pid) file id) then Some Noent
     else (if conflicts pid mode s.opens then Some Busy
     else None))
 
@@ -92,8 +92,8 @@ own by (Some (Some h)) = if h.controller == by then Some h else None
 own by (Some None) = None
 own by None = None
 
-unfoldable pub handle_of : TracedState → ℕ → ℕ → Option Held
-handle_of s by number = own by (slice_get s.opens number)
+unfoldable pub handle_of : Places → ℕ → ℕ → Option Held
+handle_of opens by number = own by (slice_get opens number)
 
 -- an lwp with nothing that a controller asked of it: it runs again if it stood on an event of interest
 unfoldable pub released_lwp : TracedLwp → TracedLwp
@@ -116,21 +116,22 @@ sigkill = 9
 
 -- what the last close for writing does to a live process (proc(4), "PR_KLC", "PR_RLC"): under PR_KLC it ends as by
 -- SIGKILL; else under PR_RLC it is released
-unfoldable pub with_last_close : TracedProcess → TracedState → TracedState
+unfoldable pub with_last_close : TracedProcess → TracedSystem → TracedSystem
 with_last_close p s =
     if has_flags p.modes klc_mode then with_ended p sigkill s
     else (if has_flags p.modes rlc_mode then with_process p.id released s else s)
 
-abbrev pub after_last_close : Option TracedProcess → TracedState → TracedState
+abbrev pub after_last_close : Option TracedProcess → TracedSystem → TracedSystem
 after_last_close None s = s
 after_last_close (Some p) s = with_last_close p s
 
--- a handle closed, and what follows where no other handle for writing is left on its process
+-- whether a handle that is closed was the last one for writing on its process
+abbrev pub was_last_writer : Held → Places → Bool
+was_last_writer h others = is_writable h.mode && not (has_writer h.pid others)
+
+-- A handle closed, and what follows where no other handle for writing is left on its process.
 unfoldable pub with_closed : Held → ℕ → TracedState → TracedState
-with_closed h number s =
-    if is_writable h.mode && not (has_writer h.pid (closed s).opens)
-    then after_last_close (live_process (closed s) h.pid) (closed s)
-    else closed s
-  where
-    closed : TracedState → TracedState
-    closed t = record t { opens = slice_set t.opens number None }
+with_closed h number s = record s {
+  system = if was_last_writer h (slice_set s.opens number None) then after_last_close (live_process s.system h.pid) s.system else s.system;
+  opens = slice_set s.opens number None;
+}

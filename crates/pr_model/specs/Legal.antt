@@ -1,8 +1,7 @@
 use Rattle.std.specs.Prelude.{◌≡◌, ◌<◌, ◌+◌, ◌^◌, ℕ, List, [], ◌∷◌, Option, Some, None}
-use Rattle.pr_model.specs.Calls.{answer_to}
-use Rattle.pr_model.specs.ControlMessages.{Answer}
+use Rattle.pr_model.specs.Calls.{Answer, answer_to}
 use Rattle.pr_model.specs.LwpTurns.{LwpTurn, turn_of}
-use Rattle.pr_model.specs.State.{TracedState}
+use Rattle.pr_model.specs.State.{TracedState, TracedSystem, with_system}
 use Rattle.pr_model.specs.declared.events.Act.{Act}
 use Rattle.pr_model.specs.declared.events.Act.TheVariants.{Call, Turn, Tick}
 use Rattle.pr_model.specs.declared.events.Actor.{Actor}
@@ -15,6 +14,10 @@ use Rattle.pr_model.specs.declared.events.Entry.{Entry}
 abbrev pub clock_limit : ℕ
 clock_limit = 2 ^ 62
 
+-- the system a millisecond later
+abbrev pub ticked : TracedSystem → TracedSystem
+ticked s = record s { clock = s.clock + 1 }
+
 -- the state after an entry; one that no machine makes leaves it
 abbrev pub after_call : TracedState → Option Answer → TracedState
 after_call s None = s
@@ -22,15 +25,15 @@ after_call s (Some a) = a.state
 
 abbrev pub after_turn : TracedState → Option LwpTurn → TracedState
 after_turn s None = s
-after_turn s (Some t) = t.state
+after_turn s (Some t) = record s { system = t.system }
 
 unfoldable pub after : TracedState → Entry → TracedState
 after s e = by e.actor e.act
   where
     by : Actor → Act → TracedState
     by (Controller k) (Call c r) = after_call s (answer_to s k c)
-    by (Lwp p l) (Turn t) = after_turn s (turn_of s p l)
-    by Clock (Tick n) = record s { clock = s.clock + 1 }
+    by (Lwp p l) (Turn t) = after_turn s (turn_of s.system p l)
+    by Clock (Tick n) = with_system ticked s
     by _ _ = s
 
 -- Whether an entry is legal in a state, where there are so many controllers: a call is made by one of them, is ready,
@@ -41,8 +44,8 @@ IsLegalEntry controllers s e = by e.actor e.act
   where
     by : Actor → Act → Type 0
     by (Controller k) (Call c r) = (k < controllers) × ((state : TracedState) × (answer_to s k c ≡ Some (record { state = state; reply = r })))
-    by (Lwp p l) (Turn t) = (state : TracedState) × (turn_of s p l ≡ Some (record { state = state; turned = t }))
-    by Clock (Tick n) = (s.clock < clock_limit) × (n ≡ s.clock + 1)
+    by (Lwp p l) (Turn t) = (system : TracedSystem) × (turn_of s.system p l ≡ Some (record { system = system; turned = t }))
+    by Clock (Tick n) = (s.system.clock < clock_limit) × (n ≡ s.system.clock + 1)
     by _ _ = ⊥
 
 -- the state after a history

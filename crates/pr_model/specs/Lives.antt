@@ -5,7 +5,7 @@ use Rattle.pr_num.specs.Programs.{Program}
 use Rattle.pr_num.specs.Spaces.{first_space, first_registers}
 use Rattle.pr_num.specs.KeyedTables.{change_first}
 use Rattle.pr_model.specs.Lwps.{is_process}
-use Rattle.pr_model.specs.State.{TracedState, TracedLwp, TracedProcess, with_process}
+use Rattle.pr_model.specs.State.{TracedSystem, TracedLwp, TracedProcess, with_process}
 use Rattle.pr_model.specs.declared.lwps.Phase.TheVariants as phase
 use Rattle.pr_model.specs.declared.processes.Usage.{Usage}
 
@@ -66,7 +66,7 @@ new_process pid program clock held =
     record (bare_process pid 0 program.name clock) { space = first_space program; next_lwp = 2; lwps = first_lwp held ∷ [] }
 
 -- a new process stands behind the others
-unfoldable pub with_spawned : Program → Bool → TracedState → TracedState
+unfoldable pub with_spawned : Program → Bool → TracedSystem → TracedSystem
 with_spawned program held s =
     record s { made = s.made + 1; processes = s.processes ++ new_process s.made program s.clock held ∷ [] }
 
@@ -93,12 +93,12 @@ told_of_child p = told p.ended
     told None = record p { pending = with_number p.pending sigcld }
 
 -- The parent of a process that ended gets SIGCLD, unless that is process 0.
-unfoldable pub with_parent_told : ℕ → TracedState → TracedState
+unfoldable pub with_parent_told : ℕ → TracedSystem → TracedSystem
 with_parent_told parent s = if parent == 0 then s else with_process parent told_of_child s
 
 -- A process ends with a wait status: it loses its lwps, its descriptors and its memory, its children get process 0 as
 -- their parent, and its own parent gets SIGCLD.
-unfoldable pub with_ended : TracedProcess → ℕ → TracedState → TracedState
+unfoldable pub with_ended : TracedProcess → ℕ → TracedSystem → TracedSystem
 with_ended p status s =
     with_parent_told p.parent (record s {
       files = with_all_closed s.files p.fds;

@@ -10,7 +10,7 @@ use Rattle.pr_model.specs.InstructionEffects.{instruction_effect}
 use Rattle.pr_model.specs.Lives.{with_ended}
 use Rattle.pr_model.specs.Lwps.{is_lwp, lwp_of}
 use Rattle.pr_num.specs.Agents.{agent_id}
-use Rattle.pr_model.specs.State.{TracedState, TracedProcess, TracedLwp, live_process, with_process}
+use Rattle.pr_model.specs.State.{TracedSystem, TracedProcess, TracedLwp, live_process, with_process}
 use Rattle.pr_model.specs.Stops.{has_event_stop, is_traced, stop_at, with_others_directed}
 use Rattle.pr_model.specs.Turns.{Row, arguments, requested_stop, returned, made, ran, entered, incurred, counted}
 use Rattle.pr_model.specs.declared.effects.CallEffect.{CallEffect}
@@ -28,7 +28,7 @@ use Rattle.pr_model.specs.declared.stops.Point.{Point}
 use Rattle.pr_model.specs.declared.turning.Rowed.{Rowed}
 use Rattle.pr_num.specs.declared.errnos.Errno.TheVariants.{Intr}
 
--- The turn table: what one turn of an lwp makes of the whole state.
+-- The turn table: what one turn of an lwp makes of the whole system.
 
 -- Whether an lwp may not have a turn: it stands on an event of interest, or is suspended, or its process is stopped by
 -- job control, which does not hold the agent.
@@ -136,9 +136,9 @@ unfoldable pub with_row : TurnRow → TracedLwp → TracedProcess → TracedProc
 with_row row l p =
     after_meeting (rest_made row l).point l.id (record p { usage = counted (rest_made row l) p.usage; lwps = change_first (is_lwp l.id) (lwp_made row) p.lwps })
 
--- a state, and what the turn that led to it did
+-- a system, and what the turn that led to it did
 pub record LwpTurn : Type 0 where
-  pub state : TracedState
+  pub system : TracedSystem
   pub turned : Turned
 
 -- what the turn did
@@ -151,24 +151,24 @@ ending (EndedRow call status) = Some status
 ending _ = None
 
 -- a process that a call ends, ended
-abbrev pub ended_if : Option ℕ → TracedProcess → TracedState → TracedState
+abbrev pub ended_if : Option ℕ → TracedProcess → TracedSystem → TracedSystem
 ended_if None p s = s
 ended_if (Some status) p s = with_ended p status s
 
--- What a row makes of the state: the process as the row of its lwp leaves it, and then ended where its call ends it.
-unfoldable pub settled : TracedState → TracedProcess → TracedLwp → TurnRow → LwpTurn
+-- What a row makes of the system: the process as the row of its lwp leaves it, and then ended where its call ends it.
+unfoldable pub settled : TracedSystem → TracedProcess → TracedLwp → TurnRow → LwpTurn
 settled s p l row = record {
-  state = ended_if (ending row) (with_row row l p) (with_process p.id (with_row row l) s);
+  system = ended_if (ending row) (with_row row l p) (with_process p.id (with_row row l) s);
   turned = turned_by p (rest_made row l);
 }
 
 -- One turn of an lwp of a live process. None: it may not have one, or its row is not built yet.
-unfoldable pub turn_in : TracedState → TracedProcess → TracedLwp → Option LwpTurn
+unfoldable pub turn_in : TracedSystem → TracedProcess → TracedLwp → Option LwpTurn
 turn_in s p l = if is_kept p l then None else option_map (settled s p l) (row_for p l)
 
-unfoldable pub turn_of : TracedState → ℕ → ℕ → Option LwpTurn
+unfoldable pub turn_of : TracedSystem → ℕ → ℕ → Option LwpTurn
 turn_of s pid id = option_and_then (λ p. option_and_then (λ l. turn_in s p l) (lwp_of p id)) (live_process s pid)
 
 -- whether an lwp can have a turn
-abbrev pub can_move : TracedState → ℕ → ℕ → Bool
+abbrev pub can_move : TracedSystem → ℕ → ℕ → Bool
 can_move s pid id = is_some (turn_of s pid id)

@@ -27,7 +27,7 @@ pub use histories::History;
 pub use laws::{history_grows_at_its_end, trace_is_that_of_the_steps};
 pub use lwps::{Lwp, Phase};
 pub use processes::{Process, Usage};
-pub use states::State;
+pub use states::{State, System};
 pub use steps::{Step, Steps, Trace};
 pub use stopping::{
     direct, direct_all, direct_others, is_stopped, is_traced, representative, shown, stop_at,

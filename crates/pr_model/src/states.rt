@@ -1,7 +1,7 @@
-/// The traced state: everything that programs can see, and everything that controllers have set. `G` is how the
-/// programs are kept, `W` the files, `T` the processes, and `O` the open handles of the process file system.
+/// The system as its kernel keeps it: everything that programs can see, and what controllers have set on processes and
+/// their lwps. `G` is how the programs are kept, `W` the files, and `T` the processes.
 #[derive(Drop)]
-pub struct State<G, W, T, O> {
+pub struct System<G, W, T> {
     /// The programs that processes can run.
     pub programs: G,
     /// The clock, in milliseconds.
@@ -11,6 +11,13 @@ pub struct State<G, W, T, O> {
     pub files: W,
     /// Live processes and zombies, by rising id.
     pub processes: T,
+}
+
+/// The traced state: the system `Y`, and beside it what only controllers know of. `O` is how the open handles of the
+/// process file system are kept.
+#[derive(Drop)]
+pub struct State<Y, O> {
+    pub system: Y,
     /// The 1,024 places for open handles, by number.
     pub opens: O,
     /// The controllers that were interrupted and have not seen it yet: controller k is bit k.
