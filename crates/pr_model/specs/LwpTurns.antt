@@ -25,7 +25,7 @@ use Rattle.pr_model.specs.declared.events.Turned.{Turned}
 use Rattle.pr_model.specs.declared.lwps.Phase.{Phase}
 use Rattle.pr_model.specs.declared.lwps.Phase.TheVariants.{User, Entered, Asleep, Exiting, Faulted}
 use Rattle.pr_model.specs.declared.stops.Point.{Point}
-use Rattle.pr_model.specs.declared.turning.Rowed.{Rowed}
+use Rattle.pr_model.specs.declared.effects.Rowed.{Rowed}
 use Rattle.pr_num.specs.declared.errnos.Errno.TheVariants.{Intr}
 
 -- The turn table: what one turn of an lwp makes of the whole system.

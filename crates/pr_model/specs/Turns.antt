@@ -12,7 +12,7 @@ use Rattle.pr_model.specs.declared.lwps.Phase.TheVariants as phase
 use Rattle.pr_model.specs.declared.processes.Usage.{Usage}
 use Rattle.pr_model.specs.declared.stops.Stop.TheVariants.{Requested}
 use Rattle.pr_model.specs.declared.stops.Point.TheVariants.{Fault, Entry, Exit}
-use Rattle.pr_model.specs.declared.turning.Rowed.{Rowed}
+use Rattle.pr_model.specs.declared.effects.Rowed.{Rowed}
 
 -- One turn of an lwp. The rows of the turn table stand here one by one, each with what it makes of the lwp; the table
 -- tries them in their order.

@@ -1,4 +1,4 @@
-use crate::Res;
+use crate::{Did, Point, Res};
 use pr_num::{Flt, Sysno};
 
 /// What an instruction does.
@@ -40,4 +40,14 @@ pub enum TurnRow {
     Entered(Sysno, [u64; 11]),
     /// It runs an instruction that incurs a fault at an address.
     Incurred(Flt, u64),
+}
+
+/// What one row of the turn table did, beside what it made of the lwp.
+#[derive(Clone, Copy, Debug, PartialEq, Eq)]
+pub struct Rowed {
+    pub did: Did,
+    /// What the lwp met that may be traced.
+    pub point: Option<Point>,
+    /// Whether an instruction was begun.
+    pub begun: bool,
 }

@@ -13,31 +13,22 @@ mod lwps;
 mod processes;
 mod states;
 mod steps;
-mod stopping;
 mod stops;
 mod tools;
-mod turning;
 
 pub use calls::{Call, File, Mode, Reply};
-pub use effects::{CallEffect, InstructionEffect, TurnRow};
+pub use effects::{CallEffect, InstructionEffect, Rowed, TurnRow};
 pub use events::{Act, Actor, Did, Entry, How, Res, Turned};
 pub use frames::{Frame, Frames};
 pub use handles::Held;
 pub use histories::History;
 pub use laws::{history_grows_at_its_end, trace_is_that_of_the_steps};
-pub use lwps::{Lwp, Phase};
+pub use lwps::{Lwp, PC, Phase};
 pub use processes::{Process, Usage};
 pub use states::{State, System};
 pub use steps::{Step, Steps, Trace};
-pub use stopping::{
-    direct, direct_all, direct_others, is_stopped, is_traced, representative, shown, stop_at,
-};
 pub use stops::{Point, Shown, Stop};
 pub use tools::ToolKind;
-pub use turning::{
-    PC, Rowed, arguments_of, enter_call, incur, make_call, move_on, return_from, run_on,
-    stop_as_requested, store_result,
-};
 
 #[cfg(test)]
 mod tests;

@@ -27,6 +27,9 @@ pub enum Phase {
     },
 }
 
+/// The place of pc among the registers.
+pub const PC: usize = 10;
+
 /// A lightweight process. `P` is how pending signals are kept.
 #[derive(Drop)]
 pub struct Lwp<P> {

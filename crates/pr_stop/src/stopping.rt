@@ -2,11 +2,11 @@ ghost use Rattle.std.specs.Prelude.{◌≡◌, ◌==◌, ℕ, map};
 ghost use Rattle.std.specs.Option.{option_copied};
 ghost use Rattle.pr_model.specs.Stops.{shown, class_of, first_in_class, representative, is_stopped, is_traced, directed, directed_but, with_all_directed, with_others_directed, stop_at};
 
-use crate::{Lwp, Point, Process, Shown, Stop};
+use pr_model::{Lwp, Point, Process, Shown, Stop};
 use pr_num::{AGENT, Modes, Sig};
 
 /// What an lwp shows of standing still, where its process is stopped by this job control signal.
-#[tactic(auto, unfolding(crate::specs::Stops::shown))]
+#[tactic(auto, unfolding(pr_model::specs::Stops::shown))]
 pub fn shown<P>(job: Option<Sig>, lwp: &Lwp<P>) -> Option<Shown>
     ensures { result ≡ shown job lwp.now }
 {
@@ -17,7 +17,7 @@ pub fn shown<P>(job: Option<Sig>, lwp: &Lwp<P>) -> Option<Shown>
     }
 }
 
-#[tactic(auto, unfolding(crate::specs::Stops::class_of))]
+#[tactic(auto, unfolding(pr_model::specs::Stops::class_of))]
 fn class_of<P>(job: Option<Sig>, lwp: &Lwp<P>) -> u8
     ensures { result ≡ class_of job lwp.now }
 {
@@ -30,7 +30,7 @@ fn class_of<P>(job: Option<Sig>, lwp: &Lwp<P>) -> u8
     }
 }
 
-#[tactic(auto, unfolding(crate::specs::Stops::first_in_class))]
+#[tactic(auto, unfolding(pr_model::specs::Stops::first_in_class))]
 fn first_in_class<P>(job: Option<Sig>, class: u8, lwps: &[Lwp<P>]) -> Option<&Lwp<P>>
     ensures { option_copied result ≡ first_in_class job class lwps.now }
 {
@@ -39,7 +39,7 @@ fn first_in_class<P>(job: Option<Sig>, class: u8, lwps: &[Lwp<P>]) -> Option<&Lw
 
 /// The representative lwp: the one that a process shows, and on which a message to the process acts (proc(4),
 /// "pr_lwp"). `None` exactly where there are no lwps.
-#[tactic(auto, unfolding(crate::specs::Stops::representative))]
+#[tactic(auto, unfolding(pr_model::specs::Stops::representative))]
 pub fn representative<S, F, P, A>(process: &Process<S, F, P, A>) -> Option<&Lwp<P>>
     ensures { option_copied result ≡ representative process.now }
 {
@@ -56,7 +56,7 @@ pub fn representative<S, F, P, A>(process: &Process<S, F, P, A>) -> Option<&Lwp<
 }
 
 /// Whether a process is stopped on an event of interest: its representative is.
-#[tactic(auto, unfolding(crate::specs::Stops::is_stopped))]
+#[tactic(auto, unfolding(pr_model::specs::Stops::is_stopped))]
 pub fn is_stopped<S, F, P, A>(process: &Process<S, F, P, A>) -> bool
     ensures { result ≡ is_stopped process.now }
 {
@@ -67,7 +67,7 @@ pub fn is_stopped<S, F, P, A>(process: &Process<S, F, P, A>) -> bool
 }
 
 /// Whether a process traces what happens at a point.
-#[tactic(auto, unfolding(crate::specs::Stops::is_traced))]
+#[tactic(auto, unfolding(pr_model::specs::Stops::is_traced))]
 pub fn is_traced<S, F, P, A>(process: &Process<S, F, P, A>, point: Point) -> bool
     ensures { result ≡ is_traced process.now point }
 {
@@ -92,7 +92,7 @@ pub fn stop_at(point: Point) -> Stop
 }
 
 /// Directs an lwp to stop, unless it stands on an event of interest already.
-#[tactic(auto, unfolding(crate::specs::Stops::directed))]
+#[tactic(auto, unfolding(pr_model::specs::Stops::directed))]
 pub fn direct<P>(lwp: &mut Lwp<P>)
     ensures { lwp.new ≡ directed lwp.old }
 {
@@ -101,7 +101,7 @@ pub fn direct<P>(lwp: &mut Lwp<P>)
     }
 }
 
-#[tactic(auto, unfolding(crate::specs::Stops::directed_but))]
+#[tactic(auto, unfolding(pr_model::specs::Stops::directed_but))]
 fn direct_but<P>(lwp: &mut Lwp<P>, id: u32)
     ensures { lwp.new ≡ directed_but id lwp.old }
 {
@@ -129,7 +129,7 @@ fn direct_each_but<P>(lwps: &mut [Lwp<P>], id: u32)
 }
 
 /// Directs every lwp of a process to stop that does not stand on an event of interest (proc(4), "PCDSTOP").
-#[tactic(auto, unfolding(crate::specs::Stops::with_all_directed))]
+#[tactic(auto, unfolding(pr_model::specs::Stops::with_all_directed))]
 pub fn direct_all<S, F, P, A>(process: &mut Process<S, F, P, A>)
     ensures { process.new ≡ with_all_directed process.old }
 {
@@ -137,7 +137,7 @@ pub fn direct_all<S, F, P, A>(process: &mut Process<S, F, P, A>)
 }
 
 /// Directs every other lwp of a process, as the stop of one lwp on an event of interest does, unless PR_ASYNC is set.
-#[tactic(auto, unfolding(crate::specs::Stops::with_others_directed))]
+#[tactic(auto, unfolding(pr_model::specs::Stops::with_others_directed))]
 pub fn direct_others<S, F, P, A>(process: &mut Process<S, F, P, A>, but: u32)
     ensures { process.new ≡ with_others_directed but process.old }
 {

@@ -1,24 +1,12 @@
+//! The rows of the turn table that change their lwp alone.
 ghost use Rattle.std.specs.Prelude.{◌≡◌};
 ghost use Rattle.pr_model.specs.Turns.{requested_stop, incurred, with_step_taken, returned, made, ran, entered, with_result, moved_on, arguments};
 
-use crate::{Did, Lwp, Phase, Point, Res, Stop};
+use pr_model::{Did, Lwp, PC, Phase, Point, Res, Rowed, Stop};
 use pr_num::{Flt, Sysno};
 
-/// The place of pc among the registers.
-pub const PC: usize = 10;
-
-/// What one row of the turn table did, beside what it made of the lwp.
-#[derive(Clone, Copy, Debug, PartialEq, Eq)]
-pub struct Rowed {
-    pub did: Did,
-    /// What the lwp met that may be traced.
-    pub point: Option<Point>,
-    /// Whether an instruction was begun.
-    pub begun: bool,
-}
-
 /// Stops an lwp as it was directed to.
-#[tactic(auto, unfolding(crate::specs::Turns::requested_stop))]
+#[tactic(auto, unfolding(pr_model::specs::Turns::requested_stop))]
 pub fn stop_as_requested<P>(lwp: &mut Lwp<P>) -> Rowed
     ensures { (record { lwp = lwp.new; rest = result }) ≡ requested_stop lwp.old }
 {
@@ -32,7 +20,7 @@ pub fn stop_as_requested<P>(lwp: &mut Lwp<P>) -> Rowed
 }
 
 /// An lwp incurs a fault at an address; `begun`: in an instruction.
-#[tactic(auto, unfolding(crate::specs::Turns::incurred))]
+#[tactic(auto, unfolding(pr_model::specs::Turns::incurred))]
 pub fn incur<P>(lwp: &mut Lwp<P>, fault: Flt, address: u64, begun: bool) -> Rowed
     ensures { (record { lwp = lwp.new; rest = result }) ≡ incurred fault address begun lwp.old }
 {
@@ -45,7 +33,7 @@ pub fn incur<P>(lwp: &mut Lwp<P>, fault: Flt, address: u64, begun: bool) -> Rowe
 }
 
 /// Uses up a step mark, after a turn that did this.
-#[tactic(auto, unfolding(crate::specs::Turns::with_step_taken))]
+#[tactic(auto, unfolding(pr_model::specs::Turns::with_step_taken))]
 fn take_step<P>(lwp: &mut Lwp<P>, rest: Rowed) -> Rowed
     ensures { (record { lwp = lwp.new; rest = result }) ≡ with_step_taken (record { lwp = lwp.old; rest = rest }) }
 {
@@ -58,7 +46,7 @@ fn take_step<P>(lwp: &mut Lwp<P>, rest: Rowed) -> Rowed
 }
 
 /// Takes an lwp on its way out of a call back to its program.
-#[tactic(auto, unfolding(crate::specs::Turns::returned))]
+#[tactic(auto, unfolding(pr_model::specs::Turns::returned))]
 pub fn return_from<P>(lwp: &mut Lwp<P>, call: Sysno) -> Rowed
     ensures { (record { lwp = lwp.new; rest = result }) ≡ returned call lwp.old }
 {
@@ -79,7 +67,7 @@ pub fn arguments_of(regs: &[u64; 11]) -> [u64; 6]
 }
 
 /// Stores the result of a call: a value in r0, with r7 = 0, or an error in r7, with r0 = 0.
-#[tactic(auto, unfolding(crate::specs::Turns::with_result))]
+#[tactic(auto, unfolding(pr_model::specs::Turns::with_result))]
 pub fn store_result(regs: &mut [u64; 11], result_of_call: Res)
     ensures { regs.new ≡ with_result result_of_call regs.old }
 {
@@ -97,7 +85,7 @@ pub fn store_result(regs: &mut [u64; 11], result_of_call: Res)
 }
 
 /// Gives a call its result in the turn in which it is made.
-#[tactic(auto, unfolding(crate::specs::Turns::made))]
+#[tactic(auto, unfolding(pr_model::specs::Turns::made))]
 pub fn make_call<P>(lwp: &mut Lwp<P>, call: Sysno, outcome: Res) -> Rowed
     ensures { (record { lwp = lwp.new; rest = result }) ≡ made call outcome lwp.old }
 {
@@ -117,7 +105,7 @@ pub fn make_call<P>(lwp: &mut Lwp<P>, call: Sysno, outcome: Res) -> Rowed
 }
 
 /// Moves pc on to the next instruction.
-#[tactic(auto, unfolding(crate::specs::Turns::moved_on))]
+#[tactic(auto, unfolding(pr_model::specs::Turns::moved_on))]
 pub fn move_on(regs: &mut [u64; 11])
     ensures { regs.new ≡ moved_on regs.old }
 {
@@ -125,7 +113,7 @@ pub fn move_on(regs: &mut [u64; 11])
 }
 
 /// An instruction gave these registers.
-#[tactic(auto, unfolding(crate::specs::Turns::ran))]
+#[tactic(auto, unfolding(pr_model::specs::Turns::ran))]
 pub fn run_on<P>(lwp: &mut Lwp<P>, regs: [u64; 11]) -> Rowed
     ensures { (record { lwp = lwp.new; rest = result }) ≡ ran regs lwp.old }
 {
@@ -139,7 +127,7 @@ pub fn run_on<P>(lwp: &mut Lwp<P>, regs: [u64; 11]) -> Rowed
 }
 
 /// Brings an lwp to a system call, with these registers.
-#[tactic(auto, unfolding(crate::specs::Turns::entered))]
+#[tactic(auto, unfolding(pr_model::specs::Turns::entered))]
 pub fn enter_call<P>(lwp: &mut Lwp<P>, call: Sysno, regs: [u64; 11]) -> Rowed
     ensures { (record { lwp = lwp.new; rest = result }) ≡ entered call regs lwp.old }
 {
