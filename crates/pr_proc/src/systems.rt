@@ -1,0 +1,13 @@
+use crate::Files;
+use pr_asm::Program;
+use pr_model::{Process, System};
+use pr_num::{Area, Mapping, SigSet, Table};
+
+/// A process's 64 places for descriptors, each the place of an open file.
+pub type Fds = [Option<u32>; 64];
+
+/// A process in its plainest shape: lists of mappings and of watched areas, and pending signals as a set.
+pub type Proc = Process<Table<Mapping>, Fds, SigSet, Table<Area>>;
+
+/// The system in its plainest shape. Contracts see it as the traced system of the definitions.
+pub type Sys = System<Table<Program>, Files, Table<Proc>>;
