@@ -1,8 +1,12 @@
 //! Processes: the system as the kernel keeps it, and how processes begin and end.
 #![tactic(auto)]
 
+mod ends;
 mod files;
+mod releases;
 mod systems;
 
+pub use ends::end;
 pub use files::Files;
-pub use systems::{Fds, Proc, Sys};
+pub use releases::release;
+pub use systems::{Fds, Proc, Sys, live};
