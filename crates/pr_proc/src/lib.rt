@@ -4,9 +4,12 @@
 mod ends;
 mod files;
 mod releases;
+mod spaces;
+mod spawns;
 mod systems;
 
 pub use ends::end;
 pub use files::Files;
 pub use releases::release;
+pub use spawns::spawn;
 pub use systems::{Fds, Proc, Sys, live};
