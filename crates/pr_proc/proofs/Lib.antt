@@ -1,3 +1,4 @@
 pub mod FileLemmas
 pub mod LifeLemmas
 pub mod SpaceLemmas
+pub mod FirstLemmas

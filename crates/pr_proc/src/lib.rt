@@ -3,6 +3,7 @@
 
 mod ends;
 mod files;
+mod first;
 mod releases;
 mod spaces;
 mod spawns;
@@ -10,6 +11,7 @@ mod systems;
 
 pub use ends::end;
 pub use files::Files;
+pub use first::first_system;
 pub use releases::release;
 pub use spawns::spawn;
 pub use systems::{Fds, Proc, Sys, live};

@@ -34,7 +34,7 @@ fn first_lwp(held: bool) -> Lwp<SigSet>
 
 /// A process with no lwp, no memory, no descriptor and nothing that is traced. Takes no memory.
 #[tactic(auto, unfolding(pr_model::specs::Lives::bare_process))]
-fn bare_process(alloc: Global, pid: u32, parent: u32, name: Name, clock: u64) -> Proc
+pub(crate) fn bare_process(alloc: Global, pid: u32, parent: u32, name: Name, clock: u64) -> Proc
     ensures { result ≡ bare_process pid parent name clock }
 {
     Proc {
@@ -93,6 +93,7 @@ pub fn spawn(sys: &mut Sys, alloc: Global, place: usize, held: bool) -> Result<(
     requires program { place < length sys.old.programs }
     requires room { sys.old.made + 1 < 2 ^ 32 }
     ensures ok { OnOk result (ForSome (slice_get sys.old.programs place) (λ program. sys.new ≡ with_spawned program held sys.old)) }
+    ensures made { OnOk result (sys.new.made ≡ sys.old.made + 1) }
     ensures err { OnErr result (sys.new ≡ sys.old) }
 {
     let program = sys.programs.at(place);
