@@ -1,8 +1,19 @@
 //! Processes: the system as the kernel keeps it, and how processes begin and end.
 #![tactic(auto)]
 
+mod ends;
 mod files;
+mod first;
+mod order;
+mod releases;
+mod spaces;
+mod spawns;
 mod systems;
 
+pub use ends::end;
 pub use files::Files;
-pub use systems::{Fds, Proc, Sys};
+pub use first::first_system;
+pub use order::next_lwp;
+pub use releases::release;
+pub use spawns::spawn;
+pub use systems::{Fds, Proc, Sys, live};

@@ -1,3 +1,7 @@
+ghost use Rattle.std.specs.Prelude.{◌≡◌};
+ghost use Rattle.std.specs.Option.{option_copied};
+ghost use Rattle.pr_model.specs.State.{live_process};
+
 use crate::Files;
 use pr_asm::Program;
 use pr_model::{Process, System};
@@ -11,3 +15,15 @@ pub type Proc = Process<Table<Mapping>, Fds, SigSet, Table<Area>>;
 
 /// The system in its plainest shape. Contracts see it as the traced system of the definitions.
 pub type Sys = System<Table<Program>, Files, Table<Proc>>;
+
+/// The live process of an id: `None` for an id that no process has, and for a zombie's.
+#[tactic(auto, unfolding(pr_model::specs::State::live_process))]
+pub fn live(sys: &Sys, pid: u32) -> Option<&Proc>
+    ensures { option_copied result ≡ live_process sys.now pid }
+{
+    let process = sys.processes.get(pid)?;
+    if process.ended.is_some() {
+        return None;
+    }
+    Some(process)
+}
