@@ -1,10 +1,12 @@
 //! The kernel with its history: the calls that controllers make, and the one entry that each step adds.
 #![tactic(auto)]
 
+mod closes;
 mod opens;
 mod places;
 mod running;
 
+pub use closes::close;
 pub use opens::{conflicts, fits_file, has_file, is_control, is_of_lwp, is_writable, open};
 pub use places::Places;
 pub use running::{run, run_refused};

@@ -1,4 +1,4 @@
-ghost use Rattle.std.specs.Prelude.{◌≡◌, ◌==◌, ◌<◌, None, Some, is_none, position, slice_set, IfOk, IfSome};
+ghost use Rattle.std.specs.Prelude.{◌≡◌, ◌==◌, ◌<◌, None, Some, is_none, position, slice_set, IfOk, IfSome, OnSome};
 ghost use Rattle.std.specs.List.{list_any};
 ghost use Rattle.pr_model.specs.Handles.{handle_of, has_exclusive_writer, has_writer, is_exclusive_writer, is_writer};
 ghost use Rattle.pr_model.specs.State.{nothing_open};
@@ -83,7 +83,8 @@ impl Places {
     /// The handle of a number, if this controller has it open.
     #[tactic(auto, unfolding(pr_model::specs::Handles::handle_of))]
     pub fn own(&self, by: u32, number: u32) -> Option<Held>
-        ensures { result ≡ handle_of self.now by number }
+        ensures value { result ≡ handle_of self.now by number }
+        ensures place { OnSome result (number < 1024) }
     {
         match self.items.get(number as usize) {
             Some(Some(held)) if held.controller == by => Some(*held),
