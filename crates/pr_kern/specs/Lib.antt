@@ -1,3 +1,3 @@
 pub mod Kernels
-
 pub mod Runs
+pub mod Plans

@@ -2,13 +2,16 @@
 #![tactic(auto)]
 
 mod closes;
+mod messages;
 mod opens;
 mod places;
+mod plans;
 mod running;
 
 pub use closes::close;
 pub use opens::{conflicts, fits_file, has_file, is_control, is_of_lwp, is_writable, open};
 pub use places::Places;
+pub use plans::Plan;
 pub use running::{run, run_refused};
 
 /// The state that a machine is in: the system, the open handles, and the interrupted controllers. Contracts see it as
