@@ -1,2 +1,3 @@
 pub mod PlaceLemmas
 pub mod CloseLemmas
+pub mod MessageLemmas

@@ -9,6 +9,6 @@ use Rattle.pr_kern.specs.declared.plans.Plan.TheVariants.{Refuse, Direct, Wait, 
 -- What a plan for a control message makes of the system once it is carried out, and the reply.
 unfoldable pub carried_out : TracedSystem → Plan → Controlled
 carried_out s (Refuse e) = refused s e
-carried_out s (Direct held reply) = record { system = with_process held.pid (with_directed held) s; reply = reply }
+carried_out s (Direct pid held reply) = record { system = with_process pid (with_directed held) s; reply = reply }
 carried_out s (Wait until) = half_answer s until
 carried_out s (Run pid length) = record { system = with_process pid with_run s; reply = Used length }

@@ -9,6 +9,7 @@ mod plans;
 mod running;
 
 pub use closes::close;
+pub use messages::{carry_out, control_handle, plan, wait_reply};
 pub use opens::{conflicts, fits_file, has_file, is_control, is_of_lwp, is_writable, open};
 pub use places::Places;
 pub use plans::Plan;
