@@ -111,14 +111,24 @@ with_script_line d in_script.End = Ok (with_script d)
 
 -- ---- any line
 
--- What the words of one more line make of it, where `ended` says whether the end of a block stands below that line.
-abbrev pub read_inside : Inside → Bool → Draft → List (List ℕ) → Result Draft ScenKind
-read_inside inside.Outside ended d words = item_of words >>= with_item ended d
-read_inside (inside.Program name) ended d words = program_line_of words >>= with_program_line d name
-read_inside inside.Script ended d words = script_line_of words >>= with_script_line d
+-- what the words of one more line make of it outside blocks, where `ended` says whether the end of a block stands below
+-- that line; in the block of a program; and in that of a script
+abbrev pub with_outer_words : Bool → Draft → List (List ℕ) → Result Draft ScenKind
+with_outer_words ended d words = item_of words >>= with_item ended d
+
+abbrev pub with_program_words : Draft → List ℕ → List (List ℕ) → Result Draft ScenKind
+with_program_words d name words = program_line_of words >>= with_program_line d name
+
+abbrev pub with_script_words : Draft → List (List ℕ) → Result Draft ScenKind
+with_script_words d words = script_line_of words >>= with_script_line d
+
+abbrev pub words_inside : Inside → Bool → Draft → List (List ℕ) → Result Draft ScenKind
+words_inside inside.Outside ended d words = with_outer_words ended d words
+words_inside (inside.Program name) ended d words = with_program_words d name words
+words_inside inside.Script ended d words = with_script_words d words
 
 unfoldable pub with_words : Bool → Draft → List (List ℕ) → Result Draft ScenKind
-with_words ended d words = read_inside d.inside ended d words
+with_words ended d words = words_inside d.inside ended d words
 
 -- what one more line makes of it
 unfoldable pub line_added : Bool → Draft → List ℕ → Result Draft ScenKind

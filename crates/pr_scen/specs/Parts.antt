@@ -6,9 +6,13 @@ use Rattle.pr_text.specs.Words.{texts_of}
 use Rattle.pr_scen.specs.declared.refusals.ScenKind.{ScenKind}
 use Rattle.pr_scen.specs.declared.refusals.ScenKind.TheVariants.{NotBuilt}
 
--- a line can be read where it has at most 4,096 bytes, each of ASCII
+-- whether each byte of a line is one of ASCII
+unfoldable pub is_ascii : List ℕ → Bool
+is_ascii line = list_all (λ b. nat_lt b 128) line
+
+-- a line can be read where it has at most 4,096 bytes, all of ASCII
 unfoldable pub is_readable : List ℕ → Bool
-is_readable line = nat_le (length line) 4096 && list_all (λ b. nat_lt b 128) line
+is_readable line = nat_le (length line) 4096 && is_ascii line
 
 -- a word that makes its line a comment, where it is the first
 unfoldable pub begins_comment : List ℕ → Bool

@@ -56,10 +56,14 @@ message_of word =
     else (if bytes_eq word (codes "run") then Ok (Run 0)
     else Err NotBuilt))
 
--- bytes with those behind them that spell the messages of more words
+-- bytes with those behind them that spell the message of a word
+unfoldable pub with_message : List ℕ → List ℕ → Result (List ℕ) ScenKind
+with_message bytes word = message_of word >>= λ m. Ok (bytes ++ spelling m [])
+
+-- the same for the messages of more words
 unfoldable pub with_messages : List ℕ → List (List ℕ) → Result (List ℕ) ScenKind
 with_messages bytes [] = Ok bytes
-with_messages bytes (word ∷ words) = message_of word >>= λ m. with_messages (bytes ++ spelling m []) words
+with_messages bytes (word ∷ words) = with_message bytes word >>= λ longer. with_messages longer words
 
 -- write V and one or more messages, so that there are bytes
 unfoldable pub write_of : List (List ℕ) → Result ScriptLine ScenKind

@@ -62,6 +62,10 @@ handle_in (reply.Pid pid) = no_handle
 handle_in (reply.Ready handle) = no_handle
 handle_in (reply.Fail errno) = no_handle
 
+-- a name stands for a handle from now on
+abbrev pub with_bound : ScriptState → List ℕ → ℕ → ScriptState
+with_bound s name handle = record s { bound = bind name handle s.bound }
+
 -- So many bytes more of a write of `total` bytes were taken. The write is over where nothing is left.
 unfoldable pub with_taken : ScriptState → ℕ → ℕ → ScriptState
 with_taken s total n =
@@ -110,7 +114,7 @@ present_of (Some (Write name bytes)) = Writes (length bytes)
 -- what a reply makes of a script, a row a line; every line but a write is over with its reply
 unfoldable pub with_answer : ScriptState → Reply → Present → ScriptState
 with_answer s r Over = s
-with_answer s r (Opens name) = record (with_line_over s) { bound = bind name (handle_in r) s.bound }
+with_answer s r (Opens name) = with_line_over (with_bound s name (handle_in r))
 with_answer s r (Writes total) = with_write_answered s.wait s total r
 with_answer s r Other = with_line_over s
 

@@ -1,7 +1,7 @@
 //! Names of a script, and the handles that they stand for.
-ghost use Rattle.std.specs.Prelude.{◌≡◌, ◌++◌, OnOk, IfOk};
-ghost use Rattle.pr_num.specs.KeyedTables.{change_first};
-ghost use Rattle.pr_scen.specs.Bindings.{is_named, with_handle, handle_of, bind, name_opened, names_opened};
+ghost use Rattle.std.specs.Prelude.{◌≡◌, ◌++◌, find, position, OnOk, IfOk};
+ghost use Rattle.std.specs.Option.{option_copied};
+ghost use Rattle.pr_scen.specs.Bindings.{is_named, handle_of, bind, name_opened, names_opened};
 
 use crate::ScriptLine;
 use pr_num::{Name, NoMemory};
@@ -25,12 +25,26 @@ fn is_named(binding: &Binding, name: &Name) -> bool
     binding.name.as_slice() == name.as_slice()
 }
 
+/// The binding of a name.
+fn binding_of<'a>(bound: &'a [Binding], name: &Name) -> Option<&'a Binding>
+    ensures { option_copied result ≡ find (is_named name.now) bound.now }
+{
+    bound.iter().find(|b| is_named(b, name))
+}
+
+/// The place of the binding of a name.
+fn place_of(bound: &[Binding], name: &Name) -> Option<usize>
+    ensures { result ≡ position (is_named name.now) bound.now }
+{
+    bound.iter().position(|b| is_named(b, name))
+}
+
 /// The handle that a name stands for.
 #[tactic(auto, unfolding(crate::specs::Bindings::handle_of))]
 pub fn handle_of(bound: &[Binding], name: &Name) -> u32
     ensures { result ≡ handle_of bound.now name.now }
 {
-    match bound.iter().find(|b| is_named(b, name)) {
+    match binding_of(bound, name) {
         Some(binding) => binding.handle,
         None => NO_HANDLE,
     }
@@ -41,7 +55,7 @@ pub fn handle_of(bound: &[Binding], name: &Name) -> u32
 pub fn bind(bound: &mut [Binding], name: &Name, handle: u32)
     ensures { bound.new ≡ bind name.now handle bound.old }
 {
-    if let Some(place) = bound.iter().position(|b| is_named(b, name)) {
+    if let Some(place) = place_of(bound, name) {
         bound[place].handle = handle;
     }
 }

@@ -1,6 +1,6 @@
 //! What was read of a scenario so far, and what one more line makes of it.
-ghost use Rattle.std.specs.Prelude.{◌≡◌, Bool, OnOk};
-ghost use Rattle.pr_scen.specs.Drafts.{nothing, with_turns, with_program_begun, has_program, with_spawn, with_script_begun, with_item, with_code, with_program, with_program_line, with_call, with_open, is_open, with_line, with_script, with_script_line, with_words, line_added, read_inside};
+ghost use Rattle.std.specs.Prelude.{◌≡◌, OnOk};
+ghost use Rattle.pr_scen.specs.Drafts.{nothing, with_turns, with_program_begun, has_program, with_spawn, with_script_begun, with_item, with_code, with_program, with_program_line, with_call, with_open, is_open, with_line, with_script, with_script_line, with_outer_words, with_program_words, with_script_words, line_added};
 ghost use Rattle.pr_scen.specs.Reads.{Gives};
 ghost use Rattle.pr_text.specs.Words.{texts_of};
 
@@ -20,7 +20,7 @@ use std::mem;
 pub const MAX_OPENS: u32 = 16;
 
 /// In which block the next line stands.
-#[derive(Clone, Copy)]
+#[derive(Drop)]
 pub enum Inside {
     Outside,
     /// In the block of the program of this name.
@@ -223,7 +223,7 @@ impl Draft {
 
     /// A line outside blocks.
     fn add_outside(&mut self, ended: bool, line: &[u8]) -> Result<(), Refused>
-        ensures { Gives (λ _. self.new) result (read_inside Inside.Outside ended self.old (texts_of line.now)) }
+        ensures { Gives (λ _. self.new) result (with_outer_words ended self.old (texts_of line.now)) }
     {
         let item = item_of(line)?;
         self.add_item(ended, &item)
@@ -231,7 +231,7 @@ impl Draft {
 
     /// A line in the block of the program of this name.
     fn add_in_program(&mut self, alloc: Global, name: Name, line: &[u8]) -> Result<(), Refused>
-        ensures { (ended : Bool) → Gives (λ _. self.new) result (read_inside (Inside.Program name) ended self.old (texts_of line.now)) }
+        ensures { Gives (λ _. self.new) result (with_program_words self.old name (texts_of line.now)) }
     {
         let read = program_line_of(alloc, line)?;
         self.add_program_line(alloc, name, &read)
@@ -239,7 +239,7 @@ impl Draft {
 
     /// A line in a script block.
     fn add_in_script(&mut self, alloc: Global, line: &[u8]) -> Result<(), Refused>
-        ensures { (ended : Bool) → Gives (λ _. self.new) result (read_inside Inside.Script ended self.old (texts_of line.now)) }
+        ensures { Gives (λ _. self.new) result (with_script_words self.old (texts_of line.now)) }
     {
         let read = script_line_of(alloc, line)?;
         self.add_script_line(alloc, read)
@@ -253,9 +253,12 @@ impl Draft {
         if !is_readable(line) {
             return Err(Refused::Kind(ScenKind::NotBuilt));
         }
-        match self.inside {
+        match &self.inside {
             Inside::Outside => self.add_outside(ended, line),
-            Inside::Program(name) => self.add_in_program(alloc, name, line),
+            Inside::Program(name) => {
+                let name = *name;
+                self.add_in_program(alloc, name, line)
+            }
             Inside::Script => self.add_in_script(alloc, line),
         }
     }

@@ -1,8 +1,7 @@
 //! The words of a line, and operands of the right number.
 ghost use Rattle.std.specs.Prelude.{◌≡◌};
-ghost use Rattle.std.specs.List.{list_all};
 ghost use Rattle.std.specs.Result.{result_map_both};
-ghost use Rattle.pr_scen.specs.Parts.{is_readable, begins_comment, is_end_word, is_end, none, one, two, three, four};
+ghost use Rattle.pr_scen.specs.Parts.{is_ascii, is_readable, begins_comment, is_end_word, is_end, none, one, two, three, four};
 
 use crate::ScenKind;
 use pr_asm::Tokens;
@@ -10,12 +9,19 @@ use pr_asm::Tokens;
 /// The longest line, in bytes.
 pub const MAX_LINE: usize = 4096;
 
+#[tactic(auto, unfolding(crate::specs::Parts::is_ascii))]
+fn is_ascii(line: &[u8]) -> bool
+    ensures { result ≡ is_ascii line.now }
+{
+    line.iter().all(|b| *b < 128)
+}
+
 /// Whether a line has at most 4,096 bytes, each of ASCII.
 #[tactic(auto, unfolding(crate::specs::Parts::is_readable))]
 pub fn is_readable(line: &[u8]) -> bool
     ensures { result ≡ is_readable line.now }
 {
-    line.len() <= MAX_LINE && line.iter().all(|b| *b < 128)
+    line.len() <= MAX_LINE && is_ascii(line)
 }
 
 /// Whether a word makes its line a comment, where it is the first.

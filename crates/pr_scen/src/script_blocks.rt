@@ -1,9 +1,8 @@
 //! The lines of a script block, each read on its own.
-ghost use Rattle.std.specs.Prelude.{◌≡◌, ◌++◌, [], Ok};
-ghost use Rattle.pr_asm.specs.Parts.{◌>>=◌};
+ghost use Rattle.std.specs.Prelude.{◌≡◌, [], IfOk};
+ghost use Rattle.pr_num.specs.Messages.{tail_length};
 ghost use Rattle.pr_text.specs.Words.{texts_of};
-ghost use Rattle.pr_num.specs.Messages.{spelling};
-ghost use Rattle.pr_scen.specs.ScriptBlocks.{opening, open_of, close_of, read_of, message_of, with_messages, write_of, call_with, script_line_with, script_line_of};
+ghost use Rattle.pr_scen.specs.ScriptBlocks.{opening, open_of, close_of, read_of, message_of, with_message, with_messages, write_of, call_with, script_line_with, script_line_of};
 ghost use Rattle.pr_scen.specs.Reads.{Gives};
 
 use crate::parts::{begins_comment, four, is_end_word, none, one, three};
@@ -82,9 +81,10 @@ fn read_of(operands: Tokens) -> Result<ScriptLine, ScenKind>
 }
 
 /// The message of a word.
-#[tactic(auto, unfolding(crate::specs::ScriptBlocks::message_of))]
+#[tactic(auto, unfolding(crate::specs::ScriptBlocks::message_of, pr_num::specs::Messages::tail_length))]
 fn message_of(word: &[u8]) -> Result<Message, ScenKind>
-    ensures { result ≡ message_of word.now }
+    ensures message { result ≡ message_of word.now }
+    ensures alone { IfOk result (λ m. tail_length m ≡ 0) }
 {
     if word == b"dstop".as_slice() {
         return Ok(Message::Dstop);
@@ -99,9 +99,9 @@ fn message_of(word: &[u8]) -> Result<Message, ScenKind>
 }
 
 /// Adds the bytes of the message of a word.
-#[tactic(auto, unfolding(crate::specs::ScriptBlocks::message_of))]
+#[tactic(auto, unfolding(crate::specs::ScriptBlocks::with_message))]
 fn put_message(alloc: Global, bytes: &mut Vec<u8>, word: &[u8]) -> Result<(), Refused>
-    ensures { Gives (λ _. bytes.new.items) result (message_of word.now >>= λ m. Ok (bytes.old.items ++ spelling m [])) }
+    ensures { Gives (λ _. bytes.new.items) result (with_message bytes.old.items word.now) }
 {
     let message = message_of(word)?;
     let spelt = encode(alloc, &message, &[])?;

@@ -1,7 +1,6 @@
 //! A script as a controller of the kernel.
-ghost use Rattle.std.specs.Prelude.{◌≡◌, ◌≤◌, ◌<◌, ◌+◌, drop, length, slice_get, Some, None, Ok, IfOk};
-ghost use Rattle.pr_scen.specs.Scripts.{ScriptState, first_script, next_call_of, call_of, write_call, fed, with_line_over, with_taken, with_ctl_answered, with_wait_answered, with_write_answered, handle_in, present_of, with_answer};
-ghost use Rattle.pr_scen.specs.Bindings.{bind};
+ghost use Rattle.std.specs.Prelude.{◌≡◌, ◌<◌, drop, length, slice_get, Ok, IfOk};
+ghost use Rattle.pr_scen.specs.Scripts.{first_script, next_call_of, call_of, write_call, fed, with_line_over, with_bound, with_taken, with_ctl_answered, with_wait_answered, with_write_answered, handle_in, present_of, with_answer};
 
 use crate::bindings::{Binding, NO_HANDLE, bind, handle_of, names_opened};
 use crate::{Lines, ScriptLine};
@@ -149,6 +148,7 @@ impl Script {
         requires { self.old.place < length self.old.lines }
         ensures { self.new ≡ with_line_over self.old }
     {
+        prove!(self.place < self.lines.len());
         self.place += 1;
         self.taken = 0;
         self.wait = None;
@@ -205,12 +205,19 @@ impl Script {
         }
     }
 
-    /// The reply to an open: the name stands for the handle from now on.
+    /// A name stands for a handle from now on.
+    fn bind(&mut self, name: &Name, handle: u32)
+        ensures { self.new ≡ with_bound self.old name.now handle }
+    {
+        bind(&mut self.bound, name, handle);
+    }
+
+    /// The reply to an open.
     fn feed_open(&mut self, name: &Name, reply: &Reply)
         requires { self.old.place < length self.old.lines }
-        ensures { self.new ≡ record (with_line_over self.old) { bound = bind name.now (handle_in reply.now) self.old.bound } }
+        ensures { self.new ≡ with_line_over (with_bound self.old name.now (handle_in reply.now)) }
     {
-        bind(&mut self.bound, name, handle_in(reply));
+        self.bind(name, handle_in(reply));
         self.end_line();
     }
 
