@@ -22,10 +22,13 @@ mod tokens;
 
 pub use labels::Label;
 pub use laws::{a_refusal_names_the_first_line, statements_are_read_as_they_are_spelled};
+pub use names::name_of;
+pub use numerals::number_of;
 pub use programs::Program;
 pub use reading::read_program;
-pub(crate) use refusals::Refused;
-pub use refusals::{AsmFault, AsmKind, AsmRefusal};
+pub use refusals::{AsmFault, AsmKind, AsmRefusal, Refused};
+pub use statements::{Statement, statement_of};
+pub use tokens::Tokens;
 
 #[cfg(test)]
 mod tests;

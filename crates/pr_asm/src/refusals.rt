@@ -58,7 +58,7 @@ impl From<NoMemory> for AsmRefusal {
 
 /// Why one line is refused.
 #[derive(Clone, Copy)]
-pub(crate) enum Refused {
+pub enum Refused {
     Kind(AsmKind),
     NoMemory(NoMemory),
 }

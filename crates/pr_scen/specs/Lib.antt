@@ -1,0 +1,11 @@
+pub mod Bindings
+pub mod Codes
+pub mod Drafts
+pub mod Items
+pub mod Parts
+pub mod ProgramBlocks
+pub mod Reading
+pub mod Reads
+pub mod Scenarios
+pub mod ScriptBlocks
+pub mod Scripts

@@ -1,0 +1,24 @@
+//! Scenarios: the text that asks for programs, processes and scripts, and the script as a controller of the kernel.
+#![tactic(auto)]
+
+mod bindings;
+mod codes;
+mod drafts;
+mod items;
+mod listings;
+mod parts;
+mod program_blocks;
+mod reading;
+mod refusals;
+mod scenarios;
+mod script_blocks;
+mod script_lines;
+mod scripts;
+
+pub use bindings::Binding;
+pub use listings::Listed;
+pub use reading::read_scenario;
+pub use refusals::{ScenFault, ScenKind, ScenRefusal};
+pub use scenarios::{Lines, Scenario};
+pub use script_lines::ScriptLine;
+pub use scripts::Script;

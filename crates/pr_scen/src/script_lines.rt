@@ -1,0 +1,30 @@
+use pr_model::{File, Mode};
+use pr_num::{Bytes, Name};
+
+/// A line of a script: a call that the script makes, with the name by which the script speaks of the handle.
+#[derive(Drop)]
+pub enum ScriptLine {
+    /// Opens a file of a process; the name then stands for the handle. `lwp` is the lwp's id for a file of one lwp, else
+    /// 0.
+    Open {
+        name: Name,
+        pid: u32,
+        lwp: u32,
+        file: File,
+        mode: Mode,
+    },
+    Close {
+        name: Name,
+    },
+    /// Reads `len` bytes from byte `at` on.
+    Read {
+        name: Name,
+        at: u64,
+        len: u64,
+    },
+    /// Writes control messages: the bytes that spell them, one behind the other.
+    Write {
+        name: Name,
+        bytes: Bytes,
+    },
+}
