@@ -1,0 +1,3 @@
+pub mod FileNames
+pub mod HexWords
+pub mod HistoryText

@@ -1,0 +1,12 @@
+//! Histories as text: how each entry is written on a line.
+#![tactic(auto)]
+
+mod actors;
+mod calls;
+mod entries;
+mod names;
+mod turns;
+mod words;
+
+pub use entries::{write_entry, write_heading, write_status};
+pub use names::{file_name, mode_name};
