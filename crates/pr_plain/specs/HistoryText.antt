@@ -144,9 +144,13 @@ act_words (act.Tick n) = decimal n ∷ []
 unfoldable pub entry_words : ℕ → Entry → List (List ℕ)
 entry_words n e = decimal n ∷ actor_text e.actor ∷ act_words e.act
 
--- the line of the entry of a number, with the newline that ends it
+-- the line of the entry of a number
+unfoldable pub entry_line : ℕ → Entry → List ℕ
+entry_line n e = joined (entry_words n e)
+
+-- the same with the newline that ends it
 unfoldable pub entry_text : ℕ → Entry → List ℕ
-entry_text n e = joined (entry_words n e) ++ newline ∷ []
+entry_text n e = entry_line n e ++ newline ∷ []
 
 -- the lines of entries that count from a number
 unfoldable pub entries_text : ℕ → List Entry → List ℕ

@@ -1,3 +1,4 @@
 pub mod FileNames
 pub mod HexWords
 pub mod HistoryText
+pub mod Lines

@@ -29,7 +29,7 @@ fn write_act(out: &mut Vec<u8>, act: &Act) -> Result<(), AllocError>
 /// from 0.
 ///
 /// Any entry is written, also one that no machine makes. Where memory ran out, a front of the line may be there.
-#[tactic(auto, unfolding(crate::specs::HistoryText::joined, crate::specs::HistoryText::entry_words, crate::specs::HistoryText::entry_text))]
+#[tactic(auto, unfolding(crate::specs::HistoryText::joined, crate::specs::HistoryText::entry_words, crate::specs::HistoryText::entry_line, crate::specs::HistoryText::entry_text))]
 pub fn write_entry(out: &mut Vec<u8>, number: usize, entry: &Entry) -> Result<(), NoMemory>
     ensures { OnOk result (out.new.items ≡ out.old.items ++ entry_text number entry.now) }
 {

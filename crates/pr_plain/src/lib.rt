@@ -4,9 +4,11 @@
 mod actors;
 mod calls;
 mod entries;
+mod laws;
 mod names;
 mod turns;
 mod words;
 
 pub use entries::{write_entry, write_heading, write_status};
+pub use laws::an_entry_is_its_words;
 pub use names::{file_name, mode_name};
