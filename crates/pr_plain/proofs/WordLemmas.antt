@@ -39,7 +39,7 @@ use Rattle.pr_model.specs.declared.events.Res.{Res}
 use Rattle.pr_model.specs.declared.events.Res.TheVariants.{Value, Error, Ended}
 use Rattle.pr_model.specs.declared.events.Turned.{Turned}
 use Rattle.pr_plain.specs.FileNames.{file_name, mode_name}
-use Rattle.pr_plain.specs.HexWords.{hex_digits, digit_of, byte_digits, digits_of_bytes, hex_word}
+use Rattle.pr_plain.specs.HexWords.{byte_digits, digits_of_bytes, hex_word}
 use Rattle.pr_plain.specs.HistoryText.{lwp_text, actor_text, result_words, how_text, did_words, stop_words, turn_words, target_text, held_words, call_words, reply_words, act_words, entry_words}
 use Rattle.pr_plain.specs.Lines.{is_word_byte, is_word, names_words, has_words}
 
@@ -57,11 +57,11 @@ record IsWord (w : List ℕ) : Type 0 where
 both : (a b : Bool) → a ≡ true → b ≡ true → (a && b) ≡ true
 both a b p q = ap (λ t. t && b) p ∙ q
 
-left_of : (a b : Bool) → (a && b) ≡ true → a ≡ true
+pub left_of : (a b : Bool) → (a && b) ≡ true → a ≡ true
 left_of true b h = refl
 left_of false b h = h
 
-right_of : (a b : Bool) → (a && b) ≡ true → b ≡ true
+pub right_of : (a b : Bool) → (a && b) ≡ true → b ≡ true
 right_of true b h = h
 right_of false b h = cc
 
@@ -116,8 +116,11 @@ three u v w o p q = words_cons u (v ∷ w ∷ []) o (two v w p q)
 
 -- ---- numbers
 
+glyph_byte : (n : ℕ) → is_word_byte (digit_glyph false n) ≡ true
+glyph_byte n = grind (arith, nat_tests)
+
 digit_byte : (n : ℕ) → is_word_byte (digit_glyph false (n % 10)) ≡ true
-digit_byte n = grind (arith, nat_tests)
+digit_byte n = glyph_byte (n % 10)
 
 either : (P : List ℕ → Type 0) (t : Bool) (x y : List ℕ) → P x → P y → P (cond t x y)
 either P true x y p q = p
@@ -141,19 +144,11 @@ decimals (n ∷ ns) = words_cons (decimal n) (map decimal ns) (decimal_word n) (
 
 -- ---- hex
 
-at_passes : (xs : List ℕ) (n : ℕ) → list_all is_word_byte xs ≡ true → is_word_byte (get_or xs n 0) ≡ true
-at_passes [] n h = refl
-at_passes (x ∷ xs) zero h = left_of (is_word_byte x) (list_all is_word_byte xs) h
-at_passes (x ∷ xs) (suc n) h = at_passes xs n (right_of (is_word_byte x) (list_all is_word_byte xs) h)
-
-digit_of_byte : (n : ℕ) → is_word_byte (digit_of n) ≡ true
-digit_of_byte n = at_passes hex_digits n refl
-
 digits_bytes : (bs : List ℕ) → AllBytes (digits_of_bytes bs)
 unfolding byte_digits
 digits_bytes [] = no_bytes
 digits_bytes (b ∷ bs) =
-    bytes_cons (digit_of (b / 16)) (digit_of (b % 16) ∷ digits_of_bytes bs) (digit_of_byte (b / 16)) (bytes_cons (digit_of (b % 16)) (digits_of_bytes bs) (digit_of_byte (b % 16)) (digits_bytes bs))
+    bytes_cons (digit_glyph false (b / 16)) (digit_glyph false (b % 16) ∷ digits_of_bytes bs) (glyph_byte (b / 16)) (bytes_cons (digit_glyph false (b % 16)) (digits_of_bytes bs) (glyph_byte (b % 16)) (digits_bytes bs))
 
 bytes_word : (bs : List ℕ) → IsWord (hex_word bs)
 unfolding hex_word byte_digits

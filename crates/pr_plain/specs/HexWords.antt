@@ -1,32 +1,31 @@
 -- Bytes as a word of hex digits, and back.
-use Rattle.std.specs.Prelude.{ℕ, ◌+◌, ◌*◌, ◌/◌, ◌%◌, ◌==◌, Option, Some, None, List, [], ◌∷◌, codes, slice_index, position, if◌then◌else◌}
+use Rattle.std.specs.Prelude.{ℕ, ◌+◌, ◌-◌, ◌*◌, ◌/◌, ◌%◌, ◌==◌, ◌&&◌, nat_le, false, Option, Some, None, List, [], ◌∷◌, if◌then◌else◌}
+use Rattle.std.specs.Fmt.{digit_glyph}
 use Rattle.std.specs.List.{flat_map}
-use Rattle.std.specs.Str.{bytes_eq}
 
--- the sixteen digits, by their values; letters are of lower case
-abbrev pub hex_digits : List ℕ
-hex_digits = codes "0123456789abcdef"
-
--- the digit of a value below 16
-abbrev pub digit_of : ℕ → ℕ
-digit_of n = slice_index hex_digits n
-
--- a byte is two digits, that of its high four bits first
+-- a byte is two digits, that of its high four bits first; letters are of lower case
 unfoldable pub byte_digits : ℕ → List ℕ
-byte_digits b = digit_of (b / 16) ∷ digit_of (b % 16) ∷ []
+byte_digits b = digit_glyph false (b / 16) ∷ digit_glyph false (b % 16) ∷ []
 
 -- bytes in hex: two digits for each
 abbrev pub digits_of_bytes : List ℕ → List ℕ
 digits_of_bytes bytes = flat_map byte_digits bytes
 
--- the same as a word, which is never empty: no bytes are a dash
+-- the word of no bytes, since a word is never empty
+abbrev pub dash : ℕ
+dash = 45
+
+-- bytes as a word
 unfoldable pub hex_word : List ℕ → List ℕ
-hex_word [] = codes "-"
+hex_word [] = dash ∷ []
 hex_word (b ∷ bs) = digits_of_bytes (b ∷ bs)
 
--- the value of a digit, none where the byte is none of the sixteen
+-- the value of a digit, none where the byte is none of 0 to 9 and a to f
 unfoldable pub digit_value : ℕ → Option ℕ
-digit_value c = position (λ d. d == c) hex_digits
+digit_value c =
+    if nat_le 48 c && nat_le c 57 then Some (c - 48)
+    else (if nat_le 97 c && nat_le c 102 then Some (c - 87)
+    else None)
 
 -- the byte of two digits
 abbrev pub byte_of : Option ℕ → Option ℕ → Option ℕ
@@ -46,4 +45,5 @@ bytes_of_digits (c ∷ d ∷ rest) = with_byte (byte_of (digit_value c) (digit_v
 -- the bytes that a word says, none where it says none
 unfoldable pub bytes_of_word : List ℕ → Option (List ℕ)
 bytes_of_word [] = None
-bytes_of_word (c ∷ cs) = if bytes_eq (c ∷ cs) (codes "-") then Some [] else bytes_of_digits (c ∷ cs)
+bytes_of_word (c ∷ []) = if c == dash then Some [] else None
+bytes_of_word (c ∷ d ∷ rest) = bytes_of_digits (c ∷ d ∷ rest)

@@ -1,12 +1,10 @@
 //! Words on a line, each with a blank before it.
-ghost use Rattle.std.specs.Prelude.{◌≡◌, ◌++◌, [], ◌∷◌, decimal, map, OnOk};
+ghost use Rattle.std.specs.Prelude.{◌≡◌, ◌<◌, ◌++◌, [], ◌∷◌, false, decimal, map, OnOk};
+ghost use Rattle.std.specs.Fmt.{digit_glyph};
 ghost use Rattle.pr_plain.specs.HistoryText.{spaced, lwp_text, target_text};
 ghost use Rattle.pr_plain.specs.HexWords.{byte_digits, digits_of_bytes, hex_word};
 
 use std::alloc::AllocError;
-
-/// The hex digits, by their values.
-const HEX_DIGITS: [u8; 16] = *b"0123456789abcdef";
 
 /// Writes a word.
 #[tactic(auto, unfolding(crate::specs::HistoryText::behind_blank))]
@@ -54,15 +52,20 @@ pub fn write_target(out: &mut Vec<u8>, pid: u32, lwp: u32) -> Result<(), AllocEr
     }
 }
 
-/// A byte as two hex digits in lower case.
+/// The hex digit of a number below 16, in lower case.
+fn hex_digit(d: u8) -> u8
+    requires { d < 16 }
+    ensures { result ≡ digit_glyph false d }
+{
+    if d < 10 { b'0' + d } else { b'a' + (d - 10) }
+}
+
+/// A byte as two hex digits.
 #[tactic(auto, unfolding(crate::specs::HexWords::byte_digits))]
 fn byte_digits(b: u8) -> [u8; 2]
     ensures { result ≡ byte_digits b }
 {
-    [
-        HEX_DIGITS[(b / 16) as usize],
-        HEX_DIGITS[(b % 16) as usize],
-    ]
+    [hex_digit(b / 16), hex_digit(b % 16)]
 }
 
 /// Writes bytes in hex, with no blank before them.
