@@ -1,4 +1,5 @@
-pub mod WordLemmas
-pub mod LineLemmas
+pub mod FormLemmas
 pub mod HexLemmas
+pub mod LineLemmas
 pub mod NameLemmas
+pub mod WordLemmas

@@ -86,4 +86,7 @@ pub entry_text-line : (n : ℕ) (e : Entry) → entry_text n e ≡ entry_line n 
 unfolding entry_text
 entry_text-line n e = refl
 
-pub ruleset lines_of_entries = (entry_line-words, entry_line-newline, entry_text-line, entries_text-lines, entries_text-none, entries_text-end)
+pub ruleset lines_of_entries = (entry_line-words, entry_line-newline, entry_text-line, entries_text-lines)
+
+-- for those that write one entry after another
+pub ruleset growing_text = (entries_text-none, entries_text-end)
