@@ -18,7 +18,13 @@ fn line_of(alloc: Global, number: usize, entry: Entry) -> Result<Vec<u8>, NoMemo
 }
 
 /// Sees that an entry has this line.
-fn sees(rt: &impl Abort, alloc: Global, number: usize, entry: Entry, line: &str) -> Result<(), NoMemory> {
+fn sees(
+    rt: &impl Abort,
+    alloc: Global,
+    number: usize,
+    entry: Entry,
+    line: &str,
+) -> Result<(), NoMemory> {
     assert_eq!(rt; line_of(alloc, number, entry)?.as_slice(), line.as_bytes());
     Ok(())
 }
@@ -82,13 +88,55 @@ fn writes_the_calls_of_a_worked_history(rt: HostRuntime) -> Result<(), Fail> {
     words[0] = 3;
     words[8] = 1;
     words[16] = 1;
-    sees(&rt, alloc, 0, call(0, open(File::Ctl, Mode::Write), Reply::Handle(0)), "0 c0 open 1 ctl w -> handle 0\n")?;
-    sees(&rt, alloc, 2, call(0, ctl(alloc, &DSTOP)?, Reply::Used(8)), "2 c0 ctl 0 0200000000000000 -> used 8\n")?;
-    sees(&rt, alloc, 4, call(0, ctl(alloc, &WSTOP)?, Reply::Half(0)), "4 c0 ctl 0 0300000000000000 -> half 0\n")?;
-    sees(&rt, alloc, 5, call(0, wait(alloc, 0, &WSTOP)?, Reply::Used(8)), "5 c0 ctlwait 0 0 0300000000000000 -> used 8\n")?;
-    sees(&rt, alloc, 7, read(alloc, 104, 32, &words)?, "7 c0 read 1 104 32 -> bytes 0300000000000000010000000000000001000000000000000000000000000000\n")?;
-    sees(&rt, alloc, 8, call(0, ctl(alloc, &RUN)?, Reply::Used(16)), "8 c0 ctl 0 05000000000000000000000000000000 -> used 16\n")?;
-    sees(&rt, alloc, 10, call(0, Call::Close { handle: 0 }, Reply::Done), "10 c0 close 0 -> done\n")?;
+    sees(
+        &rt,
+        alloc,
+        0,
+        call(0, open(File::Ctl, Mode::Write), Reply::Handle(0)),
+        "0 c0 open 1 ctl w -> handle 0\n",
+    )?;
+    sees(
+        &rt,
+        alloc,
+        2,
+        call(0, ctl(alloc, &DSTOP)?, Reply::Used(8)),
+        "2 c0 ctl 0 0200000000000000 -> used 8\n",
+    )?;
+    sees(
+        &rt,
+        alloc,
+        4,
+        call(0, ctl(alloc, &WSTOP)?, Reply::Half(0)),
+        "4 c0 ctl 0 0300000000000000 -> half 0\n",
+    )?;
+    sees(
+        &rt,
+        alloc,
+        5,
+        call(0, wait(alloc, 0, &WSTOP)?, Reply::Used(8)),
+        "5 c0 ctlwait 0 0 0300000000000000 -> used 8\n",
+    )?;
+    sees(
+        &rt,
+        alloc,
+        7,
+        read(alloc, 104, 32, &words)?,
+        "7 c0 read 1 104 32 -> bytes 0300000000000000010000000000000001000000000000000000000000000000\n",
+    )?;
+    sees(
+        &rt,
+        alloc,
+        8,
+        call(0, ctl(alloc, &RUN)?, Reply::Used(16)),
+        "8 c0 ctl 0 05000000000000000000000000000000 -> used 16\n",
+    )?;
+    sees(
+        &rt,
+        alloc,
+        10,
+        call(0, Call::Close { handle: 0 }, Reply::Done),
+        "10 c0 close 0 -> done\n",
+    )?;
     Ok(())
 }
 
@@ -96,25 +144,69 @@ const TURNS: [(Did, bool, &str); 22] = [
     (Did::Stopped, false, "stopped requested"),
     (Did::Ran, false, "ran"),
     (Did::Entered(Sysno::Getpid), false, "entered getpid"),
-    (Did::Made(Sysno::Getpid, Res::Value(1)), false, "made getpid = 1"),
+    (
+        Did::Made(Sysno::Getpid, Res::Value(1)),
+        false,
+        "made getpid = 1",
+    ),
     (Did::Returned(Sysno::Getpid), false, "returned getpid"),
     (Did::Made(Sysno::Exit, Res::Ended), false, "made exit"),
-    (Did::Entered(Sysno::LwpCreate), true, "entered lwp_create stop"),
-    (Did::Made(Sysno::Read, Res::Value(u64::MAX)), true, "made read = 18446744073709551615 stop"),
-    (Did::Made(Sysno::Read, Res::Error(Errno::Intr)), false, "made read EINTR"),
-    (Did::Made(Sysno::LwpExit, Res::Ended), false, "made lwp_exit"),
+    (
+        Did::Entered(Sysno::LwpCreate),
+        true,
+        "entered lwp_create stop",
+    ),
+    (
+        Did::Made(Sysno::Read, Res::Value(u64::MAX)),
+        true,
+        "made read = 18446744073709551615 stop",
+    ),
+    (
+        Did::Made(Sysno::Read, Res::Error(Errno::Intr)),
+        false,
+        "made read EINTR",
+    ),
+    (
+        Did::Made(Sysno::LwpExit, Res::Ended),
+        false,
+        "made lwp_exit",
+    ),
     (Did::Slept(Sysno::Pause), false, "slept pause"),
-    (Did::Woke(Sysno::Wait, Res::Value(0)), true, "woke wait = 0 stop"),
-    (Did::Woke(Sysno::Write, Res::Error(Errno::Pipe)), false, "woke write EPIPE"),
+    (
+        Did::Woke(Sysno::Wait, Res::Value(0)),
+        true,
+        "woke wait = 0 stop",
+    ),
+    (
+        Did::Woke(Sysno::Write, Res::Error(Errno::Pipe)),
+        false,
+        "woke write EPIPE",
+    ),
     (Did::Woke(Sysno::Sleep, Res::Ended), false, "woke sleep"),
     (Did::Returned(Sysno::Fork), false, "returned fork"),
     (Did::Faulted(Flt::Izdiv), true, "faulted FLTIZDIV stop"),
     (Did::Posted(Flt::Bounds), false, "posted FLTBOUNDS SIGSEGV"),
     (Did::Took(Sig::Tstp), true, "took SIGTSTP stop"),
-    (Did::Acted(Sig::Usr1, How::Caught), false, "acted SIGUSR1 caught"),
-    (Did::Acted(Sig::Cont, How::Ignored), false, "acted SIGCONT ignored"),
-    (Did::Acted(Sig::Tstp, How::JobStop), false, "acted SIGTSTP stopped"),
-    (Did::Acted(Sig::Kill, How::Died), false, "acted SIGKILL died"),
+    (
+        Did::Acted(Sig::Usr1, How::Caught),
+        false,
+        "acted SIGUSR1 caught",
+    ),
+    (
+        Did::Acted(Sig::Cont, How::Ignored),
+        false,
+        "acted SIGCONT ignored",
+    ),
+    (
+        Did::Acted(Sig::Tstp, How::JobStop),
+        false,
+        "acted SIGTSTP stopped",
+    ),
+    (
+        Did::Acted(Sig::Kill, How::Died),
+        false,
+        "acted SIGKILL died",
+    ),
 ];
 
 #[test]
@@ -147,15 +239,61 @@ fn writes_each_form_of_call(rt: HostRuntime) -> Result<(), Fail> {
         file: File::Lwpstatus,
         mode: Mode::Read,
     };
-    sees(&rt, alloc, 0, call(20, of_lwp, Reply::Handle(12)), "0 c20 open 7/3 lwpstatus r -> handle 12\n")?;
-    sees(&rt, alloc, 1, call(20, open(File::Mem, Mode::WriteExcl), Reply::Fail(Errno::Busy)), "1 c20 open 1 as wx -> fail EBUSY\n")?;
-    sees(&rt, alloc, 2, call(0, ctl(alloc, b"")?, Reply::Used(0)), "2 c0 ctl 0 - -> used 0\n")?;
-    sees(&rt, alloc, 3, call(0, wait(alloc, 5_000, b"\xab\xcd\xef")?, Reply::Half(5_000)), "3 c0 ctlwait 0 5000 abcdef -> half 5000\n")?;
-    sees(&rt, alloc, 4, read(alloc, 0x10000, 16, b"")?, "4 c0 read 1 65536 16 -> bytes -\n")?;
+    sees(
+        &rt,
+        alloc,
+        0,
+        call(20, of_lwp, Reply::Handle(12)),
+        "0 c20 open 7/3 lwpstatus r -> handle 12\n",
+    )?;
+    sees(
+        &rt,
+        alloc,
+        1,
+        call(
+            20,
+            open(File::Mem, Mode::WriteExcl),
+            Reply::Fail(Errno::Busy),
+        ),
+        "1 c20 open 1 as wx -> fail EBUSY\n",
+    )?;
+    sees(
+        &rt,
+        alloc,
+        2,
+        call(0, ctl(alloc, b"")?, Reply::Used(0)),
+        "2 c0 ctl 0 - -> used 0\n",
+    )?;
+    sees(
+        &rt,
+        alloc,
+        3,
+        call(0, wait(alloc, 5_000, b"\xab\xcd\xef")?, Reply::Half(5_000)),
+        "3 c0 ctlwait 0 5000 abcdef -> half 5000\n",
+    )?;
+    sees(
+        &rt,
+        alloc,
+        4,
+        read(alloc, 0x10000, 16, b"")?,
+        "4 c0 read 1 65536 16 -> bytes -\n",
+    )?;
     let handles = Handles::from_vec(Vec::from_slice(alloc, &[0, 10, 1023])?);
-    sees(&rt, alloc, 5, call(0, Call::Poll { handles }, Reply::Ready(10)), "5 c0 poll 0 10 1023 -> ready 10\n")?;
+    sees(
+        &rt,
+        alloc,
+        5,
+        call(0, Call::Poll { handles }, Reply::Ready(10)),
+        "5 c0 poll 0 10 1023 -> ready 10\n",
+    )?;
     let handles = Handles::from_vec(Vec::new(alloc));
-    sees(&rt, alloc, 6, call(0, Call::Poll { handles }, Reply::Done), "6 c0 poll -> done\n")?;
+    sees(
+        &rt,
+        alloc,
+        6,
+        call(0, Call::Poll { handles }, Reply::Done),
+        "6 c0 poll -> done\n",
+    )?;
     Ok(())
 }
 
@@ -173,12 +311,24 @@ fn writes_each_form_of_plain_call(rt: HostRuntime) -> Result<(), Fail> {
     };
     let last = Call::Close { handle: u32::MAX };
     for (what, reply, line) in [
-        (last, Reply::Fail(Errno::Badf), "7 c1 close 4294967295 -> fail EBADF\n"),
-        (Call::Interrupt { controller: 10 }, Reply::Done, "7 c1 interrupt 10 -> done\n"),
+        (
+            last,
+            Reply::Fail(Errno::Badf),
+            "7 c1 close 4294967295 -> fail EBADF\n",
+        ),
+        (
+            Call::Interrupt { controller: 10 },
+            Reply::Done,
+            "7 c1 interrupt 10 -> done\n",
+        ),
         (spawn, Reply::Pid(2), "7 c1 spawn a.b-c_9 -> pid 2\n"),
         (held, Reply::Pid(3), "7 c1 spawn a.b-c_9 held -> pid 3\n"),
         (kill, Reply::Done, "7 c1 kill 2 9 -> done\n"),
-        (Call::Until { moment: 100 }, Reply::Done, "7 c1 until 100 -> done\n"),
+        (
+            Call::Until { moment: 100 },
+            Reply::Done,
+            "7 c1 until 100 -> done\n",
+        ),
         (Call::List, Reply::Done, "7 c1 list -> done\n"),
     ] {
         sees(&rt, rt.alloc(), 7, call(1, what, reply), line)?;
@@ -193,7 +343,10 @@ fn writes_around_the_entries(rt: HostRuntime) -> Result<(), Fail> {
     write_status(&mut out, 0)?;
     write_heading(&mut out, 0)?;
     write_status(&mut out, 4)?;
-    assert_eq!(rt; out.as_slice(), b"history 15\nstatus 0\nhistory 0\nstatus 4\n".as_slice());
+    assert_eq!(rt;
+        out.as_slice(),
+        b"history 15\nstatus 0\nhistory 0\nstatus 4\n".as_slice()
+    );
     Ok(())
 }
 
@@ -215,7 +368,11 @@ fn names_each_file(rt: HostRuntime) {
     ] {
         assert_eq!(rt; file_name(file), name);
     }
-    for (mode, name) in [(Mode::Read, "r"), (Mode::Write, "w"), (Mode::WriteExcl, "wx")] {
+    for (mode, name) in [
+        (Mode::Read, "r"),
+        (Mode::Write, "w"),
+        (Mode::WriteExcl, "wx"),
+    ] {
         assert_eq!(rt; mode_name(mode), name);
     }
 }
