@@ -1,0 +1,5 @@
+pub mod FormLemmas
+pub mod HexLemmas
+pub mod LineLemmas
+pub mod NameLemmas
+pub mod WordLemmas

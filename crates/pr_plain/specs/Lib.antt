@@ -1,0 +1,5 @@
+pub mod FileNames
+pub mod Forms
+pub mod HexWords
+pub mod HistoryText
+pub mod Lines

@@ -1,0 +1,107 @@
+//! Calls of controllers, and what the kernel answers.
+ghost use Rattle.std.specs.Prelude.{◌≡◌, ◌++◌, [], ◌∷◌, decimal, OnOk};
+ghost use Rattle.pr_plain.specs.HistoryText.{spaced, target_text, held_words, call_words, reply_words};
+ghost use Rattle.pr_plain.specs.HexWords.{hex_word};
+
+use crate::names::{file_name, mode_name};
+use crate::words::{write_hex, write_number, write_numbers, write_target, write_word};
+use pr_model::{Call, Reply};
+use pr_num::Name;
+use std::alloc::AllocError;
+
+/// Writes a word and a number.
+fn write_numbered(out: &mut Vec<u8>, word: &[u8], n: u64) -> Result<(), AllocError>
+    ensures { OnOk result (out.new.items ≡ out.old.items ++ spaced (word.now ∷ decimal n ∷ [])) }
+{
+    write_word(out, word)?;
+    write_number(out, n)
+}
+
+/// Writes the program of a process that is made, and `held` where it is directed to stop.
+#[tactic(auto, unfolding(crate::specs::HistoryText::held_words))]
+fn write_spawn(out: &mut Vec<u8>, program: Name, held: bool) -> Result<(), AllocError>
+    ensures { OnOk result (out.new.items ≡ out.old.items ++ spaced (program ∷ held_words held)) }
+{
+    write_word(out, program.as_slice())?;
+    if held {
+        write_word(out, b"held")?;
+    }
+    Ok(())
+}
+
+/// Writes a call.
+#[tactic(auto, unfolding(crate::specs::HistoryText::call_words))]
+pub fn write_call(out: &mut Vec<u8>, call: &Call) -> Result<(), AllocError>
+    ensures { OnOk result (out.new.items ≡ out.old.items ++ spaced (call_words call.now)) }
+{
+    match call {
+        Call::Open {
+            pid,
+            lwp,
+            file,
+            mode,
+        } => {
+            write_word(out, b"open")?;
+            write_target(out, *pid, *lwp)?;
+            write_word(out, file_name(*file).as_bytes())?;
+            write_word(out, mode_name(*mode).as_bytes())
+        }
+        Call::Close { handle } => write_numbered(out, b"close", *handle as u64),
+        Call::Ctl { handle, bytes } => {
+            write_numbered(out, b"ctl", *handle as u64)?;
+            write_hex(out, bytes.as_slice())
+        }
+        Call::CtlWait {
+            handle,
+            until,
+            bytes,
+        } => {
+            write_numbered(out, b"ctlwait", *handle as u64)?;
+            write_number(out, *until)?;
+            write_hex(out, bytes.as_slice())
+        }
+        Call::Read { handle, at, len } => {
+            write_numbered(out, b"read", *handle as u64)?;
+            write_number(out, *at)?;
+            write_number(out, *len)
+        }
+        Call::Poll { handles } => {
+            write_word(out, b"poll")?;
+            write_numbers(out, handles.as_slice())
+        }
+        Call::Interrupt { controller } => write_numbered(out, b"interrupt", *controller as u64),
+        Call::Spawn { program, held } => {
+            write_word(out, b"spawn")?;
+            write_spawn(out, *program, *held)
+        }
+        Call::Kill { pid, sig } => {
+            write_numbered(out, b"kill", *pid as u64)?;
+            write_number(out, *sig)
+        }
+        Call::Until { moment } => write_numbered(out, b"until", *moment),
+        Call::List => write_word(out, b"list"),
+    }
+}
+
+/// Writes what the kernel answered to a call.
+#[tactic(auto, unfolding(crate::specs::HistoryText::reply_words))]
+pub fn write_reply(out: &mut Vec<u8>, reply: &Reply) -> Result<(), AllocError>
+    ensures { OnOk result (out.new.items ≡ out.old.items ++ spaced (reply_words reply.now)) }
+{
+    match reply {
+        Reply::Handle(handle) => write_numbered(out, b"handle", *handle as u64),
+        Reply::Done => write_word(out, b"done"),
+        Reply::Used(n) => write_numbered(out, b"used", *n),
+        Reply::Half(until) => write_numbered(out, b"half", *until),
+        Reply::Bytes(bytes) => {
+            write_word(out, b"bytes")?;
+            write_hex(out, bytes.as_slice())
+        }
+        Reply::Pid(pid) => write_numbered(out, b"pid", *pid as u64),
+        Reply::Ready(handle) => write_numbered(out, b"ready", *handle as u64),
+        Reply::Fail(errno) => {
+            write_word(out, b"fail")?;
+            write_word(out, errno.name().as_bytes())
+        }
+    }
+}
