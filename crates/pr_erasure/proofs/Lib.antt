@@ -1,3 +1,5 @@
 pub mod EndLemmas
 pub mod FaultLemmas
 pub mod ListLemmas
+pub mod UntouchedLemmas
+pub mod DecisionLemmas
