@@ -3,3 +3,5 @@ pub mod FaultLemmas
 pub mod ListLemmas
 pub mod UntouchedLemmas
 pub mod DecisionLemmas
+pub mod HiddenLemmas
+pub mod RowLemmas
