@@ -5,3 +5,5 @@ pub mod UntouchedLemmas
 pub mod DecisionLemmas
 pub mod HiddenLemmas
 pub mod RowLemmas
+pub mod MessageLemmas
+pub mod TurnLemmas

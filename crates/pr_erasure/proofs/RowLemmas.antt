@@ -77,7 +77,7 @@ one_step : {u v : SystemState} {x : Step} → UntracedStep u x v → UntracedRun
 one_step h = step_by h ends_here
 
 module _ (s : TracedSystem) (p : TracedProcess) (l : TracedLwp) (t : HasTurn s p l) where
-  lwp_is_untouched : IsUntouchedLwp l
+  pub lwp_is_untouched : IsUntouchedLwp l
   lwp_is_untouched =
       let process : IsUntouchedProcess p = All-found IsUntouchedProcess (is_process p.id) s.processes p t.untouched.processes t.found in
       All-found IsUntouchedLwp (is_lwp l.id) p.lwps l process.lwps t.there
