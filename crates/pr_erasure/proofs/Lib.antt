@@ -7,3 +7,5 @@ pub mod HiddenLemmas
 pub mod RowLemmas
 pub mod MessageLemmas
 pub mod TurnLemmas
+pub mod CallLemmas
+pub mod HistoryLemmas

@@ -4,6 +4,8 @@
 
 mod ends;
 mod faults;
+mod transparency;
 
 pub use ends::erasure_follows_an_end;
 pub use faults::no_instruction_incurs_flttrace;
+pub use transparency::tracing_is_transparent;
