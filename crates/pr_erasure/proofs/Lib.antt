@@ -1,0 +1,11 @@
+pub mod EndLemmas
+pub mod FaultLemmas
+pub mod ListLemmas
+pub mod UntouchedLemmas
+pub mod DecisionLemmas
+pub mod HiddenLemmas
+pub mod RowLemmas
+pub mod MessageLemmas
+pub mod TurnLemmas
+pub mod CallLemmas
+pub mod HistoryLemmas

@@ -1,0 +1,2 @@
+pub mod Transparency
+pub mod Untouched
