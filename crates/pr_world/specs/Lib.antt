@@ -1,0 +1,3 @@
+pub mod Protocol
+pub mod Runs
+pub mod Worlds

@@ -1,0 +1,2 @@
+//! The world: a kernel with its controllers, and who of them moves next.
+#![tactic(auto)]
