@@ -3,10 +3,17 @@
 
 mod ends;
 mod files;
+mod first;
+mod order;
 mod releases;
+mod spaces;
+mod spawns;
 mod systems;
 
 pub use ends::end;
 pub use files::Files;
+pub use first::first_system;
+pub use order::next_lwp;
 pub use releases::release;
+pub use spawns::spawn;
 pub use systems::{Fds, Proc, Sys, live};

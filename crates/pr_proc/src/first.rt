@@ -1,0 +1,72 @@
+//! The system before the first step.
+ghost use Rattle.std.specs.Prelude.{◌≡◌, ◌+◌, ◌<◌, ◌≤◌, ◌^◌, ◌∷◌, [], length, slice_get, IfOk, OnOk, OnErr};
+ghost use Rattle.pr_model.specs.FirstState.{system_process, bare_system, spawned_at, first_system};
+
+use crate::spawns::{bare_process, spawn};
+use crate::{Files, Proc, Sys};
+use pr_asm::Program;
+use pr_model::System;
+use pr_num::{Name, NoMemory, StoredFile, Table};
+use std::alloc::Global;
+
+/// Process 0, the system process.
+#[tactic(auto, unfolding(pr_model::specs::FirstState::system_process))]
+fn system_process(alloc: Global) -> Proc
+    ensures { result ≡ system_process }
+{
+    let name = Name::from_slice(b"sched").unwrap();
+    bare_process(alloc, 0, 0, name, 0)
+}
+
+/// Nothing but process 0, these programs and these files.
+#[tactic(auto, unfolding(pr_model::specs::FirstState::bare_system))]
+fn bare_system(
+    alloc: Global,
+    programs: Table<Program>,
+    files: Table<StoredFile>,
+) -> Result<Sys, NoMemory>
+    ensures { IfOk result (λ s. s ≡ bare_system programs files) }
+{
+    let mut processes = Table::new(alloc);
+    processes.push(system_process(alloc))?;
+    Ok(System {
+        programs,
+        clock: 0,
+        made: 1,
+        files: Files::new(alloc, files),
+        processes,
+    })
+}
+
+/// Makes a process of the program at a place, if there is one.
+#[tactic(auto, using(crate::proofs::FirstLemmas::spawning_laws))]
+fn spawn_at(sys: &mut Sys, alloc: Global, place: u32) -> Result<(), NoMemory>
+    requires { sys.old.made + 1 < 2 ^ 32 }
+    ensures ok { OnOk result (sys.new ≡ spawned_at (slice_get sys.old.programs place) sys.old) }
+    ensures made { OnOk result (sys.new.made ≤ sys.old.made + 1) }
+{
+    let place = place as usize;
+    if place < sys.programs.len() {
+        spawn(sys, alloc, place, false)?;
+    }
+    Ok(())
+}
+
+/// The system with the processes that are spawned at the start, one after another, each of the program at a place of
+/// the list; a place with no program spawns none.
+#[tactic(auto, using(crate::proofs::FirstLemmas::spawning_laws))]
+pub fn first_system(
+    alloc: Global,
+    programs: Table<Program>,
+    files: Table<StoredFile>,
+    spawns: &[u32],
+) -> Result<Sys, NoMemory>
+    requires { length spawns.now + 1 < 2 ^ 32 }
+    ensures { IfOk result (λ s. s ≡ first_system programs files spawns.now) }
+{
+    let mut sys = bare_system(alloc, programs, files)?;
+    for place in spawns {
+        spawn_at(&mut sys, alloc, *place)?;
+    }
+    Ok(sys)
+}
