@@ -1,3 +1,4 @@
 pub mod Kernels
 pub mod Runs
 pub mod Plans
+pub mod Soundness

@@ -1,18 +1,22 @@
 //! The kernel with its history: the calls that controllers make, and the one entry that each step adds.
 #![tactic(auto)]
 
+mod calls;
 mod closes;
 mod messages;
 mod opens;
 mod places;
 mod plans;
+mod records;
 mod running;
 
+pub use calls::{answer, ready};
 pub use closes::close;
 pub use messages::{carry_out, control_handle, plan, wait_reply};
 pub use opens::{conflicts, fits_file, has_file, is_control, is_of_lwp, is_writable, open};
 pub use places::Places;
 pub use plans::Plan;
+pub use records::{part_read, status_words};
 pub use running::{run, run_refused};
 
 /// The state that a machine is in: the system, the open handles, and the interrupted controllers. Contracts see it as
