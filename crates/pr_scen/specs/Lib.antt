@@ -1,6 +1,7 @@
 pub mod Bindings
 pub mod Codes
 pub mod Drafts
+pub mod Faults
 pub mod Items
 pub mod Parts
 pub mod ProgramBlocks

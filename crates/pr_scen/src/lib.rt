@@ -5,6 +5,7 @@ mod bindings;
 mod codes;
 mod drafts;
 mod items;
+mod laws;
 mod listings;
 mod parts;
 mod program_blocks;
@@ -16,6 +17,7 @@ mod script_lines;
 mod scripts;
 
 pub use bindings::Binding;
+pub use laws::a_refusal_names_the_first_line;
 pub use listings::Listed;
 pub use reading::read_scenario;
 pub use refusals::{ScenFault, ScenKind, ScenRefusal};
