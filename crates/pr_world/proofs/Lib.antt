@@ -1,2 +1,5 @@
 pub mod MoveLemmas
+pub mod NextLemmas
 pub mod ProtocolLemmas
+pub mod RestLemmas
+pub mod RunLemmas

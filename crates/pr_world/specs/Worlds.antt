@@ -1,6 +1,7 @@
 use Rattle.std.specs.Prelude.{◌&&◌, ◌||◌, ◌+◌, ◌-◌, ℕ, zero, suc, Bool, true, false, List, Option, Some, None, is_some, is_none, find, length, slice_get, slice_set, nat_lt, option_map, option_and_then, if◌then◌else◌}
 use Rattle.std.specs.List.{list_any, list_all, range_with_len}
 use Rattle.pr_kern.specs.Kernels.{Kernel, TurnedKernel, after_answer, after_turn, after_tick, some_sleeper}
+use Rattle.pr_kern.specs.Orders.{next_of}
 use Rattle.pr_model.specs.Calls.{Answer, answer_to}
 use Rattle.pr_model.specs.Legal.{clock_limit}
 use Rattle.pr_model.specs.LwpTurns.{can_move}
@@ -11,8 +12,9 @@ use Rattle.pr_model.specs.declared.calls.Call.TheVariants as call
 use Rattle.pr_model.specs.declared.calls.Reply.{Reply}
 use Rattle.pr_model.specs.declared.events.Actor.{Actor}
 use Rattle.pr_model.specs.declared.events.Actor.TheVariants.{Controller, Lwp, Clock}
-use Rattle.pr_proc.specs.Order.{live_lwps, is_after}
 use Rattle.pr_scen.specs.Scripts.{ScriptState, next_call_of, fed}
+use Rattle.pr_world.specs.declared.ends.End.{End}
+use Rattle.pr_world.specs.declared.ends.End.TheVariants.{Quiet, Spent, Stuck}
 
 -- A world is a kernel and its controllers. Here stands who of them can move, what a move makes of the world, and who moves
 -- next.
@@ -117,14 +119,9 @@ first_controller w from = option_map Controller (find (controller_acts w) (range
 abbrev pub as_lwp : ℕ × ℕ → Actor
 as_lwp i = Lwp i.0 i.1
 
--- whether an lwp comes after another and can have a turn
-unfoldable pub is_mover_after : TracedSystem → Option (ℕ × ℕ) → ℕ × ℕ → Bool
-is_mover_after s after i = is_after after i && can_move s i.0 i.1
-
 -- the first lwp after another that can move
 unfoldable pub first_lwp : WorldState → Option (ℕ × ℕ) → Option Actor
-first_lwp w after =
-    option_map as_lwp (find (is_mover_after w.kernel.state.system after) (live_lwps w.kernel.state.system))
+first_lwp w after = option_map as_lwp (next_of true w.kernel.state.system after)
 
 unfoldable pub clock_if_awaited : WorldState → Option Actor
 clock_if_awaited w = if can_act w Clock then Some Clock else None
@@ -151,6 +148,11 @@ next_actor w = or_else (next_in_round w w.last) (from_controller w 0)
 unfoldable pub with_last : Actor → WorldState → WorldState
 with_last actor w = record w { last = Some actor }
 
+-- the world in which an actor was picked, if one was
+abbrev pub picked : WorldState → Option Actor → WorldState
+picked w None = w
+picked w (Some actor) = with_last actor w
+
 -- what a move led to, or the world as it was
 abbrev pub or_unmoved : WorldState → Option WorldState → WorldState
 or_unmoved w None = w
@@ -175,3 +177,16 @@ has_finished s = is_none (next_call_of s)
 
 unfoldable pub all_finished : WorldState → Bool
 all_finished w = list_all has_finished w.scripts
+
+-- How a world ends: nobody can move, and all controllers have finished or some have not; or somebody could move still, and
+-- there are no places left.
+abbrev pub quiet_end : Bool → End
+quiet_end true = Quiet
+quiet_end false = Stuck
+
+abbrev pub end_with : WorldState → Option Actor → End
+end_with w None = quiet_end (all_finished w)
+end_with w (Some actor) = Spent
+
+unfoldable pub end_of : WorldState → End
+end_of w = end_with w (next_actor w)
