@@ -1,0 +1,3 @@
+pub mod EffectLemmas
+pub mod FetchLemmas
+pub mod SettlingLemmas
