@@ -6,6 +6,7 @@ mod fetches;
 mod rows;
 mod settling;
 mod tables;
+mod turns;
 
 pub use effects::{effect_at, perform};
 pub use rows::{
@@ -13,3 +14,4 @@ pub use rows::{
     store_result,
 };
 pub use tables::{is_kept, row_for};
+pub use turns::{movable, turn};

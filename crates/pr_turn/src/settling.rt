@@ -145,7 +145,7 @@ fn make_in(process: &mut Proc, id: u32, row: TurnRow) -> Rowed
 
 /// What a row makes of a process: what it did is counted, and its lwp stops where it met what is traced. Answers what
 /// the turn did.
-fn make_turn(process: &mut Proc, id: u32, row: TurnRow) -> Turned
+pub(crate) fn make_turn(process: &mut Proc, id: u32, row: TurnRow) -> Turned
     requires found { IsSome (lwp_of process.old id) }
     requires room { UsedAtMost (2 ^ 64 - 2) process.old.usage }
     ensures process { process.new ≡ with_row_of id row process.old }
@@ -161,7 +161,7 @@ fn make_turn(process: &mut Proc, id: u32, row: TurnRow) -> Turned
 }
 
 /// The wait status with which a row ends its process, if it does.
-fn ending(row: TurnRow) -> Option<u64>
+pub(crate) fn ending(row: TurnRow) -> Option<u64>
     ensures { result ≡ ending row }
 {
     match row {
