@@ -1,3 +1,4 @@
 pub mod PlaceLemmas
 pub mod CloseLemmas
 pub mod MessageLemmas
+pub mod SoundLemmas
