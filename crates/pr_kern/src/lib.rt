@@ -9,6 +9,8 @@ mod places;
 mod plans;
 mod records;
 mod running;
+mod sleepers;
+mod starts;
 
 pub use calls::{answer, ready};
 pub use closes::close;
@@ -18,6 +20,8 @@ pub use places::Places;
 pub use plans::Plan;
 pub use records::{part_read, status_words};
 pub use running::{run, run_refused};
+pub use sleepers::some_sleeper;
+pub use starts::first_machine;
 
 /// The state that a machine is in: the system, the open handles, and the interrupted controllers. Contracts see it as
 /// the traced state of the definitions.
