@@ -3,6 +3,7 @@
 
 mod calls;
 mod closes;
+mod kernels;
 mod messages;
 mod opens;
 mod places;
@@ -14,6 +15,7 @@ mod starts;
 
 pub use calls::{answer, ready};
 pub use closes::close;
+pub use kernels::Kern;
 pub use messages::{carry_out, control_handle, plan, wait_reply};
 pub use opens::{conflicts, fits_file, has_file, is_control, is_of_lwp, is_writable, open};
 pub use places::Places;

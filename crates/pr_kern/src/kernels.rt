@@ -1,0 +1,166 @@
+ghost use Rattle.std.specs.Prelude.{◌≡◌, ◌≤◌, ◌<◌, ◌+◌, ◌^◌, [], true, length, Some, IsOk, OnOk, IfOk, OnErr, is_some};
+ghost use Rattle.std.specs.Option.{option_copied};
+ghost use Rattle.pr_model.specs.Calls.{answer_to};
+ghost use Rattle.pr_model.specs.FirstState.{first_state};
+ghost use Rattle.pr_model.specs.Legal.{clock_limit};
+ghost use Rattle.pr_kern.specs.Kernels.{after_call, after_tick, last_reply_of, some_sleeper, takes_no_memory};
+ghost use Rattle.pr_kern.specs.Starts.{stored};
+
+use crate::{Machine, answer, first_machine, ready, some_sleeper};
+use pr_asm::Program;
+use pr_model::{Act, Actor, Call, Entry, History, Reply};
+use pr_num::{Bytes, Name, NoMemory};
+use std::alloc::Global;
+use std::marker::Model;
+
+/// The kernel with its history, seen by contracts as a record of the state that the machine is in, the entries of its
+/// history, and how many entries it has places for. Each step adds one entry. The places are reserved from the start.
+#[derive(Drop)]
+pub struct Kern {
+    alloc: Global,
+    state: Machine,
+    history: History,
+    places: u32,
+}
+
+impl Model for Kern {
+    ghost use Rattle.pr_kern.specs.Kernels.{Kernel};
+    ghost use Rattle.pr_kern.specs.Soundness.{IsKept};
+
+    ghost Value = { Kernel };
+
+    ghost view = { λ a. record { state = a.state; history = a.history.entries; places = a.places } };
+
+    ghost invariant = { λ a. IsKept a.state.system a.history a.places };
+}
+
+impl Kern {
+    /// A kernel with these programs and files, in the state before the first step, with a process of each program that is
+    /// spawned, by its place among the programs. It has places for so many entries.
+    pub fn new(
+        alloc: Global,
+        programs: Vec<Program>,
+        files: Vec<(Name, Bytes)>,
+        spawns: &[u32],
+        places: u32,
+    ) -> Result<Kern, NoMemory>
+        requires { length spawns.now + 1 < 2 ^ 32 }
+        ensures state { IfOk result (λ kernel. kernel.state ≡ first_state programs.items (stored files.items) spawns.now) }
+        ensures history { IfOk result (λ kernel. kernel.history ≡ []) }
+        ensures places { IfOk result (λ kernel. kernel.places ≡ places) }
+    {
+        let state = first_machine(alloc, programs, files, spawns)?;
+        let mut history = History::new(alloc);
+        history.reserve(places as usize)?;
+        Ok(Kern {
+            alloc,
+            state,
+            history,
+            places,
+        })
+    }
+
+    /// Whether a call of a controller is ready. Takes no memory.
+    pub fn ready(&self, by: u32, call: &Call) -> bool
+        requires { by < 64 }
+        ensures { result ≡ is_some (answer_to self.now.state by call.now) }
+    {
+        ready(&self.state, by, call)
+    }
+
+    /// Makes a call of a controller: the machine answers it, and its entry is added. Opening, closing, control messages
+    /// and their waits take no memory; where memory runs out, the kernel is as it was.
+    #[tactic(auto, unfolding(crate::specs::Kernels::after_call))]
+    pub fn call(&mut self, by: u32, call: Call) -> Result<(), NoMemory>
+        requires by { by < 64 }
+        requires ready { is_some (answer_to self.old.state by call) ≡ true }
+        requires place { length self.old.history < self.old.places }
+        ensures ok { OnOk result (after_call by call self.old ≡ Some self.new) }
+        ensures err { OnErr result (self.new ≡ self.old) }
+        ensures sure { takes_no_memory call ≡ true → IsOk result }
+    {
+        let reply = answer(&mut self.state, self.alloc, by, &call)?;
+        self.history.push(Entry {
+            actor: Actor::Controller(by),
+            act: Act::Call(call, reply),
+        });
+        Ok(())
+    }
+
+    /// The reply of the last entry: `None` exactly where there is no entry or the last one is no call. Takes no memory.
+    #[tactic(auto, unfolding(crate::specs::Kernels::last_reply_of))]
+    pub fn last_reply(&self) -> Option<&Reply>
+        ensures { option_copied result ≡ last_reply_of self.now.history }
+    {
+        let last = self.history.len().checked_sub(1)?;
+        match &self.history.get(last)?.act {
+            Act::Call(_, reply) => Some(reply),
+            Act::Turn(_) | Act::Tick(_) => None,
+        }
+    }
+
+    /// Moves the clock on by a millisecond, and adds the entry. Takes no memory.
+    #[tactic(auto, unfolding(crate::specs::Kernels::after_tick))]
+    pub fn tick(&mut self)
+        requires clock { self.old.state.system.clock < clock_limit }
+        requires place { length self.old.history < self.old.places }
+        ensures { self.new ≡ after_tick self.old }
+    {
+        self.state.system.clock += 1;
+        let clock = self.state.system.clock;
+        self.history.push(Entry {
+            actor: Actor::Clock,
+            act: Act::Tick(clock),
+        });
+    }
+
+    /// The clock, in milliseconds. It is never above the number of entries.
+    pub fn clock(&self) -> u64
+        ensures value { result ≡ self.now.state.system.clock }
+        ensures entries { result ≤ length self.now.history }
+    {
+        self.state.system.clock
+    }
+
+    /// Whether some lwp sleeps in the call sleep with a later moment. Takes no memory.
+    pub fn sleeper(&self) -> bool
+        ensures { result ≡ some_sleeper self.now.state.system }
+    {
+        some_sleeper(&self.state.system)
+    }
+
+    /// How many entries the history has.
+    pub fn entries(&self) -> u32
+        ensures value { result ≡ length self.now.history }
+        ensures places { result ≤ self.now.places }
+    {
+        self.history.len() as u32
+    }
+
+    /// How many entries there are places for in all.
+    pub fn places(&self) -> u32
+        ensures { result ≡ self.now.places }
+    {
+        self.places
+    }
+
+    pub fn history(&self) -> &History
+        ensures { result.now.entries ≡ self.now.history }
+    {
+        &self.history
+    }
+
+    /// The programs that processes can run.
+    pub fn programs(&self) -> &[Program]
+        ensures { result.now ≡ self.now.state.system.programs }
+    {
+        self.state.system.programs.as_slice()
+    }
+
+    /// The history alone. Takes no memory.
+    pub fn into_history(self) -> History
+        ensures { result.entries ≡ self.history }
+    {
+        self.history
+    }
+}
