@@ -1,9 +1,17 @@
 //! One turn of an lwp.
 #![tactic(auto)]
 
+mod effects;
+mod fetches;
 mod rows;
+mod settling;
+mod tables;
+mod turns;
 
+pub use effects::{effect_at, perform};
 pub use rows::{
     arguments_of, enter_call, incur, make_call, move_on, return_from, run_on, stop_as_requested,
     store_result,
 };
+pub use tables::{is_kept, row_for};
+pub use turns::{movable, turn};

@@ -1,0 +1,4 @@
+pub mod EffectLemmas
+pub mod FetchLemmas
+pub mod SettlingLemmas
+pub mod TurnLemmas
