@@ -1,4 +1,6 @@
 pub mod Kernels
-pub mod Runs
+pub mod Orders
 pub mod Plans
+pub mod Runs
 pub mod Soundness
+pub mod Starts

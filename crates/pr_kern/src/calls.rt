@@ -84,7 +84,7 @@ fn can_read(state: &Machine, by: u32, handle: u32, at: u64, len: u64) -> bool
 
 /// Reads at most `len` bytes of a record from byte `at` on. The refusals come in the order: EBADF, EINVAL for a length of
 /// 0 or above 16,384, ENOENT.
-#[tactic(auto, unfolding(pr_model::specs::Calls::read_answer))]
+#[tactic(auto, using(crate::proofs::SoundLemmas::heap_laws), unfolding(pr_model::specs::Calls::read_answer))]
 fn read(
     state: &Machine,
     alloc: Global,

@@ -3,21 +3,27 @@
 
 mod calls;
 mod closes;
+mod kernels;
 mod messages;
 mod opens;
 mod places;
 mod plans;
 mod records;
 mod running;
+mod sleepers;
+mod starts;
 
 pub use calls::{answer, ready};
 pub use closes::close;
+pub use kernels::Kern;
 pub use messages::{carry_out, control_handle, plan, wait_reply};
 pub use opens::{conflicts, fits_file, has_file, is_control, is_of_lwp, is_writable, open};
 pub use places::Places;
 pub use plans::Plan;
 pub use records::{part_read, status_words};
 pub use running::{run, run_refused};
+pub use sleepers::some_sleeper;
+pub use starts::first_machine;
 
 /// The state that a machine is in: the system, the open handles, and the interrupted controllers. Contracts see it as
 /// the traced state of the definitions.

@@ -1,0 +1,32 @@
+use Rattle.std.proofs.Common.{◌≡◌, ℕ, ◌+◌, ◌<◌, ◌≤◌, ◌^◌, List, [], ◌∷◌, ◌++◌, length, refl, sym, ◌∙◌, ap, subst, arith, length-append}
+use Rattle.pr_model.specs.Kept.{Kept}
+use Rattle.pr_model.specs.State.{TracedSystem}
+use Rattle.pr_model.specs.declared.events.Entry.{Entry}
+use Rattle.pr_kern.specs.Soundness.{IsSound, HasRoom, IsKept}
+
+-- What the kernel keeps while its history grows.
+
+longer : (h h' : List Entry) (e : Entry) → h' ≡ h ++ e ∷ [] → length h' ≡ length h + 1
+longer h h' e grown = ap length grown ∙ length-append h (e ∷ [])
+
+-- a history that had a place has one entry more, and its room is one less
+pub kept-push : (s : TracedSystem) (h h' : Kept) (places : ℕ) (e : Entry) → h'.entries ≡ h.entries ++ e ∷ [] → h'.room + 1 ≡ h.room → length h.entries < places → HasRoom h places → IsSound (length h.entries + 1) s → IsKept s h' places
+kept-push s h h' places e grown used place room sound =
+    let n : length h'.entries ≡ length h.entries + 1 = longer h.entries h'.entries e grown in
+    record {
+      sound = subst (λ k. IsSound k s) (sym n) sound;
+      room = record {
+        within = omega (arith, n, place);
+        room = omega (arith, n, used, place, room.room);
+        fits = room.fits;
+      };
+    }
+
+-- a history that begins, with its places reserved
+pub kept-start : (s : TracedSystem) (h : Kept) (places : ℕ) → h.entries ≡ [] → places ≤ h.room → places < 2 ^ 32 → IsSound 0 s → IsKept s h places
+kept-start s h places none reserved fits sound =
+    let n : length h.entries ≡ 0 = ap length none in
+    record {
+      sound = subst (λ k. IsSound k s) (sym n) sound;
+      room = record { within = omega (arith, n); room = omega (arith, n, reserved); fits = fits };
+    }
