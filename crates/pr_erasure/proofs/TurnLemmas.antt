@@ -2,7 +2,7 @@ use Rattle.std.proofs.Common.{◌≡◌, ℕ, Bool, Some, List, [], sym, subst, 
 use Rattle.std.specs.List.{find}
 use Rattle.pr_model.specs.Erasure.{erased_system}
 use Rattle.pr_model.specs.Lwps.{is_lwp, is_process}
-use Rattle.pr_model.specs.LwpTurns.{LwpTurn, turn_of, settled, rest_made}
+use Rattle.pr_model.specs.LwpTurns.{LwpTurn, turn_of, settled}
 use Rattle.pr_model.specs.State.{TracedSystem, TracedProcess, TracedLwp}
 use Rattle.pr_model.specs.UntracedMachine.{UntracedRun, ends_here}
 use Rattle.pr_model.specs.UntracedSteps.{steps_of_turn}
@@ -11,8 +11,8 @@ use Rattle.pr_model.specs.declared.steps.Step.{Step}
 use Rattle.pr_laws.proofs.TurnLemmas.{TakesTurn, turn-taken}
 use Rattle.pr_erasure.proofs.DecisionLemmas.{row-decided}
 use Rattle.pr_erasure.proofs.HiddenLemmas.{IsHidden}
-use Rattle.pr_erasure.proofs.ListLemmas.{All-found}
-use Rattle.pr_erasure.proofs.RowLemmas.{HasTurn, RunsUntraced, lwp_is_untouched, row-runs}
+use Rattle.pr_erasure.proofs.RowLemmas.{RunsUntraced, row-runs}
+use Rattle.pr_erasure.proofs.SeenLemmas.{HasTurn, lwp_is_untouched}
 use Rattle.pr_erasure.proofs.UntouchedLemmas.{settled-untouched}
 use Rattle.pr_erasure.specs.Untouched.{IsUntouched}
 
