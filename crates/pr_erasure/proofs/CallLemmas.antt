@@ -22,6 +22,7 @@ use Rattle.pr_laws.proofs.ErasureLemmas.{released-hidden}
 use Rattle.pr_laws.proofs.RefusalLemmas.{refused-leaves}
 use Rattle.pr_laws.proofs.TurnLemmas.{live-found}
 use Rattle.pr_laws.specs.Refusals.{LeavesIfRefused}
+use Rattle.pr_erasure.proofs.FollowLemmas.{Follows, hidden-follows}
 use Rattle.pr_erasure.proofs.HiddenLemmas.{IsHidden, hidden-none, hidden-process}
 use Rattle.pr_erasure.proofs.ListLemmas.{All-found}
 use Rattle.pr_erasure.proofs.MessageLemmas.{control-hides}
@@ -148,7 +149,7 @@ module _ (s : TracedState) (by : ℕ) (untouched : IsUntouched s.system) where
   refused-or_granted _ _ passive = inr passive
 
   -- Every passive call.
-  pub passive-call : (c : calls.Call) (a : Answer) → answer_to s by c ≡ Some a → IsTrue (is_passive_call c a.reply) → IsHidden s.system a.state.system
+  passive-call : (c : calls.Call) (a : Answer) → answer_to s by c ≡ Some a → IsTrue (is_passive_call c a.reply) → IsHidden s.system a.state.system
   unfolding Hides
   passive-call c a answer passive = elim (refused-or_granted c a.reply passive) [
     | inl refusal ↦ refused-hidden a.state refusal.0 (subst (λ (r : Reply). LeavesIfRefused s by (record { state = a.state; reply = r })) refusal.1 (refused-leaves s by c a answer))
@@ -156,8 +157,12 @@ module _ (s : TracedState) (by : ℕ) (untouched : IsUntouched s.system) where
   ]
 
 -- None of the calls that are built is a step of the untraced machine.
-pub call-no_steps : (s : TracedState) (by : ℕ) (c : calls.Call) (a : Answer) (r : Reply) → answer_to s by c ≡ Some a → steps_of_call c r ≡ []
+no_steps : (s : TracedState) (by : ℕ) (c : calls.Call) (a : Answer) → answer_to s by c ≡ Some a → steps_of_call c a.reply ≡ []
 unfolding answer_to
-call-no_steps s by (call.Spawn program held) a r answer = cc
-call-no_steps s by (call.Kill pid sig) a r answer = cc
-call-no_steps s by _ a r answer = refl
+no_steps s by (call.Spawn program held) a answer = cc
+no_steps s by (call.Kill pid sig) a answer = cc
+no_steps s by _ a answer = refl
+
+-- What a passive call makes of the system is followed by its steps.
+pub call-follows : (s : TracedState) (by : ℕ) (c : calls.Call) (a : Answer) → answer_to s by c ≡ Some a → IsUntouched s.system → IsTrue (is_passive_call c a.reply) → Follows s.system (steps_of_call c a.reply) a.state.system
+call-follows s by c a answer u passive = rw (no_steps s by c a answer) (hidden-follows (passive-call s by u c a answer passive))

@@ -22,8 +22,9 @@ use Rattle.pr_model.specs.declared.events.Entry.{Entry}
 use Rattle.pr_model.specs.declared.steps.Step.TheVariants.{Tick}
 use Rattle.pr_model.proofs.HistoryLemmas.{untraced_trace-steps}
 use Rattle.pr_laws.proofs.ErasureLemmas.{UntracedRun-append}
-use Rattle.pr_erasure.proofs.CallLemmas.{passive-call, call-no_steps}
-use Rattle.pr_erasure.proofs.TurnLemmas.{Follows, hidden-follows, turn-follows}
+use Rattle.pr_erasure.proofs.CallLemmas.{call-follows}
+use Rattle.pr_erasure.proofs.TurnLemmas.{turn-follows}
+use Rattle.pr_erasure.proofs.FollowLemmas.{Follows}
 use Rattle.pr_erasure.proofs.UntouchedLemmas.{bare-untouched, ticked-untouched}
 use Rattle.pr_erasure.specs.Transparency.{IsTransparent}
 use Rattle.pr_erasure.specs.Untouched.{IsUntouchedLwp, IsUntouchedProcess, IsUntouched}
@@ -39,8 +40,7 @@ unfolding IsLegalEntry steps_of after
 entry-follows n s before (Controller k) (act.Call c r) u legal passive =
     let a : Answer = record { state = legal.1.0; reply = r } in
     let answer : answer_to s k c ≡ Some a = legal.1.1 in
-    let follows : Follows s.system [] a.state.system = hidden-follows (passive-call s k u c a answer passive) in
-    rw (call-no_steps s k c a r answer, answer) follows
+    rw answer (call-follows s k c a answer u passive)
 entry-follows n s before (Lwp p l) (act.Turn t) u legal passive =
     let turn : LwpTurn = record { system = legal.0; turned = t } in
     let taken : turn_of s.system p l ≡ Some turn = legal.1 in

@@ -2,6 +2,7 @@ pub mod CallLemmas
 pub mod DecisionLemmas
 pub mod EndLemmas
 pub mod FaultLemmas
+pub mod FollowLemmas
 pub mod HiddenLemmas
 pub mod HistoryLemmas
 pub mod ListLemmas
