@@ -1,18 +1,14 @@
-use Rattle.std.proofs.Common.{◌≡◌, ◌==◌, ◌⊎◌, inl, inr, ℕ, Bool, true, false, Option, Some, None, List, [], IfSome, cond, refl, sym, ◌∙◌, ap, subst}
-use Rattle.std.proofs.lemmas.Bool.{both_ways}
+use Rattle.std.proofs.Common.{◌≡◌, ◌⊎◌, inl, inr, ℕ, Bool, true, false, Option, Some, None, [], IfSome, cond, refl, sym, subst}
 use Rattle.std.specs.Bool.{IsTrue}
-use Rattle.std.specs.List.{find, slice_set}
-
+use Rattle.std.specs.List.{slice_set}
 use Rattle.std.specs.Option.{option_map}
-use Rattle.pr_num.specs.Control.{has_flags, klc_mode, rlc_mode}
-use Rattle.pr_num.specs.Messages.{first_message}
+use Rattle.pr_num.specs.Control.{has_flags, rlc_mode}
 use Rattle.pr_num.specs.declared.errnos.Errno.{Errno}
 use Rattle.pr_num.specs.declared.errnos.Errno.TheVariants.{Intr}
-use Rattle.pr_model.specs.Calls.{Answer, refused, opened, open_unless, open_answer, close_held, close_answer, read_status, read_file, readable, read_held, read_answer, controlled, waited, with_interrupt_seen, is_interrupted, answer_to}
-use Rattle.pr_model.specs.ControlMessages.{Controlled, control_answer, wait_reply}
-use Rattle.pr_model.specs.Handles.{handle_of, open_refusal, released, sigkill, with_closed, with_last_close, after_last_close, was_last_writer, with_opened}
-use Rattle.pr_model.specs.Lives.{with_ended}
-use Rattle.pr_model.specs.Passive.{is_passive_call, is_passive_write}
+use Rattle.pr_model.specs.Calls.{Answer, refused, opened, open_unless, open_answer, close_held, close_answer, read_status, read_file, readable, read_held, read_answer, controlled, waited, answer_to}
+use Rattle.pr_model.specs.ControlMessages.{Controlled, control_answer}
+use Rattle.pr_model.specs.Handles.{handle_of, open_refusal, released, with_closed, with_last_close, after_last_close, was_last_writer, with_opened}
+use Rattle.pr_model.specs.Passive.{is_passive_call}
 use Rattle.pr_model.specs.State.{Places, TracedState, TracedSystem, TracedProcess, live_process, with_process}
 use Rattle.pr_model.specs.UntracedSteps.{steps_of_call}
 use Rattle.pr_model.specs.declared.calls.Call as calls
@@ -20,14 +16,13 @@ use Rattle.pr_model.specs.declared.calls.Call.TheVariants as call
 use Rattle.pr_model.specs.declared.calls.File.{File}
 use Rattle.pr_model.specs.declared.calls.File.TheVariants.{Status}
 use Rattle.pr_model.specs.declared.calls.Reply.{Reply}
-use Rattle.pr_model.specs.declared.calls.Reply.TheVariants as reply
 use Rattle.pr_model.specs.declared.calls.Reply.TheVariants.{Fail, Done}
 use Rattle.pr_model.specs.declared.handles.Held.{Held}
-use Rattle.pr_model.specs.declared.steps.Step.{Step}
 use Rattle.pr_laws.proofs.ErasureLemmas.{released-hidden}
 use Rattle.pr_laws.proofs.RefusalLemmas.{refused-leaves}
 use Rattle.pr_laws.proofs.TurnLemmas.{live-found}
 use Rattle.pr_laws.specs.Refusals.{LeavesIfRefused}
+use Rattle.pr_erasure.proofs.FollowLemmas.{Follows, hidden-follows}
 use Rattle.pr_erasure.proofs.HiddenLemmas.{IsHidden, hidden-none, hidden-process}
 use Rattle.pr_erasure.proofs.ListLemmas.{All-found}
 use Rattle.pr_erasure.proofs.MessageLemmas.{control-hides}
@@ -154,7 +149,7 @@ module _ (s : TracedState) (by : ℕ) (untouched : IsUntouched s.system) where
   refused-or_granted _ _ passive = inr passive
 
   -- Every passive call.
-  pub passive-call : (c : calls.Call) (a : Answer) → answer_to s by c ≡ Some a → IsTrue (is_passive_call c a.reply) → IsHidden s.system a.state.system
+  passive-call : (c : calls.Call) (a : Answer) → answer_to s by c ≡ Some a → IsTrue (is_passive_call c a.reply) → IsHidden s.system a.state.system
   unfolding Hides
   passive-call c a answer passive = elim (refused-or_granted c a.reply passive) [
     | inl refusal ↦ refused-hidden a.state refusal.0 (subst (λ (r : Reply). LeavesIfRefused s by (record { state = a.state; reply = r })) refusal.1 (refused-leaves s by c a answer))
@@ -162,8 +157,12 @@ module _ (s : TracedState) (by : ℕ) (untouched : IsUntouched s.system) where
   ]
 
 -- None of the calls that are built is a step of the untraced machine.
-pub no_steps : (s : TracedState) (by : ℕ) (c : calls.Call) (a : Answer) (r : Reply) → answer_to s by c ≡ Some a → steps_of_call c r ≡ []
+no_steps : (s : TracedState) (by : ℕ) (c : calls.Call) (a : Answer) → answer_to s by c ≡ Some a → steps_of_call c a.reply ≡ []
 unfolding answer_to
-no_steps s by (call.Spawn program held) a r answer = cc
-no_steps s by (call.Kill pid sig) a r answer = cc
-no_steps s by _ a r answer = refl
+no_steps s by (call.Spawn program held) a answer = cc
+no_steps s by (call.Kill pid sig) a answer = cc
+no_steps s by _ a answer = refl
+
+-- What a passive call makes of the system is followed by its steps.
+pub call-follows : (s : TracedState) (by : ℕ) (c : calls.Call) (a : Answer) → answer_to s by c ≡ Some a → IsUntouched s.system → IsTrue (is_passive_call c a.reply) → Follows s.system (steps_of_call c a.reply) a.state.system
+call-follows s by c a answer u passive = rw (no_steps s by c a answer) (hidden-follows (passive-call s by u c a answer passive))

@@ -6,7 +6,7 @@ use Rattle.pr_num.specs.declared.instructions.Instruction.{Instruction}
 use Rattle.pr_num.specs.declared.instructions.Instruction.TheVariants.{Set, Sys}
 use Rattle.pr_num.specs.declared.mappings.BadByte.{BadByte}
 use Rattle.pr_num.specs.declared.mappings.BadByte.TheVariants.{Hole, NotAllowed}
-use Rattle.pr_model.specs.InstructionEffects.{effect_of, decoded_effect, fetch_fault, fetched_effect, instruction_effect}
+use Rattle.pr_model.specs.InstructionEffects.{effect_of, decoded_effect, fetched_effect, instruction_effect}
 use Rattle.pr_model.specs.declared.effects.InstructionEffect.TheVariants.{Faults}
 
 -- No instruction incurs FLTTRACE.

@@ -1,30 +1,30 @@
-use Rattle.std.proofs.Common.{◌≡◌, ◌<◌, ◌+◌, ◌^◌, ℕ, Option, Some, None, false, List, [], ◌∷◌, ◌++◌, refl, sym, ap, subst}
+use Rattle.std.proofs.Common.{◌≡◌, ℕ, Bool, Option, Some, None, false, List, [], ◌∷◌, refl}
 use Rattle.std.proofs.lemmas.List.Elements.{All-nil, All-cons, All-head, All-tail, All-append}
 use Rattle.std.specs.Bool.{IsTrue}
-use Rattle.std.specs.List.{All, slice_get}
+use Rattle.std.specs.List.{slice_get}
 use Rattle.pr_num.specs.Programs.{Program}
 use Rattle.pr_num.specs.declared.files.StoredFile.{StoredFile}
 use Rattle.pr_model.specs.Calls.{Answer, answer_to}
-use Rattle.pr_model.specs.Erasure.{erased, erased_system}
+use Rattle.pr_model.specs.Erasure.{erased_system}
 use Rattle.pr_model.specs.FirstState.{system_process, bare_system, spawned_at, with_spawns, first_state}
-use Rattle.pr_model.specs.Legal.{IsLegal, IsLegalEntry, after, after_call, after_turn, state_after, ticked}
-use Rattle.pr_model.specs.Lives.{first_lwp, bare_process, new_process, with_spawned}
+use Rattle.pr_model.specs.Legal.{IsLegal, IsLegalEntry, after, state_after, ticked}
+use Rattle.pr_model.specs.Lives.{first_lwp, new_process, with_spawned}
 use Rattle.pr_model.specs.LwpTurns.{LwpTurn, turn_of}
 use Rattle.pr_model.specs.Passive.{IsPassive, is_passive_act}
 use Rattle.pr_model.specs.State.{TracedState, TracedSystem}
-use Rattle.pr_model.specs.UntracedMachine.{UntracedStep, UntracedRun, ends_here, step_by}
-use Rattle.pr_model.specs.UntracedSteps.{steps_of, steps_of_call, steps_after, untraced_steps, was_returning}
+use Rattle.pr_model.specs.UntracedMachine.{UntracedStep, ends_here, step_by}
+use Rattle.pr_model.specs.UntracedSteps.{steps_of, steps_after, untraced_steps, was_returning}
 use Rattle.pr_model.specs.declared.events.Act.{Act}
 use Rattle.pr_model.specs.declared.events.Act.TheVariants as act
 use Rattle.pr_model.specs.declared.events.Actor.{Actor}
 use Rattle.pr_model.specs.declared.events.Actor.TheVariants.{Controller, Lwp, Clock}
 use Rattle.pr_model.specs.declared.events.Entry.{Entry}
-use Rattle.pr_model.specs.declared.steps.Step.{Step}
 use Rattle.pr_model.specs.declared.steps.Step.TheVariants.{Tick}
 use Rattle.pr_model.proofs.HistoryLemmas.{untraced_trace-steps}
 use Rattle.pr_laws.proofs.ErasureLemmas.{UntracedRun-append}
-use Rattle.pr_erasure.proofs.CallLemmas.{passive-call, no_steps}
-use Rattle.pr_erasure.proofs.TurnLemmas.{Follows, hidden-follows, turn-follows}
+use Rattle.pr_erasure.proofs.CallLemmas.{call-follows}
+use Rattle.pr_erasure.proofs.TurnLemmas.{turn-follows}
+use Rattle.pr_erasure.proofs.FollowLemmas.{Follows}
 use Rattle.pr_erasure.proofs.UntouchedLemmas.{bare-untouched, ticked-untouched}
 use Rattle.pr_erasure.specs.Transparency.{IsTransparent}
 use Rattle.pr_erasure.specs.Untouched.{IsUntouchedLwp, IsUntouchedProcess, IsUntouched}
@@ -40,8 +40,7 @@ unfolding IsLegalEntry steps_of after
 entry-follows n s before (Controller k) (act.Call c r) u legal passive =
     let a : Answer = record { state = legal.1.0; reply = r } in
     let answer : answer_to s k c ≡ Some a = legal.1.1 in
-    let follows : Follows s.system [] a.state.system = hidden-follows (passive-call s k u c a answer passive) in
-    rw (no_steps s k c a r answer, answer) follows
+    rw answer (call-follows s k c a answer u passive)
 entry-follows n s before (Lwp p l) (act.Turn t) u legal passive =
     let turn : LwpTurn = record { system = legal.0; turned = t } in
     let taken : turn_of s.system p l ≡ Some turn = legal.1 in
@@ -58,20 +57,23 @@ history-follows n s before (e ∷ h) u legal passive =
     record { run = UntracedRun-append first.run rest.run; untouched = rest.untouched }
 
 -- The first state: nothing is touched.
-new_process-untouched : (pid : ℕ) (program : Program) (clock : ℕ) → IsUntouchedProcess (new_process pid program clock false)
+new_process-untouched : (pid : ℕ) (program : Program) (clock : ℕ) (held : Bool) → IsUntouchedProcess (new_process pid program clock held)
 unfolding new_process first_lwp
-new_process-untouched pid program clock =
-    let lwp : IsUntouchedLwp (first_lwp false) = record { no_step = refl; no_abort = refl; no_agent = refl } in
+new_process-untouched pid program clock held =
+    let lwp : IsUntouchedLwp (first_lwp held) = record { no_step = refl; no_abort = refl; no_agent = refl } in
     let bare = bare-untouched pid 0 program.name clock in
-    record { no_kill = bare.no_kill; unwatched = bare.unwatched; lwps = All-cons IsUntouchedLwp (first_lwp false) [] lwp (All-nil IsUntouchedLwp) }
+    record { no_kill = bare.no_kill; unwatched = bare.unwatched; lwps = All-cons IsUntouchedLwp (first_lwp held) [] lwp (All-nil IsUntouchedLwp) }
+
+with_spawned-untouched : (program : Program) (held : Bool) (s : TracedSystem) → IsUntouched s → IsUntouched (with_spawned program held s)
+unfolding with_spawned
+with_spawned-untouched program held s u =
+    let new = new_process s.made program s.clock held in
+    let alone = All-cons IsUntouchedProcess new [] (new_process-untouched s.made program s.clock held) (All-nil IsUntouchedProcess) in
+    record { processes = All-append IsUntouchedProcess s.processes (new ∷ []) u.processes alone }
 
 spawned_at-untouched : (program : Option Program) (s : TracedSystem) → IsUntouched s → IsUntouched (spawned_at program s)
-unfolding with_spawned
 spawned_at-untouched None s u = u
-spawned_at-untouched (Some program) s u =
-    let new = new_process s.made program s.clock false in
-    let alone = All-cons IsUntouchedProcess new [] (new_process-untouched s.made program s.clock) (All-nil IsUntouchedProcess) in
-    record { processes = All-append IsUntouchedProcess s.processes (new ∷ []) u.processes alone }
+spawned_at-untouched (Some program) s u = with_spawned-untouched program false s u
 
 spawns-untouched : (spawns : List ℕ) (s : TracedSystem) → IsUntouched s → IsUntouched (with_spawns spawns s)
 unfolding with_spawns

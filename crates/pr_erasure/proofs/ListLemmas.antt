@@ -1,6 +1,7 @@
 use Rattle.std.proofs.Common.{◌≡◌, Bool, true, false, Some, List, [], ◌∷◌, map, cond, refl, sym, ◌∙◌, ap}
 use Rattle.std.proofs.lemmas.Option.{same_Some}
-use Rattle.std.proofs.lemmas.List.Elements.{All-nil, All-cons, All-head, All-tail, All-map, All-weaker}
+use Rattle.std.proofs.lemmas.List.{map-id}
+use Rattle.std.proofs.lemmas.List.Elements.{All-cons, All-head, All-tail, All-map, All-weaker}
 use Rattle.std.specs.List.{All, find}
 use Rattle.pr_num.specs.KeyedTables.{change_first}
 
@@ -43,8 +44,7 @@ map-map_each view f g seen (x ∷ xs) = ap (λ v. v ∷ map view (map f xs)) (se
 
 -- A change that no element shows is not seen of a list, whether every element changes or one.
 pub map-map_hidden : {X Y : Type 0} (view : X → Y) (f : X → X) → ((x : X) → view (f x) ≡ view x) → (xs : List X) → map view (map f xs) ≡ map view xs
-map-map_hidden view f hidden [] = refl
-map-map_hidden view f hidden (x ∷ xs) = ap (λ v. v ∷ map view (map f xs)) (hidden x) ∙ ap (λ vs. view x ∷ vs) (map-map_hidden view f hidden xs)
+map-map_hidden view f hidden xs = map-map_each view f (λ y. y) hidden xs ∙ map-id (map view xs)
 
 pub map-change_hidden : {X Y : Type 0} (view : X → Y) (q : X → Bool) (f : X → X) → ((x : X) → view (f x) ≡ view x) → (xs : List X) → map view (change_first q f xs) ≡ map view xs
 map-change_hidden view q f hidden [] = refl

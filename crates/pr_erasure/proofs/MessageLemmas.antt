@@ -1,4 +1,4 @@
-use Rattle.std.proofs.Common.{◌≡◌, ◌==◌, ℕ, Bool, true, false, Option, Some, None, List, Result, Ok, Err, IfSome, cond}
+use Rattle.std.proofs.Common.{ℕ, Bool, true, false, Option, Some, None, List, Result, Ok, Err, IfSome, cond}
 use Rattle.std.specs.Bool.{IsTrue}
 use Rattle.pr_num.specs.Messages.{first_message}
 use Rattle.pr_num.specs.declared.messages.MsgFault.{MsgFault}
@@ -6,9 +6,9 @@ use Rattle.pr_num.specs.declared.errnos.Errno.{Errno}
 use Rattle.pr_num.specs.declared.messages.Message.{Message}
 use Rattle.pr_num.specs.declared.messages.Message.TheVariants.{Stop, Dstop, Wstop, Twstop, Run}
 use Rattle.pr_model.specs.ControlMessages.{Controlled, refused, with_directed, direct_answer, half_answer, run_answer, message_answer, decoded_answer, targeted_answer, held_answer, control_answer, control_handle, target_of, wait_end}
-use Rattle.pr_model.specs.Handles.{is_of_lwp, handle_of}
+use Rattle.pr_model.specs.Handles.{handle_of}
 use Rattle.pr_model.specs.Passive.{is_passive_message, is_passive_write}
-use Rattle.pr_model.specs.Running.{run_refused, with_run}
+use Rattle.pr_model.specs.Running.{with_run}
 use Rattle.pr_model.specs.State.{TracedSystem, TracedProcess, Places}
 use Rattle.pr_model.specs.declared.calls.Reply.{Reply}
 use Rattle.pr_model.specs.declared.calls.Reply.TheVariants.{Used, Half}

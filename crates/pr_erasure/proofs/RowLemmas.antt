@@ -1,24 +1,17 @@
-use Rattle.std.proofs.Common.{◌≡◌, ◌≢◌, ◌==◌, ◌||◌, ◌&&◌, not, ℕ, Bool, true, false, List, [], ◌∷◌, Option, Some, None, is_some, is_none, cond, refl, sym, ◌∙◌, ap, subst}
-use Rattle.std.proofs.lemmas.Bool.{or_parts}
-use Rattle.std.specs.List.{find}
-use Rattle.std.specs.Option.{option_and_then}
-use Rattle.pr_num.specs.Agents.{agent_id}
-use Rattle.pr_num.specs.Sets.{minus_word, with_number}
+use Rattle.std.proofs.Common.{◌≡◌, ◌≢◌, ℕ, Bool, true, false, List, [], ◌∷◌, Some, None, refl, sym, ◌∙◌, ap, subst}
+use Rattle.pr_num.specs.Sets.{with_number}
 use Rattle.pr_num.specs.Signals.{signal_number}
 use Rattle.pr_num.specs.Faults.{fault_signal}
 use Rattle.pr_num.specs.declared.faults.Flt.{Flt}
 use Rattle.pr_num.specs.declared.faults.Flt.TheVariants.{Trace}
-use Rattle.pr_num.specs.declared.signals.Sig.{Sig}
 use Rattle.pr_num.specs.declared.syscalls.Sysno.{Sysno}
 use Rattle.pr_model.specs.Erasure.{erased_phase, erased_pending, erased_lwp, erased_process, erased_system}
 use Rattle.pr_model.specs.InstructionEffects.{instruction_effect}
-use Rattle.pr_model.specs.Lwps.{is_lwp, is_process}
-use Rattle.pr_model.specs.LwpTurns.{is_kept, has_takeable, lwp_made, made_by, posted, rest_made, with_row, settled}
+use Rattle.pr_model.specs.LwpTurns.{lwp_made, made_by, posted, rest_made, with_row, settled}
 use Rattle.pr_model.specs.State.{TracedSystem, TracedProcess, TracedLwp, with_process}
-use Rattle.pr_model.specs.Stops.{has_event_stop}
-use Rattle.pr_model.specs.System.{in_program, at_call, SystemLwp, SystemProcess, SystemState, is_system_lwp, is_system_process, if_live_in_system, live_in_system, with_lwp_changed, with_system_lwp, with_system_process, with_system_ended}
-use Rattle.pr_model.specs.Turns.{Row, counted, requested_stop, returned, made, ran, entered, incurred, with_step_taken, with_result}
-use Rattle.pr_model.specs.UntracedMachine.{MayStep, RunsProgram, may_take, with_regs, with_call_entered, with_call_done, with_fault_pending, called, UntracedStep, UntracedRun, ends_here, by_call_entry, step_by}
+use Rattle.pr_model.specs.System.{in_program, at_call, SystemState, with_system_ended}
+use Rattle.pr_model.specs.Turns.{Row, requested_stop, returned, made, ran, entered, incurred, with_step_taken, with_result}
+use Rattle.pr_model.specs.UntracedMachine.{with_regs, with_call_entered, with_call_done, with_fault_pending, called, UntracedStep, UntracedRun, ends_here, by_call_entry, step_by}
 use Rattle.pr_model.specs.UntracedSteps.{steps_of_fault, steps_of_turn}
 use Rattle.pr_model.specs.declared.effects.CallEffect.TheVariants.{Done, EndsProcess}
 use Rattle.pr_model.specs.declared.effects.InstructionEffect.TheVariants.{Runs, Calls, Faults}
@@ -29,36 +22,20 @@ use Rattle.pr_model.specs.declared.events.Did.TheVariants as did
 use Rattle.pr_model.specs.declared.events.Res.{Res}
 use Rattle.pr_model.specs.declared.events.Res.TheVariants.{Ended}
 use Rattle.pr_model.specs.declared.lwps.Phase.{Phase}
-use Rattle.pr_model.specs.declared.lwps.Phase.TheVariants.{User, Entered, Asleep, Exiting, Faulted}
+use Rattle.pr_model.specs.declared.lwps.Phase.TheVariants.{User, Exiting, Faulted}
 use Rattle.pr_model.specs.declared.steps.Step.{Step}
 use Rattle.pr_model.specs.declared.steps.Step.TheVariants as step
-use Rattle.pr_laws.proofs.FoundLemmas.{map-change_first}
 use Rattle.pr_erasure.proofs.DecisionLemmas.{IsInProgram, IsAtCall, Decided}
-use Rattle.pr_erasure.proofs.EndLemmas.{erased_process-id, erased-ended}
+use Rattle.pr_erasure.proofs.EndLemmas.{erased-ended}
 use Rattle.pr_erasure.proofs.FaultLemmas.{instruction-no_trace}
-use Rattle.pr_erasure.proofs.HiddenLemmas.{meeting-hidden}
-use Rattle.pr_erasure.proofs.ListLemmas.{find-map, map-change_found, map-change_hidden, All-found}
-use Rattle.pr_erasure.specs.Untouched.{IsUntouchedLwp, IsUntouchedProcess, IsUntouched}
+use Rattle.pr_erasure.proofs.SeenLemmas.{HasTurn, lwp_is_untouched, may_step, runs_program, erased-turn, erased-turn_hidden, erased-row_hidden}
 
 -- The rows of the turn table, one lemma each: what a row makes of the traced system, the untraced machine makes of what
 -- programs see of it, by the steps of the turn.
 
--- an lwp that may have a turn, of a live process of an untouched system
-pub record HasTurn (s : TracedSystem) (p : TracedProcess) (l : TracedLwp) : Type 0 where
-  pub found : find (is_process p.id) s.processes ≡ Some p
-  pub no_zombie : p.ended ≡ None
-  pub there : find (is_lwp l.id) p.lwps ≡ Some l
-  pub free : is_kept p l ≡ false
-  pub untouched : IsUntouched s
-
 -- what is to be shown of each row: whether the lwp was on its way out of a call makes no difference
 pub record RunsUntraced (s : TracedSystem) (p : TracedProcess) (l : TracedLwp) (row : TurnRow) : Type 0 where
   pub run : (returning : Bool) → UntracedRun (erased_system s) (steps_of_turn returning p.id l.id (rest_made row l).did) (erased_system (settled s p l row).system)
-
--- an lwp's id is seen
-erased_lwp-id : (id : ℕ) (l : TracedLwp) → is_system_lwp id (erased_lwp l) ≡ is_lwp id l
-unfolding erased_lwp
-erased_lwp-id id l = refl
 
 -- an lwp without a step mark does what it does, and incurs no FLTTRACE
 not_stepped : (row : Row ℕ) → row.lwp.step ≡ false → with_step_taken row ≡ row
@@ -77,112 +54,51 @@ one_step : {u v : SystemState} {x : Step} → UntracedStep u x v → UntracedRun
 one_step h = step_by h ends_here
 
 module _ (s : TracedSystem) (p : TracedProcess) (l : TracedLwp) (t : HasTurn s p l) where
-  pub lwp_is_untouched : IsUntouchedLwp l
-  lwp_is_untouched =
-      let process : IsUntouchedProcess p = All-found IsUntouchedProcess (is_process p.id) s.processes p t.untouched.processes t.found in
-      All-found IsUntouchedLwp (is_lwp l.id) p.lwps l process.lwps t.there
-
-  -- Who may have a turn may make a step.
-  no_job_stop : is_some p.job_stop && not (l.id == agent_id) ≡ false → p.job_stop ≡ None
-  no_job_stop h = by p.job_stop (rw lwp_is_untouched.no_agent at h)
-    where
-      by : (job : Option Sig) → is_some job && true ≡ false → job ≡ None
-      by None h = refl
-      by (Some signal) h = cc
-
-  may_step : MayStep (erased_system s) p.id l.id (erased_process p) (erased_lwp l)
-  unfolding erased_system erased_process erased_lwp live_in_system is_kept
-  may_step =
-      let kept = or_parts (has_event_stop l) _ t.free in
-      let others = or_parts l.suspended _ kept.1 in
-      record {
-        live =
-            ap (option_and_then if_live_in_system) (find-map erased_process (is_process p.id) (is_system_process p.id) (erased_process-id p.id) s.processes p t.found)
-            ∙ ap (λ (ended : Option ℕ). cond (is_none ended) (Some (erased_process p)) None) t.no_zombie;
-        there = find-map erased_lwp (is_lwp l.id) (is_system_lwp l.id) (erased_lwp-id l.id) p.lwps l t.there;
-        not_stopped = no_job_stop others.1;
-        not_suspended = others.0;
-      }
-
-  runs_program : IsInProgram p l → RunsProgram (erased_process p) (erased_lwp l)
-  unfolding erased_process erased_lwp erased_phase erased_pending may_take has_takeable
-  runs_program here = record {
-    in_its_program = ap erased_phase here.phase;
-    no_current = here.no_current;
-    none_to_take =
-        ap (λ (ph : Phase). not (minus_word (erased_pending ph l.pending) l.held == 0) || not (minus_word p.pending l.held == 0)) here.phase
-        ∙ here.none_to_take;
-  }
-
-  -- What a row makes of its lwp is seen as a change of that lwp alone.
-  erased-row : (row : TurnRow) (g : SystemLwp → SystemLwp) → erased_lwp (lwp_made row l) ≡ g (erased_lwp l) → erased_process (with_row row l p) ≡ with_lwp_changed l.id g (erased_process p)
-  unfolding erased_process with_row with_lwp_changed
-  erased-row row g seen =
-      meeting-hidden (rest_made row l).point l.id _
-      ∙ ap (λ ls. record (erased_process p) { lwps = ls }) (map-change_found erased_lwp (is_lwp l.id) (is_system_lwp l.id) (erased_lwp-id l.id) (lwp_made row) g p.lwps l t.there seen)
-
-  erased-turn : (row : TurnRow) (g : SystemLwp → SystemLwp) → erased_lwp (lwp_made row l) ≡ g (erased_lwp l) → erased_system (with_process p.id (with_row row l) s) ≡ with_system_lwp p.id l.id g (erased_system s)
-  unfolding erased_system with_process with_system_lwp with_system_process
-  erased-turn row g seen =
-      ap (λ ps. record (erased_system s) { processes = ps }) (map-change_found erased_process (is_process p.id) (is_system_process p.id) (erased_process-id p.id) (with_row row l) (with_lwp_changed l.id g) s.processes p t.found (erased-row row g seen))
-
-  -- Or as nothing, where the row does not show.
-  erased-row_hidden : (row : TurnRow) → erased_lwp (lwp_made row l) ≡ erased_lwp l → erased_process (with_row row l p) ≡ erased_process p
-  unfolding erased_process with_row
-  erased-row_hidden row seen =
-      meeting-hidden (rest_made row l).point l.id _
-      ∙ ap (λ ls. record (erased_process p) { lwps = ls }) (map-change_first erased_lwp (is_lwp l.id) (lwp_made row) p.lwps l t.there seen)
-
-  erased-turn_hidden : (row : TurnRow) → erased_lwp (lwp_made row l) ≡ erased_lwp l → erased_system (with_process p.id (with_row row l) s) ≡ erased_system s
-  unfolding erased_system with_process
-  erased-turn_hidden row seen =
-      ap (λ ps. record (erased_system s) { processes = ps }) (map-change_first erased_process (is_process p.id) (with_row row l) s.processes p t.found (erased-row_hidden row seen))
-
   -- a row by what it did
   runs_as : (row : TurnRow) (d : Did) → (rest_made row l).did ≡ d → ((returning : Bool) → UntracedRun (erased_system s) (steps_of_turn returning p.id l.id d) (erased_system (settled s p l row).system)) → RunsUntraced s p l row
   runs_as row d was run = record {
-    run = λ returning. subst (λ (x : Did). UntracedRun (erased_system s) (steps_of_turn returning p.id l.id x) (erased_system (settled s p l row).system)) (sym was) (run returning)
+    run = λ returning. subst (λ (x : Did). UntracedRun (erased_system s) (steps_of_turn returning p.id l.id x) (erased_system (settled s p l row).system)) (sym was) (run returning);
   }
 
   -- A directed lwp stops: nothing is seen of it.
   pub row-requested : RunsUntraced s p l rows.Requested
   unfolding settled lwp_made rest_made made_by requested_stop erased_lwp
-  row-requested = runs_as rows.Requested did.Stopped refl (λ returning. stays (erased-turn_hidden rows.Requested refl))
+  row-requested = runs_as rows.Requested did.Stopped refl (λ returning. stays (erased-turn_hidden s p l t rows.Requested refl))
 
   -- The signal of a fault is posted: it was seen to be pending since the fault.
   pub row-posted : (f : Flt) (address : ℕ) → l.phase ≡ Faulted f address → RunsUntraced s p l (rows.Posted f)
   unfolding settled lwp_made rest_made made_by posted erased_lwp erased_phase erased_pending
   row-posted f address phase =
       let seen : erased_lwp (lwp_made (rows.Posted f) l) ≡ erased_lwp l =
-          ap (λ (ph : Phase). record (erased_lwp l) { pending = erased_pending ph l.pending; place = erased_phase ph }) (sym phase) in
-      runs_as (rows.Posted f) (did.Posted f) refl (λ returning. stays (erased-turn_hidden (rows.Posted f) seen))
+      ap (λ (ph : Phase). record (erased_lwp l) { pending = erased_pending ph l.pending; place = erased_phase ph }) (sym phase) in
+      runs_as (rows.Posted f) (did.Posted f) refl (λ returning. stays (erased-turn_hidden s p l t (rows.Posted f) seen))
 
   -- An lwp goes back to its program, in which it was seen since the call was over.
   pub row-returned : (call : Sysno) (args : List ℕ) (result : Res) → l.phase ≡ Exiting call args result → RunsUntraced s p l (rows.Returned call)
   unfolding settled lwp_made rest_made made_by returned erased_lwp erased_phase erased_pending
   row-returned call args result phase =
       let back : Row ℕ = record { lwp = record l { phase = User }; rest = record { did = did.Returned call; point = None; begun = false } } in
-      let is : made_by (rows.Returned call) l ≡ back = not_stepped back lwp_is_untouched.no_step in
+      let is : made_by (rows.Returned call) l ≡ back = not_stepped back (lwp_is_untouched s p l t).no_step in
       let seen : erased_lwp (lwp_made (rows.Returned call) l) ≡ erased_lwp l =
-          ap (λ (row : Row ℕ). erased_lwp row.lwp) is
-          ∙ ap (λ (ph : Phase). record (erased_lwp l) { pending = erased_pending ph l.pending; place = erased_phase ph }) (sym phase) in
-      runs_as (rows.Returned call) (did.Returned call) (ap (λ (row : Row ℕ). row.rest.did) is) (λ returning. stays (erased-turn_hidden (rows.Returned call) seen))
+      ap (λ (row : Row ℕ). erased_lwp row.lwp) is
+      ∙ ap (λ (ph : Phase). record (erased_lwp l) { pending = erased_pending ph l.pending; place = erased_phase ph }) (sym phase) in
+      runs_as (rows.Returned call) (did.Returned call) (ap (λ (row : Row ℕ). row.rest.did) is) (λ returning. stays (erased-turn_hidden s p l t (rows.Returned call) seen))
 
   -- An instruction runs.
   pub row-ran : (regs : List ℕ) → IsInProgram p l → instruction_effect l.regs p.space ≡ Some (Runs regs) → RunsUntraced s p l (rows.Ran regs)
   unfolding settled lwp_made rest_made made_by ran erased_lwp erased_process with_regs UntracedStep
   row-ran regs here effect =
       let on : Row ℕ = record { lwp = record l { regs = regs }; rest = record { did = did.Ran; point = None; begun = true } } in
-      let is : made_by (rows.Ran regs) l ≡ on = not_stepped on lwp_is_untouched.no_step in
+      let is : made_by (rows.Ran regs) l ≡ on = not_stepped on (lwp_is_untouched s p l t).no_step in
       let seen : erased_lwp (lwp_made (rows.Ran regs) l) ≡ with_regs regs (erased_lwp l) = ap (λ (row : Row ℕ). erased_lwp row.lwp) is in
       runs_as (rows.Ran regs) did.Ran (ap (λ (row : Row ℕ). row.rest.did) is) (λ returning. one_step (record {
         process = erased_process p;
         lwp = erased_lwp l;
-        may_step = may_step;
-        runs_program = runs_program here;
+        may_step = may_step s p l t;
+        runs_program = runs_program s p l t here;
         regs = regs;
         effect = effect;
-        state = erased-turn (rows.Ran regs) (with_regs regs) seen;
+        state = erased-turn s p l t (rows.Ran regs) (with_regs regs) seen;
       }))
 
   -- An lwp comes to a system call: a silent move.
@@ -190,18 +106,18 @@ module _ (s : TracedSystem) (p : TracedProcess) (l : TracedLwp) (t : HasTurn s p
   unfolding settled lwp_made rest_made made_by entered erased_lwp erased_process erased_phase erased_pending with_call_entered
   row-entered call regs here effect =
       let seen : erased_lwp (lwp_made (rows.Entered call regs) l) ≡ with_call_entered call regs (erased_lwp l) =
-          ap (λ (ph : Phase). record (erased_lwp l) { regs = regs; pending = erased_pending ph l.pending; place = at_call call }) (sym here.phase) in
+      ap (λ (ph : Phase). record (erased_lwp l) { regs = regs; pending = erased_pending ph l.pending; place = at_call call }) (sym here.phase) in
       runs_as (rows.Entered call regs) (did.Entered call) refl (λ returning. by_call_entry (record {
         pid = p.id;
         id = l.id;
         process = erased_process p;
         lwp = erased_lwp l;
-        may_step = may_step;
-        runs_program = runs_program here;
+        may_step = may_step s p l t;
+        runs_program = runs_program s p l t here;
         call = call;
         regs = regs;
         effect = effect;
-        state = erased-turn (rows.Entered call regs) (with_call_entered call regs) seen;
+        state = erased-turn s p l t (rows.Entered call regs) (with_call_entered call regs) seen;
       }) ends_here)
 
   -- An instruction incurs a fault, whose signal is pending from now on to programs.
@@ -209,15 +125,15 @@ module _ (s : TracedSystem) (p : TracedProcess) (l : TracedLwp) (t : HasTurn s p
   unfolding settled lwp_made rest_made made_by incurred erased_lwp erased_process erased_phase erased_pending with_fault_pending UntracedStep
   row-incurred f address here effect =
       let seen : erased_lwp (lwp_made (rows.Incurred f address) l) ≡ with_fault_pending f (erased_lwp l) =
-          ap (λ (ph : Phase). record (erased_lwp l) { pending = with_number (erased_pending ph l.pending) (signal_number (fault_signal f)); place = erased_phase ph }) (sym here.phase) in
+      ap (λ (ph : Phase). record (erased_lwp l) { pending = with_number (erased_pending ph l.pending) (signal_number (fault_signal f)); place = erased_phase ph }) (sym here.phase) in
       let step : UntracedRun (erased_system s) (step.Fault p.id l.id f ∷ []) (erased_system (settled s p l (rows.Incurred f address)).system) = one_step (record {
         process = erased_process p;
         lwp = erased_lwp l;
-        may_step = may_step;
-        runs_program = runs_program here;
+        may_step = may_step s p l t;
+        runs_program = runs_program s p l t here;
         address = address;
         effect = effect;
-        state = erased-turn (rows.Incurred f address) (with_fault_pending f) seen;
+        state = erased-turn s p l t (rows.Incurred f address) (with_fault_pending f) seen;
       }) in
       runs_as (rows.Incurred f address) (did.Faulted f) refl (λ returning. rw (steps-no_trace returning p.id l.id f (instruction-no_trace l.regs p.space f address effect)) step)
 
@@ -226,17 +142,17 @@ module _ (s : TracedSystem) (p : TracedProcess) (l : TracedLwp) (t : HasTurn s p
   unfolding settled lwp_made rest_made made_by made erased_lwp erased_process erased_phase erased_pending with_call_done called UntracedStep
   row-made call result here =
       let seen : erased_lwp (lwp_made (rows.Made call result) l) ≡ with_call_done result (erased_lwp l) =
-          ap (λ (ph : Phase). record (erased_lwp l) { regs = with_result result l.regs; pending = erased_pending ph l.pending; place = in_program }) (sym here.phase) in
+      ap (λ (ph : Phase). record (erased_lwp l) { regs = with_result result l.regs; pending = erased_pending ph l.pending; place = in_program }) (sym here.phase) in
       runs_as (rows.Made call result) (did.Made call result) refl (λ returning. one_step (record {
         process = erased_process p;
         lwp = erased_lwp l;
-        may_step = may_step;
+        may_step = may_step s p l t;
         at = ap erased_phase here.phase;
         no_current = here.no_current;
         effect = Done result;
         does = here.does;
         gives = refl;
-        state = erased-turn (rows.Made call result) (with_call_done result) seen;
+        state = erased-turn s p l t (rows.Made call result) (with_call_done result) seen;
       }))
 
   -- A call is made and ends its process.
@@ -245,13 +161,13 @@ module _ (s : TracedSystem) (p : TracedProcess) (l : TracedLwp) (t : HasTurn s p
   row-ended call status here =
       let row : TurnRow = rows.Ended call status in
       let ends : erased_system (settled s p l row).system ≡ with_system_ended (erased_process p) status (erased_system s) =
-          erased-ended (with_row row l p) status (with_process p.id (with_row row l) s)
-          ∙ ap (λ q. with_system_ended q status (erased_system (with_process p.id (with_row row l) s))) (erased-row_hidden row refl)
-          ∙ ap (with_system_ended (erased_process p) status) (erased-turn_hidden row refl) in
+      erased-ended (with_row row l p) status (with_process p.id (with_row row l) s)
+      ∙ ap (λ q. with_system_ended q status (erased_system (with_process p.id (with_row row l) s))) (erased-row_hidden s p l t row refl)
+      ∙ ap (with_system_ended (erased_process p) status) (erased-turn_hidden s p l t row refl) in
       runs_as row (did.Made call Ended) refl (λ returning. one_step (record {
         process = erased_process p;
         lwp = erased_lwp l;
-        may_step = may_step;
+        may_step = may_step s p l t;
         at = ap erased_phase here.phase;
         no_current = here.no_current;
         effect = EndsProcess status;

@@ -1,29 +1,21 @@
-use Rattle.std.proofs.Common.{◌≡◌, ℕ, Bool, Some, List, [], sym, subst, ap, ◌∙◌}
+use Rattle.std.proofs.Common.{◌≡◌, ℕ, Bool, Some, sym, subst, ap, ◌∙◌}
 use Rattle.std.specs.List.{find}
 use Rattle.pr_model.specs.Erasure.{erased_system}
 use Rattle.pr_model.specs.Lwps.{is_lwp, is_process}
-use Rattle.pr_model.specs.LwpTurns.{LwpTurn, turn_of, settled, rest_made}
+use Rattle.pr_model.specs.LwpTurns.{LwpTurn, turn_of, settled}
 use Rattle.pr_model.specs.State.{TracedSystem, TracedProcess, TracedLwp}
-use Rattle.pr_model.specs.UntracedMachine.{UntracedRun, ends_here}
+use Rattle.pr_model.specs.UntracedMachine.{UntracedRun}
 use Rattle.pr_model.specs.UntracedSteps.{steps_of_turn}
 use Rattle.pr_model.specs.declared.effects.TurnRow.{TurnRow}
-use Rattle.pr_model.specs.declared.steps.Step.{Step}
 use Rattle.pr_laws.proofs.TurnLemmas.{TakesTurn, turn-taken}
 use Rattle.pr_erasure.proofs.DecisionLemmas.{row-decided}
-use Rattle.pr_erasure.proofs.HiddenLemmas.{IsHidden}
-use Rattle.pr_erasure.proofs.ListLemmas.{All-found}
-use Rattle.pr_erasure.proofs.RowLemmas.{HasTurn, RunsUntraced, lwp_is_untouched, row-runs}
+use Rattle.pr_erasure.proofs.FollowLemmas.{Follows}
+use Rattle.pr_erasure.proofs.RowLemmas.{RunsUntraced, row-runs}
+use Rattle.pr_erasure.proofs.SeenLemmas.{HasTurn, lwp_is_untouched}
 use Rattle.pr_erasure.proofs.UntouchedLemmas.{settled-untouched}
 use Rattle.pr_erasure.specs.Untouched.{IsUntouched}
 
--- What one entry of a history makes of the system, the untraced machine follows by its steps; and nothing is touched.
-pub record Follows (s : TracedSystem) (steps : List Step) (t : TracedSystem) : Type 0 where
-  pub run : UntracedRun (erased_system s) steps (erased_system t)
-  pub untouched : IsUntouched t
-
--- what programs do not see, it follows by no step
-pub hidden-follows : {s t : TracedSystem} → IsHidden s t → Follows s [] t
-hidden-follows {s} {t} h = record { run = subst (UntracedRun (erased_system s) []) (sym h.seen) ends_here; untouched = h.untouched }
+-- A turn of an lwp, which takes the row that is decided for it.
 
 -- an lwp that takes a turn in an untouched system
 has_turn : (s : TracedSystem) (pid id : ℕ) (t : LwpTurn) → IsUntouched s → (taken : TakesTurn s pid id t) → HasTurn s taken.process taken.lwp
@@ -45,7 +37,7 @@ named s p l row pid id t process lwp is runs returning =
     let of_lwp = subst (λ n. UntracedRun (erased_system s) (steps_of_turn returning pid n to.turned.did) (erased_system to.system)) lwp of_process in
     subst (λ (u : LwpTurn). UntracedRun (erased_system s) (steps_of_turn returning pid id u.turned.did) (erased_system u.system)) (sym is) of_lwp
 
--- A turn of an lwp.
+-- Every turn.
 pub turn-follows : (s : TracedSystem) (pid id : ℕ) (t : LwpTurn) (returning : Bool) → turn_of s pid id ≡ Some t → IsUntouched s → Follows s (steps_of_turn returning pid id t.turned.did) t.system
 turn-follows s pid id t returning turn u =
     let taken = turn-taken s pid id t turn in

@@ -1,9 +1,7 @@
-use Rattle.std.proofs.Common.{◌≡◌, ◌==◌, ℕ, Bool, true, false, Option, Some, None, List, [], ◌∷◌, map, cond, refl}
+use Rattle.std.proofs.Common.{◌≡◌, ◌==◌, ℕ, Bool, true, false, Option, Some, None, List, map, cond, refl}
 use Rattle.std.proofs.lemmas.List.Elements.{All-nil}
 use Rattle.std.specs.List.{All, list_all}
-use Rattle.pr_num.specs.Agents.{agent_id}
-use Rattle.pr_num.specs.Control.{has_flags, klc_mode, async_mode}
-use Rattle.pr_num.specs.Files.{with_all_closed}
+use Rattle.pr_num.specs.Control.{has_flags, async_mode}
 use Rattle.pr_num.specs.KeyedTables.{change_first}
 use Rattle.pr_num.specs.Sets.{common_word}
 use Rattle.pr_num.specs.declared.faults.Flt.TheVariants.{Trace}

@@ -7,7 +7,7 @@ use Rattle.pr_model.specs.UntracedMachine.{UntracedRun, traced_step}
 use Rattle.pr_model.specs.UntracedSteps.{untraced_steps, untraced_trace}
 use Rattle.pr_model.specs.declared.events.Entry.{Entry}
 
--- Tracing is transparent (proc(4), truss(1)): a program that is traced does what it would do untraced.
+-- Tracing is transparent (proc(4), truss(1)): a program that is traced does what it could have done untraced.
 
 -- A history from a state is transparent: the machine without controllers can make its untraced steps, and they lead from
 -- what programs can see of that state to what they can see of the last one; and the trace of that run, which is the calls

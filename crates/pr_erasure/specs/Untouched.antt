@@ -1,4 +1,4 @@
-use Rattle.std.specs.Prelude.{◌≡◌, ◌==◌, Bool, false, []}
+use Rattle.std.specs.Prelude.{◌≡◌, ◌==◌, false, []}
 use Rattle.std.specs.List.{All}
 use Rattle.pr_num.specs.Agents.{agent_id}
 use Rattle.pr_num.specs.Control.{has_flags, klc_mode}
