@@ -3,7 +3,7 @@ use Rattle.std.proofs.lemmas.Option.{same_Some}
 use Rattle.std.specs.List.{range_with_len}
 use Rattle.std.specs.Option.{option_map, option_and_then}
 use Rattle.pr_kern.specs.Kernels.{after_turn, after_tick, after_lwp_turn}
-use Rattle.pr_kern.specs.Orders.{next_of, is_candidate}
+use Rattle.pr_kern.specs.Orders.{next_movable, moves_after}
 use Rattle.pr_model.specs.Calls.{Answer, answer_to}
 use Rattle.pr_model.specs.LwpTurns.{can_move, turn_of, LwpTurn}
 use Rattle.pr_model.specs.State.{TracedSystem}
@@ -78,11 +78,11 @@ and_right true b h = h
 and_right false b h = cc
 
 lwp-next : (w : WorldState) (after : Option (ℕ × ℕ)) (a : Actor) → first_lwp w after ≡ Some a → can_act w a ≡ true
-unfolding first_lwp next_of can_act
+unfolding first_lwp next_movable moves_after can_act
 lwp-next w after a e =
     let s = w.kernel.state.system in
-    let found = mapped-back as_lwp (find (is_candidate true s after) (live_lwps s)) a e in
-    ap (can_act w) found.1.1 ∙ and_right _ _ (found-passes (is_candidate true s after) (live_lwps s) found.0 found.1.0)
+    let found = mapped-back as_lwp (find (moves_after s after) (live_lwps s)) a e in
+    ap (can_act w) found.1.1 ∙ and_right _ _ (found-passes (moves_after s after) (live_lwps s) found.0 found.1.0)
 
 clock-next : (w : WorldState) (b : Bool) (a : Actor) → can_act w Clock ≡ b → cond b (Some Clock) None ≡ Some a → can_act w a ≡ true
 clock-next w true a is e = ap (can_act w) (sym (same_Some Clock a e)) ∙ is

@@ -3,7 +3,7 @@ use Rattle.std.proofs.lemmas.Bool.{eqb-true}
 use Rattle.std.proofs.lemmas.Option.{same_Some, slice_get_within}
 use Rattle.std.specs.List.{flat_map, range_with_len, slice_get}
 use Rattle.std.specs.Option.{option_map, option_and_then}
-use Rattle.pr_kern.specs.Orders.{next_of, is_candidate}
+use Rattle.pr_kern.specs.Orders.{next_movable, moves_after}
 use Rattle.pr_model.specs.Calls.{Answer, answer_to}
 use Rattle.pr_model.specs.LwpTurns.{can_move, turn_in, turn_of, LwpTurn}
 use Rattle.pr_model.specs.Lwps.{is_lwp, is_process, lwp_of}
@@ -122,10 +122,10 @@ not_both b h k = let e : true ≡ false = sym h ∙ k in cc
 
 -- nobody passes over an lwp that can have a turn
 no_turn : (w : WorldState) (pid id : ℕ) → first_lwp w None ≡ None → can_move w.kernel.state.system pid id ≡ true → ⊥
-unfolding first_lwp next_of live_lwps is_after
+unfolding first_lwp next_movable moves_after live_lwps is_after
 no_turn w pid id e moves =
     let s = w.kernel.state.system in
-    let q = is_candidate true s None in
+    let q = moves_after s None in
     let t = has_turn s pid id moves in
     let fails = all-fail q s.processes pid id t.process t.lwp (not_mapped as_lwp (find q (live_lwps s)) e) t.found t.live t.there in
     let same_process : t.process.id ≡ pid = eqb-true _ _ (found-passes (is_process pid) s.processes t.process t.found) in

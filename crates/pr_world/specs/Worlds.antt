@@ -1,7 +1,7 @@
 use Rattle.std.specs.Prelude.{◌&&◌, ◌||◌, ◌+◌, ◌-◌, ℕ, zero, suc, Bool, true, false, List, Option, Some, None, is_some, is_none, find, length, slice_get, slice_set, nat_lt, option_map, option_and_then, if◌then◌else◌}
 use Rattle.std.specs.List.{list_any, list_all, range_with_len}
 use Rattle.pr_kern.specs.Kernels.{Kernel, TurnedKernel, after_answer, after_turn, after_tick, some_sleeper}
-use Rattle.pr_kern.specs.Orders.{next_of}
+use Rattle.pr_kern.specs.Orders.{next_movable}
 use Rattle.pr_model.specs.Calls.{Answer, answer_to}
 use Rattle.pr_model.specs.Legal.{clock_limit}
 use Rattle.pr_model.specs.LwpTurns.{can_move}
@@ -121,7 +121,7 @@ as_lwp i = Lwp i.0 i.1
 
 -- the first lwp after another that can move
 unfoldable pub first_lwp : WorldState → Option (ℕ × ℕ) → Option Actor
-first_lwp w after = option_map as_lwp (next_of true w.kernel.state.system after)
+first_lwp w after = option_map as_lwp (next_movable w.kernel.state.system after)
 
 unfoldable pub clock_if_awaited : WorldState → Option Actor
 clock_if_awaited w = if can_act w Clock then Some Clock else None
