@@ -1,3 +1,4 @@
+pub mod CountLaws
 pub mod EffectLemmas
 pub mod FetchLemmas
 pub mod SettlingLemmas

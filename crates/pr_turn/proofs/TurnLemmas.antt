@@ -40,6 +40,13 @@ after_meeting-keeps f keeps None id p = refl
 after_meeting-keeps f keeps (Some point) id p =
     elim (cases_Bool (is_traced p point)) [ inl traced ↦ rw traced (with_stop_at-keeps f keeps point id p) | inr passed ↦ rw passed refl ]
 
+-- a stop changes no counts
+pub after_meeting-keeps_usage : (point : Option Point) (id : ℕ) (p : TracedProcess) → (after_meeting point id p).usage ≡ p.usage
+unfolding with_stop_at with_others_directed
+after_meeting-keeps_usage None id p = refl
+after_meeting-keeps_usage (Some point) id p =
+    elim (cases_Bool (is_traced p point)) [ inl traced ↦ rw traced (elim (cases_Bool (has_flags p.modes async_mode)) [ inl async ↦ rw async refl | inr together ↦ rw together refl ]) | inr passed ↦ rw passed refl ]
+
 pub with_row-keeps : {X : Type 0} (f : TracedProcess → X) (keeps : Keeps f) (row : TurnRow) (l : TracedLwp) (p : TracedProcess) → f (with_row row l p) ≡ f p
 unfolding with_row
 with_row-keeps f keeps row l p = after_meeting-keeps f keeps _ l.id _ ∙ keeps p _ _
