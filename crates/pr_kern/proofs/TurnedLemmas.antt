@@ -39,6 +39,10 @@ module _ (s : TracedSystem) (id : ℕ) (h : HaveSmallHeaps s) where
   Calm : Option LwpTurn → Type 0
   Calm o = IfSome o (λ t. IsCalm s t.system)
 
+  nothing : Calm None
+  unfolding Calm
+  nothing = tt
+
   of_row : (p : TracedProcess) (l : TracedLwp) (o : Option TurnRow) → Calm (option_map (settled s p l) o)
   unfolding Calm
   of_row p l None = tt
@@ -46,10 +50,6 @@ module _ (s : TracedSystem) (id : ℕ) (h : HaveSmallHeaps s) where
 
   of_free : (p : TracedProcess) (l : TracedLwp) (b : Bool) → Calm (cond b None (option_map (settled s p l) (row_for p l)))
   of_free p l true = nothing
-    where
-      nothing : Calm None
-      unfolding Calm
-      nothing = tt
   of_free p l false = of_row p l (row_for p l)
 
   of_lwp : (p : TracedProcess) (o : Option TracedLwp) → Calm (option_and_then (λ l. turn_in s p l) o)
