@@ -3,13 +3,17 @@ ghost use Rattle.std.specs.Option.{option_copied};
 ghost use Rattle.pr_model.specs.Calls.{answer_to};
 ghost use Rattle.pr_model.specs.FirstState.{first_state};
 ghost use Rattle.pr_model.specs.Legal.{clock_limit};
-ghost use Rattle.pr_kern.specs.Kernels.{after_call, after_tick, last_reply_of, some_sleeper, takes_no_memory};
+ghost use Rattle.pr_kern.specs.Kernels.{after_call, after_tick, after_turn, last_reply_of, some_sleeper, takes_no_memory};
+ghost use Rattle.pr_model.specs.LwpTurns.{can_move};
+ghost use Rattle.pr_kern.specs.Orders.{next_of};
 ghost use Rattle.pr_kern.specs.Starts.{stored};
 
-use crate::{Machine, answer, first_machine, ready, some_sleeper};
+use crate::{Machine, answer, first_machine, next_movable, ready, some_sleeper};
 use pr_asm::Program;
-use pr_model::{Act, Actor, Call, Entry, History, Reply};
+use pr_model::{Act, Actor, Call, Entry, History, Reply, Turned};
 use pr_num::{Bytes, Name, NoMemory};
+use pr_proc::next_lwp;
+use pr_turn::{movable, turn};
 use std::alloc::Global;
 use std::marker::Model;
 
@@ -97,6 +101,40 @@ impl Kern {
             Act::Call(_, reply) => Some(reply),
             Act::Turn(_) | Act::Tick(_) => None,
         }
+    }
+
+    /// Whether an lwp can have a turn: false for an lwp that is not live. Takes no memory.
+    pub fn lwp_movable(&self, pid: u32, lwp: u32) -> bool
+        ensures { result ≡ can_move self.now.state.system pid lwp }
+    {
+        movable(&self.state.system, pid, lwp)
+    }
+
+    /// The least live lwp above another one, or of all, by process and then by lwp; only one that can have a turn, where
+    /// that is asked. Takes no memory.
+    pub fn next_lwp(&self, after: Option<(u32, u32)>, movable: bool) -> Option<(u32, u32)>
+        ensures { result ≡ next_of movable self.now.state.system after }
+    {
+        match movable {
+            true => next_movable(&self.state.system, after),
+            false => next_lwp(&self.state.system, after),
+        }
+    }
+
+    /// Gives an lwp a turn, and adds its entry. No turn that is built takes memory.
+    #[tactic(auto, unfolding(crate::specs::Kernels::after_turn))]
+    pub fn lwp_turn(&mut self, pid: u32, lwp: u32) -> Result<Turned, NoMemory>
+        requires movable { can_move self.old.state.system pid lwp ≡ true }
+        requires place { length self.old.history < self.old.places }
+        ensures ok { IfOk result (λ turned. after_turn pid lwp self.old ≡ Some (record { kernel = self.new; turned = turned })) }
+        ensures sure { IsOk result }
+    {
+        let turned = turn(&mut self.state.system, pid, lwp);
+        self.history.push(Entry {
+            actor: Actor::Lwp(pid, lwp),
+            act: Act::Turn(turned),
+        });
+        Ok(turned)
     }
 
     /// Moves the clock on by a millisecond, and adds the entry. Takes no memory.

@@ -12,6 +12,7 @@ mod records;
 mod running;
 mod sleepers;
 mod starts;
+mod turns;
 
 pub use calls::{answer, ready};
 pub use closes::close;
@@ -24,6 +25,7 @@ pub use records::{part_read, status_words};
 pub use running::{run, run_refused};
 pub use sleepers::some_sleeper;
 pub use starts::first_machine;
+pub use turns::next_movable;
 
 /// The state that a machine is in: the system, the open handles, and the interrupted controllers. Contracts see it as
 /// the traced state of the definitions.
