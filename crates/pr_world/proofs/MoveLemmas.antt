@@ -1,4 +1,4 @@
-use Rattle.std.proofs.Common.{◌≡◌, ◌<◌, ◌+◌, ◌&&◌, ℕ, Bool, true, false, Option, Some, None, List, [], ◌∷◌, ◌++◌, length, slice_get, slice_set, nat_lt, cond, refl, sym, ◌∙◌, ap, subst}
+use Rattle.std.proofs.Common.{◌≡◌, ◌<◌, ◌+◌, ◌&&◌, ℕ, Bool, true, false, Option, Some, None, is_some, List, [], ◌∷◌, ◌++◌, length, slice_get, slice_set, nat_lt, cond, refl, sym, ◌∙◌, ap, subst}
 use Rattle.std.proofs.lemmas.Option.{same_Some, slice_get_within}
 use borrow.Author.Tests.{ltb-true}
 use Rattle.std.proofs.lemmas.List.{length-set}
@@ -15,7 +15,7 @@ use Rattle.pr_model.specs.declared.events.Actor.TheVariants.{Controller, Lwp, Cl
 use Rattle.pr_model.specs.declared.events.Entry.{Entry}
 use Rattle.pr_scen.specs.Scripts.{ScriptState, next_call_of, fed}
 use Rattle.pr_world.specs.Protocol.{FollowsAt, scripts_after}
-use Rattle.pr_world.specs.Worlds.{WorldState, call_by, feed_at, with_fed, with_answer, after_call_by, after_controller, with_turned, after_lwp, is_clock_awaited, after_clock, after_move}
+use Rattle.pr_world.specs.Worlds.{WorldState, answer_for, call_by, feed_at, with_fed, with_answer, after_call_by, after_controller, with_turned, after_lwp, is_clock_awaited, after_clock, after_move}
 
 -- What a move adds to a world: one entry, which is legal and follows the protocol, and what the entry makes of the machine and
 -- of the controllers.
@@ -115,7 +115,7 @@ lwp-row w v pid id led =
     lwp-moves w v pid id found.0 found.1.0 (turned.1.1 ∙ ap (with_turned w) found.1.1)
 
 -- the clock is awaited below its last moment alone
-awaited-early : (s : TracedSystem) (scripts : List ScriptState) → is_clock_awaited s scripts ≡ true → s.clock < clock_limit
+pub awaited-early : (s : TracedSystem) (scripts : List ScriptState) → is_clock_awaited s scripts ≡ true → s.clock < clock_limit
 unfolding is_clock_awaited
 awaited-early s scripts is = ltb-true s.clock clock_limit (and_left (nat_lt s.clock clock_limit) _ is)
   where
@@ -134,3 +134,17 @@ unfolding after_move after_controller after_clock
 move-adds w v (Controller k) led = controller-row w v k (call_by w.scripts k) refl led
 move-adds w v (Lwp pid id) led = lwp-row w v pid id led
 move-adds w v Clock led = clock-row w v (is_clock_awaited w.kernel.state.system w.scripts) refl led
+
+-- A controller that has a call, or whose call has an answer, is one of those that there are.
+pub call-within : (scripts : List ScriptState) (k : ℕ) (c : Call) → call_by scripts k ≡ Some c → k < length scripts
+call-within scripts k c is = with_call scripts k c is
+
+pub answer-within : (w : WorldState) (k : ℕ) → is_some (answer_for w k) ≡ true → k < length w.scripts
+unfolding answer_for
+answer-within w k h = of (call_by w.scripts k) refl h
+  where
+    of : (c : Option Call) → call_by w.scripts k ≡ c → is_some (option_and_then (answer_to w.kernel.state k) c) ≡ true → k < length w.scripts
+    of None is h = cc
+    of (Some c) is h = with_call w.scripts k c is
+
+pub ruleset calls = (call-within, answer-within, awaited-early)

@@ -149,3 +149,20 @@ moves-counted first zero fresh h = ap length fresh.history
 moves-counted first (suc n) fresh h =
     let on = counted-on (after_moves n first) n (next_actor (after_moves n first)) refl (moves-counted first n fresh) h in
     omega (arith, on)
+
+-- What one move needs and makes: who was picked can move, and the world after the next move is the one that its move led to.
+pub picked-acts : (w : WorldState) (actor : Actor) → next_actor w ≡ Some actor → can_act (with_last actor w) actor ≡ true
+picked-acts w actor e = can_act-picked w actor actor ∙ next-acts w actor e
+
+pub next-moved : (w v : WorldState) (actor : Actor) → next_actor w ≡ Some actor → after_move (with_last actor w) actor ≡ Some v → after_next w ≡ v
+unfolding after_next
+next-moved w v actor e led = ap (moved_by w) e ∙ ap (or_unmoved w) led
+
+pub next-stuck : (w : WorldState) → next_actor w ≡ None → after_next w ≡ w
+next-stuck w e = stuck-next w e
+
+pub kernel-picked : (w : WorldState) (actor : Actor) → (with_last actor w).kernel ≡ w.kernel
+unfolding with_last
+kernel-picked w actor = refl
+
+pub ruleset nexts = (picked-acts, next-moved, next-stuck, kernel-picked)
