@@ -1,8 +1,8 @@
-use Rattle.std.proofs.Common.{◌≡◌, ◌<◌, ◌≤◌, ◌+◌, ◌-◌, ◌&&◌, ℕ, zero, suc, Bool, true, false, Option, Some, None, is_some, List, [], ◌∷◌, ◌++◌, length, cond, find, refl, sym, ◌∙◌, ap, subst, arith, length-append}
+use Rattle.std.proofs.Common.{◌≡◌, ◌<◌, ◌≤◌, ◌+◌, ◌-◌, ◌&&◌, ℕ, zero, suc, Bool, true, false, Option, Some, None, is_some, List, [], ◌∷◌, ◌++◌, length, cond, find, refl, sym, ◌∙◌, ap, subst, arith, add-one, length-append}
 use Rattle.std.proofs.lemmas.Option.{same_Some}
 use Rattle.std.specs.List.{range_with_len}
 use Rattle.std.specs.Option.{option_map, option_and_then}
-use Rattle.pr_kern.specs.Kernels.{after_turn, after_tick, after_lwp_turn}
+use Rattle.pr_kern.specs.Kernels.{Kernel, after_turn, after_tick, after_lwp_turn}
 use Rattle.pr_kern.specs.Orders.{next_movable, moves_after}
 use Rattle.pr_model.specs.Calls.{Answer, answer_to}
 use Rattle.pr_model.specs.LwpTurns.{can_move, turn_of, LwpTurn}
@@ -166,3 +166,51 @@ unfolding with_last
 kernel-picked w actor = refl
 
 pub ruleset nexts = (picked-acts, next-moved, next-stuck, kernel-picked)
+
+-- ---- the loop of a run
+
+pub run-start : (w : WorldState) → w ≡ after_moves 0 w
+unfolding after_moves
+run-start w = refl
+
+pub run-on : (w : WorldState) (i : ℕ) → after_next (after_moves i w) ≡ after_moves (i + 1) w
+unfolding after_moves
+run-on w i = rw (add-one i) refl
+
+not_next : (o : Option Actor) → is_some o ≡ false → o ≡ None
+not_next None h = refl
+not_next (Some a) h = cc
+
+-- where nobody moved, the run is at its end
+pub run-stuck : (w : WorldState) (i n : ℕ) → i ≤ n → is_some (next_actor (after_moves i w)) ≡ false → after_next (after_moves i w) ≡ after_moves n w
+run-stuck w i n within stuck =
+    let none = not_next (next_actor (after_moves i w)) stuck in
+    stuck-next (after_moves i w) none ∙ sym (stuck-stays w i (n - i) n (omega arith) none)
+
+within-next : (w : WorldState) (n : ℕ) (next : Option Actor) → next_actor w ≡ next → length w.kernel.history ≤ n → length (after_next w).kernel.history ≤ n + 1
+within-next w n None e before = let same = ap (λ (x : WorldState). length x.kernel.history) (stuck-next w e) in omega arith
+within-next w n (Some actor) e before = let more = next-longer w actor e in omega arith
+
+-- there are at most as many entries as moves, and places stay
+pub run-within : (first : WorldState) (n : ℕ) → IsFresh first → length (after_moves n first).kernel.history ≤ n
+unfolding after_moves
+run-within first zero fresh = let none = ap length fresh.history in omega arith
+run-within first (suc n) fresh =
+    let before = run-within first n fresh in
+    let on = within-next (after_moves n first) n (next_actor (after_moves n first)) refl before in
+    omega (arith, on)
+
+places-next : (w : WorldState) (next : Option Actor) → next_actor w ≡ next → (after_next w).kernel.places ≡ w.kernel.places
+places-next w None e = ap (λ (x : WorldState). x.kernel.places) (stuck-next w e)
+places-next w (Some actor) e =
+    let led = acts-moves w actor (next-acts w actor e) in
+    ap (λ (x : WorldState). x.kernel.places) (next-moved w led.0 actor e led.1) ∙ (move-adds (with_last actor w) led.0 actor led.1).places ∙ ap (λ (k : Kernel). k.places) (kernel-picked w actor)
+
+pub run-places : (first : WorldState) (n : ℕ) → (after_moves n first).kernel.places ≡ first.kernel.places
+unfolding after_moves
+run-places first zero = refl
+run-places first (suc n) = places-next (after_moves n first) (next_actor (after_moves n first)) refl ∙ run-places first n
+
+pub ruleset runs = (run-start, run-on, run-stuck, run-within, run-places)
+
+pub ruleset counts = (moves-counted)

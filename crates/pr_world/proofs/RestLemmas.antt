@@ -15,7 +15,7 @@ use Rattle.pr_model.specs.declared.events.Actor.TheVariants.{Controller, Lwp, Cl
 use Rattle.pr_proc.specs.Order.{live_lwps, lwps_in, lwp_pair, is_after}
 use Rattle.pr_scen.specs.Scripts.{ScriptState, next_call_of}
 use Rattle.pr_world.specs.Worlds.{WorldState, answer_for, call_by, can_act, controller_acts, first_controller, as_lwp, first_lwp, clock_if_awaited, from_lwp, from_controller, next_in_round, next_actor}
-use Rattle.pr_world.proofs.NextLemmas.{found-passes}
+use Rattle.pr_world.proofs.NextLemmas.{found-passes, next-acts}
 
 -- Where no actor is next, none can move: the actors were all looked at.
 
@@ -167,3 +167,8 @@ all-rest w actor e =
     of (Controller k) c l t h = controller-rests w k c h
     of (Lwp pid id) c l t h = no_turn w pid id l h
     of Clock c l t h = clock-rests w t h
+
+pub next-can : (w : WorldState) (actor : Actor) → next_actor w ≡ Some actor → can_act w actor ≡ true
+next-can w actor e = next-acts w actor e
+
+pub ruleset rests = (all-rest, next-can)

@@ -24,4 +24,21 @@ impl World {
             None => Ok(false),
         }
     }
+
+    /// Makes moves until nobody can move, or all places of the history are taken, and says which. Where memory runs out, the
+    /// kernel is the one after some of these moves.
+    #[tactic(auto, using(crate::proofs::NextLemmas::runs))]
+    pub fn run_one(&mut self) -> Result<End, NoMemory>
+        requires { IsFresh self.old }
+        ensures world { OnOk result (self.new ≡ after_moves self.old.kernel.places self.old) }
+        ensures end { IfOk result (λ end. end ≡ end_of self.new) }
+        ensures err { OnErr result (StoppedIn self.old self.new.kernel self.old.kernel.places) }
+    {
+        for _ in 0..self.kern.places() {
+            if !self.advance()? {
+                return self.end();
+            }
+        }
+        self.end()
+    }
 }
