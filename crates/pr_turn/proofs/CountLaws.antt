@@ -91,4 +91,4 @@ AllUsedAtMost-turn_of n s e pid id turned made h = of (next_row_of s pid id) ref
         let same : t ≡ settled s has.process has.lwp row = same_turn t (settled s has.process has.lwp row) (made ∙ turn_of-row s pid id row has) in
         subst (AllUsedAtMost (n + 1)) (sym (ap (λ (u : LwpTurn). u.system) same)) (AllUsedAtMost-settled n s has.process has.lwp row h)
 
-pub ruleset turn_count_laws = (AllUsedAtMost-turn_of, AllUsedAtMost-turn_of)
+pub ruleset turn_count_laws = (AllUsedAtMost-turn_of)
