@@ -4,6 +4,7 @@
 mod calls;
 mod closes;
 mod kernels;
+mod laws;
 mod messages;
 mod opens;
 mod places;
@@ -17,6 +18,7 @@ mod turns;
 pub use calls::{answer, ready};
 pub use closes::close;
 pub use kernels::Kern;
+pub use laws::made_entries_are_legal;
 pub use messages::{carry_out, control_handle, plan, wait_reply};
 pub use opens::{conflicts, fits_file, has_file, is_control, is_of_lwp, is_writable, open};
 pub use places::Places;
