@@ -7,8 +7,11 @@ ghost use Rattle.pr_model.specs.Legal.{clock_limit};
 ghost use Rattle.pr_kern.specs.Kernels.{takes_no_memory};
 ghost use Rattle.pr_kern.specs.Soundness.{HaveSmallHeaps};
 
-use crate::opens::is_control;
-use crate::{Machine, Places, carry_out, close, open, part_read, plan, status_words, wait_reply};
+use crate::closes::close;
+use crate::messages::{control, control_wait, plan};
+use crate::opens::{is_control, open};
+use crate::records::{part_read, status_words};
+use crate::{Machine, Places};
 use pr_model::{Call, File, Held, Reply};
 use pr_num::{Errno, NoMemory};
 use pr_proc::live;
@@ -17,13 +20,12 @@ use std::alloc::Global;
 /// The longest read, in bytes.
 const LONGEST_READ: u64 = 16_384;
 
-/// Handles the first control message of a write, or refuses it; `None`: it is not built yet. Takes no memory.
-fn control(state: &mut Machine, by: u32, handle: u32, bytes: &[u8]) -> Option<Reply>
+/// Handles the first control message of a write; `None`: it is not built yet.
+fn write(state: &mut Machine, by: u32, handle: u32, bytes: &[u8]) -> Option<Reply>
     requires { state.old.system.clock ≤ clock_limit }
     ensures { option_map (λ reply. record { state = state.new; reply = reply }) result ≡ option_map (controlled state.old) (control_answer state.old.system state.old.opens by handle bytes.now) }
 {
-    let plan = plan(&state.system, &state.opens, by, handle, bytes)?;
-    Some(carry_out(&mut state.system, plan))
+    control(&mut state.system, &state.opens, by, handle, bytes)
 }
 
 /// Whether a controller was interrupted and has not seen it yet.
@@ -41,7 +43,7 @@ fn wait(state: &mut Machine, by: u32, handle: u32, until: u64, bytes: &[u8]) -> 
     ensures { option_map (λ reply. record { state = state.new; reply = reply }) result ≡ option_map (waited state.old by) (wait_reply state.old.system state.old.opens by handle until (is_interrupted state.old by) bytes.now) }
 {
     let interrupted = is_interrupted(state, by);
-    let reply = wait_reply(
+    let reply = control_wait(
         &state.system,
         &state.opens,
         by,
@@ -126,7 +128,7 @@ pub fn ready(state: &Machine, by: u32, call: &Call) -> bool
             handle,
             until,
             bytes,
-        } => wait_reply(
+        } => control_wait(
             &state.system,
             &state.opens,
             by,
@@ -176,7 +178,7 @@ pub fn answer(
         )),
         Call::Close { handle } => Ok(close(state, by, *handle)),
         Call::Ctl { handle, bytes } => {
-            Ok(control(state, by, *handle, bytes.as_slice()).unwrap())
+            Ok(write(state, by, *handle, bytes.as_slice()).unwrap())
         }
         Call::CtlWait {
             handle,
