@@ -52,6 +52,7 @@ fn wait(state: &mut Machine, by: u32, handle: u32, until: u64, bytes: &[u8]) -> 
         interrupted,
         bytes,
     )?;
+    // only an interrupted wait gets EINTR, so that its bit is set
     if let Reply::Fail(Errno::Intr) = reply {
         state.interrupted = state.interrupted.saturating_sub(1 << by);
     }
@@ -63,7 +64,11 @@ fn readable(places: &Places, by: u32, handle: u32) -> Option<Held>
     ensures { result ≡ readable (handle_of places.now by handle) }
 {
     let held = places.own(by, handle)?;
-    if is_control(held.file) { None } else { Some(held) }
+    if is_control(held.file) {
+        None
+    } else {
+        Some(held)
+    }
 }
 
 /// Whether a read of so many bytes is refused for its length.
@@ -146,12 +151,7 @@ pub fn ready(state: &Machine, by: u32, call: &Call) -> bool
 /// Answers a call that is ready. Opening, closing, control messages and their waits take no memory; where memory runs out,
 /// the state is as it was.
 #[tactic(auto, unfolding(pr_model::specs::Calls::answer_to))]
-pub fn answer(
-    state: &mut Machine,
-    alloc: Global,
-    by: u32,
-    call: &Call,
-) -> Result<Reply, NoMemory>
+pub fn answer(state: &mut Machine, alloc: Global, by: u32, call: &Call) -> Result<Reply, NoMemory>
     requires by { by < 64 }
     requires clock { state.old.system.clock ≤ clock_limit }
     requires heaps { HaveSmallHeaps state.old.system }
@@ -177,9 +177,7 @@ pub fn answer(
             },
         )),
         Call::Close { handle } => Ok(close(state, by, *handle)),
-        Call::Ctl { handle, bytes } => {
-            Ok(write(state, by, *handle, bytes.as_slice()).unwrap())
-        }
+        Call::Ctl { handle, bytes } => { Ok(write(state, by, *handle, bytes.as_slice()).unwrap()) }
         Call::CtlWait {
             handle,
             until,

@@ -21,7 +21,6 @@ pub use laws::made_entries_are_legal;
 pub use messages::{control, control_wait};
 pub use opens::open;
 pub use places::Places;
-
 pub use records::{part_read, status_words};
 pub use running::{run, run_refused};
 

@@ -9,10 +9,10 @@ ghost use Rattle.pr_model.specs.Running.{with_run};
 ghost use Rattle.pr_model.specs.State.{with_process};
 ghost use Rattle.pr_kern.specs.Plans.{carried_out};
 
+use crate::Places;
 use crate::opens::{is_control, is_of_lwp};
 use crate::plans::Plan;
 use crate::running::{run, run_refused};
-use crate::Places;
 use pr_model::{Held, Reply};
 use pr_msg::decode_one;
 use pr_num::{Errno, Message, MsgFault};
@@ -24,7 +24,11 @@ fn control_handle(places: &Places, by: u32, handle: u32) -> Option<Held>
     ensures { result ≡ control_handle (handle_of places.now by handle) }
 {
     let held = places.own(by, handle)?;
-    if is_control(held.file) { Some(held) } else { None }
+    if is_control(held.file) {
+        Some(held)
+    } else {
+        None
+    }
 }
 
 /// The process that a control handle acts on: `None` once its process, or for a file of one lwp that lwp, has ended.
@@ -214,13 +218,7 @@ fn carry_out(sys: &mut Sys, plan: Plan) -> Reply
 /// Handles the first control message of a write by a controller, or refuses it: EBADF, ENOENT, EINVAL for bytes that begin
 /// with no message, and what process 0 and the message itself refuse, in this order. `None`: the message is not built yet,
 /// and nothing changes. Takes no memory.
-pub fn control(
-    sys: &mut Sys,
-    places: &Places,
-    by: u32,
-    handle: u32,
-    bytes: &[u8],
-) -> Option<Reply>
+pub fn control(sys: &mut Sys, places: &Places, by: u32, handle: u32, bytes: &[u8]) -> Option<Reply>
     requires { sys.old.clock ≤ clock_limit }
     ensures answer { option_map (λ reply. record { system = sys.new; reply = reply }) result ≡ control_answer sys.old places.now by handle bytes.now }
     ensures not_built { IfNone result (sys.new ≡ sys.old) }

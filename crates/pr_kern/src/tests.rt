@@ -20,7 +20,7 @@ enum Said {
     Other,
 }
 
-fn said(kern: &Kern) -> Said {
+fn last_said(kern: &Kern) -> Said {
     match kern.last_reply() {
         Some(Reply::Handle(handle)) => Said::Handle(*handle),
         Some(Reply::Done) => Said::Done,
@@ -43,54 +43,22 @@ fn kernel_of(alloc: Global, places: u32) -> Result<Kern, Fail> {
     Ok(Kern::new(alloc, programs, files, &[0], places)?)
 }
 
-/// Makes a call that has to be ready, and looks at the reply.
-fn make(
-    rt: &impl Abort,
-    kern: &mut Kern,
-    by: u32,
-    call: Call,
-    want: Said,
-) -> Result<(), NoMemory> {
-    assert!(rt; by < 64);
-    assert!(rt; kern.ready(by, &call), "not ready, for {want:?}");
-    assert!(rt; kern.entries() < kern.places());
-    kern.call(by, call)?;
-    assert_eq!(rt; said(kern), want);
-    Ok(())
-}
-
-/// Gives lwp 1 of process 1 a turn that it has to have, and looks at what it did.
-fn turn(rt: &impl Abort, kern: &mut Kern, want: Did) -> Result<(), NoMemory> {
-    assert!(rt; kern.lwp_movable(1, 1), "not movable, for {want:?}");
-    assert!(rt; kern.entries() < kern.places());
-    let turned = kern.lwp_turn(1, 1)?;
-    assert_eq!(rt; turned, Turned { did: want, stop: false });
-    Ok(())
-}
-
-fn open_of(pid: u32, lwp: u32, file: File, mode: Mode) -> Call {
-    Call::Open {
-        pid,
-        lwp,
-        file,
-        mode,
-    }
-}
-
-/// A control message of these words.
-fn control_of(alloc: Global, handle: u32, words: &[u64]) -> Result<Call, NoMemory> {
-    Ok(Call::Ctl {
-        handle,
-        bytes: spelt(alloc, words)?,
-    })
-}
-
-fn wait_of(alloc: Global, handle: u32, until: u64, words: &[u64]) -> Result<Call, NoMemory> {
-    Ok(Call::CtlWait {
-        handle,
-        until,
-        bytes: spelt(alloc, words)?,
-    })
+/// A step that has to be possible, with what is to come of it. The first number of a call is its controller.
+#[derive(Clone, Copy)]
+enum Step<'a> {
+    /// A process, an lwp of it or 0, a file and a mode.
+    Open(u32, (u32, u32, File, Mode), Said),
+    Close(u32, u32, Said),
+    /// A handle, and the words of a control message.
+    Write(u32, u32, &'a [u64], Said),
+    /// A handle, the clock at which the wait ends, and the words of the message.
+    Wait(u32, u32, u64, &'a [u64], Said),
+    /// A handle, the first byte, and how many.
+    Read(u32, (u32, u64, u64), Said),
+    /// A turn of lwp 1 of process 1.
+    Turn(Did),
+    /// The clock afterwards.
+    Tick(u64),
 }
 
 fn spelt(alloc: Global, words: &[u64]) -> Result<Bytes, NoMemory> {
@@ -101,55 +69,158 @@ fn spelt(alloc: Global, words: &[u64]) -> Result<Bytes, NoMemory> {
     Ok(Bytes::from_vec(bytes))
 }
 
+/// The call of a step, with who makes it and the reply that is to come.
+fn call_of(alloc: Global, step: &Step<'_>) -> Result<Option<(u32, Call, Said)>, NoMemory> {
+    Ok(match *step {
+        Step::Open(by, (pid, lwp, file, mode), want) => Some((
+            by,
+            Call::Open {
+                pid,
+                lwp,
+                file,
+                mode,
+            },
+            want,
+        )),
+        Step::Close(by, handle, want) => Some((by, Call::Close { handle }, want)),
+        Step::Write(by, handle, words, want) => {
+            let bytes = spelt(alloc, words)?;
+            Some((by, Call::Ctl { handle, bytes }, want))
+        }
+        Step::Wait(by, handle, until, words, want) => {
+            let bytes = spelt(alloc, words)?;
+            Some((
+                by,
+                Call::CtlWait {
+                    handle,
+                    until,
+                    bytes,
+                },
+                want,
+            ))
+        }
+        Step::Read(by, (handle, at, len), want) => {
+            Some((by, Call::Read { handle, at, len }, want))
+        }
+        Step::Turn(_) | Step::Tick(_) => None,
+    })
+}
+
+/// Makes a call that has to be ready, and looks at the reply.
+fn make(rt: &impl Abort, kern: &mut Kern, by: u32, call: Call, want: Said) -> Result<(), NoMemory> {
+    assert!(rt; by < 64);
+    assert!(rt; kern.ready(by, &call), "not ready, for {want:?}");
+    assert!(rt; kern.entries() < kern.places());
+    kern.call(by, call)?;
+    assert_eq!(rt; last_said(kern), want);
+    Ok(())
+}
+
+/// Gives lwp 1 of process 1 a turn that it has to have, and looks at what it did.
+fn turn(rt: &impl Abort, kern: &mut Kern, want: Did) -> Result<(), NoMemory> {
+    assert!(rt; kern.lwp_movable(1, 1), "not movable, for {want:?}");
+    assert!(rt; kern.entries() < kern.places());
+    let turned = kern.lwp_turn(1, 1)?;
+    assert_eq!(rt;
+        turned,
+        Turned {
+            did: want,
+            stop: false
+        }
+    );
+    Ok(())
+}
+
+/// Moves the clock on to a moment.
+fn tick(rt: &impl Abort, kern: &mut Kern, want: u64) {
+    assert!(rt; kern.clock() < 1_000);
+    assert!(rt; kern.entries() < kern.places());
+    kern.tick();
+    assert_eq!(rt; kern.clock(), want);
+}
+
+/// Makes steps one after another.
+fn play(
+    rt: &impl Abort,
+    alloc: Global,
+    kern: &mut Kern,
+    steps: &[Step<'_>],
+) -> Result<(), NoMemory> {
+    for step in steps {
+        if let Some((by, call, want)) = call_of(alloc, step)? {
+            make(rt, kern, by, call, want)?;
+        }
+        match *step {
+            Step::Turn(want) => turn(rt, kern, want)?,
+            Step::Tick(want) => tick(rt, kern, want),
+            _ => {}
+        }
+    }
+    Ok(())
+}
+
 const STOP: u64 = 1;
+
 const DSTOP: u64 = 2;
+
 const WSTOP: u64 = 3;
+
 const TWSTOP: u64 = 4;
+
 const RUN: u64 = 5;
+
 const SET: u64 = 16;
+
+const GETPID: Sysno = Sysno::Getpid;
+
+const BADF: Said = Said::Fail(Errno::Badf);
+
+const BUSY: Said = Said::Fail(Errno::Busy);
+
+const INVAL: Said = Said::Fail(Errno::Inval);
+
+const NOENT: Said = Said::Fail(Errno::Noent);
+
+const CTL: (u32, u32, File, Mode) = (1, 0, File::Ctl, Mode::Write);
+
+const STATUS: (u32, u32, File, Mode) = (1, 0, File::Status, Mode::Read);
 
 #[test]
 fn a_process_is_stopped_read_and_run(rt: HostRuntime) -> Result<(), Fail> {
     let alloc = rt.alloc();
     let mut kern = kernel_of(alloc, 15)?;
-    assert_eq!(rt; said(&kern), Said::Other, "no entry yet");
-    assert_eq!(rt; kern.next_lwp(None, true), Some((1, 1)));
-    make(&rt, &mut kern, 0, open_of(1, 0, File::Ctl, Mode::Write), Said::Handle(0))?;
-    turn(&rt, &mut kern, Did::Entered(Sysno::Getpid))?;
-    assert_eq!(rt; said(&kern), Said::Other, "a turn has no reply");
-    make(&rt, &mut kern, 0, control_of(alloc, 0, &[DSTOP])?, Said::Used(8))?;
-    turn(&rt, &mut kern, Did::Stopped)?;
-    assert_eq!(rt; kern.next_lwp(None, true), None);
-    assert_eq!(rt; kern.next_lwp(None, false), Some((1, 1)));
-    assert_eq!(rt; kern.next_lwp(Some((1, 1)), false), None);
-    make(&rt, &mut kern, 0, control_of(alloc, 0, &[WSTOP])?, Said::Half(0))?;
-    make(&rt, &mut kern, 0, wait_of(alloc, 0, 0, &[WSTOP])?, Said::Used(8))?;
-    make(&rt, &mut kern, 0, open_of(1, 0, File::Status, Mode::Read), Said::Handle(1))?;
-    let read = Call::Read {
-        handle: 1,
-        at: 104,
-        len: 32,
-    };
-    make(&rt, &mut kern, 0, read, Said::Bytes)?;
+    let steps = [
+        Step::Open(0, CTL, Said::Handle(0)),
+        Step::Turn(Did::Entered(GETPID)),
+        Step::Write(0, 0, &[DSTOP], Said::Used(8)),
+        Step::Turn(Did::Stopped),
+        Step::Write(0, 0, &[WSTOP], Said::Half(0)),
+        Step::Wait(0, 0, 0, &[WSTOP], Said::Used(8)),
+        Step::Open(0, STATUS, Said::Handle(1)),
+        Step::Read(0, (1, 104, 32), Said::Bytes),
+    ];
+    play(&rt, alloc, &mut kern, &steps)?;
     if let Some(Reply::Bytes(bytes)) = kern.last_reply() {
         // stopped on an event of interest, lwp 1, as requested, about nothing
         let want = spelt(alloc, &[3, 1, 1, 0])?;
         assert_eq!(rt; bytes.as_slice(), want.as_slice());
     }
-    assert!(rt; !kern.lwp_movable(1, 1));
-    make(&rt, &mut kern, 0, control_of(alloc, 0, &[RUN, 0])?, Said::Used(16))?;
-    turn(&rt, &mut kern, Did::Made(Sysno::Getpid, Res::Value(1)))?;
-    make(&rt, &mut kern, 0, Call::Close { handle: 0 }, Said::Done)?;
-    turn(&rt, &mut kern, Did::Returned(Sysno::Getpid))?;
-    turn(&rt, &mut kern, Did::Ran)?;
-    turn(&rt, &mut kern, Did::Entered(Sysno::Exit))?;
-    turn(&rt, &mut kern, Did::Made(Sysno::Exit, Res::Ended))?;
-    assert_eq!(rt; kern.entries(), 15);
+    assert_eq!(rt; kern.next_lwp(None, true), None);
+    assert_eq!(rt; kern.next_lwp(None, false), Some((1, 1)));
+    assert_eq!(rt; kern.next_lwp(Some((1, 1)), false), None);
+    let steps = [
+        Step::Write(0, 0, &[RUN, 0], Said::Used(16)),
+        Step::Turn(Did::Made(GETPID, Res::Value(1))),
+        Step::Close(0, 0, Said::Done),
+        Step::Turn(Did::Returned(GETPID)),
+        Step::Turn(Did::Ran),
+        Step::Turn(Did::Entered(Sysno::Exit)),
+        Step::Turn(Did::Made(Sysno::Exit, Res::Ended)),
+    ];
+    play(&rt, alloc, &mut kern, &steps)?;
+    assert_eq!(rt; last_said(&kern), Said::Other, "a turn has no reply");
     assert_eq!(rt; kern.next_lwp(None, false), None);
-    assert!(rt; !kern.sleeper());
-    assert_eq!(rt; kern.programs().len(), 1);
-    assert_eq!(rt; kern.history().len(), 15);
-    assert_eq!(rt; kern.into_history().len(), 15);
+    assert_eq!(rt; kern.entries(), 15);
     Ok(())
 }
 
@@ -157,52 +228,52 @@ fn a_process_is_stopped_read_and_run(rt: HostRuntime) -> Result<(), Fail> {
 fn opens_and_reads_are_refused(rt: HostRuntime) -> Result<(), Fail> {
     let alloc = rt.alloc();
     let mut kern = kernel_of(alloc, 40)?;
-    let cases = [
-        (1, 0, File::Ctl, Mode::Read, Said::Fail(Errno::Inval)),
-        (9, 0, File::Ctl, Mode::Read, Said::Fail(Errno::Inval)),
-        (1, 0, File::Status, Mode::Write, Said::Fail(Errno::Inval)),
-        (1, 1, File::Status, Mode::Read, Said::Fail(Errno::Inval)),
-        (1, 0, File::Lwpctl, Mode::Write, Said::Fail(Errno::Inval)),
-        (9, 0, File::Ctl, Mode::Write, Said::Fail(Errno::Noent)),
-        (1, 2, File::Lwpctl, Mode::Write, Said::Fail(Errno::Noent)),
-        (1, 0, File::Ctl, Mode::WriteExcl, Said::Handle(0)),
-        (1, 0, File::Ctl, Mode::Write, Said::Fail(Errno::Busy)),
-        (1, 1, File::Lwpctl, Mode::WriteExcl, Said::Fail(Errno::Busy)),
-        (9, 0, File::Ctl, Mode::WriteExcl, Said::Fail(Errno::Noent)),
-        (1, 0, File::Status, Mode::Read, Said::Handle(1)),
-        (0, 0, File::Ctl, Mode::Write, Said::Handle(2)),
+    let steps = [
+        Step::Open(0, (1, 0, File::Ctl, Mode::Read), INVAL),
+        Step::Open(0, (9, 0, File::Ctl, Mode::Read), INVAL),
+        Step::Open(0, (1, 0, File::Status, Mode::Write), INVAL),
+        Step::Open(0, (1, 1, File::Status, Mode::Read), INVAL),
+        Step::Open(0, (1, 0, File::Lwpctl, Mode::Write), INVAL),
+        Step::Open(0, (9, 0, File::Ctl, Mode::Write), NOENT),
+        Step::Open(0, (1, 2, File::Lwpctl, Mode::Write), NOENT),
+        Step::Open(0, (1, 0, File::Ctl, Mode::WriteExcl), Said::Handle(0)),
+        Step::Open(0, CTL, BUSY),
+        Step::Open(0, (1, 1, File::Lwpctl, Mode::WriteExcl), BUSY),
+        Step::Open(0, (9, 0, File::Ctl, Mode::WriteExcl), NOENT),
+        Step::Open(0, STATUS, Said::Handle(1)),
+        Step::Open(0, (0, 0, File::Ctl, Mode::Write), Said::Handle(2)),
+        Step::Read(0, (0, 0, 8), BADF),
+        Step::Read(0, (3, 0, 8), BADF),
+        Step::Read(5, (1, 0, 8), BADF),
+        Step::Read(0, (1, 1, 0), INVAL),
+        Step::Read(0, (1, 1, 16_385), INVAL),
+        Step::Read(0, (1, 1_000, 16_384), Said::Bytes),
+        // handles belong to who opened them, and the least free one is taken
+        Step::Close(5, 0, BADF),
+        Step::Close(0, 0, Said::Done),
+        Step::Close(0, 0, BADF),
+        Step::Open(5, CTL, Said::Handle(0)),
+        Step::Open(6, (1, 1, File::Lwpctl, Mode::Write), Said::Handle(3)),
+        Step::Open(6, (1, 0, File::Ctl, Mode::WriteExcl), BUSY),
     ];
-    for (pid, lwp, file, mode, want) in cases {
-        make(&rt, &mut kern, 0, open_of(pid, lwp, file, mode), want)?;
-    }
-    let reads = [
-        (0, 0, 8, Said::Fail(Errno::Badf)),
-        (3, 0, 8, Said::Fail(Errno::Badf)),
-        (1, 1, 0, Said::Fail(Errno::Inval)),
-        (1, 1, 16_385, Said::Fail(Errno::Inval)),
-        (1, 1_000, 16_384, Said::Bytes),
-    ];
-    for (handle, at, len, want) in reads {
-        make(&rt, &mut kern, 0, Call::Read { handle, at, len }, want)?;
-    }
-    // handles belong to who opened them, and the least free one is taken
-    make(&rt, &mut kern, 5, Call::Close { handle: 0 }, Said::Fail(Errno::Badf))?;
-    make(&rt, &mut kern, 0, Call::Close { handle: 0 }, Said::Done)?;
-    make(&rt, &mut kern, 0, Call::Close { handle: 0 }, Said::Fail(Errno::Badf))?;
-    make(&rt, &mut kern, 5, open_of(1, 0, File::Ctl, Mode::Write), Said::Handle(0))?;
-    make(&rt, &mut kern, 6, open_of(1, 1, File::Lwpctl, Mode::Write), Said::Handle(3))?;
-    make(&rt, &mut kern, 6, open_of(1, 0, File::Ctl, Mode::WriteExcl), Said::Fail(Errno::Busy))?;
+    play(&rt, alloc, &mut kern, &steps)?;
     Ok(())
 }
 
 #[test]
 fn at_most_1024_handles_are_open(rt: HostRuntime) -> Result<(), Fail> {
-    let mut kern = kernel_of(rt.alloc(), 1_025)?;
+    let alloc = rt.alloc();
+    let mut kern = kernel_of(alloc, 1_025)?;
     for place in 0..1_024 {
-        make(&rt, &mut kern, 0, open_of(0, 0, File::Status, Mode::Read), Said::Handle(place))?;
+        play(
+            &rt,
+            alloc,
+            &mut kern,
+            &[Step::Open(0, STATUS, Said::Handle(place))],
+        )?;
     }
     let refused = Said::Fail(Errno::Mfile);
-    make(&rt, &mut kern, 0, open_of(0, 0, File::Status, Mode::Read), refused)?;
+    play(&rt, alloc, &mut kern, &[Step::Open(0, STATUS, refused)])?;
     Ok(())
 }
 
@@ -210,52 +281,45 @@ fn at_most_1024_handles_are_open(rt: HostRuntime) -> Result<(), Fail> {
 fn messages_are_refused(rt: HostRuntime) -> Result<(), Fail> {
     let alloc = rt.alloc();
     let mut kern = kernel_of(alloc, 40)?;
-    make(&rt, &mut kern, 0, open_of(1, 0, File::Ctl, Mode::Write), Said::Handle(0))?;
-    make(&rt, &mut kern, 0, open_of(1, 0, File::Status, Mode::Read), Said::Handle(1))?;
-    make(&rt, &mut kern, 0, open_of(0, 0, File::Ctl, Mode::Write), Said::Handle(2))?;
-    let badf = Said::Fail(Errno::Badf);
-    let busy = Said::Fail(Errno::Busy);
-    let inval = Said::Fail(Errno::Inval);
-    make(&rt, &mut kern, 1, control_of(alloc, 0, &[DSTOP])?, badf)?;
-    make(&rt, &mut kern, 0, control_of(alloc, 1, &[DSTOP])?, badf)?;
-    make(&rt, &mut kern, 0, wait_of(alloc, 7, 0, &[WSTOP])?, badf)?;
-    make(&rt, &mut kern, 0, control_of(alloc, 0, &[99])?, inval)?;
-    make(&rt, &mut kern, 0, control_of(alloc, 0, &[])?, inval)?;
-    make(&rt, &mut kern, 0, wait_of(alloc, 0, 0, &[DSTOP])?, inval)?;
-    make(&rt, &mut kern, 0, control_of(alloc, 2, &[STOP])?, busy)?;
-    make(&rt, &mut kern, 0, control_of(alloc, 2, &[SET, 1])?, inval)?;
-    make(&rt, &mut kern, 0, wait_of(alloc, 2, 0, &[WSTOP])?, busy)?;
-    // neither stopped nor directed; then directed, and the directive is over
-    make(&rt, &mut kern, 0, control_of(alloc, 0, &[RUN, 0])?, busy)?;
-    make(&rt, &mut kern, 0, control_of(alloc, 0, &[DSTOP])?, Said::Used(8))?;
-    make(&rt, &mut kern, 0, control_of(alloc, 0, &[RUN, 0])?, Said::Used(16))?;
-    turn(&rt, &mut kern, Did::Entered(Sysno::Getpid))?;
-    // of a write of 20 bytes the first message is handled, and the rest spells none
-    make(&rt, &mut kern, 0, control_of(alloc, 0, &[DSTOP, RUN])?, Said::Used(8))?;
-    make(&rt, &mut kern, 0, control_of(alloc, 0, &[RUN])?, inval)?;
-    turn(&rt, &mut kern, Did::Stopped)?;
-    make(&rt, &mut kern, 0, control_of(alloc, 0, &[RUN, 0])?, Said::Used(16))?;
-    for did in [
-        Did::Made(Sysno::Getpid, Res::Value(1)),
-        Did::Returned(Sysno::Getpid),
-        Did::Ran,
-        Did::Entered(Sysno::Exit),
-        Did::Made(Sysno::Exit, Res::Ended),
-    ] {
-        turn(&rt, &mut kern, did)?;
-    }
-    // what has ended is not found, before its bytes are looked at
-    let noent = Said::Fail(Errno::Noent);
-    make(&rt, &mut kern, 0, control_of(alloc, 0, &[99])?, noent)?;
-    make(&rt, &mut kern, 0, wait_of(alloc, 0, 0, &[99])?, noent)?;
-    let read = Call::Read {
-        handle: 1,
-        at: 0,
-        len: 8,
-    };
-    make(&rt, &mut kern, 0, read, noent)?;
-    make(&rt, &mut kern, 0, open_of(1, 0, File::Ctl, Mode::Write), noent)?;
-    make(&rt, &mut kern, 0, open_of(1, 0, File::Psinfo, Mode::Read), Said::Handle(3))?;
+    let steps = [
+        Step::Open(0, CTL, Said::Handle(0)),
+        Step::Open(0, STATUS, Said::Handle(1)),
+        Step::Open(0, (0, 0, File::Ctl, Mode::Write), Said::Handle(2)),
+        Step::Write(1, 0, &[DSTOP], BADF),
+        Step::Write(0, 1, &[DSTOP], BADF),
+        Step::Wait(0, 7, 0, &[WSTOP], BADF),
+        Step::Write(0, 0, &[99], INVAL),
+        Step::Write(0, 0, &[], INVAL),
+        Step::Wait(0, 0, 0, &[DSTOP], INVAL),
+        Step::Write(0, 2, &[STOP], BUSY),
+        Step::Write(0, 2, &[SET, 1], INVAL),
+        Step::Wait(0, 2, 0, &[WSTOP], BUSY),
+        // neither stopped nor directed; then directed, and the directive is over
+        Step::Write(0, 0, &[RUN, 0], BUSY),
+        Step::Write(0, 0, &[DSTOP], Said::Used(8)),
+        Step::Write(0, 0, &[RUN, 0], Said::Used(16)),
+        Step::Turn(Did::Entered(GETPID)),
+        // of a write the first message is handled; the rest, sent in the next call, spells none
+        Step::Write(0, 0, &[DSTOP, RUN], Said::Used(8)),
+        Step::Write(0, 0, &[RUN], INVAL),
+        Step::Turn(Did::Stopped),
+        Step::Write(0, 0, &[RUN, 0], Said::Used(16)),
+    ];
+    play(&rt, alloc, &mut kern, &steps)?;
+    let steps = [
+        Step::Turn(Did::Made(GETPID, Res::Value(1))),
+        Step::Turn(Did::Returned(GETPID)),
+        Step::Turn(Did::Ran),
+        Step::Turn(Did::Entered(Sysno::Exit)),
+        Step::Turn(Did::Made(Sysno::Exit, Res::Ended)),
+        // what has ended is not found, and that before its bytes are looked at
+        Step::Write(0, 0, &[99], NOENT),
+        Step::Wait(0, 0, 0, &[99], NOENT),
+        Step::Read(0, (1, 0, 8), NOENT),
+        Step::Open(0, CTL, NOENT),
+        Step::Open(0, (1, 0, File::Psinfo, Mode::Read), Said::Handle(3)),
+    ];
+    play(&rt, alloc, &mut kern, &steps)?;
     Ok(())
 }
 
@@ -263,19 +327,31 @@ fn messages_are_refused(rt: HostRuntime) -> Result<(), Fail> {
 fn a_wait_ends_with_its_time(rt: HostRuntime) -> Result<(), Fail> {
     let alloc = rt.alloc();
     let mut kern = kernel_of(alloc, 9)?;
-    make(&rt, &mut kern, 0, open_of(1, 0, File::Ctl, Mode::Write), Said::Handle(0))?;
-    assert!(rt; kern.clock() < 1);
-    assert!(rt; kern.entries() < kern.places());
-    kern.tick();
-    make(&rt, &mut kern, 0, control_of(alloc, 0, &[TWSTOP, 1])?, Said::Half(2))?;
-    assert!(rt; !kern.ready(0, &wait_of(alloc, 0, 2, &[TWSTOP, 1])?));
-    // no end is set by 0
-    assert!(rt; !kern.ready(0, &wait_of(alloc, 0, 0, &[STOP])?));
+    assert_eq!(rt; last_said(&kern), Said::Other, "no entry yet");
+    let steps = [
+        Step::Open(0, CTL, Said::Handle(0)),
+        Step::Tick(1),
+        Step::Write(0, 0, &[TWSTOP, 1], Said::Half(2)),
+    ];
+    play(&rt, alloc, &mut kern, &steps)?;
+    // a wait goes on before its end, and where 0 sets none
+    for until in [0, 2] {
+        let wait = Call::CtlWait {
+            handle: 0,
+            until,
+            bytes: spelt(alloc, &[TWSTOP, 1])?,
+        };
+        assert!(rt; !kern.ready(0, &wait), "until {until}");
+    }
     assert!(rt; !kern.ready(0, &Call::List), "not built yet");
-    assert!(rt; kern.clock() < 2);
-    assert!(rt; kern.entries() < kern.places());
-    kern.tick();
-    assert_eq!(rt; kern.clock(), 2);
-    make(&rt, &mut kern, 0, wait_of(alloc, 0, 2, &[TWSTOP, 1])?, Said::Used(16))?;
+    let steps = [
+        Step::Tick(2),
+        Step::Wait(0, 0, 2, &[TWSTOP, 1], Said::Used(16)),
+    ];
+    play(&rt, alloc, &mut kern, &steps)?;
+    assert!(rt; !kern.sleeper());
+    assert_eq!(rt; kern.programs().len(), 1);
+    assert_eq!(rt; kern.history().len(), 5);
+    assert_eq!(rt; kern.into_history().len(), 5);
     Ok(())
 }
