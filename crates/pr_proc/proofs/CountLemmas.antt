@@ -1,6 +1,6 @@
-use Rattle.std.proofs.Common.{◌≡◌, ℕ, ◌≤◌, Bool, false, eqb, cond, Option, Some, None, List, [], ◌∷◌, refl, sym, subst, inl, inr, arith}
-use Rattle.std.specs.List.{All, find, slice_get}
-use Rattle.std.proofs.lemmas.Bool.{cases_Bool}
+use Rattle.std.proofs.Common.{◌≡◌, ℕ, ◌-◌, ◌^◌, ◌≤◌, ◌&&◌, ltb, Bool, true, false, eqb, cond, Option, Some, None, List, [], ◌∷◌, refl, sym, subst, inl, inr, arith}
+use Rattle.std.specs.List.{All, find, slice_get, list_all}
+use Rattle.std.proofs.lemmas.Bool.{cases_Bool, ltb-true}
 use Rattle.std.proofs.lemmas.Option.{same_Some}
 use Rattle.std.proofs.lemmas.List.Elements.{All-nil, All-cons, All-head, All-tail, All-map, All-push, All-weaker}
 use Rattle.pr_num.proofs.TableLaws.{All-change_first}
@@ -12,7 +12,7 @@ use Rattle.pr_model.specs.Lives.{bare_process, new_process, zombie, orphaned, to
 use Rattle.pr_model.specs.FirstState.{system_process, bare_system, spawned_at, with_spawns, first_system}
 use Rattle.pr_model.specs.Handles.{released}
 use Rattle.pr_model.specs.declared.processes.Usage.{Usage}
-use Rattle.pr_proc.specs.Counts.{UsedAtMost, AllUsedAtMost}
+use Rattle.pr_proc.specs.Counts.{UsedAtMost, AllUsedAtMost, has_one_more}
 use Rattle.pr_proc.proofs.LifeLemmas.{live_process-found}
 
 -- Of counts of use: what bounds them, and what changes leave them.
@@ -106,4 +106,35 @@ pub released-usage : (p : TracedProcess) → (released p).usage ≡ p.usage
 unfolding released
 released-usage p = refl
 
-pub ruleset count_laws = (AllUsedAtMost-more, AllUsedAtMost-live, AllUsedAtMost-with_process, AllUsedAtMost-with_ended, AllUsedAtMost-with_spawned, AllUsedAtMost-first_system, released-usage)
+-- ---- where one more can be added
+
+both : (a b : Bool) → (a && b) ≡ true → (a ≡ true) × (b ≡ true)
+both true b e = (refl, e)
+both false b e = absurd (cc)
+
+below : (a b : ℕ) → ltb a (b - 1) ≡ true → a ≤ b - 2
+below a b e = let h = ltb-true a (b - 1) e in omega arith
+
+UsedAtMost-one_more : (p : TracedProcess) → has_one_more p ≡ true → UsedAtMost (2 ^ 64 - 2) p.usage
+unfolding has_one_more
+UsedAtMost-one_more p room =
+    let last = both _ _ room in
+    let third = both _ _ last.0 in
+    let second = both _ _ third.0 in
+    record {
+      calls = below p.usage.calls (2 ^ 64) second.0;
+      signals = below p.usage.signals (2 ^ 64) second.1;
+      faults = below p.usage.faults (2 ^ 64) third.1;
+      instructions = below p.usage.instructions (2 ^ 64) last.1;
+    }
+
+all_one_more : (ps : List TracedProcess) → list_all has_one_more ps ≡ true → All (Within (2 ^ 64 - 2)) ps
+all_one_more [] room = All-nil (Within (2 ^ 64 - 2))
+all_one_more (p ∷ ps) room =
+    let tests = both (has_one_more p) (list_all has_one_more ps) room in
+    All-cons (Within (2 ^ 64 - 2)) p ps (UsedAtMost-one_more p tests.0) (all_one_more ps tests.1)
+
+pub AllUsedAtMost-one_more : (s : TracedSystem) → list_all has_one_more s.processes ≡ true → AllUsedAtMost (2 ^ 64 - 2) s
+AllUsedAtMost-one_more s room = record { each = all_one_more s.processes room }
+
+pub ruleset count_laws = (AllUsedAtMost-one_more, AllUsedAtMost-more, AllUsedAtMost-live, AllUsedAtMost-with_process, AllUsedAtMost-with_ended, AllUsedAtMost-with_spawned, AllUsedAtMost-first_system, released-usage)

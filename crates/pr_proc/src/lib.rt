@@ -1,6 +1,7 @@
 //! Processes: the system as the kernel keeps it, and how processes begin and end.
 #![tactic(auto)]
 
+mod counts;
 mod ends;
 mod files;
 mod first;
@@ -10,10 +11,14 @@ mod spaces;
 mod spawns;
 mod systems;
 
+pub use counts::has_room;
 pub use ends::end;
 pub use files::Files;
 pub use first::first_system;
 pub use order::next_lwp;
 pub use releases::release;
 pub use spawns::spawn;
-pub use systems::{Fds, Proc, Sys, live};
+pub use systems::{Fds, Proc, Sys, has_agent, live};
+
+#[cfg(test)]
+mod tests;

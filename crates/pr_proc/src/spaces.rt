@@ -79,7 +79,7 @@ fn read_write() -> Prot
 /// The space in which a program begins: its text, readable and executable, its data and a stack, both readable and
 /// writable, each a multiple of 4,096 bytes.
 #[tactic(auto, using(crate::proofs::SpaceLemmas::first_space_parts))]
-pub fn first_space(program: &Program, alloc: Global) -> Result<Table<Mapping>, NoMemory>
+pub(crate) fn first_space(program: &Program, alloc: Global) -> Result<Table<Mapping>, NoMemory>
     ensures { IfOk result (λ space. space ≡ first_space program.now) }
 {
     let mut space = Table::new(alloc);

@@ -1,11 +1,12 @@
 ghost use Rattle.std.specs.Prelude.{◌≡◌};
 ghost use Rattle.std.specs.Option.{option_copied};
+ghost use Rattle.pr_model.specs.Lwps.{has_agent};
 ghost use Rattle.pr_model.specs.State.{live_process};
 
 use crate::Files;
 use pr_asm::Program;
 use pr_model::{Process, System};
-use pr_num::{Area, Mapping, SigSet, Table};
+use pr_num::{AGENT, Area, Mapping, SigSet, Table};
 
 /// A process's 64 places for descriptors, each the place of an open file.
 pub type Fds = [Option<u32>; 64];
@@ -26,4 +27,11 @@ pub fn live(sys: &Sys, pid: u32) -> Option<&Proc>
         return None;
     }
     Some(process)
+}
+
+/// Whether a process has an agent.
+pub fn has_agent(process: &Proc) -> bool
+    ensures { result ≡ has_agent process.now }
+{
+    process.lwps.contains(AGENT)
 }

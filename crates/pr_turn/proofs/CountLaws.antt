@@ -1,4 +1,4 @@
-use Rattle.std.proofs.Common.{◌≡◌, ℕ, ◌+◌, ◌≤◌, Bool, true, false, cond, Option, Some, None, is_some, List, [], ◌∷◌, refl, sym, ap, ◌∙◌, subst, inl, inr, arith}
+use Rattle.std.proofs.Common.{◌≡◌, ℕ, ◌+◌, ◌≤◌, Bool, true, false, Option, Some, None, is_some, List, [], ◌∷◌, refl, sym, ap, ◌∙◌, subst, inl, inr, arith}
 use Rattle.std.specs.List.{All}
 use Rattle.std.proofs.lemmas.Bool.{cases_Bool}
 use Rattle.std.proofs.lemmas.List.Elements.{All-nil, All-cons, All-head, All-tail, All-weaker}
@@ -6,17 +6,17 @@ use Rattle.pr_num.specs.KeyedTables.{change_first}
 use Rattle.pr_model.specs.Lwps.{is_process}
 use Rattle.pr_model.specs.State.{TracedSystem, TracedProcess, TracedLwp, with_process}
 use Rattle.pr_model.specs.Turns.{counted, calls_in, signals_in, faults_in, instructions_in}
-use Rattle.pr_model.specs.LwpTurns.{LwpTurn, rest_made, after_meeting, with_row, ending, ended_if, settled, turn_of, can_move}
+use Rattle.pr_model.specs.LwpTurns.{LwpTurn, rest_made, with_row, ending, ended_if, settled, turn_of}
 use Rattle.pr_model.specs.declared.effects.Rowed.{Rowed}
 use Rattle.pr_model.specs.declared.effects.TurnRow.{TurnRow}
 use Rattle.pr_model.specs.declared.events.Did.{Did}
-use Rattle.pr_model.specs.declared.events.Did.TheVariants.{Stopped, Ran, Entered, Made, Slept, Woke, Returned, Faulted, Posted, Took, Acted}
+use Rattle.pr_model.specs.declared.events.Did.TheVariants.{Made, Woke, Faulted, Took}
 use Rattle.pr_model.specs.declared.events.Turned.{Turned}
 use Rattle.pr_model.specs.declared.processes.Usage.{Usage}
 use Rattle.pr_proc.specs.Counts.{UsedAtMost, AllUsedAtMost}
 use Rattle.pr_proc.proofs.CountLemmas.{UsedAtMost-more, AllUsedAtMost-with_ended}
 use Rattle.pr_turn.specs.NextRows.{next_row_of}
-use Rattle.pr_turn.proofs.TurnLemmas.{HasRow, has_row, turn_of-row, can_move-next_row, after_meeting-keeps_usage}
+use Rattle.pr_turn.proofs.TurnLemmas.{has_row, turn_of-row, can_move-next_row, after_meeting-keeps_usage}
 
 -- A turn adds at most 1 to each count of what a process has used.
 
@@ -91,4 +91,4 @@ AllUsedAtMost-turn_of n s e pid id turned made h = of (next_row_of s pid id) ref
         let same : t ≡ settled s has.process has.lwp row = same_turn t (settled s has.process has.lwp row) (made ∙ turn_of-row s pid id row has) in
         subst (AllUsedAtMost (n + 1)) (sym (ap (λ (u : LwpTurn). u.system) same)) (AllUsedAtMost-settled n s has.process has.lwp row h)
 
-pub ruleset turn_count_laws = (AllUsedAtMost-turn_of, AllUsedAtMost-turn_of)
+pub ruleset turn_count_laws = (AllUsedAtMost-turn_of)

@@ -15,4 +15,4 @@ register_number-lt R5 = omega arith
 register_number-lt R6 = omega arith
 register_number-lt R7 = omega arith
 
-pub ruleset effect_laws = (register_number-lt, register_number-lt)
+pub ruleset effect_laws = (register_number-lt)

@@ -15,3 +15,6 @@ pub use rows::{
 };
 pub use tables::{is_kept, row_for};
 pub use turns::{movable, turn};
+
+#[cfg(test)]
+mod tests;

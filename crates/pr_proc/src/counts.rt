@@ -1,0 +1,33 @@
+//! Counts of what processes have used.
+ghost use Rattle.std.specs.Prelude.{◌≡◌, ◌-◌, ◌^◌, true};
+ghost use Rattle.std.specs.List.{list_all};
+ghost use Rattle.pr_proc.specs.Counts.{has_one_more, AllUsedAtMost};
+
+use crate::{Proc, Sys};
+
+/// Whether one more can be added to each count of what a process has used.
+#[tactic(auto, unfolding(crate::specs::Counts::has_one_more))]
+fn has_one_more(process: &Proc) -> bool
+    ensures { result ≡ has_one_more process.now }
+{
+    let usage = process.usage;
+    usage.calls < u64::MAX
+        && usage.signals < u64::MAX
+        && usage.faults < u64::MAX
+        && usage.instructions < u64::MAX
+}
+
+fn have_one_more(processes: &[Proc]) -> bool
+    ensures { result ≡ list_all has_one_more processes.now }
+{
+    processes.iter().all(|process| has_one_more(process))
+}
+
+/// Whether one more can be added to each count of what processes have used, as a turn does.
+#[tactic(auto, using(crate::proofs::CountLemmas::count_laws))]
+pub fn has_room(sys: &Sys) -> bool
+    ensures value { result ≡ list_all has_one_more sys.now.processes }
+    ensures room { result ≡ true → AllUsedAtMost (2 ^ 64 - 2) sys.now }
+{
+    have_one_more(sys.processes.as_slice())
+}
