@@ -5,4 +5,5 @@ pub mod OrderLemmas
 pub mod PlaceLemmas
 pub mod SoundLemmas
 pub mod StartLemmas
+pub mod StepLemmas
 pub mod TurnedLemmas

@@ -4,3 +4,4 @@ pub mod Plans
 pub mod Runs
 pub mod Soundness
 pub mod Starts
+pub mod Steps

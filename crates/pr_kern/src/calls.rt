@@ -7,8 +7,11 @@ ghost use Rattle.pr_model.specs.Legal.{clock_limit};
 ghost use Rattle.pr_kern.specs.Kernels.{takes_no_memory};
 ghost use Rattle.pr_kern.specs.Soundness.{HaveSmallHeaps};
 
-use crate::opens::is_control;
-use crate::{Machine, Places, carry_out, close, open, part_read, plan, status_words, wait_reply};
+use crate::closes::close;
+use crate::messages::{control, control_wait, plan};
+use crate::opens::{is_control, open};
+use crate::records::{part_read, status_words};
+use crate::{Machine, Places};
 use pr_model::{Call, File, Held, Reply};
 use pr_num::{Errno, NoMemory};
 use pr_proc::live;
@@ -17,13 +20,12 @@ use std::alloc::Global;
 /// The longest read, in bytes.
 const LONGEST_READ: u64 = 16_384;
 
-/// Handles the first control message of a write, or refuses it; `None`: it is not built yet. Takes no memory.
-fn control(state: &mut Machine, by: u32, handle: u32, bytes: &[u8]) -> Option<Reply>
+/// Handles the first control message of a write; `None`: it is not built yet.
+fn write(state: &mut Machine, by: u32, handle: u32, bytes: &[u8]) -> Option<Reply>
     requires { state.old.system.clock ≤ clock_limit }
     ensures { option_map (λ reply. record { state = state.new; reply = reply }) result ≡ option_map (controlled state.old) (control_answer state.old.system state.old.opens by handle bytes.now) }
 {
-    let plan = plan(&state.system, &state.opens, by, handle, bytes)?;
-    Some(carry_out(&mut state.system, plan))
+    control(&mut state.system, &state.opens, by, handle, bytes)
 }
 
 /// Whether a controller was interrupted and has not seen it yet.
@@ -41,7 +43,7 @@ fn wait(state: &mut Machine, by: u32, handle: u32, until: u64, bytes: &[u8]) -> 
     ensures { option_map (λ reply. record { state = state.new; reply = reply }) result ≡ option_map (waited state.old by) (wait_reply state.old.system state.old.opens by handle until (is_interrupted state.old by) bytes.now) }
 {
     let interrupted = is_interrupted(state, by);
-    let reply = wait_reply(
+    let reply = control_wait(
         &state.system,
         &state.opens,
         by,
@@ -50,6 +52,7 @@ fn wait(state: &mut Machine, by: u32, handle: u32, until: u64, bytes: &[u8]) -> 
         interrupted,
         bytes,
     )?;
+    // only an interrupted wait gets EINTR, so that its bit is set
     if let Reply::Fail(Errno::Intr) = reply {
         state.interrupted = state.interrupted.saturating_sub(1 << by);
     }
@@ -61,7 +64,11 @@ fn readable(places: &Places, by: u32, handle: u32) -> Option<Held>
     ensures { result ≡ readable (handle_of places.now by handle) }
 {
     let held = places.own(by, handle)?;
-    if is_control(held.file) { None } else { Some(held) }
+    if is_control(held.file) {
+        None
+    } else {
+        Some(held)
+    }
 }
 
 /// Whether a read of so many bytes is refused for its length.
@@ -126,7 +133,7 @@ pub fn ready(state: &Machine, by: u32, call: &Call) -> bool
             handle,
             until,
             bytes,
-        } => wait_reply(
+        } => control_wait(
             &state.system,
             &state.opens,
             by,
@@ -144,12 +151,7 @@ pub fn ready(state: &Machine, by: u32, call: &Call) -> bool
 /// Answers a call that is ready. Opening, closing, control messages and their waits take no memory; where memory runs out,
 /// the state is as it was.
 #[tactic(auto, unfolding(pr_model::specs::Calls::answer_to))]
-pub fn answer(
-    state: &mut Machine,
-    alloc: Global,
-    by: u32,
-    call: &Call,
-) -> Result<Reply, NoMemory>
+pub fn answer(state: &mut Machine, alloc: Global, by: u32, call: &Call) -> Result<Reply, NoMemory>
     requires by { by < 64 }
     requires clock { state.old.system.clock ≤ clock_limit }
     requires heaps { HaveSmallHeaps state.old.system }
@@ -175,9 +177,7 @@ pub fn answer(
             },
         )),
         Call::Close { handle } => Ok(close(state, by, *handle)),
-        Call::Ctl { handle, bytes } => {
-            Ok(control(state, by, *handle, bytes.as_slice()).unwrap())
-        }
+        Call::Ctl { handle, bytes } => { Ok(write(state, by, *handle, bytes.as_slice()).unwrap()) }
         Call::CtlWait {
             handle,
             until,

@@ -8,7 +8,11 @@ ghost use Rattle.pr_model.specs.LwpTurns.{can_move};
 ghost use Rattle.pr_kern.specs.Orders.{next_of};
 ghost use Rattle.pr_kern.specs.Starts.{stored};
 
-use crate::{Machine, answer, first_machine, next_movable, ready, some_sleeper};
+use crate::Machine;
+use crate::calls::{answer, ready};
+use crate::sleepers::some_sleeper;
+use crate::starts::first_machine;
+use crate::turns::next_movable;
 use pr_asm::Program;
 use pr_model::{Act, Actor, Call, Entry, History, Reply, Turned};
 use pr_num::{Bytes, Name, NoMemory};

@@ -4,6 +4,7 @@
 mod calls;
 mod closes;
 mod kernels;
+mod laws;
 mod messages;
 mod opens;
 mod places;
@@ -14,19 +15,18 @@ mod sleepers;
 mod starts;
 mod turns;
 
-pub use calls::{answer, ready};
 pub use closes::close;
 pub use kernels::Kern;
-pub use messages::{carry_out, control_handle, plan, wait_reply};
-pub use opens::{conflicts, fits_file, has_file, is_control, is_of_lwp, is_writable, open};
+pub use laws::made_entries_are_legal;
+pub use messages::{control, control_wait};
+pub use opens::open;
 pub use places::Places;
-pub use plans::Plan;
 pub use records::{part_read, status_words};
 pub use running::{run, run_refused};
-pub use sleepers::some_sleeper;
-pub use starts::first_machine;
-pub use turns::next_movable;
 
 /// The state that a machine is in: the system, the open handles, and the interrupted controllers. Contracts see it as
 /// the traced state of the definitions.
 pub type Machine = pr_model::State<pr_proc::Sys, Places>;
+
+#[cfg(test)]
+mod tests;

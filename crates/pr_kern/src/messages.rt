@@ -1,5 +1,5 @@
 //! Control messages (proc(4), "CONTROL MESSAGES"): what the first message of a write does, and waiting.
-ghost use Rattle.std.specs.Prelude.{◌≡◌, ◌==◌, ◌≤◌, ◌+◌, ◌^◌, ◌<◌, None, option_map, IfOk};
+ghost use Rattle.std.specs.Prelude.{◌≡◌, ◌==◌, ◌≤◌, ◌+◌, ◌^◌, ◌<◌, None, option_map, IfNone, IfOk};
 ghost use Rattle.std.specs.Option.{option_copied};
 ghost use Rattle.pr_num.specs.Messages.{bad_operand, first_message};
 ghost use Rattle.pr_model.specs.Legal.{clock_limit};
@@ -9,8 +9,10 @@ ghost use Rattle.pr_model.specs.Running.{with_run};
 ghost use Rattle.pr_model.specs.State.{with_process};
 ghost use Rattle.pr_kern.specs.Plans.{carried_out};
 
+use crate::Places;
 use crate::opens::{is_control, is_of_lwp};
-use crate::{Places, Plan, run, run_refused};
+use crate::plans::Plan;
+use crate::running::{run, run_refused};
 use pr_model::{Held, Reply};
 use pr_msg::decode_one;
 use pr_num::{Errno, Message, MsgFault};
@@ -18,11 +20,15 @@ use pr_proc::{Proc, Sys, live};
 use pr_stop::{direct, direct_all, is_stopped};
 
 /// The handle of a number, if this controller has it open and it takes control messages.
-pub fn control_handle(places: &Places, by: u32, handle: u32) -> Option<Held>
+fn control_handle(places: &Places, by: u32, handle: u32) -> Option<Held>
     ensures { result ≡ control_handle (handle_of places.now by handle) }
 {
     let held = places.own(by, handle)?;
-    if is_control(held.file) { Some(held) } else { None }
+    if is_control(held.file) {
+        Some(held)
+    } else {
+        None
+    }
 }
 
 /// The process that a control handle acts on: `None` once its process, or for a file of one lwp that lwp, has ended.
@@ -155,9 +161,7 @@ fn plan_first(sys: &Sys, held: Held, process: &Proc, bytes: &[u8]) -> Option<Pla
     plan_message(sys, held, process, message, length as u64)
 }
 
-/// What a write of control messages by a controller does, of which the first is handled. The refusals come in the order:
-/// EBADF, ENOENT, EINVAL for bytes that begin with no message, process 0, the message's own. `None`: the message is not
-/// built yet. Takes no memory.
+/// What the first control message of a write by a controller does; `None`: it is not built yet. Takes no memory.
 #[tactic(auto, unfolding(pr_model::specs::ControlMessages::control_answer, crate::specs::Plans::carried_out))]
 pub fn plan(sys: &Sys, places: &Places, by: u32, handle: u32, bytes: &[u8]) -> Option<Plan>
     requires { sys.now.clock ≤ clock_limit }
@@ -192,9 +196,9 @@ fn run_process(sys: &mut Sys, pid: u32)
     }
 }
 
-/// Does what was planned, and gives the reply. Takes no memory.
+/// Does what was planned, and gives the reply.
 #[tactic(auto, unfolding(crate::specs::Plans::carried_out))]
-pub fn carry_out(sys: &mut Sys, plan: Plan) -> Reply
+fn carry_out(sys: &mut Sys, plan: Plan) -> Reply
     ensures { (record { system = sys.new; reply = result }) ≡ carried_out sys.old plan }
 {
     match plan {
@@ -209,6 +213,18 @@ pub fn carry_out(sys: &mut Sys, plan: Plan) -> Reply
             Reply::Used(length)
         }
     }
+}
+
+/// Handles the first control message of a write by a controller, or refuses it: EBADF, ENOENT, EINVAL for bytes that begin
+/// with no message, and what process 0 and the message itself refuse, in this order. `None`: the message is not built yet,
+/// and nothing changes. Takes no memory.
+pub fn control(sys: &mut Sys, places: &Places, by: u32, handle: u32, bytes: &[u8]) -> Option<Reply>
+    requires { sys.old.clock ≤ clock_limit }
+    ensures answer { option_map (λ reply. record { system = sys.new; reply = reply }) result ≡ control_answer sys.old places.now by handle bytes.now }
+    ensures not_built { IfNone result (sys.new ≡ sys.old) }
+{
+    let plan = plan(sys, places, by, handle, bytes)?;
+    Some(carry_out(sys, plan))
 }
 
 /// Whether a message waits.
@@ -255,7 +271,7 @@ fn waiting_reply(
 /// which the wait ends in any case, 0 for no end. The refusals come in the order: EBADF, ENOENT, EINVAL for bytes that
 /// begin with no message that waits, process 0, EINTR. `None`: the wait goes on. Takes no memory.
 #[tactic(auto, unfolding(pr_model::specs::ControlMessages::wait_reply))]
-pub fn wait_reply(
+pub fn control_wait(
     sys: &Sys,
     places: &Places,
     by: u32,

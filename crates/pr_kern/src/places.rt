@@ -103,7 +103,9 @@ impl Places {
     pub fn has_exclusive_writer(&self, pid: u32) -> bool
         ensures { result ≡ has_exclusive_writer pid self.now }
     {
-        self.items.iter().any(|place| is_exclusive_writer(pid, place))
+        self.items
+            .iter()
+            .any(|place| is_exclusive_writer(pid, place))
     }
 
     /// Puts a handle, or none, at a place.

@@ -13,10 +13,15 @@ use std::alloc::Global;
 
 /// An lwp's flags: it is stopped, on an event of interest, directed to stop, to step, asleep in a call, the agent.
 const STOPPED: u64 = 1;
+
 const ISTOP: u64 = 2;
+
 const DSTOP: u64 = 4;
+
 const STEP: u64 = 8;
+
 const ASLEEP: u64 = 16;
+
 const IS_AGENT: u64 = 32;
 
 /// Beside the modes of a process: it is the system process.
@@ -163,11 +168,7 @@ fn disposition_word(dispositions: &[u64; 31], signal: Option<Sig>) -> u64
 
 /// Adds the 30 words of an lwp's status.
 #[tactic(auto, unfolding(pr_model::specs::StatusRecords::lwpstatus_words))]
-fn add_lwp_status(
-    words: &mut Vec<u64>,
-    process: &Proc,
-    lwp: &Lwp<SigSet>,
-) -> Result<(), NoMemory>
+fn add_lwp_status(words: &mut Vec<u64>, process: &Proc, lwp: &Lwp<SigSet>) -> Result<(), NoMemory>
     ensures { OnOk result (words.new.items ≡ words.old.items ++ lwpstatus_words process.now lwp.now) }
 {
     let shows = shown(process.job_stop, lwp);

@@ -60,11 +60,7 @@ fn next_in(sys: &Sys, process: &Proc, after: Option<(u32, u32)>) -> Option<(u32,
 }
 
 #[tactic(auto, using(pr_proc::proofs::OrderLemmas::order_laws))]
-fn next_among(
-    sys: &Sys,
-    processes: &[Proc],
-    after: Option<(u32, u32)>,
-) -> Option<(u32, u32)>
+fn next_among(sys: &Sys, processes: &[Proc], after: Option<(u32, u32)>) -> Option<(u32, u32)>
     ensures { result ≡ find (moves_after sys.now after) (flat_map lwps_in processes.now) }
 {
     for process in processes {
