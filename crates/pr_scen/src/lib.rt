@@ -24,3 +24,6 @@ pub use refusals::{ScenFault, ScenKind, ScenRefusal};
 pub use scenarios::{Lines, Scenario};
 pub use script_lines::ScriptLine;
 pub use scripts::Script;
+
+#[cfg(test)]
+mod tests;
