@@ -70,7 +70,7 @@ nothing_said inside.Script ended d [] h = refl
 nothing_said inside.Script ended d (first ∷ others) h =
     let e = is_comment (begins_comment first) h in ap (λ b. cond b (Ok in_script.Blank) (script_line_with first others) >>= with_script_line d) e
 
-words_nothing : (ended : Bool) (d : Draft) (row : List (List ℕ)) → means_something row ≡ false → with_words ended d row ≡ Ok d
+pub words_nothing : (ended : Bool) (d : Draft) (row : List (List ℕ)) → means_something row ≡ false → with_words ended d row ≡ Ok d
 unfolding with_words
 words_nothing ended d row h = nothing_said d.inside ended d row h
 
@@ -82,7 +82,7 @@ no_end (first ∷ others) h = not_end first (is_comment (begins_comment first) h
 -- ---- rows alone
 
 -- what the words of more lines make of what was read so far, where all these lines mean something
-pub with_rows : Draft → List (List (List ℕ)) → Result Draft ScenKind
+unfoldable pub with_rows : Draft → List (List (List ℕ)) → Result Draft ScenKind
 with_rows d [] = Ok d
 with_rows d (row ∷ below) = with_words (list_any ends_block below) d row >>= λ e. with_rows e below
 
@@ -90,7 +90,7 @@ ends_once_more : (line : List ℕ) (lines : List (List ℕ)) (b : Bool) → mean
 ends_once_more line lines true e below = ap (λ v. ends_block (texts_of line) || v) below
 ends_once_more line lines false e below = ap (λ v. v || list_any is_end lines) (no_end (texts_of line) e) ∙ below
 
-ends_same : (lines : List (List ℕ)) → list_any is_end lines ≡ list_any ends_block (rows_of lines)
+pub ends_same : (lines : List (List ℕ)) → list_any is_end lines ≡ list_any ends_block (rows_of lines)
 unfolding rows_of is_end
 ends_same [] = refl
 ends_same (line ∷ lines) = ends_once_more line lines (means_something (texts_of line)) refl (ends_same lines)
@@ -104,7 +104,7 @@ lines_go_on : (n : ℕ) (d e : Draft) (line : List ℕ) (below : List (List ℕ)
 unfolding with_lines
 lines_go_on n d e line below r added rest = ap (λ x. numbered n x >>= (λ y. with_lines (n + 1) y below)) added ∙ rest
 
-same_Ok : (x y : Draft) → (let r : Result Draft ScenKind = Ok x in r) ≡ Ok y → x ≡ y
+pub same_Ok : (x y : Draft) → (let r : Result Draft ScenKind = Ok x in r) ≡ Ok y → x ≡ y
 same_Ok x y h = cc
 
 module _ (n : ℕ) (d : Draft) (line : List ℕ) (lines : List (List ℕ)) (e : Draft) (readable : is_readable line ≡ true) (on : (f : Draft) → with_rows f (rows_of lines) ≡ Ok e → with_lines (n + 1) f lines ≡ Ok e) where
@@ -132,10 +132,10 @@ abbrev pub between : Option ℕ → List Program → List ℕ → List (List Scr
 between t ps ss cs k = record { turns = t; programs = ps; spawns = ss; scripts = cs; inside = inside.Outside; code = []; lines = []; opens = k }
 
 module _ (t : Option ℕ) (ps : List Program) (ss : List ℕ) (cs : List (List ScriptLine)) where
-  in_code : List ℕ → List Instruction → ℕ → Draft
+  unfoldable pub in_code : List ℕ → List Instruction → ℕ → Draft
   in_code name code k = record { turns = t; programs = ps; spawns = ss; scripts = cs; inside = inside.Program name; code = code; lines = []; opens = k }
 
-  in_calls : List ScriptLine → ℕ → Draft
+  unfoldable pub in_calls : List ScriptLine → ℕ → Draft
   in_calls lines k = record { turns = t; programs = ps; spawns = ss; scripts = cs; inside = inside.Script; code = []; lines = lines; opens = k }
 
 -- one row goes on
@@ -232,7 +232,7 @@ record Leads (d e : Draft) (front : List (List (List ℕ))) : Type 0 where
   reads : (rest : List (List (List ℕ))) → with_rows d (front ++ rest) ≡ with_rows e rest
   ends : IsBetween e
 
-tested : (b : Bool) (x e : Draft) → cond b (Ok x) (Err NotBuilt) ≡ Ok e → (b ≡ true) × (x ≡ e)
+pub tested : (b : Bool) (x e : Draft) → cond b (Ok x) (Err NotBuilt) ≡ Ok e → (b ≡ true) × (x ≡ e)
 tested true x e h = (refl, same_Ok x e h)
 tested false x e h = cc
 

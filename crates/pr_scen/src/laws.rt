@@ -29,7 +29,9 @@ pub fn scripts_write_built_messages()
     ensures written { (s : ScriptState) (c : Call) → IsBuiltScript s → next_call_of s ≡ Some c → WritesBuilt c }
 {}
 
-/// A text whose lines spell a scenario is read as it.
+/// A text is read as a scenario exactly where its lines spell it: each can be read, those that mean something are parts one
+/// behind the other, a line or a block each, and the parts make the scenario.
 pub fn what_spells_a_scenario_is_read()
     ensures read { (text : List ℕ) (s : Scenario) → SpellScenario (lines_of text) s → scenario_of text ≡ Ok s }
+    ensures spelt { (text : List ℕ) (s : Scenario) → scenario_of text ≡ Ok s → SpellScenario (lines_of text) s }
 {}
