@@ -1,2 +1,7 @@
+pub mod BuiltLemmas
+pub mod ConverseLemmas
 pub mod FaultLemmas
+pub mod GrammarLemmas
 pub mod LineLemmas
+pub mod ReadLemmas
+pub mod SaidLemmas

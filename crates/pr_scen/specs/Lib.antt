@@ -1,7 +1,9 @@
 pub mod Bindings
+pub mod BuiltScripts
 pub mod Codes
 pub mod Drafts
 pub mod Faults
+pub mod Grammar
 pub mod Items
 pub mod Parts
 pub mod ProgramBlocks

@@ -17,10 +17,13 @@ mod script_lines;
 mod scripts;
 
 pub use bindings::Binding;
-pub use laws::a_refusal_names_the_first_line;
+pub use laws::{a_refusal_names_the_first_line, scripts_write_built_messages, what_spells_a_scenario_is_read};
 pub use listings::Listed;
 pub use reading::read_scenario;
 pub use refusals::{ScenFault, ScenKind, ScenRefusal};
 pub use scenarios::{Lines, Scenario};
 pub use script_lines::ScriptLine;
 pub use scripts::Script;
+
+#[cfg(test)]
+mod tests;
