@@ -299,40 +299,35 @@ fn writes_each_form_of_call(rt: HostRuntime) -> Result<(), Fail> {
 
 #[test]
 fn writes_each_form_of_plain_call(rt: HostRuntime) -> Result<(), Fail> {
+    let alloc = rt.alloc();
     let program = Name::from_slice(b"a.b-c_9").ok_or("no name")?;
-    let kill = Call::Kill { pid: 2, sig: 9 };
-    let spawn = Call::Spawn {
-        program,
-        held: false,
-    };
-    let held = Call::Spawn {
-        program,
-        held: true,
-    };
-    let last = Call::Close { handle: u32::MAX };
-    for (what, reply, line) in [
-        (
-            last,
-            Reply::Fail(Errno::Badf),
-            "7 c1 close 4294967295 -> fail EBADF\n",
-        ),
-        (
-            Call::Interrupt { controller: 10 },
-            Reply::Done,
-            "7 c1 interrupt 10 -> done\n",
-        ),
-        (spawn, Reply::Pid(2), "7 c1 spawn a.b-c_9 -> pid 2\n"),
-        (held, Reply::Pid(3), "7 c1 spawn a.b-c_9 held -> pid 3\n"),
-        (kill, Reply::Done, "7 c1 kill 2 9 -> done\n"),
-        (
-            Call::Until { moment: 100 },
-            Reply::Done,
-            "7 c1 until 100 -> done\n",
-        ),
-        (Call::List, Reply::Done, "7 c1 list -> done\n"),
+    let close = Call::Close { handle: u32::MAX };
+    let line = "7 c1 close 4294967295 -> fail EBADF\n";
+    sees(
+        &rt,
+        alloc,
+        7,
+        call(1, close, Reply::Fail(Errno::Badf)),
+        line,
+    )?;
+    let interrupt = Call::Interrupt { controller: 10 };
+    let line = "7 c1 interrupt 10 -> done\n";
+    sees(&rt, alloc, 7, call(1, interrupt, Reply::Done), line)?;
+    for (held, pid, line) in [
+        (false, 2, "7 c1 spawn a.b-c_9 -> pid 2\n"),
+        (true, 3, "7 c1 spawn a.b-c_9 held -> pid 3\n"),
     ] {
-        sees(&rt, rt.alloc(), 7, call(1, what, reply), line)?;
+        let spawn = Call::Spawn { program, held };
+        sees(&rt, alloc, 7, call(1, spawn, Reply::Pid(pid)), line)?;
     }
+    let kill = Call::Kill { pid: 2, sig: 9 };
+    let line = "7 c1 kill 2 9 -> done\n";
+    sees(&rt, alloc, 7, call(1, kill, Reply::Done), line)?;
+    let until = Call::Until { moment: 100 };
+    let line = "7 c1 until 100 -> done\n";
+    sees(&rt, alloc, 7, call(1, until, Reply::Done), line)?;
+    let line = "7 c1 list -> done\n";
+    sees(&rt, alloc, 7, call(1, Call::List, Reply::Done), line)?;
     Ok(())
 }
 
