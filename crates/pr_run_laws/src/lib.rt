@@ -1,0 +1,3 @@
+//! Laws of the runs of scenarios: what the history of a run is. Each public function carries one law in its contract, and does
+//! nothing.
+#![tactic(auto)]
