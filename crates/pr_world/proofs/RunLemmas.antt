@@ -81,4 +81,3 @@ unfolding after_moves after_next
 moves-came first zero fresh = fresh-came first fresh
 moves-came first (suc n) fresh = next-came first (after_moves n first) (next_actor (after_moves n first)) (moves-came first n fresh)
 
-pub ruleset moves = (moves-came)
