@@ -27,11 +27,9 @@ use Rattle.pr_scen.specs.declared.items.Item.{Item}
 use Rattle.pr_scen.specs.declared.items.Item.TheVariants as item
 use Rattle.pr_scen.specs.declared.program_blocks.ProgramLine.{ProgramLine}
 use Rattle.pr_scen.specs.declared.program_blocks.ProgramLine.TheVariants as in_program
-use Rattle.pr_scen.specs.declared.refusals.ScenKind.{ScenKind}
 use Rattle.pr_scen.specs.declared.refusals.ScenKind.TheVariants.{NotBuilt}
 use Rattle.pr_scen.specs.declared.script_blocks.InScript.{InScript}
 use Rattle.pr_scen.specs.declared.script_blocks.InScript.TheVariants as in_script
-use Rattle.pr_scen.specs.declared.script_lines.ScriptLine.{ScriptLine}
 
 -- ---- what a step gives has a property that each of its ways to succeed gives
 
@@ -67,14 +65,14 @@ item_some : (first : List ℕ) (operands : List (List ℕ)) (i : Item) → item_
 unfolding item_with turns_of program_of spawn_of script_of
 item_some first operands i =
     if_given SomeItem (bytes_eq first (codes "turns")) (turns_of operands) _ i
-      (behind SomeItem (one operands) _ i (λ word is. behind SomeItem (ok_or NotBuilt (number_of word)) _ i (λ n is2. if_given SomeItem (nat_le 1 n && nat_le n 100000) (Ok (item.Turns n)) (Err NotBuilt) i (given SomeItem (item.Turns n) i tt) (refused SomeItem i NotBuilt))))
-      (if_given SomeItem (bytes_eq first (codes "program")) (program_of operands) _ i
-        (behind SomeItem (one operands) _ i (λ word is. behind SomeItem (ok_or NotBuilt (name_of word)) _ i (λ name is2. given SomeItem (item.Program name) i tt)))
-        (if_given SomeItem (bytes_eq first (codes "spawn")) (spawn_of operands) _ i
-          (behind SomeItem (one operands) _ i (λ word is. behind SomeItem (ok_or NotBuilt (name_of word)) _ i (λ name is2. given SomeItem (item.Spawn name) i tt)))
-          (if_given SomeItem (bytes_eq first (codes "script")) (script_of operands) (Err NotBuilt) i
-            (behind SomeItem (none operands) _ i (λ u is. given SomeItem item.Script i tt))
-            (refused SomeItem i NotBuilt))))
+    (behind SomeItem (one operands) _ i (λ word is. behind SomeItem (ok_or NotBuilt (number_of word)) _ i (λ n is2. if_given SomeItem (nat_le 1 n && nat_le n 100000) (Ok (item.Turns n)) (Err NotBuilt) i (given SomeItem (item.Turns n) i tt) (refused SomeItem i NotBuilt))))
+    (if_given SomeItem (bytes_eq first (codes "program")) (program_of operands) _ i
+    (behind SomeItem (one operands) _ i (λ word is. behind SomeItem (ok_or NotBuilt (name_of word)) _ i (λ name is2. given SomeItem (item.Program name) i tt)))
+    (if_given SomeItem (bytes_eq first (codes "spawn")) (spawn_of operands) _ i
+    (behind SomeItem (one operands) _ i (λ word is. behind SomeItem (ok_or NotBuilt (name_of word)) _ i (λ name is2. given SomeItem (item.Spawn name) i tt)))
+    (if_given SomeItem (bytes_eq first (codes "script")) (script_of operands) (Err NotBuilt) i
+    (behind SomeItem (none operands) _ i (λ u is. given SomeItem item.Script i tt))
+    (refused SomeItem i NotBuilt))))
 
 pub item_says : (row : List (List ℕ)) (i : Item) → means_something row ≡ true → item_of row ≡ Ok i → SomeItem i
 unfolding means_something item_of

@@ -9,7 +9,7 @@ ghost use Rattle.pr_scen.specs.Reads.{Answers, LineGave};
 use crate::drafts::Draft;
 use crate::parts::is_end;
 use crate::refusals::Refused;
-use crate::{Scenario, ScenFault, ScenRefusal};
+use crate::{ScenFault, ScenRefusal, Scenario};
 use pr_num::NoMemory;
 use std::alloc::{AllocError, Global};
 

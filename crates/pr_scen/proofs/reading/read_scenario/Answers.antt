@@ -1,4 +1,4 @@
-use Rattle.std.proofs.Common.{arith, ap, ◌∙◌, length}
+use Rattle.std.proofs.Common.{arith, ap, length}
 use Rattle.std.proofs.lemmas.List.{length-map}
 use Rattle.pr_scen.proofs.LineLemmas.{bytes_of, few_lines}
 use Rattle.pr_scen.proofs.reading.read_scenario.Goals as goal
