@@ -4,6 +4,7 @@ ghost use Rattle.std.specs.List.{AllByRecursion};
 ghost use Rattle.pr_model.specs.declared.calls.Call.{Call};
 ghost use Rattle.pr_model.specs.declared.calls.Reply.{Reply};
 ghost use Rattle.pr_scen.specs.BuiltScripts.{AreBuiltLines, IsBuiltScript, TakesMessages, WritesBuilt};
+ghost use Rattle.pr_scen.specs.Spelling.{IsPlainScenario, HasSpelling};
 ghost use Rattle.pr_scen.specs.Scripts.{ScriptState, first_script, next_call_of, fed};
 ghost use Rattle.pr_scen.specs.declared.script_lines.ScriptLine.{ScriptLine};
 ghost use Rattle.pr_scen.specs.Faults.{IsFirstFault, IsAccepted};
@@ -34,4 +35,9 @@ pub fn scripts_write_built_messages()
 pub fn what_spells_a_scenario_is_read()
     ensures read { (text : List ℕ) (s : Scenario) → SpellScenario (lines_of text) s → scenario_of text ≡ Ok s }
     ensures spelt { (text : List ℕ) (s : Scenario) → scenario_of text ≡ Ok s → SpellScenario (lines_of text) s }
+{}
+
+/// Each scenario of the forms that are built has a spelling.
+pub fn each_scenario_has_a_spelling()
+    ensures { (s : Scenario) → IsPlainScenario s → HasSpelling s }
 {}
