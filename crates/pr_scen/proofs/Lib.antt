@@ -2,6 +2,7 @@ pub mod BuiltLemmas
 pub mod ConverseLemmas
 pub mod FaultLemmas
 pub mod GrammarLemmas
+pub mod LimitLemmas
 pub mod LineLemmas
 pub mod PlainLemmas
 pub mod ReadLemmas

@@ -1,8 +1,7 @@
 -- Each scenario of the forms that are built has a spelling.
-use Rattle.std.proofs.Common.{◌≡◌, ℕ, ◌+◌, ◌<◌, ◌≤◌, ◌^◌, Bool, true, false, ◌&&◌, cond, eqb, leb, Option, Some, None, List, [], ◌∷◌, ◌++◌, length, Result, Ok, Err, refl, sym, ◌∙◌, ap, subst, arith, inl, inr, codes}
+use Rattle.std.proofs.Common.{◌≡◌, ℕ, ◌+◌, ◌<◌, ◌≤◌, ◌^◌, true, false, ◌&&◌, cond, eqb, leb, Option, Some, None, List, [], ◌∷◌, ◌++◌, length, Result, Ok, Err, refl, sym, ◌∙◌, ap, subst, arith, inl, inr, codes}
 use Rattle.std.specs.Fmt.{decimal}
-use Rattle.std.specs.List.{AllByRecursion, flat_map}
-use Rattle.std.specs.Str.{bytes_eq}
+use Rattle.std.specs.List.{AllByRecursion}
 use Rattle.std.proofs.lemmas.Bool.{le-leb, ne_eqb}
 use Rattle.std.proofs.lemmas.List.{append-nil, append_assoc}
 use Rattle.pr_num.specs.Messages.{spelling, message_code, operands}
@@ -13,12 +12,12 @@ use Rattle.pr_num.specs.declared.instructions.Instruction.TheVariants as does
 use Rattle.pr_num.specs.declared.messages.Message.{Message}
 use Rattle.pr_model.specs.declared.calls.File.TheVariants.{Ctl, Status}
 use Rattle.pr_model.specs.declared.calls.Mode.TheVariants as mode
-use Rattle.pr_asm.proofs.SpellingLemmas.{read_decimal, read_register, read_immediate, read_call, name_no_comment}
+use Rattle.pr_asm.proofs.SpellingLemmas.{read_decimal, read_register, read_immediate, read_call}
 use Rattle.pr_asm.specs.Limits as limits
 use Rattle.pr_asm.specs.Mnemonics.{mnemonic_name}
 use Rattle.pr_asm.specs.Names.{is_name, name_of, label_of}
 use Rattle.pr_asm.specs.Numerals.{number_of, number_from, with_digit, digit_of}
-use Rattle.pr_asm.specs.Operands.{register, immediate, call, register_and_immediate, one_call}
+use Rattle.pr_asm.specs.Operands.{immediate, register_and_immediate, one_call}
 use Rattle.pr_asm.specs.Parts.{◌>>=◌, ok_or}
 use Rattle.pr_asm.specs.declared.statements.Statement.TheVariants as states
 use Rattle.pr_asm.specs.declared.operands.Immediate.{Immediate}
@@ -40,10 +39,10 @@ use Rattle.std.proofs.Common.{◌⊎◌}
 use Rattle.pr_asm.specs.Spelling.{register_text, IsCode}
 use Rattle.pr_asm.specs.Statements.{statement_in, label_or, statement_with, instruction_of, code_of}
 use Rattle.pr_scen.specs.BuiltScripts.{IsBuiltMessage, spelling_of, SpellsBuilt}
-use Rattle.pr_scen.specs.Grammar.{rows_of, Part, turns, program, spawn, script, SpellCode, SpellCalls, SpellsPart, SpellsParts, opens_in, program_added, script_added, part_added, parts_added, SpellScenario}
+use Rattle.pr_scen.specs.Grammar.{Part, turns, program, spawn, script, SpellCode, SpellCalls, SpellsPart, SpellsParts, opens_in, program_added, script_added, part_added, parts_added}
 use Rattle.pr_scen.specs.Items.{turns_of, program_of, spawn_of, script_of, item_with, item_of}
 use Rattle.pr_scen.specs.Parts.{begins_comment, is_end_word}
-use Rattle.pr_scen.specs.ProgramBlocks.{is_built, is_built_call, statement_built, built, program_line_of}
+use Rattle.pr_scen.specs.ProgramBlocks.{is_built, statement_built, built, program_line_of}
 use Rattle.pr_scen.specs.ScriptBlocks.{opening, open_of, close_of, read_of, message_of, with_message, with_messages, write_of, call_with, script_line_with, script_line_of}
 use Rattle.pr_scen.specs.Spelling.{IsPlainCode, IsPlainProgram, IsPlainLine, IsPlainScript, IsPlainScenario, HasSpelling}
 use Rattle.pr_scen.specs.declared.items.Item.TheVariants as item
@@ -94,14 +93,14 @@ code_row (does.Set to imm) plain =
     record {
       row = codes "set" ∷ register_text to ∷ decimal imm ∷ [];
       says =
-        ap (λ r. built ((r >>= (λ a. immediate (decimal imm) >>= (λ b. pair a b))) >>= (λ o. Ok (states.Code (does.Set o.0 o.1.value) o.1.name)))) (read_register to)
-        ∙ ap (λ r. built ((r >>= (λ b. pair to b)) >>= (λ o. Ok (states.Code (does.Set o.0 o.1.value) o.1.name)))) (read_immediate None imm plain.1);
+          ap (λ r. built ((r >>= (λ a. immediate (decimal imm) >>= (λ b. pair a b))) >>= (λ o. Ok (states.Code (does.Set o.0 o.1.value) o.1.name)))) (read_register to)
+          ∙ ap (λ r. built ((r >>= (λ b. pair to b)) >>= (λ o. Ok (states.Code (does.Set o.0 o.1.value) o.1.name)))) (read_immediate None imm plain.1);
     }
 code_row (does.Sys c) plain =
     record {
       row = codes "sys" ∷ syscall_name c ∷ [];
       says =
-        ap (λ r. built (r >>= (λ d. Ok (states.Code (does.Sys d) None)))) (read_call c) ∙ ap (λ b. cond b (Ok (in_program.Code (does.Sys c))) (Err NotBuilt)) plain.0;
+          ap (λ r. built (r >>= (λ d. Ok (states.Code (does.Sys d) None)))) (read_call c) ∙ ap (λ b. cond b (Ok (in_program.Code (does.Sys c))) (Err NotBuilt)) plain.0;
     }
 code_row _ plain = cc
 
@@ -142,8 +141,8 @@ message_words bytes (m ∷ ms) built =
     record {
       words = word_of m built.0 ∷ others.words;
       read =
-        ap (λ r. (r >>= (λ n. Ok (bytes ++ spelling n []))) >>= (λ longer. with_messages longer others.words)) (word_says m built.0)
-        ∙ others.read ∙ ap Ok (append_assoc bytes (spelling m []) (spelling_of ms));
+          ap (λ r. (r >>= (λ n. Ok (bytes ++ spelling n []))) >>= (λ longer. with_messages longer others.words)) (word_says m built.0)
+          ∙ others.read ∙ ap Ok (append_assoc bytes (spelling m []) (spelling_of ms));
     }
 
 more_than_none : (n : ℕ) → 0 < n → eqb n 0 ≡ false
@@ -198,9 +197,9 @@ read_row name from len h a b =
     record {
       row = codes "read" ∷ name ∷ decimal from ∷ decimal len ∷ [];
       says =
-        ap (λ r. in_line (ok_or NotBuilt r >>= (λ n. ok_or NotBuilt (number_of (decimal from)) >>= (λ x. ok_or NotBuilt (number_of (decimal len)) >>= (λ y. Ok (Read n x y)))))) (name_read name h)
-        ∙ ap (λ r. in_line (ok_or NotBuilt r >>= (λ x. ok_or NotBuilt (number_of (decimal len)) >>= (λ y. Ok (Read name x y))))) (read_decimal from a)
-        ∙ ap (λ r. in_line (ok_or NotBuilt r >>= (λ y. Ok (Read name from y)))) (read_decimal len b);
+          ap (λ r. in_line (ok_or NotBuilt r >>= (λ n. ok_or NotBuilt (number_of (decimal from)) >>= (λ x. ok_or NotBuilt (number_of (decimal len)) >>= (λ y. Ok (Read n x y)))))) (name_read name h)
+          ∙ ap (λ r. in_line (ok_or NotBuilt r >>= (λ x. ok_or NotBuilt (number_of (decimal len)) >>= (λ y. Ok (Read name x y))))) (read_decimal from a)
+          ∙ ap (λ r. in_line (ok_or NotBuilt r >>= (λ y. Ok (Read name from y)))) (read_decimal len b);
     }
 
 write_row : (name bytes : List ℕ) → is_name name ≡ true → SpellsBuilt bytes → LineRow (Write name bytes)
@@ -212,9 +211,9 @@ write_row name bytes h b =
     record {
       row = codes "write" ∷ name ∷ w.words;
       says =
-        ap (λ r. in_line (ok_or NotBuilt r >>= (λ n. with_messages [] w.words >>= (λ x. cond (eqb (length x) 0) (Err NotBuilt) (Ok (Write n x)))))) (name_read name h)
-        ∙ ap (λ r. in_line (r >>= (λ x. cond (eqb (length x) 0) (Err NotBuilt) (Ok (Write name x))))) read
-        ∙ ap (λ v. in_line (cond v (Err NotBuilt) (Ok (Write name bytes)))) some;
+          ap (λ r. in_line (ok_or NotBuilt r >>= (λ n. with_messages [] w.words >>= (λ x. cond (eqb (length x) 0) (Err NotBuilt) (Ok (Write n x)))))) (name_read name h)
+          ∙ ap (λ r. in_line (r >>= (λ x. cond (eqb (length x) 0) (Err NotBuilt) (Ok (Write name x))))) read
+          ∙ ap (λ v. in_line (cond v (Err NotBuilt) (Ok (Write name bytes)))) some;
     }
 
 line_row : (line : ScriptLine) → IsPlainLine line → LineRow line
@@ -309,6 +308,6 @@ plain_spelled s plain =
     record {
       rows = r.rows;
       read = λ lines readable same.
-        let P : List (List (List ℕ)) → Type 0 = λ rows. SpellsParts parts.parts rows in
-        lines_spelled lines s (record { parts = parts.parts; read = between (Some s.turns) s.programs s.spawns s.scripts below.0; readable = readable; spelt = subst P (sym same) parts.spelt; added = parts.added; makes = refl });
+          let P : List (List (List ℕ)) → Type 0 = λ rows. SpellsParts parts.parts rows in
+          lines_spelled lines s (record { parts = parts.parts; read = between (Some s.turns) s.programs s.spawns s.scripts below.0; readable = readable; spelt = subst P (sym same) parts.spelt; added = parts.added; makes = refl });
     }

@@ -34,17 +34,17 @@ use Rattle.pr_scen.specs.declared.script_blocks.InScript.TheVariants as in_scrip
 -- ---- what a step gives has a property that each of its ways to succeed gives
 
 module _ {A E : Type 0} (P : A → Type 0) where
-  given : (x y : A) → P x → (let r : Result A E = Ok x in r) ≡ Ok y → P y
+  pub given : (x y : A) → P x → (let r : Result A E = Ok x in r) ≡ Ok y → P y
   given x y p e = let same : x ≡ y = cc in subst P same p
 
-  if_given : (b : Bool) (r s : Result A E) (y : A) → (r ≡ Ok y → P y) → (s ≡ Ok y → P y) → cond b r s ≡ Ok y → P y
+  pub if_given : (b : Bool) (r s : Result A E) (y : A) → (r ≡ Ok y → P y) → (s ≡ Ok y → P y) → cond b r s ≡ Ok y → P y
   if_given true r s y f g e = f e
   if_given false r s y f g e = g e
 
-  refused : (y : A) (k : E) → Err k ≡ Ok y → P y
+  pub refused : (y : A) (k : E) → Err k ≡ Ok y → P y
   refused y k e = cc
 
-  behind : {B : Type 0} (r : Result B E) (f : B → Result A E) (y : A) → ((x : B) → r ≡ Ok x → f x ≡ Ok y → P y) → r >>= f ≡ Ok y → P y
+  pub behind : {B : Type 0} (r : Result B E) (f : B → Result A E) (y : A) → ((x : B) → r ≡ Ok x → f x ≡ Ok y → P y) → r >>= f ≡ Ok y → P y
   behind (Ok x) f y g e = g x refl e
   behind (Err k) f y g e = cc
 

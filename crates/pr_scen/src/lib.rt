@@ -18,8 +18,8 @@ mod scripts;
 
 pub use bindings::Binding;
 pub use laws::{
-    a_refusal_names_the_first_line, each_scenario_has_a_spelling, scripts_write_built_messages,
-    what_spells_a_scenario_is_read,
+    a_refusal_names_the_first_line, a_scenario_keeps_its_limits, each_scenario_has_a_spelling,
+    scripts_write_built_messages, what_spells_a_scenario_is_read,
 };
 pub use listings::Listed;
 pub use reading::read_scenario;
