@@ -1,14 +1,11 @@
 -- Scripts write built messages.
-use Rattle.std.proofs.Common.{◌≡◌, ℕ, zero, suc, ◌+◌, ◌≤◌, Bool, true, false, leb, ltb, eqb, cond, Option, Some, None, List, [], ◌∷◌, ◌++◌, length, drop, Result, Ok, Err, refl, sym, ◌∙◌, ap, subst, arith, inl, inr, codes}
-use Rattle.std.specs.List.{AllByRecursion, flat_map, slice_get, list_any}
-use Rattle.std.specs.Str.{bytes_eq}
-use Rattle.std.proofs.lemmas.List.{append_assoc, append-nil, drop_at, length-append, length-drop}
+use Rattle.std.proofs.Common.{◌≡◌, ℕ, zero, suc, ◌+◌, Bool, true, false, leb, cond, Option, Some, None, List, [], ◌∷◌, ◌++◌, length, drop, refl, sym, ◌∙◌, ap, subst, arith}
+use Rattle.std.specs.List.{AllByRecursion, slice_get}
+use Rattle.std.proofs.lemmas.List.{drop_at, length-drop}
 use Rattle.std.proofs.lemmas.Bool.{leb-false}
 use Rattle.std.proofs.lemmas.Option.{same_Some}
-use Rattle.pr_text.specs.Words.{texts_of}
 use Rattle.pr_num.specs.Messages.{spelling}
 use Rattle.pr_num.specs.declared.messages.Message.{Message}
-use Rattle.pr_num.specs.declared.messages.Message.TheVariants.{Dstop, Wstop, Run}
 use Rattle.pr_model.specs.declared.calls.Call.{Call}
 use Rattle.pr_model.specs.declared.calls.Call.TheVariants as call
 use Rattle.pr_model.specs.declared.calls.Reply.{Reply}

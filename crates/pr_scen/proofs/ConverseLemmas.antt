@@ -1,7 +1,6 @@
 -- What is read as a scenario spells it.
-use Rattle.std.proofs.Common.{◌≡◌, ℕ, zero, suc, ◌+◌, ◌<◌, ◌≤◌, Bool, true, false, not, ◌&&◌, ◌||◌, cond, eqb, leb, ltb, Option, Some, None, is_none, List, [], ◌∷◌, ◌++◌, map, length, Result, Ok, Err, find, refl, sym, ◌∙◌, ap, subst, arith, codes}
-use Rattle.std.specs.List.{AllByRecursion, list_any, filter}
-use Rattle.std.specs.Str.{bytes_eq}
+use Rattle.std.proofs.Common.{◌≡◌, ℕ, zero, suc, ◌+◌, ◌<◌, ◌≤◌, Bool, true, false, ◌&&◌, ◌||◌, cond, eqb, leb, ltb, Option, Some, None, is_none, List, [], ◌∷◌, ◌++◌, length, Result, Ok, Err, refl, sym, ◌∙◌, ap, subst, arith, codes}
+use Rattle.std.specs.List.{AllByRecursion, list_any}
 use Rattle.std.proofs.lemmas.Bool.{and_parts, ltb-true, le-leb}
 use Rattle.std.proofs.lemmas.List.{append_assoc, append-nil, length-append}
 use Rattle.pr_text.specs.Words.{texts_of}
@@ -10,8 +9,8 @@ use Rattle.pr_num.specs.declared.instructions.Instruction.{Instruction}
 use Rattle.pr_asm.specs.Limits as limits
 use Rattle.pr_asm.specs.Parts.{◌>>=◌}
 use Rattle.pr_scen.specs.Codes.{ends_in_exit}
-use Rattle.pr_scen.specs.Drafts.{nothing, with_turns, with_program_begun, has_program, with_spawn, with_script_begun, with_item, with_code, with_program, with_program_line, with_call, with_open, with_line, with_script, with_script_line, words_inside, with_words, line_added, is_open}
-use Rattle.pr_scen.specs.Grammar.{means_something, rows_of, Part, turns, program, spawn, script, SpellsLine, SpellsBlock, SpellCode, SpellCalls, SpellsPart, SpellsParts, opens_in, program_added, script_added, part_added, parts_added, SpellScenario}
+use Rattle.pr_scen.specs.Drafts.{nothing, with_turns, with_program_begun, has_program, with_spawn, with_script_begun, with_item, with_code, with_program, with_program_line, with_call, with_open, with_line, with_script, with_script_line, with_words, line_added, is_open}
+use Rattle.pr_scen.specs.Grammar.{means_something, rows_of, Part, turns, program, spawn, script, SpellCode, SpellCalls, SpellsPart, SpellsParts, opens_in, program_added, script_added, part_added, parts_added, SpellScenario}
 use Rattle.pr_scen.specs.Items.{item_of}
 use Rattle.pr_scen.specs.Parts.{is_readable, ends_block, is_end}
 use Rattle.pr_scen.specs.ProgramBlocks.{program_line_of}
@@ -29,7 +28,7 @@ use Rattle.pr_scen.specs.declared.scenarios.Scenario.{Scenario}
 use Rattle.pr_scen.specs.declared.script_blocks.InScript.{InScript}
 use Rattle.pr_scen.specs.declared.script_blocks.InScript.TheVariants as in_script
 use Rattle.pr_scen.specs.declared.script_lines.ScriptLine.{ScriptLine}
-use Rattle.pr_scen.proofs.GrammarLemmas.{with_rows, between, in_code, in_calls, words_nothing, ends_same, same_Ok, tested}
+use Rattle.pr_scen.proofs.GrammarLemmas.{with_rows, between, in_code, in_calls, words_nothing, ends_same, same_Ok}
 use Rattle.pr_scen.proofs.SaidLemmas.{SomeItem, item_says, code_says, call_says, CodeSaid, CallSaid}
 
 -- ---- rows
@@ -226,12 +225,12 @@ module _ (t : Option ℕ) (ps : List Program) (ss : List ℕ) (cs : List (List S
 
 -- ---- parts
 
-record PartsRead (d : Draft) (rows : List (List (List ℕ))) (e : Draft) : Type 0 where
-  parts : List Part
-  spelt : SpellsParts parts rows
-  added : parts_added d parts ≡ Ok e
+pub record PartsRead (d : Draft) (rows : List (List (List ℕ))) (e : Draft) : Type 0 where
+  pub parts : List Part
+  pub spelt : SpellsParts parts rows
+  pub added : parts_added d parts ≡ Ok e
 
-part_more : (part : Part) (front rest : List (List (List ℕ))) (d f e : Draft) → SpellsPart part front → part_added d part ≡ Ok f → PartsRead f rest e → PartsRead d (front ++ rest) e
+pub part_more : (part : Part) (front rest : List (List (List ℕ))) (d f e : Draft) → SpellsPart part front → part_added d part ≡ Ok f → PartsRead f rest e → PartsRead d (front ++ rest) e
 unfolding SpellsParts parts_added
 part_more part front rest d f e spelt added p =
     record {
@@ -240,10 +239,10 @@ part_more part front rest d f e spelt added p =
       added = ap (λ r. r >>= (λ x. parts_added x p.parts)) added ∙ p.added;
     }
 
-all_three : (a b c : Bool) → a ≡ true → b ≡ true → c ≡ true → (a && (b && c)) ≡ true
+pub all_three : (a b c : Bool) → a ≡ true → b ≡ true → c ≡ true → (a && (b && c)) ≡ true
 all_three a b c p q r = ap (λ v. v && (b && c)) p ∙ ap (λ v. v && c) q ∙ r
 
-both : (a b : Bool) → a ≡ true → b ≡ true → (a && b) ≡ true
+pub both : (a b : Bool) → a ≡ true → b ≡ true → (a && b) ≡ true
 both a b p q = ap (λ v. v && b) p ∙ q
 
 module _ (t : Option ℕ) (ps : List Program) (ss : List ℕ) (cs : List (List ScriptLine)) (k : ℕ) (e : Draft) (row : List (List ℕ)) (below : List (List (List ℕ))) (means : AllMean below) (room : k ≤ 16) (on : (rest : List (List (List ℕ))) → length rest ≤ length below → AllMean rest → (t2 : Option ℕ) (ps2 : List Program) (ss2 : List ℕ) (cs2 : List (List ScriptLine)) (k2 : ℕ) → k2 ≤ 16 → with_rows (between t2 ps2 ss2 cs2 k2) rest ≡ Ok e → PartsRead (between t2 ps2 ss2 cs2 k2) rest e) where
@@ -284,10 +283,10 @@ module _ (t : Option ℕ) (ps : List Program) (ss : List ℕ) (cs : List (List S
       let few = c.room in
       let made : Draft = between t (ps ++ limits.program name c.code [] [] ∷ []) ss cs k in
       block c.body c.rest c.whole
-        (part_more (program name c.code) (row ∷ (c.body ++ (codes "end" ∷ []) ∷ [])) c.rest (between t ps ss cs k) made e
-          (record { first = row; body = c.body; whole = refl; says = says; inside = c.spelt })
-          (ap (λ b. cond b (Ok made) (Err NotBuilt)) (all_three (eqb (length ps) 0) (leb (length c.code) 4096) (ends_in_exit c.code) q.0 (le-leb (length c.code) 4096 (omega arith)) c.last))
-          (on c.rest (shorter c.body c.rest c.whole) (still_mean c.body c.rest c.whole) t (ps ++ limits.program name c.code [] [] ∷ []) ss cs k room c.on))
+      (part_more (program name c.code) (row ∷ (c.body ++ (codes "end" ∷ []) ∷ [])) c.rest (between t ps ss cs k) made e
+      (record { first = row; body = c.body; whole = refl; says = says; inside = c.spelt })
+      (ap (λ b. cond b (Ok made) (Err NotBuilt)) (all_three (eqb (length ps) 0) (leb (length c.code) 4096) (ends_in_exit c.code) q.0 (le-leb (length c.code) 4096 (omega arith)) c.last))
+      (on c.rest (shorter c.body c.rest c.whole) (still_mean c.body c.rest c.whole) t (ps ++ limits.program name c.code [] [] ∷ []) ss cs k room c.on))
   by_program name says false first more = cc
 
   by_script : item_of row ≡ Ok item.Script → (b : Bool) → (eqb (length cs) 0 && list_any ends_block below) ≡ b → cond b (Ok (in_calls t ps ss cs [] k)) (Err NotBuilt) >>= (λ f. with_rows f below) ≡ Ok e → PartsRead (between t ps ss cs k) (row ∷ below) e
@@ -297,10 +296,10 @@ module _ (t : Option ℕ) (ps : List Program) (ss : List ℕ) (cs : List (List S
       let c = calls_back t ps ss cs e below [] k means room q.1 more in
       let made : Draft = between t ps ss (cs ++ c.lines ∷ []) (k + opens_in c.lines) in
       block c.body c.rest c.whole
-        (part_more (script c.lines) (row ∷ (c.body ++ (codes "end" ∷ []) ∷ [])) c.rest (between t ps ss cs k) made e
-          (record { first = row; body = c.body; whole = refl; says = says; inside = c.spelt })
-          (ap (λ b. cond b (Ok made) (Err NotBuilt)) (both (eqb (length cs) 0) (leb (k + opens_in c.lines) 16) q.0 (le-leb (k + opens_in c.lines) 16 c.room)))
-          (on c.rest (shorter c.body c.rest c.whole) (still_mean c.body c.rest c.whole) t ps ss (cs ++ c.lines ∷ []) (k + opens_in c.lines) c.room c.on))
+      (part_more (script c.lines) (row ∷ (c.body ++ (codes "end" ∷ []) ∷ [])) c.rest (between t ps ss cs k) made e
+      (record { first = row; body = c.body; whole = refl; says = says; inside = c.spelt })
+      (ap (λ b. cond b (Ok made) (Err NotBuilt)) (both (eqb (length cs) 0) (leb (k + opens_in c.lines) 16) q.0 (le-leb (k + opens_in c.lines) 16 c.room)))
+      (on c.rest (shorter c.body c.rest c.whole) (still_mean c.body c.rest c.whole) t ps ss (cs ++ c.lines ∷ []) (k + opens_in c.lines) c.room c.on))
   by_script says false first more = cc
 
   by_item : (i : Item) → item_of row ≡ Ok i → SomeItem i → with_item (list_any ends_block below) (between t ps ss cs k) i >>= (λ f. with_rows f below) ≡ Ok e → PartsRead (between t ps ss cs k) (row ∷ below) e

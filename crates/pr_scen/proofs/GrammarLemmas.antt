@@ -1,11 +1,10 @@
 -- What spells a scenario is read as it.
-use Rattle.std.proofs.Common.{◌≡◌, ℕ, ◌+◌, ◌<◌, ◌≤◌, Bool, true, false, not, ◌&&◌, ◌||◌, cond, eqb, leb, ltb, Option, Some, None, List, [], ◌∷◌, ◌++◌, map, length, get_or, Result, Ok, Err, refl, sym, ◌∙◌, ap, subst, arith, codes}
-use Rattle.std.specs.List.{AllByRecursion, list_any, filter}
+use Rattle.std.proofs.Common.{◌≡◌, ℕ, ◌+◌, ◌<◌, ◌≤◌, Bool, true, false, not, ◌&&◌, ◌||◌, cond, eqb, leb, Option, Some, None, List, [], ◌∷◌, ◌++◌, length, Result, Ok, Err, refl, sym, ◌∙◌, ap, subst, arith, codes}
+use Rattle.std.specs.List.{AllByRecursion, list_any}
 use Rattle.std.specs.Str.{bytes_eq}
 use Rattle.std.proofs.lemmas.Bool.{and_parts, eqb-true, lt-ltb, leb-true}
 use Rattle.std.proofs.lemmas.List.{append_assoc, append-nil, length-append}
 use Rattle.std.proofs.Math.Bool.{or-true}
-use Rattle.std.proofs.lemmas.List.Folds.{list_any-append}
 use Rattle.pr_text.specs.Words.{texts_of}
 use Rattle.pr_num.specs.Programs.{Program}
 use Rattle.pr_num.specs.declared.instructions.Instruction.{Instruction}
@@ -20,7 +19,7 @@ use Rattle.pr_scen.specs.Grammar.{means_something, rows_of, Part, turns, program
 use Rattle.pr_scen.specs.Items.{item_of, item_with}
 use Rattle.pr_scen.specs.Parts.{is_readable, begins_comment, is_end_word, ends_block, is_end, none}
 use Rattle.pr_scen.specs.ProgramBlocks.{program_line_of, built, statement_built}
-use Rattle.pr_scen.specs.Reading.{numbered, with_lines, finished, lines_of, scenario_in, scenario_of}
+use Rattle.pr_scen.specs.Reading.{numbered, with_lines, lines_of, scenario_in, scenario_of}
 use Rattle.pr_scen.specs.ScriptBlocks.{script_line_of, script_line_with}
 use Rattle.pr_scen.specs.declared.drafts.Draft.{Draft}
 use Rattle.pr_scen.specs.declared.drafts.Inside.{Inside}
@@ -265,12 +264,12 @@ module _ (t : Option ℕ) (ps : List Program) (ss : List ℕ) (cs : List (List S
       let end : List (List ℕ) = codes "end" ∷ [] in
       record {
         reads = λ rest.
-          ap (λ rows. with_rows (between t ps ss cs k) (rows ++ rest)) spelt.whole
-          ∙ begin_code t ps ss cs k name spelt.first ((spelt.body ++ end ∷ []) ++ rest) spelt.says q.0 (end_below spelt.body rest)
-          ∙ ap (with_rows (in_code t ps ss cs name [] k)) (append_assoc spelt.body (end ∷ []) rest)
-          ∙ all_code t ps ss cs k name [] code spelt.body (end ∷ rest) spelt.inside (omega arith)
-          ∙ end_code t ps ss cs k name code rest r.1
-          ∙ ap (λ d. with_rows d rest) p.1;
+            ap (λ rows. with_rows (between t ps ss cs k) (rows ++ rest)) spelt.whole
+            ∙ begin_code t ps ss cs k name spelt.first ((spelt.body ++ end ∷ []) ++ rest) spelt.says q.0 (end_below spelt.body rest)
+            ∙ ap (with_rows (in_code t ps ss cs name [] k)) (append_assoc spelt.body (end ∷ []) rest)
+            ∙ all_code t ps ss cs k name [] code spelt.body (end ∷ rest) spelt.inside (omega arith)
+            ∙ end_code t ps ss cs k name code rest r.1
+            ∙ ap (λ d. with_rows d rest) p.1;
         ends = record { t = t; ps = ps ++ limits.program name code [] [] ∷ []; ss = ss; cs = cs; k = k; is = sym p.1 };
       }
 
@@ -283,12 +282,12 @@ module _ (t : Option ℕ) (ps : List Program) (ss : List ℕ) (cs : List (List S
       let end : List (List ℕ) = codes "end" ∷ [] in
       record {
         reads = λ rest.
-          ap (λ rows. with_rows (between t ps ss cs k) (rows ++ rest)) spelt.whole
-          ∙ begin_calls t ps ss cs k spelt.first ((spelt.body ++ end ∷ []) ++ rest) spelt.says q.0 (end_below spelt.body rest)
-          ∙ ap (with_rows (in_calls t ps ss cs [] k)) (append_assoc spelt.body (end ∷ []) rest)
-          ∙ all_calls t ps ss cs [] k lines spelt.body (end ∷ rest) spelt.inside (leb-true (k + opens_in lines) 16 q.1)
-          ∙ end_calls t ps ss cs lines (k + opens_in lines) rest
-          ∙ ap (λ d. with_rows d rest) p.1;
+            ap (λ rows. with_rows (between t ps ss cs k) (rows ++ rest)) spelt.whole
+            ∙ begin_calls t ps ss cs k spelt.first ((spelt.body ++ end ∷ []) ++ rest) spelt.says q.0 (end_below spelt.body rest)
+            ∙ ap (with_rows (in_calls t ps ss cs [] k)) (append_assoc spelt.body (end ∷ []) rest)
+            ∙ all_calls t ps ss cs [] k lines spelt.body (end ∷ rest) spelt.inside (leb-true (k + opens_in lines) 16 q.1)
+            ∙ end_calls t ps ss cs lines (k + opens_in lines) rest
+            ∙ ap (λ d. with_rows d rest) p.1;
         ends = record { t = t; ps = ps; ss = ss; cs = cs ++ lines ∷ []; k = k + opens_in lines; is = sym p.1 };
       }
 
@@ -313,6 +312,9 @@ parts_read [] rows e t ps ss cs k spelt added = ap (with_rows (between t ps ss c
 parts_read (part ∷ parts) rows e t ps ss cs k spelt added =
     then_parts t ps ss cs k part parts rows spelt.0 spelt.1 e (part_added (between t ps ss cs k) part) refl spelt.2 spelt.3 (λ t2 ps2 ss2 cs2 k2 more. parts_read parts spelt.1 e t2 ps2 ss2 cs2 k2 spelt.4 more) added
 
+pub lines_spelled : (lines : List (List ℕ)) (s : Scenario) → SpellScenario lines s → scenario_in lines ≡ Ok s
+lines_spelled lines s spelt =
+    whole-ok lines spelt.read (lines_ok 1 nothing lines spelt.read spelt.readable (parts_read spelt.parts (rows_of lines) spelt.read None [] [] [] 0 spelt.spelt spelt.added)) ∙ ap Ok (sym spelt.makes)
+
 pub spelled_is_read : (text : List ℕ) (s : Scenario) → SpellScenario (lines_of text) s → scenario_of text ≡ Ok s
-spelled_is_read text s spelt =
-    whole-ok (lines_of text) spelt.read (lines_ok 1 nothing (lines_of text) spelt.read spelt.readable (parts_read spelt.parts (rows_of (lines_of text)) spelt.read None [] [] [] 0 spelt.spelt spelt.added)) ∙ ap Ok (sym spelt.makes)
+spelled_is_read text s spelt = lines_spelled (lines_of text) s spelt

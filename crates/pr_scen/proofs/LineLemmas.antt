@@ -1,5 +1,5 @@
 -- The lines of a scenario, one after another.
-use Rattle.std.proofs.Common.{◌≡◌, ℕ, zero, suc, ◌+◌, ◌<◌, ◌≤◌, Bool, true, false, ◌||◌, ltb, cond, List, [], ◌∷◌, ◌++◌, length, map, take, drop, get_or, Result, Ok, Err, refl, sym, ◌∙◌, ap, arith}
+use Rattle.std.proofs.Common.{◌≡◌, ℕ, ◌+◌, ◌<◌, ◌≤◌, Bool, true, false, ◌||◌, ltb, cond, List, [], ◌∷◌, ◌++◌, length, map, take, drop, get_or, Result, Ok, Err, refl, sym, ◌∙◌, ap, arith}
 use Rattle.std.specs.List.{list_any}
 use Rattle.std.specs.Borrow.{Bor}
 use Rattle.std.proofs.lemmas.List.{get_or-map, length-map, drop_all, drop_more, drop-append-le, take_more, length-append, length-take-le}
@@ -18,7 +18,6 @@ use Rattle.pr_scen.specs.declared.drafts.Draft.{Draft}
 use Rattle.pr_scen.specs.declared.refusals.ScenFault.{ScenFault}
 use Rattle.pr_scen.specs.declared.refusals.ScenRefusal.{ScenRefusal}
 use Rattle.pr_scen.specs.declared.refusals.ScenRefusal.TheVariants.{Fault, NoMemory}
-use Rattle.pr_scen.specs.declared.scenarios.Scenario.{Scenario}
 
 -- ---- the last line that passes a test
 

@@ -1,13 +1,11 @@
 -- What is read writes built messages.
-use Rattle.std.proofs.Common.{◌≡◌, ℕ, ◌+◌, Bool, true, false, cond, eqb, ◌&&◌, Option, Some, None, List, [], ◌∷◌, ◌++◌, length, Result, Ok, Err, refl, sym, ◌∙◌, ap, subst, arith, inl, inr, codes}
-use Rattle.std.specs.List.{AllByRecursion, flat_map, list_any}
+use Rattle.std.proofs.Common.{◌≡◌, ℕ, Bool, true, false, cond, eqb, ◌&&◌, List, [], ◌∷◌, ◌++◌, length, Result, Ok, Err, refl, sym, ◌∙◌, ap, subst, inl, inr, codes}
+use Rattle.std.specs.List.{AllByRecursion}
 use Rattle.std.specs.Str.{bytes_eq}
 use Rattle.std.proofs.lemmas.List.{append-nil}
 use Rattle.std.proofs.lemmas.List.Concat.{flat_map-append}
-use Rattle.std.proofs.lemmas.Bool.{ne_eqb}
 use Rattle.pr_text.specs.Words.{texts_of}
 use Rattle.pr_num.specs.Messages.{spelling}
-use Rattle.pr_num.specs.declared.instructions.Instruction.{Instruction}
 use Rattle.pr_num.specs.declared.messages.Message.{Message}
 use Rattle.pr_num.specs.declared.messages.Message.TheVariants.{Dstop, Wstop, Run}
 use Rattle.pr_model.specs.declared.calls.File.TheVariants.{Ctl, Status}
@@ -16,11 +14,11 @@ use Rattle.pr_asm.specs.Names.{name_of}
 use Rattle.pr_asm.specs.Numerals.{number_of}
 use Rattle.pr_asm.specs.Parts.{◌>>=◌, ok_or}
 use Rattle.pr_scen.proofs.BuiltLemmas.{all_more, rest_built}
-use Rattle.pr_scen.specs.BuiltScripts.{IsBuiltMessage, spelling_of, SpellsBuilt, IsBuiltLine, AreBuiltLines}
+use Rattle.pr_scen.specs.BuiltScripts.{IsBuiltMessage, spelling_of, IsBuiltLine, AreBuiltLines}
 use Rattle.pr_scen.specs.Drafts.{nothing, with_turns, with_program_begun, with_spawn, with_script_begun, with_item, with_code, with_program, with_program_line, with_call, with_open, with_line, with_script, with_script_line, words_inside, with_words, line_added, is_open}
-use Rattle.pr_scen.specs.Faults.{AreAccepted, IsAccepted}
+use Rattle.pr_scen.specs.Faults.{AreAccepted}
 use Rattle.pr_scen.specs.Items.{item_of}
-use Rattle.pr_scen.specs.Parts.{is_end, is_end_word, begins_comment, none, one, three, four, some}
+use Rattle.pr_scen.specs.Parts.{is_end_word, begins_comment, none, one, three, four, some}
 use Rattle.pr_scen.specs.ProgramBlocks.{program_line_of}
 use Rattle.pr_scen.specs.Reading.{scenario_of, finished, lines_of}
 use Rattle.pr_scen.specs.ScriptBlocks.{opening, open_of, close_of, read_of, message_of, with_message, with_messages, write_of, call_with, script_line_with, script_line_of}
@@ -67,8 +65,8 @@ message_built : (word : List ℕ) (m : Message) → message_of word ≡ Ok m →
 unfolding message_of
 message_built word m e =
     if_given IsBuiltMessage (bytes_eq word (codes "dstop")) (Ok Dstop) _ m (λ f. given IsBuiltMessage Dstop m (inl refl) f)
-      (λ f. if_given IsBuiltMessage (bytes_eq word (codes "wstop")) (Ok Wstop) _ m (λ g. given IsBuiltMessage Wstop m (inr (inl refl)) g)
-        (λ g. if_given IsBuiltMessage (bytes_eq word (codes "run")) (Ok (Run 0)) (Err NotBuilt) m (λ h. given IsBuiltMessage (Run 0) m (inr (inr refl)) h) (λ h. refused IsBuiltMessage m NotBuilt h) g) f) e
+    (λ f. if_given IsBuiltMessage (bytes_eq word (codes "wstop")) (Ok Wstop) _ m (λ g. given IsBuiltMessage Wstop m (inr (inl refl)) g)
+    (λ g. if_given IsBuiltMessage (bytes_eq word (codes "run")) (Ok (Run 0)) (Err NotBuilt) m (λ h. given IsBuiltMessage (Run 0) m (inr (inr refl)) h) (λ h. refused IsBuiltMessage m NotBuilt h) g) f) e
 
 -- bytes that spell built messages, or none
 record Spelt (bytes : List ℕ) : Type 0 where
@@ -106,7 +104,7 @@ opening_built : (name file how : List ℕ) (line : ScriptLine) → opening name 
 unfolding opening
 opening_built name file how line =
     if_given IsBuiltLine (bytes_eq file (codes "ctl") && bytes_eq how (codes "w")) (Ok (Open name 1 0 Ctl mode.Write)) _ line (given IsBuiltLine (Open name 1 0 Ctl mode.Write) line tt)
-      (if_given IsBuiltLine (bytes_eq file (codes "status") && bytes_eq how (codes "r")) (Ok (Open name 1 0 Status mode.Read)) (Err NotBuilt) line (given IsBuiltLine (Open name 1 0 Status mode.Read) line tt) (refused IsBuiltLine line NotBuilt))
+    (if_given IsBuiltLine (bytes_eq file (codes "status") && bytes_eq how (codes "r")) (Ok (Open name 1 0 Status mode.Read)) (Err NotBuilt) line (given IsBuiltLine (Open name 1 0 Status mode.Read) line tt) (refused IsBuiltLine line NotBuilt))
 
 open_built : (operands : List (List ℕ)) (line : ScriptLine) → open_of operands ≡ Ok line → IsBuiltLine line
 unfolding open_of

@@ -27,26 +27,24 @@ use Rattle.pr_scen.specs.declared.items.Item.{Item}
 use Rattle.pr_scen.specs.declared.items.Item.TheVariants as item
 use Rattle.pr_scen.specs.declared.program_blocks.ProgramLine.{ProgramLine}
 use Rattle.pr_scen.specs.declared.program_blocks.ProgramLine.TheVariants as in_program
-use Rattle.pr_scen.specs.declared.refusals.ScenKind.{ScenKind}
 use Rattle.pr_scen.specs.declared.refusals.ScenKind.TheVariants.{NotBuilt}
 use Rattle.pr_scen.specs.declared.script_blocks.InScript.{InScript}
 use Rattle.pr_scen.specs.declared.script_blocks.InScript.TheVariants as in_script
-use Rattle.pr_scen.specs.declared.script_lines.ScriptLine.{ScriptLine}
 
 -- ---- what a step gives has a property that each of its ways to succeed gives
 
 module _ {A E : Type 0} (P : A → Type 0) where
-  given : (x y : A) → P x → (let r : Result A E = Ok x in r) ≡ Ok y → P y
+  pub given : (x y : A) → P x → (let r : Result A E = Ok x in r) ≡ Ok y → P y
   given x y p e = let same : x ≡ y = cc in subst P same p
 
-  if_given : (b : Bool) (r s : Result A E) (y : A) → (r ≡ Ok y → P y) → (s ≡ Ok y → P y) → cond b r s ≡ Ok y → P y
+  pub if_given : (b : Bool) (r s : Result A E) (y : A) → (r ≡ Ok y → P y) → (s ≡ Ok y → P y) → cond b r s ≡ Ok y → P y
   if_given true r s y f g e = f e
   if_given false r s y f g e = g e
 
-  refused : (y : A) (k : E) → Err k ≡ Ok y → P y
+  pub refused : (y : A) (k : E) → Err k ≡ Ok y → P y
   refused y k e = cc
 
-  behind : {B : Type 0} (r : Result B E) (f : B → Result A E) (y : A) → ((x : B) → r ≡ Ok x → f x ≡ Ok y → P y) → r >>= f ≡ Ok y → P y
+  pub behind : {B : Type 0} (r : Result B E) (f : B → Result A E) (y : A) → ((x : B) → r ≡ Ok x → f x ≡ Ok y → P y) → r >>= f ≡ Ok y → P y
   behind (Ok x) f y g e = g x refl e
   behind (Err k) f y g e = cc
 
@@ -67,14 +65,14 @@ item_some : (first : List ℕ) (operands : List (List ℕ)) (i : Item) → item_
 unfolding item_with turns_of program_of spawn_of script_of
 item_some first operands i =
     if_given SomeItem (bytes_eq first (codes "turns")) (turns_of operands) _ i
-      (behind SomeItem (one operands) _ i (λ word is. behind SomeItem (ok_or NotBuilt (number_of word)) _ i (λ n is2. if_given SomeItem (nat_le 1 n && nat_le n 100000) (Ok (item.Turns n)) (Err NotBuilt) i (given SomeItem (item.Turns n) i tt) (refused SomeItem i NotBuilt))))
-      (if_given SomeItem (bytes_eq first (codes "program")) (program_of operands) _ i
-        (behind SomeItem (one operands) _ i (λ word is. behind SomeItem (ok_or NotBuilt (name_of word)) _ i (λ name is2. given SomeItem (item.Program name) i tt)))
-        (if_given SomeItem (bytes_eq first (codes "spawn")) (spawn_of operands) _ i
-          (behind SomeItem (one operands) _ i (λ word is. behind SomeItem (ok_or NotBuilt (name_of word)) _ i (λ name is2. given SomeItem (item.Spawn name) i tt)))
-          (if_given SomeItem (bytes_eq first (codes "script")) (script_of operands) (Err NotBuilt) i
-            (behind SomeItem (none operands) _ i (λ u is. given SomeItem item.Script i tt))
-            (refused SomeItem i NotBuilt))))
+    (behind SomeItem (one operands) _ i (λ word is. behind SomeItem (ok_or NotBuilt (number_of word)) _ i (λ n is2. if_given SomeItem (nat_le 1 n && nat_le n 100000) (Ok (item.Turns n)) (Err NotBuilt) i (given SomeItem (item.Turns n) i tt) (refused SomeItem i NotBuilt))))
+    (if_given SomeItem (bytes_eq first (codes "program")) (program_of operands) _ i
+    (behind SomeItem (one operands) _ i (λ word is. behind SomeItem (ok_or NotBuilt (name_of word)) _ i (λ name is2. given SomeItem (item.Program name) i tt)))
+    (if_given SomeItem (bytes_eq first (codes "spawn")) (spawn_of operands) _ i
+    (behind SomeItem (one operands) _ i (λ word is. behind SomeItem (ok_or NotBuilt (name_of word)) _ i (λ name is2. given SomeItem (item.Spawn name) i tt)))
+    (if_given SomeItem (bytes_eq first (codes "script")) (script_of operands) (Err NotBuilt) i
+    (behind SomeItem (none operands) _ i (λ u is. given SomeItem item.Script i tt))
+    (refused SomeItem i NotBuilt))))
 
 pub item_says : (row : List (List ℕ)) (i : Item) → means_something row ≡ true → item_of row ≡ Ok i → SomeItem i
 unfolding means_something item_of

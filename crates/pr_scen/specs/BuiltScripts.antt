@@ -1,5 +1,5 @@
 -- What scripts write as far as messages are built: dstop, wstop, and run without flags, one message behind the other.
-use Rattle.std.specs.Prelude.{◌≡◌, ◌⊎◌, ℕ, Option, Some, None, List, [], ◌∷◌, ◌++◌, length, drop, slice_get}
+use Rattle.std.specs.Prelude.{◌≡◌, ◌⊎◌, ℕ, Option, Some, None, List, [], ◌++◌, length, drop, slice_get}
 use Rattle.std.specs.List.{AllByRecursion, flat_map}
 use Rattle.pr_num.specs.Messages.{spelling}
 use Rattle.pr_num.specs.declared.messages.Message.{Message}

@@ -1,5 +1,5 @@
 -- The instructions of a program block.
-use Rattle.std.specs.Prelude.{◌-◌, ℕ, Bool, true, false, Option, Some, None, List, length, slice_get}
+use Rattle.std.specs.Prelude.{◌-◌, Bool, true, false, Option, Some, None, List, length, slice_get}
 use Rattle.pr_num.specs.declared.instructions.Instruction.{Instruction}
 use Rattle.pr_num.specs.declared.instructions.Instruction.TheVariants.{Sys}
 use Rattle.pr_num.specs.declared.syscalls.Sysno.{Sysno}

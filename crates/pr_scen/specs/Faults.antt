@@ -1,5 +1,5 @@
 -- The first line of a scenario that is refused.
-use Rattle.std.specs.Prelude.{◌≡◌, ◌+◌, ℕ, Some, List, [], ◌∷◌, ◌++◌, length, Ok, Err}
+use Rattle.std.specs.Prelude.{◌≡◌, ◌+◌, ℕ, List, [], ◌∷◌, ◌++◌, length, Ok, Err}
 use Rattle.std.specs.List.{list_any}
 use Rattle.pr_scen.specs.Drafts.{nothing, line_added}
 use Rattle.pr_scen.specs.Parts.{is_end}

@@ -12,3 +12,4 @@ pub mod Reads
 pub mod Scenarios
 pub mod ScriptBlocks
 pub mod Scripts
+pub mod Spelling

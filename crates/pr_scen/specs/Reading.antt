@@ -1,5 +1,5 @@
 -- The scenario that a text spells, and the first line that is refused.
-use Rattle.std.specs.Prelude.{◌==◌, ℕ, ◌+◌, Option, Some, None, List, [], ◌∷◌, unwrap_or, Result, Ok, Err}
+use Rattle.std.specs.Prelude.{◌==◌, ℕ, ◌+◌, List, [], ◌∷◌, unwrap_or, Result, Ok, Err}
 use Rattle.std.specs.List.{list_any, slice_split}
 use Rattle.pr_asm.specs.Parts.{◌>>=◌}
 use Rattle.pr_scen.specs.Drafts.{nothing, line_added}

@@ -1,6 +1,6 @@
 -- A script as a controller of the kernel: the call that it makes next, and what the reply makes of it. It knows the
 -- machine by replies alone.
-use Rattle.std.specs.Prelude.{ℕ, ◌+◌, Option, Some, None, List, [], drop, length, slice_get, nat_le, if◌then◌else◌}
+use Rattle.std.specs.Prelude.{ℕ, ◌+◌, Option, Some, None, List, drop, length, slice_get, nat_le, if◌then◌else◌}
 use Rattle.pr_model.specs.declared.calls.Call.{Call}
 use Rattle.pr_model.specs.declared.calls.Call.TheVariants as call
 use Rattle.pr_model.specs.declared.calls.Reply.{Reply}

@@ -17,7 +17,10 @@ mod script_lines;
 mod scripts;
 
 pub use bindings::Binding;
-pub use laws::{a_refusal_names_the_first_line, scripts_write_built_messages, what_spells_a_scenario_is_read};
+pub use laws::{
+    a_refusal_names_the_first_line, a_scenario_keeps_its_limits, each_scenario_has_a_spelling,
+    scripts_write_built_messages, what_spells_a_scenario_is_read,
+};
 pub use listings::Listed;
 pub use reading::read_scenario;
 pub use refusals::{ScenFault, ScenKind, ScenRefusal};

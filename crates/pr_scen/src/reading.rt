@@ -5,11 +5,12 @@ ghost use Rattle.pr_scen.specs.Drafts.{line_added};
 ghost use Rattle.pr_scen.specs.Parts.{is_end};
 ghost use Rattle.pr_scen.specs.Reading.{lines_of, numbered, with_lines, scenario_in, scenario_of, finished};
 ghost use Rattle.pr_scen.specs.Reads.{Answers, LineGave};
+ghost use Rattle.pr_scen.specs.Scenarios.{IsWithinLimits};
 
 use crate::drafts::Draft;
 use crate::parts::is_end;
 use crate::refusals::Refused;
-use crate::{Scenario, ScenFault, ScenRefusal};
+use crate::{ScenFault, ScenRefusal, Scenario};
 use pr_num::NoMemory;
 use std::alloc::{AllocError, Global};
 
@@ -98,13 +99,23 @@ fn read_lines(alloc: Global, lines: &[&[u8]]) -> Result<Scenario, ScenRefusal>
     Ok(draft.finish())
 }
 
-/// The scenario that a text spells, or its first line that is refused. Lines count from 1.
-///
-/// Takes time linear in the text.
-pub fn read_scenario(alloc: Global, text: &[u8]) -> Result<Scenario, ScenRefusal>
+/// The scenario that a text spells, or its first line that is refused.
+fn read_text(alloc: Global, text: &[u8]) -> Result<Scenario, ScenRefusal>
     requires { length text.now + 1 < 2 ^ 32 }
     ensures { Answers (λ s. s) result (scenario_of text.now) }
 {
     let lines = split_lines(alloc, text)?;
     read_lines(alloc, &lines)
+}
+
+/// The scenario that a text spells, or its first line that is refused. Lines count from 1. What is read keeps the limits of
+/// a scenario.
+///
+/// Takes time linear in the text.
+pub fn read_scenario(alloc: Global, text: &[u8]) -> Result<Scenario, ScenRefusal>
+    requires { length text.now + 1 < 2 ^ 32 }
+    ensures read { Answers (λ s. s) result (scenario_of text.now) }
+    ensures limits { IfOk result (λ s. IsWithinLimits s) }
+{
+    read_text(alloc, text)
 }

@@ -49,7 +49,11 @@ enum Present {
 fn bytes_from(bytes: &[u8], place: usize) -> &[u8]
     ensures { result.now ≡ drop place bytes.now }
 {
-    if place < bytes.len() { &bytes[place..] } else { &[] }
+    if place < bytes.len() {
+        &bytes[place..]
+    } else {
+        &[]
+    }
 }
 
 /// The handle of a reply to an open.
@@ -85,7 +89,13 @@ impl Script {
         ensures { IfOk result (λ call. call ≡ call_of self.now line.now) }
     {
         Ok(match line {
-            ScriptLine::Open { pid, lwp, file, mode, .. } => Call::Open {
+            ScriptLine::Open {
+                pid,
+                lwp,
+                file,
+                mode,
+                ..
+            } => Call::Open {
                 pid: *pid,
                 lwp: *lwp,
                 file: *file,

@@ -26,7 +26,8 @@ fn refused_line(rt: &(impl Abort + Alloc<A = Global>), text: &[u8]) -> u32 {
     }
 }
 
-const ROW_1: &[u8] = b"turns 100\nprogram p\nsys getpid\nset r1, 0\nsys exit\nend\nspawn p\nscript\nopen a 1 ctl w\nwrite a dstop\nwrite a wstop\nopen s 1 status r\nread s 104 32\nwrite a run\nclose a\nend\n";
+const ROW_1: &[u8] =
+    b"turns 100\nprogram p\nsys getpid\nset r1, 0\nsys exit\nend\nspawn p\nscript\nopen a 1 ctl w\nwrite a dstop\nwrite a wstop\nopen s 1 status r\nread s 104 32\nwrite a run\nclose a\nend\n";
 
 // The worked scenario: its parts, one by one.
 #[test]
@@ -37,8 +38,13 @@ fn reads_the_worked_scenario(rt: HostRuntime) {
     assert_eq!(rt; programs.len(), 1);
     assert_eq!(rt; programs[0].name().as_slice(), b"p".as_slice());
     let want = [
-        Instruction::Sys { call: Sysno::Getpid },
-        Instruction::Set { to: Reg::R1, imm: 0 },
+        Instruction::Sys {
+            call: Sysno::Getpid,
+        },
+        Instruction::Set {
+            to: Reg::R1,
+            imm: 0,
+        },
         Instruction::Sys { call: Sysno::Exit },
     ];
     assert_eq!(rt; programs[0].code(), want.as_slice());
@@ -185,11 +191,13 @@ fn told(call: &Option<Call>) -> [u64; 5] {
             bytes.as_slice().len() as u64,
             first_of(bytes),
         ],
-        Some(Call::CtlWait {
-            handle,
-            until,
-            bytes,
-        }) => [
+        Some(
+            Call::CtlWait {
+                handle,
+                until,
+                bytes,
+            },
+        ) => [
             4,
             *handle as u64,
             *until,
@@ -261,7 +269,8 @@ fn makes_the_worked_calls(rt: HostRuntime) -> Result<(), Fail> {
 // nothing, or whose open failed, stands for 4294967295, and one bound again for the new handle.
 #[test]
 fn goes_on_with_the_rest(rt: HostRuntime) -> Result<(), Fail> {
-    let text = b"script\nclose v\nopen v 1 ctl w\nwrite v dstop wstop run\nwrite v run wstop\nopen v 1 ctl w\nclose v\nopen v 1 ctl w\nread v 0 1\nend";
+    let text =
+        b"script\nclose v\nopen v 1 ctl w\nwrite v dstop wstop run\nwrite v run wstop\nopen v 1 ctl w\nclose v\nopen v 1 ctl w\nread v 0 1\nend";
     let rows = [
         ([2, 4_294_967_295, 0, 0, 0], 5, 0),
         ([1, 1, 0, 0, 0], 1, 5),
@@ -281,9 +290,18 @@ fn goes_on_with_the_rest(rt: HostRuntime) -> Result<(), Fail> {
 
 #[test]
 fn shows_refusals(rt: HostRuntime) -> Result<(), Fail> {
-    let refusal = ScenRefusal::Fault(ScenFault { line: 3, kind: ScenKind::NotBuilt });
-    assert_eq!(rt; format!(in rt.alloc(); "{refusal}")?.as_str(), "line 3: NotBuilt");
+    let refusal = ScenRefusal::Fault(ScenFault {
+        line: 3,
+        kind: ScenKind::NotBuilt,
+    });
+    assert_eq!(rt;
+        format!(in rt.alloc(); "{refusal}")?.as_str(),
+        "line 3: NotBuilt"
+    );
     let refusal = ScenRefusal::NoMemory;
-    assert_eq!(rt; format!(in rt.alloc(); "{refusal}")?.as_str(), "out of memory");
+    assert_eq!(rt;
+        format!(in rt.alloc(); "{refusal}")?.as_str(),
+        "out of memory"
+    );
     Ok(())
 }

@@ -1,4 +1,4 @@
-use Rattle.std.proofs.Common.{◌+◌, ap, sym, Ok, ◌∙◌, get_or, map, nat_lt, refl, length, arith}
+use Rattle.std.proofs.Common.{◌+◌, ap, sym, Ok, ◌∙◌, get_or, map, nat_lt, refl, arith}
 use Rattle.std.proofs.lemmas.List.{length-map}
 use Rattle.std.proofs.lemmas.Result.{err_from_is_err_and}
 use Rattle.pr_scen.proofs.LineLemmas.{bytes_of, no_line, line_at, in_lines, lines-step, lines-stop, lines-end, whole-ok, stops_whole}
