@@ -4,6 +4,7 @@
 mod answers;
 mod commands;
 mod outcomes;
+mod runs;
 mod serving;
 #[cfg(test)]
 mod tests;

@@ -1,10 +1,25 @@
+ghost use Rattle.std.specs.Prelude.{◌≡◌, []};
+ghost use Rattle.proclab.specs.Answers.{end_status};
+
 use pr_model::History;
+use pr_world::End;
+use std::alloc::Global;
 
 /// How a call of the program ended.
 #[derive(Clone, Copy)]
 pub enum Status {
+    /// The work is done; of a run: nobody can move, and every controller has finished.
+    Done = 0,
     /// The words ask for nothing that is built.
     Usage = 1,
+    /// The input is refused.
+    Refused = 2,
+    /// The history has all its entries, and somebody could move still.
+    Spent = 3,
+    /// Nobody can move, and a controller has not finished.
+    Stuck = 4,
+    /// A read failed.
+    ReadFailed = 5,
     /// A write failed.
     WriteFailed = 6,
     /// Memory ran out.
@@ -18,4 +33,27 @@ pub struct Outcome {
     pub status: u8,
     /// The history of the run; empty where none was made.
     pub history: History,
+}
+
+/// An end that leaves no history.
+pub fn without_history(alloc: Global, status: u8) -> Outcome
+    ensures status { result.status ≡ status }
+    ensures history { result.history.entries ≡ [] }
+{
+    Outcome {
+        status,
+        history: History::new(alloc),
+    }
+}
+
+/// The status of a run that ended so.
+#[tactic(auto, unfolding(crate::specs::Answers::end_status))]
+pub fn end_status(end: End) -> u8
+    ensures { result ≡ end_status end }
+{
+    match end {
+        End::Quiet => Status::Done as u8,
+        End::Spent => Status::Spent as u8,
+        End::Stuck => Status::Stuck as u8,
+    }
 }

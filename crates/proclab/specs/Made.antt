@@ -1,0 +1,15 @@
+use Rattle.std.specs.Prelude.{◌≡◌, ◌≤◌, ◌⊎◌, ℕ, List, []}
+use Rattle.pr_model.specs.declared.events.Entry.{Entry}
+use Rattle.pr_run_laws.specs.ScenarioRuns.{first_world}
+use Rattle.pr_scen.specs.declared.scenarios.Scenario.{Scenario}
+use Rattle.pr_world.specs.Worlds.{WorldState, after_moves}
+
+-- A history that a world has on its way: that after so many moves, of as many as there are places for entries.
+pub record IsWorldsWay (first : WorldState) (history : List Entry) : Type 0 where
+  pub moves : ℕ
+  pub within : moves ≤ first.kernel.places
+  pub is : history ≡ (after_moves moves first).kernel.history
+
+-- A history that was made of a scenario when memory ran out: none, or one that its run has on its way.
+abbrev pub IsBroughtSoFar : Scenario → List Entry → Type 0
+IsBroughtSoFar s history = (history ≡ []) ⊎ IsWorldsWay (first_world s) history
