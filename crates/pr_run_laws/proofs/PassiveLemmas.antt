@@ -1,4 +1,4 @@
-use Rattle.std.proofs.Common.{◌≡◌, ℕ, zero, suc, Option, Some, None, List, [], ◌∷◌, ◌++◌, length, Result, Ok, Err, map, refl, sym, ◌∙◌, ap, subst}
+use Rattle.std.proofs.Common.{◌≡◌, ℕ, zero, suc, Option, Some, None, List, [], ◌∷◌, ◌++◌, length, Ok, refl, sym, subst}
 use Rattle.std.proofs.lemmas.List.Elements.{All-nil, All-head, All-tail, All-set, All-push, All-map, All-weaker, All-from_recursion}
 use Rattle.std.proofs.lemmas.Option.{same_Some}
 use Rattle.std.specs.Bool.{IsTrue}
@@ -9,7 +9,6 @@ use Rattle.pr_model.specs.Legal.{IsLegalEntry}
 use Rattle.pr_model.specs.Passive.{IsPassive, is_passive_act, is_passive_call}
 use Rattle.pr_model.specs.State.{TracedState}
 use Rattle.pr_model.specs.declared.calls.Call.{Call as AnyCall}
-use Rattle.pr_model.specs.declared.calls.Reply.{Reply}
 use Rattle.pr_model.specs.declared.events.Act.{Act}
 use Rattle.pr_model.specs.declared.events.Act.TheVariants.{Call, Turn, Tick}
 use Rattle.pr_model.specs.declared.events.Actor.{Actor}
