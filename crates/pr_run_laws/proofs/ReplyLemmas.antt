@@ -123,7 +123,7 @@ unfolding Answers
 written s read None a h e = cc
 written s read (Some c) a h e = subst (λ (x : Answer). Counts read x.reply) (same_Some (controlled s c) a e) h
 
--- a wait that sees an interrupt fails with EINTR, as it would without
+-- that an interrupt is seen changes the state, and not the reply
 waited-reply : (s : TracedState) (by : ℕ) (r : Reply) → (waited s by r).reply ≡ r
 waited-reply s by (Fail Intr) = refl
 waited-reply s by _ = refl
