@@ -1,6 +1,5 @@
-use Rattle.std.specs.Prelude.{◌≡◌, ℕ, List, [], None, length, map}
+use Rattle.std.specs.Prelude.{ℕ, List, [], None, length, map}
 use Rattle.pr_erasure.specs.Transparency.{IsTransparent}
-use Rattle.pr_kern.specs.Kernels.{Kernel}
 use Rattle.pr_model.specs.FirstState.{first_state}
 use Rattle.pr_model.specs.Legal.{IsLegal}
 use Rattle.pr_model.specs.Passive.{IsPassive}

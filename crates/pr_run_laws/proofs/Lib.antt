@@ -1,0 +1,5 @@
+pub mod BuiltLemmas
+pub mod GrowthLemmas
+pub mod KeptLemmas
+pub mod PassiveLemmas
+pub mod ReplyLemmas
