@@ -1,1 +1,2 @@
+pub mod EarlyLemmas
 pub mod RunLemmas

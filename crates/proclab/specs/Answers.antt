@@ -44,12 +44,12 @@ end_status Quiet = 0
 end_status Spent = 3
 end_status Stuck = 4
 
+-- a run that ended so with this history
+unfoldable pub ran_so : End → List Entry → Answer
+ran_so end history = record { status = end_status end; history = history; text = run_text history (end_status end) }
+
 unfoldable pub ran : WorldState → Answer
-ran w = record {
-  status = end_status (end_of w);
-  history = w.kernel.history;
-  text = run_text w.kernel.history (end_status (end_of w));
-}
+ran w = ran_so (end_of w) w.kernel.history
 
 unfoldable pub answer_of : Result Scenario ScenFault → Answer
 answer_of (Err fault) = refused_at fault.line (kind_name fault.kind)

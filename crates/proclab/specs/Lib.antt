@@ -1,4 +1,5 @@
 pub mod Answers
 pub mod Commands
 pub mod Made
+pub mod Serving
 pub mod Usage

@@ -1,4 +1,4 @@
-use Rattle.std.specs.Prelude.{◌≡◌, ◌≤◌, ◌⊎◌, ℕ, List, []}
+use Rattle.std.specs.Prelude.{◌≡◌, ◌≤◌, ◌⊎◌, ℕ, List, [], Option}
 use Rattle.pr_model.specs.declared.events.Entry.{Entry}
 use Rattle.pr_run_laws.specs.ScenarioRuns.{first_world}
 use Rattle.pr_scen.specs.declared.scenarios.Scenario.{Scenario}
@@ -13,3 +13,8 @@ pub record IsWorldsWay (first : WorldState) (history : List Entry) : Type 0 wher
 -- A history that was made of a scenario when memory ran out: none, or one that its run has on its way.
 abbrev pub IsBroughtSoFar : Scenario → List Entry → Type 0
 IsBroughtSoFar s history = (history ≡ []) ⊎ IsWorldsWay (first_world s) history
+
+-- Memory ran out in a run: nothing was written of it.
+pub record StoppedRun (s : Scenario) (history : List Entry) (old new : Option (List ℕ)) : Type 0 where
+  pub unwritten : new ≡ old
+  pub so_far : IsBroughtSoFar s history

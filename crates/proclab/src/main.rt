@@ -4,8 +4,10 @@
 mod answers;
 mod commands;
 mod outcomes;
+mod responses;
 mod runs;
 mod serving;
+mod stub;
 #[cfg(test)]
 mod tests;
 

@@ -1,4 +1,4 @@
-ghost use Rattle.std.specs.Prelude.{◌≡◌, []};
+ghost use Rattle.std.specs.Prelude.{◌≡◌, ◌⊎◌, []};
 ghost use Rattle.proclab.specs.Answers.{end_status};
 
 use pr_model::History;
@@ -49,7 +49,8 @@ pub fn without_history(alloc: Global, status: u8) -> Outcome
 /// The status of a run that ended so.
 #[tactic(auto, unfolding(crate::specs::Answers::end_status))]
 pub fn end_status(end: End) -> u8
-    ensures { result ≡ end_status end }
+    ensures value { result ≡ end_status end }
+    ensures range { (result ≡ 0) ⊎ ((result ≡ 3) ⊎ (result ≡ 4)) }
 {
     match end {
         End::Quiet => Status::Done as u8,

@@ -1,0 +1,23 @@
+use Rattle.std.proofs.Common.{◌≡◌, ◌≤◌, ◌⊎◌, inl, inr, ℕ, List, [], Option, Some, None, Result, Ok, Err, refl, ◌∙◌, ap, subst}
+use Rattle.pr_model.specs.declared.events.Entry.{Entry}
+use Rattle.pr_run_laws.specs.ScenarioRuns.{first_world, history_after}
+use Rattle.pr_scen.specs.Reading.{scenario_of}
+use Rattle.pr_scen.specs.declared.scenarios.Scenario.{Scenario}
+use Rattle.proclab.specs.Answers.{IsAfterMoves, IsOnTheWay, RanOutEarly}
+use Rattle.proclab.specs.Made.{IsBroughtSoFar, IsWorldsWay, StoppedRun}
+use Rattle.proclab.proofs.RunLemmas.{first_world-places}
+
+-- A run that was stopped for want of memory is on the way of its text.
+on_the_way : (input : List ℕ) (s : Scenario) (h : List Entry) → scenario_of input ≡ Ok s → IsBroughtSoFar s h → IsOnTheWay (Some input) h
+on_the_way input s h spelt (inl none) = inl none
+on_the_way input s h spelt (inr way) =
+    inr (record { scenario = s; spelt = spelt; moves = way.moves; within = subst (λ (n : ℕ). way.moves ≤ n) (first_world-places s) way.within; is = way.is })
+
+pub stopped-early : (input : List ℕ) (s : Scenario) (h : List Entry) (old new : Option (List ℕ)) → scenario_of input ≡ Ok s → StoppedRun s h old new → RanOutEarly (Some input) h old new
+stopped-early input s h old new spelt stopped = record { unwritten = stopped.unwritten; on_the_way = on_the_way input s h spelt stopped.so_far }
+
+-- Where nothing was made of it, too.
+pub lost-early : (input : List ℕ) (h : List Entry) (old new : Option (List ℕ)) → h ≡ [] → new ≡ old → RanOutEarly (Some input) h old new
+lost-early input h old new none same = record { unwritten = same; on_the_way = inl none }
+
+pub ruleset early = (stopped-early, lost-early)
