@@ -2,5 +2,10 @@
 #![tactic(auto)]
 
 mod cuts;
+mod lines;
+mod refusals;
+mod runs;
 
 pub use cuts::Cut;
+pub use refusals::write_refusal;
+pub use runs::write_run;
