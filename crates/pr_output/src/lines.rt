@@ -14,7 +14,8 @@ use pr_plain::{write_entry, write_heading, write_status};
 
 /// Puts a text.
 pub(crate) fn put<K: Sink>(sink: &mut K, text: &[u8]) -> Result<(), Cut>
-    ensures { Puts result (K.written sink.old) (K.written sink.new) (K.faults sink.old) (K.faults sink.new) text.now }
+    ensures { Puts result (K.written sink.old) (K.written sink.new) (K.faults sink.old) (K.faults sink.new)
+        text.now }
 {
     Ok(write_all(sink, text)?)
 }
@@ -25,7 +26,8 @@ pub(crate) fn put_heading<K: Sink>(
     sink: &mut K,
     entries: usize,
 ) -> Result<(), Cut>
-    ensures { Puts result (K.written sink.old) (K.written sink.new) (K.faults sink.old) (K.faults sink.new) (heading_text entries) }
+    ensures { Puts result (K.written sink.old) (K.written sink.new) (K.faults sink.old) (K.faults sink.new)
+        (heading_text entries) }
 {
     line.clear();
     write_heading(line, entries)?;
@@ -39,7 +41,8 @@ fn put_entry<K: Sink>(
     number: usize,
     entry: &Entry,
 ) -> Result<(), Cut>
-    ensures { Puts result (K.written sink.old) (K.written sink.new) (K.faults sink.old) (K.faults sink.new) (entry_text number entry.now) }
+    ensures { Puts result (K.written sink.old) (K.written sink.new) (K.faults sink.old) (K.faults sink.new)
+        (entry_text number entry.now) }
 {
     line.clear();
     write_entry(line, number, entry)?;
@@ -52,7 +55,8 @@ pub(crate) fn put_entries<K: Sink>(
     sink: &mut K,
     history: &History,
 ) -> Result<(), Cut>
-    ensures { Puts result (K.written sink.old) (K.written sink.new) (K.faults sink.old) (K.faults sink.new) (entries_text 0 history.now.entries) }
+    ensures { Puts result (K.written sink.old) (K.written sink.new) (K.faults sink.old) (K.faults sink.new)
+        (entries_text 0 history.now.entries) }
 {
     for i in 0..history.len() {
         let entry = history.get(i).unwrap();
@@ -63,7 +67,8 @@ pub(crate) fn put_entries<K: Sink>(
 
 /// Puts the line that tells the status. `line` is a buffer.
 pub(crate) fn put_status<K: Sink>(line: &mut Vec<u8>, sink: &mut K, status: u8) -> Result<(), Cut>
-    ensures { Puts result (K.written sink.old) (K.written sink.new) (K.faults sink.old) (K.faults sink.new) (status_text status) }
+    ensures { Puts result (K.written sink.old) (K.written sink.new) (K.faults sink.old) (K.faults sink.new)
+        (status_text status) }
 {
     line.clear();
     write_status(line, status)?;
