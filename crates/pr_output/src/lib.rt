@@ -2,5 +2,13 @@
 #![tactic(auto)]
 
 mod cuts;
+mod lines;
+mod refusals;
+mod runs;
 
 pub use cuts::Cut;
+pub use refusals::write_refusal;
+pub use runs::write_run;
+
+#[cfg(test)]
+mod tests;

@@ -1,0 +1,58 @@
+-- The lines of entries, cut at one of them.
+use Rattle.std.proofs.Common.{rules, ◌≡◌, ℕ, ◌+◌, List, [], ◌∷◌, ◌++◌, Some, suc, None, Option, Bor, ◌<◌, length, get_or, take, drop, sym, ap, ◌∙◌, arith, append_assoc, drop-cons}
+use Rattle.std.proofs.Math.Seq.{take-add}
+use Rattle.std.proofs.lemmas.List.{take-append-drop, length-take-le}
+use Rattle.std.proofs.lemmas.Option.{slice_get_within, get_or_from_slice_get, slice_get-get_or}
+use Rattle.std.specs.List.{slice_get}
+use Rattle.std.specs.Option.{IsSome, option_copied}
+use Rattle.pr_model.specs.declared.events.Entry.{Entry}
+use Rattle.pr_plain.specs.HistoryText.{entry_text, entries_text}
+use Rattle.pr_plain.proofs.LineLemmas.{entries_text-end}
+
+-- the lines of two parts of a history, one behind the other
+pub entries_text-append : (n : ℕ) (xs ys : List Entry) → entries_text n (xs ++ ys) ≡ entries_text n xs ++ entries_text (n + length xs) ys
+unfolding entries_text
+entries_text-append n [] ys = ap (λ k. entries_text k ys) {x = n} {y = n + 0} (omega arith)
+entries_text-append n (x ∷ xs) ys =
+    ap (λ text. entry_text n x ++ text) (entries_text-append (n + 1) xs ys ∙ ap (λ k. entries_text (n + 1) xs ++ entries_text k ys) {x = n + 1 + length xs} {y = n + length (x ∷ xs)} (omega arith))
+    ∙ sym (append_assoc (entry_text n x) (entries_text (n + 1) xs) (entries_text (n + length (x ∷ xs)) ys))
+
+-- from the entry at a place on, the history is that entry and the others
+drop-at : (i : ℕ) (h : List Entry) (e : Entry) → slice_get h i ≡ Some e → drop i h ≡ e ∷ drop (i + 1) h
+drop-at i h e is =
+    drop-cons h i e (slice_get_within h i e is)
+    ∙ ap (λ j. get_or h i e ∷ drop j h) {x = suc i} {y = i + 1} (omega arith)
+    ∙ ap (λ x. x ∷ drop (i + 1) h) (get_or_from_slice_get h i e e is)
+
+-- what stands before the entry at a place, and that entry
+pub take-at : (i : ℕ) (h : List Entry) (e : Entry) → slice_get h i ≡ Some e → take (i + 1) h ≡ take i h ++ e ∷ []
+take-at i h e is = take-add i 1 h ∙ ap (λ xs. take i h ++ take 1 xs) (drop-at i h e is)
+
+-- as many entries stand before a place as it counts
+length-before : (i : ℕ) (h : List Entry) (e : Entry) → slice_get h i ≡ Some e → 0 + length (take i h) ≡ i
+length-before i h e is = omega (arith, length-take-le i h (omega (arith, slice_get_within h i e is)))
+
+-- the lines before the entry at a place, its own, and those behind it
+pub entries_text-at : (i : ℕ) (h : List Entry) (e : Entry) → slice_get h i ≡ Some e → entries_text 0 h ≡ entries_text 0 (take i h) ++ (entry_text i e ++ entries_text (i + 1) (drop (i + 1) h))
+unfolding entries_text
+entries_text-at i h e is =
+    ap (entries_text 0) (sym (take-append-drop i h) ∙ ap (λ xs. take i h ++ xs) (drop-at i h e is))
+    ∙ entries_text-append 0 (take i h) (e ∷ drop (i + 1) h)
+    ∙ ap (λ k. entries_text 0 (take i h) ++ entries_text k (e ∷ drop (i + 1) h)) (length-before i h e is)
+
+-- the lines up to and with the entry at a place
+pub entries_text-next : (i : ℕ) (h : List Entry) (e : Entry) → slice_get h i ≡ Some e → entries_text 0 (take (i + 1) h) ≡ entries_text 0 (take i h) ++ entry_text i e
+unfolding entries_text
+entries_text-next i h e is =
+    ap (entries_text 0) (take-at i h e is) ∙ entries_text-end 0 (take i h) e
+    ∙ ap (λ k. entries_text 0 (take i h) ++ entry_text k e) (length-before i h e is)
+
+-- within a history there is an entry at each place
+pub found : (at : Option (Bor Entry)) (h : List Entry) (i : ℕ) → option_copied at ≡ slice_get h i → i < length h → IsSome at
+found None [] i is p = let no : ⊥ = omega (arith, p) in elim no [ ]
+found None (e ∷ es) i is p = let have : None ≡ Some (get_or (e ∷ es) i e) = is ∙ slice_get-get_or (e ∷ es) i e p in cc
+found (Some e) h i is p = search rules
+
+-- and this is it
+pub found-value : (at : Option (Bor Entry)) (h : List Entry) (i : ℕ) (e : Bor Entry) → at ≡ Some e → option_copied at ≡ slice_get h i → slice_get h i ≡ Some e.now
+found-value at h i e is gives = sym gives ∙ ap option_copied is

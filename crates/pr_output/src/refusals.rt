@@ -1,0 +1,55 @@
+ghost use Rattle.std.specs.Prelude.{◌≡◌, ◌≤◌, ◌++◌, OnOk, IsErrOf};
+ghost use Rattle.pr_io.specs.Faults.{Rose};
+ghost use Rattle.pr_io.specs.Known.{with_end};
+ghost use Rattle.pr_io.specs.Writing.{AppendsFront};
+ghost use Rattle.pr_output.specs.Output.{AppendsSome, refusal_text};
+ghost use Rattle.pr_output.specs.Puts.{Puts};
+ghost use Rattle.pr_output.specs.declared.cuts.Cut.TheVariants as variants;
+
+use crate::Cut;
+use crate::lines::put;
+use pr_io::Sink;
+use pr_num::NoMemory;
+use std::alloc::Global;
+
+// Writes the line of a refusal into a buffer.
+#[tactic(auto, unfolding(crate::specs::Output::refusal_text))]
+fn write_line(out: &mut Vec<u8>, line: u32, kind: &[u8]) -> Result<(), NoMemory>
+    ensures { OnOk result (out.new.items ≡ out.old.items ++ refusal_text line kind.now) }
+{
+    out.extend_from_slice(b"line ")?;
+    out.extend_from_slice(itoa::Buffer::new().format(line).as_bytes())?;
+    out.extend_from_slice(b": ")?;
+    out.extend_from_slice(kind)?;
+    Ok(out.extend_from_slice(b"\n")?)
+}
+
+// Puts the text of a refusal.
+fn put_refusal<K: Sink>(alloc: Global, sink: &mut K, line: u32, kind: &[u8]) -> Result<(), Cut>
+    ensures { Puts result (K.written sink.old) (K.written sink.new) (K.faults sink.old) (K.faults sink.new)
+        (refusal_text line kind.now) }
+{
+    let mut text = Vec::new(alloc);
+    write_line(&mut text, line, kind)?;
+    put(sink, &text)
+}
+
+/// Writes to a sink why an input is refused: the first line at fault, which counts from 1, and what is wrong with it.
+///
+/// Where a write fails, the sink has a front of the text that lacks some bytes; where memory runs out, a front of it.
+pub fn write_refusal<K: Sink>(
+    alloc: Global,
+    sink: &mut K,
+    line: u32,
+    kind: &[u8],
+) -> Result<(), Cut>
+    ensures ok { OnOk result (K.written sink.new ≡ with_end (K.written sink.old) (refusal_text line kind.now)) }
+    ensures failed { IsErrOf result variants.WriteFailed
+        → AppendsFront (K.written sink.old) (K.written sink.new) (refusal_text line kind.now) }
+    ensures rose { IsErrOf result variants.WriteFailed → Rose (K.faults sink.old) (K.faults sink.new) }
+    ensures memory { IsErrOf result variants.NoMemory
+        → AppendsSome (K.written sink.old) (K.written sink.new) (refusal_text line kind.now) }
+    ensures never_falls { K.faults sink.old ≤ K.faults sink.new }
+{
+    put_refusal(alloc, sink, line, kind)
+}
