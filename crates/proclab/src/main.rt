@@ -3,11 +3,11 @@
 
 mod answers;
 mod commands;
+mod inputs;
 mod outcomes;
 mod responses;
 mod runs;
 mod serving;
-mod stub;
 #[cfg(test)]
 mod tests;
 

@@ -12,8 +12,8 @@ use crate::runs::make_run;
 use pr_io::Sink;
 use pr_model::History;
 use pr_num::Bytes;
-use crate::stub::{write_refusal, write_run};
-use pr_output::Cut;
+
+use pr_output::{Cut, write_refusal, write_run};
 use pr_scen::{ScenFault, ScenKind, ScenRefusal, Scenario, read_scenario};
 use pr_world::End;
 use std::alloc::Global;
