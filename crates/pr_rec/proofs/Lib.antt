@@ -1,2 +1,7 @@
+pub mod FieldLemmas
+pub mod LwpStatusLemmas
+pub mod MapEntryLemmas
+pub mod PsinfoLemmas
 pub mod ReadLemmas
 pub mod RecordLemmas
+pub mod UsageLemmas

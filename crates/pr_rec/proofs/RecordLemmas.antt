@@ -4,15 +4,15 @@ use Rattle.std.proofs.lemmas.Bool.{lt-ltb, ltb-true, cases_Bool}
 use Rattle.std.proofs.lemmas.List.Elements.{All-nil, All-cons, All-head, All-tail, All-take, All-drop}
 use Rattle.std.proofs.Math.Seq.{take-add}
 use Rattle.pr_num.specs.Words.{IsByte, IsWord, word_bytes, words_bytes, word_of}
-use Rattle.pr_num.specs.Records.{Range, below, SpellsRecord, first_out_of_range, usage_ranges}
+use Rattle.pr_num.specs.Records.{Range, below, SpellsRecord, first_out_of_range, any_word}
 use Rattle.pr_codec.proofs.WordLemmas.{word_bytes-word_of}
 use Rattle.pr_rec.proofs.ReadLemmas.{words-front_words, front_words-take, words_read-whole}
 use Rattle.pr_rec.specs.Fields.{front_words}
 use Rattle.pr_rec.specs.Reading.{BeginsWith, unless_out, record_read, first_unfit, words_read}
-use Rattle.pr_rec.specs.RecordWords.{usage_words_of}
+use Rattle.pr_rec.specs.RecordWords.{IsNameField}
 use Rattle.pr_rec.specs.declared.faults.RecFault.{RecFault}
 use Rattle.pr_rec.specs.declared.faults.RecFault.TheVariants.{Short}
-use Rattle.pr_rec.specs.declared.usages.Usage.{Usage}
+use Rattle.std.proofs.lemmas.List.{take_all}
 
 -- ---- words in ranges
 
@@ -28,7 +28,7 @@ AreRangedWords [] ws = Unit {0}
 AreRangedWords (r ∷ rs) [] = ⊥
 AreRangedWords (r ∷ rs) (w ∷ ws) = (IsWord w → r w ≡ true) × AreRangedWords rs ws
 
-first_unfit-none : (rs : List Range) (ws : List ℕ) (at : ℕ) → All IsWord ws → AreRangedWords rs ws → first_unfit at rs ws ≡ None
+pub first_unfit-none : (rs : List Range) (ws : List ℕ) (at : ℕ) → All IsWord ws → AreRangedWords rs ws → first_unfit at rs ws ≡ None
 first_unfit-none [] ws at fit ranged = refl
 first_unfit-none (r ∷ rs) [] at fit ranged = absurd ranged
 first_unfit-none (r ∷ rs) (w ∷ ws) at fit ranged = rw (ranged.0 (All-head IsWord w ws fit)) (first_unfit-none rs ws (at + 1) (All-tail IsWord w ws fit) ranged.1)
@@ -63,7 +63,7 @@ each_of-elements (suc n) [] size = absurd (omega arith)
 each_of-elements (suc n) (x ∷ xs) size = ap (λ ys. x ∷ ys) (each_of-elements n xs (omega arith))
 
 -- the range of a place
-abbrev range_at : List Range → ℕ → Range
+abbrev pub range_at : List Range → ℕ → Range
 range_at [] i = λ _. true
 range_at (r ∷ rs) zero = r
 range_at (r ∷ rs) (suc i) = range_at rs i
@@ -79,7 +79,7 @@ abbrev pub TakeWords : List Range → Type 0
 TakeWords [] = Unit {0}
 TakeWords (r ∷ rs) = ((w : ℕ) → r w ≡ true → IsWord w) × TakeWords rs
 
-AreWords-ranged : (rs : List Range) (ws : List ℕ) → TakeWords rs → AreRanged rs ws → length ws ≡ length rs → All IsWord ws
+pub AreWords-ranged : (rs : List Range) (ws : List ℕ) → TakeWords rs → AreRanged rs ws → length ws ≡ length rs → All IsWord ws
 AreWords-ranged [] [] take ranged size = All-nil IsWord
 AreWords-ranged [] (w ∷ ws) take ranged size = absurd (omega arith)
 AreWords-ranged (r ∷ rs) [] take ranged size = absurd ranged
@@ -105,13 +105,13 @@ words_read-ranged rs bytes ws read = by (ltb (length bytes) (8 * length rs)) rea
     by true e = absurd cc
     by false e = found _ refl e
 
-words_read-at : (rs : List Range) (bytes ws : List ℕ) (i : ℕ) → words_read rs bytes ≡ Ok ws → range_at rs i (get_or ws i 0) ≡ true
+pub words_read-at : (rs : List Range) (bytes ws : List ℕ) (i : ℕ) → words_read rs bytes ≡ Ok ws → range_at rs i (get_or ws i 0) ≡ true
 words_read-at rs bytes ws i read = AreRanged-at rs ws i (words_read-ranged rs bytes ws read)
 
 -- ---- bytes that begin with a record
 
 -- the bytes of the words at the front are those that stand there
-words_bytes-front_words : (n : ℕ) (bytes : List ℕ) → All IsByte bytes → 8 * n ≤ length bytes → words_bytes (front_words n bytes) ≡ take (8 * n) bytes
+pub words_bytes-front_words : (n : ℕ) (bytes : List ℕ) → All IsByte bytes → 8 * n ≤ length bytes → words_bytes (front_words n bytes) ≡ take (8 * n) bytes
 words_bytes-front_words zero bytes small enough = refl
 words_bytes-front_words (suc n) bytes small enough =
     let first : word_bytes (word_of (take 8 bytes)) ≡ take 8 bytes =
@@ -127,7 +127,7 @@ pub record AreTested (ranges : List Range) : Type 0 where
   pub words : (ws : List ℕ) → AreRanged ranges ws → length ws ≡ length ranges → All IsWord ws
 
 module _ (ranges : List Range) (tested : AreTested ranges) (bytes : List ℕ) where
-  record_read-words_read : record_read ranges bytes ≡ words_read ranges bytes
+  pub record_read-words_read : record_read ranges bytes ≡ words_read ranges bytes
   unfolding record_read words_read
   record_read-words_read =
       ap (λ o. cond (ltb (length bytes) (8 * length ranges)) (Err Short) (unless_out (front_words (length ranges) bytes) o)) (tested.same (front_words (length ranges) bytes) (length-front_words (length ranges) bytes))
@@ -177,7 +177,7 @@ module _ (ranges : List Range) (tested : AreTested ranges) (bytes : List ℕ) wh
 
   -- A record is decoded exactly where the bytes begin with it. `IsWhole` says which values there are.
   module _ {T : Type 0} (words_of : T → List ℕ) (IsWhole : T → Type 0) (one_value : (x y : T) → IsWhole x → IsWhole y → words_of x ≡ words_of y → x ≡ y) (small : All IsByte bytes) where
-    decoded : (r : Result T RecFault) → IfOk r (λ x. record_read ranges bytes ≡ Ok (words_of x)) → IfErr r (λ fault. record_read ranges bytes ≡ Err fault) → IfOk r IsWhole → (x : T) → (r ≡ Ok x) ↔ (IsWhole x × BeginsWith ranges bytes (words_of x))
+    pub decoded : (r : Result T RecFault) → IfOk r (λ x. record_read ranges bytes ≡ Ok (words_of x)) → IfErr r (λ fault. record_read ranges bytes ≡ Err fault) → IfOk r IsWhole → (x : T) → (r ≡ Ok x) ↔ (IsWhole x × BeginsWith ranges bytes (words_of x))
     decoded (Ok y) read bad whole x = (to, from)
       where
         to : (let r : Result T RecFault = Ok y in r ≡ Ok x) → IsWhole x × BeginsWith ranges bytes (words_of x)
@@ -191,40 +191,21 @@ module _ (ranges : List Range) (tested : AreTested ranges) (bytes : List ℕ) wh
             ap Ok (one_value y x whole h.0 words)
     decoded (Err fault) read bad whole x = (λ e. absurd cc, λ h. absurd (ok-err _ _ (sym (begins-read (words_of x) h.1) ∙ bad)))
 
--- ---- usage
+-- ---- what the lemmas of each record are made of
 
-pub usage_read : (bytes : List ℕ) → record_read usage_ranges bytes ≡ words_read usage_ranges bytes
-unfolding record_read words_read
-usage_read bytes = refl
+-- what holds of every word below a bound, and of any word
+pub below-word : (bound : ℕ) → bound ≤ 2 ^ 64 → (w : ℕ) → below bound w ≡ true → IsWord w
+below-word bound small w e = omega (arith, ltb-true w bound e)
 
-pub usage_id : (bytes ws : List ℕ) → words_read usage_ranges bytes ≡ Ok ws → get_or ws 0 0 < 2 ^ 32
-usage_id bytes ws read = ltb-true _ _ (words_read-at usage_ranges bytes ws 0 read)
+pub any-word : (w : ℕ) → any_word w ≡ true → IsWord w
+any-word w e = ltb-true w (2 ^ 64) e
 
-pub usage-ranged : (u : Usage) → u.id < 2 ^ 32 → All IsWord (usage_words_of u) → first_out_of_range usage_ranges (usage_words_of u) ≡ None
-usage-ranged u id fit =
-    first_unfit-none usage_ranges (usage_words_of u) 0 fit ((λ _. lt-ltb _ _ id), (lt-ltb _ _, (lt-ltb _ _, (lt-ltb _ _, (lt-ltb _ _, tt)))))
+pub word-any : (w : ℕ) → IsWord w → any_word w ≡ true
+word-any w small = lt-ltb w (2 ^ 64) small
 
--- what holds of every word below a bound
-below-word : (w bound : ℕ) → bound ≤ 2 ^ 64 → below bound w ≡ true → IsWord w
-below-word w bound small e = omega (arith, ltb-true w bound e)
-
-usage_tested : AreTested usage_ranges
-usage_tested = record {
-  same = λ ws size. (let P : List ℕ → Type 0 = λ xs. first_out_of_range usage_ranges xs ≡ first_unfit 0 usage_ranges xs in subst P (each_of-elements 5 ws size) refl);
-  words = λ ws ranged size. AreWords-ranged usage_ranges ws ((λ w. below-word w _ (omega arith)), ((λ w. below-word w _ (omega arith)), ((λ w. below-word w _ (omega arith)), ((λ w. below-word w _ (omega arith)), ((λ w. below-word w _ (omega arith)), tt))))) ranged size;
-}
-
-same_usage : (u v : Usage) → usage_words_of u ≡ usage_words_of v → u ≡ v
-same_usage u v e = by (λ id calls signals faults instructions. record { id = id; calls = calls; signals = signals; faults = faults; instructions = instructions })
-  where
-    by : (f : ℕ → ℕ → ℕ → ℕ → ℕ → Usage) → f u.id u.calls u.signals u.faults u.instructions ≡ f v.id v.calls v.signals v.faults v.instructions
-    by f = cc
-
-pub usage-spelt : (bytes : List ℕ) (r : Result Usage RecFault) → All IsByte bytes → IfOk r (λ u. record_read usage_ranges bytes ≡ Ok (usage_words_of u)) → IfErr r (λ fault. record_read usage_ranges bytes ≡ Err fault) → (u : Usage) → (r ≡ Ok u) ↔ BeginsWith usage_ranges bytes (usage_words_of u)
-usage-spelt bytes r small read bad u =
-    let iff = decoded usage_ranges usage_tested bytes usage_words_of (λ _. Unit {0}) (λ x y _ _ e. same_usage x y e) small r read bad (whole r) u in
-    (λ e. (iff.0 e).1, λ h. iff.1 (tt, h))
-  where
-    whole : (r : Result Usage RecFault) → IfOk r (λ _. Unit {0})
-    whole (Ok x) = tt
-    whole (Err fault) = tt
+-- two names with the same words are the same
+pub same_name : (a b : List ℕ) → IsNameField a → IsNameField b → front_words 4 a ≡ front_words 4 b → a ≡ b
+same_name a b a_whole b_whole e =
+    let back : (n : List ℕ) → IsNameField n → words_bytes (front_words 4 n) ≡ n =
+    λ n whole. words_bytes-front_words 4 n whole.bytes (omega (arith, whole.whole)) ∙ take_all 32 n (omega (arith, whole.whole)) in
+    sym (back a a_whole) ∙ ap words_bytes e ∙ back b b_whole

@@ -1,4 +1,4 @@
-use Rattle.std.specs.Prelude.{ℕ, zero, suc, Bool, true, false, List, [], ◌∷◌, Option, Some, None, take, drop}
+use Rattle.std.specs.Prelude.{ℕ, zero, suc, Bool, true, false, List, [], ◌∷◌, Option, Some, None, take, drop, slice_index, ◌+◌}
 use Rattle.pr_num.specs.Words.{word_of}
 use Rattle.pr_rec.specs.declared.lwps.Disposition.{Disposition}
 use Rattle.pr_rec.specs.declared.lwps.Disposition.TheVariants.{Default, Ignored, Caught}
@@ -25,6 +25,14 @@ disposition_number Caught = 2
 abbrev pub front_words : ℕ → List ℕ → List ℕ
 front_words zero bytes = []
 front_words (suc n) bytes = word_of (take 8 bytes) ∷ front_words n (drop 8 bytes)
+
+-- so many words of an array of them
+abbrev pub elements : ℕ → List ℕ → List ℕ
+elements n xs = elements_from 0 n
+  where
+    elements_from : ℕ → ℕ → List ℕ
+    elements_from at zero = []
+    elements_from at (suc n) = slice_index xs at ∷ elements_from (at + 1) n
 
 -- the 4 words of a field that is a name
 abbrev pub name_words : List ℕ → List ℕ

@@ -29,11 +29,47 @@ impl Column {
     /// A process id or an lwp id.
     pub(crate) const ID: Column = Column::Below(1 << 32);
 
+    /// A truth value.
+    pub(crate) const TRUTH: Column = Column::Below(2);
+
     /// A signal's number, or 0 for none.
     pub(crate) const SIGNAL: Column = Column::Below(32);
 
+    /// A fault's number, or 0 for none.
+    pub(crate) const FAULT: Column = Column::Below(9);
+
+    /// A system call's number, or 0 for none.
+    pub(crate) const CALL: Column = Column::Below(30);
+
+    /// A stop reason's number, or 0 for none.
+    pub(crate) const REASON: Column = Column::Below(8);
+
+    /// The number of what an lwp is stopped for, or 0.
+    pub(crate) const MATTER: Column = Column::Below(32);
+
     /// A set of signals.
     pub(crate) const SIGNALS: Column = Column::Below(1 << 31);
+
+    /// A set of faults.
+    pub(crate) const FAULTS: Column = Column::Below(1 << 8);
+
+    /// A set of system calls.
+    pub(crate) const CALLS: Column = Column::Below(1 << 29);
+
+    /// The flags of an lwp.
+    pub(crate) const LWP_FLAGS: Column = Column::Below(64);
+
+    /// The flags of a process.
+    pub(crate) const PROCESS_FLAGS: Column = Column::Below(32);
+
+    /// How a process disposes of a signal.
+    pub(crate) const DISPOSITION: Column = Column::Below(3);
+
+    /// What a mapping allows.
+    pub(crate) const PROTECTION: Column = Column::Below(8);
+
+    /// What a mapping is for.
+    pub(crate) const MAPPING_KIND: Column = Column::OneTo(5);
 
     /// Whether a word may stand here.
     fn fits(self, word: u64) -> bool
@@ -69,7 +105,7 @@ fn first_unfit(columns: &[Column], words: &[u64]) -> Option<usize>
 }
 
 /// The words of bytes that are as many words as `words` has places.
-fn fill(bytes: &[u8], words: &mut [u64])
+pub(crate) fn fill(bytes: &[u8], words: &mut [u64])
     requires { length bytes.now ≡ 8 * length words.old }
     ensures { words.new ≡ front_words (length words.old) bytes.now }
 {

@@ -3,9 +3,14 @@
 
 mod columns;
 mod faults;
+mod fields;
 mod lwps;
+mod mappings;
+mod processes;
 mod usages;
 
 pub use faults::RecFault;
-pub use lwps::Disposition;
+pub use lwps::{Disposition, LwpStatus};
+pub use mappings::MapEntry;
+pub use processes::Psinfo;
 pub use usages::Usage;

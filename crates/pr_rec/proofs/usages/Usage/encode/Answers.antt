@@ -1,7 +1,7 @@
 use Rattle.std.proofs.Common.{refl, subst, ap, ◌∙◌}
 use Rattle.std.specs.List.{All}
 use Rattle.pr_num.specs.Words.{IsWord, words_bytes}
-use Rattle.pr_rec.proofs.RecordLemmas.{usage-ranged}
+use Rattle.pr_rec.proofs.UsageLemmas.{usage-ranged}
 use Rattle.pr_rec.proofs.usages.Usage.encode.Goals as goal
 
 pub returns : goal.returns
