@@ -4,4 +4,5 @@ pub mod MapEntryLemmas
 pub mod PsinfoLemmas
 pub mod ReadLemmas
 pub mod RecordLemmas
+pub mod StatusLemmas
 pub mod UsageLemmas

@@ -4,9 +4,9 @@ use Rattle.std.proofs.lemmas.Bool.{lt-ltb, ltb-true}
 use Rattle.pr_num.specs.Words.{IsByte, IsWord}
 use Rattle.pr_num.specs.Records.{first_out_of_range, lwpstatus_ranges}
 use Rattle.pr_rec.proofs.FieldLemmas.{same_reason, reason_small, same_signal, signal_small, same_fault, fault_small, same_call, call_small, same_errno, an_errno-field, errno-word, same_disposition, disposition_small}
-use Rattle.pr_rec.proofs.RecordLemmas.{AreTested, each_of-elements, AreWords-ranged, first_unfit-none, words_read-at, decoded, below-word, any-word, word-any}
+use Rattle.pr_rec.proofs.RecordLemmas.{AreTested, AreRanged, AreRanged-at, each_of-elements, AreWords-ranged, first_unfit-none, words_read-at, decoded, below-word, any-word, word-any}
 use Rattle.pr_rec.specs.Reading.{BeginsWith, record_read, words_read, first_unfit}
-use Rattle.pr_rec.specs.RecordWords.{lwpstatus_words_of, IsLwpStatus}
+use Rattle.pr_rec.specs.RecordWords.{lwpstatus_words_of, IsLwpStatus, HasLwpStatusFields}
 use Rattle.pr_rec.specs.declared.faults.RecFault.{RecFault}
 use Rattle.pr_num.specs.declared.errnos.Errno.{Errno}
 use Rattle.pr_num.specs.declared.faults.Flt.{Flt}
@@ -31,12 +31,27 @@ lwpstatus_tested = record {
   words = λ ws ranged size. AreWords-ranged lwpstatus_ranges ws (below-word _ (omega arith), (below-word _ (omega arith), (below-word _ (omega arith), (below-word _ (omega arith), (below-word _ (omega arith), (below-word _ (omega arith), (any-word, (below-word _ (omega arith), (any-word, (any-word, (any-word, (any-word, (any-word, (any-word, (any-word, (errno-word, (below-word _ (omega arith), (below-word _ (omega arith), (any-word, (any-word, (any-word, (any-word, (any-word, (any-word, (any-word, (any-word, (any-word, (any-word, (any-word, (below-word _ (omega arith), tt)))))))))))))))))))))))))))))) ranged size;
 }
 
+-- words that are in their ranges have fields that are in theirs
+pub lwpstatus_fields : (ws : List ℕ) → length ws ≡ 30 → AreRanged lwpstatus_ranges ws → HasLwpStatusFields ws
+lwpstatus_fields ws size ranged = record {
+  size = size;
+  id = ltb-true _ _ (AreRanged-at lwpstatus_ranges ws 1 ranged);
+  why = ltb-true _ _ (AreRanged-at lwpstatus_ranges ws 2 ranged);
+  signal = ltb-true _ _ (AreRanged-at lwpstatus_ranges ws 4 ranged);
+  fault = ltb-true _ _ (AreRanged-at lwpstatus_ranges ws 5 ranged);
+  call = ltb-true _ _ (AreRanged-at lwpstatus_ranges ws 7 ranged);
+  errno = AreRanged-at lwpstatus_ranges ws 15 ranged;
+  held = ltb-true _ _ (AreRanged-at lwpstatus_ranges ws 16 ranged);
+  pending = ltb-true _ _ (AreRanged-at lwpstatus_ranges ws 17 ranged);
+  disposition = ltb-true _ _ (AreRanged-at lwpstatus_ranges ws 29 ranged);
+}
+
 -- an lwp's status of its fields
 abbrev mk : ℕ → ℕ → Option StopReason → ℕ → Option Sig → Option Flt → ℕ → Option Sysno → List ℕ → ℕ → Option Errno → ℕ → ℕ → List ℕ → Disposition → LwpStatus
 mk flags id why what signal fault fault_address call arguments result errno held pending regs disposition =
     record { flags = flags; id = id; why = why; what = what; signal = signal; fault = fault; fault_address = fault_address; call = call; arguments = arguments; result = result; errno = errno; held = held; pending = pending; regs = regs; disposition = disposition }
 
-same_lwpstatus : (x y : LwpStatus) → IsLwpStatus x → IsLwpStatus y → lwpstatus_words_of x ≡ lwpstatus_words_of y → x ≡ y
+pub same_lwpstatus : (x y : LwpStatus) → IsLwpStatus x → IsLwpStatus y → lwpstatus_words_of x ≡ lwpstatus_words_of y → x ≡ y
 same_lwpstatus x y x_whole y_whole e =
     let flags : x.flags ≡ y.flags = ap (λ ws. get_or ws 0 0) e in
     let id : x.id ≡ y.id = ap (λ ws. get_or ws 1 0) e in

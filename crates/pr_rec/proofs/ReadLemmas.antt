@@ -77,3 +77,13 @@ words_read-columns columns bytes words n found size enough same first =
 -- a list of which every element fits in 8 bits is one of bytes
 pub AreBytes-fits : (bytes : List ℕ) → ((i : ℕ) → Fits w8 (get_or bytes i 0)) → All IsByte bytes
 AreBytes-fits bytes fits = All-from_get_or IsByte bytes 0 (λ i inside. let small = fits i in omega arith)
+
+words_bytes-append : (xs ys : List ℕ) → words_bytes (xs ++ ys) ≡ words_bytes xs ++ words_bytes ys
+words_bytes-append [] ys = refl
+words_bytes-append (x ∷ xs) ys =
+    ap (λ rest. word_bytes x ++ rest) (words_bytes-append xs ys) ∙ sym (append_assoc (word_bytes x) (words_bytes xs) (words_bytes ys))
+
+-- the bytes of the words of two parts
+pub two_parts : (first second xs ys : List ℕ) → first ≡ xs → second ≡ ys → words_bytes first ++ words_bytes second ≡ words_bytes (xs ++ ys)
+two_parts first second xs ys e f =
+    ap (λ zs. words_bytes zs ++ words_bytes second) e ∙ ap (λ zs. words_bytes xs ++ words_bytes zs) f ∙ sym (words_bytes-append xs ys)

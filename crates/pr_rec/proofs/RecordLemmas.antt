@@ -68,7 +68,7 @@ range_at [] i = λ _. true
 range_at (r ∷ rs) zero = r
 range_at (r ∷ rs) (suc i) = range_at rs i
 
-AreRanged-at : (rs : List Range) (ws : List ℕ) (i : ℕ) → AreRanged rs ws → range_at rs i (get_or ws i 0) ≡ true
+pub AreRanged-at : (rs : List Range) (ws : List ℕ) (i : ℕ) → AreRanged rs ws → range_at rs i (get_or ws i 0) ≡ true
 AreRanged-at [] ws i ranged = refl
 AreRanged-at (r ∷ rs) [] i ranged = absurd ranged
 AreRanged-at (r ∷ rs) (w ∷ ws) zero ranged = ranged.0
@@ -86,12 +86,19 @@ AreWords-ranged (r ∷ rs) [] take ranged size = absurd ranged
 AreWords-ranged (r ∷ rs) (w ∷ ws) take ranged size =
     All-cons IsWord w ws (take.0 w ranged.0) (AreWords-ranged rs ws take.1 ranged.1 (omega arith))
 
+-- the words behind the first are in the ranges behind the first
+pub AreRanged-drop : (n : ℕ) (rs : List Range) (ws : List ℕ) → AreRanged rs ws → AreRanged (drop n rs) (drop n ws)
+AreRanged-drop zero rs ws ranged = ranged
+AreRanged-drop (suc n) [] ws ranged = tt
+AreRanged-drop (suc n) (r ∷ rs) [] ranged = absurd ranged
+AreRanged-drop (suc n) (r ∷ rs) (w ∷ ws) ranged = AreRanged-drop n rs ws ranged.1
+
 length-front_words : (n : ℕ) (bytes : List ℕ) → length (front_words n bytes) ≡ n
 length-front_words zero bytes = refl
 length-front_words (suc n) bytes = ap suc (length-front_words n (drop 8 bytes))
 
 -- what was read is in its ranges
-words_read-ranged : (rs : List Range) (bytes ws : List ℕ) → words_read rs bytes ≡ Ok ws → AreRanged rs ws
+pub words_read-ranged : (rs : List Range) (bytes ws : List ℕ) → words_read rs bytes ≡ Ok ws → AreRanged rs ws
 unfolding words_read
 words_read-ranged rs bytes ws read = by (ltb (length bytes) (8 * length rs)) read
   where

@@ -1,5 +1,5 @@
 //! The tables that say what each word of a record may hold, and the reading of a record by its table.
-ghost use Rattle.std.specs.Prelude.{◌≡◌, ◌+◌, ◌*◌, ◌-◌, ◌≤◌, ◌<◌, length, map, Ok, Err, IfErr, IfSome, OnOk};
+ghost use Rattle.std.specs.Prelude.{◌≡◌, ◌+◌, ◌*◌, ◌-◌, ◌≤◌, ◌<◌, ◌++◌, length, map, Ok, Err, IfErr, IfSome, OnOk};
 ghost use Rattle.std.specs.Prelude.{◌==◌};
 ghost use Rattle.std.specs.List.{All, list_any};
 ghost use Rattle.pr_num.specs.Words.{IsWord, words_bytes};
@@ -141,4 +141,16 @@ pub(crate) fn put_record(bytes: &mut [u8], words: &[u64])
     ensures words { All IsWord words.now }
 {
     put_words(bytes, words);
+}
+
+/// Writes the words of a record that has two parts.
+pub(crate) fn put_two(bytes: &mut [u8], first: &[u64], second: &[u64])
+    requires { length bytes.old ≡ 8 * length first.now + 8 * length second.now }
+    ensures bytes { bytes.new ≡ words_bytes first.now ++ words_bytes second.now }
+    ensures first { All IsWord first.now }
+    ensures second { All IsWord second.now }
+{
+    let (front, back) = bytes.split_at_mut(WORD * first.len());
+    put_record(front, first);
+    put_record(back, second);
 }

@@ -7,10 +7,12 @@ mod fields;
 mod lwps;
 mod mappings;
 mod processes;
+mod statuses;
 mod usages;
 
 pub use faults::RecFault;
 pub use lwps::{Disposition, LwpStatus};
 pub use mappings::MapEntry;
 pub use processes::Psinfo;
+pub use statuses::Status;
 pub use usages::Usage;

@@ -1,8 +1,8 @@
-ghost use Rattle.std.specs.Prelude.{◌≡◌, ◌↔◌, ◌<◌, ◌^◌, Ok, Err, IfOk, IfErr, IsTrue, length, slice_index};
-ghost use Rattle.pr_num.specs.Records.{SpellsRecord, lwpstatus_ranges, an_errno};
+ghost use Rattle.std.specs.Prelude.{◌≡◌, ◌↔◌, ◌<◌, ◌^◌, Ok, Err, IfOk, IfErr};
+ghost use Rattle.pr_num.specs.Records.{SpellsRecord, lwpstatus_ranges};
 ghost use Rattle.pr_num.specs.Words.{words_bytes};
 ghost use Rattle.pr_rec.specs.Reading.{BeginsWith, record_read};
-ghost use Rattle.pr_rec.specs.RecordWords.{lwpstatus_words_of, IsLwpStatus};
+ghost use Rattle.pr_rec.specs.RecordWords.{lwpstatus_words_of, IsLwpStatus, HasLwpStatusFields};
 ghost use Rattle.pr_rec.specs.declared.lwps.LwpStatus.{LwpStatus as Decoded};
 
 use crate::RecFault;
@@ -167,16 +167,7 @@ impl LwpStatus {
     }
 
     pub(crate) fn from_words(words: &[u64]) -> LwpStatus
-        requires size { length words.now ≡ 30 }
-        requires id { slice_index words.now 1 < 2 ^ 32 }
-        requires why { slice_index words.now 2 < 8 }
-        requires signal { slice_index words.now 4 < 32 }
-        requires fault { slice_index words.now 5 < 9 }
-        requires call { slice_index words.now 7 < 30 }
-        requires errno { IsTrue (an_errno (slice_index words.now 15)) }
-        requires held { slice_index words.now 16 < 2 ^ 31 }
-        requires pending { slice_index words.now 17 < 2 ^ 31 }
-        requires disposition { slice_index words.now 29 < 3 }
+        requires { HasLwpStatusFields words.now }
         ensures words { lwpstatus_words_of result ≡ words.now }
         ensures whole { IsLwpStatus result }
     {
