@@ -2,15 +2,19 @@
 #![tactic(auto)]
 
 mod columns;
+mod entries;
 mod faults;
 mod fields;
+mod lists;
 mod lwps;
 mod mappings;
 mod processes;
 mod statuses;
 mod usages;
 
+pub use entries::{FdEntry, FdKind, ListEntry, WatchEntry};
 pub use faults::RecFault;
+pub use lists::{encode_sigact, write_fds, write_list, write_lstatus, write_map, write_watch};
 pub use lwps::{Disposition, LwpStatus};
 pub use mappings::MapEntry;
 pub use processes::Psinfo;

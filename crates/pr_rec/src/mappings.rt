@@ -65,7 +65,7 @@ impl MapEntry {
         Ok(MapEntry::from_words(&words))
     }
 
-    fn words(&self) -> [u64; 8]
+    pub(crate) fn words(&self) -> [u64; 8]
         ensures words { result ≡ map_entry_words_of self.now }
         ensures prot { self.now.prot < 8 }
     {
