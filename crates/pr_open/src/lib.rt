@@ -7,3 +7,6 @@ mod refusals;
 pub use opens::Opens;
 pub use pr_model::Held;
 pub use refusals::OpenNo;
+
+#[cfg(test)]
+mod tests;

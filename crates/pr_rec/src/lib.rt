@@ -20,3 +20,6 @@ pub use mappings::MapEntry;
 pub use processes::Psinfo;
 pub use statuses::Status;
 pub use usages::Usage;
+
+#[cfg(test)]
+mod tests;
