@@ -4,5 +4,6 @@ pub mod MapEntryLemmas
 pub mod PsinfoLemmas
 pub mod ReadLemmas
 pub mod RecordLemmas
+pub mod SpellingLemmas
 pub mod StatusLemmas
 pub mod UsageLemmas

@@ -21,7 +21,7 @@ map_entry_tested = record {
   words = λ ws ranged size. AreWords-ranged map_entry_ranges ws (any-word, (any-word, (below-word _ (omega arith), ((λ w ok. omega (arith, mapping_kind-to w ok)), (any-word, (any-word, (any-word, (any-word, tt)))))))) ranged size;
 }
 
-same_map_entry : (x y : MapEntry) → IsNameField x.name → IsNameField y.name → map_entry_words_of x ≡ map_entry_words_of y → x ≡ y
+pub same_map_entry : (x y : MapEntry) → IsNameField x.name → IsNameField y.name → map_entry_words_of x ≡ map_entry_words_of y → x ≡ y
 same_map_entry x y x_whole y_whole e =
     let kind : x.kind ≡ y.kind = same_kind x.kind y.kind cc in
     let name : x.name ≡ y.name = same_name x.name y.name x_whole y_whole (ap (drop 4) e) in

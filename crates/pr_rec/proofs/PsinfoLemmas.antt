@@ -21,7 +21,7 @@ psinfo_tested = record {
   words = λ ws ranged size. AreWords-ranged psinfo_ranges ws (below-word _ (omega arith), (below-word _ (omega arith), (any-word, (below-word _ (omega arith), (any-word, (any-word, (any-word, (below-word _ (omega arith), (any-word, (any-word, (any-word, (any-word, tt)))))))))))) ranged size;
 }
 
-same_psinfo : (x y : Psinfo) → IsNameField x.program → IsNameField y.program → psinfo_words_of x ≡ psinfo_words_of y → x ≡ y
+pub same_psinfo : (x y : Psinfo) → IsNameField x.program → IsNameField y.program → psinfo_words_of x ≡ psinfo_words_of y → x ≡ y
 same_psinfo x y x_whole y_whole e =
     let zombie : x.zombie ≡ y.zombie = same_truth x.zombie y.zombie cc in
     let job_stop : x.job_stop ≡ y.job_stop = same_signal x.job_stop y.job_stop cc in

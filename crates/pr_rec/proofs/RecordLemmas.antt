@@ -38,7 +38,7 @@ found-none true rest at e = (refl, e)
 found-none false rest at e = (cc, cc)
 
 -- where none is found out of its range, all are in theirs
-from-first_unfit : (rs : List Range) (ws : List ℕ) (at : ℕ) → length ws ≡ length rs → first_unfit at rs ws ≡ None → AreRanged rs ws
+pub from-first_unfit : (rs : List Range) (ws : List ℕ) (at : ℕ) → length ws ≡ length rs → first_unfit at rs ws ≡ None → AreRanged rs ws
 from-first_unfit [] ws at many none = tt
 from-first_unfit (r ∷ rs) [] at many none = absurd (omega arith)
 from-first_unfit (r ∷ rs) (w ∷ ws) at many none =

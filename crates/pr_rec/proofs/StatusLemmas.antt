@@ -34,7 +34,7 @@ abbrev mk : ℕ → ℕ → ℕ → ℕ → ℕ → ℕ → ℕ → ℕ → ℕ 
 mk flags id parent lwps pending traced_signals traced_faults traced_entries traced_exits heap_base heap_size agent areas lwp =
     record { flags = flags; id = id; parent = parent; lwps = lwps; pending = pending; traced_signals = traced_signals; traced_faults = traced_faults; traced_entries = traced_entries; traced_exits = traced_exits; heap_base = heap_base; heap_size = heap_size; agent = agent; areas = areas; lwp = lwp }
 
-same_status : (x y : Status) → IsLwpStatus x.lwp → IsLwpStatus y.lwp → status_words_of x ≡ status_words_of y → x ≡ y
+pub same_status : (x y : Status) → IsLwpStatus x.lwp → IsLwpStatus y.lwp → status_words_of x ≡ status_words_of y → x ≡ y
 same_status x y x_whole y_whole e =
     let flags : x.flags ≡ y.flags = ap (λ ws. get_or ws 0 0) e in
     let id : x.id ≡ y.id = ap (λ ws. get_or ws 1 0) e in

@@ -19,7 +19,7 @@ usage_tested = record {
   words = λ ws ranged size. AreWords-ranged usage_ranges ws (below-word _ (omega arith), (any-word, (any-word, (any-word, (any-word, tt))))) ranged size;
 }
 
-same_usage : (u v : Usage) → usage_words_of u ≡ usage_words_of v → u ≡ v
+pub same_usage : (u v : Usage) → usage_words_of u ≡ usage_words_of v → u ≡ v
 same_usage u v e = by (λ id calls signals faults instructions. record { id = id; calls = calls; signals = signals; faults = faults; instructions = instructions })
   where
     by : (f : ℕ → ℕ → ℕ → ℕ → ℕ → Usage) → f u.id u.calls u.signals u.faults u.instructions ≡ f v.id v.calls v.signals v.faults v.instructions

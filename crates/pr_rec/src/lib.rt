@@ -5,6 +5,7 @@ mod columns;
 mod entries;
 mod faults;
 mod fields;
+mod laws;
 mod lists;
 mod lwps;
 mod mappings;
@@ -14,6 +15,7 @@ mod usages;
 
 pub use entries::{FdEntry, FdKind, ListEntry, WatchEntry};
 pub use faults::RecFault;
+pub use laws::one_spelling_one_record;
 pub use lists::{encode_sigact, write_fds, write_list, write_lstatus, write_map, write_watch};
 pub use lwps::{Disposition, LwpStatus};
 pub use mappings::MapEntry;
