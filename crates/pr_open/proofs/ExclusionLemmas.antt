@@ -1,7 +1,7 @@
 -- Exclusive handles stay alone.
-use Rattle.std.proofs.Common.{◌≡◌, ◌≢◌, ◌⊎◌, ◌==◌, ◌<◌, ◌≤◌, ℕ, zero, suc, Bool, true, false, cond, eqb, ltb, ◌&&◌, ◌||◌, List, [], ◌∷◌, length, replicate, get_or, set, Option, None, Some, IsTrue, is_none, Result, Ok, Err, refl, sym, ap, subst, ◌∙◌, arith, inl, inr}
-use Rattle.std.specs.List.{list_any, position, position_or_len}
-use Rattle.std.proofs.lemmas.Bool.{and_parts, eqb-true, ltb-true, cases_eq, cases_lt, false≢true}
+use Rattle.std.proofs.Common.{◌≡◌, ◌⊎◌, ◌<◌, ℕ, zero, suc, Bool, true, false, cond, eqb, ◌&&◌, ◌||◌, List, [], length, replicate, get_or, set, Option, None, Some, IsTrue, is_none, Ok, Err, refl, sym, ap, ◌∙◌, arith, inl, inr}
+use Rattle.std.specs.List.{list_any, position}
+use Rattle.std.proofs.lemmas.Bool.{and_parts, eqb-true, cases_eq, cases_lt, false≢true}
 use Rattle.std.proofs.lemmas.List.{get_or-set_same, get_or-set_other, get_or_past, length-set}
 use Rattle.std.proofs.lemmas.List.Folds.{list_any_at}
 use Rattle.pr_model.specs.Handles.{is_writable, is_exclusive, is_writer, is_exclusive_writer, has_writer, has_exclusive_writer, conflicts}
@@ -9,8 +9,7 @@ use Rattle.pr_model.specs.State.{handle_places, nothing_open}
 use Rattle.pr_model.specs.declared.handles.Held.{Held}
 use Rattle.pr_open.specs.Exclusion.{AreExclusive}
 use Rattle.pr_open.specs.Opening.{open_answer, or_full}
-use Rattle.pr_open.specs.declared.refusals.OpenNo.{OpenNo}
-use Rattle.pr_open.specs.declared.refusals.OpenNo.TheVariants.{Busy, Full}
+use Rattle.pr_open.specs.declared.refusals.OpenNo.TheVariants.{Busy}
 
 or_true : (b : Bool) → (b || true) ≡ true
 or_true true = refl

@@ -1,19 +1,19 @@
 -- What holds of the places for handles by the keys of their numbers.
-use Rattle.std.proofs.Common.{◌≡◌, ◌≢◌, ◌==◌, ◌+◌, ◌<◌, ◌≤◌, ℕ, zero, suc, Bool, true, false, cond, eqb, eq-eqb, ◌||◌, ◌⊎◌, List, [], ◌∷◌, ◌++◌, length, map, replicate, get_or, set, Option, None, Some, IsSome, OnSome, is_some, is_none, Result, Ok, Err, refl, sym, ap, subst, ◌∙◌, arith, inl, inr}
-use Rattle.std.specs.List.{list_any, count_by, position, position_from, slice_get}
+use Rattle.std.proofs.Common.{◌≡◌, ◌≢◌, ◌+◌, ◌<◌, ◌≤◌, ℕ, zero, suc, Bool, true, false, cond, eq-eqb, ◌||◌, ◌⊎◌, List, [], ◌∷◌, ◌++◌, length, replicate, get_or, set, Option, None, Some, IsSome, OnSome, is_some, is_none, Result, Err, refl, sym, ap, ◌∙◌, arith, inl, inr}
+use Rattle.std.specs.List.{list_any, count_by, position, position_from}
 use Rattle.std.proofs.lemmas.Bool.{cases_eq, cases_lt, false≢true}
 use Rattle.std.proofs.lemmas.List.{length-set, length-replicate, get_or-set_same, get_or-set_other, get_or_past, replicate-append-replicate}
 use Rattle.std.proofs.lemmas.List.Sums.{count_by-le-length, sum_by-cons, sum_by-set}
 use Rattle.std.proofs.lemmas.Iterator.Adapters.{position_from-zero}
 use Rattle.std.proofs.lemmas.Option.{same_Some, none-some}
 use Rattle.slab.specs.Slab.{Slab, get, slab_len, Updates}
-use Rattle.pr_model.specs.Handles.{own, is_writer, has_writer, is_exclusive_writer, has_exclusive_writer, conflicts}
+use Rattle.pr_model.specs.Handles.{own, conflicts}
 use Rattle.pr_model.specs.State.{handle_places, nothing_open}
 use Rattle.pr_model.specs.declared.handles.Held.{Held}
 use Rattle.pr_open.specs.Keys.{held_at, places_of, IsKeyed}
 use Rattle.pr_open.specs.Opening.{open_answer, or_full, handle_in}
 use Rattle.pr_open.specs.declared.refusals.OpenNo.{OpenNo}
-use Rattle.pr_open.specs.declared.refusals.OpenNo.TheVariants.{Busy, Full}
+use Rattle.pr_open.specs.declared.refusals.OpenNo.TheVariants.{Busy}
 
 -- ---- reading
 

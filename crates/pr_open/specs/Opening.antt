@@ -1,4 +1,4 @@
-use Rattle.std.specs.Prelude.{ℕ, List, Option, Some, None, is_none, Result, Ok, Err, slice_get, slice_set, position, if◌then◌else◌}
+use Rattle.std.specs.Prelude.{ℕ, List, Option, Some, None, is_none, Result, Ok, Err, slice_get, position, if◌then◌else◌}
 use Rattle.pr_model.specs.Handles.{conflicts, own}
 use Rattle.pr_model.specs.declared.handles.Held.{Held}
 use Rattle.pr_open.specs.declared.refusals.OpenNo.{OpenNo}
