@@ -1,5 +1,5 @@
 -- A field of a record and its word are found by each other.
-use Rattle.std.proofs.Common.{◌≡◌, ◌↔◌, ◌==◌, ◌^◌, ◌<◌, ◌≤◌, ℕ, zero, suc, Bool, true, false, cond, eqb, leb, ◌||◌, ◌&&◌, inl, inr, List, [], ◌∷◌, length, Option, None, Some, IsSome, is_some, IsTrue, refl, sym, ap, ◌∙◌, arith}
+use Rattle.std.proofs.Common.{◌≡◌, ◌↔◌, ◌^◌, ◌<◌, ◌≤◌, ℕ, zero, suc, Bool, true, false, cond, eqb, leb, ◌||◌, inl, inr, List, [], ◌∷◌, Option, None, Some, IsSome, is_some, IsTrue, refl, sym, ap, ◌∙◌, arith}
 use Rattle.std.specs.List.{find, list_any, slice_get}
 use Rattle.std.proofs.lemmas.Option.{same_Some}
 use Rattle.std.proofs.lemmas.Bool.{eqb-true, false≢true, or_cases, and_parts, leb-true}

@@ -1,11 +1,11 @@
 -- The record of an lwp's status.
-use Rattle.std.proofs.Common.{take, drop, ◌≡◌, ◌↔◌, ◌^◌, ◌<◌, ◌≤◌, ℕ, List, [], ◌∷◌, length, get_or, All, Option, None, Some, Result, Ok, Err, IfOk, IfErr, refl, sym, ap, subst, ◌∙◌, arith}
+use Rattle.std.proofs.Common.{take, drop, ◌≡◌, ◌↔◌, ◌^◌, ◌<◌, ℕ, List, [], ◌∷◌, length, get_or, All, Option, None, Result, Ok, Err, IfOk, IfErr, refl, sym, ap, subst, ◌∙◌, arith}
 use Rattle.std.proofs.lemmas.Bool.{lt-ltb, ltb-true}
 use Rattle.pr_num.specs.Words.{IsByte, IsWord}
 use Rattle.pr_num.specs.Records.{first_out_of_range, lwpstatus_ranges}
 use Rattle.pr_rec.proofs.FieldLemmas.{same_reason, reason_small, same_signal, signal_small, same_fault, fault_small, same_call, call_small, same_errno, an_errno-field, errno-word, same_disposition, disposition_small}
-use Rattle.pr_rec.proofs.RecordLemmas.{AreTested, AreRanged, AreRanged-at, each_of-elements, AreWords-ranged, first_unfit-none, words_read-at, decoded, below-word, any-word, word-any}
-use Rattle.pr_rec.specs.Reading.{BeginsWith, record_read, words_read, first_unfit}
+use Rattle.pr_rec.proofs.RecordLemmas.{AreTested, AreRanged, AreRanged-at, each_of-elements, AreWords-ranged, first_unfit-none, decoded, below-word, any-word, word-any}
+use Rattle.pr_rec.specs.Reading.{BeginsWith, record_read, first_unfit}
 use Rattle.pr_rec.specs.RecordWords.{lwpstatus_words_of, IsLwpStatus, HasLwpStatusFields}
 use Rattle.pr_rec.specs.declared.faults.RecFault.{RecFault}
 use Rattle.pr_num.specs.declared.errnos.Errno.{Errno}

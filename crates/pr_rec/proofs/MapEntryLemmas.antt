@@ -1,11 +1,11 @@
 -- The record of a mapping.
-use Rattle.std.proofs.Common.{drop, ◌≡◌, ◌↔◌, ◌^◌, ◌<◌, ◌≤◌, ℕ, List, [], ◌∷◌, length, get_or, All, Option, None, Some, Result, Ok, Err, IfOk, IfErr, refl, sym, ap, subst, ◌∙◌, arith}
-use Rattle.std.proofs.lemmas.Bool.{lt-ltb, ltb-true}
+use Rattle.std.proofs.Common.{drop, ◌≡◌, ◌↔◌, ◌<◌, ℕ, List, All, None, Result, Ok, Err, IfOk, IfErr, refl, ap, subst, arith}
+use Rattle.std.proofs.lemmas.Bool.{lt-ltb}
 use Rattle.pr_num.specs.Words.{IsByte, IsWord}
 use Rattle.pr_num.specs.Records.{first_out_of_range, map_entry_ranges}
 use Rattle.pr_rec.proofs.FieldLemmas.{same_kind, a_mapping_kind-field, mapping_kind-to}
-use Rattle.pr_rec.proofs.RecordLemmas.{AreTested, each_of-elements, AreWords-ranged, first_unfit-none, words_read-at, decoded, below-word, any-word, word-any, same_name}
-use Rattle.pr_rec.specs.Reading.{BeginsWith, record_read, words_read, first_unfit}
+use Rattle.pr_rec.proofs.RecordLemmas.{AreTested, each_of-elements, AreWords-ranged, first_unfit-none, decoded, below-word, any-word, word-any, same_name}
+use Rattle.pr_rec.specs.Reading.{BeginsWith, record_read, first_unfit}
 use Rattle.pr_rec.specs.RecordWords.{map_entry_words_of, IsNameField}
 use Rattle.pr_rec.specs.declared.faults.RecFault.{RecFault}
 use Rattle.pr_num.specs.declared.mappings.MappingKind.{MappingKind}

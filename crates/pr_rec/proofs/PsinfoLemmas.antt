@@ -1,11 +1,11 @@
 -- The record of what ps(1) shows.
-use Rattle.std.proofs.Common.{Bool, drop, ◌≡◌, ◌↔◌, ◌^◌, ◌<◌, ◌≤◌, ℕ, List, [], ◌∷◌, length, get_or, All, Option, None, Some, Result, Ok, Err, IfOk, IfErr, refl, sym, ap, subst, ◌∙◌, arith}
-use Rattle.std.proofs.lemmas.Bool.{lt-ltb, ltb-true}
+use Rattle.std.proofs.Common.{Bool, drop, ◌≡◌, ◌↔◌, ◌^◌, ◌<◌, ℕ, List, All, Option, None, Result, Ok, Err, IfOk, IfErr, refl, ap, subst, arith}
+use Rattle.std.proofs.lemmas.Bool.{lt-ltb}
 use Rattle.pr_num.specs.Words.{IsByte, IsWord}
 use Rattle.pr_num.specs.Records.{first_out_of_range, psinfo_ranges}
 use Rattle.pr_rec.proofs.FieldLemmas.{same_truth, truth_small, same_signal, signal_small}
-use Rattle.pr_rec.proofs.RecordLemmas.{AreTested, each_of-elements, AreWords-ranged, first_unfit-none, words_read-at, decoded, below-word, any-word, word-any, same_name}
-use Rattle.pr_rec.specs.Reading.{BeginsWith, record_read, words_read, first_unfit}
+use Rattle.pr_rec.proofs.RecordLemmas.{AreTested, each_of-elements, AreWords-ranged, first_unfit-none, decoded, below-word, any-word, word-any, same_name}
+use Rattle.pr_rec.specs.Reading.{BeginsWith, record_read, first_unfit}
 use Rattle.pr_rec.specs.RecordWords.{psinfo_words_of, IsNameField}
 use Rattle.pr_rec.specs.declared.faults.RecFault.{RecFault}
 use Rattle.pr_num.specs.declared.signals.Sig.{Sig}

@@ -1,10 +1,10 @@
 -- What holds of reading a record by its columns.
-use Rattle.std.proofs.Common.{Fits, w8, ◌≡◌, ◌==◌, ◌+◌, ◌-◌, ◌*◌, ◌/◌, ◌^◌, ◌<◌, ◌≤◌, ℕ, zero, suc, Bool, true, false, cond, List, [], ◌∷◌, ◌++◌, length, take, drop, get_or, map, All, Option, None, Some, refl, sym, ap, ◌∙◌, arith, le-ltb, ltb, length-append, length-drop, length-take, take-append-drop}
+use Rattle.std.proofs.Common.{Fits, w8, ◌≡◌, ◌+◌, ◌-◌, ◌*◌, ◌/◌, ◌<◌, ◌≤◌, ℕ, zero, suc, true, false, cond, List, [], ◌∷◌, ◌++◌, length, take, drop, get_or, map, All, Option, Some, refl, sym, ap, ◌∙◌, arith, le-ltb, ltb}
 use Rattle.std.proofs.lemmas.List.{append_assoc, append-nil, drop_at, take_at, length-map, take-take, drop-take}
 use Rattle.std.proofs.lemmas.List.Elements.{All-head, All-tail, All-from_get_or}
 use Rattle.pr_num.specs.Words.{IsByte, IsWord, word_bytes, words_bytes, word_of}
 use Rattle.pr_num.specs.Records.{Range}
-use Rattle.pr_codec.proofs.WordLemmas.{length-word_bytes, word_of-word_bytes, length-words_bytes}
+use Rattle.pr_codec.proofs.WordLemmas.{length-word_bytes, word_of-word_bytes}
 use Rattle.pr_rec.specs.Columns.{range_of}
 use Rattle.pr_rec.specs.Fields.{front_words}
 use Rattle.pr_rec.specs.declared.columns.Column.{Column}

@@ -1,10 +1,10 @@
 -- What holds of each record: its ranges, and that its words are of one value.
-use Rattle.std.proofs.Common.{◌≡◌, ◌↔◌, ◌==◌, ◌+◌, ◌-◌, ◌*◌, ◌^◌, ◌<◌, ◌≤◌, ℕ, zero, suc, Bool, true, false, cond, ltb, List, [], ◌∷◌, ◌++◌, length, take, drop, get_or, All, Option, None, Some, Result, Ok, Err, IfOk, IfErr, refl, sym, ap, subst, ◌∙◌, arith, le-ltb, ltb-false, length-drop, length-take}
-use Rattle.std.proofs.lemmas.Bool.{lt-ltb, ltb-true, cases_Bool}
+use Rattle.std.proofs.Common.{◌≡◌, ◌↔◌, ◌+◌, ◌*◌, ◌^◌, ◌≤◌, ℕ, zero, suc, Bool, true, false, cond, ltb, List, [], ◌∷◌, ◌++◌, length, take, drop, get_or, All, Option, None, Some, Result, Ok, Err, IfOk, IfErr, refl, sym, ap, subst, ◌∙◌, arith, ltb-false, length-drop, length-take}
+use Rattle.std.proofs.lemmas.Bool.{lt-ltb, ltb-true}
 use Rattle.std.proofs.lemmas.List.Elements.{All-nil, All-cons, All-head, All-tail, All-take, All-drop}
 use Rattle.std.proofs.Math.Seq.{take-add}
 use Rattle.pr_num.specs.Words.{IsByte, IsWord, word_bytes, words_bytes, word_of}
-use Rattle.pr_num.specs.Records.{Range, below, SpellsRecord, first_out_of_range, any_word}
+use Rattle.pr_num.specs.Records.{Range, below, first_out_of_range, any_word}
 use Rattle.pr_codec.proofs.WordLemmas.{word_bytes-word_of}
 use Rattle.pr_rec.proofs.ReadLemmas.{words-front_words, front_words-take, words_read-whole}
 use Rattle.pr_rec.specs.Fields.{front_words}

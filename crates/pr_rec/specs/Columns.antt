@@ -1,4 +1,3 @@
-use Rattle.std.specs.Prelude.{ℕ}
 use Rattle.pr_num.specs.Records.{Range, below, any_word, an_errno}
 use Rattle.std.specs.Prelude.{nat_le, ◌&&◌}
 use Rattle.pr_rec.specs.declared.columns.Column.{Column}

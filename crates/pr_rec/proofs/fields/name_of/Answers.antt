@@ -1,4 +1,4 @@
-use Rattle.std.proofs.Common.{ap, length, arith, sym, subst, ◌∙◌}
+use Rattle.std.proofs.Common.{ap, length, arith, sym, subst}
 use Rattle.std.specs.List.{All}
 use Rattle.std.proofs.lemmas.List.Elements.{All-from_get_or}
 use Rattle.pr_num.specs.Words.{IsByte, IsWord}

@@ -1,7 +1,7 @@
-use Rattle.std.proofs.Common.{◌++◌, refl, subst, sym, ap, ◌∙◌}
+use Rattle.std.proofs.Common.{refl, subst, ◌∙◌}
 use Rattle.std.specs.List.{All}
 use Rattle.std.proofs.lemmas.List.Elements.{All-append}
-use Rattle.pr_num.specs.Words.{IsWord, words_bytes}
+use Rattle.pr_num.specs.Words.{IsWord}
 use Rattle.pr_rec.proofs.ReadLemmas.{two_parts}
 use Rattle.pr_rec.proofs.StatusLemmas.{status-ranged}
 use Rattle.pr_rec.specs.RecordWords.{own_words_of, lwpstatus_words_of}

@@ -1,4 +1,4 @@
-use Rattle.std.proofs.Common.{Ok, length, drop, sym, ap, ◌∙◌, arith, length-drop}
+use Rattle.std.proofs.Common.{Ok, drop, sym, ap, ◌∙◌, arith, length-drop}
 use Rattle.std.proofs.lemmas.Bool.{ltb-true}
 use Rattle.std.proofs.lemmas.Result.{err_from_is_err_and}
 use Rattle.pr_num.specs.Records.{status_ranges}
