@@ -1,6 +1,6 @@
-use Rattle.std.proofs.Common.{◌≡◌, ◌↔◌, ◌++◌, ℕ, List, length, take, drop, All, Result, Ok, sym, ap, ◌∙◌, arith, length-take, take-append-drop}
+use Rattle.std.proofs.Common.{◌≡◌, ◌↔◌, ℕ, List, length, take, drop, All, Result, Ok, sym, ap, ◌∙◌, arith, length-take, take-append-drop}
 use Rattle.pr_num.specs.Words.{IsByte}
-use Rattle.pr_num.specs.Messages.{first_message, Spells}
+use Rattle.pr_num.specs.Messages.{first_message}
 use Rattle.pr_num.specs.declared.messages.Message.{Message}
 use Rattle.pr_num.specs.declared.messages.MsgFault.{MsgFault}
 use Rattle.pr_codec.proofs.MessageLemmas.{spelt_is_read}

@@ -1,0 +1,2 @@
+pub mod ExclusionLemmas
+pub mod KeyLemmas

@@ -1,0 +1,3 @@
+pub mod Exclusion
+pub mod Keys
+pub mod Opening

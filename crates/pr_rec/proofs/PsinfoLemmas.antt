@@ -1,0 +1,37 @@
+-- The record of what ps(1) shows.
+use Rattle.std.proofs.Common.{Bool, drop, ◌≡◌, ◌↔◌, ◌^◌, ◌<◌, ℕ, List, All, Option, None, Result, Ok, Err, IfOk, IfErr, refl, ap, subst, arith}
+use Rattle.std.proofs.lemmas.Bool.{lt-ltb}
+use Rattle.pr_num.specs.Words.{IsByte, IsWord}
+use Rattle.pr_num.specs.Records.{first_out_of_range, psinfo_ranges}
+use Rattle.pr_rec.proofs.FieldLemmas.{same_truth, truth_small, same_signal, signal_small}
+use Rattle.pr_rec.proofs.RecordLemmas.{AreTested, each_of-elements, AreWords-ranged, first_unfit-none, decoded, below-word, any-word, word-any, same_name}
+use Rattle.pr_rec.specs.Reading.{BeginsWith, record_read, first_unfit}
+use Rattle.pr_rec.specs.RecordWords.{psinfo_words_of, IsNameField}
+use Rattle.pr_rec.specs.declared.faults.RecFault.{RecFault}
+use Rattle.pr_num.specs.declared.signals.Sig.{Sig}
+use Rattle.pr_rec.specs.declared.processes.Psinfo.{Psinfo}
+
+pub psinfo-ranged : (p : Psinfo) → p.id < 2 ^ 32 → p.parent < 2 ^ 32 → All IsWord (psinfo_words_of p) → first_out_of_range psinfo_ranges (psinfo_words_of p) ≡ None
+psinfo-ranged p id parent fit =
+    first_unfit-none psinfo_ranges (psinfo_words_of p) 0 fit ((λ _. lt-ltb _ _ id), ((λ _. lt-ltb _ _ parent), (word-any _, ((λ _. lt-ltb _ _ (truth_small p.zombie)), (word-any _, (word-any _, (word-any _, ((λ _. lt-ltb _ _ (signal_small p.job_stop)), (word-any _, (word-any _, (word-any _, (word-any _, tt))))))))))))
+
+pub psinfo_tested : AreTested psinfo_ranges
+psinfo_tested = record {
+  same = λ ws size. (let P : List ℕ → Type 0 = λ xs. first_out_of_range psinfo_ranges xs ≡ first_unfit 0 psinfo_ranges xs in subst P (each_of-elements 12 ws size) refl);
+  words = λ ws ranged size. AreWords-ranged psinfo_ranges ws (below-word _ (omega arith), (below-word _ (omega arith), (any-word, (below-word _ (omega arith), (any-word, (any-word, (any-word, (below-word _ (omega arith), (any-word, (any-word, (any-word, (any-word, tt)))))))))))) ranged size;
+}
+
+pub same_psinfo : (x y : Psinfo) → IsNameField x.program → IsNameField y.program → psinfo_words_of x ≡ psinfo_words_of y → x ≡ y
+same_psinfo x y x_whole y_whole e =
+    let zombie : x.zombie ≡ y.zombie = same_truth x.zombie y.zombie cc in
+    let job_stop : x.job_stop ≡ y.job_stop = same_signal x.job_stop y.job_stop cc in
+    let program : x.program ≡ y.program = same_name x.program y.program x_whole y_whole (ap (drop 8) e) in
+    by (λ id parent lwps zombie wait_status mapped made_at job_stop program. record { id = id; parent = parent; lwps = lwps; zombie = zombie; wait_status = wait_status; mapped = mapped; made_at = made_at; job_stop = job_stop; program = program }) zombie job_stop program
+  where
+    by : (f : ℕ → ℕ → ℕ → Bool → ℕ → ℕ → ℕ → Option Sig → List ℕ → Psinfo) → x.zombie ≡ y.zombie → x.job_stop ≡ y.job_stop → x.program ≡ y.program → f x.id x.parent x.lwps x.zombie x.wait_status x.mapped x.made_at x.job_stop x.program ≡ f y.id y.parent y.lwps y.zombie y.wait_status y.mapped y.made_at y.job_stop y.program
+    by f zombie_is job_stop_is program_is = cc
+
+-- it is decoded exactly where the bytes begin with it
+pub psinfo-spelt : (bytes : List ℕ) (r : Result Psinfo RecFault) → All IsByte bytes → IfOk r (λ x. record_read psinfo_ranges bytes ≡ Ok (psinfo_words_of x)) → IfErr r (λ fault. record_read psinfo_ranges bytes ≡ Err fault) → IfOk r (λ x. IsNameField x.program) → (x : Psinfo) → (r ≡ Ok x) ↔ (IsNameField x.program × BeginsWith psinfo_ranges bytes (psinfo_words_of x))
+psinfo-spelt bytes r small read bad whole x =
+    decoded psinfo_ranges psinfo_tested bytes psinfo_words_of (λ x. IsNameField x.program) same_psinfo small r read bad whole x

@@ -1,0 +1,5 @@
+pub mod Columns
+pub mod Fields
+pub mod Lists
+pub mod Reading
+pub mod RecordWords

@@ -1,0 +1,27 @@
+//! The records of the process file system as bytes, both ways (proc(4)).
+#![tactic(auto)]
+
+mod columns;
+mod entries;
+mod faults;
+mod fields;
+mod laws;
+mod lists;
+mod lwps;
+mod mappings;
+mod processes;
+mod statuses;
+mod usages;
+
+pub use entries::{FdEntry, FdKind, ListEntry, WatchEntry};
+pub use faults::RecFault;
+pub use laws::one_spelling_one_record;
+pub use lists::{encode_sigact, write_fds, write_list, write_lstatus, write_map, write_watch};
+pub use lwps::{Disposition, LwpStatus};
+pub use mappings::MapEntry;
+pub use processes::Psinfo;
+pub use statuses::Status;
+pub use usages::Usage;
+
+#[cfg(test)]
+mod tests;

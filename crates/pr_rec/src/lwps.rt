@@ -1,0 +1,197 @@
+ghost use Rattle.std.specs.Prelude.{◌≡◌, ◌↔◌, ◌<◌, ◌^◌, Ok, Err, IfOk, IfErr};
+ghost use Rattle.pr_num.specs.Records.{SpellsRecord, lwpstatus_ranges};
+ghost use Rattle.pr_num.specs.Words.{words_bytes};
+ghost use Rattle.pr_rec.specs.Reading.{BeginsWith, record_read};
+ghost use Rattle.pr_rec.specs.RecordWords.{lwpstatus_words_of, IsLwpStatus, HasLwpStatusFields};
+ghost use Rattle.pr_rec.specs.declared.lwps.LwpStatus.{LwpStatus as Decoded};
+
+use crate::RecFault;
+use crate::columns::{Column, put_record, read_record};
+use crate::fields::{
+    call_of, call_word, disposition_of, disposition_word, errno_of, errno_word, fault_of,
+    fault_word, reason_of, reason_word, signal_of, signal_word, signals_of,
+};
+use pr_num::{Errno, Flt, Sig, SigSet, StopReason, Sysno};
+
+/// How a process disposes of a signal (sigaction(2)).
+#[derive(Clone, Copy, Debug, PartialEq, Eq)]
+pub enum Disposition {
+    /// The signal has its default action.
+    Default = 0,
+    /// It is ignored.
+    Ignored = 1,
+    /// It is caught by a handler.
+    Caught = 2,
+}
+
+/// The status of an lwp (proc(4), "lwpstatus").
+#[derive(Clone, Copy, Debug, PartialEq, Eq)]
+pub struct LwpStatus {
+    /// Flags below 64, of this project's own: 1 stopped, 2 stopped on an event of interest, 4 directed to stop,
+    /// 8 to incur FLTTRACE after the next instruction, 16 asleep in a system call, 32 the agent.
+    pub flags: u64,
+    pub id: u32,
+    /// Why it is stopped, if it is.
+    pub why: Option<StopReason>,
+    /// The number of the signal, the fault or the system call that it is stopped for, below 32, and else 0.
+    pub what: u64,
+    /// The current signal.
+    pub signal: Option<Sig>,
+    /// The current fault.
+    pub fault: Option<Flt>,
+    /// The address of the current fault, else 0.
+    pub fault_address: u64,
+    /// The system call that it is in.
+    pub call: Option<Sysno>,
+    /// The arguments of that call.
+    pub arguments: [u64; 6],
+    /// What the call gave, 0 where it failed or has not ended.
+    pub result: u64,
+    /// Why the call failed.
+    pub errno: Option<Errno>,
+    /// The signals that it holds.
+    pub held: SigSet,
+    /// The signals sent to it that it has not taken yet.
+    pub pending: SigSet,
+    /// The registers r0 to r7, sp, fp and pc.
+    pub regs: [u64; 11],
+    /// How the process disposes of the current signal; the default where there is none.
+    pub disposition: Disposition,
+}
+
+/// What each word may hold.
+pub(crate) const COLUMNS: [Column; 30] = [
+    Column::LWP_FLAGS,
+    Column::ID,
+    Column::REASON,
+    Column::MATTER,
+    Column::SIGNAL,
+    Column::FAULT,
+    Column::Any,
+    Column::CALL,
+    Column::Any,
+    Column::Any,
+    Column::Any,
+    Column::Any,
+    Column::Any,
+    Column::Any,
+    Column::Any,
+    Column::ErrnoOrNone,
+    Column::SIGNALS,
+    Column::SIGNALS,
+    Column::Any,
+    Column::Any,
+    Column::Any,
+    Column::Any,
+    Column::Any,
+    Column::Any,
+    Column::Any,
+    Column::Any,
+    Column::Any,
+    Column::Any,
+    Column::Any,
+    Column::DISPOSITION,
+];
+
+impl LwpStatus {
+    /// The bytes of the record. They spell it where its flags are below 64 and `what` is below 32. Takes no memory.
+    pub fn encode(&self) -> [u8; 240]
+        ensures bytes { result ≡ words_bytes (lwpstatus_words_of self.now) }
+        ensures spelt { self.now.flags < 64 → self.now.what < 32 → SpellsRecord lwpstatus_ranges result (lwpstatus_words_of self.now) }
+    {
+        let mut bytes = [0; 240];
+        put_record(&mut bytes, &self.words());
+        bytes
+    }
+
+    /// The record with which bytes begin: `Short` exactly where there are fewer than 240 bytes, and else `BadField`
+    /// exactly where a word is out of its range. Takes no memory.
+    pub fn decode(bytes: &[u8]) -> Result<LwpStatus, RecFault>
+        ensures ok { IfOk result (λ l. record_read lwpstatus_ranges bytes.now ≡ Ok (lwpstatus_words_of l)) }
+        ensures err { IfErr result (λ fault. record_read lwpstatus_ranges bytes.now ≡ Err fault) }
+        ensures spelt { (l : Decoded) → (result ≡ Ok l) ↔ (IsLwpStatus l × BeginsWith lwpstatus_ranges bytes.now (lwpstatus_words_of l)) }
+    {
+        LwpStatus::read(bytes)
+    }
+
+    fn read(bytes: &[u8]) -> Result<LwpStatus, RecFault>
+        ensures ok { IfOk result (λ l. record_read lwpstatus_ranges bytes.now ≡ Ok (lwpstatus_words_of l)) }
+        ensures err { IfErr result (λ fault. record_read lwpstatus_ranges bytes.now ≡ Err fault) }
+        ensures whole { IfOk result IsLwpStatus }
+    {
+        let mut words = [0; 30];
+        read_record(&COLUMNS, bytes, &mut words)?;
+        Ok(LwpStatus::from_words(&words))
+    }
+
+    pub(crate) fn words(&self) -> [u64; 30]
+        ensures words { result ≡ lwpstatus_words_of self.now }
+        ensures id { self.now.id < 2 ^ 32 }
+        ensures held { self.now.held < 2 ^ 31 }
+        ensures pending { self.now.pending < 2 ^ 31 }
+    {
+        let arguments = &self.arguments;
+        let regs = &self.regs;
+        [
+            self.flags,
+            u64::from(self.id),
+            reason_word(self.why),
+            self.what,
+            signal_word(self.signal),
+            fault_word(self.fault),
+            self.fault_address,
+            call_word(self.call),
+            arguments[0],
+            arguments[1],
+            arguments[2],
+            arguments[3],
+            arguments[4],
+            arguments[5],
+            self.result,
+            errno_word(self.errno),
+            self.held.word(),
+            self.pending.word(),
+            regs[0],
+            regs[1],
+            regs[2],
+            regs[3],
+            regs[4],
+            regs[5],
+            regs[6],
+            regs[7],
+            regs[8],
+            regs[9],
+            regs[10],
+            disposition_word(self.disposition),
+        ]
+    }
+
+    pub(crate) fn from_words(words: &[u64]) -> LwpStatus
+        requires { HasLwpStatusFields words.now }
+        ensures words { lwpstatus_words_of result ≡ words.now }
+        ensures whole { IsLwpStatus result }
+    {
+        LwpStatus {
+            flags: words[0],
+            id: words[1] as u32,
+            why: reason_of(words[2]),
+            what: words[3],
+            signal: signal_of(words[4]),
+            fault: fault_of(words[5]),
+            fault_address: words[6],
+            call: call_of(words[7]),
+            arguments: [
+                words[8], words[9], words[10], words[11], words[12], words[13],
+            ],
+            result: words[14],
+            errno: errno_of(words[15]),
+            held: signals_of(words[16]),
+            pending: signals_of(words[17]),
+            regs: [
+                words[18], words[19], words[20], words[21], words[22], words[23], words[24],
+                words[25], words[26], words[27], words[28],
+            ],
+            disposition: disposition_of(words[29]),
+        }
+    }
+}

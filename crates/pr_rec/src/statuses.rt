@@ -1,0 +1,184 @@
+ghost use Rattle.std.specs.Prelude.{◌≡◌, ◌↔◌, ◌<◌, ◌^◌, Ok, Err, IfOk, IfErr, drop, length, slice_index};
+ghost use Rattle.pr_num.specs.Records.{SpellsRecord, status_ranges};
+ghost use Rattle.pr_num.specs.Words.{words_bytes};
+ghost use Rattle.pr_rec.specs.Reading.{BeginsWith, record_read};
+ghost use Rattle.pr_rec.specs.RecordWords.{status_words_of, own_words_of, IsLwpStatus, HasLwpStatusFields};
+ghost use Rattle.pr_rec.specs.declared.statuses.Status.{Status as Decoded};
+
+use crate::columns::{Column, put_two, read_record};
+use crate::fields::{calls_of, faults_of, signals_of};
+use crate::{LwpStatus, RecFault};
+use pr_num::{FltSet, SigSet, SysSet};
+
+/// The status of a process and of its representative lwp (proc(4), "status").
+#[derive(Clone, Copy, Debug, PartialEq, Eq)]
+pub struct Status {
+    /// Flags below 32, of this project's own: 1 inherit on fork, 2 run on last close, 4 kill on last close, 8 stops
+    /// leave the other lwps running, 16 the system process.
+    pub flags: u64,
+    pub id: u32,
+    /// The parent's id, 0 where it has none.
+    pub parent: u32,
+    /// How many lwps it has.
+    pub lwps: u64,
+    /// The signals sent to the process that no lwp has taken yet.
+    pub pending: SigSet,
+    pub traced_signals: SigSet,
+    pub traced_faults: FltSet,
+    /// The system calls that are traced at their entry.
+    pub traced_entries: SysSet,
+    /// The system calls that are traced at their exit.
+    pub traced_exits: SysSet,
+    /// The address of the heap's first byte.
+    pub heap_base: u64,
+    /// How many bytes the heap has.
+    pub heap_size: u64,
+    /// The agent's lwp id, 0 where there is none.
+    pub agent: u32,
+    /// How many watched areas it has.
+    pub areas: u64,
+    /// The representative lwp. Where the process has no lwp, its words are 0.
+    pub lwp: LwpStatus,
+}
+
+/// What each word may hold.
+const COLUMNS: [Column; 43] = [
+    Column::PROCESS_FLAGS,
+    Column::ID,
+    Column::ID,
+    Column::Any,
+    Column::SIGNALS,
+    Column::SIGNALS,
+    Column::FAULTS,
+    Column::CALLS,
+    Column::CALLS,
+    Column::Any,
+    Column::Any,
+    Column::ID,
+    Column::Any,
+    // The status of an lwp.
+    Column::LWP_FLAGS,
+    Column::ID,
+    Column::REASON,
+    Column::MATTER,
+    Column::SIGNAL,
+    Column::FAULT,
+    Column::Any,
+    Column::CALL,
+    Column::Any,
+    Column::Any,
+    Column::Any,
+    Column::Any,
+    Column::Any,
+    Column::Any,
+    Column::Any,
+    Column::ErrnoOrNone,
+    Column::SIGNALS,
+    Column::SIGNALS,
+    Column::Any,
+    Column::Any,
+    Column::Any,
+    Column::Any,
+    Column::Any,
+    Column::Any,
+    Column::Any,
+    Column::Any,
+    Column::Any,
+    Column::Any,
+    Column::Any,
+    Column::DISPOSITION,
+];
+
+impl Status {
+    /// The bytes of the record. They spell it where its flags are below 32, the lwp's flags below 64, and what the lwp
+    /// is stopped for is below 32. Takes no memory.
+    pub fn encode(&self) -> [u8; 344]
+        ensures bytes { result ≡ words_bytes (status_words_of self.now) }
+        ensures spelt { self.now.flags < 32 → self.now.lwp.flags < 64 → self.now.lwp.what < 32 → SpellsRecord status_ranges result (status_words_of self.now) }
+    {
+        let mut bytes = [0; 344];
+        put_two(&mut bytes, &self.own_words(), &self.lwp.words());
+        bytes
+    }
+
+    /// The record with which bytes begin: `Short` exactly where there are fewer than 344 bytes, and else `BadField`
+    /// exactly where a word is out of its range. Takes no memory.
+    pub fn decode(bytes: &[u8]) -> Result<Status, RecFault>
+        ensures ok { IfOk result (λ s. record_read status_ranges bytes.now ≡ Ok (status_words_of s)) }
+        ensures err { IfErr result (λ fault. record_read status_ranges bytes.now ≡ Err fault) }
+        ensures spelt { (s : Decoded) → (result ≡ Ok s) ↔ (IsLwpStatus s.lwp × BeginsWith status_ranges bytes.now (status_words_of s)) }
+    {
+        Status::read(bytes)
+    }
+
+    fn read(bytes: &[u8]) -> Result<Status, RecFault>
+        ensures ok { IfOk result (λ s. record_read status_ranges bytes.now ≡ Ok (status_words_of s)) }
+        ensures err { IfErr result (λ fault. record_read status_ranges bytes.now ≡ Err fault) }
+        ensures whole { IfOk result (λ s. IsLwpStatus s.lwp) }
+    {
+        let mut words = [0; 43];
+        read_record(&COLUMNS, bytes, &mut words)?;
+        Ok(Status::from_words(&words))
+    }
+
+    /// The words of the process itself.
+    fn own_words(&self) -> [u64; 13]
+        ensures words { result ≡ own_words_of self.now }
+        ensures id { self.now.id < 2 ^ 32 }
+        ensures parent { self.now.parent < 2 ^ 32 }
+        ensures pending { self.now.pending < 2 ^ 31 }
+        ensures signals { self.now.traced_signals < 2 ^ 31 }
+        ensures faults { self.now.traced_faults < 2 ^ 8 }
+        ensures entries { self.now.traced_entries < 2 ^ 29 }
+        ensures exits { self.now.traced_exits < 2 ^ 29 }
+        ensures agent { self.now.agent < 2 ^ 32 }
+    {
+        [
+            self.flags,
+            u64::from(self.id),
+            u64::from(self.parent),
+            self.lwps,
+            self.pending.word(),
+            self.traced_signals.word(),
+            self.traced_faults.word(),
+            self.traced_entries.word(),
+            self.traced_exits.word(),
+            self.heap_base,
+            self.heap_size,
+            u64::from(self.agent),
+            self.areas,
+        ]
+    }
+
+    fn from_words(words: &[u64]) -> Status
+        requires size { length words.now ≡ 43 }
+        requires id { slice_index words.now 1 < 2 ^ 32 }
+        requires parent { slice_index words.now 2 < 2 ^ 32 }
+        requires pending { slice_index words.now 4 < 2 ^ 31 }
+        requires signals { slice_index words.now 5 < 2 ^ 31 }
+        requires faults { slice_index words.now 6 < 2 ^ 8 }
+        requires entries { slice_index words.now 7 < 2 ^ 29 }
+        requires exits { slice_index words.now 8 < 2 ^ 29 }
+        requires agent { slice_index words.now 11 < 2 ^ 32 }
+        requires lwp { HasLwpStatusFields (drop 13 words.now) }
+        ensures words { status_words_of result ≡ words.now }
+        ensures whole { IsLwpStatus result.lwp }
+    {
+        Status {
+            flags: words[0],
+            id: words[1] as u32,
+            parent: words[2] as u32,
+            lwps: words[3],
+            pending: signals_of(words[4]),
+            traced_signals: signals_of(words[5]),
+            traced_faults: faults_of(words[6]),
+            traced_entries: calls_of(words[7]),
+            traced_exits: calls_of(words[8]),
+            heap_base: words[9],
+            heap_size: words[10],
+            agent: words[11] as u32,
+            areas: words[12],
+            lwp: LwpStatus::from_words(&words[13..]),
+        }
+    }
+}
