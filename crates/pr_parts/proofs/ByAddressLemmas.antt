@@ -1,9 +1,9 @@
 -- Lists of what stands by rising address and apart.
 use Rattle.std.proofs.Common.{◌≡◌, ℕ, zero, suc, ◌+◌, ◌<◌, ◌≤◌, Bool, true, false, ltb, leb, cond, not, Option, Some, None, List, [], ◌∷◌, length, map, refl, sym, ◌∙◌, ap, arith, inl, inr, get_or, subst}
 use Rattle.std.specs.Prelude.{◌||◌}
-use Rattle.std.specs.List.{All, AllPairs, sum_by, insert, position_or_len, find, list_any}
+use Rattle.std.specs.List.{All, AllPairs, sum_by, insert, position, position_or_len, find, list_any}
 use Rattle.std.proofs.lemmas.Bool.{ltb-true, ltb-false, false≢true, cases_Bool}
-use Rattle.std.proofs.lemmas.Option.{same_Some}
+use Rattle.std.proofs.lemmas.Option.{same_Some, cond_some}
 use Rattle.std.proofs.lemmas.List.Elements.{All-nil, All-cons, All-head, All-tail, All-weaker}
 use Rattle.std.proofs.lemmas.List.Sums.{sum_by-cons}
 use Rattle.std.proofs.lemmas.List.Kept.{AllPairs-cons}
@@ -118,3 +118,20 @@ pub find-passes : {X : Type 0} (p : X → Bool) (xs : List X) (x : X) → find p
 find-passes p [] x found = absurd (cc)
 find-passes p (y ∷ ys) x found =
     elim (p y) as (λ b. p y ≡ b → cond b (Some y) (find p ys) ≡ Some x → p x ≡ true) [ true ↦ λ t e. ap p (sym (same_Some y x e)) ∙ t | false ↦ λ f e. find-passes p ys x e ] refl found
+
+-- ---- the place of the first that passes a test, or the end
+
+pub place-some : {X : Type 0} (p : X → Bool) (xs : List X) (i : ℕ) → position p xs ≡ Some i → i ≡ position_or_len p xs
+place-some p xs i e = sym (cond_some (ltb (position_or_len p xs) (length xs)) (position_or_len p xs) i e).1
+
+pub place-within : {X : Type 0} (p : X → Bool) (xs : List X) → position_or_len p xs ≤ length xs
+place-within p [] = omega arith
+place-within p (x ∷ xs) =
+    elim (p x) as (λ b. cond (not b) (1 + position_or_len p xs) 0 ≤ suc (length xs)) [ true ↦ omega arith | false ↦ omega (arith, place-within p xs) ]
+
+pub place-none : {X : Type 0} (p : X → Bool) (xs : List X) → position p xs ≡ None → length xs ≡ position_or_len p xs
+place-none p xs e =
+    let within = place-within p xs in
+    elim (cases_Bool (ltb (position_or_len p xs) (length xs))) [ inl t ↦ absurd (cc) | inr f ↦ let past = ltb-false _ _ f in omega arith ]
+
+pub ruleset places = (place-some, place-none, place-within)
