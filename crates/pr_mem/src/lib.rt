@@ -1,13 +1,12 @@
-// A library with one function.
+//! Address spaces: mappings with their bytes, the heap, and reads and writes (mmap(2), munmap(2), mprotect(2), brk(2)).
 #![tactic(auto)]
 
-ghost use Rattle.std.specs.Prelude.{◌≡◌};
-ghost use Rattle.pr_mem.specs.Echo.{echo_of};
+mod accesses;
+mod faults;
+mod mappings;
+mod ranges;
+mod spaces;
+mod writes;
 
-// The `ensures` clause is the contract: what `echo` returns is `echo_of` of its argument, a definition
-// in `specs/Echo.antt`, which a caller's clause can cite too.
-pub fn echo(x: usize) -> usize
-    ensures { result ≡ echo_of x }
-{
-    x
-}
+pub use faults::{Map, MemFault};
+pub use spaces::Space;

@@ -4,7 +4,7 @@ use Rattle.std.specs.Prelude.{◌||◌}
 use Rattle.std.specs.List.{All, AllPairs, sum_by, insert, position, position_or_len, find, list_any}
 use Rattle.std.proofs.lemmas.Bool.{ltb-true, ltb-false, false≢true, cases_Bool}
 use Rattle.std.proofs.lemmas.Option.{same_Some, cond_some}
-use Rattle.std.proofs.lemmas.List.Elements.{All-nil, All-cons, All-head, All-tail, All-weaker}
+use Rattle.std.proofs.lemmas.List.Elements.{All-nil, All-cons, All-head, All-tail, All-map, All-weaker}
 use Rattle.std.proofs.lemmas.List.Sums.{sum_by-cons}
 use Rattle.std.proofs.lemmas.List.Kept.{AllPairs-cons}
 use Rattle.pr_num.specs.KeyedTables.{change_first, without_first}
@@ -107,6 +107,43 @@ pub length-placed : {X : Type 0} (address_of : X → ℕ) (x : X) (xs : List X) 
 length-placed address_of x [] = refl
 length-placed address_of x (y ∷ ys) =
     elim (ltb (address_of x) (address_of y)) as (λ b. length (cond b (x ∷ y ∷ ys) (y ∷ with_placed address_of x ys)) ≡ suc (length ys) + 1) [ true ↦ omega arith | false ↦ omega (arith, length-placed address_of x ys) ]
+
+-- ---- the first that passes a test, changed
+
+pub All-change_first : {X : Type 0} (P : X → Type 0) (p : X → Bool) (f : X → X) (xs : List X) → ((x : X) → P x → P (f x)) → All P xs → All P (change_first p f xs)
+All-change_first P p f [] keeps all = all
+All-change_first P p f (x ∷ xs) keeps all =
+    elim (p x) as (λ b. All P (cond b (f x ∷ xs) (x ∷ change_first p f xs))) [ true ↦ All-cons P (f x) xs (keeps x (All-head P x xs all)) (All-tail P x xs all) | false ↦ All-cons P x (change_first p f xs) (All-head P x xs all) (All-change_first P p f xs keeps (All-tail P x xs all)) ]
+
+pub pairs-change_first : {X : Type 0} (R : X → X → Type 0) (p : X → Bool) (f : X → X) (xs : List X) → ((x y : X) → R x y → R (f x) y) → ((x y : X) → R x y → R x (f y)) → AllPairs R xs → AllPairs R (change_first p f xs)
+pairs-change_first R p f [] left right pairs = pairs
+pairs-change_first R p f (x ∷ xs) left right pairs =
+    let behind = AllPairs-head R x xs pairs in
+    let rest = AllPairs-tail R x xs pairs in
+    let later = pairs-change_first R p f xs left right rest in
+    elim (p x) as (λ b. AllPairs R (cond b (f x ∷ xs) (x ∷ change_first p f xs))) [ true ↦ AllPairs-cons R (f x) xs (All-weaker (R x) (R (f x)) (left x) xs behind) rest | false ↦ AllPairs-cons R x (change_first p f xs) (All-change_first (R x) p f xs (right x) behind) later ]
+
+-- a sum after a change of what was found
+pub sum_by-change_first : {X : Type 0} (g : X → ℕ) (p : X → Bool) (f : X → X) (xs : List X) (x : X) → find p xs ≡ Some x → sum_by g (change_first p f xs) + g x ≡ sum_by g xs + g (f x)
+sum_by-change_first g p f [] x found = absurd (cc)
+sum_by-change_first g p f (y ∷ ys) x found =
+    elim (p y) as (λ b. cond b (Some y) (find p ys) ≡ Some x → sum_by g (cond b (f y ∷ ys) (y ∷ change_first p f ys)) + g x ≡ sum_by g (y ∷ ys) + g (f x)) [ true ↦ λ e. let same = same_Some y x e in omega (arith, sum_by-cons g y ys, sum_by-cons g (f y) ys, ap g same, ap (λ z. g (f z)) same) | false ↦ λ e. omega (arith, sum_by-cons g y ys, sum_by-cons g y (change_first p f ys), sum_by-change_first g p f ys x e) ] found
+
+pub sum_by-change_first_same : {X : Type 0} (g : X → ℕ) (p : X → Bool) (f : X → X) (xs : List X) → ((x : X) → g (f x) ≡ g x) → sum_by g (change_first p f xs) ≡ sum_by g xs
+sum_by-change_first_same g p f [] same = refl
+sum_by-change_first_same g p f (x ∷ xs) same =
+    elim (p x) as (λ b. sum_by g (cond b (f x ∷ xs) (x ∷ change_first p f xs)) ≡ sum_by g (x ∷ xs)) [ true ↦ omega (arith, sum_by-cons g x xs, sum_by-cons g (f x) xs, same x) | false ↦ omega (arith, sum_by-cons g x xs, sum_by-cons g x (change_first p f xs), sum_by-change_first_same g p f xs same) ]
+
+-- ---- all changed
+
+pub pairs-map : {X : Type 0} (R : X → X → Type 0) (f : X → X) (xs : List X) → ((x y : X) → R x y → R (f x) (f y)) → AllPairs R xs → AllPairs R (map f xs)
+pairs-map R f [] keeps pairs = pairs
+pairs-map R f (x ∷ xs) keeps pairs =
+    AllPairs-cons R (f x) (map f xs) (All-map (R (f x)) f xs (All-weaker (R x) (λ y. R (f x) (f y)) (keeps x) xs (AllPairs-head R x xs pairs))) (pairs-map R f xs keeps (AllPairs-tail R x xs pairs))
+
+pub sum_by-map_same : {X : Type 0} (g : X → ℕ) (f : X → X) (xs : List X) → ((x : X) → g (f x) ≡ g x) → sum_by g (map f xs) ≡ sum_by g xs
+sum_by-map_same g f [] same = refl
+sum_by-map_same g f (x ∷ xs) same = omega (arith, sum_by-cons g x xs, sum_by-cons g (f x) (map f xs), same x, sum_by-map_same g f xs same)
 
 -- what is found passes whatever all pass
 pub All-find : {X : Type 0} (P : X → Type 0) (p : X → Bool) (xs : List X) (x : X) → All P xs → find p xs ≡ Some x → P x

@@ -1,2 +1,4 @@
+pub mod AccessLemmas
 pub mod AreaLemmas
 pub mod ByAddressLemmas
+pub mod SpaceLemmas

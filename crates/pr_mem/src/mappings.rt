@@ -1,0 +1,103 @@
+ghost use Rattle.std.specs.Prelude.{◌≡◌, ◌≤◌, ◌<◌, ◌^◌, length, [], insert, IfOk, OnOk, OnErr};
+ghost use Rattle.pr_parts.specs.AddressSpaces.{kind_of, resized, with_prot, zeros_at};
+
+use pr_num::{Bytes, Mapping, MappingKind, NoMemory, Prot};
+use std::alloc::Global;
+use std::mem;
+
+// Single mappings: made, copied, protected and resized.
+
+/// The kind of a number from 1 to 5.
+pub fn kind_of(number: u8) -> MappingKind
+    ensures { result ≡ kind_of number }
+{
+    match number {
+        1 => MappingKind::Text,
+        2 => MappingKind::Data,
+        3 => MappingKind::Heap,
+        4 => MappingKind::Stack,
+        _ => MappingKind::Mapped,
+    }
+}
+
+/// The protections of a word.
+pub fn prot_of(word: u8) -> Prot
+    requires { word < 8 }
+    ensures { result ≡ word }
+{
+    Prot::from_word(u64::from(word)).unwrap()
+}
+
+/// A mapping of zero bytes.
+pub fn zeros_at(alloc: Global, at: u64, size: usize, prot: Prot, kind: MappingKind) -> Result<Mapping, NoMemory>
+    ensures { IfOk result (λ m. m ≡ zeros_at at size prot kind) }
+{
+    let bytes = Bytes::from_vec(vec![in alloc; 0; size]?);
+    Ok(Mapping {
+        at,
+        prot,
+        kind,
+        bytes,
+    })
+}
+
+/// Puts a mapping into a place; where memory runs out nothing is changed.
+pub fn put(mappings: &mut Vec<Mapping>, place: usize, mapping: Mapping) -> Result<(), NoMemory>
+    requires { place ≤ length mappings.old.items }
+    ensures ok { OnOk result (mappings.new.items ≡ insert mappings.old.items place mapping) }
+    ensures err { OnErr result (mappings.new.items ≡ mappings.old.items) }
+{
+    mappings.insert(place, mapping)?;
+    Ok(())
+}
+
+/// Lets a mapping allow something else.
+#[tactic(auto, unfolding(pr_parts::specs::AddressSpaces::with_prot))]
+pub fn set_prot(mapping: &mut Mapping, prot: Prot)
+    ensures { mapping.new ≡ with_prot prot mapping.old }
+{
+    mapping.prot = prot;
+}
+
+/// The bytes of a mapping, which is left with none.
+pub fn take_bytes(mapping: &mut Mapping, alloc: Global) -> Vec<u8>
+    ensures bytes { result.items ≡ mapping.old.bytes }
+    ensures mapping { mapping.new ≡ record mapping.old { bytes = [] } }
+{
+    mem::replace(&mut mapping.bytes, Bytes::from_vec(Vec::new(alloc))).into_vec()
+}
+
+/// Cuts a mapping off, or lets it grow by zeros, to so many bytes; where memory runs out it stays as it is.
+#[tactic(auto, unfolding(pr_parts::specs::AddressSpaces::resized))]
+pub fn resize(mapping: &mut Mapping, alloc: Global, size: usize) -> Result<(), NoMemory>
+    ensures ok { OnOk result (mapping.new ≡ resized size mapping.old) }
+    ensures err { OnErr result (mapping.new ≡ mapping.old) }
+{
+    let mut bytes = take_bytes(mapping, alloc);
+    let done = bytes.resize(size, 0);
+    mapping.bytes = Bytes::from_vec(bytes);
+    done?;
+    Ok(())
+}
+
+fn copy(alloc: Global, mapping: &Mapping) -> Result<Mapping, NoMemory>
+    ensures { IfOk result (λ copy. copy ≡ mapping.now) }
+{
+    Ok(Mapping {
+        at: mapping.at,
+        prot: mapping.prot,
+        kind: mapping.kind,
+        bytes: mapping.bytes.copy(alloc)?,
+    })
+}
+
+/// The same mappings again.
+pub fn copies(alloc: Global, mappings: &[Mapping]) -> Result<Vec<Mapping>, NoMemory>
+    ensures { IfOk result (λ copies. copies.items ≡ mappings.now) }
+{
+    let mut copies = Vec::new(alloc);
+    for mapping in mappings {
+        copies.push(copy(alloc, mapping)?)?;
+    }
+    Ok(copies)
+}

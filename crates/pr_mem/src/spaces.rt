@@ -1,0 +1,175 @@
+ghost use Rattle.std.specs.Prelude.{◌≡◌, ◌≤◌, ◌<◌, ◌+◌, ◌^◌, [], length, remove, true, None, Ok, Err, OnOk, OnErr, IfOk, IfSome, IsOkUnless};
+ghost use Rattle.pr_num.specs.Spaces.{mapped_size, mapping_limit, bytes_for};
+ghost use Rattle.pr_parts.specs.AddressSpaces.{is_free, kind_of, with_bytes, with_mapping, with_protected, without_range, zeros_at};
+ghost use Rattle.pr_mem.specs.Answers.{access_answer, done_unless, map_refusal, range_refusal};
+
+use crate::{Map, MemFault, accesses, mappings, ranges, writes};
+use pr_num::{Mapping, NoMemory};
+use std::alloc::Global;
+use std::marker::Model;
+
+/// An address space, seen by contracts as the list of its mappings.
+#[derive(Drop)]
+pub struct Space {
+    mappings: Vec<Mapping>,
+    mapped: u64,
+}
+
+impl Model for Space {
+    ghost use Rattle.std.specs.Prelude.{◌≡◌, List};
+    ghost use Rattle.pr_num.specs.declared.mappings.Mapping.{Mapping};
+
+    ghost Value = { List Mapping };
+
+    ghost use Rattle.pr_num.specs.Spaces.{IsSpace, mapped_size};
+
+    ghost view = { λ space. space.mappings.items };
+
+    ghost invariant = { λ space. IsSpace space.mappings.items × (space.mapped ≡ mapped_size space.mappings.items) };
+}
+
+impl Space {
+    ghost use Rattle.pr_num.specs.Spaces.{IsSpace};
+
+    /// The most bytes that can be mapped.
+    pub const LIMIT: u64 = 0x10_0000;
+
+    /// A space in which nothing is mapped. Takes no memory.
+    pub fn new(alloc: Global) -> Space
+        ensures { result ≡ [] }
+    {
+        Space {
+            mappings: Vec::new(alloc),
+            mapped: 0,
+        }
+    }
+
+    /// The mappings by rising address, apart from each other.
+    pub fn mappings(&self) -> &[Mapping]
+        ensures value { result.now ≡ self.now }
+        ensures space { IsSpace self.now }
+    {
+        &self.mappings
+    }
+
+    /// How many bytes are mapped, at most 1 MiB.
+    pub fn mapped(&self) -> u64
+        ensures { result ≡ mapped_size self.now }
+    {
+        self.mapped
+    }
+
+    /// Reads bytes from an address on, which need these protections. Where that fails at a byte, the first such byte is
+    /// named, and the buffer stays as it is.
+    pub fn read(&self, at: u64, out: &mut [u8], need: u8) -> Result<(), MemFault>
+        ensures answer { result ≡ access_answer (bytes_for need self.now at (length out.old)) }
+        ensures ok { OnOk result (bytes_for need self.now at (length out.old) ≡ Ok out.new) }
+        ensures err { OnErr result (out.new ≡ out.old) }
+    {
+        accesses::check(&self.mappings, need, at, out.len())?;
+        accesses::fill(&self.mappings, need, at, out)?;
+        Ok(())
+    }
+
+    /// Writes bytes from an address on, which need these protections. Where that fails at a byte, the first such byte is
+    /// named, and the space stays as it is.
+    pub fn write(&mut self, at: u64, bytes: &[u8], need: u8) -> Result<(), MemFault>
+        ensures answer { result ≡ access_answer (bytes_for need self.old at (length bytes.now)) }
+        ensures ok { OnOk result (self.new ≡ with_bytes at bytes.now self.old) }
+        ensures err { OnErr result (self.new ≡ self.old) }
+    {
+        accesses::check(&self.mappings, need, at, bytes.len())?;
+        writes::write_all(&mut self.mappings, at, bytes);
+        Ok(())
+    }
+
+    /// Maps zero bytes. Where a mapping stands there, where more than 1 MiB would be mapped, or where memory runs out, the
+    /// space stays as it is.
+    pub fn map(&mut self, alloc: Global, m: Map) -> Result<(), MemFault>
+        requires size { 0 < m.size }
+        requires end { m.at + m.size < 2 ^ 64 }
+        requires prot { m.prot < 8 }
+        requires least_kind { 1 ≤ m.kind }
+        requires most_kind { m.kind ≤ 5 }
+        ensures refused { IfSome (map_refusal m.at m.size self.old) (λ fault. result ≡ Err fault) }
+        ensures granted { map_refusal m.at m.size self.old ≡ None → IsOkUnless result MemFault.NoMemory }
+        ensures ok { OnOk result (self.new ≡ with_mapping (zeros_at m.at m.size m.prot (kind_of m.kind)) self.old) }
+        ensures err { OnErr result (self.new ≡ self.old) }
+    {
+        if !ranges::is_free(&self.mappings, m.at, m.size) {
+            return Err(MemFault::Overlap);
+        }
+        if m.size > Space::LIMIT - self.mapped {
+            return Err(MemFault::TooBig);
+        }
+        let prot = mappings::prot_of(m.prot);
+        let kind = mappings::kind_of(m.kind);
+        let mapping = mappings::zeros_at(alloc, m.at, m.size as usize, prot, kind)?;
+        self.add(mapping)?;
+        Ok(())
+    }
+
+    /// Takes away the mapping that is this range; where none is, the space stays as it is.
+    #[tactic(auto, using(pr_parts::proofs::SpaceLemmas::ranges))]
+    pub fn unmap(&mut self, at: u64, size: u64) -> Result<(), MemFault>
+        ensures answer { result ≡ done_unless (range_refusal at size self.old) }
+        ensures ok { OnOk result (self.new ≡ without_range at size self.old) }
+        ensures err { OnErr result (self.new ≡ self.old) }
+    {
+        let Some(place) = ranges::place_of(&self.mappings, at, size) else {
+            return Err(MemFault::Hole { at });
+        };
+        self.remove(place);
+        Ok(())
+    }
+
+    /// Lets the mapping that is this range allow something else; where none is, the space stays as it is.
+    #[tactic(auto, using(pr_parts::proofs::SpaceLemmas::ranges))]
+    pub fn protect(&mut self, at: u64, size: u64, prot: u8) -> Result<(), MemFault>
+        requires { prot < 8 }
+        ensures answer { result ≡ done_unless (range_refusal at size self.old) }
+        ensures ok { OnOk result (self.new ≡ with_protected at size prot self.old) }
+        ensures err { OnErr result (self.new ≡ self.old) }
+    {
+        let Some(place) = ranges::place_of(&self.mappings, at, size) else {
+            return Err(MemFault::Hole { at });
+        };
+        mappings::set_prot(&mut self.mappings[place], mappings::prot_of(prot));
+        Ok(())
+    }
+
+    /// The same space again.
+    pub fn copy(&self, alloc: Global) -> Result<Space, NoMemory>
+        ensures { IfOk result (λ copy. copy ≡ self.now) }
+    {
+        Ok(Space {
+            mappings: mappings::copies(alloc, &self.mappings)?,
+            mapped: self.mapped,
+        })
+    }
+
+    /// Adds a mapping where there is room for it.
+    fn add(&mut self, mapping: Mapping) -> Result<(), NoMemory>
+        requires some { 0 < length mapping.bytes }
+        requires end { mapping.at + length mapping.bytes < 2 ^ 64 }
+        requires free { is_free mapping.at (length mapping.bytes) self.old ≡ true }
+        requires room { mapped_size self.old + length mapping.bytes ≤ mapping_limit }
+        ensures ok { OnOk result (self.new ≡ with_mapping mapping self.old) }
+        ensures err { OnErr result (self.new ≡ self.old) }
+    {
+        let size = mapping.bytes.as_slice().len() as u64;
+        let place = ranges::place_for(&self.mappings, mapping.at);
+        mappings::put(&mut self.mappings, place, mapping)?;
+        self.mapped += size;
+        Ok(())
+    }
+
+    /// Takes the mapping in a place away.
+    fn remove(&mut self, place: usize)
+        requires { place < length self.old }
+        ensures { self.new ≡ remove self.old place }
+    {
+        let gone = self.mappings.remove(place);
+        self.mapped -= gone.bytes.as_slice().len() as u64;
+    }
+}
