@@ -1,1 +1,3 @@
+pub mod GapLemmas
 pub mod RunLemmas
+pub mod TextLemmas

@@ -36,10 +36,17 @@ abbrev pub checked : {X : Type 0} → Result X BadByte → Result (Unit {0}) Bad
 checked (Ok bytes) = Ok tt
 checked (Err byte) = Err byte
 
--- the same as an answer
+-- the same as an answer of an address space
+abbrev pub answered : {X : Type 0} → Result X BadByte → Result X MemFault
+answered (Ok x) = Ok x
+answered (Err byte) = Err (fault_of byte)
+
 abbrev pub access_answer : {X : Type 0} → Result X BadByte → Result (Unit {0}) MemFault
-access_answer (Ok bytes) = Ok tt
-access_answer (Err byte) = Err (fault_of byte)
+access_answer read = answered (checked read)
+
+-- whether a byte ends a text
+abbrev pub is_zero : ℕ → Bool
+is_zero b = b == 0
 
 -- the length of a text, if it has an end
 abbrev pub text_length : Option (List ℕ) → Option ℕ
@@ -51,8 +58,7 @@ length_read (Ok text) = Ok (text_length text)
 length_read (Err byte) = Err byte
 
 abbrev pub text_answer : Result (Option (List ℕ)) BadByte → Result (Option ℕ) MemFault
-text_answer (Ok text) = Ok (text_length text)
-text_answer (Err byte) = Err (fault_of byte)
+text_answer read = answered (length_read read)
 
 -- a buffer with a text that was read in front, where there is one
 abbrev pub with_text : Result (Option (List ℕ)) BadByte → List ℕ → List ℕ

@@ -3,9 +3,11 @@
 
 mod accesses;
 mod faults;
+mod gaps;
 mod mappings;
 mod ranges;
 mod spaces;
+mod texts;
 mod writes;
 
 pub use faults::{Map, MemFault};

@@ -1,9 +1,9 @@
 ghost use Rattle.std.specs.Prelude.{◌≡◌, ◌≤◌, ◌<◌, ◌+◌, ◌^◌, [], length, remove, true, None, Ok, Err, OnOk, OnErr, IfOk, IfSome, IsOkUnless};
 ghost use Rattle.pr_num.specs.Spaces.{mapped_size, mapping_limit, bytes_for};
-ghost use Rattle.pr_parts.specs.AddressSpaces.{is_free, kind_of, with_bytes, with_mapping, with_protected, without_range, zeros_at};
-ghost use Rattle.pr_mem.specs.Answers.{access_answer, done_unless, map_refusal, range_refusal};
+ghost use Rattle.pr_parts.specs.AddressSpaces.{gap_in, is_free, kind_of, text_at, with_bytes, with_mapping, with_protected, without_range, zeros_at};
+ghost use Rattle.pr_mem.specs.Answers.{access_answer, done_unless, map_refusal, range_refusal, text_answer, with_text};
 
-use crate::{Map, MemFault, accesses, mappings, ranges, writes};
+use crate::{Map, MemFault, accesses, gaps, mappings, ranges, texts, writes};
 use pr_num::{Mapping, NoMemory};
 use std::alloc::Global;
 use std::marker::Model;
@@ -83,6 +83,17 @@ impl Space {
         Ok(())
     }
 
+    /// Reads a text that ends with a zero byte, of which at most `max` bytes are looked at, and puts what stands before the
+    /// zero into the front of the buffer. `None` where these bytes have no zero. Where one of them cannot be read and none
+    /// before it is zero, the first such byte is named. Then, and without a zero, the buffer stays as it is.
+    pub fn string_at(&self, at: u64, max: usize, out: &mut [u8; 32]) -> Result<Option<usize>, MemFault>
+        requires { max ≤ 32 }
+        ensures answer { result ≡ text_answer (text_at self.now at max) }
+        ensures text { out.new ≡ with_text (text_at self.now at max) out.old }
+    {
+        Ok(texts::read_text(&self.mappings, at, max, &mut out[..])?)
+    }
+
     /// Maps zero bytes. Where a mapping stands there, where more than 1 MiB would be mapped, or where memory runs out, the
     /// space stays as it is.
     pub fn map(&mut self, alloc: Global, m: Map) -> Result<(), MemFault>
@@ -136,6 +147,13 @@ impl Space {
         };
         mappings::set_prot(&mut self.mappings[place], mappings::prot_of(prot));
         Ok(())
+    }
+
+    /// The least multiple of 4,096 from 0x200000 on at which a mapping of this size meets none and ends below 0x700000.
+    pub fn gap(&self, size: u64) -> Option<u64>
+        ensures { result ≡ gap_in size self.now }
+    {
+        gaps::gap(&self.mappings, size)
     }
 
     /// The same space again.
