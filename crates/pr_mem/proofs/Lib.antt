@@ -1,3 +1,4 @@
 pub mod GapLemmas
+pub mod RoomLemmas
 pub mod RunLemmas
 pub mod TextLemmas

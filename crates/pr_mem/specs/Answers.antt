@@ -1,9 +1,11 @@
 -- What the calls on an address space answer.
-use Rattle.std.specs.Prelude.{◌≡◌, ◌==◌, ◌+◌, ◌<◌, ◌≤◌, ◌^◌, ◌++◌, ℕ, Bool, not, List, length, drop, Option, Some, None, Result, Ok, Err, nat_lt, if◌then◌else◌}
+use Rattle.std.specs.Prelude.{◌≡◌, ◌==◌, ◌+◌, ◌-◌, ◌<◌, ◌≤◌, ◌^◌, ◌++◌, ℕ, Bool, not, List, length, drop, Option, Some, None, Result, Ok, Err, find, nat_le, if◌then◌else◌}
+use Rattle.pr_num.specs.Programs.{rounded}
 use Rattle.pr_num.specs.Spaces.{Space, bytes_for, mapped_size, mapping_limit}
 use Rattle.pr_num.specs.declared.mappings.BadByte.{BadByte}
 use Rattle.pr_num.specs.declared.mappings.BadByte.TheVariants as bad
-use Rattle.pr_parts.specs.AddressSpaces.{has_range, has_room, is_free, text_at, with_break}
+use Rattle.pr_num.specs.declared.mappings.Mapping.{Mapping}
+use Rattle.pr_parts.specs.AddressSpaces.{has_range, has_room, heap_base, is_break_heap, is_free, text_at, with_heap}
 use Rattle.pr_mem.specs.declared.faults.MemFault.{MemFault}
 use Rattle.pr_mem.specs.declared.faults.MemFault.TheVariants.{Hole, NotAllowed, Overlap, TooBig}
 
@@ -27,9 +29,21 @@ map_refusal at size space =
 abbrev pub range_refusal : ℕ → ℕ → Space → Option MemFault
 range_refusal at size space = if has_range at size space then None else Some (Hole at)
 
+-- whether the heap can have so many bytes
+abbrev pub has_heap_room : ℕ → Space → Bool
+has_heap_room size space = nat_le (mapped_size (with_heap size space)) mapping_limit
+
 -- why the break is not moved: the space would pass its limit
 abbrev pub break_refusal : ℕ → Space → Option MemFault
-break_refusal end space = if nat_lt mapping_limit (mapped_size (with_break end space)) then Some TooBig else None
+break_refusal end space = if has_heap_room (rounded (end - heap_base)) space then None else Some TooBig
+
+-- how many bytes the heap has
+abbrev pub bytes_of : Option Mapping → ℕ
+bytes_of None = 0
+bytes_of (Some heap) = length heap.bytes
+
+abbrev pub heap_bytes : Space → ℕ
+heap_bytes space = bytes_of (find is_break_heap space)
 
 -- whether an access can be made, or the first byte at which it fails
 abbrev pub checked : {X : Type 0} → Result X BadByte → Result (Unit {0}) BadByte

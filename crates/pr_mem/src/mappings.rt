@@ -1,4 +1,5 @@
-ghost use Rattle.std.specs.Prelude.{◌≡◌, ◌≤◌, ◌<◌, ◌^◌, length, [], insert, IfOk, OnOk, OnErr};
+ghost use Rattle.std.specs.Prelude.{◌≡◌, ◌≤◌, ◌<◌, ◌^◌, length, [], insert, slice_get, slice_set, Some, IfOk, OnOk, OnErr};
+ghost use Rattle.pr_num.specs.declared.mappings.Mapping.{Mapping};
 ghost use Rattle.pr_parts.specs.AddressSpaces.{kind_of, resized, with_prot, zeros_at};
 
 use pr_num::{Bytes, Mapping, MappingKind, NoMemory, Prot};
@@ -6,6 +7,9 @@ use std::alloc::Global;
 use std::mem;
 
 // Single mappings: made, copied, protected and resized.
+
+/// The word of the protections to read and to write.
+pub const READ_WRITE: u8 = 6;
 
 /// The kind of a number from 1 to 5.
 pub fn kind_of(number: u8) -> MappingKind
@@ -78,6 +82,16 @@ pub fn resize(mapping: &mut Mapping, alloc: Global, size: usize) -> Result<(), N
     mapping.bytes = Bytes::from_vec(bytes);
     done?;
     Ok(())
+}
+
+/// The same of the mapping in a place.
+pub fn resize_at(mappings: &mut Vec<Mapping>, alloc: Global, place: usize, size: usize) -> Result<(), NoMemory>
+    requires { place < length mappings.old.items }
+    ensures ok { OnOk result ((m : Mapping) → slice_get mappings.old.items place ≡ Some m
+        → mappings.new.items ≡ slice_set mappings.old.items place (resized size m)) }
+    ensures err { OnErr result (mappings.new.items ≡ mappings.old.items) }
+{
+    resize(&mut mappings[place], alloc, size)
 }
 
 fn copy(alloc: Global, mapping: &Mapping) -> Result<Mapping, NoMemory>

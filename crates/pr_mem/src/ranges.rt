@@ -2,9 +2,10 @@ ghost use Rattle.std.specs.Prelude.{◌≡◌, ◌≤◌, ◌<◌, ◌+◌, ◌^
 ghost use Rattle.std.specs.List.{list_any, position_or_len};
 ghost use Rattle.std.specs.Option.{option_copied};
 ghost use Rattle.pr_num.specs.Control.{has_flags};
-ghost use Rattle.pr_num.specs.Spaces.{IsSpace, covers};
+ghost use Rattle.pr_num.specs.Spaces.{IsSpace, covers, mapped_size};
 ghost use Rattle.pr_parts.specs.ByAddress.{is_behind};
 ghost use Rattle.pr_parts.specs.AddressSpaces.{address_of, meets, is_break_heap, is_free, is_range};
+ghost use Rattle.pr_mem.specs.Answers.{heap_bytes};
 
 use pr_num::{Mapping, MappingKind};
 
@@ -110,4 +111,23 @@ pub fn heap_place(mappings: &[Mapping]) -> Option<usize>
     ensures { result ≡ position is_break_heap mappings.now }
 {
     mappings.iter().position(|mapping| is_break_heap(mapping))
+}
+
+/// The heap that the break ends.
+fn find_heap(mappings: &[Mapping]) -> Option<&Mapping>
+    ensures { option_copied result ≡ find is_break_heap mappings.now }
+{
+    mappings.iter().find(|mapping| is_break_heap(mapping))
+}
+
+/// How many bytes the heap has.
+#[tactic(auto, using(pr_parts::proofs::HeapLemmas::heaps))]
+pub fn heap_bytes(mappings: &[Mapping]) -> u64
+    ensures value { result ≡ heap_bytes mappings.now }
+    ensures within { result ≤ mapped_size mappings.now }
+{
+    match find_heap(mappings) {
+        Some(heap) => heap.bytes.as_slice().len() as u64,
+        None => 0,
+    }
 }

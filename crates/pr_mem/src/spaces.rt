@@ -1,10 +1,10 @@
-ghost use Rattle.std.specs.Prelude.{◌≡◌, ◌≤◌, ◌<◌, ◌+◌, ◌^◌, [], length, remove, true, None, Ok, Err, OnOk, OnErr, IfOk, IfSome, IsOkUnless};
+ghost use Rattle.std.specs.Prelude.{◌≡◌, ◌≤◌, ◌<◌, ◌+◌, ◌^◌, [], All, length, position, remove, true, Some, None, Ok, Err, OnOk, OnErr, IfOk, IfSome, IsOkUnless};
 ghost use Rattle.pr_num.specs.Spaces.{mapped_size, mapping_limit, bytes_for};
-ghost use Rattle.pr_parts.specs.AddressSpaces.{gap_in, is_free, kind_of, text_at, with_bytes, with_mapping, with_protected, without_range, zeros_at};
-ghost use Rattle.pr_mem.specs.Answers.{access_answer, done_unless, map_refusal, range_refusal, text_answer, with_text};
+ghost use Rattle.pr_parts.specs.AddressSpaces.{LeavesHeapPlace, break_limit, gap_in, heap_base, is_break_heap, is_free, kind_of, text_at, with_break, with_bytes, with_heap, with_mapping, with_protected, without_range, zeros_at};
+ghost use Rattle.pr_mem.specs.Answers.{access_answer, break_refusal, done_unless, has_heap_room, map_refusal, range_refusal, text_answer, with_text};
 
 use crate::{Map, MemFault, accesses, gaps, mappings, ranges, texts, writes};
-use pr_num::{Mapping, NoMemory};
+use pr_num::{Mapping, MappingKind, NoMemory};
 use std::alloc::Global;
 use std::marker::Model;
 
@@ -149,6 +149,26 @@ impl Space {
         Ok(())
     }
 
+    /// Moves the break, which ends the heap: the heap is as many bytes as lie below the break, rounded up to a multiple of
+    /// 4,096. Bytes that come to it are zero. Where more than 1 MiB would be mapped, or where memory runs out, the space
+    /// stays as it is.
+    pub fn brk(&mut self, alloc: Global, end: u64) -> Result<(), MemFault>
+        requires least { heap_base ≤ end }
+        requires most { end ≤ break_limit }
+        requires place { All LeavesHeapPlace self.old }
+        ensures refused { IfSome (break_refusal end self.old) (λ fault. result ≡ Err fault) }
+        ensures granted { break_refusal end self.old ≡ None → IsOkUnless result MemFault.NoMemory }
+        ensures ok { OnOk result (self.new ≡ with_break end self.old) }
+        ensures err { OnErr result (self.new ≡ self.old) }
+    {
+        let size = (end - ranges::HEAP + 4095) / 4096 * 4096;
+        if !self.has_heap_room(size) {
+            return Err(MemFault::TooBig);
+        }
+        self.set_heap(alloc, size)?;
+        Ok(())
+    }
+
     /// The least multiple of 4,096 from 0x200000 on at which a mapping of this size meets none and ends below 0x700000.
     pub fn gap(&self, size: u64) -> Option<u64>
         ensures { result ≡ gap_in size self.now }
@@ -179,6 +199,64 @@ impl Space {
         let place = ranges::place_for(&self.mappings, mapping.at);
         mappings::put(&mut self.mappings, place, mapping)?;
         self.mapped += size;
+        Ok(())
+    }
+
+    /// Whether the heap can have so many bytes.
+    fn has_heap_room(&self, size: u64) -> bool
+        ensures { result ≡ has_heap_room size self.now }
+    {
+        let others = self.mapped - ranges::heap_bytes(&self.mappings);
+        size <= Space::LIMIT - others
+    }
+
+    /// Gives the heap so many bytes, for which there is room.
+    fn set_heap(&mut self, alloc: Global, size: u64) -> Result<(), NoMemory>
+        requires room { has_heap_room size self.old ≡ true }
+        requires within { heap_base + size ≤ break_limit }
+        requires place { All LeavesHeapPlace self.old }
+        ensures ok { OnOk result (self.new ≡ with_heap size self.old) }
+        ensures err { OnErr result (self.new ≡ self.old) }
+    {
+        match ranges::heap_place(&self.mappings) {
+            None => self.make_heap(alloc, size),
+            Some(place) => self.resize_heap(alloc, place, size),
+        }
+    }
+
+    /// Makes a heap of so many bytes where there is none.
+    fn make_heap(&mut self, alloc: Global, size: u64) -> Result<(), NoMemory>
+        requires none { position is_break_heap self.old ≡ None }
+        requires room { has_heap_room size self.old ≡ true }
+        requires within { heap_base + size ≤ break_limit }
+        requires place { All LeavesHeapPlace self.old }
+        ensures ok { OnOk result (self.new ≡ with_heap size self.old) }
+        ensures err { OnErr result (self.new ≡ self.old) }
+    {
+        if size == 0 {
+            return Ok(());
+        }
+        let prot = mappings::prot_of(mappings::READ_WRITE);
+        let heap = mappings::zeros_at(alloc, ranges::HEAP, size as usize, prot, MappingKind::Heap)?;
+        self.add(heap)
+    }
+
+    /// Gives the heap, which stands in a place, so many bytes.
+    fn resize_heap(&mut self, alloc: Global, place: usize, size: u64) -> Result<(), NoMemory>
+        requires found { position is_break_heap self.old ≡ Some place }
+        requires room { has_heap_room size self.old ≡ true }
+        requires within { heap_base + size ≤ break_limit }
+        requires place { All LeavesHeapPlace self.old }
+        ensures ok { OnOk result (self.new ≡ with_heap size self.old) }
+        ensures err { OnErr result (self.new ≡ self.old) }
+    {
+        if size == 0 {
+            self.remove(place);
+            return Ok(());
+        }
+        let old = self.mappings[place].bytes.as_slice().len() as u64;
+        mappings::resize_at(&mut self.mappings, alloc, place, size as usize)?;
+        self.mapped = self.mapped - old + size;
         Ok(())
     }
 

@@ -1,4 +1,5 @@
 pub mod AccessLemmas
 pub mod AreaLemmas
 pub mod ByAddressLemmas
+pub mod HeapLemmas
 pub mod SpaceLemmas
