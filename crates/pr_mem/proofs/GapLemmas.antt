@@ -75,7 +75,7 @@ met size at m space to range hit rest =
       limit = rest.limit;
       aligned = rest.aligned;
       taken = λ a even from below. elim (cases_Bool (ltb a (rounded (min (m.at + length m.bytes) gap_limit)))) [ inl t ↦ here a even from (ltb-true _ _ t) high | inr f ↦ or_right _ _ (rest.taken a even (ltb-false _ _ f) below) ];
-      free = λ below. or_from _ _ (misses-behind to size m (omega (arith, rest.on))) (rest.free below)
+      free = λ below. or_from _ _ (misses-behind to size m (omega (arith, rest.on))) (rest.free below);
     }
   where
     here : (a : ℕ) → a % 4096 ≡ 0 → at ≤ a → a < rounded (min (m.at + length m.bytes) gap_limit) → m.at < at + size → list_any (meets a size) (m ∷ space) ≡ true
@@ -85,12 +85,12 @@ met size at m space to range hit rest =
 
 missed : (size at : ℕ) (m : Mapping) (space : Space) (to : ℕ) → All (IsBefore m) space → moved_past size at space ≡ to → meets at size m ≡ false → Moved size at space to → Moved size at (m ∷ space) to
 missed size at m space to behind is miss rest = record {
-    on = rest.on;
-    limit = rest.limit;
-    aligned = rest.aligned;
-    taken = λ a even from below. or_right _ _ (rest.taken a even from below);
-    free = λ below. or_from _ _ (clear (misses at size m miss) rest.on) (rest.free below)
-  }
+  on = rest.on;
+  limit = rest.limit;
+  aligned = rest.aligned;
+  taken = λ a even from below. or_right _ _ (rest.taken a even from below);
+  free = λ below. or_from _ _ (clear (misses at size m miss) rest.on) (rest.free below);
+}
   where
     clear : (m.at + length m.bytes ≤ at) ⊎ (at + size ≤ m.at) → at ≤ to → meets to size m ≡ false
     clear (inl past) on = misses-behind to size m (omega arith)

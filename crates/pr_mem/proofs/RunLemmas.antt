@@ -51,7 +51,7 @@ IsChecked-more need space at len done most run old size more =
     record {
       within = omega (arith, old.within, more.within);
       bytes = rw (bytes_for-append need space at done (length run) (omega (arith, old.end)), here, more.bytes) (checked-joined (bytes_for need space at done) run old.bytes);
-      end = omega (arith, more.end)
+      end = omega (arith, more.end);
     }
 
 pub IsFilled-more : (need : ℕ) (space : Space) (at : ℕ) (out : List ℕ) (done most : ℕ) (run now : List ℕ) (n : ℕ) → IsFilled need space at out done → most ≡ length out - done → IsRun need space (at + done) most run → n ≡ length run → now ≡ run → IsFilled need space at (put_mid done n out now) (done + length run)
@@ -62,7 +62,7 @@ IsFilled-more need space at out done most run now n old size more e same =
     rw same (record {
       within = omega (arith, len, old.within, more.within);
       bytes = rw (front, bytes_for-append need space at done (length run) (omega (arith, old.end)), here, more.bytes, old.bytes) refl;
-      end = omega (arith, more.end)
+      end = omega (arith, more.end);
     })
   where
     length-put : (a k : ℕ) (xs ys : List ℕ) → a ≤ length xs → a + length ys ≤ length xs → a + length ys ≤ length (put_mid a k xs ys)
@@ -117,5 +117,5 @@ IsRun-within need space m at most size from part kept found allowed some e1 e2 e
       some = omega arith;
       within = omega arith;
       bytes = rw len (bytes_for-run need space m at size kept.apart (λ h. found) allowed low (omega arith) limit ∙ ap (λ xs. Ok xs) (ap (λ n. take size (drop n m.bytes)) (sym e1) ∙ sym e3));
-      end = omega arith
+      end = omega arith;
     }

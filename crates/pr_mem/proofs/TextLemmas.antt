@@ -102,11 +102,13 @@ text_at-bytes space a (suc n) text e =
   where
     none : (x : Result (Option (List ℕ)) BadByte) (text : List ℕ) → x ≡ Ok (Some []) → x ≡ Ok (Some text) → bytes_for prot_read space a (length text) ≡ Ok text
     none x text old is = let same : [] ≡ text = (cc) in subst (λ (t : List ℕ). bytes_for prot_read space a (length t) ≡ Ok t) same refl
+
     some : (b : ℕ) (behind : Result (Option (List ℕ)) BadByte) (text : List ℕ) → ((t : List ℕ) → behind ≡ Ok (Some t) → bytes_for prot_read space ((a + 1) % 2 ^ 64) (length t) ≡ Ok t) → byte_for prot_read space a ≡ Ok b → text_behind b behind ≡ Ok (Some text) → bytes_for prot_read space a (length text) ≡ Ok text
     some b behind text rest here is =
         let parts = follows b behind text is in
         let more = rest parts.more parts.behind_is in
         subst (λ (t : List ℕ). bytes_for prot_read space a (length t) ≡ Ok t) (sym parts.text_is) (rw (here, more) refl)
+
     go : (first : Result ℕ BadByte) (behind : Result (Option (List ℕ)) BadByte) → ((t : List ℕ) → behind ≡ Ok (Some t) → bytes_for prot_read space ((a + 1) % 2 ^ 64) (length t) ≡ Ok t) → byte_for prot_read space a ≡ first → text_with first behind ≡ Ok (Some text) → bytes_for prot_read space a (length text) ≡ Ok text
     go (Err bad) behind rest here is = absurd (cc)
     go (Ok b) behind rest here is =
@@ -144,7 +146,7 @@ IsOpen-more space at most done asked run old size more none =
     record {
       within = omega (arith, old.within, more.within);
       end = omega (arith, more.end);
-      text = old.text ∙ ap (λ n. more_read done (length_read (text_at space (at + done) n))) left ∙ ap (more_read done) step ∙ more_again done (length run) (length_read (text_at space ((at + done + length run) % 2 ^ 64) (most - (done + length run)))) ∙ ap (λ a. more_read (done + length run) (length_read (text_at space a (most - (done + length run))))) (here ∙ next)
+      text = old.text ∙ ap (λ n. more_read done (length_read (text_at space (at + done) n))) left ∙ ap (more_read done) step ∙ more_again done (length run) (length_read (text_at space ((at + done + length run) % 2 ^ 64) (most - (done + length run)))) ∙ ap (λ a. more_read (done + length run) (length_read (text_at space a (most - (done + length run))))) (here ∙ next);
     }
 
 pub IsOpen-found : (space : Space) (at most done asked : ℕ) (run : List ℕ) (i : ℕ) → IsOpen space at most done → asked ≡ most - done → IsRun prot_read space (at + done) asked run → i ≡ position_or_len is_zero run → i < length run → length_read (text_at space at most) ≡ Ok (Some (done + i))
@@ -187,10 +189,12 @@ text_at-within space a (suc n) text e =
   where
     none : (x : Result (Option (List ℕ)) BadByte) → x ≡ Ok (Some []) → x ≡ Ok (Some text) → length text ≤ suc n
     none x old is = let same : [] ≡ text = (cc) in omega (arith, ap length same)
+
     some : (b : ℕ) (behind : Result (Option (List ℕ)) BadByte) → ((t : List ℕ) → behind ≡ Ok (Some t) → length t ≤ n) → text_behind b behind ≡ Ok (Some text) → length text ≤ suc n
     some b behind rest is =
         let parts = follows b behind text is in
         omega (arith, rest parts.more parts.behind_is, ap length parts.text_is)
+
     go : (first : Result ℕ BadByte) (behind : Result (Option (List ℕ)) BadByte) → ((t : List ℕ) → behind ≡ Ok (Some t) → length t ≤ n) → text_with first behind ≡ Ok (Some text) → length text ≤ suc n
     go (Err bad) behind rest is = absurd (cc)
     go (Ok b) behind rest is =
@@ -204,7 +208,7 @@ IsText-read space at most len e =
       is = found.1.0;
       size = found.1.1;
       bytes = subst (λ (n : ℕ). bytes_for prot_read space at n ≡ Ok found.0) found.1.1 (text_at-bytes space at most found.0 found.1.0);
-      within = omega (arith, found.1.1, text_at-within space at most found.0 found.1.0)
+      within = omega (arith, found.1.1, text_at-within space at most found.0 found.1.0);
     }
 
 -- a buffer with the text in front

@@ -22,7 +22,9 @@ fn move_behind(mapping: &Mapping, at: u64, size: u64) -> u64
     ensures limit { result ≤ gap_limit }
 {
     if ranges::meets(mapping, at, size) {
-        let end = mapping.at.saturating_add(mapping.bytes.as_slice().len() as u64);
+        let end = mapping
+            .at
+            .saturating_add(mapping.bytes.as_slice().len() as u64);
         (end.min(LIMIT) + 4095) / 4096 * 4096
     } else {
         at

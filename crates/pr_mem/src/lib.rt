@@ -12,3 +12,6 @@ mod writes;
 
 pub use faults::{Map, MemFault};
 pub use spaces::Space;
+
+#[cfg(test)]
+mod tests;

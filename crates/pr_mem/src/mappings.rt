@@ -33,7 +33,13 @@ pub fn prot_of(word: u8) -> Prot
 }
 
 /// A mapping of zero bytes.
-pub fn zeros_at(alloc: Global, at: u64, size: usize, prot: Prot, kind: MappingKind) -> Result<Mapping, NoMemory>
+pub fn zeros_at(
+    alloc: Global,
+    at: u64,
+    size: usize,
+    prot: Prot,
+    kind: MappingKind,
+) -> Result<Mapping, NoMemory>
     ensures { IfOk result (λ m. m ≡ zeros_at at size prot kind) }
 {
     let bytes = Bytes::from_vec(vec![in alloc; 0; size]?);
@@ -85,7 +91,12 @@ pub fn resize(mapping: &mut Mapping, alloc: Global, size: usize) -> Result<(), N
 }
 
 /// The same of the mapping in a place.
-pub fn resize_at(mappings: &mut Vec<Mapping>, alloc: Global, place: usize, size: usize) -> Result<(), NoMemory>
+pub fn resize_at(
+    mappings: &mut Vec<Mapping>,
+    alloc: Global,
+    place: usize,
+    size: usize,
+) -> Result<(), NoMemory>
     requires { place < length mappings.old.items }
     ensures ok { OnOk result ((m : Mapping) → slice_get mappings.old.items place ≡ Some m
         → mappings.new.items ≡ slice_set mappings.old.items place (resized size m)) }

@@ -84,7 +84,9 @@ fn is_break_heap(mapping: &Mapping) -> bool
 pub fn place_of(mappings: &[Mapping], at: u64, size: u64) -> Option<usize>
     ensures { result ≡ position (is_range at size) mappings.now }
 {
-    mappings.iter().position(|mapping| is_range(mapping, at, size))
+    mappings
+        .iter()
+        .position(|mapping| is_range(mapping, at, size))
 }
 
 /// The place of the first mapping that stands behind an address.

@@ -86,7 +86,12 @@ impl Space {
     /// Reads a text that ends with a zero byte, of which at most `max` bytes are looked at, and puts what stands before the
     /// zero into the front of the buffer. `None` where these bytes have no zero. Where one of them cannot be read and none
     /// before it is zero, the first such byte is named. Then, and without a zero, the buffer stays as it is.
-    pub fn string_at(&self, at: u64, max: usize, out: &mut [u8; 32]) -> Result<Option<usize>, MemFault>
+    pub fn string_at(
+        &self,
+        at: u64,
+        max: usize,
+        out: &mut [u8; 32],
+    ) -> Result<Option<usize>, MemFault>
         requires { max ≤ 32 }
         ensures answer { result ≡ text_answer (text_at self.now at max) }
         ensures text { out.new ≡ with_text (text_at self.now at max) out.old }
@@ -160,6 +165,7 @@ impl Space {
         ensures granted { break_refusal end self.old ≡ None → IsOkUnless result MemFault.NoMemory }
         ensures ok { OnOk result (self.new ≡ with_break end self.old) }
         ensures err { OnErr result (self.new ≡ self.old) }
+        ensures kept { All LeavesHeapPlace self.new }
     {
         let size = (end - ranges::HEAP + 4095) / 4096 * 4096;
         if !self.has_heap_room(size) {

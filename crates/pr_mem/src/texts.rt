@@ -36,7 +36,12 @@ fn length_at(mappings: &[Mapping], at: u64, most: usize) -> Result<Option<usize>
 }
 
 /// Reads a text into the front of a buffer; where there is none the buffer stays as it is.
-pub fn read_text(mappings: &[Mapping], at: u64, most: usize, out: &mut [u8]) -> Result<Option<usize>, BadByte>
+pub fn read_text(
+    mappings: &[Mapping],
+    at: u64,
+    most: usize,
+    out: &mut [u8],
+) -> Result<Option<usize>, BadByte>
     requires space { IsSpace mappings.now }
     requires room { most ≤ length out.old }
     ensures answer { result ≡ length_read (text_at mappings.now at most) }

@@ -33,11 +33,13 @@ find-covers a b (n ∷ space) m apart found has =
   where
     here : n ≡ m → cond (covers b n) (Some n) (find (covers b) space) ≡ Some m
     here e = let same : covers b n ≡ true = ap (covers b) e ∙ has in rw same (ap (λ x. Some x) e)
+
     far : find (covers a) space ≡ Some m → covers b n ≡ false
     far e =
         let before = All-find (IsBefore n) (covers a) space m (AllPairs-head IsBefore n space apart) e in
         let low = covers-at b m has in
         elim (cases_Bool (covers b n)) [ inl t ↦ let high = covers-end b n t in absurd (omega arith) | inr f ↦ f ]
+
     behind : find (covers a) space ≡ Some m → find (covers b) space ≡ Some m → cond (covers b n) (Some n) (find (covers b) space) ≡ Some m
     behind e rest = rw (far e) rest
 

@@ -75,6 +75,7 @@ pairs-placed at size x (y ∷ ys) some pairs free =
     first pairs behind here order =
         let before = apart_before (at x) (size x) (at y) (size y) here order in
         AllPairs-cons (Precedes at size) x (y ∷ ys) (All-cons (Precedes at size x) y ys before (All-weaker (Precedes at size y) (Precedes at size x) (λ z far. omega arith) ys behind)) pairs
+
     later : All (Precedes at size y) ys → ranges_meet (at x) (size x) (at y) (size y) ≡ false → AllPairs (Precedes at size) (with_placed at x ys) → at y ≤ at x → AllPairs (Precedes at size) (y ∷ with_placed at x ys)
     later behind here rest order =
         AllPairs-cons (Precedes at size) y (with_placed at x ys) (All-placed (Precedes at size y) at x ys (apart_after (at x) (size x) (at y) (size y) here some order) behind) rest

@@ -2,7 +2,7 @@
 use Rattle.std.proofs.Common.{◌≡◌, ◌⊎◌, ℕ, zero, suc, ◌+◌, ◌-◌, ◌<◌, ◌≤◌, ◌^◌, Bool, true, false, ltb, eqb, cond, not, inl, inr, Option, Some, None, List, [], ◌∷◌, ◌++◌, length, take, get_or, replicate, set, min, refl, sym, ◌∙◌, ap, arith, subst}
 use Rattle.std.specs.Prelude.{◌||◌, ◌&&◌, IsTrue, nat_le}
 use Rattle.std.specs.List.{All, AllPairs, find, list_any, remove, position, slice_get, sum_by}
-use Rattle.std.proofs.lemmas.Bool.{and_left, and_parts, and_right, cases_Bool, eqb-true, false≢true, leb-true, le-ltb, not_from_false, or_cases, or_from, true_from_ne_false}
+use Rattle.std.proofs.lemmas.Bool.{and_left, and_parts, and_right, cases_Bool, eqb-true, false≢true, leb-true, le-ltb, not_from_false, or_cases, or_from, or_left, true_from_ne_false}
 use Rattle.std.proofs.lemmas.List.{length-append, length-replicate, length-take}
 use Rattle.std.proofs.lemmas.List.Elements.{All-nil, All-cons, All-head, All-tail}
 use Rattle.std.proofs.lemmas.List.Kept.{AllPairs-cons}
@@ -11,8 +11,8 @@ use Rattle.pr_num.specs.KeyedTables.{change_first, without_first}
 use Rattle.pr_num.specs.Spaces.{Space, IsBefore, IsSpace, is_heap, mapped_size, mapping_limit, read_write}
 use Rattle.pr_num.specs.declared.mappings.Mapping.{Mapping}
 use Rattle.pr_num.specs.declared.mappings.MappingKind.TheVariants.{Heap}
-use Rattle.pr_parts.specs.AddressSpaces.{LeavesHeapPlace, break_limit, heap_base, is_break_heap, is_free, meets, resized, with_heap, with_mapping, zeros_at}
-use Rattle.pr_parts.proofs.ByAddressLemmas.{AllPairs-head, AllPairs-tail, All-change_first, sum_by-change_first, sum_by-without_first}
+use Rattle.pr_parts.specs.AddressSpaces.{LeavesHeapPlace, address_of, break_limit, heap_base, is_break_heap, is_free, meets, resized, with_heap, with_mapping, zeros_at}
+use Rattle.pr_parts.proofs.ByAddressLemmas.{All-placed, All-without_first, AllPairs-head, AllPairs-tail, All-change_first, sum_by-change_first, sum_by-without_first}
 use Rattle.pr_parts.proofs.SpaceLemmas.{EndsWithin, HasBytes, mapped_size-with_mapping, size_of}
 
 -- ---- where the heap is
@@ -37,10 +37,13 @@ is_free-heap size space leaves none within = not_from_false _ (go space leaves n
     clear : (m : Mapping) → (m.at + length m.bytes ≤ heap_base) ⊎ (break_limit ≤ m.at) → meets heap_base size m ≡ false
     clear m (inl low) = and_left _ _ (le-ltb _ _ low)
     clear m (inr high) = and_right _ _ (le-ltb m.at (heap_base + size) (omega arith))
+
     no_heap : (m : Mapping) (rest : Space) → find is_break_heap (m ∷ rest) ≡ None → is_break_heap m ≡ false
     no_heap m rest e = elim (is_break_heap m) as (λ b. cond b (Some m) (find is_break_heap rest) ≡ None → b ≡ false) [ true ↦ λ p. absurd (cc) | false ↦ λ p. refl ] e
+
     none_behind : (m : Mapping) (rest : Space) → find is_break_heap (m ∷ rest) ≡ None → find is_break_heap rest ≡ None
     none_behind m rest e = elim (is_break_heap m) as (λ b. cond b (Some m) (find is_break_heap rest) ≡ None → find is_break_heap rest ≡ None) [ true ↦ λ p. absurd (cc) | false ↦ λ p. p ] e
+
     go : (rest : Space) → All LeavesHeapPlace rest → find is_break_heap rest ≡ None → list_any (meets heap_base size) rest ≡ false
     go [] all e = refl
     go (m ∷ rest) all e = or_from _ _ (clear m (outside m (All-head LeavesHeapPlace m rest all) (no_heap m rest e))) (go rest (All-tail LeavesHeapPlace m rest all) (none_behind m rest e))
@@ -68,9 +71,11 @@ ends_before size m space heap some within bytes leaves behind k d inside =
   where
     not_heap : (n : Mapping) → IsBefore m n → is_break_heap n ≡ false
     not_heap n behind = let at = heap-at m heap in elim (cases_Bool (is_break_heap n)) [ inl t ↦ let here = heap-at n t in absurd (omega arith) | inr f ↦ f ]
+
     step : (n : Mapping) → 0 < length n.bytes → IsBefore m n → (n.at + length n.bytes ≤ heap_base) ⊎ (break_limit ≤ n.at) → IsBefore (resized size m) n
     step n has behind (inl low) = let at = heap-at m heap in absurd (omega arith)
     step n has behind (inr high) = let at = heap-at m heap in omega (arith, resized-at size m, resized-size size m)
+
     far : (n : Mapping) → 0 < length n.bytes → LeavesHeapPlace n → IsBefore m n → IsBefore (resized size m) n
     far n has leaves behind = step n has behind (outside n leaves (not_heap n behind))
 
@@ -86,11 +91,11 @@ pairs-resized size (m ∷ space) within bytes leaves pairs =
 
 pub IsSpace-resized : (size : ℕ) (space : Space) → IsSpace space → All LeavesHeapPlace space → 0 < size → heap_base + size ≤ break_limit → mapped_size (change_first is_break_heap (resized size) space) ≤ mapping_limit → IsSpace (change_first is_break_heap (resized size) space)
 IsSpace-resized size space old leaves some within room = record {
-    apart = pairs-resized size space within old.not_empty leaves old.apart;
-    not_empty = All-change_first HasBytes is_break_heap (resized size) space (λ m h. omega (arith, resized-size size m)) old.not_empty;
-    within = All-changed EndsWithin is_break_heap (resized size) space (λ m t h. omega (arith, heap-at m t, resized-at size m, resized-size size m)) old.within;
-    limit = room
-  }
+  apart = pairs-resized size space within old.not_empty leaves old.apart;
+  not_empty = All-change_first HasBytes is_break_heap (resized size) space (λ m h. omega (arith, resized-size size m)) old.not_empty;
+  within = All-changed EndsWithin is_break_heap (resized size) space (λ m t h. omega (arith, heap-at m t, resized-at size m, resized-size size m)) old.within;
+  limit = room;
+}
 
 pub mapped_size-resized : (size : ℕ) (space : Space) (m : Mapping) → find is_break_heap space ≡ Some m → mapped_size (change_first is_break_heap (resized size) space) + length m.bytes ≡ mapped_size space + size
 mapped_size-resized size space m found = omega (arith, sum_by-change_first size_of is_break_heap (resized size) space m found, resized-size size m)
@@ -134,3 +139,29 @@ mapped_size-some (suc size) space m found =
     omega (arith, made, mapped_size-resized (suc size) space m found)
 
 pub ruleset heaps = (size_found, mapped_size-none, mapped_size-some)
+
+-- ---- the place stays the heap's
+
+heap_leaves : (m : Mapping) → is_break_heap m ≡ true → LeavesHeapPlace m
+heap_leaves m e = or_left _ _ e
+
+resized-heap : (size : ℕ) (m : Mapping) → is_break_heap m ≡ true → is_break_heap (resized size m) ≡ true
+unfolding resized
+resized-heap size m e = e
+
+without_heap : (space : Space) (m : Mapping) → find is_break_heap space ≡ Some m → with_heap 0 space ≡ without_first is_break_heap space
+unfolding with_heap
+without_heap space m e = rw e refl
+
+with_made : (size : ℕ) (space : Space) → All LeavesHeapPlace space → All LeavesHeapPlace (with_mapping (zeros_at heap_base size read_write Heap) space)
+unfolding with_mapping
+with_made size space leaves = All-placed LeavesHeapPlace address_of (zeros_at heap_base size read_write Heap) space (heap_leaves (zeros_at heap_base size read_write Heap) refl) leaves
+
+pub LeavesHeapPlace-with_heap : (size : ℕ) (space : Space) → All LeavesHeapPlace space → All LeavesHeapPlace (with_heap size space)
+LeavesHeapPlace-with_heap size space leaves = go size (find is_break_heap space) refl
+  where
+    go : (size : ℕ) (found : Option Mapping) → find is_break_heap space ≡ found → All LeavesHeapPlace (with_heap size space)
+    go zero None e = subst (All LeavesHeapPlace) (sym (with_heap-none space e)) leaves
+    go (suc n) None e = subst (All LeavesHeapPlace) (sym (with_heap-made (suc n) space e (omega arith))) (with_made (suc n) space leaves)
+    go zero (Some m) e = subst (All LeavesHeapPlace) (sym (without_heap space m e)) (All-without_first LeavesHeapPlace is_break_heap space leaves)
+    go (suc n) (Some m) e = subst (All LeavesHeapPlace) (sym (with_heap-resized (suc n) space m e (omega arith))) (All-changed LeavesHeapPlace is_break_heap (resized (suc n)) space (λ x t h. heap_leaves (resized (suc n) x) (resized-heap (suc n) x t)) leaves)

@@ -38,11 +38,11 @@ mapped_size-with_mapping m space = sum_by-placed size_of address_of m space
 pub IsSpace-with_mapping : (m : Mapping) (space : Space) → IsSpace space → 0 < length m.bytes → m.at + length m.bytes < 2 ^ 64 → is_free m.at (length m.bytes) space ≡ true → mapped_size space + length m.bytes ≤ mapping_limit → IsSpace (with_mapping m space)
 unfolding with_mapping is_free
 IsSpace-with_mapping m space old some end free room = record {
-    apart = pairs-placed address_of size_of m space some old.apart (not-true (list_any (meets m.at (length m.bytes)) space) free);
-    not_empty = All-placed HasBytes address_of m space some old.not_empty;
-    within = All-placed EndsWithin address_of m space end old.within;
-    limit = omega (arith, sum_by-placed size_of address_of m space)
-  }
+  apart = pairs-placed address_of size_of m space some old.apart (not-true (list_any (meets m.at (length m.bytes)) space) free);
+  not_empty = All-placed HasBytes address_of m space some old.not_empty;
+  within = All-placed EndsWithin address_of m space end old.within;
+  limit = omega (arith, sum_by-placed size_of address_of m space);
+}
 
 pub insert-with_mapping : (m : Mapping) (space : Space) (place : ℕ) → place ≡ position_or_len (is_behind address_of m.at) space → insert space place m ≡ with_mapping m space
 unfolding with_mapping
@@ -52,29 +52,29 @@ insert-with_mapping m space place e = rw e (insert-placed address_of m space)
 
 pub IsSpace-without_first : (p : Mapping → Bool) (space : Space) (m : Mapping) → IsSpace space → find p space ≡ Some m → IsSpace (without_first p space)
 IsSpace-without_first p space m old found = record {
-    apart = pairs-without_first IsBefore p space old.apart;
-    not_empty = All-without_first HasBytes p space old.not_empty;
-    within = All-without_first EndsWithin p space old.within;
-    limit = omega (arith, sum_by-without_first size_of p space m found, old.limit)
-  }
+  apart = pairs-without_first IsBefore p space old.apart;
+  not_empty = All-without_first HasBytes p space old.not_empty;
+  within = All-without_first EndsWithin p space old.within;
+  limit = omega (arith, sum_by-without_first size_of p space m found, old.limit);
+}
 
 -- ---- ranges stay
 
 pub IsSpace-change_first : (p : Mapping → Bool) (f : Mapping → Mapping) (space : Space) → ((m : Mapping) → (f m).at ≡ m.at) → ((m : Mapping) → length (f m).bytes ≡ length m.bytes) → IsSpace space → IsSpace (change_first p f space)
 IsSpace-change_first p f space at size old = record {
-    apart = pairs-change_first IsBefore p f space (λ m n h. omega (arith, at m, size m)) (λ m n h. omega (arith, at n)) old.apart;
-    not_empty = All-change_first HasBytes p f space (λ m h. omega (arith, size m)) old.not_empty;
-    within = All-change_first EndsWithin p f space (λ m h. omega (arith, at m, size m)) old.within;
-    limit = omega (arith, sum_by-change_first_same size_of p f space size, old.limit)
-  }
+  apart = pairs-change_first IsBefore p f space (λ m n h. omega (arith, at m, size m)) (λ m n h. omega (arith, at n)) old.apart;
+  not_empty = All-change_first HasBytes p f space (λ m h. omega (arith, size m)) old.not_empty;
+  within = All-change_first EndsWithin p f space (λ m h. omega (arith, at m, size m)) old.within;
+  limit = omega (arith, sum_by-change_first_same size_of p f space size, old.limit);
+}
 
 pub IsSpace-map : (f : Mapping → Mapping) (space : Space) → ((m : Mapping) → (f m).at ≡ m.at) → ((m : Mapping) → length (f m).bytes ≡ length m.bytes) → IsSpace space → IsSpace (map f space)
 IsSpace-map f space at size old = record {
-    apart = pairs-map IsBefore f space (λ m n h. omega (arith, at m, size m, at n)) old.apart;
-    not_empty = All-map HasBytes f space (All-weaker HasBytes (λ m. HasBytes (f m)) (λ m h. omega (arith, size m)) space old.not_empty);
-    within = All-map EndsWithin f space (All-weaker EndsWithin (λ m. EndsWithin (f m)) (λ m h. omega (arith, at m, size m)) space old.within);
-    limit = omega (arith, sum_by-map_same size_of f space size, old.limit)
-  }
+  apart = pairs-map IsBefore f space (λ m n h. omega (arith, at m, size m, at n)) old.apart;
+  not_empty = All-map HasBytes f space (All-weaker HasBytes (λ m. HasBytes (f m)) (λ m h. omega (arith, size m)) space old.not_empty);
+  within = All-map EndsWithin f space (All-weaker EndsWithin (λ m. EndsWithin (f m)) (λ m h. omega (arith, at m, size m)) space old.within);
+  limit = omega (arith, sum_by-map_same size_of f space size, old.limit);
+}
 
 -- ---- protecting
 
@@ -115,11 +115,11 @@ mapped_size-remove space i m within e = omega (arith, sum_by-remove size_of spac
 
 pub IsSpace-remove : (space : Space) (i : ℕ) → i < length space → IsSpace space → IsSpace (remove space i)
 IsSpace-remove space i within old = record {
-    apart = all_pairs_remove IsBefore space i within old.apart;
-    not_empty = All-append HasBytes (take i space) (drop (suc i) space) (All-take HasBytes i space old.not_empty) (All-drop HasBytes (suc i) space old.not_empty);
-    within = All-append EndsWithin (take i space) (drop (suc i) space) (All-take EndsWithin i space old.within) (All-drop EndsWithin (suc i) space old.within);
-    limit = omega (arith, sum_by-remove size_of space i (record { at = 0; prot = 0; kind = Heap; bytes = [] }) within, old.limit)
-  }
+  apart = all_pairs_remove IsBefore space i within old.apart;
+  not_empty = All-append HasBytes (take i space) (drop (suc i) space) (All-take HasBytes i space old.not_empty) (All-drop HasBytes (suc i) space old.not_empty);
+  within = All-append EndsWithin (take i space) (drop (suc i) space) (All-take EndsWithin i space old.within) (All-drop EndsWithin (suc i) space old.within);
+  limit = omega (arith, sum_by-remove size_of space i (record { at = 0; prot = 0; kind = Heap; bytes = [] }) within, old.limit);
+}
 
 -- ---- what was found or not
 

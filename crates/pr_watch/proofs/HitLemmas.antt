@@ -13,7 +13,6 @@ use Rattle.pr_watch.specs.Steps.{hit_at, steps_to, fewer, nearer, nearest_from}
 -- ---- one area
 
 abbrev inside : ℕ → Area → Bool
-
 inside address a = nat_le a.at address && nat_lt address (a.at + a.size)
 
 -- an area that has bytes and does not wrap
@@ -108,10 +107,10 @@ lesser (Some best) steps =
 
 off_front : (kind at : ℕ) (best : Option ℕ) (a : Area) (areas : List Area) (found : Option ℕ) → has_flags a.flags kind ≡ false → Nearest kind at best areas found → Nearest kind at best (a ∷ areas) found
 off_front kind at best a areas found off rest = record {
-    before = λ j fewer. skipped kind ((at + j) % 2 ^ 64) a areas (blind ((at + j) % 2 ^ 64)) ∙ rest.before j fewer;
-    here = λ k e. elim (rest.here k e) [ inl old ↦ inl old | inr seen ↦ inr (kept kind ((at + k) % 2 ^ 64) a areas seen) ];
-    closer = rest.closer
-  }
+  before = λ j fewer. skipped kind ((at + j) % 2 ^ 64) a areas (blind ((at + j) % 2 ^ 64)) ∙ rest.before j fewer;
+  here = λ k e. elim (rest.here k e) [ inl old ↦ inl old | inr seen ↦ inr (kept kind ((at + k) % 2 ^ 64) a areas seen) ];
+  closer = rest.closer;
+}
   where
     blind : (x : ℕ) → watches kind x a ≡ false
     blind x = grind arith
@@ -123,11 +122,12 @@ on_front kind at best a areas found range fits on rest =
     record {
       before = λ j fewer. skipped kind ((at + j) % 2 ^ 64) a areas (not_before kind at a j range fits (sooner j near.0 least.0 near.1.0 fewer near.1.1 least.1.bound)) ∙ rest.before j fewer;
       here = λ k e. elim (rest.here k e) [ inl old ↦ this k (same_Some least.0 k (sym least.1.is ∙ old)) least.1.either | inr seen ↦ inr (kept kind ((at + k) % 2 ^ 64) a areas seen) ];
-      closer = λ b e. (near.0, (near.1.0, omega (arith, near.1.1, least.1.old b e)))
+      closer = λ b e. (near.0, (near.1.0, omega (arith, near.1.1, least.1.old b e)));
     }
   where
     sooner : (j k b : ℕ) → found ≡ Some k → IsFewer j found → k ≤ b → b ≤ steps_to at a → j < steps_to at a
     sooner j k b e fewer le bound = let near : j < k = subst (IsFewer j) e fewer in omega arith
+
     this : (k : ℕ) {least : ℕ} → least ≡ k → (best ≡ Some least) ⊎ (steps_to at a ≡ least) → (best ≡ Some k) ⊎ (is_some (watcher kind (a ∷ areas) ((at + k) % 2 ^ 64)) ≡ true)
     this k e (inl old) = inl (old ∙ ap (λ n. Some n) e)
     this k e (inr new) = inr (taken kind ((at + k) % 2 ^ 64) a areas (ap (λ n. watches kind ((at + n) % 2 ^ 64) a) (sym (new ∙ e)) ∙ reached kind at a range fits on))

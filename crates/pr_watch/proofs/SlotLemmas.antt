@@ -40,6 +40,7 @@ moved_down {X = X} xs i j part within e =
   where
     both : {a b c d : ℕ} → a ≡ b → c ≡ d → a + c ≡ b + d
     both p q = cc
+
     regroup : (a b c d : List X) → a ++ ((b ++ c) ++ d) ≡ (a ++ b) ++ (c ++ d)
     regroup a b c d = simp append_assoc
 

@@ -5,3 +5,6 @@ mod areas;
 mod hits;
 
 pub use areas::{Areas, WatchFault};
+
+#[cfg(test)]
+mod tests;
