@@ -4,6 +4,7 @@
 mod accesses;
 mod faults;
 mod gaps;
+pub mod laws;
 mod mappings;
 mod ranges;
 mod spaces;
