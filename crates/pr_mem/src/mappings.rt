@@ -1,6 +1,8 @@
-ghost use Rattle.std.specs.Prelude.{◌≡◌, ◌≤◌, ◌<◌, ◌^◌, length, [], insert, slice_get, slice_set, Some, IfOk, OnOk, OnErr};
+ghost use Rattle.std.specs.Prelude.{◌≡◌, ◌≤◌, ◌<◌, ◌^◌, ◌++◌, ◌∷◌, length, [], insert, slice_get, slice_set, Some, IfOk, OnOk, OnErr};
+ghost use Rattle.pr_num.specs.Programs.{whole_pages};
+ghost use Rattle.pr_num.specs.Spaces.{unless_empty};
 ghost use Rattle.pr_num.specs.declared.mappings.Mapping.{Mapping};
-ghost use Rattle.pr_parts.specs.AddressSpaces.{kind_of, resized, with_prot, zeros_at};
+ghost use Rattle.pr_parts.specs.AddressSpaces.{first_mappings, kind_of, resized, with_prot, zeros_at};
 
 use pr_num::{Bytes, Mapping, MappingKind, NoMemory, Prot};
 use std::alloc::Global;
@@ -10,6 +12,9 @@ use std::mem;
 
 /// The word of the protections to read and to write.
 pub const READ_WRITE: u8 = 6;
+
+/// The word of those to read and to run.
+const READ_EXECUTE: u8 = 5;
 
 /// The kind of a number from 1 to 5.
 pub fn kind_of(number: u8) -> MappingKind
@@ -49,6 +54,65 @@ pub fn zeros_at(
         kind,
         bytes,
     })
+}
+
+/// Bytes with zeros up to a multiple of 4,096 behind them.
+fn whole_pages(alloc: Global, bytes: &[u8]) -> Result<Bytes, NoMemory>
+    requires { length bytes.now ≤ 0x10000 }
+    ensures { IfOk result (λ pages. pages ≡ whole_pages bytes.now) }
+{
+    let mut pages = Vec::from_slice(alloc, bytes)?;
+    pages.resize((bytes.len() + 4095) / 4096 * 4096, 0)?;
+    Ok(Bytes::from_vec(pages))
+}
+
+/// Puts a mapping behind the others.
+fn push(mappings: &mut Vec<Mapping>, mapping: Mapping) -> Result<(), NoMemory>
+    ensures { OnOk result (mappings.new.items ≡ mappings.old.items ++ mapping ∷ []) }
+{
+    mappings.push(mapping)?;
+    Ok(())
+}
+
+/// Puts a mapping of these bytes behind the others, unless there are none.
+fn push_pages(
+    mappings: &mut Vec<Mapping>,
+    alloc: Global,
+    at: u64,
+    prot: Prot,
+    kind: MappingKind,
+    bytes: &[u8],
+) -> Result<(), NoMemory>
+    requires { length bytes.now ≤ 0x10000 }
+    ensures { OnOk result (mappings.new.items ≡ mappings.old.items ++ unless_empty at prot kind bytes.now) }
+{
+    if bytes.is_empty() {
+        return Ok(());
+    }
+    let bytes = whole_pages(alloc, bytes)?;
+    let mapping = Mapping {
+        at,
+        prot,
+        kind,
+        bytes,
+    };
+    push(mappings, mapping)
+}
+
+/// The mappings with which a program of this text and these data begins.
+pub fn first_mappings(alloc: Global, text: &[u8], data: &[u8]) -> Result<Vec<Mapping>, NoMemory>
+    requires text { length text.now ≤ 0x10000 }
+    requires data { length data.now ≤ 0x10000 }
+    ensures { IfOk result (λ first. first.items ≡ first_mappings text.now data.now) }
+{
+    let run = prot_of(READ_EXECUTE);
+    let change = prot_of(READ_WRITE);
+    let mut first = Vec::new(alloc);
+    push_pages(&mut first, alloc, 0x1_0000, run, MappingKind::Text, text)?;
+    push_pages(&mut first, alloc, 0x8_0000, change, MappingKind::Data, data)?;
+    let stack = zeros_at(alloc, 0x70_0000, 4096, change, MappingKind::Stack)?;
+    push(&mut first, stack)?;
+    Ok(first)
 }
 
 /// Puts a mapping into a place; where memory runs out nothing is changed.

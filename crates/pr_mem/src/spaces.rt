@@ -1,6 +1,7 @@
 ghost use Rattle.std.specs.Prelude.{◌≡◌, ◌≤◌, ◌<◌, ◌+◌, ◌^◌, [], All, length, position, remove, true, Some, None, Ok, Err, OnOk, OnErr, IfOk, IfSome, IsOkUnless};
+ghost use Rattle.pr_num.specs.Programs.{rounded};
 ghost use Rattle.pr_num.specs.Spaces.{mapped_size, mapping_limit, bytes_for};
-ghost use Rattle.pr_parts.specs.AddressSpaces.{LeavesHeapPlace, break_limit, gap_in, heap_base, is_break_heap, is_free, kind_of, text_at, with_break, with_bytes, with_heap, with_mapping, with_protected, without_range, zeros_at};
+ghost use Rattle.pr_parts.specs.AddressSpaces.{LeavesHeapPlace, break_limit, first_mappings, gap_in, heap_base, is_break_heap, is_free, kind_of, text_at, with_break, with_bytes, with_heap, with_mapping, with_protected, without_range, zeros_at};
 ghost use Rattle.pr_mem.specs.Answers.{access_answer, break_refusal, done_unless, has_heap_room, map_refusal, range_refusal, text_answer, with_text};
 
 use crate::{Map, MemFault, accesses, gaps, mappings, ranges, texts, writes};
@@ -42,6 +43,17 @@ impl Space {
             mappings: Vec::new(alloc),
             mapped: 0,
         }
+    }
+
+    /// The space in which a program begins: its text and its data, each where it is not empty, and a stack of 4,096 bytes.
+    pub fn first(alloc: Global, text: &[u8], data: &[u8]) -> Result<Space, NoMemory>
+        requires text { length text.now ≤ 0x10000 }
+        requires data { length data.now ≤ 0x10000 }
+        ensures { IfOk result (λ space. space ≡ first_mappings text.now data.now) }
+    {
+        let mappings = mappings::first_mappings(alloc, text, data)?;
+        let mapped = rounded(text.len()) + rounded(data.len()) + 4096;
+        Ok(Space { mappings, mapped })
     }
 
     /// The mappings by rising address, apart from each other.
@@ -274,4 +286,13 @@ impl Space {
         let gone = self.mappings.remove(place);
         self.mapped -= gone.bytes.as_slice().len() as u64;
     }
+}
+
+/// A number of bytes, rounded up to a multiple of 4,096.
+fn rounded(len: usize) -> u64
+    requires { len ≤ 0x10000 }
+    ensures value { result ≡ rounded len }
+    ensures bound { result ≤ 0x10000 }
+{
+    (len as u64 + 4095) / 4096 * 4096
 }
