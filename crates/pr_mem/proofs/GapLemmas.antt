@@ -1,6 +1,5 @@
 -- Where an address comes to lie that was moved past all mappings is the least gap.
-use Rattle.std.proofs.Common.{◌≡◌, ◌⊎◌, ℕ, zero, suc, ◌+◌, ◌-◌, ◌*◌, ◌/◌, ◌%◌, ◌<◌, ◌≤◌, Bool, true, false, ltb, cond, not, Option, Some, None, List, [], ◌∷◌, length, min, refl, sym, ◌∙◌, ap, arith, inl, inr, subst}
-use Rattle.std.specs.Prelude.{◌&&◌, ◌||◌, nat_lt}
+use Rattle.std.proofs.Common.{◌≡◌, ◌⊎◌, ℕ, zero, suc, ◌+◌, ◌-◌, ◌*◌, ◌/◌, ◌%◌, ◌<◌, ◌≤◌, true, false, ltb, cond, Some, None, [], ◌∷◌, length, min, refl, sym, ◌∙◌, ap, arith, inl, inr}
 use Rattle.std.specs.List.{All, AllPairs, list_any}
 use Rattle.std.proofs.lemmas.Bool.{ltb-true, ltb-false, lt-ltb, le-ltb, and_from, and_left, and_parts, and_right, or_from, or_left, or_right, cases_Bool, not_from_true, not_from_false, false≢true}
 use Rattle.std.proofs.lemmas.List.Elements.{All-head, All-tail, All-weaker}

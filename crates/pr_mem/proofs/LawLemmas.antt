@@ -1,14 +1,13 @@
 -- Writing and reading; gaps.
-use Rattle.std.proofs.Common.{◌≡◌, ℕ, zero, suc, ◌+◌, ◌-◌, ◌*◌, ◌/◌, ◌^◌, ◌%◌, ◌<◌, ◌≤◌, Bool, true, false, cond, Option, Some, None, Result, Ok, Err, List, [], ◌∷◌, length, take, drop, map, get_or, refl, sym, ◌∙◌, ap, arith, inl, inr, subst}
+use Rattle.std.proofs.Common.{◌≡◌, ℕ, zero, suc, ◌+◌, ◌-◌, ◌*◌, ◌/◌, ◌^◌, ◌%◌, ◌<◌, ◌≤◌, true, false, cond, Option, Some, None, Result, Ok, Err, List, [], ◌∷◌, length, take, drop, map, get_or, refl, sym, ◌∙◌, ap, arith, inl, inr}
 use Rattle.std.specs.Prelude.{◌&&◌, nat_le, nat_lt}
 use Rattle.std.specs.List.{find}
-use Rattle.std.proofs.lemmas.Bool.{and_from, and_parts, and_right, cases_Bool, false≢true, false_from_ne_true, le-leb, lt-ltb, ltb-false, ltb-true}
+use Rattle.std.proofs.lemmas.Bool.{and_from, and_parts, cases_Bool, false≢true, false_from_ne_true, le-leb, lt-ltb, ltb-false, ltb-true}
 use Rattle.std.proofs.lemmas.List.{drop_more, take_all}
 use Rattle.std.proofs.lemmas.Option.{same_Some}
 use Rattle.pr_num.specs.Control.{has_flags}
 use Rattle.pr_num.specs.Spaces.{Space, byte_for, bytes_for, covers, one_more}
 use Rattle.pr_num.specs.declared.mappings.BadByte.{BadByte}
-use Rattle.pr_num.specs.declared.mappings.BadByte.TheVariants.{Hole, NotAllowed}
 use Rattle.pr_num.specs.declared.mappings.Mapping.{Mapping}
 use Rattle.pr_parts.specs.AddressSpaces.{gap_base, gap_limit, gap_places, gap_from, gap_in, is_free, is_gap, with_bytes, with_written, written_byte, written_bytes}
 use Rattle.pr_parts.proofs.AccessLemmas.{byte_for-found, byte_for-hole, byte_for-not_allowed, found-high, found-low, length-written_bytes}
@@ -110,9 +109,11 @@ first_gap size space at (suc places) to e =
   where
     here : is_gap size space at ≡ true → at ≡ to → FirstGap size space at to
     here t same = record { step = 0; is = omega arith; gap = ap (is_gap size space) (sym same) ∙ t; before = λ j h. absurd (omega arith) }
+
     earlier : (step : ℕ) → is_gap size space at ≡ false → ((j : ℕ) → j < step → is_gap size space (at + 4096 + 4096 * j) ≡ false) → (j : ℕ) → j < suc step → is_gap size space (at + 4096 * j) ≡ false
     earlier step f rest zero h = let start : at + 4096 * 0 ≡ at = omega arith in ap (is_gap size space) start ∙ f
     earlier step f rest (suc j) h = let next : at + 4096 * suc j ≡ at + 4096 + 4096 * j = omega arith in ap (is_gap size space) next ∙ rest j (omega arith)
+
     later : is_gap size space at ≡ false → FirstGap size space (at + 4096) to → FirstGap size space at to
     later f rest = record { step = suc rest.step; is = omega (arith, rest.is); gap = rest.gap; before = earlier rest.step f rest.before }
 
@@ -140,7 +141,7 @@ gap_in-least size space at e =
     record {
       place = record { aligned = omega arith; low = omega arith; high = high };
       free = parts.1;
-      least = λ other place free. least first other place free
+      least = λ other place free. least first other place free;
     }
   where
     clash : FirstGap size space gap_base at → (other : ℕ) → IsGapPlace size other → is_free other size space ≡ true → other < at → ⊥
@@ -152,6 +153,7 @@ gap_in-least size space at e =
         let is : gap_base + 4096 * ((other - gap_base) / 4096) ≡ other = omega arith in
         let never = first.before ((other - gap_base) / 4096) (omega arith) in
         false≢true (sym never ∙ ap (is_gap size space) is ∙ free_gap size space other high free)
+
     least : FirstGap size space gap_base at → (other : ℕ) → IsGapPlace size other → is_free other size space ≡ true → at ≤ other
     least first other place free =
         elim (cases_Bool (nat_lt other at)) [ inl t ↦ absurd (clash first other place free (ltb-true other at t)) | inr f ↦ ltb-false other at f ]

@@ -1,14 +1,13 @@
 -- Whether there is room for a heap.
-use Rattle.std.proofs.Common.{◌≡◌, ℕ, zero, suc, ◌+◌, ◌-◌, ◌<◌, ◌≤◌, Bool, true, leb, Option, Some, None, List, [], length, refl, sym, ◌∙◌, ap, arith, get_or, set, replicate}
+use Rattle.std.proofs.Common.{◌≡◌, ℕ, ◌+◌, ◌-◌, ◌≤◌, true, leb, Option, Some, None, [], length, refl, sym, ◌∙◌, ap, arith, get_or}
 use Rattle.std.specs.List.{All, find, position, remove, slice_get}
 use Rattle.std.proofs.lemmas.List.{length-replicate}
 use Rattle.std.proofs.lemmas.Option.{slice_get-get_or, slice_get_read}
-use Rattle.pr_num.proofs.TableLemmas.{change_first-place, find-none, find-position, position-within}
-use Rattle.pr_num.specs.KeyedTables.{change_first}
+use Rattle.pr_num.proofs.TableLemmas.{find-none, find-position, position-within}
 use Rattle.pr_num.specs.Spaces.{Space, mapped_size, mapping_limit, read_write}
 use Rattle.pr_num.specs.declared.mappings.Mapping.{Mapping}
 use Rattle.pr_num.specs.declared.mappings.MappingKind.TheVariants.{Heap}
-use Rattle.pr_parts.specs.AddressSpaces.{heap_base, is_break_heap, is_free, LeavesHeapPlace, break_limit, resized, with_heap, with_mapping, zeros_at}
+use Rattle.pr_parts.specs.AddressSpaces.{heap_base, is_break_heap, is_free, LeavesHeapPlace, break_limit, with_heap, with_mapping, zeros_at}
 use Rattle.pr_parts.proofs.HeapLemmas.{mapped_size-none, mapped_size-some, is_free-heap, with_heap-gone, with_heap-made}
 use Rattle.pr_mem.specs.Answers.{bytes_of, heap_bytes}
 

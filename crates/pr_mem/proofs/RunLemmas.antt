@@ -1,7 +1,7 @@
 -- The steps of an access, which takes a run of bytes at a time.
-use Rattle.std.proofs.Common.{◌≡◌, ℕ, zero, suc, ◌+◌, ◌-◌, ◌^◌, ◌%◌, ◌<◌, ◌≤◌, true, Option, Some, Result, Ok, Err, List, [], ◌∷◌, ◌++◌, length, take, drop, refl, sym, ◌∙◌, ap, arith, subst, min, max}
+use Rattle.std.proofs.Common.{◌≡◌, ℕ, ◌+◌, ◌-◌, ◌^◌, ◌%◌, ◌<◌, ◌≤◌, true, Some, Result, Ok, Err, List, ◌++◌, length, take, drop, refl, sym, ◌∙◌, ap, arith, min, max}
 use Rattle.std.specs.List.{find}
-use Rattle.std.proofs.lemmas.List.{take_all, take-append-drop, length-append, length-take-le, length-drop, drop-drop, append_assoc}
+use Rattle.std.proofs.lemmas.List.{take-append-drop, length-append, length-take-le, length-drop}
 use Rattle.std.proofs.lemmas.Slice.{take-put_mid}
 use Rattle.pr_num.specs.Control.{has_flags}
 use Rattle.pr_num.specs.Spaces.{Space, IsSpace, covers, byte_for, bytes_for}

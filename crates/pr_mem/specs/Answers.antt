@@ -5,7 +5,7 @@ use Rattle.pr_num.specs.Spaces.{Space, bytes_for, mapped_size, mapping_limit}
 use Rattle.pr_num.specs.declared.mappings.BadByte.{BadByte}
 use Rattle.pr_num.specs.declared.mappings.BadByte.TheVariants as bad
 use Rattle.pr_num.specs.declared.mappings.Mapping.{Mapping}
-use Rattle.pr_parts.specs.AddressSpaces.{has_range, has_room, heap_base, is_break_heap, is_free, text_at, with_heap}
+use Rattle.pr_parts.specs.AddressSpaces.{has_range, has_room, heap_base, is_break_heap, is_free, with_heap}
 use Rattle.pr_mem.specs.declared.faults.MemFault.{MemFault}
 use Rattle.pr_mem.specs.declared.faults.MemFault.TheVariants.{Hole, NotAllowed, Overlap, TooBig}
 

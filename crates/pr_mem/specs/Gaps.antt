@@ -1,5 +1,5 @@
 -- How the least gap is found: an address is moved behind each mapping in its way.
-use Rattle.std.specs.Prelude.{◌+◌, ℕ, List, [], ◌∷◌, length, min, if◌then◌else◌}
+use Rattle.std.specs.Prelude.{◌+◌, ℕ, [], ◌∷◌, length, min, if◌then◌else◌}
 use Rattle.pr_num.specs.Programs.{rounded}
 use Rattle.pr_num.specs.Spaces.{Space}
 use Rattle.pr_num.specs.declared.mappings.Mapping.{Mapping}

@@ -1,16 +1,16 @@
 -- What an access to a run of bytes gets, and what writing leaves.
-use Rattle.std.proofs.Common.{◌≡◌, ◌⊎◌, ℕ, zero, suc, ◌+◌, ◌-◌, ◌^◌, ◌%◌, ◌<◌, ◌≤◌, Bool, true, false, ltb, leb, cond, not, Option, Some, None, Result, Ok, Err, List, [], ◌∷◌, ◌++◌, length, take, drop, map, get_or, refl, sym, ◌∙◌, ap, arith, inl, inr, subst}
+use Rattle.std.proofs.Common.{◌≡◌, ℕ, zero, suc, ◌+◌, ◌-◌, ◌^◌, ◌%◌, ◌<◌, ◌≤◌, true, false, cond, Some, None, Result, Ok, Err, List, [], ◌∷◌, ◌++◌, length, take, drop, get_or, refl, sym, ◌∙◌, ap, arith, inl, inr}
 use Rattle.std.specs.Prelude.{◌&&◌, nat_le, nat_lt}
-use Rattle.std.specs.List.{All, AllPairs, find}
-use Rattle.std.proofs.lemmas.Bool.{ltb-true, ltb-false, leb-true, leb-false, and_from, and_parts, and_cases, le-leb, lt-ltb, lt-leb, le-ltb, false≢true, cases_Bool}
-use Rattle.std.proofs.lemmas.List.{drop_more, get_or_past}
+use Rattle.std.specs.List.{AllPairs, find}
+use Rattle.std.proofs.lemmas.Bool.{ltb-true, leb-true, and_from, and_parts, le-leb, lt-ltb, cases_Bool}
+use Rattle.std.proofs.lemmas.List.{drop_more}
 use Rattle.std.proofs.lemmas.Option.{same_Some}
 use Rattle.pr_num.specs.Control.{has_flags}
 use Rattle.pr_num.specs.Spaces.{Space, IsBefore, IsSpace, covers, byte_for, bytes_for, one_more}
 use Rattle.pr_num.specs.declared.mappings.BadByte.{BadByte}
 use Rattle.pr_num.specs.declared.mappings.BadByte.TheVariants.{Hole, NotAllowed}
 use Rattle.pr_num.specs.declared.mappings.Mapping.{Mapping}
-use Rattle.pr_parts.specs.AddressSpaces.{written_byte, written_bytes, with_written}
+use Rattle.pr_parts.specs.AddressSpaces.{written_bytes}
 use Rattle.pr_parts.proofs.ByAddressLemmas.{AllPairs-head, AllPairs-tail, All-find, find-passes}
 
 -- ---- the mapping that has a byte

@@ -1,10 +1,9 @@
 -- The watched areas stay areas.
-use Rattle.std.proofs.Common.{◌≡◌, ℕ, ◌+◌, ◌<◌, ◌≤◌, ◌^◌, Bool, true, false, Option, Some, None, List, length, refl, sym, ◌∙◌, arith}
-use Rattle.std.specs.List.{All, AllPairs, insert, remove, position, position_or_len}
+use Rattle.std.proofs.Common.{◌≡◌, ℕ, ◌+◌, ◌<◌, ◌≤◌, ◌^◌, false, Some, None, List, length, arith}
+use Rattle.std.specs.List.{insert, remove, position, position_or_len}
 use Rattle.pr_num.proofs.TableLemmas.{remove-without_first, without_first-no_place}
-use Rattle.pr_num.specs.KeyedTables.{without_first}
 use Rattle.pr_num.specs.declared.mappings.Area.{Area}
-use Rattle.pr_parts.specs.ByAddress.{is_behind, with_placed}
+use Rattle.pr_parts.specs.ByAddress.{is_behind}
 use Rattle.pr_parts.specs.WatchedAreas.{AreAreas, IsBelow, area_address, begins_at, is_taken, with_area, without_area}
 use Rattle.pr_parts.proofs.ByAddressLemmas.{All-placed, All-without_first, insert-placed, length-placed, length-without_first, pairs-placed, pairs-without_first}
 

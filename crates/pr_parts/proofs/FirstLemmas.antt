@@ -1,12 +1,12 @@
 -- The mappings with which a program begins are an address space.
 use Rattle.std.proofs.Common.{◌≡◌, ℕ, ◌+◌, ◌-◌, ◌<◌, ◌≤◌, ◌^◌, List, [], ◌∷◌, ◌++◌, length, replicate, refl, sym, subst, arith}
-use Rattle.std.specs.List.{All, AllPairs, sum_by}
+use Rattle.std.specs.List.{All, AllPairs}
 use Rattle.std.proofs.lemmas.List.{append_assoc, length-append, length-replicate}
 use Rattle.std.proofs.lemmas.List.Elements.{All-nil, All-cons}
 use Rattle.std.proofs.lemmas.List.Kept.{AllPairs-cons}
 use Rattle.std.proofs.lemmas.List.Sums.{sum_by-append, sum_by-cons}
 use Rattle.pr_num.specs.Programs.{Program, rounded, text_of, whole_pages}
-use Rattle.pr_num.specs.Spaces.{Space, IsBefore, IsSpace, first_space, mapped_size, mapping_limit, read_execute, read_write, unless_empty}
+use Rattle.pr_num.specs.Spaces.{Space, IsBefore, IsSpace, first_space, mapped_size, read_execute, read_write, unless_empty}
 use Rattle.pr_num.specs.declared.mappings.Mapping.{Mapping}
 use Rattle.pr_num.specs.declared.mappings.MappingKind.{MappingKind}
 use Rattle.pr_num.specs.declared.mappings.MappingKind.TheVariants.{Text, Data, Stack}
@@ -35,26 +35,27 @@ stack = zeros_at 0x700000 4096 read_write Stack ∷ []
 
 one_more : (m : Mapping) (space : Space) (low high most more : ℕ) → StandsFrom high most space → 0 < length m.bytes → low ≤ m.at → m.at + length m.bytes ≤ high → high < 2 ^ 64 → low ≤ high → length m.bytes ≤ more → StandsFrom low (more + most) (m ∷ space)
 one_more m space low high most more rest some from end range order size = record {
-    apart = AllPairs-cons IsBefore m space (behind rest.from) rest.apart;
-    not_empty = All-cons HasBytes m space some rest.not_empty;
-    within = All-cons EndsWithin m space (omega arith) rest.within;
-    from = All-cons (λ (n : Mapping). low ≤ n.at) m space from (lower rest.from);
-    size = omega (arith, sum_by-cons size_of m space, rest.size)
-  }
+  apart = AllPairs-cons IsBefore m space (behind rest.from) rest.apart;
+  not_empty = All-cons HasBytes m space some rest.not_empty;
+  within = All-cons EndsWithin m space (omega arith) rest.within;
+  from = All-cons (λ (n : Mapping). low ≤ n.at) m space from (lower rest.from);
+  size = omega (arith, sum_by-cons size_of m space, rest.size);
+}
   where
     behind : All (λ (n : Mapping). high ≤ n.at) space → All (IsBefore m) space
     behind all k d inside = let far = all k d inside in omega arith
+
     lower : All (λ (n : Mapping). high ≤ n.at) space → All (λ (n : Mapping). low ≤ n.at) space
     lower all k d inside = let far = all k d inside in omega arith
 
 fewer : (low high most more : ℕ) (space : Space) → low ≤ high → StandsFrom high most space → StandsFrom low (more + most) space
 fewer low high most more space order rest = record {
-    apart = rest.apart;
-    not_empty = rest.not_empty;
-    within = rest.within;
-    from = lower rest.from;
-    size = omega (arith, rest.size)
-  }
+  apart = rest.apart;
+  not_empty = rest.not_empty;
+  within = rest.within;
+  from = lower rest.from;
+  size = omega (arith, rest.size);
+}
   where
     lower : All (λ (n : Mapping). high ≤ n.at) space → All (λ (n : Mapping). low ≤ n.at) space
     lower all k d inside = let far = all k d inside in omega arith

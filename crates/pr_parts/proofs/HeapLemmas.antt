@@ -1,14 +1,14 @@
 -- The heap grows, shrinks, begins and ends within its place.
-use Rattle.std.proofs.Common.{◌≡◌, ◌⊎◌, ℕ, zero, suc, ◌+◌, ◌-◌, ◌<◌, ◌≤◌, ◌^◌, Bool, true, false, ltb, eqb, cond, not, inl, inr, Option, Some, None, List, [], ◌∷◌, ◌++◌, length, take, get_or, replicate, set, min, refl, sym, ◌∙◌, ap, arith, subst}
-use Rattle.std.specs.Prelude.{◌||◌, ◌&&◌, IsTrue, nat_le}
-use Rattle.std.specs.List.{All, AllPairs, find, list_any, remove, position, slice_get, sum_by}
-use Rattle.std.proofs.lemmas.Bool.{and_left, and_parts, and_right, cases_Bool, eqb-true, false≢true, leb-true, le-ltb, not_from_false, or_cases, or_from, or_left, true_from_ne_false}
+use Rattle.std.proofs.Common.{◌≡◌, ◌⊎◌, ℕ, zero, suc, ◌+◌, ◌-◌, ◌<◌, ◌≤◌, Bool, true, false, eqb, cond, inl, inr, Option, Some, None, [], ◌∷◌, length, take, get_or, replicate, refl, sym, ◌∙◌, ap, arith, subst}
+use Rattle.std.specs.Prelude.{◌||◌, nat_le}
+use Rattle.std.specs.List.{All, AllPairs, find, list_any, remove, position}
+use Rattle.std.proofs.lemmas.Bool.{and_left, and_parts, and_right, cases_Bool, eqb-true, false≢true, leb-true, le-ltb, not_from_false, or_cases, or_from, or_left}
 use Rattle.std.proofs.lemmas.List.{length-append, length-replicate, length-take}
-use Rattle.std.proofs.lemmas.List.Elements.{All-nil, All-cons, All-head, All-tail}
+use Rattle.std.proofs.lemmas.List.Elements.{All-cons, All-head, All-tail}
 use Rattle.std.proofs.lemmas.List.Kept.{AllPairs-cons}
-use Rattle.pr_num.proofs.TableLemmas.{find-none, find-position, change_first-place, remove-without_first}
+use Rattle.pr_num.proofs.TableLemmas.{remove-without_first}
 use Rattle.pr_num.specs.KeyedTables.{change_first, without_first}
-use Rattle.pr_num.specs.Spaces.{Space, IsBefore, IsSpace, is_heap, mapped_size, mapping_limit, read_write}
+use Rattle.pr_num.specs.Spaces.{Space, IsBefore, IsSpace, mapped_size, mapping_limit, read_write}
 use Rattle.pr_num.specs.declared.mappings.Mapping.{Mapping}
 use Rattle.pr_num.specs.declared.mappings.MappingKind.TheVariants.{Heap}
 use Rattle.pr_parts.specs.AddressSpaces.{LeavesHeapPlace, address_of, break_limit, heap_base, is_break_heap, is_free, meets, resized, with_heap, with_mapping, zeros_at}

@@ -1,6 +1,6 @@
 -- An address space stays one, and how many bytes it maps.
-use Rattle.std.proofs.Common.{◌≡◌, ℕ, ◌+◌, ◌-◌, ◌<◌, ◌≤◌, ◌^◌, Bool, true, false, not, cond, ltb, inl, inr, Option, Some, None, List, [], ◌∷◌, length, map, take, drop, set, get_or, suc, refl, sym, ◌∙◌, ap, arith}
-use Rattle.std.specs.List.{All, AllPairs, find, insert, list_any, remove, position, position_or_len, slice_get, sum_by}
+use Rattle.std.proofs.Common.{◌≡◌, ℕ, ◌+◌, ◌<◌, ◌≤◌, ◌^◌, Bool, true, false, not, cond, ltb, inl, inr, Some, None, List, [], ◌∷◌, length, map, take, drop, set, get_or, suc, refl, sym, ◌∙◌, ap, arith}
+use Rattle.std.specs.List.{find, insert, list_any, remove, position, position_or_len, slice_get}
 use Rattle.std.proofs.lemmas.Bool.{cases_Bool, lt-ltb, not-true}
 use Rattle.std.proofs.lemmas.List.Sums.{sum_by-remove}
 use Rattle.std.proofs.lemmas.Option.{cond_some}
@@ -13,8 +13,8 @@ use Rattle.pr_num.specs.KeyedTables.{change_first, without_first}
 use Rattle.pr_num.specs.Spaces.{Space, IsBefore, IsSpace, mapped_size, mapping_limit}
 use Rattle.pr_num.specs.declared.mappings.Mapping.{Mapping}
 use Rattle.pr_num.specs.declared.mappings.MappingKind.TheVariants.{Heap}
-use Rattle.pr_parts.specs.ByAddress.{is_behind, with_placed}
-use Rattle.pr_parts.specs.AddressSpaces.{address_of, is_free, is_range, meets, with_bytes, with_mapping, with_prot, with_protected, with_written, without_range, written_bytes}
+use Rattle.pr_parts.specs.ByAddress.{is_behind}
+use Rattle.pr_parts.specs.AddressSpaces.{address_of, is_free, is_range, meets, with_bytes, with_mapping, with_prot, with_protected, with_written, without_range}
 use Rattle.pr_parts.proofs.AccessLemmas.{length-written_bytes}
 use Rattle.pr_parts.proofs.ByAddressLemmas.{All-placed, All-without_first, All-change_first, insert-placed, pairs-placed, pairs-without_first, pairs-change_first, pairs-map, sum_by-placed, sum_by-without_first, sum_by-change_first_same, sum_by-map_same}
 

@@ -1,6 +1,6 @@
 -- What the calls on memory make of an address space: mmap(2), munmap(2), mprotect(2), brk(2), and reads and writes of its
 -- bytes. An address space is the list of its mappings.
-use Rattle.std.specs.Prelude.{◌≡◌, ◌==◌, ◌&&◌, ◌||◌, ◌+◌, ◌-◌, ◌%◌, ◌^◌, ◌<◌, ◌≤◌, ℕ, zero, suc, Bool, true, IsTrue, not, List, [], ◌∷◌, ◌++◌, length, replicate, take, map, slice_index, find, sum_by, Option, Some, None, Result, Ok, Err, nat_lt, nat_le, if◌then◌else◌}
+use Rattle.std.specs.Prelude.{◌==◌, ◌&&◌, ◌||◌, ◌+◌, ◌-◌, ◌%◌, ◌^◌, ℕ, zero, suc, Bool, IsTrue, not, List, [], ◌∷◌, ◌++◌, length, replicate, take, map, slice_index, find, Option, Some, None, Result, Ok, Err, nat_lt, nat_le, if◌then◌else◌}
 use Rattle.std.specs.List.{list_any}
 use Rattle.pr_num.specs.Control.{prot_read}
 use Rattle.pr_num.specs.KeyedTables.{change_first, without_first}

@@ -1,5 +1,5 @@
 -- Ranges of addresses, and lists of what stands at addresses.
-use Rattle.std.specs.Prelude.{◌+◌, ◌&&◌, ℕ, Bool, List, [], ◌∷◌, nat_lt, nat_le, if◌then◌else◌}
+use Rattle.std.specs.Prelude.{◌+◌, ◌&&◌, ℕ, Bool, List, [], ◌∷◌, nat_lt, if◌then◌else◌}
 
 -- Whether two ranges have an address in common, each given by its first address and its size. Sums do not wrap: a range may
 -- end at 2^64. Neither is to be empty.

@@ -1,13 +1,13 @@
 -- The nearest area that watches is the first hit of an access.
-use Rattle.std.proofs.Common.{◌≡◌, ◌⊎◌, ℕ, zero, suc, ◌+◌, ◌-◌, ◌^◌, ◌%◌, ◌<◌, ◌≤◌, Bool, true, false, ltb, leb, cond, not, Option, Some, None, IsSome, is_some, List, [], ◌∷◌, refl, sym, ◌∙◌, ap, arith, inl, inr, subst}
+use Rattle.std.proofs.Common.{◌≡◌, ◌⊎◌, ℕ, zero, suc, ◌+◌, ◌-◌, ◌^◌, ◌%◌, ◌<◌, ◌≤◌, Bool, true, false, leb, cond, Option, Some, None, is_some, List, [], ◌∷◌, refl, sym, ◌∙◌, ap, arith, inl, inr, subst}
 use Rattle.std.specs.Prelude.{◌&&◌, nat_le, nat_lt}
-use Rattle.std.specs.List.{All, find}
+use Rattle.std.specs.List.{All}
 use Rattle.std.proofs.lemmas.Bool.{leb-true, leb-false, false≢true, cases_Bool}
 use Rattle.std.proofs.lemmas.List.Elements.{All-head, All-tail}
 use Rattle.std.proofs.lemmas.Option.{same_Some}
 use Rattle.pr_num.specs.Control.{has_flags}
 use Rattle.pr_num.specs.declared.mappings.Area.{Area}
-use Rattle.pr_parts.specs.WatchedAreas.{AreAreas, first_hit, watches, watcher, watched_byte, hit_in}
+use Rattle.pr_parts.specs.WatchedAreas.{AreAreas, first_hit, watches, watcher, hit_in}
 use Rattle.pr_watch.specs.Steps.{hit_at, steps_to, fewer, nearer, nearest_from}
 
 -- ---- one area

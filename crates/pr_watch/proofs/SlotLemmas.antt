@@ -1,5 +1,5 @@
 -- What is put into a row of slots, and taken out of it.
-use Rattle.std.proofs.Common.{◌≡◌, ℕ, suc, add-one, ◌+◌, ◌-◌, ◌<◌, ◌≤◌, List, [], ◌∷◌, ◌++◌, length, take, drop, set, refl, sym, ◌∙◌, ap, arith, subst}
+use Rattle.std.proofs.Common.{◌≡◌, ℕ, suc, add-one, ◌+◌, ◌-◌, ◌<◌, ◌≤◌, List, [], ◌∷◌, ◌++◌, length, take, drop, set, refl, ◌∙◌, ap, arith}
 use Rattle.std.specs.List.{insert, remove}
 use Rattle.std.proofs.lemmas.List.{take-set-le, drop-set-add, take_more_set, drop_at, take_at, append_assoc, length-append, length-take-le, length-drop, length-set, take-take, drop-take, drop-drop}
 use Rattle.std.proofs.lemmas.Slice.{take-put_mid}

@@ -1,4 +1,4 @@
-use Rattle.std.proofs.Common.{◌∙◌, ap, sym, subst, arith}
+use Rattle.std.proofs.Common.{ap, sym, subst, arith}
 use Rattle.pr_num.specs.Spaces.{IsSpace, mapped_size}
 use Rattle.pr_parts.proofs.FirstLemmas.{IsSpace-first, mapped_size-first}
 use Rattle.pr_mem.proofs.spaces.Space.first.Goals as goal

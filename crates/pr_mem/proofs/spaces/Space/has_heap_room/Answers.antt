@@ -1,5 +1,5 @@
-use Rattle.std.proofs.Common.{◌≤◌, ◌∙◌, ap, sym, subst, arith}
-use Rattle.pr_num.specs.Spaces.{IsSpace, mapped_size, mapping_limit}
+use Rattle.std.proofs.Common.{◌∙◌, ap, arith}
+use Rattle.pr_num.specs.Spaces.{mapped_size, mapping_limit}
 use Rattle.pr_parts.specs.AddressSpaces.{with_heap}
 use Rattle.pr_mem.specs.Answers.{heap_bytes}
 use Rattle.pr_mem.proofs.RoomLemmas.{mapped_size-heap, same_room}

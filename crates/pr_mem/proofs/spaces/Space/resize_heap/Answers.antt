@@ -1,10 +1,9 @@
-use Rattle.std.proofs.Common.{◌≡◌, ◌≤◌, ◌<◌, ◌∙◌, ℕ, Some, ap, refl, sym, subst, get_or, set, length, arith}
-use Rattle.std.specs.List.{All, find, position, slice_get}
+use Rattle.std.proofs.Common.{◌≡◌, ◌≤◌, ◌<◌, ◌∙◌, Some, ap, sym, subst, length, arith}
+use Rattle.std.specs.List.{All, position}
 use Rattle.std.proofs.lemmas.Bool.{leb-true}
-use Rattle.pr_num.proofs.TableLemmas.{change_first-place, position-within}
+use Rattle.pr_num.proofs.TableLemmas.{change_first-place}
 use Rattle.pr_num.specs.KeyedTables.{change_first}
-use Rattle.pr_num.specs.Spaces.{Space, IsSpace, mapped_size, mapping_limit}
-use Rattle.pr_num.specs.declared.mappings.Mapping.{Mapping}
+use Rattle.pr_num.specs.Spaces.{IsSpace, mapped_size, mapping_limit}
 use Rattle.pr_parts.specs.AddressSpaces.{LeavesHeapPlace, is_break_heap, resized, with_heap}
 use Rattle.pr_parts.proofs.HeapLemmas.{IsSpace-resized, mapped_size-resized, size_found, with_heap-resized}
 use Rattle.pr_mem.proofs.RoomLemmas.{find-heap, heap_gone, place-heap}

@@ -1,4 +1,4 @@
-use Rattle.std.proofs.Common.{◌≡◌, ◌∙◌, ap, sym, subst, refl}
+use Rattle.std.proofs.Common.{◌∙◌, ap, sym, refl}
 use Rattle.std.specs.List.{position}
 use Rattle.pr_parts.specs.AddressSpaces.{is_range}
 use Rattle.pr_parts.proofs.SpaceLemmas.{has-position}

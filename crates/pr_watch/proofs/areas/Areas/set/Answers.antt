@@ -1,4 +1,4 @@
-use Rattle.std.proofs.Common.{◌≡◌, ℕ, ◌+◌, ◌<◌, ◌≤◌, ◌∙◌, List, ap, subst, sym, take, length, arith}
+use Rattle.std.proofs.Common.{◌≡◌, ℕ, ◌+◌, ◌<◌, ◌∙◌, List, ap, subst, sym, take, length, arith}
 use Rattle.std.specs.List.{insert, position_or_len}
 use Rattle.std.proofs.lemmas.List.{length-take}
 use Rattle.pr_num.specs.declared.mappings.Area.{Area}
