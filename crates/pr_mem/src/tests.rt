@@ -166,6 +166,22 @@ fn moves_the_break(rt: HostRuntime) -> Result<(), Fail> {
 }
 
 #[test]
+fn begins_as_a_program_does(rt: HostRuntime) -> Result<(), Fail> {
+    let space = Space::first(rt.alloc(), &[7, 8], &[])?;
+    assert_eq!(rt; space.mapped(), 0x2000);
+    let mut bytes = [9; 3];
+    assert_eq!(rt; space.read(0x1_0000, &mut bytes, EXEC), Ok(()));
+    assert_eq!(rt; bytes, [7, 8, 0]);
+    assert_eq!(rt;
+        space.read(0x8_0000, &mut bytes, READ),
+        Err(MemFault::Hole { at: 0x8_0000 })
+    );
+    assert_eq!(rt; space.read(0x70_0ffd, &mut bytes, READ | WRITE), Ok(()));
+    assert_eq!(rt; bytes, [0, 0, 0]);
+    Ok(())
+}
+
+#[test]
 fn says_why(rt: HostRuntime) -> Result<(), Fail> {
     let text = format!(in rt.alloc(); "{}", MemFault::Hole { at: 0x1000 })?;
     assert_eq!(rt; text.as_str(), "nothing is mapped at 0x1000");
