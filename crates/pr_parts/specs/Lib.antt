@@ -1,0 +1,3 @@
+pub mod AddressSpaces
+pub mod ByAddress
+pub mod WatchedAreas

@@ -1,0 +1,5 @@
+pub mod GapLemmas
+pub mod LawLemmas
+pub mod RoomLemmas
+pub mod RunLemmas
+pub mod TextLemmas

@@ -1,0 +1,16 @@
+use Rattle.std.proofs.Common.{refl, sym, arith}
+use Rattle.std.proofs.lemmas.Result.{err_from_is_err_and}
+use Rattle.pr_mem.proofs.RunLemmas.{IsChecked-start, IsChecked-more, IsChecked-fails}
+use Rattle.pr_mem.proofs.accesses.check.Goals as goal
+
+pub loop-done-init : goal.loop-done-init
+loop-done-init c = IsChecked-start c.args.need c.args.mappings.now c.args.at c.args.len (omega arith)
+
+pub returns-in_err-run-clause-answer : goal.returns-in_err-run-clause-answer
+returns-in_err-run-clause-answer c =
+    let p = err_from_is_err_and c.from_residual.result c.from_residual.ensures.1 in
+    rw (p.1, p.2) (sym (IsChecked-fails c.args.need c.args.mappings.now c.args.at c.args.len c.loop-done.done c.in_err-run.field-0.0 c.loop-done.invariant c.loop-done-test.true c.in_err-run.ensures.err))
+
+pub loop-done-preserved : goal.loop-done-preserved
+loop-done-preserved c =
+    IsChecked-more c.args.need c.args.mappings.now c.args.at c.args.len c.loop-done.done _ c.in_ok-run.run'.now c.loop-done.invariant refl c.in_ok-run.ensures.ok

@@ -1,0 +1,9 @@
+use Rattle.pr_mem.proofs.RunLemmas.{IsFilled}
+use Rattle.std.proofs.Common.{◌-◌, length}
+use Rattle.pr_mem.proofs.accesses.fill.Given as goal
+
+abbrev pub invariant-loop-done : goal.invariant-loop-done
+invariant-loop-done l = IsFilled l.need l.mappings l.at l.out l.done
+
+abbrev pub decreases-loop-done : goal.decreases-loop-done
+decreases-loop-done l = length l.out - l.done

@@ -1,0 +1,10 @@
+use Rattle.std.proofs.Common.{ap, sym, subst, arith}
+use Rattle.pr_num.specs.Spaces.{IsSpace, mapped_size}
+use Rattle.pr_parts.proofs.FirstLemmas.{IsSpace-first, mapped_size-first}
+use Rattle.pr_mem.proofs.spaces.Space.first.Goals as goal
+
+pub invariant_of-result : goal.invariant_of-result
+invariant_of-result c =
+    let is = c.in_ok-mappings.ensures in
+    let size = ap mapped_size is in
+    (subst IsSpace (sym is) (IsSpace-first c.args.text.now c.args.data.now c.requires.text c.requires.data), omega (arith, mapped_size-first c.args.text.now c.args.data.now, c.rounded.ensures.value, c.rounded-2.ensures.value))

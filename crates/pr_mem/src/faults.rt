@@ -1,0 +1,71 @@
+ghost use Rattle.std.specs.Prelude.{◌≡◌, ◌≤◌, ◌<◌};
+
+use pr_num::{BadByte, NoMemory};
+use std::error::Error;
+use std::fmt;
+
+/// A mapping that is asked for.
+#[derive(Clone, Copy, Debug, PartialEq, Eq)]
+pub struct Map {
+    /// The address of its first byte.
+    pub at: u64,
+    /// How many bytes it has.
+    pub size: u64,
+    /// What may be done with them, a word of protections.
+    pub prot: u8,
+    /// The number of its kind, from 1 to 5.
+    pub kind: u8,
+}
+
+/// Why a call on an address space is refused.
+#[derive(Clone, Copy, Debug, PartialEq, Eq)]
+pub enum MemFault {
+    /// No mapping has the byte at this address, or is the range that begins there.
+    Hole { at: u64 },
+    /// The mapping of the byte at this address does not allow the access.
+    NotAllowed { at: u64 },
+    /// A mapping stands there.
+    Overlap,
+    /// More than 1 MiB would be mapped.
+    TooBig,
+    NoMemory,
+}
+
+impl fmt::Display for MemFault {
+    fn fmt<W: fmt::Write>(&self, f: &mut fmt::Formatter<W>) -> fmt::Result {
+        match self {
+            MemFault::Hole { at } => write!(f, "nothing is mapped at {at:#x}"),
+            MemFault::NotAllowed { at } => write!(f, "the access is not allowed at {at:#x}"),
+            MemFault::Overlap => write!(f, "a mapping stands there"),
+            MemFault::TooBig => write!(f, "more than 1 MiB would be mapped"),
+            MemFault::NoMemory => write!(f, "out of memory"),
+        }
+    }
+}
+
+impl Error for MemFault {}
+
+impl From<NoMemory> for MemFault {
+    ghost use Rattle.std.specs.Prelude.{◌≡◌};
+    ghost use Rattle.pr_mem.specs.declared.faults.MemFault.TheVariants as variants;
+
+    ghost from_gives = { λ _ e. e ≡ variants.NoMemory };
+
+    fn from(_error: NoMemory) -> MemFault {
+        MemFault::NoMemory
+    }
+}
+
+impl From<BadByte> for MemFault {
+    ghost use Rattle.std.specs.Prelude.{◌≡◌};
+    ghost use Rattle.pr_mem.specs.Answers.{fault_of};
+
+    ghost from_gives = { λ bad e. e ≡ fault_of bad };
+
+    fn from(bad: BadByte) -> MemFault {
+        match bad {
+            BadByte::Hole(at) => MemFault::Hole { at },
+            BadByte::NotAllowed(at) => MemFault::NotAllowed { at },
+        }
+    }
+}

@@ -1,0 +1,18 @@
+//! Address spaces: mappings with their bytes, the heap, and reads and writes (mmap(2), munmap(2), mprotect(2), brk(2)).
+#![tactic(auto)]
+
+mod accesses;
+mod faults;
+mod gaps;
+pub mod laws;
+mod mappings;
+mod ranges;
+mod spaces;
+mod texts;
+mod writes;
+
+pub use faults::{Map, MemFault};
+pub use spaces::Space;
+
+#[cfg(test)]
+mod tests;

@@ -1,0 +1,135 @@
+ghost use Rattle.std.specs.Prelude.{◌≡◌, ◌≤◌, ◌<◌, ◌+◌, ◌^◌, length, position, find, IfSome};
+ghost use Rattle.std.specs.List.{list_any, position_or_len};
+ghost use Rattle.std.specs.Option.{option_copied};
+ghost use Rattle.pr_num.specs.Control.{has_flags};
+ghost use Rattle.pr_num.specs.Spaces.{IsSpace, covers, mapped_size};
+ghost use Rattle.pr_parts.specs.ByAddress.{is_behind};
+ghost use Rattle.pr_parts.specs.AddressSpaces.{address_of, meets, is_break_heap, is_free, is_range};
+ghost use Rattle.pr_mem.specs.Answers.{heap_bytes};
+
+use pr_num::{Mapping, MappingKind};
+
+// Which mapping has a byte, and which stands in a range.
+
+/// Where the heap begins.
+pub const HEAP: u64 = 0x10_0000;
+
+fn covers(mapping: &Mapping, address: u64) -> bool
+    ensures { result ≡ covers address mapping.now }
+{
+    mapping.at <= address && address - mapping.at < mapping.bytes.as_slice().len() as u64
+}
+
+fn find_mapping(mappings: &[Mapping], address: u64) -> Option<&Mapping>
+    ensures { option_copied result ≡ find (covers address) mappings.now }
+{
+    mappings.iter().find(|mapping| covers(mapping, address))
+}
+
+/// The mapping that has the byte at an address.
+#[tactic(auto, using(pr_parts::proofs::AccessLemmas::finds))]
+pub fn mapping_of(mappings: &[Mapping], address: u64) -> Option<&Mapping>
+    requires { IsSpace mappings.now }
+    ensures value { option_copied result ≡ find (covers address) mappings.now }
+    ensures low { IfSome result (λ m. m.now.at ≤ address) }
+    ensures high { IfSome result (λ m. address < m.now.at + length m.now.bytes) }
+    ensures limit { IfSome result (λ m. m.now.at + length m.now.bytes < 2 ^ 64) }
+{
+    find_mapping(mappings, address)
+}
+
+/// Whether a mapping allows an access that needs these protections.
+#[tactic(auto, unfolding(pr_num::specs::Control::has_flags, pr_num::specs::Sets::common_word))]
+pub fn allows(mapping: &Mapping, need: u8) -> bool
+    ensures { result ≡ has_flags mapping.now.prot need }
+{
+    mapping.prot.word() & u64::from(need) == u64::from(need)
+}
+
+/// Whether a mapping has a byte of a range.
+pub fn meets(mapping: &Mapping, at: u64, size: u64) -> bool
+    ensures { result ≡ meets at size mapping.now }
+{
+    let len = mapping.bytes.as_slice().len() as u64;
+    (at < mapping.at || at - mapping.at < len) && (mapping.at < at || mapping.at - at < size)
+}
+
+fn is_met(mappings: &[Mapping], at: u64, size: u64) -> bool
+    ensures { result ≡ list_any (meets at size) mappings.now }
+{
+    mappings.iter().any(|mapping| meets(mapping, at, size))
+}
+
+/// Whether no mapping has a byte of a range.
+#[tactic(auto, unfolding(pr_parts::specs::AddressSpaces::is_free))]
+pub fn is_free(mappings: &[Mapping], at: u64, size: u64) -> bool
+    ensures { result ≡ is_free at size mappings.now }
+{
+    !is_met(mappings, at, size)
+}
+
+fn is_range(mapping: &Mapping, at: u64, size: u64) -> bool
+    ensures { result ≡ is_range at size mapping.now }
+{
+    mapping.at == at && mapping.bytes.as_slice().len() as u64 == size
+}
+
+fn is_break_heap(mapping: &Mapping) -> bool
+    ensures { result ≡ is_break_heap mapping.now }
+{
+    mapping.at == HEAP && matches!(mapping.kind, MappingKind::Heap)
+}
+
+/// The place of the mapping that is just this range.
+pub fn place_of(mappings: &[Mapping], at: u64, size: u64) -> Option<usize>
+    ensures { result ≡ position (is_range at size) mappings.now }
+{
+    mappings
+        .iter()
+        .position(|mapping| is_range(mapping, at, size))
+}
+
+/// The place of the first mapping that stands behind an address.
+fn place_behind(mappings: &[Mapping], at: u64) -> Option<usize>
+    ensures { result ≡ position (is_behind address_of at) mappings.now }
+{
+    mappings.iter().position(|mapping| mapping.at > at)
+}
+
+/// The place of a mapping that is to begin at an address: before the first that stands behind it, or behind all.
+#[tactic(auto, using(pr_parts::proofs::ByAddressLemmas::places))]
+pub fn place_for(mappings: &[Mapping], at: u64) -> usize
+    ensures value { result ≡ position_or_len (is_behind address_of at) mappings.now }
+    ensures within { result ≤ length mappings.now }
+{
+    match place_behind(mappings, at) {
+        Some(place) => place,
+        None => mappings.len(),
+    }
+}
+
+/// The place of the heap that the break ends.
+pub fn heap_place(mappings: &[Mapping]) -> Option<usize>
+    ensures { result ≡ position is_break_heap mappings.now }
+{
+    mappings.iter().position(|mapping| is_break_heap(mapping))
+}
+
+/// The heap that the break ends.
+fn find_heap(mappings: &[Mapping]) -> Option<&Mapping>
+    ensures { option_copied result ≡ find is_break_heap mappings.now }
+{
+    mappings.iter().find(|mapping| is_break_heap(mapping))
+}
+
+/// How many bytes the heap has.
+#[tactic(auto, using(pr_parts::proofs::HeapLemmas::heaps))]
+pub fn heap_bytes(mappings: &[Mapping]) -> u64
+    ensures value { result ≡ heap_bytes mappings.now }
+    ensures within { result ≤ mapped_size mappings.now }
+{
+    match find_heap(mappings) {
+        Some(heap) => heap.bytes.as_slice().len() as u64,
+        None => 0,
+    }
+}

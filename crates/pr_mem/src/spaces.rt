@@ -1,0 +1,298 @@
+ghost use Rattle.std.specs.Prelude.{◌≡◌, ◌≤◌, ◌<◌, ◌+◌, ◌^◌, [], All, length, position, remove, true, Some, None, Ok, Err, OnOk, OnErr, IfOk, IfSome, IsOkUnless};
+ghost use Rattle.pr_num.specs.Programs.{rounded};
+ghost use Rattle.pr_num.specs.Spaces.{mapped_size, mapping_limit, bytes_for};
+ghost use Rattle.pr_parts.specs.AddressSpaces.{LeavesHeapPlace, break_limit, first_mappings, gap_in, heap_base, is_break_heap, is_free, kind_of, text_at, with_break, with_bytes, with_heap, with_mapping, with_protected, without_range, zeros_at};
+ghost use Rattle.pr_mem.specs.Answers.{access_answer, break_refusal, done_unless, has_heap_room, map_refusal, range_refusal, text_answer, with_text};
+
+use crate::{Map, MemFault, accesses, gaps, mappings, ranges, texts, writes};
+use pr_num::{Mapping, MappingKind, NoMemory};
+use std::alloc::Global;
+use std::marker::Model;
+
+/// An address space, seen by contracts as the list of its mappings.
+#[derive(Drop)]
+pub struct Space {
+    mappings: Vec<Mapping>,
+    mapped: u64,
+}
+
+impl Model for Space {
+    ghost use Rattle.std.specs.Prelude.{◌≡◌, List};
+    ghost use Rattle.pr_num.specs.declared.mappings.Mapping.{Mapping};
+
+    ghost Value = { List Mapping };
+
+    ghost use Rattle.pr_num.specs.Spaces.{IsSpace, mapped_size};
+
+    ghost view = { λ space. space.mappings.items };
+
+    ghost invariant = { λ space. IsSpace space.mappings.items × (space.mapped ≡ mapped_size space.mappings.items) };
+}
+
+impl Space {
+    ghost use Rattle.pr_num.specs.Spaces.{IsSpace};
+
+    /// The most bytes that can be mapped.
+    pub const LIMIT: u64 = 0x10_0000;
+
+    /// A space in which nothing is mapped. Takes no memory.
+    pub fn new(alloc: Global) -> Space
+        ensures { result ≡ [] }
+    {
+        Space {
+            mappings: Vec::new(alloc),
+            mapped: 0,
+        }
+    }
+
+    /// The space in which a program begins: its text and its data, each where it is not empty, and a stack of 4,096 bytes.
+    pub fn first(alloc: Global, text: &[u8], data: &[u8]) -> Result<Space, NoMemory>
+        requires text { length text.now ≤ 0x10000 }
+        requires data { length data.now ≤ 0x10000 }
+        ensures { IfOk result (λ space. space ≡ first_mappings text.now data.now) }
+    {
+        let mappings = mappings::first_mappings(alloc, text, data)?;
+        let mapped = rounded(text.len()) + rounded(data.len()) + 4096;
+        Ok(Space { mappings, mapped })
+    }
+
+    /// The mappings by rising address, apart from each other.
+    pub fn mappings(&self) -> &[Mapping]
+        ensures value { result.now ≡ self.now }
+        ensures space { IsSpace self.now }
+    {
+        &self.mappings
+    }
+
+    /// How many bytes are mapped, at most 1 MiB.
+    pub fn mapped(&self) -> u64
+        ensures { result ≡ mapped_size self.now }
+    {
+        self.mapped
+    }
+
+    /// Reads bytes from an address on, which need these protections. Where that fails at a byte, the first such byte is
+    /// named, and the buffer stays as it is.
+    pub fn read(&self, at: u64, out: &mut [u8], need: u8) -> Result<(), MemFault>
+        ensures answer { result ≡ access_answer (bytes_for need self.now at (length out.old)) }
+        ensures ok { OnOk result (bytes_for need self.now at (length out.old) ≡ Ok out.new) }
+        ensures err { OnErr result (out.new ≡ out.old) }
+    {
+        accesses::check(&self.mappings, need, at, out.len())?;
+        accesses::fill(&self.mappings, need, at, out)?;
+        Ok(())
+    }
+
+    /// Writes bytes from an address on, which need these protections. Where that fails at a byte, the first such byte is
+    /// named, and the space stays as it is.
+    pub fn write(&mut self, at: u64, bytes: &[u8], need: u8) -> Result<(), MemFault>
+        ensures answer { result ≡ access_answer (bytes_for need self.old at (length bytes.now)) }
+        ensures ok { OnOk result (self.new ≡ with_bytes at bytes.now self.old) }
+        ensures err { OnErr result (self.new ≡ self.old) }
+    {
+        accesses::check(&self.mappings, need, at, bytes.len())?;
+        writes::write_all(&mut self.mappings, at, bytes);
+        Ok(())
+    }
+
+    /// Reads a text that ends with a zero byte, of which at most `max` bytes are looked at, and puts what stands before the
+    /// zero into the front of the buffer. `None` where these bytes have no zero. Where one of them cannot be read and none
+    /// before it is zero, the first such byte is named. Then, and without a zero, the buffer stays as it is.
+    pub fn string_at(
+        &self,
+        at: u64,
+        max: usize,
+        out: &mut [u8; 32],
+    ) -> Result<Option<usize>, MemFault>
+        requires { max ≤ 32 }
+        ensures answer { result ≡ text_answer (text_at self.now at max) }
+        ensures text { out.new ≡ with_text (text_at self.now at max) out.old }
+    {
+        Ok(texts::read_text(&self.mappings, at, max, &mut out[..])?)
+    }
+
+    /// Maps zero bytes. Where a mapping stands there, where more than 1 MiB would be mapped, or where memory runs out, the
+    /// space stays as it is.
+    pub fn map(&mut self, alloc: Global, m: Map) -> Result<(), MemFault>
+        requires size { 0 < m.size }
+        requires end { m.at + m.size < 2 ^ 64 }
+        requires prot { m.prot < 8 }
+        requires least_kind { 1 ≤ m.kind }
+        requires most_kind { m.kind ≤ 5 }
+        ensures refused { IfSome (map_refusal m.at m.size self.old) (λ fault. result ≡ Err fault) }
+        ensures granted { map_refusal m.at m.size self.old ≡ None → IsOkUnless result MemFault.NoMemory }
+        ensures ok { OnOk result (self.new ≡ with_mapping (zeros_at m.at m.size m.prot (kind_of m.kind)) self.old) }
+        ensures err { OnErr result (self.new ≡ self.old) }
+    {
+        if !ranges::is_free(&self.mappings, m.at, m.size) {
+            return Err(MemFault::Overlap);
+        }
+        if m.size > Space::LIMIT - self.mapped {
+            return Err(MemFault::TooBig);
+        }
+        let prot = mappings::prot_of(m.prot);
+        let kind = mappings::kind_of(m.kind);
+        let mapping = mappings::zeros_at(alloc, m.at, m.size as usize, prot, kind)?;
+        self.add(mapping)?;
+        Ok(())
+    }
+
+    /// Takes away the mapping that is this range; where none is, the space stays as it is.
+    #[tactic(auto, using(pr_parts::proofs::SpaceLemmas::ranges))]
+    pub fn unmap(&mut self, at: u64, size: u64) -> Result<(), MemFault>
+        ensures answer { result ≡ done_unless (range_refusal at size self.old) }
+        ensures ok { OnOk result (self.new ≡ without_range at size self.old) }
+        ensures err { OnErr result (self.new ≡ self.old) }
+    {
+        let Some(place) = ranges::place_of(&self.mappings, at, size) else {
+            return Err(MemFault::Hole { at });
+        };
+        self.remove(place);
+        Ok(())
+    }
+
+    /// Lets the mapping that is this range allow something else; where none is, the space stays as it is.
+    #[tactic(auto, using(pr_parts::proofs::SpaceLemmas::ranges))]
+    pub fn protect(&mut self, at: u64, size: u64, prot: u8) -> Result<(), MemFault>
+        requires { prot < 8 }
+        ensures answer { result ≡ done_unless (range_refusal at size self.old) }
+        ensures ok { OnOk result (self.new ≡ with_protected at size prot self.old) }
+        ensures err { OnErr result (self.new ≡ self.old) }
+    {
+        let Some(place) = ranges::place_of(&self.mappings, at, size) else {
+            return Err(MemFault::Hole { at });
+        };
+        mappings::set_prot(&mut self.mappings[place], mappings::prot_of(prot));
+        Ok(())
+    }
+
+    /// Moves the break, which ends the heap: the heap is as many bytes as lie below the break, rounded up to a multiple of
+    /// 4,096. Bytes that come to it are zero. Where more than 1 MiB would be mapped, or where memory runs out, the space
+    /// stays as it is.
+    pub fn brk(&mut self, alloc: Global, end: u64) -> Result<(), MemFault>
+        requires least { heap_base ≤ end }
+        requires most { end ≤ break_limit }
+        requires place { All LeavesHeapPlace self.old }
+        ensures refused { IfSome (break_refusal end self.old) (λ fault. result ≡ Err fault) }
+        ensures granted { break_refusal end self.old ≡ None → IsOkUnless result MemFault.NoMemory }
+        ensures ok { OnOk result (self.new ≡ with_break end self.old) }
+        ensures err { OnErr result (self.new ≡ self.old) }
+        ensures kept { All LeavesHeapPlace self.new }
+    {
+        let size = (end - ranges::HEAP + 4095) / 4096 * 4096;
+        if !self.has_heap_room(size) {
+            return Err(MemFault::TooBig);
+        }
+        self.set_heap(alloc, size)?;
+        Ok(())
+    }
+
+    /// The least multiple of 4,096 from 0x200000 on at which a mapping of this size meets none and ends below 0x700000.
+    pub fn gap(&self, size: u64) -> Option<u64>
+        ensures { result ≡ gap_in size self.now }
+    {
+        gaps::gap(&self.mappings, size)
+    }
+
+    /// The same space again.
+    pub fn copy(&self, alloc: Global) -> Result<Space, NoMemory>
+        ensures { IfOk result (λ copy. copy ≡ self.now) }
+    {
+        Ok(Space {
+            mappings: mappings::copies(alloc, &self.mappings)?,
+            mapped: self.mapped,
+        })
+    }
+
+    /// Adds a mapping where there is room for it.
+    fn add(&mut self, mapping: Mapping) -> Result<(), NoMemory>
+        requires some { 0 < length mapping.bytes }
+        requires end { mapping.at + length mapping.bytes < 2 ^ 64 }
+        requires free { is_free mapping.at (length mapping.bytes) self.old ≡ true }
+        requires room { mapped_size self.old + length mapping.bytes ≤ mapping_limit }
+        ensures ok { OnOk result (self.new ≡ with_mapping mapping self.old) }
+        ensures err { OnErr result (self.new ≡ self.old) }
+    {
+        let size = mapping.bytes.as_slice().len() as u64;
+        let place = ranges::place_for(&self.mappings, mapping.at);
+        mappings::put(&mut self.mappings, place, mapping)?;
+        self.mapped += size;
+        Ok(())
+    }
+
+    /// Whether the heap can have so many bytes.
+    fn has_heap_room(&self, size: u64) -> bool
+        ensures { result ≡ has_heap_room size self.now }
+    {
+        let others = self.mapped - ranges::heap_bytes(&self.mappings);
+        size <= Space::LIMIT - others
+    }
+
+    /// Gives the heap so many bytes, for which there is room.
+    fn set_heap(&mut self, alloc: Global, size: u64) -> Result<(), NoMemory>
+        requires room { has_heap_room size self.old ≡ true }
+        requires within { heap_base + size ≤ break_limit }
+        requires place { All LeavesHeapPlace self.old }
+        ensures ok { OnOk result (self.new ≡ with_heap size self.old) }
+        ensures err { OnErr result (self.new ≡ self.old) }
+    {
+        match ranges::heap_place(&self.mappings) {
+            None => self.make_heap(alloc, size),
+            Some(place) => self.resize_heap(alloc, place, size),
+        }
+    }
+
+    /// Makes a heap of so many bytes where there is none.
+    fn make_heap(&mut self, alloc: Global, size: u64) -> Result<(), NoMemory>
+        requires none { position is_break_heap self.old ≡ None }
+        requires room { has_heap_room size self.old ≡ true }
+        requires within { heap_base + size ≤ break_limit }
+        requires place { All LeavesHeapPlace self.old }
+        ensures ok { OnOk result (self.new ≡ with_heap size self.old) }
+        ensures err { OnErr result (self.new ≡ self.old) }
+    {
+        if size == 0 {
+            return Ok(());
+        }
+        let prot = mappings::prot_of(mappings::READ_WRITE);
+        let heap = mappings::zeros_at(alloc, ranges::HEAP, size as usize, prot, MappingKind::Heap)?;
+        self.add(heap)
+    }
+
+    /// Gives the heap, which stands in a place, so many bytes.
+    fn resize_heap(&mut self, alloc: Global, place: usize, size: u64) -> Result<(), NoMemory>
+        requires found { position is_break_heap self.old ≡ Some place }
+        requires room { has_heap_room size self.old ≡ true }
+        requires within { heap_base + size ≤ break_limit }
+        requires place { All LeavesHeapPlace self.old }
+        ensures ok { OnOk result (self.new ≡ with_heap size self.old) }
+        ensures err { OnErr result (self.new ≡ self.old) }
+    {
+        if size == 0 {
+            self.remove(place);
+            return Ok(());
+        }
+        let old = self.mappings[place].bytes.as_slice().len() as u64;
+        mappings::resize_at(&mut self.mappings, alloc, place, size as usize)?;
+        self.mapped = self.mapped - old + size;
+        Ok(())
+    }
+
+    /// Takes the mapping in a place away.
+    fn remove(&mut self, place: usize)
+        requires { place < length self.old }
+        ensures { self.new ≡ remove self.old place }
+    {
+        let gone = self.mappings.remove(place);
+        self.mapped -= gone.bytes.as_slice().len() as u64;
+    }
+}
+
+/// A number of bytes, rounded up to a multiple of 4,096.
+fn rounded(len: usize) -> u64
+    requires { len ≤ 0x10000 }
+    ensures value { result ≡ rounded len }
+    ensures bound { result ≤ 0x10000 }
+{
+    (len as u64 + 4095) / 4096 * 4096
+}

@@ -1,0 +1,55 @@
+ghost use Rattle.std.specs.Prelude.{◌≡◌, ◌≤◌, position, length};
+ghost use Rattle.pr_num.specs.Spaces.{IsSpace};
+ghost use Rattle.pr_parts.specs.AddressSpaces.{text_at};
+ghost use Rattle.pr_mem.specs.Answers.{is_zero, length_read, with_text};
+
+use crate::accesses;
+use pr_num::{BadByte, Mapping};
+
+// Texts that end with a zero byte.
+
+/// The protection that reading a text needs.
+const READ: u8 = 4;
+
+/// The place of the first zero byte.
+fn zero_in(bytes: &[u8]) -> Option<usize>
+    ensures { result ≡ position is_zero bytes.now }
+{
+    bytes.iter().position(|byte| *byte == 0)
+}
+
+/// How long the text at an address is, of which at most `most` bytes are read, its zero byte too; `None` where these have
+/// no zero.
+fn length_at(mappings: &[Mapping], at: u64, most: usize) -> Result<Option<usize>, BadByte>
+    requires { IsSpace mappings.now }
+    ensures { result ≡ length_read (text_at mappings.now at most) }
+{
+    let mut done = 0;
+    while done < most {
+        let run = accesses::run_at(mappings, READ, at + done as u64, most - done)?;
+        if let Some(end) = zero_in(run) {
+            return Ok(Some(done + end));
+        }
+        done += run.len();
+    }
+    Ok(None)
+}
+
+/// Reads a text into the front of a buffer; where there is none the buffer stays as it is.
+pub fn read_text(
+    mappings: &[Mapping],
+    at: u64,
+    most: usize,
+    out: &mut [u8],
+) -> Result<Option<usize>, BadByte>
+    requires space { IsSpace mappings.now }
+    requires room { most ≤ length out.old }
+    ensures answer { result ≡ length_read (text_at mappings.now at most) }
+    ensures text { out.new ≡ with_text (text_at mappings.now at most) out.old }
+{
+    let Some(len) = length_at(mappings, at, most)? else {
+        return Ok(None);
+    };
+    accesses::fill(mappings, READ, at, &mut out[..len])?;
+    Ok(Some(len))
+}

@@ -1,0 +1,6 @@
+pub mod AccessLemmas
+pub mod AreaLemmas
+pub mod ByAddressLemmas
+pub mod FirstLemmas
+pub mod HeapLemmas
+pub mod SpaceLemmas
