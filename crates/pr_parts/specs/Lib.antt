@@ -1,1 +1,3 @@
+pub mod FileCalls
+pub mod FileTables
 pub mod SignalRules

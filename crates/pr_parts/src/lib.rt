@@ -3,5 +3,7 @@
 #![tactic(auto)]
 
 mod actions;
+mod files;
 
 pub use actions::Action;
+pub use files::{FileNo, Stat};

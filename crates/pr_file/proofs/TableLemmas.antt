@@ -1,0 +1,178 @@
+use Rattle.std.proofs.Common.{◌≡◌, ◌≢◌, ℕ, zero, suc, ◌+◌, ◌-◌, ◌<◌, ◌≤◌, Bool, true, false, not, ◌&&◌, ◌||◌, eqb, ltb, cond, Option, Some, None, is_some, List, [], ◌∷◌, ◌++◌, length, set, refl, sym, ◌∙◌, ap, arith, inl, inr}
+use Rattle.std.specs.List.{All, list_any, slice_get}
+use Rattle.std.specs.Option.{option_flatten}
+use Rattle.std.proofs.lemmas.Bool.{and_parts, or_parts, not-true, ltb-true, lt-ltb, eqb-false, false≢true, cases_Bool}
+use Rattle.std.proofs.lemmas.List.{length-append, length-set}
+use Rattle.std.proofs.lemmas.List.Elements.{All-nil, All-set, All-push, All-weaker}
+use Rattle.std.proofs.lemmas.Slice.Eq.{bytes_eq-Decides}
+use Rattle.pr_num.specs.declared.files.Access.{Access}
+use Rattle.pr_num.specs.declared.files.OpenFile.{OpenFile}
+use Rattle.pr_num.specs.declared.files.StoredFile.{StoredFile}
+use Rattle.pr_num.specs.declared.files.Target.{Target}
+use Rattle.pr_num.specs.declared.files.Target.TheVariants.{File, PipeReader, PipeWriter}
+use Rattle.pr_num.specs.Files.{FileTable, with_user_gone, without_idle_pipe, pipe_of, is_end_of}
+use Rattle.pr_parts.specs.FileTables.{IsFileTable, IsOpenFile, IsOpenPlace, IsPipePlace, IsShortFile, at_place, file_named, has_name, names_differ, stands, HasRoom, HasRoomAt}
+use Rattle.pr_parts.specs.FileCalls.{no_files, with_user_added, with_file, with_open, first_open}
+use Rattle.pr_file.proofs.PlaceLemmas.{at-All, All-untested, All-placed, slice_get-set_other, untested-position}
+
+-- A table of files stays one.
+
+pub IsFileTable-none : IsFileTable no_files
+IsFileTable-none = record {
+  few_files = omega arith;
+  few_pipes = omega arith;
+  short_files = All-nil IsShortFile;
+  short_pipes = All-nil IsPipePlace;
+  own_names = refl;
+  open_files = All-nil (IsOpenPlace [] []);
+}
+
+-- ---- a descriptor fewer
+
+-- what an open file reads and writes still stands when a pipe of which it is no end is gone
+still_stands : (files : List StoredFile) (pipes : List (Option (List ℕ))) (pipe : ℕ) (o : OpenFile) (target : Target) → is_end_of pipe (Some (record o { target = target })) ≡ false → stands files pipes target ≡ true → stands files (set pipes pipe None) target ≡ true
+still_stands files pipes pipe o (File place) other here = here
+still_stands files pipes pipe o (PipeReader place) other here =
+    ap (λ p. is_some (option_flatten p)) (slice_get-set_other pipes pipe place None (eqb-false place pipe other)) ∙ here
+still_stands files pipes pipe o (PipeWriter place) other here =
+    ap (λ p. is_some (option_flatten p)) (slice_get-set_other pipes pipe place None (eqb-false place pipe other)) ∙ here
+
+open_without_pipe : (files : List StoredFile) (pipes : List (Option (List ℕ))) (pipe : ℕ) (o : Option OpenFile) → is_end_of pipe o ≡ false → IsOpenPlace files pipes o → IsOpenPlace files (set pipes pipe None) o
+open_without_pipe files pipes pipe None other here = tt
+open_without_pipe files pipes pipe (Some o) other here = record {
+  used = here.used;
+  within = here.within;
+  target_stands = still_stands files pipes pipe o o.target other here.target_stands;
+}
+
+IsFileTable-without_idle_pipe : (pipe : Option ℕ) (t : FileTable) → IsFileTable t → IsFileTable (without_idle_pipe pipe t)
+unfolding without_idle_pipe
+IsFileTable-without_idle_pipe None t h = h
+IsFileTable-without_idle_pipe (Some pipe) t h =
+    elim (list_any (is_end_of pipe) t.opens) as (λ b. list_any (is_end_of pipe) t.opens ≡ b → IsFileTable (cond b t (record t { pipes = set t.pipes pipe None }))) [ true ↦ λ _. h | false ↦ λ idle. record {
+      few_files = h.few_files;
+      few_pipes = omega (arith, length-set t.pipes pipe None, h.few_pipes);
+      short_files = h.short_files;
+      short_pipes = All-set IsPipePlace t.pipes pipe None tt h.short_pipes;
+      own_names = h.own_names;
+      open_files = All-untested (is_end_of pipe) (IsOpenPlace t.files t.pipes) (IsOpenPlace t.files (set t.pipes pipe None)) (open_without_pipe t.files t.pipes pipe) t.opens idle h.open_files;
+    } ] refl
+
+-- another open file at a place, or none
+IsFileTable-open_set : (t : FileTable) (place : ℕ) (o : Option OpenFile) → IsOpenPlace t.files t.pipes o → IsFileTable t → IsFileTable (record t { opens = set t.opens place o })
+IsFileTable-open_set t place o here h = record {
+  few_files = h.few_files;
+  few_pipes = h.few_pipes;
+  short_files = h.short_files;
+  short_pipes = h.short_pipes;
+  own_names = h.own_names;
+  open_files = All-set (IsOpenPlace t.files t.pipes) t.opens place o here h.open_files;
+}
+
+-- the open file at a place, with a descriptor fewer
+one_fewer : (t : FileTable) (place : ℕ) (o : OpenFile) → IsOpenFile t.files t.pipes o → IsFileTable t → IsFileTable (cond (ltb 1 o.users) (record t { opens = set t.opens place (Some (record o { users = o.users - 1 })) }) (without_idle_pipe (pipe_of o.target) (record t { opens = set t.opens place None })))
+one_fewer t place o here h =
+    elim (ltb 1 o.users) as (λ b. ltb 1 o.users ≡ b → IsFileTable (cond b (record t { opens = set t.opens place (Some (record o { users = o.users - 1 })) }) (without_idle_pipe (pipe_of o.target) (record t { opens = set t.opens place None })))) [ true ↦ λ more. IsFileTable-open_set t place (Some (record o { users = o.users - 1 })) (record {
+      used = omega (arith, ltb-true 1 o.users more);
+      within = here.within;
+      target_stands = here.target_stands;
+    }) h | false ↦ λ _. IsFileTable-without_idle_pipe (pipe_of o.target) _ (IsFileTable-open_set t place None tt h) ] refl
+
+pub IsFileTable-user_gone : (t : FileTable) (place : ℕ) → IsFileTable t → IsFileTable (with_user_gone t place)
+unfolding with_user_gone
+IsFileTable-user_gone t place h = go (slice_get t.opens place) refl
+  where
+    go : (found : Option (Option OpenFile)) → slice_get t.opens place ≡ found → IsFileTable (with_user_gone t place)
+    go None e = rw e h
+    go (Some None) e = rw e h
+    go (Some (Some o)) e = rw e (one_fewer t place o (at-All (IsOpenPlace t.files t.pipes) t.opens place (Some o) e h.open_files) h)
+
+-- ---- a descriptor more
+
+pub IsFileTable-user_added : (t : FileTable) (place : ℕ) → IsFileTable t → IsFileTable (with_user_added t place)
+unfolding with_user_added
+IsFileTable-user_added t place h = go (slice_get t.opens place) refl
+  where
+    go : (found : Option (Option OpenFile)) → slice_get t.opens place ≡ found → IsFileTable (with_user_added t place)
+    go None e = rw e h
+    go (Some None) e = rw e h
+    go (Some (Some o)) e =
+        rw e (let here = at-All (IsOpenPlace t.files t.pipes) t.opens place (Some o) e h.open_files in IsFileTable-open_set t place (Some (record o { users = o.users + 1 })) (record {
+          used = omega arith;
+          within = here.within;
+          target_stands = here.target_stands;
+        }) h)
+
+-- ---- a file more, an open file more
+
+more_files_stand : (files : List StoredFile) (pipes : List (Option (List ℕ))) (f : StoredFile) (target : Target) → stands files pipes target ≡ true → stands (files ++ f ∷ []) pipes target ≡ true
+more_files_stand files pipes f (File place) here =
+    lt-ltb place (length (files ++ f ∷ [])) (omega (arith, length-append files (f ∷ []), ltb-true place (length files) here))
+more_files_stand files pipes f (PipeReader place) here = here
+more_files_stand files pipes f (PipeWriter place) here = here
+
+open_with_file : (files : List StoredFile) (pipes : List (Option (List ℕ))) (f : StoredFile) (o : Option OpenFile) → IsOpenPlace files pipes o → IsOpenPlace (files ++ f ∷ []) pipes o
+open_with_file files pipes f None here = tt
+open_with_file files pipes f (Some o) here = record {
+  used = here.used;
+  within = here.within;
+  target_stands = more_files_stand files pipes f o.target here.target_stands;
+}
+
+list_any-push : {X : Type 0} (p : X → Bool) (xs : List X) (x : X) → list_any p xs ≡ false → p x ≡ false → list_any p (xs ++ x ∷ []) ≡ false
+list_any-push p [] x none last = ap (λ b. b || false) last
+list_any-push p (y ∷ ys) x none last =
+    let parts = or_parts (p y) (list_any p ys) none in
+    rw (parts.0, list_any-push p ys x parts.1 last) refl
+
+-- names that differ are told apart both ways
+has_name-false : (f g : StoredFile) → has_name f.name g ≡ false → has_name g.name f ≡ false
+has_name-false f g other =
+    elim (cases_Bool (has_name g.name f)) [ inl same ↦ absurd (false≢true (sym other ∙ (bytes_eq-Decides g.name f.name).1 (sym ((bytes_eq-Decides f.name g.name).0 same)))) | inr e ↦ e ]
+
+names_differ-push : (fs : List StoredFile) (f : StoredFile) → names_differ fs ≡ true → list_any (has_name f.name) fs ≡ false → names_differ (fs ++ f ∷ []) ≡ true
+names_differ-push [] f own new = refl
+names_differ-push (g ∷ gs) f own new =
+    let apart = and_parts (not (list_any (has_name g.name) gs)) (names_differ gs) own in
+    let others = or_parts (has_name f.name g) (list_any (has_name f.name) gs) new in
+    rw (list_any-push (has_name g.name) gs f (not-true _ apart.0) (has_name-false f g others.0), names_differ-push gs f apart.1 others.1) refl
+
+pub IsFileTable-with_file : (t : FileTable) (name bytes : List ℕ) → length t.files < 256 → length bytes ≤ 65536 → file_named t name ≡ None → IsFileTable t → IsFileTable (with_file t name bytes)
+unfolding with_file file_named
+IsFileTable-with_file t name bytes few short new h =
+    let f : StoredFile = record { name = name; bytes = bytes } in
+    record {
+      few_files = omega (arith, length-append t.files (f ∷ []));
+      few_pipes = h.few_pipes;
+      short_files = All-push IsShortFile t.files f h.short_files short;
+      short_pipes = h.short_pipes;
+      own_names = names_differ-push t.files f h.own_names (untested-position (has_name name) t.files new);
+      open_files = All-weaker (IsOpenPlace t.files t.pipes) (IsOpenPlace (t.files ++ f ∷ []) t.pipes) (open_with_file t.files t.pipes f) t.opens h.open_files;
+    }
+
+pub IsFileTable-with_open : (t : FileTable) (o : OpenFile) → IsOpenFile t.files t.pipes o → IsFileTable t → IsFileTable (with_open t o)
+unfolding with_open
+IsFileTable-with_open t o here h = record {
+  few_files = h.few_files;
+  few_pipes = h.few_pipes;
+  short_files = h.short_files;
+  short_pipes = h.short_pipes;
+  own_names = h.own_names;
+  open_files = All-placed (IsOpenPlace t.files t.pipes) t.opens o here h.open_files;
+}
+
+-- a file is made and opened
+pub IsFileTable-created : (t : FileTable) (name : List ℕ) (access : Access) → length t.files < 256 → file_named t name ≡ None → IsFileTable t → IsFileTable (with_open (with_file t name []) (first_open (File (length t.files)) access))
+unfolding with_file
+IsFileTable-created t name access few new h =
+    let f : StoredFile = record { name = name; bytes = [] } in
+    IsFileTable-with_open (with_file t name []) (first_open (File (length t.files)) access) (record {
+      used = omega arith;
+      within = omega arith;
+      target_stands = lt-ltb (length t.files) (length (t.files ++ f ∷ [])) (omega (arith, length-append t.files (f ∷ [])));
+    }) (IsFileTable-with_file t name [] few (omega arith) new h)
+
+-- a file is opened
+pub IsFileTable-opened : (t : FileTable) (file : ℕ) (access : Access) → file < length t.files → IsFileTable t → IsFileTable (with_open t (first_open (File file) access))
+IsFileTable-opened t file access within h =
+    IsFileTable-with_open t (first_open (File file) access) (record { used = omega arith; within = omega arith; target_stands = lt-ltb file (length t.files) within }) h
