@@ -1,7 +1,8 @@
-use Rattle.std.proofs.Common.{◌≡◌, ◌≢◌, ℕ, zero, suc, ◌+◌, ◌<◌, ◌≤◌, Bool, true, false, ◌||◌, eqb, ltb, cond, Option, Some, None, is_some, is_none, List, [], ◌∷◌, ◌++◌, length, set, refl, sym, ◌∙◌, ap, arith, inl, inr}
-use Rattle.std.specs.List.{All, find, list_any, position, slice_get}
+use Rattle.std.proofs.Common.{◌≡◌, ◌≢◌, ℕ, zero, suc, ◌+◌, ◌-◌, ◌<◌, ◌≤◌, Bool, true, false, ◌||◌, eqb, ltb, cond, Option, Some, None, is_some, is_none, List, [], ◌∷◌, ◌++◌, length, set, refl, sym, ◌∙◌, ap, arith, inl, inr}
+use Rattle.std.specs.List.{All, count_by, find, list_any, position, slice_get}
 use Rattle.std.proofs.lemmas.Bool.{or_parts, cases_Bool, ltb-true, ltb-false}
 use Rattle.std.proofs.lemmas.List.Elements.{All-nil, All-cons, All-head, All-tail, All-get_or}
+use Rattle.std.proofs.lemmas.List.Sums.{sum_by-cons}
 use Rattle.std.proofs.lemmas.Option.{slice_get_within, get_or_from_slice_get, cond_some, none-some}
 use Rattle.pr_num.proofs.TableLemmas.{position-within, find-none}
 use Rattle.pr_parts.specs.FileTables.{with_placed, free_place, at_place}
@@ -107,3 +108,20 @@ untested-find p (x ∷ xs) e =
 
 pub untested-position : {X : Type 0} (p : X → Bool) (xs : List X) → position p xs ≡ None → list_any p xs ≡ false
 untested-position p xs e = untested-find p xs (find-none p xs e)
+
+-- ---- what is placed
+
+pub at_place-placed : {X : Type 0} (xs : List (Option X)) (x : X) → at_place (with_placed xs x) (free_place xs) ≡ Some x
+at_place-placed [] x = refl
+at_place-placed (None ∷ xs) x = refl
+at_place-placed (Some y ∷ xs) x =
+    ap (at_place (Some y ∷ with_placed xs x)) (one_more (free_place xs)) ∙ at_place-placed xs x
+
+-- a list that is short enough stays so, where fewer places are taken
+pub length-placed : {X : Type 0} (xs : List (Option X)) (x : X) (n : ℕ) → length xs ≤ n → count_by is_some xs < n → length (with_placed xs x) ≤ n
+length-placed [] x n short few = omega arith
+length-placed (None ∷ xs) x n short few = short
+length-placed (Some y ∷ xs) x n short few =
+    let whole : count_by is_some (Some y ∷ xs) ≡ 1 + count_by is_some xs = sum_by-cons (λ x. cond (is_some x) 1 0) (Some y) xs in
+    let fewer : 1 + count_by is_some xs < n = omega (arith, whole, few) in
+    omega (arith, length-placed xs x (n - 1) (omega arith) (omega arith), short)

@@ -1,19 +1,20 @@
 use Rattle.std.proofs.Common.{◌≡◌, ◌≢◌, ℕ, zero, suc, ◌+◌, ◌-◌, ◌<◌, ◌≤◌, Bool, true, false, not, ◌&&◌, ◌||◌, eqb, ltb, cond, Option, Some, None, is_some, List, [], ◌∷◌, ◌++◌, length, set, refl, sym, ◌∙◌, ap, arith, inl, inr}
-use Rattle.std.specs.List.{All, list_any, slice_get}
+use Rattle.std.specs.List.{All, count_by, list_any, slice_get}
 use Rattle.std.specs.Option.{option_flatten}
 use Rattle.std.proofs.lemmas.Bool.{and_parts, or_parts, not-true, ltb-true, lt-ltb, eqb-false, false≢true, cases_Bool}
 use Rattle.std.proofs.lemmas.List.{length-append, length-set}
 use Rattle.std.proofs.lemmas.List.Elements.{All-nil, All-set, All-push, All-weaker}
 use Rattle.std.proofs.lemmas.Slice.Eq.{bytes_eq-Decides}
 use Rattle.pr_num.specs.declared.files.Access.{Access}
+use Rattle.pr_num.specs.declared.files.Access.TheVariants.{Read, Write}
 use Rattle.pr_num.specs.declared.files.OpenFile.{OpenFile}
 use Rattle.pr_num.specs.declared.files.StoredFile.{StoredFile}
 use Rattle.pr_num.specs.declared.files.Target.{Target}
 use Rattle.pr_num.specs.declared.files.Target.TheVariants.{File, PipeReader, PipeWriter}
 use Rattle.pr_num.specs.Files.{FileTable, with_user_gone, without_idle_pipe, pipe_of, is_end_of}
-use Rattle.pr_parts.specs.FileTables.{IsFileTable, IsOpenFile, IsOpenPlace, IsPipePlace, IsShortFile, at_place, file_named, has_name, names_differ, stands, HasRoom, HasRoomAt}
-use Rattle.pr_parts.specs.FileCalls.{no_files, with_user_added, with_file, with_open, first_open}
-use Rattle.pr_file.proofs.PlaceLemmas.{at-All, All-untested, All-placed, slice_get-set_other, untested-position}
+use Rattle.pr_parts.specs.FileTables.{IsFileTable, IsOpenFile, IsOpenPlace, IsPipePlace, IsShortFile, at_place, free_place, with_placed, file_named, has_name, names_differ, stands, HasRoom, HasRoomAt}
+use Rattle.pr_parts.specs.FileCalls.{no_files, with_user_added, with_file, with_open, with_open_at, with_pipe, with_read_end, first_open}
+use Rattle.pr_file.proofs.PlaceLemmas.{at-All, All-untested, All-placed, at_place-placed, length-placed, slice_get-set_other, taken-placed, untested-position}
 
 -- A table of files stays one.
 
@@ -176,3 +177,55 @@ IsFileTable-created t name access few new h =
 pub IsFileTable-opened : (t : FileTable) (file : ℕ) (access : Access) → file < length t.files → IsFileTable t → IsFileTable (with_open t (first_open (File file) access))
 IsFileTable-opened t file access within h =
     IsFileTable-with_open t (first_open (File file) access) (record { used = omega arith; within = omega arith; target_stands = lt-ltb file (length t.files) within }) h
+
+-- ---- a pipe more
+
+open_with_pipe : (files : List StoredFile) (pipes : List (Option (List ℕ))) (bytes : List ℕ) (o : Option OpenFile) → IsOpenPlace files pipes o → IsOpenPlace files (with_placed pipes bytes) o
+open_with_pipe files pipes bytes None here = tt
+open_with_pipe files pipes bytes (Some o) here = record {
+  used = here.used;
+  within = here.within;
+  target_stands = more_pipes_stand o.target here.target_stands;
+}
+  where
+    more_pipes_stand : (target : Target) → stands files pipes target ≡ true → stands files (with_placed pipes bytes) target ≡ true
+    more_pipes_stand (File place) there = there
+    more_pipes_stand (PipeReader place) there = taken-placed pipes bytes place there
+    more_pipes_stand (PipeWriter place) there = taken-placed pipes bytes place there
+
+IsFileTable-pipe_placed : (t : FileTable) → count_by is_some t.pipes < 256 → IsFileTable t → IsFileTable (record t { pipes = with_placed t.pipes [] })
+IsFileTable-pipe_placed t few h = record {
+  few_files = h.few_files;
+  few_pipes = length-placed t.pipes [] 256 h.few_pipes few;
+  short_files = h.short_files;
+  short_pipes = All-placed IsPipePlace t.pipes [] (omega arith) h.short_pipes;
+  own_names = h.own_names;
+  open_files = All-weaker (IsOpenPlace t.files t.pipes) (IsOpenPlace t.files (with_placed t.pipes [])) (open_with_pipe t.files t.pipes []) t.opens h.open_files;
+}
+
+pub IsFileTable-with_pipe : (t : FileTable) → count_by is_some t.pipes < 256 → IsFileTable t → IsFileTable (with_pipe t)
+unfolding with_pipe with_read_end with_open
+IsFileTable-with_pipe t few h =
+    let placed = IsFileTable-pipe_placed t few h in
+    let there : is_some (at_place (with_placed t.pipes []) (free_place t.pipes)) ≡ true = ap is_some (at_place-placed t.pipes []) in
+    let reader = IsFileTable-with_open _ (first_open (PipeReader (free_place t.pipes)) Read) (record { used = omega arith; within = omega arith; target_stands = there }) placed in
+    IsFileTable-with_open _ (first_open (PipeWriter (free_place t.pipes)) Write) (record { used = omega arith; within = omega arith; target_stands = there }) reader
+
+-- ---- an open file in the place of one
+
+from_flat : {X : Type 0} (found : Option (Option X)) (x : X) → option_flatten found ≡ Some x → found ≡ Some (Some x)
+from_flat None x e = cc
+from_flat (Some None) x e = cc
+from_flat (Some (Some y)) x e = ap Some e
+
+-- an open file that stands at a place is in order
+pub IsOpenFile-at : (t : FileTable) (place : ℕ) (o : OpenFile) → at_place t.opens place ≡ Some o → IsFileTable t → IsOpenFile t.files t.pipes o
+IsOpenFile-at t place o e h =
+    at-All (IsOpenPlace t.files t.pipes) t.opens place (Some o) (from_flat (slice_get t.opens place) o e) h.open_files
+
+pub IsFileTable-moved : (t : FileTable) (place offset : ℕ) (o : OpenFile) → IsOpenFile t.files t.pipes o → offset ≤ 65536 → IsFileTable t → IsFileTable (with_open_at t place (record o { offset = offset }))
+unfolding with_open_at
+IsFileTable-moved t place offset o here within h =
+    IsFileTable-open_set t place (Some (record o { offset = offset })) (record { used = here.used; within = within; target_stands = here.target_stands }) h
+
+pub ruleset opens_in_order = (IsOpenFile-at)

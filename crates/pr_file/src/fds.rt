@@ -1,6 +1,6 @@
 ghost use Rattle.std.specs.Prelude.{◌≡◌, ◌<◌, Some, None, IfSome, length, slice_set};
 ghost use Rattle.pr_num.specs.Files.{no_descriptors};
-ghost use Rattle.pr_parts.specs.FileTables.{at_place, free_fd};
+ghost use Rattle.pr_parts.specs.FileTables.{at_place, free_fd, free_fd_behind};
 
 use crate::places::first_free;
 use std::marker::Model;
@@ -44,6 +44,16 @@ impl Fds {
         ensures within { IfSome result (λ fd. fd < 64) }
     {
         first_free(&self.places)
+    }
+
+    /// The least free descriptor that is greater than this one.
+    pub(crate) fn free_behind(&self, fd: usize) -> Option<usize>
+        requires { fd < 64 }
+        ensures free { result ≡ free_fd_behind self.now fd }
+        ensures within { IfSome result (λ fd. fd < 64) }
+    {
+        let place = first_free(&self.places[fd + 1..])?;
+        Some(fd + 1 + place)
     }
 
     /// Lets a descriptor stand for the open file at a place.

@@ -1,12 +1,12 @@
-ghost use Rattle.std.specs.Prelude.{◌≡◌, ◌<◌, ◌≤◌, ◌+◌, ◌^◌, true, None, IfSome, OnOk, OnErr, length};
+ghost use Rattle.std.specs.Prelude.{◌≡◌, ◌<◌, ◌≤◌, ◌+◌, ◌^◌, true, None, Some, is_some, IfSome, OnOk, OnErr, length};
 ghost use Rattle.pr_num.specs.Files.{with_all_closed, no_descriptors};
-ghost use Rattle.pr_parts.specs.FileTables.{open_of, file_named, HasRoom};
-ghost use Rattle.pr_parts.specs.FileCalls.{unless_no_memory, no_files, with_file, closed, duplicated, with_all_shared, are_open_flags, access_of, opened_file, created_file, opened};
+ghost use Rattle.pr_parts.specs.FileTables.{open_of, at_place, file_named, HasRoom, IsOpenFile};
+ghost use Rattle.pr_parts.specs.FileCalls.{unless_no_memory, no_files, with_file, closed, duplicated, with_all_shared, are_open_flags, access_of, opened_file, created_file, opened, piped, sought, described, reads, writes, open_for_reading, open_for_writing};
 
 use crate::fds::Fds;
-use crate::tables::Tables;
+use crate::tables::{Tables, pipe_of};
 use pr_num::{Access, Bytes, Name, NoMemory, OpenFile};
-use pr_parts::FileNo;
+use pr_parts::{FileNo, Stat};
 use std::alloc::Global;
 use std::marker::Model;
 
@@ -15,6 +15,12 @@ const CREATE: u64 = 256;
 
 /// How many files there can be.
 const MOST_FILES: usize = 256;
+
+/// How many pipes can stand.
+const MOST_PIPES: usize = 256;
+
+/// How many bytes a file can have.
+const MOST_BYTES: u64 = 65_536;
 
 /// The files of a system, its pipes, and the open files for which descriptors of processes stand.
 #[derive(Drop)]
@@ -46,11 +52,13 @@ impl Files {
     }
 
     /// The open file that a descriptor stands for, with its place.
-    #[tactic(auto, unfolding(pr_parts::specs::FileTables::open_of))]
+    #[tactic(auto, unfolding(pr_parts::specs::FileTables::open_of), using(crate::proofs::TableLemmas::opens_in_order))]
     fn open_of(&self, fds: &Fds, fd: u64) -> Option<(usize, OpenFile)>
         ensures open { result ≡ open_of self.now fds.now fd }
         ensures within { IfSome result (λ _. fd < 64) }
         ensures place { IfSome result (λ found. found.0 < length self.now.opens) }
+        ensures there { IfSome result (λ found. at_place self.now.opens found.0 ≡ Some found.1) }
+        ensures in_order { IfSome result (λ found. IsOpenFile self.now.files self.now.pipes found.1) }
     {
         let place = fds.place(fd)?;
         let open = self.tables.open_at(place)?;
@@ -168,6 +176,114 @@ impl Files {
             Some(file) => self.open_file(fds, fd, file, flags),
             None => self.create_file(alloc, fds, fd, name, flags),
         }
+    }
+
+    /// Makes a pipe (pipe(2)), and answers the descriptors of its read end and its write end, which are the two least free
+    /// ones. `NoPlace` comes exactly where fewer than two are free, and then `TableFull` exactly where 256 pipes stand.
+    #[tactic(auto, unfolding(pr_parts::specs::FileCalls::piped, pr_parts::specs::FileCalls::made_pipe))]
+    pub fn pipe(&mut self, alloc: Global, fds: &mut Fds) -> Result<(u64, u64), FileNo>
+        ensures { (record { files = self.new; fds = fds.new; answer = result }) ≡ unless_no_memory self.old fds.old result (piped self.old fds.old) }
+    {
+        let Some(reader) = fds.free() else {
+            return Err(FileNo::NoPlace);
+        };
+        let Some(writer) = fds.free_behind(reader) else {
+            return Err(FileNo::NoPlace);
+        };
+        if self.tables.pipes() >= MOST_PIPES {
+            return Err(FileNo::TableFull);
+        }
+        let (read_end, write_end) = self.tables.open_pipe(alloc)?;
+        fds.set(reader, Some(read_end));
+        fds.set(writer, Some(write_end));
+        Ok((reader as u64, writer as u64))
+    }
+
+    /// Moves the offset of an open file (lseek(2)), and answers it: `BadFd` exactly where the descriptor is not open, then
+    /// `NotSeekable` exactly where it stands for an end of a pipe, then `BadOffset` exactly where the offset is above
+    /// 65,536.
+    #[tactic(auto, unfolding(pr_parts::specs::FileCalls::sought))]
+    pub fn seek(&mut self, fds: &Fds, fd: u64, offset: u64) -> Result<u64, FileNo>
+        ensures { (record { files = self.new; fds = fds.now; answer = result }) ≡ sought self.old fds.now fd offset }
+    {
+        let Some((place, file)) = self.open_of(fds, fd) else {
+            return Err(FileNo::BadFd);
+        };
+        if pipe_of(file.target).is_some() {
+            return Err(FileNo::NotSeekable);
+        }
+        if offset > MOST_BYTES {
+            return Err(FileNo::BadOffset);
+        }
+        self.tables.set_open(place, OpenFile { offset, ..file });
+        Ok(offset)
+    }
+
+    /// What a descriptor stands for (fstat(2)): `BadFd` exactly where it is not open.
+    #[tactic(auto, unfolding(pr_parts::specs::FileCalls::described))]
+    pub fn stat(&self, fds: &Fds, fd: u64) -> Result<Stat, FileNo>
+        ensures { result ≡ described self.now fds.now fd }
+    {
+        let Some((_, file)) = self.open_of(fds, fd) else {
+            return Err(FileNo::BadFd);
+        };
+        Ok(self.tables.stat(file))
+    }
+
+    /// The open file that a descriptor stands for, with its place, where it is open for reading.
+    #[tactic(auto, unfolding(pr_parts::specs::FileCalls::open_for_reading))]
+    fn open_for_reading(&self, fds: &Fds, fd: u64) -> Option<(usize, OpenFile)>
+        ensures file { result ≡ open_for_reading self.now fds.now fd }
+        ensures place { IfSome result (λ found. found.0 < length self.now.opens) }
+        ensures there { IfSome result (λ found. at_place self.now.opens found.0 ≡ Some found.1) }
+        ensures in_order { IfSome result (λ found. IsOpenFile self.now.files self.now.pipes found.1) }
+    {
+        let (place, file) = self.open_of(fds, fd)?;
+        if reads(file.access) { Some((place, file)) } else { None }
+    }
+
+    /// The same where it is open for writing.
+    #[tactic(auto, unfolding(pr_parts::specs::FileCalls::open_for_writing))]
+    fn open_for_writing(&self, fds: &Fds, fd: u64) -> Option<(usize, OpenFile)>
+        ensures file { result ≡ open_for_writing self.now fds.now fd }
+        ensures place { IfSome result (λ found. found.0 < length self.now.opens) }
+        ensures there { IfSome result (λ found. at_place self.now.opens found.0 ≡ Some found.1) }
+        ensures in_order { IfSome result (λ found. IsOpenFile self.now.files self.now.pipes found.1) }
+    {
+        let (place, file) = self.open_of(fds, fd)?;
+        if writes(file.access) { Some((place, file)) } else { None }
+    }
+
+    /// Whether a descriptor is open for reading.
+    pub fn can_read(&self, fds: &Fds, fd: u64) -> bool
+        ensures { result ≡ is_some (open_for_reading self.now fds.now fd) }
+    {
+        self.open_for_reading(fds, fd).is_some()
+    }
+
+    /// Whether a descriptor is open for writing.
+    pub fn can_write(&self, fds: &Fds, fd: u64) -> bool
+        ensures { result ≡ is_some (open_for_writing self.now fds.now fd) }
+    {
+        self.open_for_writing(fds, fd).is_some()
+    }
+}
+
+fn reads(access: Access) -> bool
+    ensures { result ≡ reads access }
+{
+    match access {
+        Access::Read | Access::Both => true,
+        Access::Write => false,
+    }
+}
+
+fn writes(access: Access) -> bool
+    ensures { result ≡ writes access }
+{
+    match access {
+        Access::Write | Access::Both => true,
+        Access::Read => false,
     }
 }
 

@@ -1,6 +1,7 @@
 //! Files, pipes and descriptors, each call alone.
 #![tactic(auto)]
 
+mod buffers;
 mod fds;
 mod files;
 mod places;

@@ -1,9 +1,10 @@
-ghost use Rattle.std.specs.Prelude.{◌≡◌, ◌<◌, ◌≤◌, ◌+◌, vec_len, vec_capacity, position, is_none};
+ghost use Rattle.std.specs.Prelude.{◌≡◌, ◌<◌, ◌≤◌, ◌+◌, vec_len, vec_capacity, position, is_none, length, IfSome};
 ghost use Rattle.pr_parts.specs.FileTables.{with_placed, free_place};
 
 /// The least free place, `None` exactly where all are taken.
 pub(crate) fn first_free<T>(places: &[Option<T>]) -> Option<usize>
-    ensures { result ≡ position is_none places.now }
+    ensures place { result ≡ position is_none places.now }
+    ensures within { IfSome result (λ place. place < length places.now) }
 {
     places.iter().position(|place| place.is_none())
 }
@@ -14,6 +15,7 @@ pub(crate) fn put<T: Drop>(places: &mut Vec<Option<T>>, item: T) -> usize
     requires { vec_len places.old < vec_capacity places.old }
     ensures items { places.new.items ≡ with_placed places.old.items item }
     ensures place { result ≡ free_place places.old.items }
+    ensures within { result ≤ vec_len places.old }
     ensures len { vec_len places.new ≤ vec_len places.old + 1 }
     ensures capacity { vec_capacity places.new ≡ vec_capacity places.old }
 {

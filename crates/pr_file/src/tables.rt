@@ -1,13 +1,16 @@
-ghost use Rattle.std.specs.Prelude.{◌≡◌, ◌<◌, ◌≤◌, ◌+◌, ◌^◌, [], None, IfSome, IfOk, OnOk, OnErr, count_by, is_some, length, slice_set};
+ghost use Rattle.std.specs.Prelude.{◌≡◌, ◌<◌, ◌≤◌, ◌+◌, ◌^◌, [], None, IfSome, IfOk, OnOk, OnErr, count_by, is_some, length, slice_set, true, drop, ◌++◌};
 ghost use Rattle.std.specs.List.{list_any};
 ghost use Rattle.pr_num.specs.Files.{FileTable, with_all_closed, with_user_gone, without_idle_pipe, pipe_of, is_end_of};
 ghost use Rattle.pr_parts.specs.FileTables.{IsFileTable, HasRoom, at_place, file_named, free_place};
-ghost use Rattle.pr_parts.specs.FileCalls.{no_files, with_file, with_open, with_open_at, with_pipe, with_read_end, with_all_shared, with_user_added, first_open, contents};
+ghost use Rattle.pr_parts.specs.FileTransfers.{has_reader, has_writer, is_read_end, is_write_end, pipe_bytes, with_pipe_bytes, with_file_bytes, after_write};
+ghost use Rattle.pr_parts.specs.FileCalls.{no_files, with_file, with_open, with_open_at, with_pipe, with_read_end, with_all_shared, with_user_added, first_open, contents, kind_of, mode_of, name_of, stat_of};
 
-use crate::places;
+use crate::{buffers, places};
 use pr_num::{Access, Bytes, Name, NoMemory, OpenFile, StoredFile, Target};
+use pr_parts::Stat;
 use std::alloc::Global;
 use std::marker::Model;
+use std::mem;
 
 /// The files, pipes and open files of a system, without what is always so of them.
 #[derive(Drop)]
@@ -205,6 +208,167 @@ impl Tables {
         });
         Ok(places::put(&mut self.opens, first_open(file, access)))
     }
+
+    /// Makes a pipe without bytes and opens both its ends, and answers the places of its open read end and write end.
+    #[tactic(auto, unfolding(pr_parts::specs::FileCalls::with_pipe, pr_parts::specs::FileCalls::with_read_end, pr_parts::specs::FileCalls::with_open))]
+    pub(crate) fn open_pipe(&mut self, alloc: Global) -> Result<(usize, usize), NoMemory>
+        requires { length self.old.pipes ≤ 256 }
+        ensures ok { OnOk result (self.new ≡ with_pipe self.old) }
+        ensures read_end { IfOk result (λ ends. ends.0 ≡ free_place self.old.opens) }
+        ensures write_end { IfOk result (λ ends. ends.1 ≡ free_place (with_read_end self.old).opens) }
+        ensures err { OnErr result (self.new ≡ self.old) }
+    {
+        self.pipes.reserve(1)?;
+        self.opens.reserve(2)?;
+        let pipe = places::put(&mut self.pipes, Bytes::from_vec(Vec::new(alloc))) as u32;
+        let read_end = first_open(Target::PipeReader(pipe), Access::Read);
+        let write_end = first_open(Target::PipeWriter(pipe), Access::Write);
+        let reader = places::put(&mut self.opens, read_end);
+        let writer = places::put(&mut self.opens, write_end);
+        Ok((reader, writer))
+    }
+
+    /// The bytes of what an open file reads and writes.
+    pub(crate) fn contents(&self, target: Target) -> &[u8]
+        ensures { result.now ≡ contents self.now target }
+    {
+        match target {
+            Target::File(place) => self.file_bytes(place),
+            Target::PipeReader(place) | Target::PipeWriter(place) => self.pipe_bytes(place),
+        }
+    }
+
+    fn file_bytes(&self, place: u32) -> &[u8]
+        ensures { result.now ≡ contents self.now (Target.File place) }
+    {
+        match self.files.get(place as usize) {
+            Some(file) => file.bytes.as_slice(),
+            None => &[],
+        }
+    }
+
+    fn pipe_bytes(&self, place: u32) -> &[u8]
+        ensures { result.now ≡ contents self.now (Target.PipeReader place) }
+    {
+        match self.pipes.get(place as usize) {
+            Some(Some(held)) => held.as_slice(),
+            _ => &[],
+        }
+    }
+
+    fn name(&self, target: Target) -> Option<Name>
+        ensures { result ≡ name_of self.now target }
+    {
+        match target {
+            Target::File(place) => self.files.get(place as usize).map(|file| file.name),
+            _ => None,
+        }
+    }
+
+    /// What an open file is.
+    pub(crate) fn stat(&self, file: OpenFile) -> Stat
+        ensures { result ≡ stat_of self.now file }
+    {
+        Stat {
+            kind: kind_of(file.target),
+            mode: mode_of(file.access),
+            size: self.contents(file.target).len() as u64,
+            offset: file.offset,
+            name: self.name(file.target),
+        }
+    }
+
+    /// Whether an open file is the read end of this pipe.
+    pub(crate) fn has_reader(&self, pipe: u32) -> bool
+        ensures { result ≡ has_reader self.now pipe }
+    {
+        self.opens.iter().any(|open| is_read_end(pipe, open))
+    }
+
+    /// Whether an open file is the write end of this pipe.
+    pub(crate) fn has_writer(&self, pipe: u32) -> bool
+        ensures { result ≡ has_writer self.now pipe }
+    {
+        self.opens.iter().any(|open| is_write_end(pipe, open))
+    }
+
+    /// Takes the first bytes out of a pipe. Takes no memory.
+    #[tactic(auto, unfolding(pr_parts::specs::FileTransfers::with_pipe_bytes))]
+    pub(crate) fn take_front(&mut self, pipe: u32, count: usize)
+        requires stands { is_some (at_place self.old.pipes pipe) ≡ true }
+        requires count { count ≤ length (pipe_bytes self.old pipe) }
+        ensures { self.new ≡ with_pipe_bytes self.old pipe (drop count (pipe_bytes self.old pipe)) }
+    {
+        let slot = &mut self.pipes[pipe as usize];
+        if let Some(held) = slot.take() {
+            *slot = Some(buffers::without_front(held, count));
+        }
+    }
+
+    /// Puts bytes behind those of a pipe.
+    #[tactic(auto, unfolding(pr_parts::specs::FileTransfers::with_pipe_bytes))]
+    pub(crate) fn extend_pipe(&mut self, pipe: u32, bytes: &[u8]) -> Result<(), NoMemory>
+        requires { is_some (at_place self.old.pipes pipe) ≡ true }
+        ensures ok { OnOk result (self.new ≡ with_pipe_bytes self.old pipe (pipe_bytes self.old pipe ++ bytes.now)) }
+        ensures err { OnErr result (self.new ≡ self.old) }
+    {
+        let slot = &mut self.pipes[pipe as usize];
+        let Some(held) = slot.take() else {
+            return Ok(());
+        };
+        let (held, done) = buffers::extended(held, bytes);
+        *slot = Some(held);
+        done
+    }
+
+    /// Writes bytes over those of a file from an offset on.
+    #[tactic(auto, unfolding(pr_parts::specs::FileTransfers::with_file_bytes))]
+    pub(crate) fn write_over(&mut self, alloc: Global, place: u32, offset: usize, bytes: &[u8]) -> Result<(), NoMemory>
+        requires stands { place < length self.old.files }
+        requires room { offset + length bytes.now ≤ 65536 }
+        ensures ok { OnOk result (self.new ≡ with_file_bytes self.old place (after_write (contents self.old (Target.File place)) offset bytes.now)) }
+        ensures err { OnErr result (self.new ≡ self.old) }
+    {
+        let file = &mut self.files[place as usize];
+        let old = mem::replace(&mut file.bytes, Bytes::from_vec(Vec::new(alloc)));
+        let (new, done) = buffers::written_over(old, offset, bytes);
+        file.bytes = new;
+        done
+    }
+}
+
+fn is_read_end(pipe: u32, open: &Option<OpenFile>) -> bool
+    ensures { result ≡ is_read_end pipe open.now }
+{
+    match open {
+        Some(open) => open.target == Target::PipeReader(pipe),
+        None => false,
+    }
+}
+
+fn is_write_end(pipe: u32, open: &Option<OpenFile>) -> bool
+    ensures { result ≡ is_write_end pipe open.now }
+{
+    match open {
+        Some(open) => open.target == Target::PipeWriter(pipe),
+        None => false,
+    }
+}
+
+fn kind_of(target: Target) -> u64
+    ensures { result ≡ kind_of target }
+{
+    match target {
+        Target::File(_) => 1,
+        Target::PipeReader(_) => 2,
+        Target::PipeWriter(_) => 3,
+    }
+}
+
+fn mode_of(access: Access) -> u64
+    ensures { result ≡ mode_of access }
+{
+    access as u64
 }
 
 /// An open file at its beginning, for which one descriptor stands.
@@ -220,7 +384,7 @@ fn first_open(target: Target, access: Access) -> OpenFile
 }
 
 /// The pipe that an open file is an end of.
-fn pipe_of(target: Target) -> Option<u32>
+pub(crate) fn pipe_of(target: Target) -> Option<u32>
     ensures { result ≡ pipe_of target }
 {
     match target {

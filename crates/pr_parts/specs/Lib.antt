@@ -1,3 +1,4 @@
 pub mod FileCalls
 pub mod FileTables
+pub mod FileTransfers
 pub mod SignalRules
