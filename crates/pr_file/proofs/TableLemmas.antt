@@ -1,8 +1,8 @@
-use Rattle.std.proofs.Common.{◌≡◌, ◌≢◌, ℕ, zero, suc, ◌+◌, ◌-◌, ◌<◌, ◌≤◌, Bool, true, false, not, ◌&&◌, ◌||◌, eqb, ltb, cond, Option, Some, None, is_some, List, [], ◌∷◌, ◌++◌, length, set, refl, sym, ◌∙◌, ap, arith, inl, inr}
+use Rattle.std.proofs.Common.{◌≡◌, ◌≢◌, ℕ, zero, suc, ◌+◌, ◌-◌, ◌<◌, ◌≤◌, Bool, true, false, not, ◌&&◌, ◌||◌, eqb, ltb, cond, Option, Some, None, is_some, List, [], ◌∷◌, ◌++◌, length, set, take, drop, min, refl, sym, ◌∙◌, ap, arith, inl, inr}
 use Rattle.std.specs.List.{All, count_by, list_any, slice_get}
 use Rattle.std.specs.Option.{option_flatten}
 use Rattle.std.proofs.lemmas.Bool.{and_parts, or_parts, not-true, ltb-true, lt-ltb, eqb-false, false≢true, cases_Bool}
-use Rattle.std.proofs.lemmas.List.{length-append, length-set}
+use Rattle.std.proofs.lemmas.List.{length-append, length-drop, length-replicate, length-set, length-take}
 use Rattle.std.proofs.lemmas.List.Elements.{All-nil, All-set, All-push, All-weaker}
 use Rattle.std.proofs.lemmas.Slice.Eq.{bytes_eq-Decides}
 use Rattle.pr_num.specs.declared.files.Access.{Access}
@@ -13,8 +13,9 @@ use Rattle.pr_num.specs.declared.files.Target.{Target}
 use Rattle.pr_num.specs.declared.files.Target.TheVariants.{File, PipeReader, PipeWriter}
 use Rattle.pr_num.specs.Files.{FileTable, with_user_gone, without_idle_pipe, pipe_of, is_end_of}
 use Rattle.pr_parts.specs.FileTables.{IsFileTable, IsOpenFile, IsOpenPlace, IsPipePlace, IsShortFile, at_place, free_place, with_placed, file_named, has_name, names_differ, stands, HasRoom, HasRoomAt}
-use Rattle.pr_parts.specs.FileCalls.{no_files, with_user_added, with_file, with_open, with_open_at, with_pipe, with_read_end, first_open}
-use Rattle.pr_file.proofs.PlaceLemmas.{at-All, All-untested, All-placed, at_place-placed, length-placed, slice_get-set_other, taken-placed, untested-position}
+use Rattle.pr_parts.specs.FileCalls.{no_files, with_user_added, with_file, with_open, with_open_at, with_pipe, with_read_end, first_open, contents}
+use Rattle.pr_parts.specs.FileTransfers.{after_write, written_over, pipe_bytes, with_pipe_bytes, with_file_bytes}
+use Rattle.pr_file.proofs.PlaceLemmas.{at-All, All-untested, All-placed, at_place-placed, length-placed, slice_get-set_other, taken-placed, taken-set, untested-position}
 
 -- A table of files stays one.
 
@@ -227,5 +228,134 @@ pub IsFileTable-moved : (t : FileTable) (place offset : ℕ) (o : OpenFile) → 
 unfolding with_open_at
 IsFileTable-moved t place offset o here within h =
     IsFileTable-open_set t place (Some (record o { offset = offset })) (record { used = here.used; within = within; target_stands = here.target_stands }) h
+
+-- ---- other bytes
+
+open_with_pipe_set : (files : List StoredFile) (pipes : List (Option (List ℕ))) (pipe : ℕ) (bytes : List ℕ) (o : Option OpenFile) → IsOpenPlace files pipes o → IsOpenPlace files (set pipes pipe (Some bytes)) o
+open_with_pipe_set files pipes pipe bytes None here = tt
+open_with_pipe_set files pipes pipe bytes (Some o) here = record {
+  used = here.used;
+  within = here.within;
+  target_stands = still o.target here.target_stands;
+}
+  where
+    still : (target : Target) → stands files pipes target ≡ true → stands files (set pipes pipe (Some bytes)) target ≡ true
+    still (File place) there = there
+    still (PipeReader place) there = taken-set pipes pipe place bytes there
+    still (PipeWriter place) there = taken-set pipes pipe place bytes there
+
+pub IsFileTable-pipe_bytes : (t : FileTable) (pipe : ℕ) (bytes : List ℕ) → length bytes ≤ 4096 → IsFileTable t → IsFileTable (with_pipe_bytes t pipe bytes)
+unfolding with_pipe_bytes
+IsFileTable-pipe_bytes t pipe bytes short h = record {
+  few_files = h.few_files;
+  few_pipes = omega (arith, length-set t.pipes pipe (Some bytes), h.few_pipes);
+  short_files = h.short_files;
+  short_pipes = All-set IsPipePlace t.pipes pipe (Some bytes) short h.short_pipes;
+  own_names = h.own_names;
+  open_files = All-weaker (IsOpenPlace t.files t.pipes) (IsOpenPlace t.files (set t.pipes pipe (Some bytes))) (open_with_pipe_set t.files t.pipes pipe bytes) t.opens h.open_files;
+}
+
+-- what is looked for among names is not changed by other bytes
+list_any-rewritten : (name : List ℕ) (fs : List StoredFile) (place : ℕ) (f : StoredFile) (bytes : List ℕ) → slice_get fs place ≡ Some f → list_any (has_name name) (set fs place (record f { bytes = bytes })) ≡ list_any (has_name name) fs
+list_any-rewritten name [] place f bytes e = cc
+list_any-rewritten name (g ∷ gs) zero f bytes e = let same : g ≡ f = cc in rw same refl
+list_any-rewritten name (g ∷ gs) (suc place) f bytes e = ap (λ b. has_name name g || b) (list_any-rewritten name gs place f bytes e)
+
+names_differ-rewritten : (fs : List StoredFile) (place : ℕ) (f : StoredFile) (bytes : List ℕ) → slice_get fs place ≡ Some f → names_differ (set fs place (record f { bytes = bytes })) ≡ names_differ fs
+names_differ-rewritten [] place f bytes e = cc
+names_differ-rewritten (g ∷ gs) zero f bytes e = let same : g ≡ f = cc in rw same refl
+names_differ-rewritten (g ∷ gs) (suc place) f bytes e =
+    rw (list_any-rewritten g.name gs place f bytes e, names_differ-rewritten gs place f bytes e) refl
+
+open_with_file_set : (files : List StoredFile) (pipes : List (Option (List ℕ))) (place : ℕ) (f : StoredFile) (o : Option OpenFile) → IsOpenPlace files pipes o → IsOpenPlace (set files place f) pipes o
+open_with_file_set files pipes place f None here = tt
+open_with_file_set files pipes place f (Some o) here = record {
+  used = here.used;
+  within = here.within;
+  target_stands = still o.target here.target_stands;
+}
+  where
+    still : (target : Target) → stands files pipes target ≡ true → stands (set files place f) pipes target ≡ true
+    still (File other) there = rw (length-set files place f) there
+    still (PipeReader pipe) there = there
+    still (PipeWriter pipe) there = there
+
+pub IsFileTable-file_bytes : (t : FileTable) (place : ℕ) (bytes : List ℕ) → length bytes ≤ 65536 → IsFileTable t → IsFileTable (with_file_bytes t place bytes)
+unfolding with_file_bytes
+IsFileTable-file_bytes t place bytes short h = go (slice_get t.files place) refl
+  where
+    rewritten : (f : StoredFile) → slice_get t.files place ≡ Some f → IsFileTable (record t { files = set t.files place (record f { bytes = bytes }) })
+    rewritten f e = record {
+      few_files = omega (arith, length-set t.files place (record f { bytes = bytes }), h.few_files);
+      few_pipes = h.few_pipes;
+      short_files = All-set IsShortFile t.files place (record f { bytes = bytes }) short h.short_files;
+      short_pipes = h.short_pipes;
+      own_names = names_differ-rewritten t.files place f bytes e ∙ h.own_names;
+      open_files = All-weaker (IsOpenPlace t.files t.pipes) (IsOpenPlace (set t.files place (record f { bytes = bytes })) t.pipes) (open_with_file_set t.files t.pipes place (record f { bytes = bytes })) t.opens h.open_files;
+    }
+
+    go : (found : Option StoredFile) → slice_get t.files place ≡ found → IsFileTable (with_file_bytes t place bytes)
+    go None e = rw e h
+    go (Some f) e = rw e (rewritten f e)
+
+-- ---- how much there is to read
+
+pub length-pipe_bytes : (t : FileTable) (pipe : ℕ) → IsFileTable t → length (pipe_bytes t pipe) ≤ 4096
+length-pipe_bytes t pipe h = go (slice_get t.pipes pipe) refl
+  where
+    go : (found : Option (Option (List ℕ))) → slice_get t.pipes pipe ≡ found → length (pipe_bytes t pipe) ≤ 4096
+    go None e = rw e (omega arith)
+    go (Some None) e = rw e (omega arith)
+    go (Some (Some bytes)) e = rw e (at-All IsPipePlace t.pipes pipe (Some bytes) e h.short_pipes)
+
+length-file_bytes : (t : FileTable) (place : ℕ) → IsFileTable t → length (contents t (File place)) ≤ 65536
+length-file_bytes t place h = go (slice_get t.files place) refl
+  where
+    go : (found : Option StoredFile) → slice_get t.files place ≡ found → length (contents t (File place)) ≤ 65536
+    go None e = rw e (omega arith)
+    go (Some f) e = rw e (at-All IsShortFile t.files place f e h.short_files)
+
+pub length-contents : (t : FileTable) (target : Target) → IsFileTable t → length (contents t target) ≤ 65536
+length-contents t (File place) h = length-file_bytes t place h
+length-contents t (PipeReader pipe) h = let short = length-pipe_bytes t pipe h in omega arith
+length-contents t (PipeWriter pipe) h = let short = length-pipe_bytes t pipe h in omega arith
+
+-- ---- what a read and a write leave
+
+-- a read does not move an offset beyond the longest file's end
+pub read_within : (bytes : List ℕ) (offset start most rest count : ℕ) → start ≡ min (length bytes) offset → count ≡ length (take most (take rest (drop start bytes))) → length bytes ≤ 65536 → offset ≤ 65536 → offset + count ≤ 65536
+read_within bytes offset start most rest count from given short within =
+    omega (arith, length-take most (take rest (drop start bytes)), length-take rest (drop start bytes), length-drop start bytes)
+
+pub IsFileTable-dropped : (t : FileTable) (pipe count : ℕ) → IsFileTable t → IsFileTable (with_pipe_bytes t pipe (drop count (pipe_bytes t pipe)))
+IsFileTable-dropped t pipe count h =
+    let short = length-pipe_bytes t pipe h in
+    IsFileTable-pipe_bytes t pipe (drop count (pipe_bytes t pipe)) (omega (arith, length-drop count (pipe_bytes t pipe))) h
+
+pub IsFileTable-extended : (t : FileTable) (pipe : ℕ) (bytes : List ℕ) → length (pipe_bytes t pipe) + length bytes ≤ 4096 → IsFileTable t → IsFileTable (with_pipe_bytes t pipe (pipe_bytes t pipe ++ bytes))
+IsFileTable-extended t pipe bytes room h =
+    IsFileTable-pipe_bytes t pipe (pipe_bytes t pipe ++ bytes) (omega (arith, length-append (pipe_bytes t pipe) bytes)) h
+
+length-written_over : (bytes others : List ℕ) (offset : ℕ) → offset + length others ≤ 65536 → length bytes ≤ 65536 → length (written_over bytes offset others) ≤ 65536
+length-written_over bytes others offset room short =
+    simp (length-append, length-take, length-replicate, length-drop) (omega arith)
+
+length-after_write : (bytes others : List ℕ) (offset : ℕ) → offset + length others ≤ 65536 → length bytes ≤ 65536 → length (after_write bytes offset others) ≤ 65536
+length-after_write bytes others offset room short =
+    elim (eqb (length others) 0) as (λ b. length (cond b bytes (written_over bytes offset others)) ≤ 65536) [ true ↦ short | false ↦ length-written_over bytes others offset room short ]
+
+-- an open file stays in order where a file gets other bytes
+IsOpenFile-rewritten : (t : FileTable) (place : ℕ) (bytes : List ℕ) (o : OpenFile) → IsOpenFile t.files t.pipes o → IsOpenFile (with_file_bytes t place bytes).files (with_file_bytes t place bytes).pipes o
+unfolding with_file_bytes
+IsOpenFile-rewritten t place bytes o here = go (slice_get t.files place) refl
+  where
+    go : (found : Option StoredFile) → slice_get t.files place ≡ found → IsOpenFile (with_file_bytes t place bytes).files (with_file_bytes t place bytes).pipes o
+    go None e = rw e here
+    go (Some f) e = rw e (open_with_file_set t.files t.pipes place (record f { bytes = bytes }) (Some o) here)
+
+pub IsFileTable-written : (t : FileTable) (place file : ℕ) (o : OpenFile) (bytes : List ℕ) → IsOpenFile t.files t.pipes o → o.offset + length bytes ≤ 65536 → IsFileTable t → IsFileTable (with_open_at (with_file_bytes t file (after_write (contents t (File file)) o.offset bytes)) place (record o { offset = o.offset + length bytes }))
+IsFileTable-written t place file o bytes here room h =
+    let after : List ℕ = after_write (contents t (File file)) o.offset bytes in
+    IsFileTable-moved (with_file_bytes t file after) place (o.offset + length bytes) o (IsOpenFile-rewritten t file after o here) room (IsFileTable-file_bytes t file after (length-after_write (contents t (File file)) bytes o.offset room (length-contents t (File file) h)) h)
 
 pub ruleset opens_in_order = (IsOpenFile-at)

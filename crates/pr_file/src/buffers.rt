@@ -1,4 +1,4 @@
-ghost use Rattle.std.specs.Prelude.{◌≡◌, ◌≤◌, ◌+◌, ◌++◌, length, take, drop, is_ok, OnOk, OnErr, if◌then◌else◌};
+ghost use Rattle.std.specs.Prelude.{◌≡◌, ◌≤◌, ◌+◌, ◌-◌, ◌++◌, length, replicate, take, drop, is_ok, OnOk, OnErr, if◌then◌else◌};
 ghost use Rattle.pr_parts.specs.FileTransfers.{after_write};
 
 use pr_num::{Bytes, NoMemory};
@@ -49,7 +49,27 @@ pub(crate) fn written_over(bytes: Bytes, offset: usize, others: &[u8]) -> (Bytes
     }
 }
 
-#[tactic(auto, using(crate::proofs::ByteLemmas::writings))]
+/// Puts zeros behind bytes, so that there are so many of them or more.
+fn grow(items: &mut Vec<u8>, len: usize) -> Result<(), NoMemory>
+    ensures ok { OnOk result (items.new.items ≡ items.old.items ++ replicate (len - length items.old.items) 0) }
+    ensures err { OnErr result (items.new.items ≡ items.old.items) }
+{
+    if items.len() < len {
+        items.resize(len, 0)?;
+    }
+    Ok(())
+}
+
+/// Writes bytes over those from an offset on.
+fn paste(items: &mut [u8], offset: usize, others: &[u8])
+    requires { offset + length others.now ≤ length items.old }
+    ensures { items.new ≡ take offset items.old ++ others.now ++ drop (offset + length others.now) items.old }
+{
+    let end = offset + others.len();
+    items[offset..end].copy_from_slice(others);
+}
+
+/// Writes bytes over others, and grows them where they end before.
 fn write_over(items: &mut Vec<u8>, offset: usize, others: &[u8]) -> Result<(), NoMemory>
     requires { offset + length others.now ≤ 65536 }
     ensures ok { OnOk result (items.new.items ≡ after_write items.old.items offset others.now) }
@@ -58,10 +78,7 @@ fn write_over(items: &mut Vec<u8>, offset: usize, others: &[u8]) -> Result<(), N
     if others.is_empty() {
         return Ok(());
     }
-    let end = offset + others.len();
-    if items.len() < end {
-        items.resize(end, 0)?;
-    }
-    items[offset..end].copy_from_slice(others);
+    grow(items, offset + others.len())?;
+    paste(items, offset, others);
     Ok(())
 }

@@ -3,6 +3,8 @@ ghost use Rattle.pr_num.specs.Files.{with_all_closed, no_descriptors};
 ghost use Rattle.pr_parts.specs.FileTables.{open_of, at_place, file_named, HasRoom, IsOpenFile};
 ghost use Rattle.pr_parts.specs.FileCalls.{unless_no_memory, no_files, with_file, closed, duplicated, with_all_shared, are_open_flags, access_of, opened_file, created_file, opened, piped, sought, described, reads, writes, open_for_reading, open_for_writing};
 
+mod transfers;
+
 use crate::fds::Fds;
 use crate::tables::{Tables, pipe_of};
 use pr_num::{Access, Bytes, Name, NoMemory, OpenFile};

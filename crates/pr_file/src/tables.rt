@@ -247,7 +247,8 @@ impl Tables {
         }
     }
 
-    fn pipe_bytes(&self, place: u32) -> &[u8]
+    /// The bytes that stand in a pipe.
+    pub(crate) fn pipe_bytes(&self, place: u32) -> &[u8]
         ensures { result.now ≡ contents self.now (Target.PipeReader place) }
     {
         match self.pipes.get(place as usize) {
@@ -327,6 +328,7 @@ impl Tables {
         requires stands { place < length self.old.files }
         requires room { offset + length bytes.now ≤ 65536 }
         ensures ok { OnOk result (self.new ≡ with_file_bytes self.old place (after_write (contents self.old (Target.File place)) offset bytes.now)) }
+        ensures opens { self.new.opens ≡ self.old.opens }
         ensures err { OnErr result (self.new ≡ self.old) }
     {
         let file = &mut self.files[place as usize];

@@ -1,6 +1,6 @@
 use Rattle.std.specs.Prelude.{◌+◌, ◌-◌, ◌==◌, ℕ, Bool, true, false, List, [], ◌++◌, length, take, drop, replicate, Option, Some, None, Result, Ok, Err, nat_lt, if◌then◌else◌, slice_get, slice_set}
 use Rattle.std.specs.List.{list_any}
-use Rattle.pr_num.specs.Files.{FileTable, Descriptors, pipe_of}
+use Rattle.pr_num.specs.Files.{FileTable, Descriptors}
 use Rattle.pr_num.specs.declared.files.OpenFile.{OpenFile}
 use Rattle.pr_num.specs.declared.files.StoredFile.{StoredFile}
 use Rattle.pr_num.specs.declared.files.Target.{Target}
@@ -54,6 +54,16 @@ pub record ReadEffect : Type 0 where
   pub files : FileTable
   pub bytes : Result (List ℕ) FileNo
 
+-- how many bytes a read gave, or why it gave none
+abbrev pub count_of : Result (List ℕ) FileNo → Result ℕ FileNo
+count_of (Ok bytes) = Ok (length bytes)
+count_of (Err why) = Err why
+
+-- a buffer after a read: the bytes that it gave, and behind them what stood there
+abbrev pub filled : List ℕ → Result (List ℕ) FileNo → List ℕ
+filled buffer (Ok bytes) = bytes ++ drop (length bytes) buffer
+filled buffer (Err why) = buffer
+
 -- the bytes of a file from an offset on, at most so many
 abbrev pub bytes_from : List ℕ → ℕ → ℕ → List ℕ
 bytes_from bytes offset most = take most (drop offset bytes)
@@ -75,11 +85,12 @@ read_pipe t pipe most =
 
 -- what an open file gives
 abbrev pub read_open : FileTable → ℕ → OpenFile → ℕ → ReadEffect
-read_open t place o most = from (pipe_of o.target)
+read_open t place o most = from o.target
   where
-    from : Option ℕ → ReadEffect
-    from None = read_file t place o most
-    from (Some pipe) = read_pipe t pipe most
+    from : Target → ReadEffect
+    from (File file) = read_file t place o most
+    from (PipeReader pipe) = read_pipe t pipe most
+    from (PipeWriter pipe) = read_pipe t pipe most
 
 -- a read of at most so many bytes through a descriptor
 unfoldable pub read_fd : FileTable → Descriptors → ℕ → ℕ → ReadEffect
