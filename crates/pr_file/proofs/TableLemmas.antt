@@ -51,14 +51,17 @@ IsFileTable-without_idle_pipe : (pipe : Option ℕ) (t : FileTable) → IsFileTa
 unfolding without_idle_pipe
 IsFileTable-without_idle_pipe None t h = h
 IsFileTable-without_idle_pipe (Some pipe) t h =
-    elim (list_any (is_end_of pipe) t.opens) as (λ b. list_any (is_end_of pipe) t.opens ≡ b → IsFileTable (cond b t (record t { pipes = set t.pipes pipe None }))) [ true ↦ λ _. h | false ↦ λ idle. record {
-      few_files = h.few_files;
-      few_pipes = omega (arith, length-set t.pipes pipe None, h.few_pipes);
-      short_files = h.short_files;
-      short_pipes = All-set IsPipePlace t.pipes pipe None tt h.short_pipes;
-      own_names = h.own_names;
-      open_files = All-untested (is_end_of pipe) (IsOpenPlace t.files t.pipes) (IsOpenPlace t.files (set t.pipes pipe None)) (open_without_pipe t.files t.pipes pipe) t.opens idle h.open_files;
-    } ] refl
+    elim (list_any (is_end_of pipe) t.opens) as (λ b. list_any (is_end_of pipe) t.opens ≡ b → IsFileTable (cond b t (record t { pipes = set t.pipes pipe None }))) [
+      | true ↦ λ _. h
+      | false ↦ λ idle. record {
+        few_files = h.few_files;
+        few_pipes = omega (arith, length-set t.pipes pipe None, h.few_pipes);
+        short_files = h.short_files;
+        short_pipes = All-set IsPipePlace t.pipes pipe None tt h.short_pipes;
+        own_names = h.own_names;
+        open_files = All-untested (is_end_of pipe) (IsOpenPlace t.files t.pipes) (IsOpenPlace t.files (set t.pipes pipe None)) (open_without_pipe t.files t.pipes pipe) t.opens idle h.open_files;
+      }
+    ] refl
 
 -- another open file at a place, or none
 IsFileTable-open_set : (t : FileTable) (place : ℕ) (o : Option OpenFile) → IsOpenPlace t.files t.pipes o → IsFileTable t → IsFileTable (record t { opens = set t.opens place o })
@@ -74,11 +77,14 @@ IsFileTable-open_set t place o here h = record {
 -- the open file at a place, with a descriptor fewer
 one_fewer : (t : FileTable) (place : ℕ) (o : OpenFile) → IsOpenFile t.files t.pipes o → IsFileTable t → IsFileTable (cond (ltb 1 o.users) (record t { opens = set t.opens place (Some (record o { users = o.users - 1 })) }) (without_idle_pipe (pipe_of o.target) (record t { opens = set t.opens place None })))
 one_fewer t place o here h =
-    elim (ltb 1 o.users) as (λ b. ltb 1 o.users ≡ b → IsFileTable (cond b (record t { opens = set t.opens place (Some (record o { users = o.users - 1 })) }) (without_idle_pipe (pipe_of o.target) (record t { opens = set t.opens place None })))) [ true ↦ λ more. IsFileTable-open_set t place (Some (record o { users = o.users - 1 })) (record {
-      used = omega (arith, ltb-true 1 o.users more);
-      within = here.within;
-      target_stands = here.target_stands;
-    }) h | false ↦ λ _. IsFileTable-without_idle_pipe (pipe_of o.target) _ (IsFileTable-open_set t place None tt h) ] refl
+    elim (ltb 1 o.users) as (λ b. ltb 1 o.users ≡ b → IsFileTable (cond b (record t { opens = set t.opens place (Some (record o { users = o.users - 1 })) }) (without_idle_pipe (pipe_of o.target) (record t { opens = set t.opens place None })))) [
+      | true ↦ λ more. IsFileTable-open_set t place (Some (record o { users = o.users - 1 })) (record {
+        used = omega (arith, ltb-true 1 o.users more);
+        within = here.within;
+        target_stands = here.target_stands;
+      }) h
+      | false ↦ λ _. IsFileTable-without_idle_pipe (pipe_of o.target) _ (IsFileTable-open_set t place None tt h)
+    ] refl
 
 pub IsFileTable-user_gone : (t : FileTable) (place : ℕ) → IsFileTable t → IsFileTable (with_user_gone t place)
 unfolding with_user_gone

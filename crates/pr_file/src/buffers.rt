@@ -38,7 +38,11 @@ pub(crate) fn extended(bytes: Bytes, more: &[u8]) -> (Bytes, Result<(), NoMemory
 
 /// The bytes with others written over them from an offset on, or as they were where memory runs out. What lies between
 /// their end and the offset becomes zeros, unless nothing is written.
-pub(crate) fn written_over(bytes: Bytes, offset: usize, others: &[u8]) -> (Bytes, Result<(), NoMemory>)
+pub(crate) fn written_over(
+    bytes: Bytes,
+    offset: usize,
+    others: &[u8],
+) -> (Bytes, Result<(), NoMemory>)
     requires { offset + length others.now ≤ 65536 }
     ensures { result.0 ≡ (if is_ok result.1 then after_write bytes offset others.now else bytes) }
 {

@@ -1,4 +1,4 @@
-ghost use Rattle.std.specs.Prelude.{◌≡◌, ◌<◌, ◌≤◌, ◌+◌, ◌^◌, true, None, Some, is_some, IfSome, OnOk, OnErr, length};
+ghost use Rattle.std.specs.Prelude.{◌≡◌, ◌<◌, ◌≤◌, ◌+◌, ◌^◌, ◌≢◌, ◌↔◌, IsTrue, true, None, Some, is_some, IfSome, OnOk, OnErr, length};
 ghost use Rattle.pr_num.specs.Files.{with_all_closed, no_descriptors};
 ghost use Rattle.pr_parts.specs.FileTables.{open_of, at_place, file_named, HasRoom, IsOpenFile};
 ghost use Rattle.pr_parts.specs.FileCalls.{unless_no_memory, no_files, with_file, closed, duplicated, with_all_shared, are_open_flags, access_of, opened_file, created_file, opened, piped, sought, described, reads, writes, open_for_reading, open_for_writing};
@@ -67,6 +67,28 @@ impl Files {
         Some((place, open))
     }
 
+    /// How many files there are, at most 256.
+    pub fn files(&self) -> usize
+        ensures count { result ≡ length self.now.files }
+        ensures limit { result ≤ 256 }
+    {
+        self.tables.files()
+    }
+
+    /// Whether a file has this name.
+    pub fn has_file(&self, name: &Name) -> bool
+        ensures { IsTrue result ↔ (file_named self.now name.now ≢ None) }
+    {
+        self.tables.file_named(name).is_some()
+    }
+
+    /// Whether each open file's count of descriptors has room for so many more.
+    pub fn has_room(&self, more: u32) -> bool
+        ensures { IsTrue result ↔ HasRoom self.now more }
+    {
+        self.tables.has_room(more)
+    }
+
     /// Adds a file, whose name no file has yet.
     pub fn add(&mut self, _alloc: Global, name: Name, bytes: Bytes) -> Result<(), NoMemory>
         requires few { length self.old.files < 256 }
@@ -131,7 +153,13 @@ impl Files {
 
     /// Opens the file at a place for a free descriptor.
     #[tactic(auto, unfolding(pr_parts::specs::FileCalls::opened_file))]
-    fn open_file(&mut self, fds: &mut Fds, fd: usize, file: usize, flags: u64) -> Result<u64, FileNo>
+    fn open_file(
+        &mut self,
+        fds: &mut Fds,
+        fd: usize,
+        file: usize,
+        flags: u64,
+    ) -> Result<u64, FileNo>
         requires flags { are_open_flags flags ≡ true }
         requires fd { fd < 64 }
         requires file { file < length self.old.files }
@@ -144,7 +172,14 @@ impl Files {
 
     /// Makes a file and opens it for a free descriptor.
     #[tactic(auto, unfolding(pr_parts::specs::FileCalls::created_file, pr_parts::specs::FileCalls::opened_file, pr_parts::specs::FileCalls::with_file))]
-    fn create_file(&mut self, alloc: Global, fds: &mut Fds, fd: usize, name: Name, flags: u64) -> Result<u64, FileNo>
+    fn create_file(
+        &mut self,
+        alloc: Global,
+        fds: &mut Fds,
+        fd: usize,
+        name: Name,
+        flags: u64,
+    ) -> Result<u64, FileNo>
         requires flags { are_open_flags flags ≡ true }
         requires fd { fd < 64 }
         requires new_name { file_named self.old name ≡ None }
@@ -163,7 +198,13 @@ impl Files {
     /// is to be made, then `NoPlace` exactly where no descriptor is free, then `TableFull` exactly where the file is to be
     /// made and 256 stand. Nothing is changed by a refusal.
     #[tactic(auto, unfolding(pr_parts::specs::FileCalls::opened))]
-    pub fn open(&mut self, alloc: Global, fds: &mut Fds, name: Name, flags: u64) -> Result<u64, FileNo>
+    pub fn open(
+        &mut self,
+        alloc: Global,
+        fds: &mut Fds,
+        name: Name,
+        flags: u64,
+    ) -> Result<u64, FileNo>
         requires { are_open_flags flags ≡ true }
         ensures { (record { files = self.new; fds = fds.new; answer = result }) ≡ unless_no_memory self.old fds.old result (opened self.old fds.old name flags) }
     {
@@ -241,7 +282,11 @@ impl Files {
         ensures in_order { IfSome result (λ found. IsOpenFile self.now.files self.now.pipes found.1) }
     {
         let (place, file) = self.open_of(fds, fd)?;
-        if reads(file.access) { Some((place, file)) } else { None }
+        if reads(file.access) {
+            Some((place, file))
+        } else {
+            None
+        }
     }
 
     /// The same where it is open for writing.
@@ -253,7 +298,11 @@ impl Files {
         ensures in_order { IfSome result (λ found. IsOpenFile self.now.files self.now.pipes found.1) }
     {
         let (place, file) = self.open_of(fds, fd)?;
-        if writes(file.access) { Some((place, file)) } else { None }
+        if writes(file.access) {
+            Some((place, file))
+        } else {
+            None
+        }
     }
 
     /// Whether a descriptor is open for reading.

@@ -6,6 +6,8 @@ mod fds;
 mod files;
 mod places;
 mod tables;
+#[cfg(test)]
+mod tests;
 
 pub use fds::Fds;
 pub use files::Files;

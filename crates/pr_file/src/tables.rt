@@ -1,7 +1,7 @@
-ghost use Rattle.std.specs.Prelude.{◌≡◌, ◌<◌, ◌≤◌, ◌+◌, ◌^◌, [], None, IfSome, IfOk, OnOk, OnErr, count_by, is_some, length, slice_set, true, drop, ◌++◌};
+ghost use Rattle.std.specs.Prelude.{◌≡◌, ◌<◌, ◌≤◌, ◌+◌, ◌^◌, [], None, IfSome, IfOk, OnOk, OnErr, count_by, is_some, length, slice_set, IsTrue, ◌↔◌, true, drop, ◌++◌};
 ghost use Rattle.std.specs.List.{list_any};
 ghost use Rattle.pr_num.specs.Files.{FileTable, with_all_closed, with_user_gone, without_idle_pipe, pipe_of, is_end_of};
-ghost use Rattle.pr_parts.specs.FileTables.{IsFileTable, HasRoom, at_place, file_named, free_place};
+ghost use Rattle.pr_parts.specs.FileTables.{IsFileTable, HasRoom, HasRoomAt, at_place, file_named, free_place};
 ghost use Rattle.pr_parts.specs.FileTransfers.{has_reader, has_writer, is_read_end, is_write_end, pipe_bytes, with_pipe_bytes, with_file_bytes, after_write};
 ghost use Rattle.pr_parts.specs.FileCalls.{no_files, with_file, with_open, with_open_at, with_pipe, with_read_end, with_all_shared, with_user_added, first_open, contents, kind_of, mode_of, name_of, stat_of};
 
@@ -94,6 +94,13 @@ impl Tables {
             self.opens[place] = None;
             self.remove_idle_pipe(pipe_of(open.target));
         }
+    }
+
+    /// Whether each open file's count of descriptors has room for so many more.
+    pub(crate) fn has_room(&self, more: u32) -> bool
+        ensures { IsTrue result ↔ HasRoom self.now more }
+    {
+        self.opens.iter().all(|open| has_room_at(more, open))
     }
 
     /// One descriptor more stands for the open file at a place.
@@ -193,7 +200,12 @@ impl Tables {
 
     /// Makes a file without bytes behind the others and opens it, and answers the place of the open file.
     #[tactic(auto, unfolding(pr_parts::specs::FileCalls::with_open, pr_parts::specs::FileCalls::with_file))]
-    pub(crate) fn create_file(&mut self, alloc: Global, name: Name, access: Access) -> Result<usize, NoMemory>
+    pub(crate) fn create_file(
+        &mut self,
+        alloc: Global,
+        name: Name,
+        access: Access,
+    ) -> Result<usize, NoMemory>
         requires { length self.old.files < 256 }
         ensures ok { OnOk result (self.new ≡ with_open (with_file self.old name []) (first_open (Target.File (length self.old.files)) access)) }
         ensures place { IfOk result (λ place. place ≡ free_place self.old.opens) }
@@ -324,7 +336,13 @@ impl Tables {
 
     /// Writes bytes over those of a file from an offset on.
     #[tactic(auto, unfolding(pr_parts::specs::FileTransfers::with_file_bytes))]
-    pub(crate) fn write_over(&mut self, alloc: Global, place: u32, offset: usize, bytes: &[u8]) -> Result<(), NoMemory>
+    pub(crate) fn write_over(
+        &mut self,
+        alloc: Global,
+        place: u32,
+        offset: usize,
+        bytes: &[u8],
+    ) -> Result<(), NoMemory>
         requires stands { place < length self.old.files }
         requires room { offset + length bytes.now ≤ 65536 }
         ensures ok { OnOk result (self.new ≡ with_file_bytes self.old place (after_write (contents self.old (Target.File place)) offset bytes.now)) }
@@ -336,6 +354,15 @@ impl Tables {
         let (new, done) = buffers::written_over(old, offset, bytes);
         file.bytes = new;
         done
+    }
+}
+
+fn has_room_at(more: u32, open: &Option<OpenFile>) -> bool
+    ensures { IsTrue result ↔ HasRoomAt more open.now }
+{
+    match open {
+        Some(open) => open.users.checked_add(more).is_some(),
+        None => true,
     }
 }
 

@@ -3,8 +3,7 @@ ghost use Rattle.pr_parts.specs.FileTables.{IsOpenFile, at_place};
 ghost use Rattle.pr_parts.specs.FileCalls.{unless_no_memory};
 ghost use Rattle.pr_parts.specs.FileTransfers.{read_file, read_pipe, read_fd, count_of, filled, write_file, write_pipe, write_fd};
 
-use super::Files;
-use super::MOST_BYTES;
+use super::{Files, MOST_BYTES};
 use crate::buffers::copy_front;
 use crate::fds::Fds;
 use pr_num::{OpenFile, Target};
@@ -78,7 +77,13 @@ impl Files {
     /// bytes. A pipe gives `NoReader` exactly where nothing can read it any more, and then `Sleep` exactly where it has no
     /// room for all bytes, of 4,096. Nothing is changed by a refusal.
     #[tactic(auto, unfolding(pr_parts::specs::FileTransfers::write_fd))]
-    pub fn write(&mut self, alloc: Global, fds: &Fds, fd: u64, bytes: &[u8]) -> Result<usize, FileNo>
+    pub fn write(
+        &mut self,
+        alloc: Global,
+        fds: &Fds,
+        fd: u64,
+        bytes: &[u8],
+    ) -> Result<usize, FileNo>
         requires { length bytes.now ≤ 4096 }
         ensures { (record { files = self.new; fds = fds.now; answer = result }) ≡ unless_no_memory self.old fds.now result (write_fd self.old fds.now fd bytes.now) }
     {
@@ -87,13 +92,23 @@ impl Files {
         };
         match file.target {
             Target::File(target) => self.write_file(alloc, fds, place, file, target, bytes),
-            Target::PipeReader(pipe) | Target::PipeWriter(pipe) => self.write_pipe(fds, pipe, bytes),
+            Target::PipeReader(pipe) | Target::PipeWriter(pipe) => self.write_pipe(
+                fds, pipe, bytes,
+            ),
         }
     }
 
     /// Writes a file from its offset on, which moves behind what was written.
     #[tactic(auto, unfolding(pr_parts::specs::FileTransfers::write_file))]
-    fn write_file(&mut self, alloc: Global, fds: &Fds, place: usize, file: OpenFile, target: u32, bytes: &[u8]) -> Result<usize, FileNo>
+    fn write_file(
+        &mut self,
+        alloc: Global,
+        fds: &Fds,
+        place: usize,
+        file: OpenFile,
+        target: u32,
+        bytes: &[u8],
+    ) -> Result<usize, FileNo>
         requires short { length bytes.now ≤ 4096 }
         requires place { place < length self.old.opens }
         requires target { file.target ≡ Target.File target }
