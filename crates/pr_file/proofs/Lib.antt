@@ -2,3 +2,4 @@ pub mod ByteLemmas
 pub mod PlaceLemmas
 pub mod TableLemmas
 pub mod UserLemmas
+pub mod CountLemmas

@@ -1,5 +1,5 @@
-use Rattle.std.proofs.Common.{◌≡◌, ◌≢◌, ℕ, zero, suc, ◌+◌, ◌-◌, ◌<◌, ◌≤◌, Bool, true, false, not, ◌&&◌, ◌||◌, eqb, ltb, cond, Option, Some, None, is_some, List, [], ◌∷◌, ◌++◌, length, set, take, drop, min, refl, sym, ◌∙◌, ap, arith, inl, inr}
-use Rattle.std.specs.List.{All, count_by, list_any, slice_get}
+use Rattle.std.proofs.Common.{◌≡◌, ℕ, zero, suc, ◌+◌, ◌-◌, ◌<◌, ◌≤◌, Bool, true, false, not, ◌||◌, eqb, ltb, cond, Option, Some, None, is_some, List, [], ◌∷◌, ◌++◌, length, set, take, drop, min, refl, sym, ◌∙◌, ap, arith, inl, inr}
+use Rattle.std.specs.List.{count_by, list_any, slice_get}
 use Rattle.std.specs.Option.{option_flatten}
 use Rattle.std.proofs.lemmas.Bool.{and_parts, or_parts, not-true, ltb-true, lt-ltb, eqb-false, false≢true, cases_Bool}
 use Rattle.std.proofs.lemmas.List.{length-append, length-drop, length-replicate, length-set, length-take}
@@ -12,7 +12,7 @@ use Rattle.pr_num.specs.declared.files.StoredFile.{StoredFile}
 use Rattle.pr_num.specs.declared.files.Target.{Target}
 use Rattle.pr_num.specs.declared.files.Target.TheVariants.{File, PipeReader, PipeWriter}
 use Rattle.pr_num.specs.Files.{FileTable, with_user_gone, without_idle_pipe, pipe_of, is_end_of}
-use Rattle.pr_parts.specs.FileTables.{IsFileTable, IsOpenFile, IsOpenPlace, IsPipePlace, IsShortFile, at_place, free_place, with_placed, file_named, has_name, names_differ, stands, HasRoom, HasRoomAt}
+use Rattle.pr_parts.specs.FileTables.{IsFileTable, IsOpenFile, IsOpenPlace, IsPipePlace, IsShortFile, at_place, free_place, with_placed, file_named, has_name, names_differ, stands}
 use Rattle.pr_parts.specs.FileCalls.{no_files, with_user_added, with_file, with_open, with_open_at, with_pipe, with_read_end, first_open, contents}
 use Rattle.pr_parts.specs.FileTransfers.{after_write, written_over, pipe_bytes, with_pipe_bytes, with_file_bytes}
 use Rattle.pr_file.proofs.PlaceLemmas.{at-All, All-untested, All-placed, at_place-placed, length-placed, slice_get-set_other, taken-placed, taken-set, untested-position}

@@ -4,6 +4,7 @@
 mod buffers;
 mod fds;
 mod files;
+mod laws;
 mod places;
 mod tables;
 #[cfg(test)]
@@ -11,4 +12,5 @@ mod tests;
 
 pub use fds::Fds;
 pub use files::Files;
+pub use laws::users_are_counted;
 pub use pr_parts::{FileNo, Stat};

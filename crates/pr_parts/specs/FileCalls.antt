@@ -4,13 +4,12 @@ use Rattle.pr_num.specs.Files.{FileTable, Descriptors, with_user_gone, pipe_of}
 use Rattle.pr_num.specs.declared.files.Access.{Access}
 use Rattle.pr_num.specs.declared.files.Access.TheVariants.{Read, Write, Both}
 use Rattle.pr_num.specs.declared.files.OpenFile.{OpenFile}
-use Rattle.pr_num.specs.declared.files.StoredFile.{StoredFile}
 use Rattle.pr_num.specs.declared.files.Target.{Target}
 use Rattle.pr_num.specs.declared.files.Target.TheVariants.{File, PipeReader, PipeWriter}
 use Rattle.pr_parts.specs.FileTables.{free_place, with_placed, at_place, free_fd, free_fd_behind, open_of, file_named}
 use Rattle.pr_parts.specs.declared.files.FileNo.{FileNo}
 use Rattle.pr_parts.specs.declared.files.Stat.{Stat}
-use Rattle.pr_parts.specs.declared.files.FileNo.TheVariants.{BadFd, NoFile, NoPlace, TableFull, NoSpace, NotSeekable, BadOffset, NoReader, Sleep, NoMemory}
+use Rattle.pr_parts.specs.declared.files.FileNo.TheVariants.{BadFd, NoFile, NoPlace, TableFull, NotSeekable, BadOffset, NoMemory}
 
 -- The calls on files and descriptors. Each definition tries its refusals in their order.
 

@@ -1,4 +1,4 @@
-use Rattle.std.specs.Prelude.{◌≡◌, ◌≤◌, ◌+◌, ◌<◌, ◌^◌, ◌&&◌, ℕ, Bool, true, not, List, [], ◌∷◌, length, Option, Some, None, is_some, is_none, nat_lt, drop, position, slice_get, bytes_eq}
+use Rattle.std.specs.Prelude.{◌≡◌, ◌==◌, ◌≤◌, ◌+◌, ◌<◌, ◌^◌, ◌&&◌, ℕ, Bool, true, false, count_by, not, List, [], ◌∷◌, length, Option, Some, None, is_some, is_none, nat_lt, drop, position, slice_get, bytes_eq}
 use Rattle.std.specs.List.{All, list_any, position_or_len}
 use Rattle.std.specs.Option.{option_map, option_flatten}
 use Rattle.pr_num.specs.Files.{FileTable, Descriptors}
@@ -104,3 +104,31 @@ HasRoomAt more (Some o) = o.users + more < 2 ^ 32
 
 pub record HasRoom (t : FileTable) (more : ℕ) : Type 0 where
   pub each : All (HasRoomAt more) t.opens
+
+-- ---- which descriptors are open
+
+abbrev pub users_of : Option OpenFile → ℕ
+users_of None = 0
+users_of (Some o) = o.users
+
+-- how many descriptors the open file at a place counts, 0 where no file is open there
+abbrev pub users_at : FileTable → ℕ → ℕ
+users_at t place = users_of (at_place t.opens place)
+
+-- whether a descriptor stands for the open file at a place
+abbrev pub stands_for : ℕ → Option ℕ → Bool
+stands_for place None = false
+stands_for place (Some other) = other == place
+
+-- how many descriptors of a process do
+abbrev pub count_at : Descriptors → ℕ → ℕ
+count_at fds place = count_by (stands_for place) fds
+
+-- A process's descriptors are open in a table of files: each open file counts at least those that stand for it.
+pub record AreOpenIn (fds : Descriptors) (t : FileTable) : Type 0 where
+  pub each : (place : ℕ) → count_at fds place ≤ users_at t place
+
+-- What a call of a process makes of the files and of its descriptors: each open file counts as many descriptors more, or
+-- fewer, as now stand for it. So where the open files count all descriptors of all processes, they do so afterwards.
+pub record CountsUsers (t : FileTable) (fds : Descriptors) (files : FileTable) (after : Descriptors) : Type 0 where
+  pub each : (place : ℕ) → users_at files place + count_at fds place ≡ users_at t place + count_at after place

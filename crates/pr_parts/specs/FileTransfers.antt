@@ -1,4 +1,4 @@
-use Rattle.std.specs.Prelude.{◌+◌, ◌-◌, ◌==◌, ℕ, Bool, true, false, List, [], ◌++◌, length, take, drop, replicate, Option, Some, None, Result, Ok, Err, nat_lt, if◌then◌else◌, slice_get, slice_set}
+use Rattle.std.specs.Prelude.{◌+◌, ◌-◌, ◌==◌, ℕ, Bool, false, List, [], ◌++◌, length, take, drop, replicate, Option, Some, None, Result, Ok, Err, nat_lt, if◌then◌else◌, slice_get, slice_set}
 use Rattle.std.specs.List.{list_any}
 use Rattle.pr_num.specs.Files.{FileTable, Descriptors}
 use Rattle.pr_num.specs.declared.files.OpenFile.{OpenFile}

@@ -1,4 +1,4 @@
-use Rattle.std.proofs.Common.{◌≡◌, length, sym, ◌∙◌, arith}
+use Rattle.std.proofs.Common.{◌≡◌, length, sym, ◌∙◌}
 use Rattle.pr_file.proofs.ByteLemmas.{after_write-grown}
 use Rattle.pr_file.proofs.buffers.write_over.Goals as goal
 
