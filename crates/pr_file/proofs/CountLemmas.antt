@@ -1,18 +1,21 @@
-use Rattle.std.proofs.Common.{◌≡◌, ◌≢◌, ℕ, zero, suc, ◌+◌, ◌-◌, ◌^◌, ◌<◌, ◌≤◌, Bool, true, false, eqb, ltb, cond, ◌⊎◌, Option, Some, None, is_some, is_none, List, [], ◌∷◌, length, get_or, set, drop, refl, sym, ◌∙◌, ap, arith, inl, inr}
+use Rattle.std.proofs.Common.{◌≡◌, ◌≢◌, ℕ, zero, suc, ◌+◌, ◌-◌, ◌^◌, ◌<◌, ◌≤◌, Bool, true, false, eqb, ltb, leb, cond, Ok, ◌⊎◌, Option, Some, None, is_some, is_none, List, [], ◌∷◌, length, get_or, set, drop, refl, sym, ◌∙◌, ap, arith, inl, inr}
 use Rattle.std.specs.List.{count_by, list_any, position, slice_get}
-use Rattle.std.specs.Option.{option_flatten, option_map}
+use Rattle.std.specs.Option.{option_and_then, option_flatten, option_map}
 use Rattle.std.proofs.lemmas.Bool.{cases_eq, eq-eqb, ne_eqb, ltb-true, ltb-false}
 use Rattle.std.proofs.lemmas.List.Elements.{All-from_get_or}
 use Rattle.std.proofs.lemmas.List.Quantifiers.{position-Some}
 use Rattle.std.proofs.lemmas.List.Sums.{sum_by-cons, sum_by-set}
-use Rattle.std.proofs.lemmas.Option.{get_or_from_slice_get, same_Some, slice_get-get_or, slice_get_within}
+use Rattle.std.proofs.lemmas.Option.{get_or_from_slice_get, cond_some, same_Some, slice_get-get_or, slice_get_within}
 use Rattle.pr_num.specs.declared.files.OpenFile.{OpenFile}
 use Rattle.pr_num.specs.declared.files.Access.TheVariants.{Read, Write}
+use Rattle.pr_num.specs.declared.files.StoredFile.{StoredFile}
+use Rattle.pr_num.specs.declared.files.Target.{Target}
 use Rattle.pr_num.specs.declared.files.Target.TheVariants.{File, PipeReader, PipeWriter}
-use Rattle.pr_parts.specs.declared.files.FileNo.TheVariants.{TableFull}
+use Rattle.pr_parts.specs.declared.files.FileNo.TheVariants.{BadOffset, NotSeekable, TableFull}
 use Rattle.pr_num.specs.Files.{FileTable, Descriptors, with_user_gone, with_all_closed, without_idle_pipe, pipe_of, is_end_of}
-use Rattle.pr_parts.specs.FileTables.{open_of, IsFileTable, HasRoom, HasRoomAt, AreOpenIn, CountsUsers, file_named, users_of, users_at, stands_for, count_at, at_place, free_fd_behind, free_place, with_placed}
-use Rattle.pr_parts.specs.FileCalls.{with_user_added, with_open, with_file, with_all_shared, access_of, closed, created_file, creates, duplicated, first_open, made_pipe, opened, opened_file, piped, refused, with_pipe, with_read_end}
+use Rattle.pr_parts.specs.FileTables.{open_of, open_with_place, IsFileTable, HasRoom, HasRoomAt, AreOpenIn, CountsUsers, file_named, users_of, users_at, stands_for, count_at, at_place, free_fd_behind, free_place, with_placed}
+use Rattle.pr_parts.specs.FileTransfers.{after_write, bytes_from, has_reader, has_writer, pipe_bytes, read_fd, read_file, read_open, read_pipe, with_file_bytes, with_pipe_bytes, write_fd, write_file, write_open, write_pipe}
+use Rattle.pr_parts.specs.FileCalls.{contents, open_for_reading, open_for_writing, reads, writes, FileEffect, sought, with_open_at, with_user_added, with_open, with_file, with_all_shared, access_of, closed, created_file, creates, duplicated, first_open, made_pipe, opened, opened_file, piped, refused, with_pipe, with_read_end}
 use Rattle.pr_file.proofs.PlaceLemmas.{slice_get-set_other, slice_get-set_same}
 use Rattle.pr_file.proofs.TableLemmas.{IsFileTable-user_gone, IsOpenFile-at}
 
@@ -296,6 +299,140 @@ users-all_closed t (Some here ∷ fds) k h place =
     let next : AreOpenIn fds (with_user_gone t here) = record { each = λ p. omega (arith, h.each p, users-user_gone t here p file.0 file.1 used, count-cons (Some here) fds p) } in
     omega (arith, users-all_closed (with_user_gone t here) fds (IsFileTable-user_gone t here k) next place, users-user_gone t here place file.0 file.1 used, count-cons (Some here) fds place)
 
+-- ---- calls that leave the descriptors
+
+from_pair : (o : Option OpenFile) (here : ℕ) (found : ℕ × OpenFile) → option_map (λ f. (here, f)) o ≡ Some found → (here ≡ found.0) × (o ≡ Some found.1)
+from_pair None here found e = cc
+from_pair (Some f) here found e = let same = same_Some (here, f) found e in (ap (λ x. x.0) same, ap (λ x. Some x.1) same)
+
+open_of-there : (t : FileTable) (fds : Descriptors) (fd : ℕ) (found : ℕ × OpenFile) → open_of t fds fd ≡ Some found → at_place t.opens found.0 ≡ Some found.1
+unfolding open_of
+open_of-there t fds fd found e = at (at_place fds fd) e
+  where
+    at : (place : Option ℕ) → open_with_place t place ≡ Some found → at_place t.opens found.0 ≡ Some found.1
+    at None none = cc
+    at (Some here) there = let parts = from_pair (at_place t.opens here) here found there in rw (← parts.0) parts.1
+
+users-moved : (t : FileTable) (here place offset : ℕ) (o : OpenFile) → at_place t.opens here ≡ Some o → users_at (with_open_at t here (record o { offset = offset })) place ≡ users_at t place
+unfolding with_open_at
+users-moved t here place offset o there = omega (arith, users-set t.opens here place o (Some (record o { offset = offset })) there)
+
+-- one of two effects, neither of which changes a count
+kept_effect : {A : Type 0} (b : Bool) (x y : FileEffect A) (place users : ℕ) → users_at x.files place ≡ users → users_at y.files place ≡ users → users_at (cond b x y).files place ≡ users
+kept_effect true x y place users p q = p
+kept_effect false x y place users p q = q
+
+pub users-sought : (t : FileTable) (fds : Descriptors) (fd offset place : ℕ) → users_at (sought t fds fd offset).files place ≡ users_at t place
+unfolding sought
+users-sought t fds fd offset place = at_open (open_of t fds fd) refl
+  where
+    moved : (found : ℕ × OpenFile) → open_of t fds fd ≡ Some found → users_at (cond (is_some (pipe_of found.1.target)) (refused {A = ℕ} t fds NotSeekable) (cond (leb offset 65536) (record { files = with_open_at t found.0 (record found.1 { offset = offset }); fds = fds; answer = Ok offset }) (refused t fds BadOffset))).files place ≡ users_at t place
+    moved found e =
+        kept_effect (is_some (pipe_of found.1.target)) (refused t fds NotSeekable) (cond (leb offset 65536) (record { files = with_open_at t found.0 (record found.1 { offset = offset }); fds = fds; answer = Ok offset }) (refused t fds BadOffset)) place (users_at t place) refl (kept_effect (leb offset 65536) (record { files = with_open_at t found.0 (record found.1 { offset = offset }); fds = fds; answer = Ok offset }) (refused t fds BadOffset) place (users_at t place) (users-moved t found.0 place offset found.1 (open_of-there t fds fd found e)) refl)
+
+    at_open : (found : Option (ℕ × OpenFile)) → open_of t fds fd ≡ found → users_at (sought t fds fd offset).files place ≡ users_at t place
+    at_open None e = rw e refl
+    at_open (Some found) e = rw e (moved found e)
+
+-- an open file that may be used so is the descriptor's
+chosen : (b : ℕ × OpenFile → Bool) (o : Option (ℕ × OpenFile)) (found : ℕ × OpenFile) → option_and_then (λ x. cond (b x) (Some x) None) o ≡ Some found → o ≡ Some found
+chosen b None found e = cc
+chosen b (Some x) found e = ap Some (cond_some (b x) x found e).1
+
+read-there : (t : FileTable) (fds : Descriptors) (fd : ℕ) (found : ℕ × OpenFile) → open_for_reading t fds fd ≡ Some found → at_place t.opens found.0 ≡ Some found.1
+unfolding open_for_reading
+read-there t fds fd found e = open_of-there t fds fd found (chosen (λ x. reads x.1.access) (open_of t fds fd) found e)
+
+write-there : (t : FileTable) (fds : Descriptors) (fd : ℕ) (found : ℕ × OpenFile) → open_for_writing t fds fd ≡ Some found → at_place t.opens found.0 ≡ Some found.1
+unfolding open_for_writing
+write-there t fds fd found e = open_of-there t fds fd found (chosen (λ x. writes x.1.access) (open_of t fds fd) found e)
+
+users-read_pipe : (t : FileTable) (pipe most place : ℕ) → users_at (read_pipe t pipe most).files place ≡ users_at t place
+unfolding read_pipe with_pipe_bytes
+users-read_pipe t pipe most place = at_empty (eqb (length (pipe_bytes t pipe)) 0) refl
+  where
+    at_writer : (b : Bool) → eqb (length (pipe_bytes t pipe)) 0 ≡ true → has_writer t pipe ≡ b → users_at (read_pipe t pipe most).files place ≡ users_at t place
+    at_writer true e w = rw (e, w) refl
+    at_writer false e w = rw (e, w) refl
+
+    at_empty : (b : Bool) → eqb (length (pipe_bytes t pipe)) 0 ≡ b → users_at (read_pipe t pipe most).files place ≡ users_at t place
+    at_empty true e = at_writer (has_writer t pipe) e refl
+    at_empty false e = rw e refl
+
+users-read_file : (t : FileTable) (here most place : ℕ) (o : OpenFile) → at_place t.opens here ≡ Some o → users_at (read_file t here o most).files place ≡ users_at t place
+unfolding read_file
+users-read_file t here most place o there = users-moved t here place (o.offset + length (bytes_from (contents t o.target) o.offset most)) o there
+
+users-read_open : (t : FileTable) (here most place : ℕ) (o : OpenFile) → at_place t.opens here ≡ Some o → users_at (read_open t here o most).files place ≡ users_at t place
+users-read_open t here most place o there = at_target o.target refl
+  where
+    at_target : (target : Target) → o.target ≡ target → users_at (read_open t here o most).files place ≡ users_at t place
+    at_target (File file) e =
+        rw e (users-read_file t here most place (record o { target = File file }) (there ∙ ap (λ (target : Target). Some (record o { target = target })) e))
+    at_target (PipeReader pipe) e = rw e (users-read_pipe t pipe most place)
+    at_target (PipeWriter pipe) e = rw e (users-read_pipe t pipe most place)
+
+pub users-read : (t : FileTable) (fds : Descriptors) (fd most place : ℕ) → users_at (read_fd t fds fd most).files place ≡ users_at t place
+unfolding read_fd
+users-read t fds fd most place = at_open (open_for_reading t fds fd) refl
+  where
+    at_open : (found : Option (ℕ × OpenFile)) → open_for_reading t fds fd ≡ found → users_at (read_fd t fds fd most).files place ≡ users_at t place
+    at_open None e = rw e refl
+    at_open (Some found) e = rw e (users-read_open t found.0 most place found.1 (read-there t fds fd found e))
+
+opens-file_bytes : (t : FileTable) (file : ℕ) (bytes : List ℕ) → (with_file_bytes t file bytes).opens ≡ t.opens
+unfolding with_file_bytes
+opens-file_bytes t file bytes = at (slice_get t.files file) refl
+  where
+    at : (found : Option StoredFile) → slice_get t.files file ≡ found → (with_file_bytes t file bytes).opens ≡ t.opens
+    at None e = rw e refl
+    at (Some f) e = rw e refl
+
+users-write_file : (t : FileTable) (fds : Descriptors) (here file place : ℕ) (bytes : List ℕ) (o : OpenFile) → at_place t.opens here ≡ Some o → users_at (write_file t fds here o file bytes).files place ≡ users_at t place
+unfolding write_file
+users-write_file t fds here file place bytes o there = at_end (ltb 65536 (o.offset + length bytes)) refl
+  where
+    after : List ℕ
+    after = after_write (contents t o.target) o.offset bytes
+
+    moved : users_at (with_open_at (with_file_bytes t file after) here (record o { offset = o.offset + length bytes })) place ≡ users_at t place
+    moved =
+        let same = opens-file_bytes t file after in
+        users-moved (with_file_bytes t file after) here place (o.offset + length bytes) o (ap (λ opens. at_place opens here) same ∙ there) ∙ ap (λ opens. users_of (at_place opens place)) same
+
+    at_end : (b : Bool) → ltb 65536 (o.offset + length bytes) ≡ b → users_at (write_file t fds here o file bytes).files place ≡ users_at t place
+    at_end true e = rw e refl
+    at_end false e = rw e moved
+
+users-write_pipe : (t : FileTable) (fds : Descriptors) (pipe place : ℕ) (bytes : List ℕ) → users_at (write_pipe t fds pipe bytes).files place ≡ users_at t place
+unfolding write_pipe with_pipe_bytes
+users-write_pipe t fds pipe place bytes = at_reader (has_reader t pipe) refl
+  where
+    at_room : (b : Bool) → has_reader t pipe ≡ true → ltb 4096 (length (pipe_bytes t pipe) + length bytes) ≡ b → users_at (write_pipe t fds pipe bytes).files place ≡ users_at t place
+    at_room true e room = rw (e, room) refl
+    at_room false e room = rw (e, room) refl
+
+    at_reader : (b : Bool) → has_reader t pipe ≡ b → users_at (write_pipe t fds pipe bytes).files place ≡ users_at t place
+    at_reader true e = at_room (ltb 4096 (length (pipe_bytes t pipe) + length bytes)) e refl
+    at_reader false e = rw e refl
+
+users-write_open : (t : FileTable) (fds : Descriptors) (here place : ℕ) (bytes : List ℕ) (o : OpenFile) → at_place t.opens here ≡ Some o → users_at (write_open t fds here o bytes).files place ≡ users_at t place
+users-write_open t fds here place bytes o there = at_target o.target refl
+  where
+    at_target : (target : Target) → o.target ≡ target → users_at (write_open t fds here o bytes).files place ≡ users_at t place
+    at_target (File file) e =
+        rw e (users-write_file t fds here file place bytes (record o { target = File file }) (there ∙ ap (λ (target : Target). Some (record o { target = target })) e))
+    at_target (PipeReader pipe) e = rw e (users-write_pipe t fds pipe place bytes)
+    at_target (PipeWriter pipe) e = rw e (users-write_pipe t fds pipe place bytes)
+
+pub users-written : (t : FileTable) (fds : Descriptors) (fd place : ℕ) (bytes : List ℕ) → users_at (write_fd t fds fd bytes).files place ≡ users_at t place
+unfolding write_fd
+users-written t fds fd place bytes = at_open (open_for_writing t fds fd) refl
+  where
+    at_open : (found : Option (ℕ × OpenFile)) → open_for_writing t fds fd ≡ found → users_at (write_fd t fds fd bytes).files place ≡ users_at t place
+    at_open None e = rw e refl
+    at_open (Some found) e = rw e (users-write_open t fds found.0 place bytes found.1 (write-there t fds fd found e))
+
 -- ---- room
 
 fits : (o : Option OpenFile) (more : ℕ) → users_of o + more < 2 ^ 32 → HasRoomAt more o
@@ -310,4 +447,4 @@ HasRoom-from_users t more small = record {
     flat_get_or : (opens : List (Option OpenFile)) (i : ℕ) → i < length opens → at_place opens i ≡ get_or opens i None
     flat_get_or opens i within = ap option_flatten (slice_get-get_or opens i None within)
 
-pub ruleset countings = (CountsUsers-closed, CountsUsers-duplicated, CountsUsers-opened, CountsUsers-piped, users-all_shared, users-all_closed, HasRoom-from_users)
+pub ruleset countings = (CountsUsers-closed, CountsUsers-duplicated, CountsUsers-opened, CountsUsers-piped, users-all_shared, users-all_closed, users-sought, users-read, users-written, HasRoom-from_users)

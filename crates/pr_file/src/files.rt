@@ -44,7 +44,6 @@ impl Model for Files {
 
 impl Files {
     /// No files. Takes no memory.
-    #[tactic(auto)]
     pub fn new(alloc: Global) -> Files
         ensures { result ≡ no_files }
     {
@@ -68,11 +67,11 @@ impl Files {
     }
 
     /// How many files there are, at most 256.
-    pub fn files(&self) -> usize
+    pub fn file_count(&self) -> usize
         ensures count { result ≡ length self.now.files }
         ensures limit { result ≤ 256 }
     {
-        self.tables.files()
+        self.tables.file_count()
     }
 
     /// Whether a file has this name.
@@ -185,7 +184,7 @@ impl Files {
         requires new_name { file_named self.old name ≡ None }
         ensures { (record { files = self.new; fds = fds.new; answer = result }) ≡ unless_no_memory self.old fds.old result (created_file self.old fds.old fd name flags) }
     {
-        if self.tables.files() >= MOST_FILES {
+        if self.tables.file_count() >= MOST_FILES {
             return Err(FileNo::TableFull);
         }
         let place = self.tables.create_file(alloc, name, access_of(flags))?;
@@ -233,7 +232,7 @@ impl Files {
         let Some(writer) = fds.free_behind(reader) else {
             return Err(FileNo::NoPlace);
         };
-        if self.tables.pipes() >= MOST_PIPES {
+        if self.tables.pipe_count() >= MOST_PIPES {
             return Err(FileNo::TableFull);
         }
         let (read_end, write_end) = self.tables.open_pipe(alloc)?;

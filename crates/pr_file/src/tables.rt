@@ -164,14 +164,14 @@ impl Tables {
     }
 
     /// How many files there are.
-    pub(crate) fn files(&self) -> usize
+    pub(crate) fn file_count(&self) -> usize
         ensures { result ≡ length self.now.files }
     {
         self.files.len()
     }
 
     /// How many pipes stand.
-    pub(crate) fn pipes(&self) -> usize
+    pub(crate) fn pipe_count(&self) -> usize
         ensures { result ≡ count_by is_some self.now.pipes }
     {
         self.pipes.iter().filter(|pipe| pipe.is_some()).count()
@@ -357,29 +357,29 @@ impl Tables {
     }
 }
 
-fn has_room_at(more: u32, open: &Option<OpenFile>) -> bool
-    ensures { IsTrue result ↔ HasRoomAt more open.now }
+fn has_room_at(more: u32, place: &Option<OpenFile>) -> bool
+    ensures { IsTrue result ↔ HasRoomAt more place.now }
 {
-    match open {
-        Some(open) => open.users.checked_add(more).is_some(),
+    match place {
+        Some(file) => file.users.checked_add(more).is_some(),
         None => true,
     }
 }
 
-fn is_read_end(pipe: u32, open: &Option<OpenFile>) -> bool
-    ensures { result ≡ is_read_end pipe open.now }
+fn is_read_end(pipe: u32, place: &Option<OpenFile>) -> bool
+    ensures { result ≡ is_read_end pipe place.now }
 {
-    match open {
-        Some(open) => open.target == Target::PipeReader(pipe),
+    match place {
+        Some(file) => file.target == Target::PipeReader(pipe),
         None => false,
     }
 }
 
-fn is_write_end(pipe: u32, open: &Option<OpenFile>) -> bool
-    ensures { result ≡ is_write_end pipe open.now }
+fn is_write_end(pipe: u32, place: &Option<OpenFile>) -> bool
+    ensures { result ≡ is_write_end pipe place.now }
 {
-    match open {
-        Some(open) => open.target == Target::PipeWriter(pipe),
+    match place {
+        Some(file) => file.target == Target::PipeWriter(pipe),
         None => false,
     }
 }
@@ -422,11 +422,11 @@ pub(crate) fn pipe_of(target: Target) -> Option<u32>
     }
 }
 
-fn is_end_of(pipe: u32, open: &Option<OpenFile>) -> bool
-    ensures { result ≡ is_end_of pipe open.now }
+fn is_end_of(pipe: u32, place: &Option<OpenFile>) -> bool
+    ensures { result ≡ is_end_of pipe place.now }
 {
-    match open {
-        Some(open) => pipe_of(open.target) == Some(pipe),
+    match place {
+        Some(file) => pipe_of(file.target) == Some(pipe),
         None => false,
     }
 }

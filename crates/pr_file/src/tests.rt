@@ -278,7 +278,7 @@ fn files_are_filled_with_zeros(rt: HostRuntime) -> Result<(), Fail> {
 fn add(rt: &impl Abort, alloc: Global, files: &mut Files) -> Result<(), Fail> {
     let name = Name::from_slice(b"a").ok_or("a name")?;
     let bytes = Bytes::from_vec(Vec::from_slice(alloc, b"bc")?);
-    assert!(rt; files.files() < 256);
+    assert!(rt; files.file_count() < 256);
     assert!(rt; !files.has_file(&name));
     files.add(alloc, name, bytes)?;
     Ok(())
