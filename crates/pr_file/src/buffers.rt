@@ -30,10 +30,19 @@ pub(crate) fn extended(bytes: Bytes, more: &[u8]) -> (Bytes, Result<(), NoMemory
     ensures { result.0 ≡ (if is_ok result.1 then bytes ++ more.now else bytes) }
 {
     let mut items = bytes.into_vec();
-    match items.extend_from_slice(more) {
+    match append(&mut items, more) {
         Ok(()) => (Bytes::from_vec(items), Ok(())),
-        Err(error) => (Bytes::from_vec(items), Err(NoMemory::from(error))),
+        Err(error) => (Bytes::from_vec(items), Err(error)),
     }
+}
+
+/// Puts bytes behind others.
+fn append(items: &mut Vec<u8>, more: &[u8]) -> Result<(), NoMemory>
+    ensures ok { OnOk result (items.new.items ≡ items.old.items ++ more.now) }
+    ensures err { OnErr result (items.new.items ≡ items.old.items) }
+{
+    items.extend_from_slice(more)?;
+    Ok(())
 }
 
 /// The bytes with others written over them from an offset on, or as they were where memory runs out. What lies between
