@@ -1,3 +1,7 @@
 pub mod AddressSpaces
 pub mod ByAddress
+pub mod FileCalls
+pub mod FileTables
+pub mod FileTransfers
+pub mod SignalRules
 pub mod WatchedAreas

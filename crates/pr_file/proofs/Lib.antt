@@ -1,0 +1,5 @@
+pub mod ByteLemmas
+pub mod PlaceLemmas
+pub mod TableLemmas
+pub mod UserLemmas
+pub mod CountLemmas

@@ -1,0 +1,82 @@
+ghost use Rattle.std.specs.Prelude.{◌≡◌, ◌<◌, Some, None, IfSome, length, slice_set};
+ghost use Rattle.pr_num.specs.Files.{no_descriptors};
+ghost use Rattle.pr_parts.specs.FileTables.{at_place, free_fd, free_fd_behind};
+
+use crate::places::first_free;
+use std::marker::Model;
+
+/// The 64 descriptors of a process, kept in place (dup(2)), each free or standing for an open file, and seen by contracts
+/// as the list of the open files' places.
+#[derive(Drop)]
+pub struct Fds {
+    places: [Option<usize>; 64],
+}
+
+impl Model for Fds {
+    ghost use Rattle.std.specs.Prelude.{◌≡◌, ℕ, Option, List, length};
+
+    ghost Value = { List (Option ℕ) };
+
+    ghost view = { λ fds. fds.places };
+
+    ghost invariant = { λ fds. length fds.places ≡ 64 };
+}
+
+impl Fds {
+    /// No descriptor is open.
+    pub fn new() -> Fds
+        ensures { result ≡ no_descriptors }
+    {
+        Fds { places: [None; 64] }
+    }
+
+    /// The place of the open file that a descriptor stands for.
+    pub(crate) fn place(&self, fd: u64) -> Option<usize>
+        ensures place { result ≡ at_place self.now fd }
+        ensures within { IfSome result (λ _. fd < 64) }
+    {
+        self.places.get(fd as usize).copied().flatten()
+    }
+
+    /// The least free descriptor.
+    pub(crate) fn free(&self) -> Option<usize>
+        ensures free { result ≡ free_fd self.now }
+        ensures within { IfSome result (λ fd. fd < 64) }
+    {
+        first_free(&self.places)
+    }
+
+    /// The least free descriptor that is greater than this one.
+    pub(crate) fn free_behind(&self, fd: usize) -> Option<usize>
+        requires { fd < 64 }
+        ensures free { result ≡ free_fd_behind self.now fd }
+        ensures within { IfSome result (λ fd. fd < 64) }
+    {
+        let place = first_free(&self.places[fd + 1..])?;
+        Some(fd + 1 + place)
+    }
+
+    /// Lets a descriptor stand for the open file at a place.
+    pub(crate) fn set(&mut self, fd: usize, place: Option<usize>)
+        requires { fd < 64 }
+        ensures { self.new ≡ slice_set self.old fd place }
+    {
+        self.places[fd] = place;
+    }
+
+    /// The places of the open files, by descriptor.
+    pub(crate) fn places(&self) -> &[Option<usize>]
+        ensures places { result.now ≡ self.now }
+        ensures len { length result.now ≡ 64 }
+    {
+        &self.places
+    }
+
+    /// Descriptors that stand for the same open files.
+    pub(crate) fn same(&self) -> Fds
+        ensures { result ≡ self.now }
+    {
+        let places = self.places;
+        Fds { places }
+    }
+}

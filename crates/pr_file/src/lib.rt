@@ -1,0 +1,16 @@
+//! Files, pipes and descriptors, each call alone.
+#![tactic(auto)]
+
+mod buffers;
+mod fds;
+mod files;
+mod laws;
+mod places;
+mod tables;
+#[cfg(test)]
+mod tests;
+
+pub use fds::Fds;
+pub use files::Files;
+pub use laws::users_are_counted;
+pub use pr_parts::{FileNo, Stat};
