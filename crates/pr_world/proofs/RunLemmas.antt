@@ -80,4 +80,3 @@ pub moves-came : (first : WorldState) (n : ℕ) → IsFresh first → CameFrom f
 unfolding after_moves after_next
 moves-came first zero fresh = fresh-came first fresh
 moves-came first (suc n) fresh = next-came first (after_moves n first) (next_actor (after_moves n first)) (moves-came first n fresh)
-

@@ -12,7 +12,6 @@ use crate::runs::make_run;
 use pr_io::Sink;
 use pr_model::History;
 use pr_num::Bytes;
-
 use pr_output::{Cut, write_refusal, write_run};
 use pr_scen::{ScenFault, ScenKind, ScenRefusal, Scenario, read_scenario};
 use pr_world::End;

@@ -15,9 +15,9 @@ returns-then-not-branch-clause-err c =
     let places = ap (λ (w : WorldState). w.kernel.places) c.self.view_is in
     let within : c.loop.counter ≤ first.kernel.places = omega (arith, places, c.places-end.ensures) in
     let stuck : is_some (next_actor (after_moves c.loop.counter first)) ≡ false =
-        ap (λ (w : WorldState). is_some (next_actor w)) (sym c.loop.invariant) ∙ sym c.in_ok-advance.ensures.some ∙ c.if-not-branch.true
+    ap (λ (w : WorldState). is_some (next_actor w)) (sym c.loop.invariant) ∙ sym c.in_ok-advance.ensures.some ∙ c.if-not-branch.true
     in
     let all : c.advance.new.self ≡ after_moves first.kernel.places first =
-        c.in_ok-advance.ensures.moved ∙ ap after_next c.loop.invariant ∙ run-stuck first c.loop.counter first.kernel.places within stuck
+    c.in_ok-advance.ensures.moved ∙ ap after_next c.loop.invariant ∙ run-stuck first c.loop.counter first.kernel.places within stuck
     in
     whatever c.end.result _ (record { made = first.kernel.places; within = omega arith; is = ap (λ (w : WorldState). w.kernel) all })
