@@ -1,2 +1,3 @@
 pub mod EarlyLemmas
 pub mod RunLemmas
+pub mod ServingLemmas

@@ -1,4 +1,4 @@
-use Rattle.std.specs.Prelude.{◌≡◌, ◌≤◌, ◌⊎◌, ℕ, List, [], Option, Some, None, Result, Ok, Err, codes}
+use Rattle.std.specs.Prelude.{◌≡◌, ◌≤◌, ◌⊎◌, ℕ, List, [], Option, Some, None, Result, Ok, Err, codes, length, nat_le, if◌then◌else◌}
 use Rattle.pr_io.specs.Known.{with_end}
 use Rattle.pr_io.specs.Reading.{ReadsAll, CameAbove}
 use Rattle.pr_io.specs.Writing.{AppendsFront}
@@ -60,10 +60,19 @@ unfoldable pub answer_to : Option (List ℕ) → Answer
 answer_to None = refused_at 0 too_long
 answer_to (Some input) = answer_of (scenario_of input)
 
--- What was read of a source: all that was left, or more than the limit.
+-- All that was left was read, and it is no more than an input may have.
+pub record TookAll (old new : Option (List ℕ)) (input : List ℕ) : Type 0 where
+  pub read : ReadsAll old new input
+  pub within : length input ≤ input_limit
+
+-- What was read of a source: all that was left, or more than an input may have.
 abbrev pub Took : Option (List ℕ) → Option (List ℕ) → Option (List ℕ) → Type 0
 Took old new None = CameAbove input_limit old new
-Took old new (Some input) = ReadsAll old new input
+Took old new (Some input) = TookAll old new input
+
+-- what is read of a source that has these bytes left
+abbrev pub taken_of : List ℕ → Option (List ℕ)
+taken_of input = if nat_le (length input) input_limit then Some input else None
 
 -- ---- how a call ends
 

@@ -49,3 +49,11 @@ command_of (a ∷ b ∷ []) = of_two_words a b
 command_of (a ∷ b ∷ c ∷ []) = of_three_words a b c
 command_of (a ∷ b ∷ c ∷ d ∷ []) = of_four_words a b c d
 command_of _ = None
+
+-- whether words ask for a run on one thread whose history is written: the one command that is built
+abbrev pub is_plain_run : Option Command → Bool
+is_plain_run (Some (Run false None)) = true
+is_plain_run _ = false
+
+unfoldable pub asks_for_run : List (List ℕ) → Bool
+asks_for_run words = is_plain_run (command_of words)

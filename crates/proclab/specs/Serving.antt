@@ -1,6 +1,8 @@
-use Rattle.std.specs.Prelude.{◌≡◌, ◌⊎◌, ℕ, List, [], Option}
+use Rattle.std.specs.Prelude.{◌≡◌, ◌≤◌, ◌⊎◌, ℕ, List, [], Option, IfSome, IfOk}
 use Rattle.pr_model.specs.declared.events.Entry.{Entry}
-use Rattle.proclab.specs.Answers.{Answer, Took, IsGiven, IsCutShort, IsOnTheWay, RanOutEarly, RanOutLate, answer_to}
+use Rattle.pr_run_laws.specs.ScenarioRuns.{IsKept}
+use Rattle.pr_scen.specs.Reading.{scenario_of}
+use Rattle.proclab.specs.Answers.{Took, TookAll, IsAfterMoves, IsGiven, IsCutShort, RanOutEarly, RanOutLate, answer_to, taken_of}
 
 -- How a call of `run` ends: what it read of the source, and what became of the answer to that. Sources and sinks that do not
 -- tell their bytes say nothing of them here.
@@ -32,3 +34,28 @@ pub record RanOutBehind (left_old left_new : Option (List ℕ)) (history : List 
 abbrev pub RanOut : Option (List ℕ) → Option (List ℕ) → List Entry → Option (List ℕ) → Option (List ℕ) → Type 0
 RanOut left_old left_new history written_old written_new =
     LeftNothing history written_old written_new ⊎ RanOutBehind left_old left_new history written_old written_new
+
+-- What the history of a call of `run` is where there is one: that of the run of the scenario that was read, after so many
+-- moves. It is legal and follows the protocol, and tracing was transparent.
+pub record IsHistoryOfRun (left_old left_new : Option (List ℕ)) (history : List Entry) : Type 0 where
+  pub input : List ℕ
+  pub took : TookAll left_old left_new input
+  pub run : IsAfterMoves input history
+  pub kept : IsKept run.scenario history
+
+abbrev pub HistoryIsKept : Option (List ℕ) → Option (List ℕ) → List Entry → Type 0
+HistoryIsKept left_old left_new history = (history ≡ []) ⊎ IsHistoryOfRun left_old left_new history
+
+-- Where the bytes that were left are known and nothing failed, status, history and text are the answer to them.
+abbrev pub AnswersInput : Option (List ℕ) → ℕ → List Entry → Option (List ℕ) → Option (List ℕ) → Type 0
+AnswersInput left status history written_old written_new =
+    IfSome left (λ input. IsGiven (answer_to (taken_of input)) status history written_old written_new)
+
+-- the statuses of a run that was made
+abbrev pub IsRunStatus : ℕ → Type 0
+IsRunStatus status = (status ≡ 0) ⊎ ((status ≡ 3) ⊎ (status ≡ 4))
+
+-- Completeness: an input that is a scenario is run, where no memory is wanting; or a read or a write failed.
+abbrev pub RunsScenario : Option (List ℕ) → ℕ → Type 0
+RunsScenario left status =
+    IfSome left (λ input. IfSome (taken_of input) (λ text. IfOk (scenario_of text) (λ _. status ≤ 4 → IsRunStatus status)))

@@ -1,5 +1,5 @@
 ghost use Rattle.std.specs.Prelude.{◌≡◌, ◌<◌, ◌-◌, ◌^◌, map, string_bytes};
-ghost use Rattle.proclab.specs.Commands.{command_of, number_up_to, shared_run, generation, of_one_word, of_two_words, of_three_words, of_four_words};
+ghost use Rattle.proclab.specs.Commands.{asks_for_run, is_plain_run, command_of, number_up_to, shared_run, generation, of_one_word, of_two_words, of_three_words, of_four_words};
 
 use itoa::Buffer;
 
@@ -118,4 +118,24 @@ fn number_up_to(most: u32, word: &str) -> Option<u32>
     ensures { result ≡ number_up_to most word.now }
 {
     (1..most + 1).find(|n| Buffer::new().format(*n) == word)
+}
+
+/// Whether words ask for a run on one thread whose history is written: the one command that is built.
+#[tactic(auto, unfolding(crate::specs::Commands::asks_for_run))]
+pub fn asks_for_run(words: &[String]) -> bool
+    ensures { result ≡ asks_for_run (map string_bytes words.now) }
+{
+    is_plain_run(command_of(words))
+}
+
+fn is_plain_run(command: Option<Command>) -> bool
+    ensures { result ≡ is_plain_run command }
+{
+    match command {
+        Some(Command::Run {
+            quiet: false,
+            workers: None,
+        }) => true,
+        _ => false,
+    }
 }

@@ -6,6 +6,7 @@ mod commands;
 mod inputs;
 mod outcomes;
 mod responses;
+mod running;
 mod runs;
 mod serving;
 #[cfg(test)]
