@@ -1,5 +1,3 @@
-use Rattle.std.proofs.Common.{◌≡◌, ◌<◌, ℕ, Bool, Some, List, length}
-use Rattle.std.specs.List.{position}
 use Rattle.pr_num.proofs.TableLemmas.{position-within}
 
 -- The place that a search finds is one of the list.

@@ -1,9 +1,9 @@
-use Rattle.std.proofs.Common.{◌≡◌, ℕ, zero, ◌+◌, ◌<◌, ◌≤◌, ◌^◌, Bool, true, false, eqb, cond, Option, Some, None, IfSome, Result, Ok, Err, List, [], ◌∷◌, refl, sym, ap, subst, inl, inr, arith}
+use Rattle.std.proofs.Common.{◌≡◌, ℕ, ◌<◌, ◌≤◌, ◌^◌, Bool, true, false, eqb, cond, Option, Some, None, IfSome, Result, Ok, Err, List, [], ◌∷◌, refl, sym, subst, inl, inr, arith}
 use Rattle.std.specs.List.{All, find}
-use Rattle.std.specs.Option.{option_map, option_and_then}
+use Rattle.std.specs.Option.{option_map}
 use Rattle.std.proofs.lemmas.Bool.{cases_Bool}
 use Rattle.std.proofs.lemmas.Option.{same_Some}
-use Rattle.std.proofs.lemmas.List.Elements.{All-nil, All-cons, All-head, All-tail, All-map, All-push, All-weaker}
+use Rattle.std.proofs.lemmas.List.Elements.{All-head, All-tail, All-map, All-weaker}
 use Rattle.pr_num.proofs.TableLaws.{All-change_first}
 use Rattle.pr_num.specs.Control.{has_flags, klc_mode, rlc_mode}
 use Rattle.pr_num.specs.Spaces.{heap_size, mapping_limit}
@@ -11,11 +11,11 @@ use Rattle.pr_num.specs.Messages.{first_message}
 use Rattle.pr_num.specs.declared.errnos.Errno.{Errno}
 use Rattle.pr_num.specs.declared.errnos.Errno.TheVariants.{Intr}
 use Rattle.pr_num.specs.declared.messages.Message.{Message}
-use Rattle.pr_num.specs.declared.messages.Message.TheVariants.{Stop, Dstop, Wstop, Twstop, Run, Csig, Cfault, Ssig, Kill, Unkill, Shold, Strace, Sfault, Sentry, Sexit, Set, Unset, Sreg, Svaddr, Watch, Agent, Read, Write}
+use Rattle.pr_num.specs.declared.messages.Message.TheVariants.{Stop, Dstop, Wstop, Twstop, Run}
 use Rattle.pr_num.specs.declared.messages.MsgFault.{MsgFault}
-use Rattle.pr_model.specs.Calls.{Answer, refused, answer_to, open_unless, opened, open_answer, close_held, close_answer, read_held, read_answer, read_file, read_status, readable, controlled, waited, is_interrupted}
-use Rattle.pr_model.specs.ControlMessages.{Controlled, refused as message_refused, control_answer, wait_reply, held_answer, targeted_answer, decoded_answer, message_answer, run_answer, target_of, control_handle, with_directed}
-use Rattle.pr_model.specs.Handles.{handle_of, is_of_lwp, released, after_last_close, with_last_close, was_last_writer, with_closed, with_opened, sigkill}
+use Rattle.pr_model.specs.Calls.{Answer, refused, answer_to, open_unless, opened, open_answer, close_held, close_answer, read_held, read_answer, read_file, read_status, readable, controlled, waited}
+use Rattle.pr_model.specs.ControlMessages.{Controlled, refused as message_refused, control_answer, held_answer, targeted_answer, decoded_answer, message_answer, run_answer, target_of, control_handle, with_directed}
+use Rattle.pr_model.specs.Handles.{handle_of, is_of_lwp, released, after_last_close, with_last_close, with_closed, with_opened, sigkill}
 use Rattle.pr_model.specs.Lives.{zombie, bare_process, orphaned, told_of_child, with_parent_told, with_ended}
 use Rattle.pr_model.specs.Lwps.{is_process}
 use Rattle.pr_model.specs.Running.{with_run}
@@ -24,13 +24,12 @@ use Rattle.pr_model.specs.Stops.{with_all_directed}
 use Rattle.pr_model.specs.declared.calls.Call as calls
 use Rattle.pr_model.specs.declared.calls.Call.TheVariants as call
 use Rattle.pr_model.specs.declared.calls.File.{File}
-use Rattle.pr_model.specs.declared.calls.File.TheVariants.{Ctl, Status, Lstatus, Psinfo, Map, Usage, Mem, Sigact, Watch as WatchFile, Fds, Lwpctl, Lwpstatus}
+use Rattle.pr_model.specs.declared.calls.File.TheVariants.{Status}
 use Rattle.pr_model.specs.declared.calls.Reply.{Reply}
-use Rattle.pr_model.specs.declared.calls.Reply.TheVariants.{Handle, Done, Used, Half, Bytes, Pid, Ready, Fail}
+use Rattle.pr_model.specs.declared.calls.Reply.TheVariants.{Fail}
 use Rattle.pr_model.specs.declared.handles.Held.{Held}
 use Rattle.pr_proc.proofs.CountLemmas.{AllUsedAtMost-more, AllUsedAtMost-with_process, AllUsedAtMost-with_ended, released-usage}
 use Rattle.pr_proc.proofs.LifeLemmas.{live_process-found}
-use Rattle.pr_proc.specs.Counts.{AllUsedAtMost}
 use Rattle.pr_kern.specs.Soundness.{HasSmallHeap, HaveSmallHeaps, IsSound}
 
 -- What the calls of controllers leave of a sound system.

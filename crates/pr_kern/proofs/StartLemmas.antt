@@ -1,15 +1,15 @@
-use Rattle.std.proofs.Common.{◌≡◌, ℕ, ◌+◌, ◌≤◌, ◌++◌, Bool, false, replicate, Option, Some, None, List, [], ◌∷◌, refl, sym, subst, arith}
+use Rattle.std.proofs.Common.{◌≡◌, ℕ, ◌≤◌, ◌++◌, Bool, false, replicate, Option, Some, None, List, [], ◌∷◌, refl, sym, subst, arith}
 use Rattle.std.specs.List.{All, slice_get}
 use Rattle.std.proofs.lemmas.List.Elements.{All-nil, All-cons, All-push}
 use Rattle.pr_num.specs.Programs.{Program, text_of}
-use Rattle.pr_num.specs.Spaces.{Space, heap_size, mapping_limit, unless_empty, first_space, read_execute, read_write}
+use Rattle.pr_num.specs.Spaces.{heap_size, mapping_limit, unless_empty, first_space, read_execute, read_write}
 use Rattle.pr_num.specs.declared.files.StoredFile.{StoredFile}
 use Rattle.pr_num.specs.declared.mappings.MappingKind.TheVariants.{Text, Data, Stack}
 use Rattle.pr_model.specs.FirstState.{bare_system, spawned_at, system_process, with_spawns, first_system}
 use Rattle.pr_model.specs.Lives.{bare_process, new_process, with_spawned}
 use Rattle.pr_model.specs.State.{TracedSystem}
 use Rattle.pr_proc.proofs.CountLemmas.{AllUsedAtMost-first_system}
-use Rattle.pr_kern.specs.Soundness.{HasSmallHeap, HaveSmallHeaps, IsSound}
+use Rattle.pr_kern.specs.Soundness.{HasSmallHeap, IsSound}
 
 -- The first system is sound.
 

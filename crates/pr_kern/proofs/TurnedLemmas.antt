@@ -1,4 +1,4 @@
-use Rattle.std.proofs.Common.{◌≡◌, ℕ, ◌+◌, ◌≤◌, Bool, true, false, cond, Option, Some, None, IfSome, refl, sym, ap, subst, ◌∙◌, arith}
+use Rattle.std.proofs.Common.{◌≡◌, ℕ, ◌+◌, ◌≤◌, Bool, true, false, cond, Option, Some, None, IfSome, refl, sym, subst, ◌∙◌, arith}
 use Rattle.std.specs.Option.{option_map, option_and_then}
 use Rattle.pr_num.specs.Spaces.{heap_size, mapping_limit}
 use Rattle.pr_model.specs.Lwps.{lwp_of}
@@ -6,7 +6,6 @@ use Rattle.pr_model.specs.LwpTurns.{LwpTurn, is_kept, row_for, with_row, ending,
 use Rattle.pr_model.specs.State.{TracedSystem, TracedProcess, TracedLwp, live_process, with_process}
 use Rattle.pr_model.specs.declared.effects.TurnRow.{TurnRow}
 use Rattle.pr_model.specs.declared.events.Turned.{Turned}
-use Rattle.pr_proc.specs.Counts.{AllUsedAtMost}
 use Rattle.pr_turn.proofs.CountLaws.{AllUsedAtMost-turn_of}
 use Rattle.pr_turn.proofs.TurnLemmas.{with_row-keeps}
 use Rattle.pr_kern.specs.Soundness.{HasSmallHeap, HaveSmallHeaps, IsSound}

@@ -1,6 +1,5 @@
-use Rattle.std.specs.Prelude.{◌==◌, ◌||◌, ◌&&◌, ◌+◌, ◌-◌, ℕ, Bool, true, false, not, List, [], ◌∷◌, ◌++◌, Option, Some, None, is_some, option_map, option_and_then, nat_lt, slice_get, slice_index, length, if◌then◌else◌}
-use Rattle.std.specs.List.{flat_map, list_any}
-use Rattle.pr_num.specs.declared.syscalls.Sysno.{Sysno}
+use Rattle.std.specs.Prelude.{◌+◌, ◌-◌, ℕ, Bool, true, false, List, [], ◌∷◌, ◌++◌, Option, Some, None, option_map, option_and_then, nat_lt, slice_get, slice_index, length}
+use Rattle.std.specs.List.{list_any}
 use Rattle.pr_num.specs.declared.syscalls.Sysno.TheVariants.{Sleep}
 use Rattle.pr_model.specs.Calls.{Answer, answer_to}
 use Rattle.pr_model.specs.Legal.{ticked}

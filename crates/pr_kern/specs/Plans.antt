@@ -1,4 +1,3 @@
-use Rattle.std.specs.Prelude.{ℕ}
 use Rattle.pr_model.specs.ControlMessages.{Controlled, refused, half_answer, with_directed}
 use Rattle.pr_model.specs.Running.{with_run}
 use Rattle.pr_model.specs.State.{TracedSystem, with_process}

@@ -1,4 +1,4 @@
-use Rattle.std.specs.Prelude.{ℕ, List, Option, Some, None, map}
+use Rattle.std.specs.Prelude.{ℕ, List, Option, Some, None}
 use Rattle.pr_num.specs.KeyedTables.{change_first}
 use Rattle.pr_model.specs.Lwps.{is_lwp}
 use Rattle.pr_model.specs.Running.{with_request}

@@ -1,4 +1,4 @@
-use Rattle.std.specs.Prelude.{◌≡◌, ℕ, List, [], ◌∷◌, ◌++◌}
+use Rattle.std.specs.Prelude.{◌≡◌, ℕ, [], ◌∷◌, ◌++◌}
 use Rattle.pr_model.specs.Legal.{IsLegalEntry, after}
 use Rattle.pr_model.specs.declared.events.Entry.{Entry}
 use Rattle.pr_kern.specs.Kernels.{Kernel}

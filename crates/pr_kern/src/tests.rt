@@ -185,42 +185,135 @@ const CTL: (u32, u32, File, Mode) = (1, 0, File::Ctl, Mode::Write);
 
 const STATUS: (u32, u32, File, Mode) = (1, 0, File::Status, Mode::Read);
 
+const STOP_AND_READ: [Step<'static>; 8] = [
+    Step::Open(0, CTL, Said::Handle(0)),
+    Step::Turn(Did::Entered(GETPID)),
+    Step::Write(0, 0, &[DSTOP], Said::Used(8)),
+    Step::Turn(Did::Stopped),
+    Step::Write(0, 0, &[WSTOP], Said::Half(0)),
+    Step::Wait(0, 0, 0, &[WSTOP], Said::Used(8)),
+    Step::Open(0, STATUS, Said::Handle(1)),
+    Step::Read(0, (1, 104, 32), Said::Bytes),
+];
+
+/// Stopped on an event of interest, lwp 1, as requested, about nothing.
+const STOPPED: [u8; 32] = [
+    3, 0, 0, 0, 0, 0, 0, 0, 1, 0, 0, 0, 0, 0, 0, 0, 1, 0, 0, 0, 0, 0, 0, 0, 0, 0, 0, 0, 0, 0, 0, 0,
+];
+
+const RUN_TO_THE_END: [Step<'static>; 7] = [
+    Step::Write(0, 0, &[RUN, 0], Said::Used(16)),
+    Step::Turn(Did::Made(GETPID, Res::Value(1))),
+    Step::Close(0, 0, Said::Done),
+    Step::Turn(Did::Returned(GETPID)),
+    Step::Turn(Did::Ran),
+    Step::Turn(Did::Entered(Sysno::Exit)),
+    Step::Turn(Did::Made(Sysno::Exit, Res::Ended)),
+];
+
+const OPENS_AND_READS: [Step<'static>; 25] = [
+    Step::Open(0, (1, 0, File::Ctl, Mode::Read), INVAL),
+    Step::Open(0, (9, 0, File::Ctl, Mode::Read), INVAL),
+    Step::Open(0, (1, 0, File::Status, Mode::Write), INVAL),
+    Step::Open(0, (1, 1, File::Status, Mode::Read), INVAL),
+    Step::Open(0, (1, 0, File::Lwpctl, Mode::Write), INVAL),
+    Step::Open(0, (9, 0, File::Ctl, Mode::Write), NOENT),
+    Step::Open(0, (1, 2, File::Lwpctl, Mode::Write), NOENT),
+    Step::Open(0, (1, 0, File::Ctl, Mode::WriteExcl), Said::Handle(0)),
+    Step::Open(0, CTL, BUSY),
+    Step::Open(0, (1, 1, File::Lwpctl, Mode::WriteExcl), BUSY),
+    Step::Open(0, (9, 0, File::Ctl, Mode::WriteExcl), NOENT),
+    Step::Open(0, STATUS, Said::Handle(1)),
+    Step::Open(0, (0, 0, File::Ctl, Mode::Write), Said::Handle(2)),
+    Step::Read(0, (0, 0, 8), BADF),
+    Step::Read(0, (3, 0, 8), BADF),
+    Step::Read(5, (1, 0, 8), BADF),
+    Step::Read(0, (1, 1, 0), INVAL),
+    Step::Read(0, (1, 1, 16_385), INVAL),
+    Step::Read(0, (1, 1_000, 16_384), Said::Bytes),
+    // handles belong to who opened them, and the least free one is taken
+    Step::Close(5, 0, BADF),
+    Step::Close(0, 0, Said::Done),
+    Step::Close(0, 0, BADF),
+    Step::Open(5, CTL, Said::Handle(0)),
+    Step::Open(6, (1, 1, File::Lwpctl, Mode::Write), Said::Handle(3)),
+    Step::Open(6, (1, 0, File::Ctl, Mode::WriteExcl), BUSY),
+];
+
+const MESSAGES: [Step<'static>; 20] = [
+    Step::Open(0, CTL, Said::Handle(0)),
+    Step::Open(0, STATUS, Said::Handle(1)),
+    Step::Open(0, (0, 0, File::Ctl, Mode::Write), Said::Handle(2)),
+    Step::Write(1, 0, &[DSTOP], BADF),
+    Step::Write(0, 1, &[DSTOP], BADF),
+    Step::Wait(0, 7, 0, &[WSTOP], BADF),
+    Step::Write(0, 0, &[99], INVAL),
+    Step::Write(0, 0, &[], INVAL),
+    Step::Wait(0, 0, 0, &[DSTOP], INVAL),
+    Step::Write(0, 2, &[STOP], BUSY),
+    Step::Write(0, 2, &[SET, 1], INVAL),
+    Step::Wait(0, 2, 0, &[WSTOP], BUSY),
+    // neither stopped nor directed; then directed, and the directive is over
+    Step::Write(0, 0, &[RUN, 0], BUSY),
+    Step::Write(0, 0, &[DSTOP], Said::Used(8)),
+    Step::Write(0, 0, &[RUN, 0], Said::Used(16)),
+    Step::Turn(Did::Entered(GETPID)),
+    // of a write the first message is handled; the rest, sent in the next call, spells none
+    Step::Write(0, 0, &[DSTOP, RUN], Said::Used(8)),
+    Step::Write(0, 0, &[RUN], INVAL),
+    Step::Turn(Did::Stopped),
+    Step::Write(0, 0, &[RUN, 0], Said::Used(16)),
+];
+
+const AFTER_THE_END: [Step<'static>; 10] = [
+    Step::Turn(Did::Made(GETPID, Res::Value(1))),
+    Step::Turn(Did::Returned(GETPID)),
+    Step::Turn(Did::Ran),
+    Step::Turn(Did::Entered(Sysno::Exit)),
+    Step::Turn(Did::Made(Sysno::Exit, Res::Ended)),
+    // what has ended is not found, and that before its bytes are looked at
+    Step::Write(0, 0, &[99], NOENT),
+    Step::Wait(0, 0, 0, &[99], NOENT),
+    Step::Read(0, (1, 0, 8), NOENT),
+    Step::Open(0, CTL, NOENT),
+    Step::Open(0, (1, 0, File::Psinfo, Mode::Read), Said::Handle(3)),
+];
+
+const WAIT: [Step<'static>; 3] = [
+    Step::Open(0, CTL, Said::Handle(0)),
+    Step::Tick(1),
+    Step::Write(0, 0, &[TWSTOP, 1], Said::Half(2)),
+];
+
+const WAIT_OVER: [Step<'static>; 2] = [
+    Step::Tick(2),
+    Step::Wait(0, 0, 2, &[TWSTOP, 1], Said::Used(16)),
+];
+
+/// The reply of the last entry is of these bytes.
+fn check_bytes(rt: &impl Abort, kern: &Kern, want: &[u8]) {
+    match kern.last_reply() {
+        Some(Reply::Bytes(bytes)) => assert_eq!(rt; bytes.as_slice(), want),
+        _ => assert!(rt; false, "no bytes"),
+    }
+}
+
+/// The first lwp of all, and the first one that can have a turn.
+fn check_first(rt: &impl Abort, kern: &Kern, live: Option<(u32, u32)>, free: Option<(u32, u32)>) {
+    assert_eq!(rt; kern.next_lwp(None, false), live);
+    assert_eq!(rt; kern.next_lwp(None, true), free);
+}
+
 #[test]
 fn a_process_is_stopped_read_and_run(rt: HostRuntime) -> Result<(), Fail> {
     let alloc = rt.alloc();
     let mut kern = kernel_of(alloc, 15)?;
-    let steps = [
-        Step::Open(0, CTL, Said::Handle(0)),
-        Step::Turn(Did::Entered(GETPID)),
-        Step::Write(0, 0, &[DSTOP], Said::Used(8)),
-        Step::Turn(Did::Stopped),
-        Step::Write(0, 0, &[WSTOP], Said::Half(0)),
-        Step::Wait(0, 0, 0, &[WSTOP], Said::Used(8)),
-        Step::Open(0, STATUS, Said::Handle(1)),
-        Step::Read(0, (1, 104, 32), Said::Bytes),
-    ];
-    play(&rt, alloc, &mut kern, &steps)?;
-    if let Some(Reply::Bytes(bytes)) = kern.last_reply() {
-        // stopped on an event of interest, lwp 1, as requested, about nothing
-        let want = spelt(alloc, &[3, 1, 1, 0])?;
-        assert_eq!(rt; bytes.as_slice(), want.as_slice());
-    }
-    assert_eq!(rt; kern.next_lwp(None, true), None);
-    assert_eq!(rt; kern.next_lwp(None, false), Some((1, 1)));
-    assert_eq!(rt; kern.next_lwp(Some((1, 1)), false), None);
-    let steps = [
-        Step::Write(0, 0, &[RUN, 0], Said::Used(16)),
-        Step::Turn(Did::Made(GETPID, Res::Value(1))),
-        Step::Close(0, 0, Said::Done),
-        Step::Turn(Did::Returned(GETPID)),
-        Step::Turn(Did::Ran),
-        Step::Turn(Did::Entered(Sysno::Exit)),
-        Step::Turn(Did::Made(Sysno::Exit, Res::Ended)),
-    ];
-    play(&rt, alloc, &mut kern, &steps)?;
-    assert_eq!(rt; last_said(&kern), Said::Other, "a turn has no reply");
-    assert_eq!(rt; kern.next_lwp(None, false), None);
-    assert_eq!(rt; kern.entries(), 15);
+    check_first(&rt, &kern, Some((1, 1)), Some((1, 1)));
+    play(&rt, alloc, &mut kern, &STOP_AND_READ)?;
+    check_bytes(&rt, &kern, &STOPPED);
+    check_first(&rt, &kern, Some((1, 1)), None);
+    play(&rt, alloc, &mut kern, &RUN_TO_THE_END)?;
+    check_first(&rt, &kern, None, None);
     Ok(())
 }
 
@@ -228,35 +321,7 @@ fn a_process_is_stopped_read_and_run(rt: HostRuntime) -> Result<(), Fail> {
 fn opens_and_reads_are_refused(rt: HostRuntime) -> Result<(), Fail> {
     let alloc = rt.alloc();
     let mut kern = kernel_of(alloc, 40)?;
-    let steps = [
-        Step::Open(0, (1, 0, File::Ctl, Mode::Read), INVAL),
-        Step::Open(0, (9, 0, File::Ctl, Mode::Read), INVAL),
-        Step::Open(0, (1, 0, File::Status, Mode::Write), INVAL),
-        Step::Open(0, (1, 1, File::Status, Mode::Read), INVAL),
-        Step::Open(0, (1, 0, File::Lwpctl, Mode::Write), INVAL),
-        Step::Open(0, (9, 0, File::Ctl, Mode::Write), NOENT),
-        Step::Open(0, (1, 2, File::Lwpctl, Mode::Write), NOENT),
-        Step::Open(0, (1, 0, File::Ctl, Mode::WriteExcl), Said::Handle(0)),
-        Step::Open(0, CTL, BUSY),
-        Step::Open(0, (1, 1, File::Lwpctl, Mode::WriteExcl), BUSY),
-        Step::Open(0, (9, 0, File::Ctl, Mode::WriteExcl), NOENT),
-        Step::Open(0, STATUS, Said::Handle(1)),
-        Step::Open(0, (0, 0, File::Ctl, Mode::Write), Said::Handle(2)),
-        Step::Read(0, (0, 0, 8), BADF),
-        Step::Read(0, (3, 0, 8), BADF),
-        Step::Read(5, (1, 0, 8), BADF),
-        Step::Read(0, (1, 1, 0), INVAL),
-        Step::Read(0, (1, 1, 16_385), INVAL),
-        Step::Read(0, (1, 1_000, 16_384), Said::Bytes),
-        // handles belong to who opened them, and the least free one is taken
-        Step::Close(5, 0, BADF),
-        Step::Close(0, 0, Said::Done),
-        Step::Close(0, 0, BADF),
-        Step::Open(5, CTL, Said::Handle(0)),
-        Step::Open(6, (1, 1, File::Lwpctl, Mode::Write), Said::Handle(3)),
-        Step::Open(6, (1, 0, File::Ctl, Mode::WriteExcl), BUSY),
-    ];
-    play(&rt, alloc, &mut kern, &steps)?;
+    play(&rt, alloc, &mut kern, &OPENS_AND_READS)?;
     Ok(())
 }
 
@@ -281,77 +346,41 @@ fn at_most_1024_handles_are_open(rt: HostRuntime) -> Result<(), Fail> {
 fn messages_are_refused(rt: HostRuntime) -> Result<(), Fail> {
     let alloc = rt.alloc();
     let mut kern = kernel_of(alloc, 40)?;
-    let steps = [
-        Step::Open(0, CTL, Said::Handle(0)),
-        Step::Open(0, STATUS, Said::Handle(1)),
-        Step::Open(0, (0, 0, File::Ctl, Mode::Write), Said::Handle(2)),
-        Step::Write(1, 0, &[DSTOP], BADF),
-        Step::Write(0, 1, &[DSTOP], BADF),
-        Step::Wait(0, 7, 0, &[WSTOP], BADF),
-        Step::Write(0, 0, &[99], INVAL),
-        Step::Write(0, 0, &[], INVAL),
-        Step::Wait(0, 0, 0, &[DSTOP], INVAL),
-        Step::Write(0, 2, &[STOP], BUSY),
-        Step::Write(0, 2, &[SET, 1], INVAL),
-        Step::Wait(0, 2, 0, &[WSTOP], BUSY),
-        // neither stopped nor directed; then directed, and the directive is over
-        Step::Write(0, 0, &[RUN, 0], BUSY),
-        Step::Write(0, 0, &[DSTOP], Said::Used(8)),
-        Step::Write(0, 0, &[RUN, 0], Said::Used(16)),
-        Step::Turn(Did::Entered(GETPID)),
-        // of a write the first message is handled; the rest, sent in the next call, spells none
-        Step::Write(0, 0, &[DSTOP, RUN], Said::Used(8)),
-        Step::Write(0, 0, &[RUN], INVAL),
-        Step::Turn(Did::Stopped),
-        Step::Write(0, 0, &[RUN, 0], Said::Used(16)),
-    ];
-    play(&rt, alloc, &mut kern, &steps)?;
-    let steps = [
-        Step::Turn(Did::Made(GETPID, Res::Value(1))),
-        Step::Turn(Did::Returned(GETPID)),
-        Step::Turn(Did::Ran),
-        Step::Turn(Did::Entered(Sysno::Exit)),
-        Step::Turn(Did::Made(Sysno::Exit, Res::Ended)),
-        // what has ended is not found, and that before its bytes are looked at
-        Step::Write(0, 0, &[99], NOENT),
-        Step::Wait(0, 0, 0, &[99], NOENT),
-        Step::Read(0, (1, 0, 8), NOENT),
-        Step::Open(0, CTL, NOENT),
-        Step::Open(0, (1, 0, File::Psinfo, Mode::Read), Said::Handle(3)),
-    ];
-    play(&rt, alloc, &mut kern, &steps)?;
+    play(&rt, alloc, &mut kern, &MESSAGES)?;
+    play(&rt, alloc, &mut kern, &AFTER_THE_END)?;
     Ok(())
+}
+
+/// A wait until this clock is not over.
+fn check_waits(rt: &impl Abort, alloc: Global, kern: &Kern, until: u64) -> Result<(), NoMemory> {
+    let wait = Call::CtlWait {
+        handle: 0,
+        until,
+        bytes: spelt(alloc, &[TWSTOP, 1])?,
+    };
+    assert!(rt; !kern.ready(0, &wait), "until {until}");
+    Ok(())
+}
+
+/// What a kernel tells of itself after five entries, of which the last is no turn.
+fn check_told(rt: &impl Abort, kern: &Kern) {
+    assert!(rt; !kern.ready(0, &Call::List), "not built yet");
+    assert!(rt; !kern.sleeper());
+    assert_eq!(rt; kern.entries(), 5);
+    assert_eq!(rt; kern.programs().len(), 1);
+    assert_eq!(rt; kern.history().len(), 5);
 }
 
 #[test]
 fn a_wait_ends_with_its_time(rt: HostRuntime) -> Result<(), Fail> {
     let alloc = rt.alloc();
     let mut kern = kernel_of(alloc, 9)?;
-    assert_eq!(rt; last_said(&kern), Said::Other, "no entry yet");
-    let steps = [
-        Step::Open(0, CTL, Said::Handle(0)),
-        Step::Tick(1),
-        Step::Write(0, 0, &[TWSTOP, 1], Said::Half(2)),
-    ];
-    play(&rt, alloc, &mut kern, &steps)?;
+    play(&rt, alloc, &mut kern, &WAIT)?;
     // a wait goes on before its end, and where 0 sets none
-    for until in [0, 2] {
-        let wait = Call::CtlWait {
-            handle: 0,
-            until,
-            bytes: spelt(alloc, &[TWSTOP, 1])?,
-        };
-        assert!(rt; !kern.ready(0, &wait), "until {until}");
-    }
-    assert!(rt; !kern.ready(0, &Call::List), "not built yet");
-    let steps = [
-        Step::Tick(2),
-        Step::Wait(0, 0, 2, &[TWSTOP, 1], Said::Used(16)),
-    ];
-    play(&rt, alloc, &mut kern, &steps)?;
-    assert!(rt; !kern.sleeper());
-    assert_eq!(rt; kern.programs().len(), 1);
-    assert_eq!(rt; kern.history().len(), 5);
+    check_waits(&rt, alloc, &kern, 2)?;
+    check_waits(&rt, alloc, &kern, 0)?;
+    play(&rt, alloc, &mut kern, &WAIT_OVER)?;
+    check_told(&rt, &kern);
     assert_eq!(rt; kern.into_history().len(), 5);
     Ok(())
 }

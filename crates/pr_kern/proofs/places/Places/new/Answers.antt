@@ -1,4 +1,4 @@
-use Rattle.std.proofs.Common.{◌≡◌, refl, None, Some, rules}
+use Rattle.std.proofs.Common.{rules}
 use Rattle.pr_model.specs.State.{nothing_open}
 use Rattle.pr_kern.proofs.places.Places.new.Goals as goal
 
