@@ -178,7 +178,7 @@ fn a_scenario_is_run_and_its_history_written(rt: HostRuntime) -> Result<(), Fail
             none,
             none,
             0,
-            ["history 15\n", FIRST_TEN, OTHERS, "status 0\n"],
+            ["history 15\n", FIRST_TEN, OTHERS, "status 0\n"].as_slice(),
             15,
         ),
         (
@@ -186,26 +186,47 @@ fn a_scenario_is_run_and_its_history_written(rt: HostRuntime) -> Result<(), Fail
             none,
             none,
             3,
-            ["history 10\n", FIRST_TEN, "", "status 3\n"],
+            ["history 10\n", FIRST_TEN, "", "status 3\n"].as_slice(),
             10,
         ),
-        ("", none, none, 0, ["history 0\n", "", "", "status 0\n"], 0),
+        (
+            "",
+            none,
+            none,
+            0,
+            ["history 0\n", "", "", "status 0\n"].as_slice(),
+            0,
+        ),
         (
             "turns 5\nprogram p\nsys getpit\nend\n",
             none,
             none,
             2,
-            ["line 3: NotBuilt\n", "", "", ""],
+            ["line 3: NotBuilt\n", "", "", ""].as_slice(),
             0,
         ),
-        (STOPPED_ONCE, [0].as_slice(), none, 5, ["", "", "", ""], 0),
-        (STOPPED_ONCE, none, [0].as_slice(), 6, ["", "", "", ""], 15),
+        (
+            STOPPED_ONCE,
+            [0].as_slice(),
+            none,
+            5,
+            ["", "", "", ""].as_slice(),
+            0,
+        ),
+        (
+            STOPPED_ONCE,
+            none,
+            [0].as_slice(),
+            6,
+            ["", "", "", ""].as_slice(),
+            15,
+        ),
         (
             STOPPED_ONCE,
             none,
             [11].as_slice(),
             6,
-            ["history 15\n", FIRST_TEN, "", ""],
+            ["history 15\n", FIRST_TEN, "", ""].as_slice(),
             15,
         ),
     ] {
@@ -213,7 +234,7 @@ fn a_scenario_is_run_and_its_history_written(rt: HostRuntime) -> Result<(), Fail
         let mut source = MemSource::new(bytes, reads.to_vec(rt.alloc())?);
         let mut sink = MemSink::new(2_000, writes.to_vec(rt.alloc())?)?;
         let outcome = serve(&rt, rt.alloc(), &words, &mut source, &mut sink, &OpenGate);
-        let want = joined(rt.alloc(), &text)?;
+        let want = joined(rt.alloc(), text)?;
         assert_eq!(rt; outcome.status, status, "of {input}");
         assert_eq!(rt; sink.bytes(), want.as_bytes(), "of {input}");
         assert_eq!(rt; outcome.history.len(), entries, "of {input}");
