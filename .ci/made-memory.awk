@@ -4,7 +4,7 @@
 # Not printed: their names where they are a type or a pattern (an import, a parameter, a result, an argument of a type,
 # the head of an impl, the declaration of a struct or an enum, the left side of an arm or of a let), in clauses, other
 # ghost text, strings and comments, and where want of memory is handed on (a variant that is made in
-# `fn from(_: NoMemory)`).
+# `fn from(_: NoMemory)`, or in an arm whose pattern is one).
 
 function depth_of(text,  opened) {
   opened = gsub(/\{/, "", text)
@@ -27,6 +27,7 @@ FNR == 1 { depth = 0; type_at = from_at = ghost_at = -1 }
   if (from_at >= 0 && depth == from_at + 1) sub(/[A-Za-z]+::NoMemory/, "", line)
   if (line ~ /(^|[ \t])fn /) gsub(": " name "[,)]", "", line)
   if (line ~ /(^|[ \t])impl[ <]/) gsub(" for " name "( |$)", "", line)
+  if (line ~ /(^|[ \t(])[A-Za-z_:]+::NoMemory(\([a-z]+\))?\)* =>/) sub(/=>.*[A-Za-z]+::NoMemory/, "=>", line)
   sub(/^.*=>/, "=>", line)
   sub("let [^=]*" name "[^=]*=", "let =", line)
   gsub("(-> |, |<)" name "(<[A-Za-z]+>)?(>| \\{|$)", "", line)

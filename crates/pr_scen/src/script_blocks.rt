@@ -1,5 +1,5 @@
 //! The lines of a script block, each read on its own.
-ghost use Rattle.std.specs.Prelude.{◌≡◌, [], IfOk};
+ghost use Rattle.std.specs.Prelude.{◌≡◌, ◌++◌, [], IfOk};
 ghost use Rattle.pr_num.specs.Messages.{tail_length};
 ghost use Rattle.pr_text.specs.Words.{texts_of};
 ghost use Rattle.pr_scen.specs.ScriptBlocks.{opening, open_of, close_of, read_of, message_of, with_message, with_messages, write_of, call_with, script_line_with, script_line_of};
@@ -98,6 +98,13 @@ fn message_of(word: &[u8]) -> Result<Message, ScenKind>
     Err(ScenKind::NotBuilt)
 }
 
+/// Adds more bytes at the end.
+fn append(bytes: &mut Vec<u8>, more: &[u8]) -> Result<(), NoMemory>
+    ensures { IfOk result (λ _. bytes.new.items ≡ bytes.old.items ++ more.now) }
+{
+    Ok(bytes.extend_from_slice(more)?)
+}
+
 /// Adds the bytes of the message of a word.
 #[tactic(auto, unfolding(crate::specs::ScriptBlocks::with_message))]
 fn put_message(alloc: Global, bytes: &mut Vec<u8>, word: &[u8]) -> Result<(), Refused>
@@ -105,10 +112,7 @@ fn put_message(alloc: Global, bytes: &mut Vec<u8>, word: &[u8]) -> Result<(), Re
 {
     let message = message_of(word)?;
     let spelt = encode(alloc, &message, &[])?;
-    match bytes.extend_from_slice(spelt.as_slice()) {
-        Ok(()) => Ok(()),
-        Err(error) => Err(Refused::NoMemory(NoMemory::from(error))),
-    }
+    Ok(append(bytes, spelt.as_slice())?)
 }
 
 /// The bytes of the messages of these words, one behind the other.
