@@ -14,3 +14,6 @@ pub use laws::{
     a_run_is_legal_and_follows_the_protocol, each_move_is_an_entry, next_is_who_can_move,
 };
 pub use worlds::World;
+
+#[cfg(test)]
+mod tests;
