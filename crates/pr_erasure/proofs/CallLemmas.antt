@@ -24,7 +24,7 @@ use Rattle.pr_laws.proofs.TurnLemmas.{live-found}
 use Rattle.pr_laws.specs.Refusals.{LeavesIfRefused}
 use Rattle.pr_erasure.proofs.FollowLemmas.{Follows, hidden-follows}
 use Rattle.pr_erasure.proofs.HiddenLemmas.{IsHidden, hidden-none, hidden-process}
-use Rattle.pr_erasure.proofs.ListLemmas.{All-found}
+use Rattle.pr_laws.proofs.ListLemmas.{All-found}
 use Rattle.pr_erasure.proofs.MessageLemmas.{control-hides}
 use Rattle.pr_erasure.proofs.UntouchedLemmas.{released-untouched}
 use Rattle.pr_erasure.specs.Untouched.{IsUntouchedProcess, IsUntouched}

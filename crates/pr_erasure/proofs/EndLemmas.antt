@@ -6,7 +6,7 @@ use Rattle.pr_model.specs.Lives.{bare_process, zombie, orphaned, told_of_child, 
 use Rattle.pr_model.specs.Lwps.{is_process}
 use Rattle.pr_model.specs.State.{TracedProcess, TracedSystem, with_process}
 use Rattle.pr_model.specs.System.{SystemProcess, is_system_process, system_zombie, system_orphaned, system_told_of_child, with_system_parent_told, with_system_process, with_system_ended}
-use Rattle.pr_erasure.proofs.ListLemmas.{map-change_each, map-map_each}
+use Rattle.pr_laws.proofs.ListLemmas.{map-change_each, map-map_each}
 
 -- How a process ends: what programs see of the end is the end of what they see.
 

@@ -5,9 +5,10 @@ use Rattle.pr_model.specs.Erasure.{erased_lwp, erased_process, erased_system}
 use Rattle.pr_model.specs.Lwps.{is_lwp, is_process}
 use Rattle.pr_model.specs.LwpTurns.{stopped_at, with_stop_at, after_meeting}
 use Rattle.pr_model.specs.State.{TracedSystem, TracedProcess, TracedLwp, with_process}
-use Rattle.pr_model.specs.Stops.{has_event_stop, directed, directed_but, with_others_directed, is_traced}
+use Rattle.pr_model.specs.Stops.{directed, directed_but, with_others_directed, is_traced}
 use Rattle.pr_model.specs.declared.stops.Point.{Point}
-use Rattle.pr_erasure.proofs.ListLemmas.{map-map_hidden, map-change_hidden}
+use Rattle.pr_laws.proofs.ErasureLemmas.{directed-hidden}
+use Rattle.pr_laws.proofs.ListLemmas.{map-map_hidden, map-change_hidden}
 use Rattle.pr_erasure.proofs.UntouchedLemmas.{with_process-untouched}
 use Rattle.pr_erasure.specs.Untouched.{IsUntouchedProcess, IsUntouched}
 
@@ -34,10 +35,6 @@ hidden-process pid f hidden kept s u = record {
 stopped_at-hidden : (point : Point) (l : TracedLwp) → erased_lwp (stopped_at point l) ≡ erased_lwp l
 unfolding erased_lwp stopped_at
 stopped_at-hidden point l = refl
-
-directed-hidden : (l : TracedLwp) → erased_lwp (directed l) ≡ erased_lwp l
-unfolding erased_lwp directed
-directed-hidden l = elim (has_event_stop l) as (λ b. erased_lwp (cond b l (record l { directed = true })) ≡ erased_lwp l) [ true ↦ refl | false ↦ refl ]
 
 directed_but-hidden : (id : ℕ) (l : TracedLwp) → erased_lwp (directed_but id l) ≡ erased_lwp l
 unfolding directed_but

@@ -5,7 +5,6 @@ pub mod FaultLemmas
 pub mod FollowLemmas
 pub mod HiddenLemmas
 pub mod HistoryLemmas
-pub mod ListLemmas
 pub mod MessageLemmas
 pub mod RowLemmas
 pub mod SeenLemmas

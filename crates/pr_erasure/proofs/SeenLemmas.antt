@@ -18,7 +18,7 @@ use Rattle.pr_laws.proofs.FoundLemmas.{map-change_first}
 use Rattle.pr_erasure.proofs.DecisionLemmas.{IsInProgram}
 use Rattle.pr_erasure.proofs.EndLemmas.{erased_process-id}
 use Rattle.pr_erasure.proofs.HiddenLemmas.{meeting-hidden}
-use Rattle.pr_erasure.proofs.ListLemmas.{find-map, map-change_found, All-found}
+use Rattle.pr_laws.proofs.ListLemmas.{find-map, map-change_found, All-found}
 use Rattle.pr_erasure.specs.Untouched.{IsUntouchedLwp, IsUntouchedProcess, IsUntouched}
 
 -- What programs see of an lwp that has a turn: that it may make a step, and what a row makes of it.

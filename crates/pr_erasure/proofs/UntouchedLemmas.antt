@@ -21,7 +21,7 @@ use Rattle.pr_model.specs.declared.effects.TurnRow.TheVariants as rows
 use Rattle.pr_model.specs.declared.handles.Held.{Held}
 use Rattle.pr_model.specs.declared.stops.Point.{Point}
 use Rattle.pr_model.specs.declared.stops.Stop.TheVariants as stop
-use Rattle.pr_erasure.proofs.ListLemmas.{All-change_first, All-map_kept}
+use Rattle.pr_laws.proofs.ListLemmas.{All-change_first, All-map_kept}
 use Rattle.pr_erasure.specs.Untouched.{IsUntouchedLwp, IsUntouchedProcess, IsUntouched}
 
 -- What changes a state without touching it.

@@ -9,16 +9,6 @@ use pr_num::{Bytes, Name, NoMemory, StoredFile, Table};
 use pr_proc::first_system;
 use std::alloc::Global;
 
-fn table_of(alloc: Global, programs: Vec<Program>) -> Result<Table<Program>, NoMemory>
-    ensures { IfOk result (λ table. table ≡ programs.items) }
-{
-    let mut table = Table::new(alloc);
-    for program in programs {
-        table.push(program)?;
-    }
-    Ok(table)
-}
-
 /// Files as the system keeps them.
 #[tactic(auto, unfolding(crate::specs::Starts::stored_file))]
 fn stored(alloc: Global, files: Vec<(Name, Bytes)>) -> Result<Table<StoredFile>, NoMemory>
@@ -43,7 +33,7 @@ pub fn first_machine(
     requires { length spawns.now + 1 < 2 ^ 32 }
     ensures { IfOk result (λ state. state ≡ first_state programs.items (stored files.items) spawns.now) }
 {
-    let programs = table_of(alloc, programs)?;
+    let programs = Table::from_vec(programs);
     let files = stored(alloc, files)?;
     let system = first_system(alloc, programs, files, spawns)?;
     let opens = Places::new(alloc)?;

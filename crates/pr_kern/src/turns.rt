@@ -2,24 +2,13 @@
 ghost use Rattle.std.specs.Prelude.{◌≡◌, find};
 ghost use Rattle.std.specs.List.{flat_map};
 ghost use Rattle.std.specs.Option.{option_copied};
-ghost use Rattle.pr_proc.specs.Order.{is_after, live_lwps, lwps_in};
+ghost use Rattle.pr_proc.specs.Order.{live_lwps, lwps_in};
 ghost use Rattle.pr_kern.specs.Orders.{can_follow, moves_after, next_movable};
 
 use pr_model::Lwp;
 use pr_num::SigSet;
-use pr_proc::{Proc, Sys};
+use pr_proc::{Proc, Sys, is_after};
 use pr_turn::movable;
-
-/// Whether the lwp `x` comes after the lwp `after`: by process, and then by lwp. Each comes after none.
-#[tactic(auto, unfolding(pr_proc::specs::Order::is_after))]
-fn is_after(after: Option<(u32, u32)>, x: (u32, u32)) -> bool
-    ensures { result ≡ is_after after x }
-{
-    match after {
-        None => true,
-        Some((pid, lwp)) => pid < x.0 || (pid == x.0 && lwp < x.1),
-    }
-}
 
 /// Whether an lwp comes after another one and can have a turn.
 #[tactic(auto, unfolding(crate::specs::Orders::moves_after))]

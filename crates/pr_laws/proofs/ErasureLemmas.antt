@@ -14,19 +14,10 @@ use Rattle.pr_model.specs.UntracedMachine.{UntracedRun, ends_here, by_call_entry
 use Rattle.pr_model.specs.declared.handles.Held.{Held}
 use Rattle.pr_model.specs.declared.steps.Step.{Step}
 use Rattle.pr_model.specs.declared.stops.Stop.TheVariants.{Requested}
-
--- A change that no element shows through a view is not seen of a list of them, whether all change or one.
-map-map_same : {X Y : Type 0} (view : X → Y) (f : X → X) → ((x : X) → view (f x) ≡ view x) → (xs : List X) → map view (map f xs) ≡ map view xs
-map-map_same view f same [] = refl
-map-map_same view f same (x ∷ xs) = ap (λ y. y ∷ map view (map f xs)) (same x) ∙ ap (λ ys. view x ∷ ys) (map-map_same view f same xs)
-
-map-change_same : {X Y : Type 0} (view : X → Y) (q : X → Bool) (f : X → X) → ((x : X) → view (f x) ≡ view x) → (xs : List X) → map view (change_first q f xs) ≡ map view xs
-map-change_same view q f same [] = refl
-map-change_same view q f same (x ∷ xs) =
-    elim (q x) as (λ b. map view (cond b (f x ∷ xs) (x ∷ change_first q f xs)) ≡ view x ∷ map view xs) [ true ↦ ap (λ y. y ∷ map view xs) (same x) | false ↦ ap (λ ys. view x ∷ ys) (map-change_same view q f same xs) ]
+use Rattle.pr_laws.proofs.ListLemmas.{map-map_hidden, map-change_hidden}
 
 -- What controllers change of an lwp is not seen of it.
-directed-hidden : (l : TracedLwp) → erased_lwp (directed l) ≡ erased_lwp l
+pub directed-hidden : (l : TracedLwp) → erased_lwp (directed l) ≡ erased_lwp l
 unfolding erased_lwp directed
 directed-hidden l = elim (has_event_stop l) as (λ b. erased_lwp (cond b l (record l { directed = true })) ≡ erased_lwp l) [ true ↦ refl | false ↦ refl ]
 
@@ -50,21 +41,21 @@ pub with_directed-hidden : (h : Held) (p : TracedProcess) → erased_process (wi
 unfolding erased_process with_directed with_all_directed
 with_directed-hidden h p =
     elim (is_of_lwp h.file) as (λ b. erased_process (cond b (record p { lwps = change_first (is_lwp h.lwp) directed p.lwps }) (record p { lwps = map directed p.lwps })) ≡ erased_process p) [
-      | true ↦ ap (λ ls. record (erased_process p) { lwps = ls }) (map-change_same erased_lwp (is_lwp h.lwp) directed directed-hidden p.lwps)
-      | false ↦ ap (λ ls. record (erased_process p) { lwps = ls }) (map-map_same erased_lwp directed directed-hidden p.lwps)
+      | true ↦ ap (λ ls. record (erased_process p) { lwps = ls }) (map-change_hidden erased_lwp (is_lwp h.lwp) directed directed-hidden p.lwps)
+      | false ↦ ap (λ ls. record (erased_process p) { lwps = ls }) (map-map_hidden erased_lwp directed directed-hidden p.lwps)
     ]
 
 representative_run-hidden : (r : Option TracedLwp) (ls : List TracedLwp) → map erased_lwp (with_representative_run r ls) ≡ map erased_lwp ls
-representative_run-hidden None ls = map-map_same erased_lwp without_directive without_directive-hidden ls
+representative_run-hidden None ls = map-map_hidden erased_lwp without_directive without_directive-hidden ls
 representative_run-hidden (Some r) ls =
-    map-change_same erased_lwp (is_lwp r.id) with_request with_request-hidden (map without_directive ls)
-    ∙ map-map_same erased_lwp without_directive without_directive-hidden ls
+    map-change_hidden erased_lwp (is_lwp r.id) with_request with_request-hidden (map without_directive ls)
+    ∙ map-map_hidden erased_lwp without_directive without_directive-hidden ls
 
 all_requested-hidden : (job : Option Sig) (ls : List TracedLwp) → map erased_lwp (if_all_requested job ls) ≡ map erased_lwp ls
 unfolding if_all_requested
 all_requested-hidden job ls =
     elim (list_all (shows_run job) ls) as (λ b. map erased_lwp (cond b (map without_request ls) ls) ≡ map erased_lwp ls)
-    [ true ↦ map-map_same erased_lwp without_request without_request-hidden ls | false ↦ refl ]
+    [ true ↦ map-map_hidden erased_lwp without_request without_request-hidden ls | false ↦ refl ]
 
 pub with_run-hidden : (p : TracedProcess) → erased_process (with_run p) ≡ erased_process p
 unfolding erased_process with_run
@@ -73,7 +64,7 @@ with_run-hidden p =
 
 pub released-hidden : (p : TracedProcess) → erased_process (released p) ≡ erased_process p
 unfolding erased_process released
-released-hidden p = ap (λ ls. record (erased_process p) { lwps = ls }) (map-map_same erased_lwp released_lwp released_lwp-hidden p.lwps)
+released-hidden p = ap (λ ls. record (erased_process p) { lwps = ls }) (map-map_hidden erased_lwp released_lwp released_lwp-hidden p.lwps)
 
 pub ruleset hidden = (with_directed-hidden, with_run-hidden, released-hidden)
 

@@ -43,6 +43,20 @@ impl<T> Table<T> {
         }
     }
 
+    /// The elements of a vector. Takes no memory.
+    pub fn from_vec(items: Vec<T>) -> Table<T>
+        ensures { result ≡ items.items }
+    {
+        Table { items }
+    }
+
+    /// The vector of its elements. Takes no memory.
+    pub fn into_vec(self) -> Vec<T>
+        ensures { result.items ≡ self }
+    {
+        self.items
+    }
+
     pub fn len(&self) -> usize
         ensures { result ≡ length self.now }
     {

@@ -15,7 +15,7 @@ pub use counts::has_room;
 pub use ends::end;
 pub use files::Files;
 pub use first::first_system;
-pub use order::next_lwp;
+pub use order::{is_after, next_lwp};
 pub use releases::release;
 pub use spawns::spawn;
 pub use systems::{Fds, Proc, Sys, has_agent, live};

@@ -8,9 +8,10 @@ use crate::{Proc, Sys};
 use pr_model::Lwp;
 use pr_num::SigSet;
 
-/// Whether the lwp `x` comes after the lwp `after`: by process, and then by lwp. Each comes after none.
+/// Whether the lwp `x` comes after the lwp `after`: by process, and then by lwp. Each comes after none. Both are the
+/// ids of a process and of its lwp.
 #[tactic(auto, unfolding(crate::specs::Order::is_after))]
-fn is_after(after: Option<(u32, u32)>, x: (u32, u32)) -> bool
+pub fn is_after(after: Option<(u32, u32)>, x: (u32, u32)) -> bool
     ensures { result ≡ is_after after x }
 {
     match after {

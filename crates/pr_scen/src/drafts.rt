@@ -10,9 +10,9 @@ use crate::parts::is_readable;
 use crate::program_blocks::{ProgramLine, program_line_of};
 use crate::refusals::Refused;
 use crate::script_blocks::{InScript, script_line_of};
-use crate::{Lines, Listed, ScenKind, ScriptLine};
+use crate::{Lines, ScenKind, ScriptLine};
 use pr_asm::Program;
-use pr_num::{Instruction, Name, NoMemory};
+use pr_num::{Instruction, Name, NoMemory, Table};
 use std::alloc::Global;
 use std::mem;
 
@@ -33,9 +33,9 @@ pub enum Inside {
 pub struct Draft {
     /// How many entries the history may have, where a line said so.
     pub turns: Option<u32>,
-    pub programs: Listed<Program>,
-    pub spawns: Listed<u32>,
-    pub scripts: Listed<Lines>,
+    pub programs: Table<Program>,
+    pub spawns: Table<u32>,
+    pub scripts: Table<Lines>,
     pub inside: Inside,
     /// The instructions of the program block so far; none outside one.
     pub code: Code,
@@ -70,12 +70,12 @@ impl Draft {
     {
         Draft {
             turns: None,
-            programs: Listed::new(alloc),
-            spawns: Listed::new(alloc),
-            scripts: Listed::new(alloc),
+            programs: Table::new(alloc),
+            spawns: Table::new(alloc),
+            scripts: Table::new(alloc),
             inside: Inside::Outside,
             code: Code::new(alloc),
-            lines: Listed::new(alloc),
+            lines: Table::new(alloc),
             opens: 0,
         }
     }
@@ -204,7 +204,7 @@ impl Draft {
     fn end_script(&mut self, alloc: Global) -> Result<(), NoMemory>
         ensures { OnOk result (self.new ≡ with_script self.old) }
     {
-        let lines = mem::replace(&mut self.lines, Listed::new(alloc));
+        let lines = mem::replace(&mut self.lines, Table::new(alloc));
         self.scripts.push(lines)?;
         self.inside = Inside::Outside;
         Ok(())

@@ -6,7 +6,6 @@ mod codes;
 mod drafts;
 mod items;
 mod laws;
-mod listings;
 mod parts;
 mod program_blocks;
 mod reading;
@@ -21,7 +20,6 @@ pub use laws::{
     a_refusal_names_the_first_line, a_scenario_keeps_its_limits, each_scenario_has_a_spelling,
     scripts_write_built_messages, what_spells_a_scenario_is_read,
 };
-pub use listings::Listed;
 pub use reading::read_scenario;
 pub use refusals::{ScenFault, ScenKind, ScenRefusal};
 pub use scenarios::{Lines, Scenario};

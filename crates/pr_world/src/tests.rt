@@ -7,7 +7,7 @@ use super::*;
 use pr_kern::Kern;
 use pr_model::{Actor, File, History, Mode};
 use pr_num::{Bytes, Name, Table};
-use pr_scen::{Listed, Scenario, Script, ScriptLine, read_scenario};
+use pr_scen::{Scenario, Script, ScriptLine, read_scenario};
 use std::alloc::Global;
 use std::process::Abort;
 use std::test::Fail;
@@ -52,7 +52,7 @@ fn timed_wait(alloc: Global) -> Result<Script, Fail> {
     for word in [TWSTOP, 2] {
         message.extend_from_slice(&word.to_le_bytes())?;
     }
-    let mut lines = Listed::new(alloc);
+    let mut lines = Table::new(alloc);
     lines.push(ScriptLine::Open {
         name,
         pid: 1,
