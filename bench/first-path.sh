@@ -1,6 +1,8 @@
 #!/usr/bin/env bash
-# Time of a run against the size of its scenario: a script of 16 opens and as many reads and writes as a quarter, a half and
-# the whole of 1 MiB hold, with 100,000 turns. Prints seconds and their ratios, which are near 1 : 2 : 4 where time is linear.
+# Time of a run against the size of its scenario: a process is stopped, and a script of 16 opens reads its status and writes
+# to it as often as a quarter, a half and the whole of 1 MiB hold, with 100,000 turns; at last it is run. The time is that of
+# reading the scenario, running it and writing its history to a file. Prints seconds and their ratios, which are near 1 : 2 : 4
+# where time is linear.
 set -eu
 program=$(cd "$(dirname "${BASH_SOURCE[0]}")/.." && pwd)/crates/proclab/out/proclab
 [ -x "$program" ] || { echo "no proved program: run ./proclab once" >&2; exit 1; }
@@ -8,29 +10,40 @@ program=$(cd "$(dirname "${BASH_SOURCE[0]}")/.." && pwd)/crates/proclab/out/proc
 # scenario BYTES: a scenario of about so many bytes
 scenario() {
   awk -v most="$1" 'BEGIN {
-    line = "turns 100000\nprogram p\nsys getpid\nsys exit\nend\nspawn p\nscript\n"
-    for (k = 0; k < 16; k++) line = line "open v" k " 1 " (k % 2 ? "status r" : "ctl w") "\n"
-    size = length(line); printf "%s", line
+    text = "turns 100000\nprogram p\nsys getpid\nsys exit\nend\nspawn p\nscript\n"
+    for (k = 0; k < 16; k++) text = text "open v" k " 1 " (k % 2 ? "status r" : "ctl w") "\n"
+    text = text "write v0 dstop\nwrite v0 wstop\n"
+    last = "write v0 run\nend\n"
+    size = length(text) + length(last)
+    printf "%s", text
     for (k = 0; ; k++) {
-      line = k % 3 == 0 ? "write v0 dstop\n" : k % 3 == 1 ? "read v1 0 344\n" : "write v0 run\n"
+      line = k % 2 == 0 ? "read v1 0 344\n" : "write v0 dstop\n"
       size += length(line)
-      if (size > most - 4) break
+      if (size > most) break
       printf "%s", line
     }
-    print "end"
+    printf "%s", last
   }'
 }
 
+# timed: the seconds that the program takes for the input, and nothing where it does not end as a run does
+timed() {
+  local start end status=0
+  start=$(date +%s.%N)
+  "$program" run <"$input" >"$output" || status=$?
+  end=$(date +%s.%N)
+  [ "$status" = 0 ] || [ "$status" = 3 ] || { echo "status $status" >&2; return 1; }
+  awk -v a="$start" -v b="$end" 'BEGIN { printf "%.3f", b - a }'
+}
+
 input=$(mktemp)
-trap 'rm -f "$input"' EXIT
+output=$(mktemp)
+trap 'rm -f "$input" "$output"' EXIT
 first=
 for part in 4 2 1; do
   scenario $((1048576 / part)) >"$input"
-  start=$(date +%s.%N)
-  entries=$("$program" run <"$input" | head -n 1) || true
-  end=$(date +%s.%N)
-  seconds=$(awk -v a="$start" -v b="$end" 'BEGIN { printf "%.3f", b - a }')
+  seconds=$(timed)
   first=${first:-$seconds}
-  awk -v n="$(wc -c <"$input")" -v e="$entries" -v s="$seconds" -v f="$first" \
-    'BEGIN { printf "%d bytes, %s entries: %s s, ratio %.2f\n", n, substr(e, 9), s, s / f }'
+  awk -v n="$(wc -c <"$input")" -v e="$(head -n 1 "$output")" -v o="$(wc -c <"$output")" -v s="$seconds" -v f="$first" \
+    'BEGIN { printf "%d bytes, %s entries, %d bytes written: %s s, ratio %.2f\n", n, substr(e, 9), o, s, s / f }'
 done

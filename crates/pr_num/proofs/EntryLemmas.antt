@@ -12,12 +12,15 @@ use Rattle.pr_num.specs.declared.errnos.Errno.{Errno}
 use Rattle.pr_num.specs.declared.errnos.Errno.TheVariants.{Perm}
 use Rattle.pr_num.specs.declared.syscalls.Sysno.{Sysno}
 use Rattle.pr_num.specs.declared.syscalls.Sysno.TheVariants.{Exit}
+use Rattle.pr_num.specs.declared.stop_reasons.StopReason.{StopReason}
+use Rattle.pr_num.specs.declared.stop_reasons.StopReason.TheVariants.{Requested}
 use Rattle.pr_num.specs.Tables.{entry_at}
 use Rattle.pr_num.specs.Signals.{signals, signal_number, signal_name, signal_of_number, signal_of_name, is_named as is_signal_named}
 use Rattle.pr_num.specs.Faults.{faults, fault_number, fault_name, fault_of_number, fault_of_name, is_named as is_fault_named}
 use Rattle.pr_num.specs.Errnos.{errnos, errno_number, errno_name, errno_of_number, errno_of_name, is_numbered, is_named as is_errno_named}
 use Rattle.pr_num.specs.Syscalls.{syscalls, syscall_number, syscall_name, syscall_of_number, syscall_of_name, is_named as is_syscall_named}
-use Rattle.pr_num.proofs.NumberedLemmas.{number-entry_at, IsSome-entry_at, signals_counted, faults_counted, syscalls_counted}
+use Rattle.pr_num.specs.StopReasons.{stop_reasons, reason_number, reason_name, is_reason_named}
+use Rattle.pr_num.proofs.NumberedLemmas.{counts_from, number-entry_at, IsSome-entry_at, signals_counted, faults_counted, syscalls_counted}
 
 -- ---- a search in a table
 
@@ -162,3 +165,32 @@ pub syscall_name-none : (bytes : List ℕ) (other : Sysno) → syscall_of_name b
 unfolding syscall_of_name
 syscall_name-none bytes other none =
     other_bytes _ _ (none-passes (is_syscall_named bytes) (is_syscall_named (syscall_name other)) syscalls other (syscall_of_name-name other) none)
+
+-- ---- stop reasons
+
+pub reasons_counted : counts_from reason_number 1 stop_reasons ≡ true
+unfolding reason_number
+reasons_counted = refl
+
+pub reason_of_number-number : (reason : StopReason) → entry_at stop_reasons (reason_number reason) ≡ Some reason
+unfolding entry_at reason_number
+reason_of_number-number Requested = refl
+reason_of_number-number _ = refl
+
+pub reason_number-of_number : (n : ℕ) (found : StopReason) → entry_at stop_reasons n ≡ Some found → reason_number found ≡ n
+reason_number-of_number n found e = number-entry_at reason_number stop_reasons reasons_counted n found e
+
+pub reason_numbers-range : (n : ℕ) → IsSome (entry_at stop_reasons n) ↔ ((1 ≤ n) × (n ≤ 7))
+reason_numbers-range n = IsSome-entry_at stop_reasons n
+
+pub reason_of_name-name : (reason : StopReason) → find (is_reason_named (reason_name reason)) stop_reasons ≡ Some reason
+unfolding reason_name
+reason_of_name-name Requested = refl
+reason_of_name-name _ = refl
+
+pub reason_name-of_name : (bytes : List ℕ) (found : StopReason) → find (is_reason_named bytes) stop_reasons ≡ Some found → bytes ≡ reason_name found
+reason_name-of_name bytes found e = same_bytes _ _ (find-passes (is_reason_named bytes) stop_reasons found e)
+
+pub reason_name-none : (bytes : List ℕ) (other : StopReason) → find (is_reason_named bytes) stop_reasons ≡ None → bytes ≢ reason_name other
+reason_name-none bytes other none =
+    other_bytes _ _ (none-passes (is_reason_named bytes) (is_reason_named (reason_name other)) stop_reasons other (reason_of_name-name other) none)

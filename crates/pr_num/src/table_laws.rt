@@ -1,16 +1,20 @@
-ghost use Rattle.std.specs.Prelude.{◌≡◌, ◌≢◌, ◌≤◌, ◌↔◌, ◌⊎◌, ℕ, List, Some, None, IsSome, drop};
+ghost use Rattle.std.specs.Prelude.{◌≡◌, ◌≢◌, ◌≤◌, ◌↔◌, ◌⊎◌, ℕ, List, Some, None, IsSome, drop, find};
 ghost use Rattle.pr_num.specs.Signals.{signal_number, signal_name, signal_of_number, signal_of_name};
 ghost use Rattle.pr_num.specs.Faults.{fault_number, fault_name, fault_of_number, fault_of_name};
 ghost use Rattle.pr_num.specs.Errnos.{errno_number, errno_name, errno_of_number, errno_of_name};
 ghost use Rattle.pr_num.specs.Syscalls.{syscall_number, syscall_name, syscall_of_number, syscall_of_name};
+ghost use Rattle.pr_num.specs.StopReasons.{stop_reasons, reason_number, reason_name, is_reason_named};
+ghost use Rattle.pr_num.specs.Tables.{entry_at};
 ghost use Rattle.pr_num.specs.declared.signals.Sig.{Sig as AnySignal};
 ghost use Rattle.pr_num.specs.declared.faults.Flt.{Flt as AnyFault};
 ghost use Rattle.pr_num.specs.declared.errnos.Errno.{Errno as AnyErrno};
 ghost use Rattle.pr_num.specs.declared.syscalls.Sysno.{Sysno as AnySyscall};
+ghost use Rattle.pr_num.specs.declared.stop_reasons.StopReason.{StopReason as AnyReason};
 
 use crate::errnos::Errno;
 use crate::faults::Flt;
 use crate::signals::Sig;
+use crate::stop_reasons::StopReason;
 use crate::syscalls::Sysno;
 
 // A number or a name stands for one entry of its table, and an entry for its number and its name.
@@ -70,4 +74,18 @@ pub fn syscall_names(syscall: Sysno)
     ensures back { syscall_of_name (syscall_name syscall) ≡ Some syscall }
     ensures only { (bytes : List ℕ) (found : AnySyscall) → syscall_of_name bytes ≡ Some found → bytes ≡ syscall_name found }
     ensures none { (bytes : List ℕ) (other : AnySyscall) → syscall_of_name bytes ≡ None → bytes ≢ syscall_name other }
+{}
+
+/// The numbers of stop reasons are 1 to 7, each of one reason.
+pub fn reason_numbers(reason: StopReason)
+    ensures back { entry_at stop_reasons (reason_number reason) ≡ Some reason }
+    ensures only { (n : ℕ) (found : AnyReason) → entry_at stop_reasons n ≡ Some found → reason_number found ≡ n }
+    ensures range { (n : ℕ) → IsSome (entry_at stop_reasons n) ↔ ((1 ≤ n) × (n ≤ 7)) }
+{}
+
+/// Each stop reason has its name, and no other reason has it.
+pub fn reason_names(reason: StopReason)
+    ensures back { find (is_reason_named (reason_name reason)) stop_reasons ≡ Some reason }
+    ensures only { (bytes : List ℕ) (found : AnyReason) → find (is_reason_named bytes) stop_reasons ≡ Some found → bytes ≡ reason_name found }
+    ensures none { (bytes : List ℕ) (other : AnyReason) → find (is_reason_named bytes) stop_reasons ≡ None → bytes ≢ reason_name other }
 {}

@@ -6,7 +6,6 @@ ghost use Rattle.pr_world.specs.Worlds.{WorldState, after_moves, can_act, next_a
 
 /// However many moves a fresh world makes, its history is legal from its first state and follows the protocol of its
 /// controllers, and machine and controllers are what the history makes of them.
-
 pub fn a_run_is_legal_and_follows_the_protocol()
     ensures { (first : WorldState) (n : ℕ) → IsFresh first → CameFrom first (after_moves n first) }
 {}

@@ -1,6 +1,8 @@
-use Rattle.std.proofs.Common.{◌≡◌, ◌≤◌, ◌⊎◌, inl, inr, ℕ, List, [], Option, Some, None, Result, Ok, Err, refl, ◌∙◌, ap, subst}
+use Rattle.std.proofs.Common.{◌≡◌, ◌≤◌, ◌⊎◌, inl, inr, ℕ, List, [], Option, Some, None, Result, Ok, Err, refl, sym, ◌∙◌, ap, subst}
 use Rattle.pr_model.specs.declared.events.Entry.{Entry}
+use Rattle.pr_run_laws.specs.Fronts.{IsFront}
 use Rattle.pr_run_laws.specs.ScenarioRuns.{first_world, history_after}
+use Rattle.pr_run_laws.proofs.GrowthLemmas.{run-grows}
 use Rattle.pr_scen.specs.Reading.{scenario_of}
 use Rattle.pr_scen.specs.declared.scenarios.Scenario.{Scenario}
 use Rattle.proclab.specs.Answers.{IsAfterMoves, IsOnTheWay, RanOutEarly}
@@ -11,7 +13,9 @@ use Rattle.proclab.proofs.RunLemmas.{first_world-places}
 on_the_way : (input : List ℕ) (s : Scenario) (h : List Entry) → scenario_of input ≡ Ok s → IsBroughtSoFar s h → IsOnTheWay (Some input) h
 on_the_way input s h spelt (inl none) = inl none
 on_the_way input s h spelt (inr way) =
-    inr (record { scenario = s; spelt = spelt; moves = way.moves; within = subst (λ (n : ℕ). way.moves ≤ n) (first_world-places s) way.within; is = way.is })
+    let within : way.moves ≤ s.turns = subst (λ (n : ℕ). way.moves ≤ n) (first_world-places s) way.within in
+    let front : IsFront h (history_after s.turns s) = subst (λ (x : List Entry). IsFront x (history_after s.turns s)) (sym way.is) (run-grows s way.moves s.turns within) in
+    inr (record { scenario = s; spelt = spelt; moves = way.moves; within = within; is = way.is; front = front })
 
 pub stopped-early : (input : List ℕ) (s : Scenario) (h : List Entry) (old new : Option (List ℕ)) → scenario_of input ≡ Ok s → StoppedRun s h old new → RanOutEarly (Some input) h old new
 stopped-early input s h old new spelt stopped = record { unwritten = stopped.unwritten; on_the_way = on_the_way input s h spelt stopped.so_far }

@@ -1,19 +1,25 @@
-use Rattle.std.proofs.Common.{◌≡◌, ◌≤◌, ◌<◌, ◌+◌, ◌⊎◌, inl, inr, ⊎_elim, ℕ, Bool, true, false, List, [], ◌++◌, Option, Some, None, Result, Ok, Err, length, nat_le, cond, IfOk, IfSome, refl, sym, ◌∙◌, ap, subst, arith, length-append}
+use Rattle.std.proofs.Common.{◌≡◌, ◌≤◌, ◌<◌, ◌+◌, ◌⊎◌, inl, inr, ⊎_elim, ℕ, Bool, true, false, List, [], ◌++◌, Option, Some, None, is_some, Result, Ok, Err, length, nat_le, cond, IfOk, IfSome, refl, sym, ◌∙◌, ap, subst, arith, length-append}
 use Rattle.std.proofs.lemmas.Bool.Decides.{nat_tests}
+use Rattle.std.proofs.lemmas.List.{append-nil}
 use Rattle.std.proofs.lemmas.Option.{same_Some}
 use Rattle.pr_io.specs.Known.{with_front, with_end}
 use Rattle.pr_io.specs.Reading.{CameAbove, ReadsAll}
+use Rattle.pr_model.specs.declared.events.Actor.{Actor}
 use Rattle.pr_model.specs.declared.events.Entry.{Entry}
-use Rattle.pr_run_laws.specs.ScenarioRuns.{IsKept, history_after, run_of}
+use Rattle.pr_run_laws.specs.Fronts.{IsFront}
+use Rattle.pr_run_laws.specs.ScenarioRuns.{IsKept, first_world, history_after, run_of}
 use Rattle.pr_run_laws.proofs.KeptLemmas.{run-kept}
 use Rattle.pr_scen.specs.Reading.{scenario_of}
 use Rattle.pr_scen.specs.declared.refusals.ScenFault.{ScenFault}
 use Rattle.pr_scen.specs.declared.scenarios.Scenario.{Scenario}
-use Rattle.pr_world.specs.Worlds.{end_of}
-use Rattle.pr_world.specs.declared.ends.End.{End}
-use Rattle.pr_world.specs.declared.ends.End.TheVariants.{Quiet, Spent, Stuck}
+use Rattle.pr_world.specs.Runs.{IsFresh}
+use Rattle.pr_world.specs.Worlds.{WorldState, after_moves, all_finished, end_of, end_with, next_actor, quiet_end}
+use Rattle.pr_world.proofs.NextLemmas.{moves-counted, run-places}
+use Rattle.pr_world.proofs.RestLemmas.{all-rest, next-can}
+use Rattle.proclab.specs.Ends.{EndsAs, IsFull, IsOver, IsStuck}
+use Rattle.proclab.proofs.RunLemmas.{first_world-fresh, first_world-places}
 use Rattle.proclab.specs.Answers.{Answer, Took, TookAll, IsAfterMoves, IsGiven, IsCutShort, RanOutEarly, RanOutLate, answer_of, answer_to, end_status, input_limit, ran, ran_so, refused_at, taken_of}
-use Rattle.proclab.specs.Serving.{Answered, AnswersInput, CutShort, HistoryIsKept, IsHistoryOfRun, IsRunStatus, LeftNothing, RanOut, RanOutBehind, RunsScenario}
+use Rattle.proclab.specs.Serving.{Answered, AnswersInput, CutShort, HistoryIsKept, IsHistoryOfRun, LeftNothing, RanOut, RanOutBehind, RunsScenario}
 
 -- ---- the history is kept
 
@@ -21,7 +27,8 @@ of_scenario : (old new : Option (List ℕ)) (input : List ℕ) (s : Result Scena
 unfolding answer_of refused_at ran ran_so
 of_scenario old new input (Err fault) spelt took h is = inl is
 of_scenario old new input (Ok s) spelt took h is =
-    let run : IsAfterMoves input h = record { scenario = s; spelt = spelt; moves = s.turns; within = omega arith; is = is } in
+    let front : IsFront h (run_of s).kernel.history = record { more = []; is = sym is ∙ sym (append-nil h) } in
+    let run : IsAfterMoves input h = record { scenario = s; spelt = spelt; moves = s.turns; within = omega arith; is = is; front = front } in
     inr (record { input = input; took = took; run = run; kept = subst (λ (x : List Entry). IsKept s x) (sym is) (run-kept input s s.turns spelt) })
 
 of_answer : (old new : Option (List ℕ)) (input : Option (List ℕ)) (h : List Entry) → Took old new input → h ≡ (answer_to input).history → HistoryIsKept old new h
@@ -90,20 +97,29 @@ answers-input (Some left) new status h w v a = subst (λ (i : Option (List ℕ))
 
 -- ---- a scenario is run
 
-run_status : (end : End) → IsRunStatus (end_status end)
+ended : (first : WorldState) (n : ℕ) → IsFresh first → n ≡ first.kernel.places → (next : Option Actor) → next_actor (after_moves n first) ≡ next → EndsAs (after_moves n first) (end_status (end_with (after_moves n first) next))
 unfolding end_status
-run_status Quiet = inl refl
-run_status Spent = inr (inl refl)
-run_status Stuck = inr (inr refl)
+ended first n fresh all None rest = by (all_finished (after_moves n first)) refl
+  where
+    by : (b : Bool) → all_finished (after_moves n first) ≡ b → EndsAs (after_moves n first) (end_status (quiet_end b))
+    by true finished = inl (refl, record { rest = λ actor. all-rest (after_moves n first) actor rest; finished = finished })
+    by false unfinished = inr (inr (refl, record { rest = λ actor. all-rest (after_moves n first) actor rest; unfinished = unfinished }))
+ended first n fresh all (Some actor) next =
+    let made : length (after_moves n first).kernel.history ≡ n = moves-counted first n fresh (ap is_some next) in
+    inr (inl (refl, record { mover = actor; can_move = next-can (after_moves n first) actor next; full = made ∙ all ∙ sym (run-places first n) }))
 
-run_given : (text : List ℕ) (s : Result Scenario ScenFault) (status : ℕ) → scenario_of text ≡ s → (status ≤ 4 → status ≡ (answer_of (scenario_of text)).status) → IfOk s (λ _. status ≤ 4 → IsRunStatus status)
+run_ended : (s : Scenario) → EndsAs (run_of s) (end_status (end_of (run_of s)))
+unfolding end_of
+run_ended s = ended (first_world s) s.turns (first_world-fresh s) (sym (first_world-places s)) (next_actor (run_of s)) refl
+
+run_given : (text : List ℕ) (s : Result Scenario ScenFault) (status : ℕ) → scenario_of text ≡ s → (status ≤ 4 → status ≡ (answer_of (scenario_of text)).status) → IfOk s (λ scenario. status ≤ 4 → EndsAs (run_of scenario) status)
 unfolding answer_of ran ran_so
 run_given text (Err fault) status spelt is = tt
 run_given text (Ok s) status spelt is = λ four.
     let given : status ≡ end_status (end_of (run_of s)) = is four ∙ ap (λ (x : Result Scenario ScenFault). (answer_of x).status) spelt in
-    subst IsRunStatus (sym given) (run_status (end_of (run_of s)))
+    subst (EndsAs (run_of s)) (sym given) (run_ended s)
 
-run_taken : (input : Option (List ℕ)) (status : ℕ) → (status ≤ 4 → status ≡ (answer_to input).status) → IfSome input (λ text. IfOk (scenario_of text) (λ _. status ≤ 4 → IsRunStatus status))
+run_taken : (input : Option (List ℕ)) (status : ℕ) → (status ≤ 4 → status ≡ (answer_to input).status) → IfSome input (λ text. IfOk (scenario_of text) (λ scenario. status ≤ 4 → EndsAs (run_of scenario) status))
 unfolding answer_to
 run_taken None status is = tt
 run_taken (Some text) status is = run_given text (scenario_of text) status refl is

@@ -4,6 +4,7 @@ use Rattle.pr_io.specs.Reading.{ReadsAll, CameAbove}
 use Rattle.pr_io.specs.Writing.{AppendsFront}
 use Rattle.pr_model.specs.declared.events.Entry.{Entry}
 use Rattle.pr_output.specs.Output.{run_text, refusal_text, AppendsSome}
+use Rattle.pr_run_laws.specs.Fronts.{IsFront}
 use Rattle.pr_run_laws.specs.ScenarioRuns.{history_after, run_of}
 use Rattle.pr_scen.specs.Reading.{scenario_of}
 use Rattle.pr_scen.specs.declared.refusals.ScenFault.{ScenFault}
@@ -87,13 +88,14 @@ pub record IsCutShort (answer : Answer) (history : List Entry) (old new : Option
   pub history_is : history ≡ answer.history
   pub written : AppendsFront old new answer.text
 
--- A history that the run of an input has on its way: that after so many moves; none where no run was made.
+-- A history that the run of an input has on its way: that after so many moves, which is a front of the history of the run.
 pub record IsAfterMoves (input : List ℕ) (history : List Entry) : Type 0 where
   pub scenario : Scenario
   pub spelt : scenario_of input ≡ Ok scenario
   pub moves : ℕ
   pub within : moves ≤ scenario.turns
   pub is : history ≡ history_after moves scenario
+  pub front : IsFront history (run_of scenario).kernel.history
 
 abbrev pub IsOnTheWay : Option (List ℕ) → List Entry → Type 0
 IsOnTheWay None history = history ≡ []

@@ -1,7 +1,8 @@
 use Rattle.std.specs.Prelude.{◌≡◌, ◌≤◌, ◌⊎◌, ℕ, List, [], Option, IfSome, IfOk}
 use Rattle.pr_model.specs.declared.events.Entry.{Entry}
-use Rattle.pr_run_laws.specs.ScenarioRuns.{IsKept}
+use Rattle.pr_run_laws.specs.ScenarioRuns.{IsKept, run_of}
 use Rattle.pr_scen.specs.Reading.{scenario_of}
+use Rattle.proclab.specs.Ends.{EndsAs}
 use Rattle.proclab.specs.Answers.{Took, TookAll, IsAfterMoves, IsGiven, IsCutShort, RanOutEarly, RanOutLate, answer_to, taken_of}
 
 -- How a call of `run` ends: what it read of the source, and what became of the answer to that. Sources and sinks that do not
@@ -51,11 +52,8 @@ abbrev pub AnswersInput : Option (List ℕ) → ℕ → List Entry → Option (L
 AnswersInput left status history written_old written_new =
     IfSome left (λ input. IsGiven (answer_to (taken_of input)) status history written_old written_new)
 
--- the statuses of a run that was made
-abbrev pub IsRunStatus : ℕ → Type 0
-IsRunStatus status = (status ≡ 0) ⊎ ((status ≡ 3) ⊎ (status ≡ 4))
-
--- Completeness: an input that is a scenario is run, where no memory is wanting; or a read or a write failed.
+-- Completeness: an input that is a scenario is run, where no memory is wanting, or a read or a write failed; and the status
+-- says how the run ended.
 abbrev pub RunsScenario : Option (List ℕ) → ℕ → Type 0
 RunsScenario left status =
-    IfSome left (λ input. IfSome (taken_of input) (λ text. IfOk (scenario_of text) (λ _. status ≤ 4 → IsRunStatus status)))
+    IfSome left (λ input. IfSome (taken_of input) (λ text. IfOk (scenario_of text) (λ scenario. status ≤ 4 → EndsAs (run_of scenario) status)))
