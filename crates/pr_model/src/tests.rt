@@ -1,6 +1,7 @@
 //! What no clause says: worked cases of the definitions, and calls that need memory.
 use crate::*;
-use pr_num::{SigSet, Sysno};
+use pr_num::{Bytes, NoMemory, SigSet, Sysno};
+use std::alloc::Global;
 use std::test::Fail;
 
 #[test]
@@ -53,5 +54,29 @@ fn lists_of_steps_are_what_they_are_made_of(rt: HostRuntime) -> Result<(), Fail>
     );
     let calls = vec![in rt.alloc(); Step::Call(1, 1, Sysno::Getpid, Res::Value(1))]?;
     assert_eq!(rt; Trace::from_vec(calls).as_slice().len(), 1);
+    Ok(())
+}
+
+// The bytes of a copy of a wait at handle 3 until the moment 9; none where it is another call.
+fn copied_bytes(alloc: Global, call: &Call) -> Result<Option<Bytes>, NoMemory> {
+    match call.copy(alloc)? {
+        Call::CtlWait {
+            handle: 3,
+            until: 9,
+            bytes,
+        } => Ok(Some(bytes)),
+        _ => Ok(None),
+    }
+}
+
+#[test]
+fn a_call_is_copied(rt: HostRuntime) -> Result<(), Fail> {
+    let call = Call::CtlWait {
+        handle: 3,
+        until: 9,
+        bytes: Bytes::from_vec([2u8, 0].to_vec(rt.alloc())?),
+    };
+    let bytes = copied_bytes(rt.alloc(), &call)?.ok_or("another call")?;
+    assert_eq!(rt; bytes.as_slice(), [2, 0].as_slice());
     Ok(())
 }

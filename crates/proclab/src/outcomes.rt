@@ -2,6 +2,7 @@ ghost use Rattle.std.specs.Prelude.{◌≡◌, ◌⊎◌, []};
 ghost use Rattle.proclab.specs.Answers.{end_status};
 
 use pr_model::History;
+use pr_num::NoMemory;
 use pr_world::End;
 use std::alloc::Global;
 
@@ -43,6 +44,17 @@ pub fn without_history(alloc: Global, status: u8) -> Outcome
     Outcome {
         status,
         history: History::new(alloc),
+    }
+}
+
+/// An end for want of memory, with the history as far as it was made.
+pub fn out_of_memory(_error: NoMemory, history: History) -> Outcome
+    ensures status { result.status ≡ 7 }
+    ensures history { result.history.entries ≡ history.entries }
+{
+    Outcome {
+        status: Status::OutOfMemory as u8,
+        history,
     }
 }
 

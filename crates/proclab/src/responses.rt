@@ -7,7 +7,7 @@ ghost use Rattle.pr_scen.specs.Scenarios.{IsWithinLimits};
 ghost use Rattle.proclab.specs.Answers.{IsCutShort, IsGiven, RanOutEarly, RanOutLate, answer_of, answer_to, input_limit, kind_name, ran, ran_so, refused_at, too_long};
 ghost use Rattle.proclab.specs.Made.{StoppedRun};
 
-use crate::outcomes::{Outcome, Status, end_status, without_history};
+use crate::outcomes::{Outcome, Status, end_status, out_of_memory, without_history};
 use crate::runs::make_run;
 use pr_io::Sink;
 use pr_model::History;
@@ -91,11 +91,8 @@ fn run_scenario<K: Sink>(alloc: Global, scenario: Scenario, sink: &mut K) -> Out
 {
     let made = make_run(alloc, scenario);
     match made.end {
-        Some(end) => report(alloc, end, made.history, sink),
-        None => Outcome {
-            status: Status::OutOfMemory as u8,
-            history: made.history,
-        },
+        Ok(end) => report(alloc, end, made.history, sink),
+        Err(error) => out_of_memory(error, made.history),
     }
 }
 

@@ -1,5 +1,5 @@
 //! The run of a scenario, on one thread.
-ghost use Rattle.std.specs.Prelude.{◌≡◌, map, IfOk, IfSome, IfNone, OnSome};
+ghost use Rattle.std.specs.Prelude.{◌≡◌, map, IfOk, OnOk, OnErr};
 ghost use Rattle.pr_run_laws.specs.ScenarioRuns.{first_world, run_of};
 ghost use Rattle.pr_scen.specs.Scenarios.{IsWithinLimits};
 ghost use Rattle.pr_scen.specs.Scripts.{first_script};
@@ -51,8 +51,8 @@ fn first_world(alloc: Global, scenario: Scenario) -> Result<World, NoMemory>
 /// A run that was made, or the history as far as it was when memory ran out.
 #[derive(Drop)]
 pub struct Made {
-    /// How the run ended; `None` where memory ran out.
-    pub end: Option<End>,
+    /// How the run ended, or that memory ran out.
+    pub end: Result<End, NoMemory>,
     pub history: History,
 }
 
@@ -60,14 +60,14 @@ pub struct Made {
 #[tactic(auto, using(crate::proofs::RunLemmas::runs))]
 pub fn make_run(alloc: Global, scenario: Scenario) -> Made
     requires { IsWithinLimits scenario }
-    ensures ended { IfSome result.end (λ end. (end ≡ end_of (run_of scenario))) }
-    ensures history { OnSome result.end (result.history.entries ≡ (run_of scenario).kernel.history) }
-    ensures stopped { IfNone result.end (IsBroughtSoFar scenario result.history.entries) }
+    ensures ended { IfOk result.end (λ end. end ≡ end_of (run_of scenario)) }
+    ensures history { OnOk result.end (result.history.entries ≡ (run_of scenario).kernel.history) }
+    ensures stopped { OnErr result.end (IsBroughtSoFar scenario result.history.entries) }
 {
     match first_world(alloc, scenario) {
         Ok(world) => run_world(world),
-        Err(_) => Made {
-            end: None,
+        Err(error) => Made {
+            end: Err(error),
             history: History::new(alloc),
         },
     }
@@ -76,14 +76,11 @@ pub fn make_run(alloc: Global, scenario: Scenario) -> Made
 /// Makes the run of a world that is fresh.
 fn run_world(mut world: World) -> Made
     requires { IsFresh world }
-    ensures ended { IfSome result.end (λ end. end ≡ end_of (after_moves world.kernel.places world)) }
-    ensures history { OnSome result.end (result.history.entries ≡ (after_moves world.kernel.places world).kernel.history) }
-    ensures stopped { IfNone result.end (IsWorldsWay world result.history.entries) }
+    ensures ended { IfOk result.end (λ end. end ≡ end_of (after_moves world.kernel.places world)) }
+    ensures history { OnOk result.end (result.history.entries ≡ (after_moves world.kernel.places world).kernel.history) }
+    ensures stopped { OnErr result.end (IsWorldsWay world result.history.entries) }
 {
-    let end = match world.run_one() {
-        Ok(end) => Some(end),
-        Err(_) => None,
-    };
+    let end = world.run_one();
     Made {
         end,
         history: world.into_kernel().into_history(),
