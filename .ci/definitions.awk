@@ -1,0 +1,24 @@
+# Prints each definition of crates/*/specs that docs/DEFINITIONS.md does not name, as `file: name`, and each name that its
+# last table gives to a file which has no such definition. Read docs/DEFINITIONS.md first, and then the files.
+FNR == 1 { document = FILENAME ~ /DEFINITIONS\.md$/ }
+
+document {
+  if (/^## /) by_file = /by file$/
+  parts = split($0, part, "`")
+  for (i = 2; i < parts; i += 2) {
+    if (by_file && i == 2) file = part[i]
+    else { named[part[i]] = 1; if (by_file) said["crates/" file ": " part[i]] = 1 }
+  }
+  next
+}
+
+/^(abbrev |unfoldable )?pub / && !/^pub (mod|ruleset|use) / {
+  line = $0
+  sub(/^(abbrev |unfoldable )?pub (record |data )?/, "", line)
+  match(line, /^[^ :({]+/)
+  name = substr(line, 1, RLENGTH)
+  there[FILENAME ": " name] = 1
+  if (!(name in named)) print FILENAME ": " name
+}
+
+END { for (it in said) if (!(it in there)) print it ": in the document alone" }
