@@ -3,26 +3,17 @@ ghost use Rattle.pr_num.specs.Words.{word_bytes, words_bytes};
 ghost use Rattle.pr_codec.specs.Words.{word_at};
 
 use byteorder::{ByteOrder, LittleEndian};
-use std::error::Error;
-use std::fmt;
+use thiserror::Error;
 
 /// How many bytes a word has.
 pub const WORD: usize = 8;
 
 /// Fewer than eight bytes stand from the byte at `at`.
-#[derive(Clone, Copy, Debug, PartialEq, Eq)]
+#[derive(Clone, Copy, Debug, PartialEq, Eq, Error)]
+#[error("no word of 8 bytes at byte {at}")]
 pub struct Short {
     pub at: usize,
 }
-
-impl fmt::Display for Short {
-    fn fmt<W: fmt::Write>(&self, f: &mut fmt::Formatter<W>) -> fmt::Result {
-        let at = self.at;
-        write!(f, "no word of 8 bytes at byte {at}")
-    }
-}
-
-impl Error for Short {}
 
 /// The word in the eight bytes from `at`, the least byte first. `at` may lie anywhere, also beyond the
 /// end. Takes no memory.

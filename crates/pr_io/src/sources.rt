@@ -8,8 +8,7 @@ ghost use Rattle.pr_io.specs.declared.sources.ReadEnd.TheVariants as variants;
 use crate::Failed;
 use pr_num::{Bytes, NoMemory};
 use std::alloc::Global;
-use std::error::Error;
-use std::fmt;
+use thiserror::Error;
 
 /// Where bytes come from.
 pub trait Source {
@@ -38,27 +37,18 @@ pub trait Source {
 }
 
 /// Why not all bytes were read.
-#[derive(Clone, Copy, Debug, PartialEq, Eq)]
+#[derive(Clone, Copy, Debug, PartialEq, Eq, Error)]
 pub enum ReadEnd {
     /// A read failed.
+    #[error("{}", Failed)]
     Failed,
     /// More bytes came than were allowed.
+    #[error("the input is too long")]
     TooLong,
     /// Memory ran out.
+    #[error("out of memory")]
     NoMemory,
 }
-
-impl fmt::Display for ReadEnd {
-    fn fmt<W: fmt::Write>(&self, f: &mut fmt::Formatter<W>) -> fmt::Result {
-        match self {
-            ReadEnd::Failed => write!(f, "{Failed}"),
-            ReadEnd::TooLong => write!(f, "the input is too long"),
-            ReadEnd::NoMemory => write!(f, "out of memory"),
-        }
-    }
-}
-
-impl Error for ReadEnd {}
 
 impl From<Failed> for ReadEnd {
     ghost from_gives = { λ _ e. e ≡ variants.Failed };

@@ -4,24 +4,16 @@ ghost use Rattle.pr_text.specs.Numerals.{hex_text, hex8_text};
 use crate::digits::hex_digits;
 use pr_num::NoMemory;
 use std::alloc::Global;
-use std::error::Error;
-use std::fmt;
 use std::marker::Model;
+use thiserror::Error;
 
 /// The longest line, in bytes.
 pub const LINE_LIMIT: usize = 4096;
 
 /// A line would pass its limit of 4,096 bytes.
-#[derive(Clone, Copy, Debug, PartialEq, Eq)]
+#[derive(Clone, Copy, Debug, PartialEq, Eq, Error)]
+#[error("a line passes 4,096 bytes")]
 pub struct TooLong;
-
-impl fmt::Display for TooLong {
-    fn fmt<W: fmt::Write>(&self, f: &mut fmt::Formatter<W>) -> fmt::Result {
-        write!(f, "a line passes 4,096 bytes")
-    }
-}
-
-impl Error for TooLong {}
 
 /// A line that is being written, of at most 4,096 bytes; contracts see the list of its bytes.
 ///
