@@ -2,10 +2,11 @@ use crate::{
     ArgKind, Bytes, DefAct, Errno, Flt, FltSet, Handles, Keyed, Modes, Name, NoMemory, Prot, Sig,
     SigSet, SysSet, Sysno, Table, WatchFlags,
 };
+use std::alloc::Global;
 use std::test::Fail;
 
 // Solaris 10, signal.h(3HEAD).
-const SIGNALS: [(u64, &str, DefAct); 31] = [
+static SIGNALS: [(u64, &str, DefAct); 31] = [
     (1, "SIGHUP", DefAct::Die),
     (2, "SIGINT", DefAct::Die),
     (3, "SIGQUIT", DefAct::Die),
@@ -40,7 +41,7 @@ const SIGNALS: [(u64, &str, DefAct); 31] = [
 ];
 
 // Solaris 10, errno.h(3HEAD).
-const ERRNOS: [(u64, &str); 18] = [
+static ERRNOS: [(u64, &str); 18] = [
     (1, "EPERM"),
     (2, "ENOENT"),
     (3, "ESRCH"),
@@ -61,7 +62,7 @@ const ERRNOS: [(u64, &str); 18] = [
     (48, "ENOTSUP"),
 ];
 
-const FAULTS: [(u64, &str, Sig); 8] = [
+static FAULTS: [(u64, &str, Sig); 8] = [
     (1, "FLTILL", Sig::Ill),
     (2, "FLTBPT", Sig::Trap),
     (3, "FLTTRACE", Sig::Trap),
@@ -72,9 +73,23 @@ const FAULTS: [(u64, &str, Sig); 8] = [
     (8, "FLTIZDIV", Sig::Fpe),
 ];
 
+static NO_SIGNALS: [u64; 3] = [0, 32, u64::MAX];
+
+static NO_SIGNAL_NAMES: [&str; 7] = [
+    "",
+    "SIG",
+    "SIGSIGHUP",
+    "sighup",
+    "SIGHU",
+    "SIGHUPP",
+    "FLTILL",
+];
+
+static NO_ERRNOS: [u64; 7] = [0, 6, 13, 33, 47, 49, u64::MAX];
+
 // A call's arguments by the letters of the argument kinds: decimal, hexadecimal, text, buffer; a star where it may
 // sleep.
-const CALLS: [(u64, &str, &str); 29] = [
+static CALLS: [(u64, &str, &str); 29] = [
     (1, "exit", "d"),
     (2, "fork", ""),
     (3, "read", "dbd*"),
@@ -106,60 +121,85 @@ const CALLS: [(u64, &str, &str); 29] = [
     (29, "fstat", "dx"),
 ];
 
+/// The signal of a number has this name and does this by default, and each of its two names leads back to it.
+fn is_signal(n: u64, name: &str, action: DefAct) -> bool {
+    let Some(signal) = Sig::from_number(n) else {
+        return false;
+    };
+    signal.number() == n
+        && signal.name() == name
+        && signal.def_act() == action
+        && names_signal(name.as_bytes(), signal)
+}
+
+/// The name leads to the signal, and so it does without its first three bytes.
+fn names_signal(name: &[u8], signal: Sig) -> bool {
+    name.len() > 3
+        && Sig::from_name(name) == Some(signal)
+        && Sig::from_name(&name[3..]) == Some(signal)
+}
+
 #[test]
 fn signals_of_the_manual(rt: HostRuntime) {
-    for (n, name, action) in SIGNALS {
-        let signal = Sig::from_number(n).expect(&rt, "1 to 31");
-        assert_eq!(rt; signal.number(), n);
-        assert_eq!(rt; signal.name(), name);
-        assert_eq!(rt; signal.def_act(), action, "{n}");
-        let bytes = name.as_bytes();
-        assert_eq!(rt; Sig::from_name(bytes), Some(signal));
-        assert!(rt; bytes.len() > 3);
-        assert_eq!(rt; Sig::from_name(&bytes[3..]), Some(signal));
+    for (n, name, action) in &SIGNALS {
+        assert!(rt; is_signal(*n, name, *action), "{n}");
     }
-    for n in [0, 32, u64::MAX] {
-        assert_eq!(rt; Sig::from_number(n), None);
+}
+
+#[test]
+fn what_is_no_signal(rt: HostRuntime) {
+    for n in &NO_SIGNALS {
+        assert!(rt; Sig::from_number(*n).is_none(), "{n}");
     }
-    for name in [
-        "",
-        "SIG",
-        "SIGSIGHUP",
-        "sighup",
-        "SIGHU",
-        "SIGHUPP",
-        "FLTILL",
-    ] {
-        assert_eq!(rt; Sig::from_name(name.as_bytes()), None);
+    for name in &NO_SIGNAL_NAMES {
+        assert!(rt; Sig::from_name(name.as_bytes()).is_none(), "{name}");
     }
+}
+
+fn is_errno(n: u64, name: &str) -> bool {
+    let Some(errno) = Errno::from_number(n) else {
+        return false;
+    };
+    errno.number() == n && errno.name() == name && Errno::from_name(name.as_bytes()) == Some(errno)
 }
 
 #[test]
 fn errnos_of_the_manual(rt: HostRuntime) {
-    for (n, name) in ERRNOS {
-        let errno = Errno::from_number(n).expect(&rt, name);
-        assert_eq!(rt; errno.number(), n);
-        assert_eq!(rt; errno.name(), name);
-        assert_eq!(rt; Errno::from_name(name.as_bytes()), Some(errno));
+    for (n, name) in &ERRNOS {
+        assert!(rt; is_errno(*n, name), "{n}");
     }
-    for n in [0, 6, 13, 33, 47, 49, u64::MAX] {
-        assert_eq!(rt; Errno::from_number(n), None, "{n}");
+}
+
+#[test]
+fn what_is_no_errno(rt: HostRuntime) {
+    for n in &NO_ERRNOS {
+        assert!(rt; Errno::from_number(*n).is_none(), "{n}");
     }
-    assert_eq!(rt; Errno::from_name(b"PERM"), None);
+    assert!(rt; Errno::from_name(b"PERM").is_none());
+}
+
+fn is_fault(n: u64, name: &str, signal: Sig) -> bool {
+    let Some(fault) = Flt::from_number(n) else {
+        return false;
+    };
+    fault.number() == n
+        && fault.name() == name
+        && fault.signal() == signal
+        && Flt::from_name(name.as_bytes()) == Some(fault)
 }
 
 #[test]
 fn faults_and_their_signals(rt: HostRuntime) {
-    for (n, name, signal) in FAULTS {
-        let fault = Flt::from_number(n).expect(&rt, name);
-        assert_eq!(rt; fault.number(), n);
-        assert_eq!(rt; fault.name(), name);
-        assert_eq!(rt; fault.signal(), signal);
-        assert_eq!(rt; Flt::from_name(name.as_bytes()), Some(fault));
+    for (n, name, signal) in &FAULTS {
+        assert!(rt; is_fault(*n, name, *signal), "{n}");
     }
-    assert_eq!(rt; Flt::from_number(0), None);
-    assert_eq!(rt; Flt::from_number(9), None);
-    assert_eq!(rt; Flt::from_name(b"ILL"), None);
+}
+
+#[test]
+fn what_is_no_fault(rt: HostRuntime) {
+    assert!(rt; Flt::from_number(0).is_none());
+    assert!(rt; Flt::from_number(9).is_none());
+    assert!(rt; Flt::from_name(b"ILL").is_none());
 }
 
 fn letter(kind: ArgKind) -> u8 {
@@ -171,113 +211,179 @@ fn letter(kind: ArgKind) -> u8 {
     }
 }
 
+/// The letters are one for each kind.
+fn are_letters(letters: &[u8], kinds: &[ArgKind]) -> bool {
+    letters.len() == kinds.len()
+        && letters
+            .iter()
+            .zip(kinds)
+            .all(|(l, kind)| *l == letter(*kind))
+}
+
+/// The call has the arguments of this shape, and may sleep where a star ends it.
+fn has_shape(call: Sysno, shape: &[u8]) -> bool {
+    match shape {
+        [letters @ .., b'*'] => call.may_sleep() && are_letters(letters, call.args()),
+        letters => !call.may_sleep() && are_letters(letters, call.args()),
+    }
+}
+
+fn is_call(n: u64, name: &str, shape: &str) -> bool {
+    let Some(call) = Sysno::from_number(n) else {
+        return false;
+    };
+    call.number() == n
+        && call.name() == name
+        && Sysno::from_name(name.as_bytes()) == Some(call)
+        && has_shape(call, shape.as_bytes())
+}
+
 #[test]
 fn calls_and_their_arguments(rt: HostRuntime) {
-    for (n, name, shape) in CALLS {
-        let call = Sysno::from_number(n).expect(&rt, name);
-        assert_eq!(rt; call.number(), n);
-        assert_eq!(rt; call.name(), name);
-        assert_eq!(rt; Sysno::from_name(name.as_bytes()), Some(call));
-        let mut letters = shape.bytes();
-        for kind in call.args() {
-            assert_eq!(rt; letters.next(), Some(letter(*kind)), "{n}");
-        }
-        let star = if call.may_sleep() { Some(b'*') } else { None };
-        assert_eq!(rt; letters.next(), star, "{n}");
+    for (n, name, shape) in &CALLS {
+        assert!(rt; is_call(*n, name, shape), "{n}");
     }
-    assert_eq!(rt; Sysno::from_number(0), None);
-    assert_eq!(rt; Sysno::from_number(30), None);
-    assert_eq!(rt; Sysno::from_name(b"truss"), None);
 }
 
 #[test]
-fn sets_of_signals(rt: HostRuntime) {
-    let both = SigSet::empty().with(Sig::Kill).with(Sig::Hup);
-    assert_eq!(rt; both.word(), 0x101);
-    assert_eq!(rt; SigSet::from_word(0x101), Some(both));
-    assert_eq!(rt; SigSet::from_word(0x7fff_ffff), Some(SigSet::all()));
-    assert_eq!(rt; SigSet::from_word(0x8000_0000), None);
+fn what_is_no_call(rt: HostRuntime) {
+    assert!(rt; Sysno::from_number(0).is_none());
+    assert!(rt; Sysno::from_number(30).is_none());
+    assert!(rt; Sysno::from_name(b"truss").is_none());
+}
+
+fn kill_and_hangup() -> SigSet {
+    SigSet::empty().with(Sig::Kill).with(Sig::Hup)
+}
+
+#[test]
+fn words_of_sets_of_signals(rt: HostRuntime) {
+    assert!(rt; kill_and_hangup().word() == 0x101);
+    assert!(rt; SigSet::from_word(0x101) == Some(kill_and_hangup()));
+    assert!(rt; SigSet::from_word(0x7fff_ffff) == Some(SigSet::all()));
+    assert!(rt; SigSet::from_word(0x8000_0000).is_none());
+}
+
+#[test]
+fn members_of_sets_of_signals(rt: HostRuntime) {
+    let both = kill_and_hangup();
     assert!(rt; both.has(Sig::Kill) && !both.has(Sig::Int));
-    assert_eq!(rt; both.first(), Some(Sig::Hup));
-    assert_eq!(rt; both.without(Sig::Hup).first(), Some(Sig::Kill));
-    assert_eq!(rt; both.holdable().word(), 1);
-    assert_eq!(rt; SigSet::all().holdable().word(), 0x7fbf_feff);
-    assert_eq!(rt; both.minus(SigSet::all().holdable()).word(), 0x100);
-    assert_eq!(rt; both.intersection(SigSet::all()), both);
-    assert_eq!(rt;
-        both.union(SigSet::empty().with(Sig::Xfsz)).word(),
-        0x4000_0101
-    );
-    assert!(rt; both.minus(both).is_empty());
-    assert_eq!(rt; SigSet::empty().first(), None);
+    assert!(rt; both.first() == Some(Sig::Hup));
+    assert!(rt; both.without(Sig::Hup).first() == Some(Sig::Kill));
+    assert!(rt; SigSet::empty().first().is_none());
 }
 
 #[test]
-fn sets_of_faults_and_calls(rt: HostRuntime) {
-    let fault = FltSet::empty().with(Flt::Izdiv);
-    assert_eq!(rt; fault.word(), 0x80);
-    assert_eq!(rt; FltSet::from_word(0x80), Some(fault));
-    assert_eq!(rt; FltSet::from_word(0x100), None);
-    assert_eq!(rt; FltSet::all().word(), 0xff);
-    assert!(rt; fault.has(Flt::Izdiv) && !fault.has(Flt::Ill));
-    assert_eq!(rt;
-        fault.union(FltSet::empty().with(Flt::Bpt)).first(),
-        Some(Flt::Bpt)
-    );
-    assert_eq!(rt;
-        fault.intersection(FltSet::all()).without(Flt::Izdiv),
-        FltSet::empty()
-    );
-    assert!(rt; fault.minus(fault).is_empty());
+fn signals_that_can_be_held(rt: HostRuntime) {
+    assert!(rt; kill_and_hangup().holdable().word() == 1);
+    assert!(rt; SigSet::all().holdable().word() == 0x7fbf_feff);
+}
 
-    let calls = SysSet::empty().with(Sysno::Fstat).with(Sysno::Exit);
-    assert_eq!(rt; calls.word(), 0x1000_0001);
-    assert_eq!(rt; SysSet::from_word(0x1000_0001), Some(calls));
-    assert_eq!(rt; SysSet::from_word(0x2000_0000), None);
-    assert_eq!(rt; SysSet::all().word(), 0x1fff_ffff);
+#[test]
+fn sets_of_signals_combined(rt: HostRuntime) {
+    let both = kill_and_hangup();
+    assert!(rt; both.minus(SigSet::all().holdable()).word() == 0x100);
+    assert!(rt; both.intersection(SigSet::all()) == both);
+    assert!(rt; both.union(SigSet::empty().with(Sig::Xfsz)).word() == 0x4000_0101);
+    assert!(rt; both.minus(both).is_empty());
+}
+
+#[test]
+fn words_of_sets_of_faults(rt: HostRuntime) {
+    let fault = FltSet::empty().with(Flt::Izdiv);
+    assert!(rt; fault.word() == 0x80);
+    assert!(rt; FltSet::from_word(0x80) == Some(fault));
+    assert!(rt; FltSet::from_word(0x100).is_none());
+    assert!(rt; FltSet::all().word() == 0xff);
+}
+
+#[test]
+fn sets_of_faults_combined(rt: HostRuntime) {
+    let fault = FltSet::empty().with(Flt::Izdiv);
+    assert!(rt; fault.has(Flt::Izdiv) && !fault.has(Flt::Ill));
+    assert!(rt; fault.union(FltSet::empty().with(Flt::Bpt)).first() == Some(Flt::Bpt));
+    assert!(rt; fault.intersection(FltSet::all()).without(Flt::Izdiv) == FltSet::empty());
+    assert!(rt; fault.minus(fault).is_empty());
+}
+
+fn fstat_and_exit() -> SysSet {
+    SysSet::empty().with(Sysno::Fstat).with(Sysno::Exit)
+}
+
+#[test]
+fn words_of_sets_of_calls(rt: HostRuntime) {
+    assert!(rt; fstat_and_exit().word() == 0x1000_0001);
+    assert!(rt; SysSet::from_word(0x1000_0001) == Some(fstat_and_exit()));
+    assert!(rt; SysSet::from_word(0x2000_0000).is_none());
+    assert!(rt; SysSet::all().word() == 0x1fff_ffff);
+}
+
+#[test]
+fn sets_of_calls_combined(rt: HostRuntime) {
+    let calls = fstat_and_exit();
     assert!(rt; calls.has(Sysno::Exit) && !calls.has(Sysno::Fork));
-    assert_eq!(rt; calls.without(Sysno::Exit).first(), Some(Sysno::Fstat));
-    assert_eq!(rt; calls.union(SysSet::all()).intersection(calls), calls);
+    assert!(rt; calls.without(Sysno::Exit).first() == Some(Sysno::Fstat));
+    assert!(rt; calls.union(SysSet::all()).intersection(calls) == calls);
     assert!(rt; calls.minus(SysSet::all()).is_empty());
 }
 
 #[test]
-fn flags_of_control_words(rt: HostRuntime) {
+fn modes_of_a_process(rt: HostRuntime) {
     let modes = Modes::FORK.union(Modes::ASYNC);
-    assert_eq!(rt; modes.word(), 9);
+    assert!(rt; modes.word() == 9);
     assert!(rt; modes.has(Modes::FORK) && !modes.has(Modes::KLC) && !modes.has(Modes::RLC));
-    assert_eq!(rt; modes.minus(Modes::FORK), Modes::ASYNC);
-    assert_eq!(rt; Modes::from_word(15).map(|all| all.has(modes)), Some(true));
-    assert_eq!(rt; Modes::from_word(16), None);
+    assert!(rt; modes.minus(Modes::FORK) == Modes::ASYNC);
     assert!(rt; Modes::empty().is_empty());
-
-    let watch = WatchFlags::READ.union(WatchFlags::TRAPAFTER);
-    assert_eq!(rt; WatchFlags::from_word(9), Some(watch));
-    assert!(rt; !watch.has(WatchFlags::WRITE) && !watch.has(WatchFlags::EXEC));
-    assert_eq!(rt; watch.minus(WatchFlags::READ).word(), 8);
-    assert!(rt; WatchFlags::empty().is_empty());
-
-    let text = Prot::READ.union(Prot::EXEC);
-    assert_eq!(rt; text.word(), 5);
-    assert!(rt; !text.has(Prot::WRITE));
-    assert_eq!(rt; Prot::from_word(8), None);
-    assert_eq!(rt; Prot::empty().union(text).minus(Prot::EXEC), Prot::READ);
 }
 
 #[test]
-fn names_and_byte_strings(rt: HostRuntime) -> Result<(), Fail> {
-    let long = [b'a'; 32];
-    assert_eq!(rt; Name::from_slice(b""), None);
-    assert_eq!(rt; Name::from_slice(&long), None);
-    let name = Name::from_slice(b"sched").ok_or("a name")?;
-    assert_eq!(rt; name.as_slice(), b"sched".as_slice());
-    assert!(rt; Name::from_slice(&long[1..]).is_some());
+fn modes_of_words(rt: HostRuntime) {
+    let modes = Modes::FORK.union(Modes::ASYNC);
+    let all = Modes::from_word(15).expect(&rt, "a word");
+    assert!(rt; all.has(modes));
+    assert!(rt; Modes::from_word(16).is_none());
+}
 
+#[test]
+fn flags_of_watched_areas(rt: HostRuntime) {
+    let watch = WatchFlags::READ.union(WatchFlags::TRAPAFTER);
+    assert!(rt; WatchFlags::from_word(9) == Some(watch));
+    assert!(rt; !watch.has(WatchFlags::WRITE) && !watch.has(WatchFlags::EXEC));
+    assert!(rt; watch.minus(WatchFlags::READ).word() == 8);
+    assert!(rt; WatchFlags::empty().is_empty());
+}
+
+#[test]
+fn protections_of_mappings(rt: HostRuntime) {
+    let text = Prot::READ.union(Prot::EXEC);
+    assert!(rt; text.word() == 5);
+    assert!(rt; !text.has(Prot::WRITE));
+    assert!(rt; Prot::from_word(8).is_none());
+    assert!(rt; Prot::empty().union(text).minus(Prot::EXEC) == Prot::READ);
+}
+
+#[test]
+fn names_of_1_to_31_bytes(rt: HostRuntime) {
+    let long = [b'a'; 32];
+    assert!(rt; Name::from_slice(b"").is_none());
+    assert!(rt; Name::from_slice(&long).is_none());
+    assert!(rt; Name::from_slice(&long[1..]).is_some());
+    let name = Name::from_slice(b"sched").expect(&rt, "a name");
+    assert!(rt; name.as_slice() == b"sched".as_slice());
+}
+
+#[test]
+fn byte_strings(rt: HostRuntime) -> Result<(), Fail> {
     let bytes = Bytes::from_vec([7u8, 8].to_vec(rt.alloc())?);
-    assert_eq!(rt; bytes.as_slice(), [7, 8].as_slice());
-    assert_eq!(rt; bytes.into_vec().as_slice(), [7, 8].as_slice());
+    assert!(rt; bytes.as_slice() == [7, 8].as_slice());
+    assert!(rt; bytes.into_vec().as_slice() == [7, 8].as_slice());
+    Ok(())
+}
+
+#[test]
+fn lists_of_handles(rt: HostRuntime) -> Result<(), Fail> {
     let handles = Handles::from_vec([1u32, 4_294_967_295].to_vec(rt.alloc())?);
-    assert_eq!(rt; handles.as_slice(), [1, 4_294_967_295].as_slice());
+    assert!(rt; handles.as_slice() == [1, 4_294_967_295].as_slice());
     Ok(())
 }
 
@@ -299,34 +405,59 @@ fn total(table: &Table<Count>) -> u64 {
     table.iter().fold(0, |sum, count| sum ^ count.so_far)
 }
 
-#[test]
-fn a_table_by_id(rt: HostRuntime) -> Result<(), Fail> {
-    let mut table = Table::new(rt.alloc());
-    assert!(rt; table.is_empty());
+/// A table of the counts 3, 5 and 4, in this order.
+fn counts(alloc: Global) -> Result<Table<Count>, NoMemory> {
+    let mut table = Table::new(alloc);
     for number in [3, 5, 4] {
-        let added: Result<(), NoMemory> = table.push(Count { number, so_far: 0 });
-        assert_eq!(rt; added, Ok(()));
+        table.push(Count { number, so_far: 0 })?;
     }
-    assert_eq!(rt; table.len(), 3);
-    assert_eq!(rt; table.place_of(5), Some(1));
-    assert_eq!(rt; table.place_of(6), None);
+    Ok(table)
+}
+
+#[test]
+fn a_table_finds_its_ids(rt: HostRuntime) -> Result<(), Fail> {
+    assert!(rt; Table::<Count>::new(rt.alloc()).is_empty());
+    let table = counts(rt.alloc())?;
+    assert!(rt; table.len() == 3);
+    assert!(rt; table.place_of(5) == Some(1));
+    assert!(rt; table.place_of(6).is_none());
     assert!(rt; table.contains(4) && !table.contains(6));
+    Ok(())
+}
+
+#[test]
+fn entries_are_changed_by_id_and_by_place(rt: HostRuntime) -> Result<(), Fail> {
+    let mut table = counts(rt.alloc())?;
+    assert!(rt; table.contains(4));
     table.get_mut(4).so_far = 9;
     assert!(rt; table.len() == 3);
     table.at_mut(1).so_far = 6;
-    assert_eq!(rt; table.get(4).map(|count| count.so_far), Some(9));
+    assert!(rt; table.get(4).map(|count| count.so_far) == Some(9));
     assert!(rt; table.len() == 3);
-    assert_eq!(rt; table.at(0).number, 3);
-    assert_eq!(rt; total(&table), 15);
+    assert!(rt; table.at(0).number == 3);
+    assert!(rt; total(&table) == 15);
+    Ok(())
+}
+
+#[test]
+fn entries_are_changed_one_by_one(rt: HostRuntime) -> Result<(), Fail> {
+    let mut table = counts(rt.alloc())?;
     for count in table.as_mut_slice() {
         count.so_far = 1;
     }
-    assert_eq!(rt; total(&table), 1);
+    assert!(rt; total(&table) == 1);
     assert!(rt; table.len() == 3);
-    assert_eq!(rt; table.remove(1).number, 5);
-    assert_eq!(rt; table.place_of(4), Some(1));
+    Ok(())
+}
+
+#[test]
+fn entries_are_removed(rt: HostRuntime) -> Result<(), Fail> {
+    let mut table = counts(rt.alloc())?;
+    assert!(rt; table.len() == 3);
+    assert!(rt; table.remove(1).number == 5);
+    assert!(rt; table.place_of(4) == Some(1));
     table.truncate(1);
-    assert_eq!(rt; table.as_slice().len(), 1);
+    assert!(rt; table.as_slice().len() == 1);
     assert!(rt; table.get(4).is_none());
     Ok(())
 }
