@@ -1,4 +1,4 @@
-use Rattle.std.specs.Prelude.{◌≡◌, ◌==◌, ◌||◌, ◌&&◌, ◌<◌, ◌+◌, ◌-◌, ◌*◌, ◌%◌, ◌^◌, ℕ, not, List, [], ◌∷◌, ◌++◌, length, replicate, take, drop, All, Option, Some, None, nat_lt, nat_le, if◌then◌else◌, Result, Ok, Err, ◌/◌, slice_range}
+use Rattle.std.specs.Prelude.{◌≡◌, ◌==◌, ◌||◌, ◌&&◌, ◌+◌, ◌-◌, ◌*◌, ◌%◌, ◌^◌, ℕ, not, List, [], ◌∷◌, ◌++◌, length, replicate, take, drop, All, Option, Some, None, nat_lt, nat_le, if◌then◌else◌, Result, Ok, Err, ◌/◌, slice_range}
 use Rattle.std.specs.List.{list_all}
 use Rattle.pr_num.specs.Words.{word_of, words_bytes, IsWord, IsByte}
 use Rattle.pr_num.specs.declared.messages.Message.{Message}

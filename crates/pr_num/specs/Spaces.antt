@@ -1,4 +1,4 @@
-use Rattle.std.specs.Prelude.{◌==◌, ◌&&◌, ◌+◌, ◌-◌, ◌%◌, ◌^◌, ◌<◌, ◌≤◌, ℕ, zero, suc, Bool, true, false, List, [], ◌∷◌, ◌++◌, length, replicate, slice_index, find, sum_by, All, AllPairs, Option, Some, None, Result, Ok, Err, nat_lt, nat_le, bit_and, if◌then◌else◌}
+use Rattle.std.specs.Prelude.{◌&&◌, ◌+◌, ◌-◌, ◌%◌, ◌^◌, ◌<◌, ◌≤◌, ℕ, zero, suc, Bool, true, false, List, [], ◌∷◌, ◌++◌, length, replicate, slice_index, find, sum_by, All, AllPairs, Option, Some, None, Result, Ok, Err, nat_lt, nat_le, if◌then◌else◌}
 use Rattle.pr_num.specs.Control.{has_flags, prot_read, prot_write, prot_exec}
 use Rattle.pr_num.specs.Programs.{Program, text_of, whole_pages}
 use Rattle.pr_num.specs.declared.mappings.BadByte.{BadByte}

@@ -1,6 +1,6 @@
 use crate::{
     ArgKind, Bytes, DefAct, Errno, Flt, FltSet, Handles, Keyed, Modes, Name, NoMemory, Prot, Sig,
-    SigSet, SysSet, Sysno, Table, WatchFlags,
+    SigSet, StopReason, SysSet, Sysno, Table, WatchFlags,
 };
 use std::alloc::Global;
 use std::test::Fail;
@@ -86,6 +86,16 @@ static NO_SIGNAL_NAMES: [&str; 7] = [
 ];
 
 static NO_ERRNOS: [u64; 7] = [0, 6, 13, 33, 47, 49, u64::MAX];
+
+static REASONS: [(u64, &str); 7] = [
+    (1, "PR_REQUESTED"),
+    (2, "PR_SIGNALLED"),
+    (3, "PR_SYSENTRY"),
+    (4, "PR_SYSEXIT"),
+    (5, "PR_JOBCONTROL"),
+    (6, "PR_FAULTED"),
+    (7, "PR_SUSPENDED"),
+];
 
 // A call's arguments by the letters of the argument kinds: decimal, hexadecimal, text, buffer; a star where it may
 // sleep.
@@ -200,6 +210,29 @@ fn what_is_no_fault(rt: HostRuntime) {
     assert!(rt; Flt::from_number(0).is_none());
     assert!(rt; Flt::from_number(9).is_none());
     assert!(rt; Flt::from_name(b"ILL").is_none());
+}
+
+fn is_reason(n: u64, name: &str) -> bool {
+    let Some(reason) = StopReason::from_number(n) else {
+        return false;
+    };
+    reason.number() == n
+        && reason.name() == name
+        && StopReason::from_name(name.as_bytes()) == Some(reason)
+}
+
+#[test]
+fn stop_reasons_by_number_and_name(rt: HostRuntime) {
+    for (n, name) in &REASONS {
+        assert!(rt; is_reason(*n, name), "{n}");
+    }
+}
+
+#[test]
+fn what_is_no_stop_reason(rt: HostRuntime) {
+    assert!(rt; StopReason::from_number(0).is_none());
+    assert!(rt; StopReason::from_number(8).is_none());
+    assert!(rt; StopReason::from_name(b"REQUESTED").is_none());
 }
 
 fn letter(kind: ArgKind) -> u8 {
@@ -376,6 +409,7 @@ fn names_of_1_to_31_bytes(rt: HostRuntime) {
 fn byte_strings(rt: HostRuntime) -> Result<(), Fail> {
     let bytes = Bytes::from_vec([7u8, 8].to_vec(rt.alloc())?);
     assert!(rt; bytes.as_slice() == [7, 8].as_slice());
+    assert!(rt; bytes.copy(rt.alloc())?.as_slice() == [7, 8].as_slice());
     assert!(rt; bytes.into_vec().as_slice() == [7, 8].as_slice());
     Ok(())
 }
@@ -384,6 +418,7 @@ fn byte_strings(rt: HostRuntime) -> Result<(), Fail> {
 fn lists_of_handles(rt: HostRuntime) -> Result<(), Fail> {
     let handles = Handles::from_vec([1u32, 4_294_967_295].to_vec(rt.alloc())?);
     assert!(rt; handles.as_slice() == [1, 4_294_967_295].as_slice());
+    assert!(rt; handles.copy(rt.alloc())?.as_slice() == [1, 4_294_967_295].as_slice());
     Ok(())
 }
 
@@ -459,5 +494,13 @@ fn entries_are_removed(rt: HostRuntime) -> Result<(), Fail> {
     table.truncate(1);
     assert!(rt; table.as_slice().len() == 1);
     assert!(rt; table.get(4).is_none());
+    Ok(())
+}
+
+#[test]
+fn a_table_of_a_vector(rt: HostRuntime) -> Result<(), Fail> {
+    let table = Table::from_vec([7u8, 8].to_vec(rt.alloc())?);
+    assert!(rt; table.as_slice() == [7, 8].as_slice());
+    assert!(rt; table.into_vec().as_slice() == [7, 8].as_slice());
     Ok(())
 }
