@@ -1,4 +1,5 @@
 pub mod EntryLemmas
+pub mod FlagBounds
 pub mod InstructionLemmas
 pub mod NameLemmas
 pub mod NumberedLemmas

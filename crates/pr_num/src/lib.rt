@@ -3,7 +3,6 @@
 
 mod bytes;
 mod call_sets;
-mod control;
 mod errnos;
 mod fault_sets;
 mod faults;
@@ -14,7 +13,9 @@ mod keyed_tables;
 mod mappings;
 mod memory;
 mod messages;
+mod modes;
 mod names;
+mod protections;
 pub mod set_laws;
 mod sets;
 mod signal_sets;
@@ -23,6 +24,7 @@ mod stop_reasons;
 mod syscalls;
 pub mod table_laws;
 mod tables;
+mod watch_flags;
 /// The lwp id of the agent: no other lwp ever gets it.
 pub const AGENT: u32 = 65_535;
 
@@ -31,7 +33,6 @@ mod tests;
 
 pub use bytes::{Bytes, Handles};
 pub use call_sets::SysSet;
-pub use control::{Modes, Prot, WatchFlags};
 pub use errnos::Errno;
 pub use fault_sets::FltSet;
 pub use faults::Flt;
@@ -42,8 +43,11 @@ pub use keyed_tables::{Keyed, Table};
 pub use mappings::{Area, BadByte, Mapping, MappingKind};
 pub use memory::NoMemory;
 pub use messages::{Message, MsgFault};
+pub use modes::Modes;
 pub use names::Name;
+pub use protections::Prot;
 pub use signal_sets::SigSet;
 pub use signals::{DefAct, Sig};
 pub use stop_reasons::StopReason;
 pub use syscalls::{ArgKind, Sysno};
+pub use watch_flags::WatchFlags;

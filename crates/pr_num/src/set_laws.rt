@@ -8,7 +8,9 @@ ghost use Rattle.pr_num.specs.declared.signals.Sig.{Sig as AnySignal};
 ghost use Rattle.pr_num.specs.declared.faults.Flt.{Flt as AnyFault};
 ghost use Rattle.pr_num.specs.declared.syscalls.Sysno.{Sysno as AnySyscall};
 
-use crate::control::{Modes, Prot, WatchFlags};
+use crate::modes::Modes;
+use crate::protections::Prot;
+use crate::watch_flags::WatchFlags;
 
 // A set is known by the numbers that it has.
 

@@ -1,5 +1,4 @@
 ghost use Rattle.std.specs.Prelude.{◌≡◌, ℕ, ◌-◌, ◌^◌, ◌≤◌};
-ghost use Rattle.pr_num.specs.Control.{has_flags};
 ghost use Rattle.pr_num.specs.Sets.{has_number, union_word, common_word, minus_word, with_number, without_number};
 
 // The words of sets: the entry of number n, which counts from 1, is bit n - 1.
@@ -21,14 +20,6 @@ pub(crate) fn has_bit(w: u64, n: u64) -> bool
     ensures { result ≡ has_number w n }
 {
     (w >> (n - 1)) & 1 == 1
-}
-
-/// Whether the first word has all bits of the second.
-#[tactic(auto, unfolding(crate::specs::Control::has_flags, crate::specs::Sets::common_word))]
-pub(crate) fn has_all(word: u64, flags: u64) -> bool
-    ensures { result ≡ has_flags word flags }
-{
-    word & flags == flags
 }
 
 #[tactic(auto, unfolding(crate::specs::Sets::union_word))]
