@@ -1,6 +1,5 @@
 use pr_num::NoMemory;
-use std::error::Error;
-use std::fmt;
+use thiserror::Error;
 
 /// Why a line of a program is refused. Of several kinds in one line the first is named.
 #[derive(Clone, Copy, Debug, PartialEq, Eq)]
@@ -25,25 +24,13 @@ pub struct AsmFault {
 }
 
 /// Why a program was not read.
-#[derive(Clone, Copy, Debug, PartialEq, Eq)]
+#[derive(Clone, Copy, Debug, PartialEq, Eq, Error)]
 pub enum AsmRefusal {
+    #[error("line {}: {:?}", .0.line, .0.kind)]
     Fault(AsmFault),
+    #[error("out of memory")]
     NoMemory,
 }
-
-impl fmt::Display for AsmRefusal {
-    fn fmt<W: fmt::Write>(&self, f: &mut fmt::Formatter<W>) -> fmt::Result {
-        match self {
-            AsmRefusal::Fault(fault) => {
-                let AsmFault { line, kind } = fault;
-                write!(f, "line {line}: {kind:?}")
-            }
-            AsmRefusal::NoMemory => write!(f, "out of memory"),
-        }
-    }
-}
-
-impl Error for AsmRefusal {}
 
 impl From<NoMemory> for AsmRefusal {
     ghost use Rattle.std.specs.Prelude.{◌≡◌};

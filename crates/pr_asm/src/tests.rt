@@ -258,3 +258,14 @@ fn reads_whole_programs(rt: HostRuntime) {
     );
     assert_eq!(rt; s.symbol_at(0x100a0), Some((b"kid".as_slice(), 16)));
 }
+
+#[test]
+fn shows_refusals(rt: HostRuntime) -> Result<(), Fail> {
+    let refusal = AsmRefusal::Fault(AsmFault {
+        line: 3,
+        kind: AsmKind::Double,
+    });
+    let text = format!(in rt.alloc(); "{refusal}")?;
+    assert_eq!(rt; text.as_str(), "line 3: Double");
+    Ok(())
+}

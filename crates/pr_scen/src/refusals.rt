@@ -1,6 +1,5 @@
 use pr_num::NoMemory;
-use std::error::Error;
-use std::fmt;
+use thiserror::Error;
 
 /// Why a line of a scenario is refused.
 #[derive(Clone, Copy, Debug, PartialEq, Eq)]
@@ -17,25 +16,13 @@ pub struct ScenFault {
 }
 
 /// Why a scenario was not read.
-#[derive(Clone, Copy, Debug, PartialEq, Eq)]
+#[derive(Clone, Copy, Debug, PartialEq, Eq, Error)]
 pub enum ScenRefusal {
+    #[error("line {}: {:?}", .0.line, .0.kind)]
     Fault(ScenFault),
+    #[error("out of memory")]
     NoMemory,
 }
-
-impl fmt::Display for ScenRefusal {
-    fn fmt<W: fmt::Write>(&self, f: &mut fmt::Formatter<W>) -> fmt::Result {
-        match self {
-            ScenRefusal::Fault(fault) => {
-                let ScenFault { line, kind } = fault;
-                write!(f, "line {line}: {kind:?}")
-            }
-            ScenRefusal::NoMemory => write!(f, "out of memory"),
-        }
-    }
-}
-
-impl Error for ScenRefusal {}
 
 impl From<NoMemory> for ScenRefusal {
     ghost use Rattle.std.specs.Prelude.{◌≡◌};

@@ -8,32 +8,22 @@ ghost use Rattle.pr_watch.specs.Setting.{set_refusal, done_unless};
 
 use crate::hits;
 use pr_num::{Area, WatchFlags};
-use std::error::Error;
-use std::fmt;
 use std::marker::Model;
+use thiserror::Error;
 
 /// Why an area is not set.
-#[derive(Clone, Copy, Debug, PartialEq, Eq)]
+#[derive(Clone, Copy, Debug, PartialEq, Eq, Error)]
 pub enum WatchFault {
     /// Flags or a range that no area has.
+    #[error("flags or a range that no watched area has")]
     BadFlags,
     /// An area stands there.
+    #[error("an area is watched there")]
     Overlap,
     /// 64 areas stand.
+    #[error("64 areas are watched")]
     TooMany,
 }
-
-impl fmt::Display for WatchFault {
-    fn fmt<W: fmt::Write>(&self, f: &mut fmt::Formatter<W>) -> fmt::Result {
-        match self {
-            WatchFault::BadFlags => write!(f, "flags or a range that no watched area has"),
-            WatchFault::Overlap => write!(f, "an area is watched there"),
-            WatchFault::TooMany => write!(f, "64 areas are watched"),
-        }
-    }
-}
-
-impl Error for WatchFault {}
 
 /// The watched areas of a process: at most 64, kept in place, and seen by contracts as their list by rising address.
 #[derive(Drop)]
