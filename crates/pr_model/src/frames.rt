@@ -14,6 +14,10 @@ pub struct Frame {
 }
 
 impl Default for Frame {
+    ghost use Rattle.std.specs.Prelude.{◌≡◌, replicate};
+
+    ghost is_default = { λ frame. frame ≡ record { regs = replicate 11 0; held = 0 } };
+
     fn default() -> Frame {
         Frame {
             regs: [0; 11],
