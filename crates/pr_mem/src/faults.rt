@@ -1,8 +1,7 @@
 ghost use Rattle.std.specs.Prelude.{◌≡◌, ◌≤◌, ◌<◌};
 
 use pr_num::{BadByte, NoMemory};
-use std::error::Error;
-use std::fmt;
+use thiserror::Error;
 
 /// A mapping that is asked for.
 #[derive(Clone, Copy, Debug, PartialEq, Eq)]
@@ -18,32 +17,23 @@ pub struct Map {
 }
 
 /// Why a call on an address space is refused.
-#[derive(Clone, Copy, Debug, PartialEq, Eq)]
+#[derive(Clone, Copy, Debug, PartialEq, Eq, Error)]
 pub enum MemFault {
     /// No mapping has the byte at this address, or is the range that begins there.
+    #[error("nothing is mapped at {at:#x}")]
     Hole { at: u64 },
     /// The mapping of the byte at this address does not allow the access.
+    #[error("the access is not allowed at {at:#x}")]
     NotAllowed { at: u64 },
     /// A mapping stands there.
+    #[error("a mapping stands there")]
     Overlap,
     /// More than 1 MiB would be mapped.
+    #[error("more than 1 MiB would be mapped")]
     TooBig,
+    #[error("out of memory")]
     NoMemory,
 }
-
-impl fmt::Display for MemFault {
-    fn fmt<W: fmt::Write>(&self, f: &mut fmt::Formatter<W>) -> fmt::Result {
-        match self {
-            MemFault::Hole { at } => write!(f, "nothing is mapped at {at:#x}"),
-            MemFault::NotAllowed { at } => write!(f, "the access is not allowed at {at:#x}"),
-            MemFault::Overlap => write!(f, "a mapping stands there"),
-            MemFault::TooBig => write!(f, "more than 1 MiB would be mapped"),
-            MemFault::NoMemory => write!(f, "out of memory"),
-        }
-    }
-}
-
-impl Error for MemFault {}
 
 impl From<NoMemory> for MemFault {
     ghost use Rattle.std.specs.Prelude.{◌≡◌};

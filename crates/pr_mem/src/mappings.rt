@@ -100,16 +100,23 @@ fn push_pages(
 }
 
 /// The mappings with which a program of this text and these data begins.
-pub fn first_mappings(alloc: Global, text: &[u8], data: &[u8]) -> Result<Vec<Mapping>, NoMemory>
+pub fn first_mappings(alloc: Global, text: &[u8], bytes: &[u8]) -> Result<Vec<Mapping>, NoMemory>
     requires text { length text.now ≤ 0x10000 }
-    requires data { length data.now ≤ 0x10000 }
-    ensures { IfOk result (λ first. first.items ≡ first_mappings text.now data.now) }
+    requires data { length bytes.now ≤ 0x10000 }
+    ensures { IfOk result (λ first. first.items ≡ first_mappings text.now bytes.now) }
 {
     let run = prot_of(READ_EXECUTE);
     let change = prot_of(READ_WRITE);
     let mut first = Vec::new(alloc);
     push_pages(&mut first, alloc, 0x1_0000, run, MappingKind::Text, text)?;
-    push_pages(&mut first, alloc, 0x8_0000, change, MappingKind::Data, data)?;
+    push_pages(
+        &mut first,
+        alloc,
+        0x8_0000,
+        change,
+        MappingKind::Data,
+        bytes,
+    )?;
     let stack = zeros_at(alloc, 0x70_0000, 4096, change, MappingKind::Stack)?;
     push(&mut first, stack)?;
     Ok(first)

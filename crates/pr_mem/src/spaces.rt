@@ -46,13 +46,13 @@ impl Space {
     }
 
     /// The space in which a program begins: its text and its data, each where it is not empty, and a stack of 4,096 bytes.
-    pub fn first(alloc: Global, text: &[u8], data: &[u8]) -> Result<Space, NoMemory>
+    pub fn first(alloc: Global, text: &[u8], bytes: &[u8]) -> Result<Space, NoMemory>
         requires text { length text.now ≤ 0x10000 }
-        requires data { length data.now ≤ 0x10000 }
-        ensures { IfOk result (λ space. space ≡ first_mappings text.now data.now) }
+        requires data { length bytes.now ≤ 0x10000 }
+        ensures { IfOk result (λ space. space ≡ first_mappings text.now bytes.now) }
     {
-        let mappings = mappings::first_mappings(alloc, text, data)?;
-        let mapped = rounded(text.len()) + rounded(data.len()) + 4096;
+        let mappings = mappings::first_mappings(alloc, text, bytes)?;
+        let mapped = rounded(text.len()) + rounded(bytes.len()) + 4096;
         Ok(Space { mappings, mapped })
     }
 

@@ -12,4 +12,4 @@ built none one two all text bytes run change stack e0 er ec e1 e2 es e3 = rw (e3
 
 pub returns : goal.returns
 returns c =
-    built c.new-first.result.items c.push_pages.new.mappings.items c.push_pages-2.new.mappings.items c.push.new.mappings.items c.args.text.now c.args.data.now c.prot_of-run.result c.prot_of-change.result c.in_ok-stack.stack c.new-first.ensures.items c.prot_of-run.ensures c.prot_of-change.ensures c.in_ok-push_pages.ensures c.in_ok-push_pages-2.ensures c.in_ok-stack.ensures c.in_ok-push.ensures
+    built c.new-first.result.items c.push_pages.new.mappings.items c.push_pages-2.new.mappings.items c.push.new.mappings.items c.args.text.now c.args.bytes.now c.prot_of-run.result c.prot_of-change.result c.in_ok-stack.stack c.new-first.ensures.items c.prot_of-run.ensures c.prot_of-change.ensures c.in_ok-push_pages.ensures c.in_ok-push_pages-2.ensures c.in_ok-stack.ensures c.in_ok-push.ensures
