@@ -70,3 +70,7 @@ fds_bytes descriptors = words_bytes (entries_words (map fd_entry_words_of descri
 -- the list of processes
 abbrev pub list_bytes : List ListEntry → List ℕ
 list_bytes processes = words_bytes (entries_words (map list_entry_words_of processes))
+
+-- "sigact": what a process does at each of the signals 1 to 31, a word a signal
+abbrev pub sigact_bytes : List ℕ → List ℕ
+sigact_bytes dispositions = words_bytes dispositions

@@ -2,7 +2,7 @@
 ghost use Rattle.std.specs.Prelude.{◌≡◌, ◌++◌, map, IfOk, OnOk};
 ghost use Rattle.pr_num.specs.Records.{entries_words};
 ghost use Rattle.pr_num.specs.Words.{words_bytes};
-ghost use Rattle.pr_rec.specs.Lists.{lstatus_bytes, map_bytes, watch_bytes, fds_bytes, list_bytes};
+ghost use Rattle.pr_rec.specs.Lists.{lstatus_bytes, map_bytes, sigact_bytes, watch_bytes, fds_bytes, list_bytes};
 
 use crate::entries::{Entry, append_words};
 use crate::{FdEntry, ListEntry, LwpStatus, MapEntry, WatchEntry};
@@ -59,7 +59,7 @@ pub fn write_list(alloc: Global, processes: &[ListEntry]) -> Result<Bytes, NoMem
 /// The dispositions of the signals 1 to 31: 0 default, 1 ignored, else the address of a handler (proc(4), "sigact").
 /// Takes no memory.
 pub fn encode_sigact(dispositions: &[u64; 31]) -> [u8; 248]
-    ensures { result ≡ words_bytes dispositions.now }
+    ensures { result ≡ sigact_bytes dispositions.now }
 {
     let mut bytes = [0; 248];
     put_words(&mut bytes, dispositions);
