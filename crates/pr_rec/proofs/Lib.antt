@@ -4,6 +4,7 @@ pub mod MapEntryLemmas
 pub mod PsinfoLemmas
 pub mod ReadLemmas
 pub mod RecordLemmas
+pub mod SigactLemmas
 pub mod SpellingLemmas
 pub mod StatusLemmas
 pub mod UsageLemmas

@@ -258,7 +258,7 @@ fn lists_are_their_entries(rt: HostRuntime) -> Result<(), Fail> {
     );
 
     let descriptor = FdEntry {
-        descriptor: 63,
+        descriptor: Descriptor::from_number(63).ok_or("63")?,
         kind: FdKind::PipeWriter,
         access: Access::Write,
         offset: 5,
