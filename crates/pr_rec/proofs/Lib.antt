@@ -1,4 +1,5 @@
 pub mod FieldLemmas
+pub mod FlagBounds
 pub mod LwpStatusLemmas
 pub mod MapEntryLemmas
 pub mod PsinfoLemmas

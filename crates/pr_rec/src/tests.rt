@@ -98,7 +98,7 @@ fn bytes_of(alloc: Global, words: &[u64]) -> Result<Vec<u8>, AllocError> {
 
 fn lwp() -> LwpStatus {
     LwpStatus {
-        flags: 3,
+        flags: LwpFlags::STOPPED.union(LwpFlags::ISTOP),
         id: 4_294_967_295,
         why: Some(StopReason::SysEntry),
         what: 4,
@@ -118,7 +118,7 @@ fn lwp() -> LwpStatus {
 
 fn status() -> Status {
     Status {
-        flags: 9,
+        flags: ProcessFlags::FORK.union(ProcessFlags::ASYNC),
         id: 7,
         parent: 1,
         lwps: 2,
@@ -164,7 +164,7 @@ fn words_out_of_their_range_are_named(rt: HostRuntime) -> Result<(), Fail> {
 #[test]
 fn nothing_is_zeros(rt: HostRuntime) {
     let zeros = LwpStatus {
-        flags: 0,
+        flags: LwpFlags::empty(),
         id: 0,
         why: None,
         what: 0,
