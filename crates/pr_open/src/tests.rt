@@ -17,10 +17,14 @@ fn handle(controller: u32, pid: u32, file: File, mode: Mode) -> Held {
 fn a_full_table_opens_no_more(rt: HostRuntime) -> Result<(), Fail> {
     let mut opens = Opens::new(rt.alloc())?;
     let status = handle(1, 2, File::Status, Mode::Read);
-    for number in 0..1_024 {
+    let exclusive = handle(1, 2, File::Ctl, Mode::WriteExcl);
+    assert_eq!(rt; opens.open(exclusive), Ok(0));
+    for number in 1..1_024 {
         assert_eq!(rt; opens.open(status), Ok(number));
     }
     assert_eq!(rt; opens.open(status), Err(OpenNo::Full));
+    // An open that conflicts is Busy also where no number is free.
+    assert_eq!(rt; opens.open(exclusive), Err(OpenNo::Busy));
     // The least free number is taken, whichever was freed last.
     assert_eq!(rt; opens.close(1, 700), Ok(status));
     assert_eq!(rt; opens.close(1, 1_023), Ok(status));
@@ -41,7 +45,7 @@ fn an_exclusive_writer_is_alone(rt: HostRuntime) -> Result<(), Fail> {
     assert_eq!(rt; opens.open(exclusive), Ok(0));
     assert_eq!(rt; opens.open(shared), Err(OpenNo::Busy));
     assert_eq!(rt; opens.open(exclusive), Err(OpenNo::Busy));
-    // Readers, and writers of another process, are none of its matter.
+    // It keeps out no readers, and no writers of another process.
     assert_eq!(rt; opens.open(handle(2, 2, File::Mem, Mode::Read)), Ok(1));
     assert_eq!(rt; opens.open(handle(2, 3, File::Ctl, Mode::WriteExcl)), Ok(2));
     assert!(rt; opens.writable(2) && opens.writable(3) && !opens.writable(4));

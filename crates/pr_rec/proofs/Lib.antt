@@ -1,9 +1,11 @@
 pub mod FieldLemmas
+pub mod FlagBounds
 pub mod LwpStatusLemmas
 pub mod MapEntryLemmas
 pub mod PsinfoLemmas
 pub mod ReadLemmas
 pub mod RecordLemmas
+pub mod SigactLemmas
 pub mod SpellingLemmas
 pub mod StatusLemmas
 pub mod UsageLemmas

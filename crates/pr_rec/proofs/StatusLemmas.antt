@@ -12,16 +12,16 @@ use Rattle.pr_rec.specs.declared.faults.RecFault.{RecFault}
 use Rattle.pr_rec.specs.declared.lwps.LwpStatus.{LwpStatus}
 use Rattle.pr_rec.specs.declared.statuses.Status.{Status}
 
-pub status-ranged : (s : Status) → s.flags < 32 → s.id < 2 ^ 32 → s.parent < 2 ^ 32 → s.pending < 2 ^ 31 → s.traced_signals < 2 ^ 31 → s.traced_faults < 2 ^ 8 → s.traced_entries < 2 ^ 29 → s.traced_exits < 2 ^ 29 → s.agent < 2 ^ 32 → s.lwp.flags < 64 → s.lwp.id < 2 ^ 32 → s.lwp.what < 32 → s.lwp.held < 2 ^ 31 → s.lwp.pending < 2 ^ 31 → All IsWord (status_words_of s) → first_out_of_range status_ranges (status_words_of s) ≡ None
+pub status-ranged : (s : Status) → s.flags < 2 ^ 5 → s.id < 2 ^ 32 → s.parent < 2 ^ 32 → s.pending < 2 ^ 31 → s.traced_signals < 2 ^ 31 → s.traced_faults < 2 ^ 8 → s.traced_entries < 2 ^ 29 → s.traced_exits < 2 ^ 29 → s.agent < 2 ^ 32 → s.lwp.flags < 2 ^ 6 → s.lwp.id < 2 ^ 32 → s.lwp.what < 32 → s.lwp.held < 2 ^ 31 → s.lwp.pending < 2 ^ 31 → All IsWord (status_words_of s) → first_out_of_range status_ranges (status_words_of s) ≡ None
 status-ranged s flags id parent pending signals faults entries exits agent lwp_flags lwp_id what held lwp_pending fit =
     first_unfit-none status_ranges (status_words_of s) 0 fit ((λ _. lt-ltb _ _ flags), ((λ _. lt-ltb _ _ id), ((λ _. lt-ltb _ _ parent), (word-any _, ((λ _. lt-ltb _ _ pending), ((λ _. lt-ltb _ _ signals), ((λ _. lt-ltb _ _ faults), ((λ _. lt-ltb _ _ entries), ((λ _. lt-ltb _ _ exits), (word-any _, (word-any _, ((λ _. lt-ltb _ _ agent), (word-any _, ((λ _. lt-ltb _ _ lwp_flags), ((λ _. lt-ltb _ _ lwp_id), ((λ _. lt-ltb _ _ (reason_small s.lwp.why)), ((λ _. lt-ltb _ _ what), ((λ _. lt-ltb _ _ (signal_small s.lwp.signal)), ((λ _. lt-ltb _ _ (fault_small s.lwp.fault)), (word-any _, ((λ _. lt-ltb _ _ (call_small s.lwp.call)), (word-any _, (word-any _, (word-any _, (word-any _, (word-any _, (word-any _, (word-any _, ((λ _. an_errno-field s.lwp.errno), ((λ _. lt-ltb _ _ held), ((λ _. lt-ltb _ _ lwp_pending), (word-any _, (word-any _, (word-any _, (word-any _, (word-any _, (word-any _, (word-any _, (word-any _, (word-any _, (word-any _, (word-any _, ((λ _. lt-ltb _ _ (disposition_small s.lwp.disposition)), tt)))))))))))))))))))))))))))))))))))))))))))
 
 -- 43 words of which some, and the last 30, are known in another way
-pub status_elements : (ws : List ℕ) (pending signals faults entries exits : ℕ) (lwp : List ℕ) → length ws ≡ 43 → pending ≡ get_or ws 4 0 → signals ≡ get_or ws 5 0 → faults ≡ get_or ws 6 0 → entries ≡ get_or ws 7 0 → exits ≡ get_or ws 8 0 → lwp ≡ drop 13 ws → (get_or ws 0 0 ∷ get_or ws 1 0 ∷ get_or ws 2 0 ∷ get_or ws 3 0 ∷ pending ∷ signals ∷ faults ∷ entries ∷ exits ∷ get_or ws 9 0 ∷ get_or ws 10 0 ∷ get_or ws 11 0 ∷ get_or ws 12 0 ∷ []) ++ lwp ≡ ws
-status_elements ws pending signals faults entries exits lwp size pending_is signals_is faults_is entries_is exits_is lwp_is =
+pub status_elements : (ws : List ℕ) (flags pending signals faults entries exits : ℕ) (lwp : List ℕ) → length ws ≡ 43 → flags ≡ get_or ws 0 0 → pending ≡ get_or ws 4 0 → signals ≡ get_or ws 5 0 → faults ≡ get_or ws 6 0 → entries ≡ get_or ws 7 0 → exits ≡ get_or ws 8 0 → lwp ≡ drop 13 ws → (flags ∷ get_or ws 1 0 ∷ get_or ws 2 0 ∷ get_or ws 3 0 ∷ pending ∷ signals ∷ faults ∷ entries ∷ exits ∷ get_or ws 9 0 ∷ get_or ws 10 0 ∷ get_or ws 11 0 ∷ get_or ws 12 0 ∷ []) ++ lwp ≡ ws
+status_elements ws flags pending signals faults entries exits lwp size flags_is pending_is signals_is faults_is entries_is exits_is lwp_is =
     let all : each_of 43 (λ k. get_or ws k 0) ≡ ws = each_of-elements 43 ws size in
     let behind : drop 13 ws ≡ drop 13 (each_of 43 (λ k. get_or ws k 0)) = ap (drop 13) (sym all) in
-    rw (pending_is, signals_is, faults_is, entries_is, exits_is, lwp_is, behind) all
+    rw (flags_is, pending_is, signals_is, faults_is, entries_is, exits_is, lwp_is, behind) all
 
 pub status_tested : AreTested status_ranges
 status_tested = record {

@@ -1,5 +1,5 @@
-use Rattle.std.specs.Prelude.{ℕ, List, [], ◌∷◌, map}
-use Rattle.pr_num.specs.Records.{entries_words, counted_words}
+use Rattle.std.specs.Prelude.{◌≡◌, ℕ, List, [], ◌∷◌, length, map, None}
+use Rattle.pr_num.specs.Records.{Range, entries_words, counted_words, first_out_of_range}
 use Rattle.pr_num.specs.Words.{words_bytes}
 use Rattle.pr_rec.specs.Fields.{name_words}
 use Rattle.pr_rec.specs.RecordWords.{lwpstatus_words_of, map_entry_words_of}
@@ -14,6 +14,11 @@ use Rattle.pr_num.specs.declared.files.Access.{Access}
 use Rattle.pr_num.specs.declared.files.Access.TheVariants.{Read, Write, Both}
 
 -- The bytes of the records that are lists (proc(4)). What each word may hold stands in pr_num's Records.
+
+-- the words of an entry, each in its range
+pub record AreInRange (ranges : List Range) (words : List ℕ) : Type 0 where
+  pub count : length words ≡ length ranges
+  pub ranged : first_out_of_range ranges words ≡ None
 
 -- the 3 words of a watched area
 abbrev pub watch_entry_words_of : WatchEntry → List ℕ
@@ -70,3 +75,7 @@ fds_bytes descriptors = words_bytes (entries_words (map fd_entry_words_of descri
 -- the list of processes
 abbrev pub list_bytes : List ListEntry → List ℕ
 list_bytes processes = words_bytes (entries_words (map list_entry_words_of processes))
+
+-- "sigact": what a process does at each of the signals 1 to 31, a word a signal
+abbrev pub sigact_bytes : List ℕ → List ℕ
+sigact_bytes dispositions = words_bytes dispositions

@@ -105,6 +105,7 @@ pub record IsLwpStatus (l : LwpStatus) : Type 0 where
 -- 30 words of which those that stand for something are in its range
 pub record HasLwpStatusFields (words : List ℕ) : Type 0 where
   pub size : length words ≡ 30
+  pub flags : slice_index words 0 < 2 ^ 6
   pub id : slice_index words 1 < 2 ^ 32
   pub why : slice_index words 2 < 8
   pub signal : slice_index words 4 < 32

@@ -1,10 +1,12 @@
-ghost use Rattle.std.specs.Prelude.{◌≡◌, ◌++◌, OnOk};
-ghost use Rattle.pr_num.specs.Words.{word_bytes, words_bytes};
-ghost use Rattle.pr_rec.specs.Lists.{watch_entry_words_of, fd_entry_words_of, fd_kind_number, access_number, list_entry_words_of};
+ghost use Rattle.std.specs.Prelude.{◌≡◌, ◌++◌, ◌<◌, ◌^◌, OnOk};
+ghost use Rattle.std.specs.List.{All};
+ghost use Rattle.pr_num.specs.Records.{lwpstatus_ranges, map_entry_ranges, watch_entry_ranges, fd_entry_ranges, list_entry_ranges};
+ghost use Rattle.pr_num.specs.Words.{IsWord, word_bytes, words_bytes};
+ghost use Rattle.pr_rec.specs.Lists.{AreInRange, watch_entry_words_of, fd_entry_words_of, fd_kind_number, access_number, list_entry_words_of};
 ghost use Rattle.pr_rec.specs.RecordWords.{lwpstatus_words_of, map_entry_words_of};
 
 use crate::fields::name_words;
-use crate::{LwpStatus, MapEntry};
+use crate::{Descriptor, LwpStatus, MapEntry};
 use pr_num::{Access, WatchFlags};
 use std::alloc::AllocError;
 
@@ -32,8 +34,7 @@ pub enum FdKind {
 /// An open descriptor of a process.
 #[derive(Clone, Copy, Debug, PartialEq, Eq)]
 pub struct FdEntry {
-    /// Its number, below 64.
-    pub descriptor: u32,
+    pub descriptor: Descriptor,
     pub kind: FdKind,
     pub access: Access,
     /// Where the next read or write of a file begins.
@@ -52,19 +53,72 @@ pub struct ListEntry {
     pub program: [u8; 32],
 }
 
+impl WatchEntry {
+    fn words(&self) -> [u64; 3]
+        ensures words { result ≡ watch_entry_words_of self.now }
+        ensures flags { self.now.flags < 2 ^ 4 }
+    {
+        [self.at, self.size, self.flags.word()]
+    }
+}
+
+impl FdEntry {
+    fn words(&self) -> [u64; 8]
+        ensures words { result ≡ fd_entry_words_of self.now }
+        ensures descriptor { self.now.descriptor < 64 }
+    {
+        let name = name_words(&self.name);
+        [
+            u64::from(self.descriptor.number()),
+            fd_kind_word(self.kind),
+            access_word(self.access),
+            self.offset,
+            name[0],
+            name[1],
+            name[2],
+            name[3],
+        ]
+    }
+}
+
+impl ListEntry {
+    fn words(&self) -> [u64; 6]
+        ensures words { result ≡ list_entry_words_of self.now }
+        ensures id { self.now.id < 2 ^ 32 }
+        ensures parent { self.now.parent < 2 ^ 32 }
+    {
+        let program = name_words(&self.program);
+        [
+            u64::from(self.id),
+            u64::from(self.parent),
+            program[0],
+            program[1],
+            program[2],
+            program[3],
+        ]
+    }
+}
+
 /// An entry of a record that is a list.
 pub(crate) trait Entry {
     ghost use Rattle.std.specs.Prelude.{ℕ, List};
 
     ghost words: { Self → List ℕ };
 
+    // That each of its words is in its range.
+    ghost is_ranged: { Self → Type 0 };
+
     /// Adds the words of the entry.
     fn append(&self, out: &mut Vec<u8>) -> Result<(), AllocError>
-        ensures { OnOk result (out.new.items ≡ out.old.items ++ words_bytes (words self.now)) };
+        ensures bytes { OnOk result (out.new.items ≡ out.old.items ++ words_bytes (words self.now)) }
+        ensures ranged { is_ranged self.now };
 }
 
 impl Entry for LwpStatus {
     ghost words = { lwpstatus_words_of };
+
+    // The number of what it is stopped for may be any.
+    ghost is_ranged = { λ l. l.what < 32 → AreInRange lwpstatus_ranges (lwpstatus_words_of l) };
 
     fn append(&self, out: &mut Vec<u8>) -> Result<(), AllocError> {
         append_words(out, &self.words())
@@ -74,6 +128,8 @@ impl Entry for LwpStatus {
 impl Entry for MapEntry {
     ghost words = { map_entry_words_of };
 
+    ghost is_ranged = { λ m. AreInRange map_entry_ranges (map_entry_words_of m) };
+
     fn append(&self, out: &mut Vec<u8>) -> Result<(), AllocError> {
         append_words(out, &self.words())
     }
@@ -82,48 +138,30 @@ impl Entry for MapEntry {
 impl Entry for WatchEntry {
     ghost words = { watch_entry_words_of };
 
+    ghost is_ranged = { λ w. AreInRange watch_entry_ranges (watch_entry_words_of w) };
+
     fn append(&self, out: &mut Vec<u8>) -> Result<(), AllocError> {
-        append_words(out, &[self.at, self.size, self.flags.word()])
+        append_words(out, &self.words())
     }
 }
 
 impl Entry for FdEntry {
     ghost words = { fd_entry_words_of };
 
+    ghost is_ranged = { λ d. AreInRange fd_entry_ranges (fd_entry_words_of d) };
+
     fn append(&self, out: &mut Vec<u8>) -> Result<(), AllocError> {
-        let name = name_words(&self.name);
-        append_words(
-            out,
-            &[
-                u64::from(self.descriptor),
-                fd_kind_word(self.kind),
-                access_word(self.access),
-                self.offset,
-                name[0],
-                name[1],
-                name[2],
-                name[3],
-            ],
-        )
+        append_words(out, &self.words())
     }
 }
 
 impl Entry for ListEntry {
     ghost words = { list_entry_words_of };
 
+    ghost is_ranged = { λ p. AreInRange list_entry_ranges (list_entry_words_of p) };
+
     fn append(&self, out: &mut Vec<u8>) -> Result<(), AllocError> {
-        let program = name_words(&self.program);
-        append_words(
-            out,
-            &[
-                u64::from(self.id),
-                u64::from(self.parent),
-                program[0],
-                program[1],
-                program[2],
-                program[3],
-            ],
-        )
+        append_words(out, &self.words())
     }
 }
 
@@ -141,7 +179,8 @@ fn access_word(access: Access) -> u64
 
 /// Adds words to a record.
 pub(crate) fn append_words(out: &mut Vec<u8>, words: &[u64]) -> Result<(), AllocError>
-    ensures { OnOk result (out.new.items ≡ out.old.items ++ words_bytes words.now) }
+    ensures bytes { OnOk result (out.new.items ≡ out.old.items ++ words_bytes words.now) }
+    ensures words { All IsWord words.now }
 {
     for word in words {
         append_word(out, *word)?;

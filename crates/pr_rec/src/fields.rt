@@ -11,8 +11,8 @@ ghost use Rattle.pr_num.specs.StopReasons.{reason_number};
 ghost use Rattle.pr_num.specs.Spaces.{kind_number};
 ghost use Rattle.pr_rec.specs.Fields.{number_or_zero, truth_word, front_words, disposition_number};
 
-use crate::Disposition;
 use crate::columns::fill;
+use crate::{Disposition, LwpFlags, ProcessFlags};
 use pr_codec::put_words;
 use pr_num::{Errno, Flt, FltSet, MappingKind, Prot, Sig, SigSet, StopReason, SysSet, Sysno};
 
@@ -139,6 +139,26 @@ pub(crate) fn protection_of(word: u64) -> Prot
         unreachable!()
     };
     protection
+}
+
+pub(crate) fn process_flags_of(word: u64) -> ProcessFlags
+    requires { word < 2 ^ 5 }
+    ensures { result ≡ word }
+{
+    let Some(flags) = ProcessFlags::from_word(word) else {
+        unreachable!()
+    };
+    flags
+}
+
+pub(crate) fn lwp_flags_of(word: u64) -> LwpFlags
+    requires { word < 2 ^ 6 }
+    ensures { result ≡ word }
+{
+    let Some(flags) = LwpFlags::from_word(word) else {
+        unreachable!()
+    };
+    flags
 }
 
 pub(crate) fn truth_of(word: u64) -> bool

@@ -2,23 +2,29 @@
 #![tactic(auto)]
 
 mod columns;
+mod descriptors;
 mod entries;
 mod faults;
 mod fields;
+mod flags;
 mod laws;
 mod lists;
 mod lwps;
 mod mappings;
+mod names;
 mod processes;
 mod statuses;
 mod usages;
 
+pub use descriptors::Descriptor;
 pub use entries::{FdEntry, FdKind, ListEntry, WatchEntry};
 pub use faults::RecFault;
+pub use flags::{LwpFlags, ProcessFlags, words_of_lwp_flags, words_of_process_flags};
 pub use laws::one_spelling_one_record;
 pub use lists::{encode_sigact, write_fds, write_list, write_lstatus, write_map, write_watch};
 pub use lwps::{Disposition, LwpStatus};
 pub use mappings::MapEntry;
+pub use names::name_field;
 pub use processes::Psinfo;
 pub use statuses::Status;
 pub use usages::Usage;

@@ -5,12 +5,12 @@ ghost use Rattle.pr_rec.specs.Reading.{BeginsWith, record_read};
 ghost use Rattle.pr_rec.specs.RecordWords.{lwpstatus_words_of, IsLwpStatus, HasLwpStatusFields};
 ghost use Rattle.pr_rec.specs.declared.lwps.LwpStatus.{LwpStatus as Decoded};
 
-use crate::RecFault;
 use crate::columns::{Column, put_record, read_record};
 use crate::fields::{
     call_of, call_word, disposition_of, disposition_word, errno_of, errno_word, fault_of,
-    fault_word, reason_of, reason_word, signal_of, signal_word, signals_of,
+    fault_word, lwp_flags_of, reason_of, reason_word, signal_of, signal_word, signals_of,
 };
+use crate::{LwpFlags, RecFault};
 use pr_num::{Errno, Flt, Sig, SigSet, StopReason, Sysno};
 
 /// How a process disposes of a signal (sigaction(2)).
@@ -27,9 +27,7 @@ pub enum Disposition {
 /// The status of an lwp (proc(4), "lwpstatus").
 #[derive(Clone, Copy, Debug, PartialEq, Eq)]
 pub struct LwpStatus {
-    /// Flags below 64, of this project's own: 1 stopped, 2 stopped on an event of interest, 4 directed to stop,
-    /// 8 to incur FLTTRACE after the next instruction, 16 asleep in a system call, 32 the agent.
-    pub flags: u64,
+    pub flags: LwpFlags,
     pub id: u32,
     /// Why it is stopped, if it is.
     pub why: Option<StopReason>,
@@ -94,10 +92,10 @@ pub(crate) const COLUMNS: [Column; 30] = [
 ];
 
 impl LwpStatus {
-    /// The bytes of the record. They spell it where its flags are below 64 and `what` is below 32. Takes no memory.
+    /// The bytes of the record. They spell it where `what` is below 32. Takes no memory.
     pub fn encode(&self) -> [u8; 240]
         ensures bytes { result ≡ words_bytes (lwpstatus_words_of self.now) }
-        ensures spelt { self.now.flags < 64 → self.now.what < 32 → SpellsRecord lwpstatus_ranges result (lwpstatus_words_of self.now) }
+        ensures spelt { self.now.what < 32 → SpellsRecord lwpstatus_ranges result (lwpstatus_words_of self.now) }
     {
         let mut bytes = [0; 240];
         put_record(&mut bytes, &self.words());
@@ -126,6 +124,7 @@ impl LwpStatus {
 
     pub(crate) fn words(&self) -> [u64; 30]
         ensures words { result ≡ lwpstatus_words_of self.now }
+        ensures flags { self.now.flags < 2 ^ 6 }
         ensures id { self.now.id < 2 ^ 32 }
         ensures held { self.now.held < 2 ^ 31 }
         ensures pending { self.now.pending < 2 ^ 31 }
@@ -133,7 +132,7 @@ impl LwpStatus {
         let arguments = &self.arguments;
         let regs = &self.regs;
         [
-            self.flags,
+            self.flags.word(),
             u64::from(self.id),
             reason_word(self.why),
             self.what,
@@ -172,7 +171,7 @@ impl LwpStatus {
         ensures whole { IsLwpStatus result }
     {
         LwpStatus {
-            flags: words[0],
+            flags: lwp_flags_of(words[0]),
             id: words[1] as u32,
             why: reason_of(words[2]),
             what: words[3],

@@ -6,16 +6,14 @@ ghost use Rattle.pr_rec.specs.RecordWords.{status_words_of, own_words_of, IsLwpS
 ghost use Rattle.pr_rec.specs.declared.statuses.Status.{Status as Decoded};
 
 use crate::columns::{Column, put_two, read_record};
-use crate::fields::{calls_of, faults_of, signals_of};
-use crate::{LwpStatus, RecFault};
+use crate::fields::{calls_of, faults_of, process_flags_of, signals_of};
+use crate::{LwpStatus, ProcessFlags, RecFault};
 use pr_num::{FltSet, SigSet, SysSet};
 
 /// The status of a process and of its representative lwp (proc(4), "status").
 #[derive(Clone, Copy, Debug, PartialEq, Eq)]
 pub struct Status {
-    /// Flags below 32, of this project's own: 1 inherit on fork, 2 run on last close, 4 kill on last close, 8 stops
-    /// leave the other lwps running, 16 the system process.
-    pub flags: u64,
+    pub flags: ProcessFlags,
     pub id: u32,
     /// The parent's id, 0 where it has none.
     pub parent: u32,
@@ -90,11 +88,10 @@ const COLUMNS: [Column; 43] = [
 ];
 
 impl Status {
-    /// The bytes of the record. They spell it where its flags are below 32, the lwp's flags below 64, and what the lwp
-    /// is stopped for is below 32. Takes no memory.
+    /// The bytes of the record. They spell it where what the lwp is stopped for is below 32. Takes no memory.
     pub fn encode(&self) -> [u8; 344]
         ensures bytes { result ≡ words_bytes (status_words_of self.now) }
-        ensures spelt { self.now.flags < 32 → self.now.lwp.flags < 64 → self.now.lwp.what < 32 → SpellsRecord status_ranges result (status_words_of self.now) }
+        ensures spelt { self.now.lwp.what < 32 → SpellsRecord status_ranges result (status_words_of self.now) }
     {
         let mut bytes = [0; 344];
         put_two(&mut bytes, &self.own_words(), &self.lwp.words());
@@ -124,6 +121,7 @@ impl Status {
     /// The words of the process itself.
     fn own_words(&self) -> [u64; 13]
         ensures words { result ≡ own_words_of self.now }
+        ensures flags { self.now.flags < 2 ^ 5 }
         ensures id { self.now.id < 2 ^ 32 }
         ensures parent { self.now.parent < 2 ^ 32 }
         ensures pending { self.now.pending < 2 ^ 31 }
@@ -134,7 +132,7 @@ impl Status {
         ensures agent { self.now.agent < 2 ^ 32 }
     {
         [
-            self.flags,
+            self.flags.word(),
             u64::from(self.id),
             u64::from(self.parent),
             self.lwps,
@@ -152,6 +150,7 @@ impl Status {
 
     fn from_words(words: &[u64]) -> Status
         requires size { length words.now ≡ 43 }
+        requires flags { slice_index words.now 0 < 2 ^ 5 }
         requires id { slice_index words.now 1 < 2 ^ 32 }
         requires parent { slice_index words.now 2 < 2 ^ 32 }
         requires pending { slice_index words.now 4 < 2 ^ 31 }
@@ -165,7 +164,7 @@ impl Status {
         ensures whole { IsLwpStatus result.lwp }
     {
         Status {
-            flags: words[0],
+            flags: process_flags_of(words[0]),
             id: words[1] as u32,
             parent: words[2] as u32,
             lwps: words[3],

@@ -1,7 +1,7 @@
 //! What no clause says: each record as words written by hand, both ways, and words that are out of their range.
 use crate::*;
 use pr_num::{
-    Access, Errno, Flt, FltSet, MappingKind, Prot, Sig, SigSet, StopReason, SysSet, Sysno,
+    Access, Errno, Flt, FltSet, MappingKind, Name, Prot, Sig, SigSet, StopReason, SysSet, Sysno,
     WatchFlags,
 };
 use std::alloc::{AllocError, Global};
@@ -64,6 +64,39 @@ const NAME: [u8; 32] = [
 /// The words of that name.
 const NAME_WORDS: [u64; 4] = [0x74_6163, 0, 0, 0x7a00_0000_0000_0000];
 
+/// What a process does at each signal.
+const DISPOSITIONS: [u64; 31] = [
+    0, 1, 0x1_0000, 0x1_0010, 0x1_0020, 0x1_0030, 0x1_0040, 0x1_0050, 0x1_0060, 0x1_0070, 0x1_0080,
+    0x1_0090, 0x1_00a0, 0x1_00b0, 0x1_00c0, 0x1_00d0, 0x1_00e0, 0x1_00f0, 0x1_0100, 0x1_0110,
+    0x1_0120, 0x1_0130, 0x1_0140, 0x1_0150, 0x1_0160, 0x1_0170, 0x1_0180, 0x1_0190, 0x1_01a0,
+    0x1_01b0, 0x1_01c0,
+];
+
+/// A watched area: address, size and flags.
+const AREA: [u8; 24] = [
+    0, 0, 8, 0, 0, 0, 0, 0, 8, 0, 0, 0, 0, 0, 0, 0, 10, 0, 0, 0, 0, 0, 0, 0,
+];
+
+/// A descriptor: number, kind, access, offset and name.
+const DESCRIPTOR: [u8; 64] = [
+    63, 0, 0, 0, 0, 0, 0, 0, 3, 0, 0, 0, 0, 0, 0, 0, 1, 0, 0, 0, 0, 0, 0, 0, 5, 1, 0, 0, 0, 0, 0,
+    0, b'c', b'a', b't', 0, 0, 0, 0, 0, 0, 0, 0, 0, 0, 0, 0, 0, 0, 0, 0, 0, 0, 0, 0, 0, 0, 0, 0, 0,
+    0, 0, 0, b'z',
+];
+
+/// A process in the list of processes: id, parent and name.
+const LISTED: [u8; 48] = [
+    2, 1, 0, 0, 0, 0, 0, 0, 1, 0, 0, 0, 0, 0, 0, 0, b'c', b'a', b't', 0, 0, 0, 0, 0, 0, 0, 0, 0, 0,
+    0, 0, 0, 0, 0, 0, 0, 0, 0, 0, 0, 0, 0, 0, 0, 0, 0, 0, b'z',
+];
+
+/// A mapping: address, size, protection, kind and name.
+const MAPPING: [u8; 64] = [
+    0, 0, 112, 0, 0, 0, 0, 0, 0, 16, 0, 0, 0, 0, 0, 0, 6, 0, 0, 0, 0, 0, 0, 0, 4, 0, 0, 0, 0, 0, 0,
+    0, b'c', b'a', b't', 0, 0, 0, 0, 0, 0, 0, 0, 0, 0, 0, 0, 0, 0, 0, 0, 0, 0, 0, 0, 0, 0, 0, 0, 0,
+    0, 0, 0, b'z',
+];
+
 /// Words out of their range, each at the byte of a status at which it begins.
 const BAD: [(usize, u64); 20] = [
     (0, 32),
@@ -98,7 +131,7 @@ fn bytes_of(alloc: Global, words: &[u64]) -> Result<Vec<u8>, AllocError> {
 
 fn lwp() -> LwpStatus {
     LwpStatus {
-        flags: 3,
+        flags: LwpFlags::STOPPED.union(LwpFlags::ISTOP),
         id: 4_294_967_295,
         why: Some(StopReason::SysEntry),
         what: 4,
@@ -118,7 +151,7 @@ fn lwp() -> LwpStatus {
 
 fn status() -> Status {
     Status {
-        flags: 9,
+        flags: ProcessFlags::FORK.union(ProcessFlags::ASYNC),
         id: 7,
         parent: 1,
         lwps: 2,
@@ -161,10 +194,10 @@ fn words_out_of_their_range_are_named(rt: HostRuntime) -> Result<(), Fail> {
     Ok(())
 }
 
-#[test]
-fn nothing_is_zeros(rt: HostRuntime) {
-    let zeros = LwpStatus {
-        flags: 0,
+/// An lwp of which nothing is to be told.
+fn idle() -> LwpStatus {
+    LwpStatus {
+        flags: LwpFlags::empty(),
         id: 0,
         why: None,
         what: 0,
@@ -179,14 +212,27 @@ fn nothing_is_zeros(rt: HostRuntime) {
         pending: SigSet::empty(),
         regs: [0; 11],
         disposition: Disposition::Default,
-    };
-    assert_eq!(rt; zeros.encode(), [0; 240]);
-    assert_eq!(rt; LwpStatus::decode(&[0; 240]), Ok(zeros));
+    }
+}
+
+fn mapping() -> MapEntry {
+    MapEntry {
+        at: 0x70_0000,
+        size: 4_096,
+        prot: Prot::READ.union(Prot::WRITE),
+        kind: MappingKind::Stack,
+        name: NAME,
+    }
 }
 
 #[test]
-fn the_other_records_are_their_words(rt: HostRuntime) -> Result<(), Fail> {
-    let [a, b, c, d] = NAME_WORDS;
+fn nothing_is_zeros(rt: HostRuntime) {
+    assert_eq!(rt; idle().encode(), [0; 240]);
+    assert_eq!(rt; LwpStatus::decode(&[0; 240]), Ok(idle()));
+}
+
+#[test]
+fn usage_is_its_words(rt: HostRuntime) -> Result<(), Fail> {
     let usage = Usage {
         id: 3,
         calls: 4,
@@ -197,7 +243,12 @@ fn the_other_records_are_their_words(rt: HostRuntime) -> Result<(), Fail> {
     let bytes = bytes_of(rt.alloc(), &[3, 4, 5, 6, u64::MAX])?;
     assert_eq!(rt; usage.encode().as_slice(), bytes.as_slice());
     assert_eq!(rt; Usage::decode(&bytes), Ok(usage));
+    Ok(())
+}
 
+#[test]
+fn psinfo_is_its_words(rt: HostRuntime) -> Result<(), Fail> {
+    let [a, b, c, d] = NAME_WORDS;
     let psinfo = Psinfo {
         id: 3,
         parent: 1,
@@ -212,76 +263,100 @@ fn the_other_records_are_their_words(rt: HostRuntime) -> Result<(), Fail> {
     let bytes = bytes_of(rt.alloc(), &[3, 1, 2, 1, 0x100, 8_192, 50, 24, a, b, c, d])?;
     assert_eq!(rt; psinfo.encode().as_slice(), bytes.as_slice());
     assert_eq!(rt; Psinfo::decode(&bytes), Ok(psinfo));
+    Ok(())
+}
 
-    let mapping = MapEntry {
-        at: 0x70_0000,
-        size: 4_096,
-        prot: Prot::READ.union(Prot::WRITE),
-        kind: MappingKind::Stack,
-        name: NAME,
-    };
-    let bytes = bytes_of(rt.alloc(), &[0x70_0000, 4_096, 6, 4, a, b, c, d])?;
-    assert_eq!(rt; mapping.encode().as_slice(), bytes.as_slice());
-    assert_eq!(rt; MapEntry::decode(&bytes), Ok(mapping));
-    assert_eq!(rt;
-        write_map(rt.alloc(), &[mapping])?.as_slice(),
-        bytes.as_slice()
-    );
-    for (kind, fault) in [(0, 24), (6, 24)] {
+#[test]
+fn a_mapping_is_its_words(rt: HostRuntime) -> Result<(), Fail> {
+    assert_eq!(rt; mapping().encode(), MAPPING);
+    assert_eq!(rt; MapEntry::decode(&MAPPING), Ok(mapping()));
+    for kind in [0, 6] {
         let bytes = bytes_of(rt.alloc(), &[0, 0, 7, kind, 0, 0, 0, 0])?;
         assert_eq!(rt;
             MapEntry::decode(&bytes),
-            Err(RecFault::BadField { at: fault })
+            Err(RecFault::BadField { at: 24 })
         );
     }
     Ok(())
 }
 
 #[test]
-fn lists_are_their_entries(rt: HostRuntime) -> Result<(), Fail> {
-    let [a, b, c, d] = NAME_WORDS;
+fn a_list_of_lwps_begins_with_their_number(rt: HostRuntime) -> Result<(), Fail> {
     let alloc = rt.alloc();
     assert_eq!(rt; write_lstatus(alloc, &[])?.as_slice(), [0; 8].as_slice());
-    let two = write_lstatus(alloc, &[lwp(), lwp()])?;
-    assert_eq!(rt; two.as_slice().len(), 488);
-    assert_eq!(rt; LwpStatus::decode(&two.as_slice()[248..]), Ok(lwp()));
+    let mut two = bytes_of(alloc, &[2])?;
+    two.extend_from_slice(&bytes_of(alloc, &STATUS[13..])?)?;
+    two.extend_from_slice(&bytes_of(alloc, &[0; 30])?)?;
+    let written = write_lstatus(alloc, &[lwp(), idle()])?;
+    assert_eq!(rt; written.as_slice(), two.as_slice());
+    assert!(rt; written.as_slice().starts_with(&[2, 0, 0, 0, 0, 0, 0, 0, 3]));
+    Ok(())
+}
 
+#[test]
+fn mappings_and_areas_stand_one_behind_the_other(rt: HostRuntime) -> Result<(), Fail> {
+    let alloc = rt.alloc();
+    assert_eq!(rt;
+        write_map(alloc, &[mapping()])?.as_slice(),
+        MAPPING.as_slice()
+    );
     let area = WatchEntry {
         at: 0x8_0000,
         size: 8,
         flags: WatchFlags::WRITE.union(WatchFlags::TRAPAFTER),
     };
-    let words = bytes_of(alloc, &[0x8_0000, 8, 10, 0x8_0000, 8, 10])?;
+    assert_eq!(rt; write_watch(alloc, &[area])?.as_slice(), AREA.as_slice());
+    let mut two = AREA.to_vec(alloc)?;
+    two.extend_from_slice(&AREA)?;
     assert_eq!(rt;
         write_watch(alloc, &[area, area])?.as_slice(),
-        words.as_slice()
+        two.as_slice()
     );
+    Ok(())
+}
 
+#[test]
+fn descriptors_and_processes_are_their_bytes(rt: HostRuntime) -> Result<(), Fail> {
+    let alloc = rt.alloc();
+    assert_eq!(rt; Descriptor::from_number(64), None);
     let descriptor = FdEntry {
-        descriptor: 63,
+        descriptor: Descriptor::from_number(63).ok_or("63 is a descriptor")?,
         kind: FdKind::PipeWriter,
         access: Access::Write,
-        offset: 5,
+        offset: 0x105,
         name: NAME,
     };
-    let words = bytes_of(alloc, &[63, 3, 1, 5, a, b, c, d])?;
     assert_eq!(rt;
         write_fds(alloc, &[descriptor])?.as_slice(),
-        words.as_slice()
+        DESCRIPTOR.as_slice()
     );
-
     let process = ListEntry {
-        id: 2,
+        id: 0x102,
         parent: 1,
         program: NAME,
     };
-    let words = bytes_of(alloc, &[2, 1, a, b, c, d])?;
-    assert_eq!(rt; write_list(alloc, &[process])?.as_slice(), words.as_slice());
+    assert_eq!(rt;
+        write_list(alloc, &[process])?.as_slice(),
+        LISTED.as_slice()
+    );
+    Ok(())
+}
 
-    let mut dispositions = [0; 31];
-    dispositions[30] = 0x1_0040;
-    let bytes = encode_sigact(&dispositions);
-    assert_eq!(rt; &bytes[240..], [0x40, 0, 1, 0, 0, 0, 0, 0].as_slice());
+#[test]
+fn dispositions_are_their_words(rt: HostRuntime) -> Result<(), Fail> {
+    let written = encode_sigact(&DISPOSITIONS);
+    let bytes = bytes_of(rt.alloc(), &DISPOSITIONS)?;
+    assert_eq!(rt; written.as_slice(), bytes.as_slice());
+    assert_eq!(rt; &written[240..], [0xc0, 1, 1, 0, 0, 0, 0, 0].as_slice());
+    Ok(())
+}
+
+#[test]
+fn a_name_stands_in_32_bytes(rt: HostRuntime) -> Result<(), Fail> {
+    let name = Name::from_slice(b"cat").ok_or("cat is a name")?;
+    let mut field = [0; 32];
+    field[..3].copy_from_slice(b"cat");
+    assert_eq!(rt; name_field(&name), field);
     Ok(())
 }
 

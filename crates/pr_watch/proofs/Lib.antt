@@ -1,2 +1,3 @@
 pub mod HitLemmas
+pub mod LawLemmas
 pub mod SlotLemmas

@@ -3,8 +3,10 @@
 
 mod areas;
 mod hits;
+mod laws;
 
 pub use areas::{Areas, WatchFault};
+pub use laws::a_hit_is_the_least_watched_byte;
 
 #[cfg(test)]
 mod tests;

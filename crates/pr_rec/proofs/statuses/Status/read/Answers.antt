@@ -12,6 +12,9 @@ returns-in_err-read_record-clause-err c =
     let p = err_from_is_err_and c.from_residual.result c.from_residual.ensures.1 in
     rw (p.1, p.2) (record_read-words_read status_ranges status_tested c.args.bytes.now ∙ c.in_err-read_record.ensures.err)
 
+pub from_words-requires-clause-flags : goal.from_words-requires-clause-flags
+from_words-requires-clause-flags c = ltb-true _ _ (words_read-at status_ranges c.args.bytes.now c.read_record.new.words 0 c.in_ok-read_record.ensures.ok)
+
 pub from_words-requires-clause-id : goal.from_words-requires-clause-id
 from_words-requires-clause-id c = ltb-true _ _ (words_read-at status_ranges c.args.bytes.now c.read_record.new.words 1 c.in_ok-read_record.ensures.ok)
 

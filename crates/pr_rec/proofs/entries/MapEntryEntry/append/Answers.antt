@@ -1,0 +1,13 @@
+use Rattle.std.proofs.Common.{refl, subst}
+use Rattle.std.specs.List.{All}
+use Rattle.pr_num.specs.Words.{IsWord}
+use Rattle.pr_rec.proofs.MapEntryLemmas.{map_entry-ranged}
+use Rattle.pr_rec.proofs.entries.MapEntryEntry.append.Goals as goal
+
+pub returns-clause-ranged : goal.returns-clause-ranged
+returns-clause-ranged c =
+    let words = c.words.ensures in
+    record {
+      count = refl;
+      ranged = map_entry-ranged c.args.self.now words.prot (subst (All IsWord) words.words c.append_words.ensures.words);
+    }

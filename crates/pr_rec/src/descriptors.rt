@@ -1,0 +1,44 @@
+ghost use Rattle.std.specs.Prelude.{◌≡◌, ◌<◌, Some, None, nat_lt, if◌then◌else◌};
+
+use std::marker::Model;
+
+/// The number of an open descriptor, below 64. Seen by contracts as that number.
+#[derive(Clone, Copy, Debug, PartialEq, Eq)]
+pub struct Descriptor {
+    number: u32,
+}
+
+impl Model for Descriptor {
+    ghost use Rattle.std.specs.Prelude.{ℕ, ◌<◌};
+
+    ghost Value = { ℕ };
+
+    ghost view = { λ descriptor. descriptor.number };
+
+    ghost invariant = { λ descriptor. descriptor.number < 64 };
+
+    ghost inverse = { λ number. record { number = number } };
+}
+
+impl Descriptor {
+    /// How many descriptors a process can have open.
+    pub const PLACES: u32 = 64;
+
+    /// The descriptor of a number, `None` exactly where no descriptor can have it.
+    pub fn from_number(number: u32) -> Option<Descriptor>
+        ensures { result ≡ (if nat_lt number 64 then Some number else None) }
+    {
+        if number < Descriptor::PLACES {
+            Some(Descriptor { number })
+        } else {
+            None
+        }
+    }
+
+    pub fn number(self) -> u32
+        ensures value { result ≡ self }
+        ensures range { result < 64 }
+    {
+        self.number
+    }
+}
