@@ -19,9 +19,8 @@ use Rattle.pr_num.specs.declared.syscalls.Sysno.{Sysno}
 use Rattle.pr_num.specs.declared.errnos.Errno.{Errno}
 use Rattle.pr_num.specs.declared.errnos.Errno.TheVariants.{Perm}
 use Rattle.pr_num.specs.declared.stop_reasons.StopReason.{StopReason}
-use Rattle.pr_num.specs.declared.stop_reasons.StopReason.TheVariants.{Requested}
-use Rattle.pr_num.proofs.EntryLemmas.{signal_of_number-number, signal_number-of_number, signal_numbers-range, fault_of_number-number, fault_number-of_number, fault_numbers-range, syscall_of_number-number, syscall_number-of_number, syscall_numbers-range, errno_of_number-number, errno_number-of_number}
-use Rattle.pr_num.proofs.NumberedLemmas.{counts_from, number-entry_at, IsSome-entry_at}
+use Rattle.pr_num.proofs.EntryLemmas.{signal_of_number-number, signal_number-of_number, signal_numbers-range, fault_of_number-number, fault_number-of_number, fault_numbers-range, syscall_of_number-number, syscall_number-of_number, syscall_numbers-range, errno_of_number-number, errno_number-of_number, reason_of_number-number, reason_number-of_number, reason_numbers-range}
+use Rattle.pr_num.proofs.NumberedLemmas.{IsSome-entry_at}
 use Rattle.pr_rec.specs.Fields.{number_or_zero, truth_word, disposition_number}
 use Rattle.pr_rec.specs.declared.lwps.Disposition.{Disposition}
 use Rattle.pr_rec.specs.declared.lwps.Disposition.TheVariants.{Default, Ignored, Caught}
@@ -46,12 +45,8 @@ fault_back w small = number-back fault_number (fault_of_number w) w (fault_numbe
 pub call_back : (w : ℕ) → w < 30 → number_or_zero syscall_number (syscall_of_number w) ≡ w
 call_back w small = number-back syscall_number (syscall_of_number w) w (syscall_number-of_number w) (none_where_zero _ w 29 (syscall_numbers-range w) small)
 
-reasons_counted : counts_from reason_number 1 stop_reasons ≡ true
-unfolding reason_number
-reasons_counted = refl
-
 pub reason_back : (w : ℕ) → w < 8 → number_or_zero reason_number (entry_at stop_reasons w) ≡ w
-reason_back w small = number-back reason_number (entry_at stop_reasons w) w (number-entry_at reason_number stop_reasons reasons_counted w) (none_where_zero _ w 7 (IsSome-entry_at stop_reasons w) small)
+reason_back w small = number-back reason_number (entry_at stop_reasons w) w (reason_number-of_number w) (none_where_zero _ w 7 (reason_numbers-range w) small)
 
 -- where a search finds nothing, no entry passes
 find-none : {T : Type 0} (p : T → Bool) (xs : List T) → find p xs ≡ None → list_any p xs ≡ false
@@ -78,11 +73,6 @@ of_number-back number of_number back none (Some x) = back x
 same_entry : {T : Type 0} (number : T → ℕ) (of_number : ℕ → Option T) → ((x : T) → of_number (number x) ≡ Some x) → of_number 0 ≡ None → (a b : Option T) → number_or_zero number a ≡ number_or_zero number b → a ≡ b
 same_entry number of_number back none a b e =
     sym (of_number-back number of_number back none a) ∙ ap of_number e ∙ of_number-back number of_number back none b
-
-reason_of_number-number : (r : StopReason) → entry_at stop_reasons (reason_number r) ≡ Some r
-unfolding entry_at reason_number
-reason_of_number-number Requested = refl
-reason_of_number-number _ = refl
 
 nothing_at_zero : {T : Type 0} (xs : List T) → entry_at xs 0 ≡ None
 unfolding entry_at
@@ -154,7 +144,7 @@ pub call_small : (o : Option Sysno) → number_or_zero syscall_number o < 30
 call_small = small_entry syscall_number 29 (λ c. ((syscall_numbers-range (syscall_number c)).0 (ap is_some (syscall_of_number-number c))).1)
 
 pub reason_small : (o : Option StopReason) → number_or_zero reason_number o < 8
-reason_small = small_entry reason_number 7 (λ r. ((IsSome-entry_at stop_reasons (reason_number r)).0 (ap is_some (reason_of_number-number r))).1)
+reason_small = small_entry reason_number 7 (λ r. ((reason_numbers-range (reason_number r)).0 (ap is_some (reason_of_number-number r))).1)
 
 errno_ok : (e : Errno) → an_errno (errno_number e) ≡ true
 unfolding errno_number

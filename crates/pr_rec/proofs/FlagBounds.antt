@@ -1,5 +1,7 @@
-use Rattle.std.proofs.Common.{ℕ, ◌^◌, ◌<◌}
+use Rattle.std.proofs.Common.{ℕ, ◌≡◌, ◌^◌, ◌<◌}
+use Rattle.std.specs.Int.RustNames.{bit_and}
 use Rattle.pr_num.specs.Sets.{union_word}
+use Rattle.pr_num.proofs.FlagBounds.{known-lt, lt-known}
 use Rattle.pr_num.proofs.SetBounds.{union_word-lt}
 
 -- at the sizes of the flags, since a search does not find the exponent in a bound
@@ -9,5 +11,18 @@ union_word-lt-5 = union_word-lt 5
 pub union_word-lt-6 : (a b : ℕ) → a < 2 ^ 6 → b < 2 ^ 6 → union_word a b < 2 ^ 6
 union_word-lt-6 = union_word-lt 6
 
+-- a word has flags alone exactly where it is below the lowest bit that is none
+pub known-lt-5 : (w : ℕ) → bit_and w 31 ≡ w → w < 2 ^ 5
+known-lt-5 = known-lt 5
+
+pub lt-known-5 : (w : ℕ) → w < 2 ^ 5 → bit_and w 31 ≡ w
+lt-known-5 = lt-known 5
+
+pub known-lt-6 : (w : ℕ) → bit_and w 63 ≡ w → w < 2 ^ 6
+known-lt-6 = known-lt 6
+
+pub lt-known-6 : (w : ℕ) → w < 2 ^ 6 → bit_and w 63 ≡ w
+lt-known-6 = lt-known 6
+
 -- flags stay flags
-pub ruleset flag_bounds = (union_word-lt-5, union_word-lt-6)
+pub ruleset flag_bounds = (union_word-lt-5, union_word-lt-6, known-lt-5, lt-known-5, known-lt-6, lt-known-6)

@@ -1,9 +1,11 @@
 use crate::commands::{Command, command_of};
+use crate::outcomes::Outcome;
 use crate::serving::serve;
 use pr_io::{MemSink, MemSource, OpenGate};
 use pr_num::Bytes;
 use std::alloc::{AllocError, Global};
-use std::test::Fail;
+use std::sync::Wait;
+use std::thread::Threads;
 
 // The words of a text, which stand between single blanks.
 fn words(alloc: Global, text: &str) -> Result<Vec<String>, AllocError> {
@@ -14,92 +16,166 @@ fn words(alloc: Global, text: &str) -> Result<Vec<String>, AllocError> {
     Ok(words)
 }
 
-fn run(quiet: bool, workers: Option<u32>) -> Command {
-    Command::Run { quiet, workers }
-}
-
-#[test]
-fn words_of_a_shape_ask_for_a_command(rt: HostRuntime) -> Result<(), Fail> {
-    for (text, command) in [
-        ("run", run(false, None)),
-        ("run -q", run(true, None)),
-        ("run -j 1", run(false, Some(1))),
-        ("run -j 16", run(false, Some(16))),
-        ("run -q -j 10", run(true, Some(10))),
-        ("run -j 10 -q", run(true, Some(10))),
-        ("check", Command::Check),
-        ("plain", Command::Plain),
-        ("gen 1", Command::Generate { children: 1 }),
-        ("gen 64", Command::Generate { children: 64 }),
-    ] {
-        let words = words(rt.alloc(), text)?;
-        assert_eq!(rt; command_of(&words), Some(command), "{text}");
+// Whether the words of a text ask for this.
+fn asks_for(alloc: Global, text: &str, command: Option<Command>) -> bool {
+    match words(alloc, text) {
+        Ok(words) => command_of(&words) == command,
+        Err(_) => false,
     }
-    Ok(())
+}
+
+fn runs(alloc: Global, text: &str, quiet: bool, workers: Option<u32>) -> bool {
+    asks_for(alloc, text, Some(Command::Run { quiet, workers }))
 }
 
 #[test]
-fn other_words_ask_for_nothing(rt: HostRuntime) -> Result<(), Fail> {
-    assert_eq!(rt; command_of(&[]), None);
-    for text in [
-        "",
-        "Run",
-        "run ",
-        " run",
-        "--help",
-        "--version",
-        "-q run",
-        "run -q -q",
-        "run -j",
-        "run -j4",
-        "run -j 0",
-        "run -j 17",
-        "run -j 01",
-        "run -j +1",
-        "run -j 0x1",
-        "run -j 18446744073709551617",
-        "run -j 1 -j 1",
-        "run -q -j 0",
-        "run -j 17 -q",
-        "check -q",
-        "plain -j 1",
-        "gen",
-        "gen 0",
-        "gen 65",
-        "gen 064",
-        "gen -1",
-        "gen one",
-    ] {
-        let words = words(rt.alloc(), text)?;
-        assert_eq!(rt; command_of(&words), None, "{text}");
+fn words_of_a_shape_ask_for_a_run(rt: HostRuntime) {
+    assert!(rt; runs(rt.alloc(), "run", false, None));
+    assert!(rt; runs(rt.alloc(), "run -q", true, None));
+    assert!(rt; runs(rt.alloc(), "run -j 1", false, Some(1)));
+    assert!(rt; runs(rt.alloc(), "run -j 16", false, Some(16)));
+    assert!(rt; runs(rt.alloc(), "run -q -j 10", true, Some(10)));
+    assert!(rt; runs(rt.alloc(), "run -j 10 -q", true, Some(10)));
+}
+
+fn generates(alloc: Global, text: &str, children: u32) -> bool {
+    asks_for(alloc, text, Some(Command::Generate { children }))
+}
+
+#[test]
+fn words_of_a_shape_ask_for_a_command(rt: HostRuntime) {
+    assert!(rt; asks_for(rt.alloc(), "check", Some(Command::Check)));
+    assert!(rt; asks_for(rt.alloc(), "plain", Some(Command::Plain)));
+    assert!(rt; generates(rt.alloc(), "gen 1", 1));
+    assert!(rt; generates(rt.alloc(), "gen 64", 64));
+}
+
+static OTHER_WORDS: [&str; 27] = [
+    "",
+    "Run",
+    "run ",
+    " run",
+    "--help",
+    "--version",
+    "-q run",
+    "run -q -q",
+    "run -j",
+    "run -j4",
+    "run -j 0",
+    "run -j 17",
+    "run -j 01",
+    "run -j +1",
+    "run -j 0x1",
+    "run -j 18446744073709551617",
+    "run -j 1 -j 1",
+    "run -q -j 0",
+    "run -j 17 -q",
+    "check -q",
+    "plain -j 1",
+    "gen",
+    "gen 0",
+    "gen 65",
+    "gen 064",
+    "gen -1",
+    "gen one",
+];
+
+#[test]
+fn other_words_ask_for_nothing(rt: HostRuntime) {
+    assert!(rt; command_of(&[]).is_none());
+    for text in &OTHER_WORDS {
+        assert!(rt; asks_for(rt.alloc(), text, None), "{text}");
     }
-    Ok(())
+}
+
+fn source_of(alloc: Global, input: &str, fails: &[u64]) -> Option<MemSource> {
+    let bytes = Bytes::from_vec(input.as_bytes().to_vec(alloc).ok()?);
+    Some(MemSource::new(bytes, fails.to_vec(alloc).ok()?))
+}
+
+fn sink_of(alloc: Global, room: usize, fails: &[u64]) -> Option<MemSink> {
+    MemSink::new(room, fails.to_vec(alloc).ok()?).ok()
+}
+
+// The call that is tested, without its clauses: they would weigh on the proof of each caller.
+fn serve_words(
+    rt: &(impl Threads + Wait + Sync),
+    alloc: Global,
+    words: &[String],
+    source: &mut MemSource,
+    sink: &mut MemSink,
+) -> Outcome {
+    serve(rt, alloc, words, source, sink, &OpenGate)
+}
+
+const USAGE: &str = "usage: proclab run [-q] [-j N] | check | plain | gen N\n";
+
+// How much room the output has and which of its writes fail; and what comes of it.
+struct Refusal<'a> {
+    room: usize,
+    fails: &'a [u64],
+    status: u8,
+    written: &'a str,
+    writes: u64,
+}
+
+static REFUSALS: [Refusal<'static>; 3] = [
+    Refusal {
+        room: 55,
+        fails: &[],
+        status: 1,
+        written: USAGE,
+        writes: 1,
+    },
+    Refusal {
+        room: 100,
+        fails: &[0],
+        status: 6,
+        written: "",
+        writes: 1,
+    },
+    Refusal {
+        room: 10,
+        fails: &[],
+        status: 6,
+        written: "usage: pro",
+        writes: 2,
+    },
+];
+
+static WORDS_OF_NOTHING_BUILT: [&str; 7] = [
+    "", "--help", "run -q", "run -j 4", "check", "plain", "gen 2",
+];
+
+fn is_refusal(outcome: &Outcome, sink: &MemSink, want: &Refusal<'_>) -> bool {
+    outcome.status == want.status
+        && outcome.history.len() == 0
+        && sink.bytes() == want.written.as_bytes()
+        && sink.calls() == want.writes
+}
+
+// Whether the words of a text are refused so, and nothing is read; nothing where memory ran out before.
+fn refuses(
+    rt: &(impl Threads + Wait + Sync),
+    alloc: Global,
+    text: &str,
+    want: &Refusal<'_>,
+) -> Option<bool> {
+    let words = words(alloc, text).ok()?;
+    let mut source = source_of(alloc, "turns 5\n", &[])?;
+    let mut sink = sink_of(alloc, want.room, want.fails)?;
+    let outcome = serve_words(rt, alloc, &words, &mut source, &mut sink);
+    Some(source.calls() == 0 && is_refusal(&outcome, &sink, want))
 }
 
 #[test]
-fn the_usage_line_answers_words_that_ask_for_nothing_built(rt: HostRuntime) -> Result<(), Fail> {
-    let usage = "usage: proclab run [-q] [-j N] | check | plain | gen N\n";
-    for text in [
-        "", "--help", "run -q", "run -j 4", "check", "plain", "gen 2",
-    ] {
-        for (room, fails, status, written, writes) in [
-            (55, [].as_slice(), 1, usage, 1),
-            (100, [0].as_slice(), 6, "", 1),
-            (10, [].as_slice(), 6, "usage: pro", 2),
-        ] {
-            let words = words(rt.alloc(), text)?;
-            let input = Bytes::from_vec(b"turns 5\n".to_vec(rt.alloc())?);
-            let mut source = MemSource::new(input, Vec::new(rt.alloc()));
-            let mut sink = MemSink::new(room, fails.to_vec(rt.alloc())?)?;
-            let outcome = serve(&rt, rt.alloc(), &words, &mut source, &mut sink, &OpenGate);
-            assert_eq!(rt; outcome.status, status, "{text} in {room}");
-            assert_eq!(rt; sink.bytes(), written.as_bytes(), "{text} in {room}");
-            assert_eq!(rt; sink.calls(), writes, "{text} in {room}");
-            assert_eq!(rt; source.calls(), 0, "{text} in {room}");
-            assert_eq!(rt; outcome.history.len(), 0, "{text} in {room}");
+fn the_usage_line_answers_words_that_ask_for_nothing_built(rt: HostRuntime) {
+    for text in &WORDS_OF_NOTHING_BUILT {
+        for want in &REFUSALS {
+            let refused = refuses(&rt, rt.alloc(), text, want);
+            assert!(rt; refused == Some(true), "{text} in {}", want.room);
         }
     }
-    Ok(())
 }
 
 // A process of three instructions; a script stops it, waits for the stop, reads how it stands, and runs it.
@@ -168,76 +244,102 @@ fn joined(alloc: Global, parts: &[&str]) -> Result<String, AllocError> {
     Ok(text)
 }
 
+// An input, the reads and the writes of it that fail; and the status, the texts and the entries that come of it.
+struct Run<'a> {
+    input: &'a str,
+    reads: &'a [u64],
+    writes: &'a [u64],
+    status: u8,
+    texts: &'a [&'a str],
+    entries: usize,
+}
+
+static RUNS: [Run<'static>; 7] = [
+    Run {
+        input: STOPPED_ONCE,
+        reads: &[],
+        writes: &[],
+        status: 0,
+        texts: &["history 15\n", FIRST_TEN, OTHERS, "status 0\n"],
+        entries: 15,
+    },
+    Run {
+        input: CUT_AT_TEN,
+        reads: &[],
+        writes: &[],
+        status: 3,
+        texts: &["history 10\n", FIRST_TEN, "status 3\n"],
+        entries: 10,
+    },
+    Run {
+        input: "",
+        reads: &[],
+        writes: &[],
+        status: 0,
+        texts: &["history 0\n", "status 0\n"],
+        entries: 0,
+    },
+    Run {
+        input: "turns 5\nprogram p\nsys getpit\nend\n",
+        reads: &[],
+        writes: &[],
+        status: 2,
+        texts: &["line 3: NotBuilt\n"],
+        entries: 0,
+    },
+    Run {
+        input: STOPPED_ONCE,
+        reads: &[0],
+        writes: &[],
+        status: 5,
+        texts: &[],
+        entries: 0,
+    },
+    Run {
+        input: STOPPED_ONCE,
+        reads: &[],
+        writes: &[0],
+        status: 6,
+        texts: &[],
+        entries: 15,
+    },
+    Run {
+        input: STOPPED_ONCE,
+        reads: &[],
+        writes: &[11],
+        status: 6,
+        texts: &["history 15\n", FIRST_TEN],
+        entries: 15,
+    },
+];
+
+fn is_run(alloc: Global, outcome: &Outcome, sink: &MemSink, want: &Run<'_>) -> bool {
+    let Ok(text) = joined(alloc, want.texts) else {
+        return false;
+    };
+    outcome.status == want.status
+        && outcome.history.len() == want.entries
+        && sink.bytes() == text.as_bytes()
+}
+
+// Whether the run of an input comes to this; nothing where memory ran out before.
+fn comes_to(
+    rt: &(impl Threads + Wait + Sync),
+    alloc: Global,
+    words: &[String],
+    want: &Run<'_>,
+) -> Option<bool> {
+    let mut source = source_of(alloc, want.input, want.reads)?;
+    let mut sink = sink_of(alloc, 2_000, want.writes)?;
+    let outcome = serve_words(rt, alloc, words, &mut source, &mut sink);
+    Some(is_run(alloc, &outcome, &sink, want))
+}
+
 #[test]
-fn a_scenario_is_run_and_its_history_written(rt: HostRuntime) -> Result<(), Fail> {
-    let words = words(rt.alloc(), "run")?;
-    let none = [].as_slice();
-    for (input, reads, writes, status, text, entries) in [
-        (
-            STOPPED_ONCE,
-            none,
-            none,
-            0,
-            ["history 15\n", FIRST_TEN, OTHERS, "status 0\n"].as_slice(),
-            15,
-        ),
-        (
-            CUT_AT_TEN,
-            none,
-            none,
-            3,
-            ["history 10\n", FIRST_TEN, "", "status 3\n"].as_slice(),
-            10,
-        ),
-        (
-            "",
-            none,
-            none,
-            0,
-            ["history 0\n", "", "", "status 0\n"].as_slice(),
-            0,
-        ),
-        (
-            "turns 5\nprogram p\nsys getpit\nend\n",
-            none,
-            none,
-            2,
-            ["line 3: NotBuilt\n", "", "", ""].as_slice(),
-            0,
-        ),
-        (
-            STOPPED_ONCE,
-            [0].as_slice(),
-            none,
-            5,
-            ["", "", "", ""].as_slice(),
-            0,
-        ),
-        (
-            STOPPED_ONCE,
-            none,
-            [0].as_slice(),
-            6,
-            ["", "", "", ""].as_slice(),
-            15,
-        ),
-        (
-            STOPPED_ONCE,
-            none,
-            [11].as_slice(),
-            6,
-            ["history 15\n", FIRST_TEN, "", ""].as_slice(),
-            15,
-        ),
-    ] {
-        let bytes = Bytes::from_vec(input.as_bytes().to_vec(rt.alloc())?);
-        let mut source = MemSource::new(bytes, reads.to_vec(rt.alloc())?);
-        let mut sink = MemSink::new(2_000, writes.to_vec(rt.alloc())?)?;
-        let outcome = serve(&rt, rt.alloc(), &words, &mut source, &mut sink, &OpenGate);
-        let want = joined(rt.alloc(), text)?;
-        assert_eq!(rt; outcome.status, status, "of {input}");
-        assert_eq!(rt; sink.bytes(), want.as_bytes(), "of {input}");
-        assert_eq!(rt; outcome.history.len(), entries, "of {input}");
+fn a_scenario_is_run_and_its_history_written(rt: HostRuntime) {
+    let words = words(rt.alloc(), "run").expect(&rt, "words");
+    for (i, want) in RUNS.iter().enumerate() {
+        let came = comes_to(&rt, rt.alloc(), &words, want);
+        assert!(rt; came == Some(true), "run {i}");
     }
-    Ok(())
 }
