@@ -24,7 +24,8 @@ pub record Kernel : Type 0 where
   pub history : List Entry
   pub places : ℕ
 
--- the entry of a call that a controller made, of a turn that an lwp had, of a tick that brought the clock to a millisecond
+-- the entry of a call that a controller made, of a turn that an lwp had, of a tick that brought the clock to a
+-- millisecond
 abbrev pub call_entry : ℕ → Call → Reply → Entry
 call_entry by call reply = record { actor = Controller by; act = Called call reply }
 
@@ -86,8 +87,8 @@ takes_no_memory (Ctl handle bytes) = true
 takes_no_memory (CtlWait handle until bytes) = true
 takes_no_memory _ = false
 
--- whether a phase is asleep in the call sleep until a moment that is still to come: the call's first argument says for how
--- many milliseconds
+-- whether a phase is asleep in the call sleep until a moment that is still to come: the call's first argument says for
+-- how many milliseconds
 abbrev pub sleeps_on : ℕ → Phase → Bool
 sleeps_on clock (Asleep Sleep args since) = nat_lt clock (since + slice_index args 0)
 sleeps_on clock _ = false

@@ -17,8 +17,8 @@ can_follow s after pid l = moves_after s after (pid, l.id)
 unfoldable pub next_movable : TracedSystem → Option (ℕ × ℕ) → Option (ℕ × ℕ)
 next_movable s after = find (moves_after s after) (live_lwps s)
 
--- The next lwp; only one that can have a turn, where that is asked. Processes stand by rising id in a system, and lwps in a
--- process: so the first in their lists is the one of least ids.
+-- The next lwp; only one that can have a turn, where that is asked. Processes stand by rising id in a system, and lwps
+-- in a process: so the first in their lists is the one of least ids.
 abbrev pub next_of : Bool → TracedSystem → Option (ℕ × ℕ) → Option (ℕ × ℕ)
 next_of true s after = next_movable s after
 next_of false s after = next_lwp s after

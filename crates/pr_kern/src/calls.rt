@@ -89,8 +89,8 @@ fn can_read(state: &Machine, by: u32, handle: u32, at: u64, len: u64) -> bool
     }
 }
 
-/// Reads at most `len` bytes of a record from byte `at` on. The refusals come in the order: EBADF, EINVAL for a length of
-/// 0 or above 16,384, ENOENT.
+/// Reads at most `len` bytes of a record from byte `at` on. The refusals come in the order: EBADF, EINVAL for a length
+/// of 0 or above 16,384, ENOENT.
 #[tactic(auto, using(crate::proofs::SoundLemmas::heap_laws), unfolding(pr_model::specs::Calls::read_answer))]
 fn read(
     state: &Machine,
@@ -148,8 +148,8 @@ pub fn ready(state: &Machine, by: u32, call: &Call) -> bool
     }
 }
 
-/// Answers a call that is ready. Opening, closing, control messages and their waits take no memory; where memory runs out,
-/// the state is as it was.
+/// Answers a call that is ready. Opening, closing, control messages and their waits take no memory; where memory runs
+/// out, the state is as it was.
 #[tactic(auto, unfolding(pr_model::specs::Calls::answer_to))]
 pub fn answer(state: &mut Machine, alloc: Global, by: u32, call: &Call) -> Result<Reply, NoMemory>
     requires by { by < 64 }

@@ -47,8 +47,8 @@ fn was_last_writer(held: Held, others: &Places) -> bool
     is_writable(held.mode) && !others.has_writer(held.pid)
 }
 
-/// Closes a handle of a controller, or refuses it with EBADF; where no other handle for writing is left on its process, what
-/// the process's modes say follows. Takes no memory.
+/// Closes a handle of a controller, or refuses it with EBADF; where no other handle for writing is left on its process,
+/// what the process's modes say follows. Takes no memory.
 #[tactic(auto, using(crate::proofs::CloseLemmas::close_laws), unfolding(pr_model::specs::Calls::close_answer, pr_model::specs::Handles::with_closed))]
 pub fn close(state: &mut Machine, by: u32, handle: u32) -> Reply
     ensures { (record { state = state.new; reply = result }) ≡ close_answer state.old by handle }

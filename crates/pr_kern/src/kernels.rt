@@ -43,8 +43,8 @@ impl Model for Kern {
 }
 
 impl Kern {
-    /// A kernel with these programs and files, in the state before the first step, with a process of each program that is
-    /// spawned, by its place among the programs. It has places for so many entries.
+    /// A kernel with these programs and files, in the state before the first step, with a process of each program that
+    /// is spawned, by its place among the programs. It has places for so many entries.
     pub fn new(
         alloc: Global,
         programs: Vec<Program>,
@@ -114,8 +114,8 @@ impl Kern {
         movable(&self.state.system, pid, lwp)
     }
 
-    /// The least live lwp above another one, or of all, by process and then by lwp; only one that can have a turn, where
-    /// that is asked. Takes no memory.
+    /// The least live lwp above another one, or of all, by process and then by lwp; only one that can have a turn,
+    /// where that is asked. Takes no memory.
     pub fn next_lwp(&self, after: Option<(u32, u32)>, movable: bool) -> Option<(u32, u32)>
         ensures { result ≡ next_of movable self.now.state.system after }
     {

@@ -215,9 +215,9 @@ fn carry_out(sys: &mut Sys, plan: Plan) -> Reply
     }
 }
 
-/// Handles the first control message of a write by a controller, or refuses it: EBADF, ENOENT, EINVAL for bytes that begin
-/// with no message, and what process 0 and the message itself refuse, in this order. `None`: the message is not built yet,
-/// and nothing changes. Takes no memory.
+/// Handles the first control message of a write by a controller, or refuses it: EBADF, ENOENT, EINVAL for bytes that
+/// begin with no message, and what process 0 and the message itself refuse, in this order. `None`: the message is not
+/// built yet, and nothing changes. Takes no memory.
 pub fn control(sys: &mut Sys, places: &Places, by: u32, handle: u32, bytes: &[u8]) -> Option<Reply>
     requires { sys.old.clock ≤ clock_limit }
     ensures answer { option_map (λ reply. record { system = sys.new; reply = reply }) result ≡ control_answer sys.old places.now by handle bytes.now }

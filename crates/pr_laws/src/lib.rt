@@ -1,5 +1,5 @@
-//! Laws over the definitions of pr_num and pr_model: what shows that they mean what they say. Each public function carries one law
-//! in its contract, and does nothing.
+//! Laws over the definitions of pr_num and pr_model: what shows that they mean what they say. Each public function
+//! carries one law in its contract, and does nothing.
 #![tactic(auto)]
 
 mod calls;

@@ -1,4 +1,5 @@
--- A seat may go to another thread, and a lock be shared, where the value may go. `crosses_lock` is for `search`, beside `sendable` and std's `crosses`.
+-- A seat may go to another thread, and a lock be shared, where the value may go. `crosses_lock` is for `search`, beside
+-- `sendable` and std's `crosses`.
 use denote.RattleType.{RattleType}
 use denote.Param.Send.{IsSend, IsSync, sendable}
 use Rattle.std.proofs.Crossing.{crosses}

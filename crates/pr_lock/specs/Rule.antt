@@ -1,7 +1,9 @@
--- The rule of the lock, over two words, one slot and what all seats know.
--- Word 0 is 1 while a seat is between `enter` and `leave`, and else 0. Where it is 0 the slot has the value, which stands for the one history; where it is 1 one seat has entered that history, and nothing is said of the slot.
--- Word 1 is 0 until the first seat has its shares, and 1 from then on. So the first seat's swap finds 0, and the shares of all seats add up to the lock's from then on.
--- Each seat has seen a beginning of the history, and some seat all of it. Each place of the history is the own entry of one seat, and of one alone. A seat that was dropped stays among the seats.
+-- The rule of the lock, over two words, one slot and what all seats know. Word 0 is 1 while a seat is between `enter`
+-- and `leave`, and else 0. Where it is 0 the slot has the value, which stands for the one history; where it is 1 one
+-- seat has entered that history, and nothing is said of the slot. Word 1 is 0 until the first seat has its shares, and
+-- 1 from then on. So the first seat's swap finds 0, and the shares of all seats add up to the lock's from then on. Each
+-- seat has seen a beginning of the history, and some seat all of it. Each place of the history is the own entry of one
+-- seat, and of one alone. A seat that was dropped stays among the seats.
 use Rattle.std.specs.Prelude.{◌≡◌, ℕ, ◌+◌, ◌<◌, Bool, true, Option, None, Some, is_some, IfSome, List, [], ◌∷◌, length, sum_by, if◌then◌else◌, nat_lt}
 use mathlib.Core.Option.{some}
 use mathlib.Core.Option as logic

@@ -16,7 +16,8 @@ module _ {V I : Type 0} where
   abbrev pub seen_of : Seat V I → List I
   seen_of seat = seat.seat.me.0.seen
 
-  -- the entries that the seat added, in its order, each with its place in the history; behind them those of the seats that it took in
+  -- the entries that the seat added, in its order, each with its place in the history; behind them those of the seats
+  -- that it took in
   abbrev pub own_of : Seat V I → List (ℕ × I)
   own_of seat = seat.seat.me.0.own
 

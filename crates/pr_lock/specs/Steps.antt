@@ -43,7 +43,8 @@ module _ {V I : Type 0} where
   abbrev pub Begins : Me (Option V) (View V I) → ℕ → Me (Option V) (View V I) → Type 0
   Begins before found after = (found ≡ 0) × (after ≡ (begun before.0, before.1))
 
-  -- the seat has taken the value: it stands for a history that begins with all that the seat had seen, in which the seat's own entries stand
+  -- the seat has taken the value: it stands for a history that begins with all that the seat had seen, in which the
+  -- seat's own entries stand
   pub record HasTaken (entries : V → List I) (comes : V → V → Type 0) (before after : Me (Option V) (View V I)) : Type 0 where
     pub value : V
     pub is : after ≡ (holding before.0 (entries value), (0, Some value) ∷ before.1)

@@ -1,4 +1,5 @@
-//! The calls of the lock. Word 0 of the table says whether a seat has the value, word 1 whether the first seat was made.
+//! The calls of the lock. Word 0 of the table says whether a seat has the value, word 1 whether the first seat was
+//! made.
 ghost use Rattle.std.specs.Prelude.{◌≡◌, ◌+◌, ◌≤◌, [], ◌∷◌, ◌++◌, IfOk, IsOkUnless};
 ghost use Rattle.pr_lock.specs.History.{StartsWith, StandIn, IsInOrder, AreAll, added, longer};
 ghost use Rattle.pr_lock.specs.Seats.{first_of, seats_of, seen_of, own_of, shares_of, entered_of, IsOutside, IsInside};

@@ -8,8 +8,8 @@ pub trait Logged: Drop {
     // The entries, in order.
     ghost entries: { Self → List Self.Item };
 
-    // This value comes from that first one, in whatever sense the type chooses. `Shared::new` asks it of the value
-    // that it is given, `leave` of each that it puts back, and `enter` and `close` tell it of the one that they hand out.
+    // This value comes from that first one, in whatever sense the type chooses. `Shared::new` asks it of the value that
+    // it is given, `leave` of each that it puts back, and `enter` and `close` tell it of the one that they hand out.
     ghost comes: { Self → Self → Type 0 };
 
     /// How many entries there are.

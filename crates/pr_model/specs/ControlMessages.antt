@@ -134,8 +134,8 @@ held_wait s None until interrupted bytes = Some (Fail Badf)
 held_wait s (Some h) until interrupted bytes = targeted_wait s h (target_of s h) until interrupted bytes
 
 -- The reply to the wait that a message asked for, of a controller that was interrupted or not. None: the wait is not
--- over. The refusals come in the order: no such handle, the process or the lwp has ended, the bytes begin with no message
--- that waits, process 0, an interrupt. A wait changes nothing of the system.
+-- over. The refusals come in the order: no such handle, the process or the lwp has ended, the bytes begin with no
+-- message that waits, process 0, an interrupt. A wait changes nothing of the system.
 unfoldable pub wait_reply : TracedSystem → Places → ℕ → ℕ → ℕ → Bool → List ℕ → Option Reply
 wait_reply s opens by handle until interrupted bytes =
     held_wait s (control_handle (handle_of opens by handle)) until interrupted bytes

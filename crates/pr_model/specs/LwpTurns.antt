@@ -61,8 +61,8 @@ unfoldable pub row_at_call : TracedProcess → TracedLwp → Sysno → Option Tu
 row_at_call p l call =
     if l.abort then Some (MadeRow call (Error Intr)) else option_map (call_row call) (call_effect p.id call (arguments l.regs))
 
--- The rows by phase, once no directed stop, no current signal and no signal to take comes first. None: the row is not built
--- yet.
+-- The rows by phase, once no directed stop, no current signal and no signal to take comes first. None: the row is not
+-- built yet.
 abbrev pub row_in : TracedProcess → TracedLwp → Phase → Option TurnRow
 row_in p l User = option_map instruction_row (instruction_effect l.regs p.space)
 row_in p l (Entered call) = row_at_call p l call

@@ -12,9 +12,9 @@ use Rattle.pr_model.specs.declared.events.Act.{Act}
 use Rattle.pr_model.specs.declared.events.Act.TheVariants as act
 use Rattle.pr_model.specs.declared.events.Entry.{Entry}
 
--- Passive histories: of control messages controllers sent only those that stop, run, read and trace, and set no mode but
--- PR_FORK, PR_RLC and PR_ASYNC. Every other call is passive too: processes that are made and signals that are sent from
--- outside are steps of the untraced machine as well. A call that was refused did nothing.
+-- Passive histories: of control messages controllers sent only those that stop, run, read and trace, and set no mode
+-- but PR_FORK, PR_RLC and PR_ASYNC. Every other call is passive too: processes that are made and signals that are sent
+-- from outside are steps of the untraced machine as well. A call that was refused did nothing.
 
 -- whether a message is one of those
 unfoldable pub is_passive_message : Message → Bool

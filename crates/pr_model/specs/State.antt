@@ -11,9 +11,9 @@ use Rattle.pr_model.specs.declared.processes.Process as process
 use Rattle.pr_model.specs.declared.states.State as state
 use Rattle.pr_model.specs.declared.states.System as system
 
--- The traced state: everything that programs can see, and everything that controllers have set. In it an address
--- space is its mappings, and pending signals are a set, that is a word. It has two parts: the system as its kernel keeps
--- it, which programs share with what was set on them, and what only controllers know of.
+-- The traced state: everything that programs can see, and everything that controllers have set. In it an address space
+-- is its mappings, and pending signals are a set, that is a word. It has two parts: the system as its kernel keeps it,
+-- which programs share with what was set on them, and what only controllers know of.
 
 -- an lwp of the traced state
 abbrev pub TracedLwp : Type 0

@@ -90,8 +90,8 @@ module _ {P : Type 0} where
   directed_but id l = if l.id == id then l else directed l
 
 module _ {S F P A : Type 0} where
-  -- The representative lwp (proc(4), "pr_lwp"): the agent while there is one; else, of the first class that has any, the
-  -- lwp of least id.
+  -- The representative lwp (proc(4), "pr_lwp"): the agent while there is one; else, of the first class that has any,
+  -- the lwp of least id.
   unfoldable pub representative : Process S F P A → Option (Lwp P)
   representative p =
       or_else (lwp_of p agent_id)

@@ -31,8 +31,8 @@ impl History {
         }
     }
 
-    /// Makes room for `n` more entries, where there is less. Takes no memory where there is as much; where memory runs out,
-    /// the history is as it was.
+    /// Makes room for `n` more entries, where there is less. Takes no memory where there is as much; where memory runs
+    /// out, the history is as it was.
     pub fn reserve(&mut self, n: usize) -> Result<(), NoMemory>
         ensures entries { self.new.entries ≡ self.old.entries }
         ensures room { OnOk result (n ≤ self.new.room) }

@@ -23,8 +23,8 @@ use Rattle.pr_scen.specs.declared.script_lines.ScriptLine.{ScriptLine}
 use Rattle.pr_scen.specs.declared.script_lines.ScriptLine.TheVariants.{Open, Close, Read, Write}
 use Rattle.pr_run_laws.proofs.ReplyLemmas.{Counts, ctl-counts, ctl_wait-counts}
 
--- Messages that scripts build, as the machine reads them: each is passive, and a reply that says that bytes were used tells
--- its length.
+-- Messages that scripts build, as the machine reads them: each is passive, and a reply that says that bytes were used
+-- tells its length.
 
 dstop-spells : Spells (spelling Dstop []) Dstop []
 unfolding operands operand_count bad_operand tail_length

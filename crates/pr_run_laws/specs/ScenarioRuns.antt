@@ -12,7 +12,8 @@ use Rattle.pr_world.specs.Worlds.{WorldState, after_moves}
 
 -- The run of a scenario, on one thread.
 
--- the state of the machine before the first move: the processes that the scenario spawns, of its programs; it has no files yet
+-- the state of the machine before the first move: the processes that the scenario spawns, of its programs; it has no
+-- files yet
 abbrev pub first_state_of : Scenario → TracedState
 first_state_of s = first_state s.programs [] s.spawns
 
@@ -39,9 +40,9 @@ history_after n s = (world_after n s).kernel.history
 abbrev pub run_of : Scenario → WorldState
 run_of s = world_after s.turns s
 
--- What a run keeps: every entry is what the machine does; the controllers make the calls of their scripts, and the clock goes
--- on only where it is awaited; of control messages there are only those that stop, run and read; and so the programs did
--- what they could have done without controllers.
+-- What a run keeps: every entry is what the machine does; the controllers make the calls of their scripts, and the
+-- clock goes on only where it is awaited; of control messages there are only those that stop, run and read; and so the
+-- programs did what they could have done without controllers.
 pub record IsKept (s : Scenario) (h : List Entry) : Type 0 where
   pub legal : IsLegal (length (controllers_of s)) (first_state_of s) h
   pub follows : Follows (controllers_of s) (first_state_of s) h

@@ -51,8 +51,8 @@ pub record IsBuiltScript (s : ScriptState) : Type 0 where
   pub lines : AreBuiltLines s.lines
   pub left : IsLeftBuilt s.taken (slice_get s.lines s.place)
 
--- A reply to a write tells the length of the message that these bytes begin with, where it says that bytes were taken; and
--- it is not that of PCREAD, which is not built.
+-- A reply to a write tells the length of the message that these bytes begin with, where it says that bytes were taken;
+-- and it is not that of PCREAD, which is not built.
 abbrev pub TakesFirst : List ℕ → Reply → Type 0
 TakesFirst left (reply.Used n) = (m : Message) (rest : List ℕ) → IsBuiltMessage m → left ≡ spelling m [] ++ rest → n ≡ length (spelling m [])
 TakesFirst left (reply.Bytes bytes) = ⊥

@@ -15,8 +15,8 @@ AreAccepted d [] below e = d ≡ e
 AreAccepted d (this ∷ lines) below e =
     (next : Draft) × (line_added (list_any is_end (lines ++ below)) d this ≡ Ok next) × AreAccepted next lines below e
 
--- Of these lines, which count from `line` and follow what was read, one is the first that is refused: the lines above it
--- are accepted one after another, and it cannot follow them.
+-- Of these lines, which count from `line` and follow what was read, one is the first that is refused: the lines above
+-- it are accepted one after another, and it cannot follow them.
 pub record StopsAt (line : ℕ) (d : Draft) (lines : List (List ℕ)) (fault : ScenFault) : Type 0 where
   pub above : List (List ℕ)
   pub this : List ℕ

@@ -112,7 +112,8 @@ unfoldable pub parts_added : Draft → List Part → Result Draft ScenKind
 parts_added d [] = Ok d
 parts_added d (part ∷ parts) = part_added d part >>= λ e. parts_added e parts
 
--- Lines that spell a scenario: each can be read, those that mean something spell parts, and the parts make the scenario.
+-- Lines that spell a scenario: each can be read, those that mean something spell parts, and the parts make the
+-- scenario.
 pub record SpellScenario (lines : List (List ℕ)) (s : Scenario) : Type 0 where
   pub parts : List Part
   pub read : Draft

@@ -44,7 +44,8 @@ item_with first operands =
     else (if bytes_eq first (codes "script") then script_of operands
     else Err NotBuilt)))
 
--- What the words of a line outside blocks say. A line without words, and one whose first word begins with #, mean nothing.
+-- What the words of a line outside blocks say. A line without words, and one whose first word begins with #, mean
+-- nothing.
 unfoldable pub item_of : List (List ℕ) → Result Item ScenKind
 item_of [] = Ok Blank
 item_of (first ∷ operands) = if begins_comment first then Ok Blank else item_with first operands

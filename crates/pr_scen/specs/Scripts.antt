@@ -12,9 +12,9 @@ use Rattle.pr_scen.specs.declared.scripts.Present.TheVariants.{Over, Opens, Writ
 use Rattle.pr_scen.specs.declared.script_lines.ScriptLine.{ScriptLine}
 use Rattle.pr_scen.specs.declared.script_lines.ScriptLine.TheVariants.{Open, Close, Read, Write}
 
--- A script on its way through its lines: those lines, the place of the line whose call comes next, how many bytes of that
--- line's write were taken, the end of the wait that this write has to make now, if one (0: no end), and the handles that
--- its names stand for.
+-- A script on its way through its lines: those lines, the place of the line whose call comes next, how many bytes of
+-- that line's write were taken, the end of the wait that this write has to make now, if one (0: no end), and the
+-- handles that its names stand for.
 pub record ScriptState : Type 0 where
   pub lines : List ScriptLine
   pub place : ℕ
@@ -26,8 +26,8 @@ pub record ScriptState : Type 0 where
 unfoldable pub first_script : List ScriptLine → ScriptState
 first_script lines = record { lines = lines; place = 0; taken = 0; wait = None; bound = names_opened lines }
 
--- A write carries all bytes that are left. Where the first half of a message that waits was done, the same bytes go into
--- the wait.
+-- A write carries all bytes that are left. Where the first half of a message that waits was done, the same bytes go
+-- into the wait.
 abbrev pub write_call : Option ℕ → ℕ → List ℕ → Call
 write_call None handle left = call.Ctl handle left
 write_call (Some until) handle left = call.CtlWait handle until left
@@ -75,8 +75,8 @@ with_taken s total n =
 abbrev pub read_length : ℕ
 read_length = 24
 
--- What a reply to a Ctl makes of a write, a row a reply: the message was taken; it was a PCREAD and its bytes came; or its
--- first half was done, and it waits. Any other reply refuses, and what is left of the write is dropped.
+-- What a reply to a Ctl makes of a write, a row a reply: the message was taken; it was a PCREAD and its bytes came; or
+-- its first half was done, and it waits. Any other reply refuses, and what is left of the write is dropped.
 unfoldable pub with_ctl_answered : ScriptState → ℕ → Reply → ScriptState
 with_ctl_answered s total (reply.Used n) = with_taken s total n
 with_ctl_answered s total (reply.Bytes bytes) = with_taken s total read_length

@@ -43,7 +43,8 @@ pub record IsPlainScript (lines : List ScriptLine) : Type 0 where
   pub lines_plain : AllByRecursion IsPlainLine lines
   pub few : opens_in lines ≤ 16
 
--- A scenario of the forms that are built: turns within their limit; at most one program, one process of it, and one script.
+-- A scenario of the forms that are built: turns within their limit; at most one program, one process of it, and one
+-- script.
 pub record IsPlainScenario (s : Scenario) : Type 0 where
   pub least : 1 ≤ s.turns
   pub most : s.turns ≤ 100000

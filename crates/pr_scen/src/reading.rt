@@ -108,8 +108,8 @@ fn read_text(alloc: Global, text: &[u8]) -> Result<Scenario, ScenRefusal>
     read_lines(alloc, &lines)
 }
 
-/// The scenario that a text spells, or its first line that is refused. Lines count from 1. What is read keeps the limits of
-/// a scenario.
+/// The scenario that a text spells, or its first line that is refused. Lines count from 1. What is read keeps the
+/// limits of a scenario.
 ///
 /// Takes time linear in the text.
 pub fn read_scenario(alloc: Global, text: &[u8]) -> Result<Scenario, ScenRefusal>

@@ -10,8 +10,8 @@ use std::alloc::Global;
 use std::marker::Model;
 
 /// A script on its way through its lines: it says which call it makes next, and is fed the reply. Contracts see a plain
-/// record of the lines, the place of the next line, how far that line's write has come, and the handles that names stand
-/// for.
+/// record of the lines, the place of the next line, how far that line's write has come, and the handles that names
+/// stand for.
 #[derive(Drop)]
 pub struct Script {
     lines: Lines,

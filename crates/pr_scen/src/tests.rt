@@ -178,8 +178,8 @@ fn keeps_its_limits(rt: HostRuntime) -> Result<(), Fail> {
     Ok(())
 }
 
-// What a call says, as numbers: its kind (1 open, 2 close, 3 Ctl, 4 CtlWait, 5 read, 0 none), the handle or the process,
-// the end of a wait or where a read begins, how many bytes, and the first of those that are written.
+// What a call says, as numbers: its kind (1 open, 2 close, 3 Ctl, 4 CtlWait, 5 read, 0 none), the handle or the
+// process, the end of a wait or where a read begins, how many bytes, and the first of those that are written.
 fn told(call: &Option<Call>) -> [u64; 5] {
     match call {
         Some(Call::Open { pid, .. }) => [1, *pid as u64, 0, 0, 0],

@@ -8,7 +8,8 @@ ghost use Rattle.pr_num.specs.declared.signals.Sig.{Sig as AnySignal};
 ghost use Rattle.pr_num.specs.declared.signals.Sig.TheVariants.{Cont};
 ghost use Rattle.pr_parts.specs.SignalRules.{takeable_signal, stop_signals, deleted_by};
 
-// What shows that the rules of signals mean what they say. Each function carries laws in its contract, and does nothing.
+// What shows that the rules of signals mean what they say. Each function carries laws in its contract, and does
+// nothing.
 
 /// A signal that is taken is pending and not held.
 pub fn taken_signals()
@@ -16,8 +17,8 @@ pub fn taken_signals()
     ensures unheld { (own shared held : ℕ) (s : AnySignal) → held < 2 ^ 64 → takeable_signal own shared held ≡ Some s → has_number held (signal_number s) ≡ false }
 {}
 
-/// The stop signals are those whose default action is to stop their process; each of them deletes `SIGCONT` exactly where
-/// that deletes it; no signal deletes itself; and no signal that a fault sends is deleted, whatever is generated.
+/// The stop signals are those whose default action is to stop their process; each of them deletes `SIGCONT` exactly
+/// where that deletes it; no signal deletes itself; and no signal that a fault sends is deleted, whatever is generated.
 pub fn stop_and_continue_delete_each_other()
     ensures stop_signals { (s : AnySignal) → (has_number stop_signals (signal_number s) ≡ true) ↔ (default_action s ≡ default.Stop) }
     ensures symmetric { (s : AnySignal) → has_number (deleted_by s) (signal_number Cont) ≡ has_number (deleted_by Cont) (signal_number s) }

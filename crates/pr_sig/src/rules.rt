@@ -6,8 +6,8 @@ use pr_num::{DefAct, Sig, SigSet};
 use pr_parts::Action;
 
 /// The signal that an lwp takes next, where `own` are its pending signals, `shared` those of its process, and `held`
-/// those that it holds: the least of its own that is not held, else the least such signal of its process. `None` exactly
-/// where all of them are held.
+/// those that it holds: the least of its own that is not held, else the least such signal of its process. `None`
+/// exactly where all of them are held.
 #[tactic(auto, unfolding(pr_parts::specs::SignalRules::takeable_signal), using(pr_num::proofs::NumberedLemmas::none_where_empty))]
 pub fn takeable(own: SigSet, shared: SigSet, held: SigSet) -> Option<Sig>
     ensures value { result ≡ takeable_signal own shared held }

@@ -28,7 +28,8 @@ fn lwp_at(id: u32, pc: u64) -> Lwp<SigSet> {
     }
 }
 
-/// Process 4, a child of process 3, with these instructions and then zeros at 0x10000, and lwps 1 and 2 that begin there.
+/// Process 4, a child of process 3, with these instructions and then zeros at 0x10000, and lwps 1 and 2 that begin
+/// there.
 fn process_of(
     alloc: Global,
     name: Name,

@@ -7,8 +7,8 @@ use Rattle.pr_parts.specs.WatchedAreas.{area_limit, is_taken}
 use Rattle.pr_watch.specs.declared.areas.WatchFault.{WatchFault}
 use Rattle.pr_watch.specs.declared.areas.WatchFault.TheVariants.{BadFlags, Overlap, TooMany}
 
--- Why an area is refused: its words are out of their columns, or it overlaps one that stands, or as many stand as there can
--- be.
+-- Why an area is refused: its words are out of their columns, or it overlaps one that stands, or as many stand as there
+-- can be.
 abbrev pub set_refusal : ℕ → ℕ → ℕ → List Area → Option WatchFault
 set_refusal at size flags areas =
     if is_some (bad_operand (Watch at size flags)) then Some BadFlags

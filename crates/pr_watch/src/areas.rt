@@ -90,8 +90,8 @@ impl Areas {
         &self.slots[..self.len]
     }
 
-    /// Watches the bytes of a range for what the flags say, which are more than none. The areas stay as they are where this
-    /// is refused.
+    /// Watches the bytes of a range for what the flags say, which are more than none. The areas stay as they are where
+    /// this is refused.
     #[tactic(auto, unfolding(pr_parts::specs::WatchedAreas::with_area))]
     pub fn set(&mut self, at: u64, size: u64, flags: u8) -> Result<(), WatchFault>
         requires { 0 < flags }

@@ -17,8 +17,8 @@ use Rattle.pr_scen.specs.Scripts.{ScriptState, next_call_of, fed}
 use Rattle.pr_world.specs.Protocol.{FollowsAt, scripts_after}
 use Rattle.pr_world.specs.Worlds.{WorldState, answer_for, call_by, feed_at, with_fed, with_answer, after_call_by, after_controller, with_turned, after_lwp, is_clock_awaited, after_clock, after_move}
 
--- What a move adds to a world: one entry, which is legal and follows the protocol, and what the entry makes of the machine and
--- of the controllers.
+-- What a move adds to a world: one entry, which is legal and follows the protocol, and what the entry makes of the
+-- machine and of the controllers.
 pub record Moves (w v : WorldState) : Type 0 where
   pub entry : Entry
   pub history : v.kernel.history ≡ w.kernel.history ++ entry ∷ []

@@ -150,7 +150,8 @@ moves-counted first (suc n) fresh h =
     let on = counted-on (after_moves n first) n (next_actor (after_moves n first)) refl (moves-counted first n fresh) h in
     omega (arith, on)
 
--- What one move needs and makes: who was picked can move, and the world after the next move is the one that its move led to.
+-- What one move needs and makes: who was picked can move, and the world after the next move is the one that its move
+-- led to.
 pub picked-acts : (w : WorldState) (actor : Actor) → next_actor w ≡ Some actor → can_act (with_last actor w) actor ≡ true
 picked-acts w actor e = can_act-picked w actor actor ∙ next-acts w actor e
 

@@ -9,8 +9,8 @@ use Rattle.pr_model.specs.declared.events.Entry.{Entry}
 use Rattle.pr_scen.specs.Scripts.{ScriptState}
 use Rattle.pr_world.specs.Worlds.{call_by, with_fed, is_clock_awaited}
 
--- The controller protocol: in a history each controller makes the calls that it makes after the replies that it got so far,
--- and the clock goes on only where somebody waits for it. What lwps do is their own.
+-- The controller protocol: in a history each controller makes the calls that it makes after the replies that it got so
+-- far, and the clock goes on only where somebody waits for it. What lwps do is their own.
 
 -- the controllers after an entry: who made a call got its reply
 unfoldable pub scripts_after : List ScriptState → Entry → List ScriptState

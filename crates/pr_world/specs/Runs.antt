@@ -12,7 +12,8 @@ pub record IsFresh (w : WorldState) : Type 0 where
   pub history : w.kernel.history ≡ []
   pub last : w.last ≡ None
 
--- A world came from another, which was fresh, by a history that is legal there and follows the protocol of its controllers.
+-- A world came from another, which was fresh, by a history that is legal there and follows the protocol of its
+-- controllers.
 pub record CameFrom (first w : WorldState) : Type 0 where
   pub legal : IsLegal (length first.scripts) first.kernel.state w.kernel.history
   pub follows : Follows first.scripts first.kernel.state w.kernel.history

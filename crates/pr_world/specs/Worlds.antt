@@ -16,8 +16,8 @@ use Rattle.pr_scen.specs.Scripts.{ScriptState, next_call_of, fed}
 use Rattle.pr_world.specs.declared.ends.End.{End}
 use Rattle.pr_world.specs.declared.ends.End.TheVariants.{Quiet, Spent, Stuck}
 
--- A world is a kernel and its controllers. Here stands who of them can move, what a move makes of the world, and who moves
--- next.
+-- A world is a kernel and its controllers. Here stands who of them can move, what a move makes of the world, and who
+-- moves next.
 
 -- The kernel, the controllers by number, and the actor that moved last, if one did.
 pub record WorldState : Type 0 where
@@ -95,8 +95,8 @@ after_move w (Controller k) = after_controller w k
 after_move w (Lwp pid id) = after_lwp w pid id
 after_move w Clock = after_clock w
 
--- Whether an actor can move, a row a kind: a controller whose next call is ready, an lwp that can have a turn, and the clock
--- where it is awaited.
+-- Whether an actor can move, a row a kind: a controller whose next call is ready, an lwp that can have a turn, and the
+-- clock where it is awaited.
 unfoldable pub can_act : WorldState → Actor → Bool
 can_act w (Controller k) = is_some (answer_for w k)
 can_act w (Lwp pid id) = can_move w.kernel.state.system pid id
@@ -104,8 +104,8 @@ can_act w Clock = is_clock_awaited w.kernel.state.system w.scripts
 
 -- ---- who moves next
 
--- The actors come in rounds, in the order: controllers by number, lwps by process and lwp id, the clock. Next is the first
--- that can move behind the one that moved last; where none is left in the round, the first of a new round.
+-- The actors come in rounds, in the order: controllers by number, lwps by process and lwp id, the clock. Next is the
+-- first that can move behind the one that moved last; where none is left in the round, the first of a new round.
 
 -- whether a controller can move
 unfoldable pub controller_acts : WorldState → ℕ → Bool
@@ -178,8 +178,8 @@ has_finished s = is_none (next_call_of s)
 unfoldable pub all_finished : WorldState → Bool
 all_finished w = list_all has_finished w.scripts
 
--- How a world ends: nobody can move, and all controllers have finished or some have not; or somebody could move still, and
--- there are no places left.
+-- How a world ends: nobody can move, and all controllers have finished or some have not; or somebody could move still,
+-- and there are no places left.
 abbrev pub quiet_end : Bool → End
 quiet_end true = Quiet
 quiet_end false = Stuck

@@ -27,8 +27,8 @@ impl World {
         some_awaits_clock(self.alloc, clock, self.scripts.as_slice())
     }
 
-    /// Whether an actor can move: a controller whose next call is ready, an lwp that can have a turn, and the clock where
-    /// somebody waits for it. An actor that there is not cannot.
+    /// Whether an actor can move: a controller whose next call is ready, an lwp that can have a turn, and the clock
+    /// where somebody waits for it. An actor that there is not cannot.
     #[tactic(auto, unfolding(crate::specs::Worlds::can_act))]
     pub fn movable(&self, actor: Actor) -> Result<bool, NoMemory>
         ensures { IfOk result (λ acts. acts ≡ can_act self.now actor) }

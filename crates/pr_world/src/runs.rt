@@ -25,8 +25,8 @@ impl World {
         }
     }
 
-    /// Makes moves until nobody can move, or all places of the history are taken, and says which. Where memory runs out, the
-    /// kernel is the one after some of these moves.
+    /// Makes moves until nobody can move, or all places of the history are taken, and says which. Where memory runs
+    /// out, the kernel is the one after some of these moves.
     #[tactic(auto, using(crate::proofs::NextLemmas::runs))]
     pub fn run_one(&mut self) -> Result<End, NoMemory>
         requires { IsFresh self.old }

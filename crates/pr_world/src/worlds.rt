@@ -9,8 +9,8 @@ use pr_scen::Script;
 use std::alloc::Global;
 use std::marker::Model;
 
-/// A kernel and its controllers, at most 64, which move in rounds: controllers by number, lwps by process and lwp id, the
-/// clock. Contracts see a plain record of the kernel, the controllers, and who moved last.
+/// A kernel and its controllers, at most 64, which move in rounds: controllers by number, lwps by process and lwp id,
+/// the clock. Contracts see a plain record of the kernel, the controllers, and who moved last.
 #[derive(Drop)]
 pub struct World {
     pub(crate) alloc: Global,

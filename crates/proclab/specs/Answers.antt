@@ -38,8 +38,8 @@ too_long = codes "TooLong"
 unfoldable pub refused_at : ℕ → List ℕ → Answer
 refused_at line kind = record { status = 2; history = []; text = refusal_text line kind }
 
--- The status of a run: 0 where nobody can move and all controllers have finished, 4 where nobody can move and a controller
--- has not, and 3 where the history has all its entries and somebody could move still.
+-- The status of a run: 0 where nobody can move and all controllers have finished, 4 where nobody can move and a
+-- controller has not, and 3 where the history has all its entries and somebody could move still.
 unfoldable pub end_status : End → ℕ
 end_status Quiet = 0
 end_status Spent = 3
@@ -88,7 +88,8 @@ pub record IsCutShort (answer : Answer) (history : List Entry) (old new : Option
   pub history_is : history ≡ answer.history
   pub written : AppendsFront old new answer.text
 
--- A history that the run of an input has on its way: that after so many moves, which is a front of the history of the run.
+-- A history that the run of an input has on its way: that after so many moves, which is a front of the history of the
+-- run.
 pub record IsAfterMoves (input : List ℕ) (history : List Entry) : Type 0 where
   pub scenario : Scenario
   pub spelt : scenario_of input ≡ Ok scenario

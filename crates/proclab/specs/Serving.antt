@@ -5,8 +5,8 @@ use Rattle.pr_scen.specs.Reading.{scenario_of}
 use Rattle.proclab.specs.Ends.{EndsAs}
 use Rattle.proclab.specs.Answers.{Took, TookAll, IsAfterMoves, IsGiven, IsCutShort, RanOutEarly, RanOutLate, answer_to, taken_of}
 
--- How a call of `run` ends: what it read of the source, and what became of the answer to that. Sources and sinks that do not
--- tell their bytes say nothing of them here.
+-- How a call of `run` ends: what it read of the source, and what became of the answer to that. Sources and sinks that
+-- do not tell their bytes say nothing of them here.
 
 -- Where nothing failed: the answer to what was read was given whole.
 pub record Answered (left_old left_new : Option (List ℕ)) (status : ℕ) (history : List Entry) (written_old written_new : Option (List ℕ)) : Type 0 where
@@ -36,8 +36,8 @@ abbrev pub RanOut : Option (List ℕ) → Option (List ℕ) → List Entry → O
 RanOut left_old left_new history written_old written_new =
     LeftNothing history written_old written_new ⊎ RanOutBehind left_old left_new history written_old written_new
 
--- What the history of a call of `run` is where there is one: that of the run of the scenario that was read, after so many
--- moves. It is legal and follows the protocol, and tracing was transparent.
+-- What the history of a call of `run` is where there is one: that of the run of the scenario that was read, after so
+-- many moves. It is legal and follows the protocol, and tracing was transparent.
 pub record IsHistoryOfRun (left_old left_new : Option (List ℕ)) (history : List Entry) : Type 0 where
   pub input : List ℕ
   pub took : TookAll left_old left_new input
@@ -52,8 +52,8 @@ abbrev pub AnswersInput : Option (List ℕ) → ℕ → List Entry → Option (L
 AnswersInput left status history written_old written_new =
     IfSome left (λ input. IsGiven (answer_to (taken_of input)) status history written_old written_new)
 
--- Completeness: an input that is a scenario is run, where no memory is wanting, or a read or a write failed; and the status
--- says how the run ended.
+-- Completeness: an input that is a scenario is run, where no memory is wanting, or a read or a write failed; and the
+-- status says how the run ended.
 abbrev pub RunsScenario : Option (List ℕ) → ℕ → Type 0
 RunsScenario left status =
     IfSome left (λ input. IfSome (taken_of input) (λ text. IfOk (scenario_of text) (λ scenario. status ≤ 4 → EndsAs (run_of scenario) status)))
