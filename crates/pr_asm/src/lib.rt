@@ -32,3 +32,5 @@ pub use tokens::Tokens;
 
 #[cfg(test)]
 mod tests;
+#[cfg(test)]
+mod tests_programs;

@@ -225,36 +225,3 @@ fn finds_symbols(rt: HostRuntime) {
         assert_eq!(rt; program.symbol_at(pc), want);
     }
 }
-
-// A program of fork and wait, and one that stores to its data.
-#[test]
-fn reads_whole_programs(rt: HostRuntime) {
-    let f = program(
-        &rt,
-        b"sys fork\njz r0, kid\nset r1, 0\nsys wait\nset r1, 0\nsys exit\nkid:\nset r1, 3\nsys exit\n",
-    );
-    assert_eq!(rt; f.code().len(), 8);
-    assert_eq!(rt;
-        f.encode(1),
-        [14, 0, 0, 0, 0, 0, 0, 0, 0x60, 0, 1, 0, 0, 0, 0, 0]
-    );
-    assert_eq!(rt;
-        f.encode(3),
-        [19, 0, 0, 0, 0, 0, 0, 0, 7, 0, 0, 0, 0, 0, 0, 0]
-    );
-    let s = program(
-        &rt,
-        b"space w 8\nset r2, w\nset r3, 1\nst r3, r2, 0\nsys fork\njz r0, kid\nset r1, 0\nsys wait\nld r1, r2, 0\nsys exit\nkid:\nset r3, 2\nst r3, r2, 0\nld r1, r2, 0\nsys exit\n",
-    );
-    assert_eq!(rt; s.code().len(), 13);
-    assert_eq!(rt; s.data(), [0; 8].as_slice());
-    assert_eq!(rt;
-        s.encode(0),
-        [3, 2, 0, 0, 0, 0, 0, 0, 0, 0, 8, 0, 0, 0, 0, 0]
-    );
-    assert_eq!(rt;
-        s.encode(4),
-        [14, 0, 0, 0, 0, 0, 0, 0, 0x90, 0, 1, 0, 0, 0, 0, 0]
-    );
-    assert_eq!(rt; s.symbol_at(0x100a0), Some((b"kid".as_slice(), 16)));
-}
