@@ -2,6 +2,7 @@
 #![tactic(auto)]
 
 mod assembly;
+mod immediate_forms;
 mod keys;
 mod labels;
 mod laws;
