@@ -24,7 +24,7 @@ use Rattle.pr_asm.specs.Operands.{register, immediate_of, immediate, call, two_r
 use Rattle.pr_asm.specs.Parts.{◌>>=◌, ok_or}
 use Rattle.pr_asm.specs.Statements.{statement_in, label_or, statement_with, instruction_of, code_of, text_of, space_of, statement_of}
 use Rattle.pr_asm.specs.Mnemonics.{mnemonic_name}
-use Rattle.pr_asm.specs.Assembly.{reads_of, assembled, program_of}
+use Rattle.pr_asm.specs.Assembly.{reads_of, with_statement, with_lines, assembled, program_of}
 use Rattle.pr_asm.specs.declared.statements.Statement.{Statement}
 use Rattle.pr_asm.specs.declared.statements.Statement.TheVariants.{Blank, Label, Data, Code}
 use Rattle.pr_num.specs.declared.instructions.Instruction.{Instruction}
@@ -624,5 +624,11 @@ pub read_text : (s : Statement) (ss : List Statement) → AllByRecursion IsState
 read_text s ss h =
     ap (map statement_of) (lines_split (spelled s) (map spelled ss) (lines_inline (s ∷ ss) h)) ∙ reads_spelled (s ∷ ss) h
 
-pub program_spelled : (name : List ℕ) (first : ℕ) (s : Statement) (ss : List Statement) → AllByRecursion IsStatement (s ∷ ss) → program_of name (text_of_statements (s ∷ ss)) first ≡ assembled name first (map Ok (s ∷ ss))
-program_spelled name first s ss h = ap (assembled name first) (read_text s ss h)
+-- no statements are the empty text, and its one line says nothing
+no_lines : (name : List ℕ) (first : ℕ) → program_of name [] first ≡ assembled name first []
+unfolding assembled with_lines with_statement statement_of statement_in words_from
+no_lines name first = refl
+
+pub program_spelled : (name : List ℕ) (first : ℕ) (ss : List Statement) → AllByRecursion IsStatement ss → program_of name (text_of_statements ss) first ≡ assembled name first (map Ok ss)
+program_spelled name first [] h = no_lines name first
+program_spelled name first (s ∷ ss) h = ap (assembled name first) (read_text s ss h)

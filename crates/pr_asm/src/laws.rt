@@ -1,5 +1,5 @@
 //! Laws of the program language. Each function does nothing: its clauses are what is proved.
-ghost use Rattle.std.specs.Prelude.{◌≡◌, ◌∷◌, ℕ, List, Ok, Err, map};
+ghost use Rattle.std.specs.Prelude.{◌≡◌, ℕ, List, Ok, Err, map};
 ghost use Rattle.pr_asm.specs.declared.refusals.AsmFault.{AsmFault};
 ghost use Rattle.std.specs.List.{AllByRecursion};
 ghost use Rattle.pr_asm.specs.declared.statements.Statement.{Statement};
@@ -15,9 +15,10 @@ pub fn a_refusal_names_the_first_line()
 {}
 
 /// A statement is read back from the line that spells it, and the text of statements, one on a line, is the program that
-/// these statements make, or stops where they stop.
+/// these statements make, or stops where they stop. Without statements the text is empty, and so is the
+/// program.
 pub fn statements_are_read_as_they_are_spelled()
     ensures lines { (s : Statement) → IsStatement s → statement_of (spelled s) ≡ Ok s }
-    ensures programs { (name : List ℕ) (first : ℕ) (s : Statement) (others : List Statement) → AllByRecursion IsStatement (s ∷ others)
-        → program_of name (text_of_statements (s ∷ others)) first ≡ assembled name first (map Ok (s ∷ others)) }
+    ensures programs { (name : List ℕ) (first : ℕ) (statements : List Statement) → AllByRecursion IsStatement statements
+        → program_of name (text_of_statements statements) first ≡ assembled name first (map Ok statements) }
 {}

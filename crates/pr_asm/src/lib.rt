@@ -2,6 +2,7 @@
 #![tactic(auto)]
 
 mod assembly;
+mod immediate_forms;
 mod keys;
 mod labels;
 mod laws;
@@ -32,3 +33,5 @@ pub use tokens::Tokens;
 
 #[cfg(test)]
 mod tests;
+#[cfg(test)]
+mod tests_programs;

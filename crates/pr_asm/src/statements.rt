@@ -6,13 +6,11 @@ ghost use Rattle.pr_asm.specs.Statements.{code_of, text_of, space_of, statement_
 use crate::mnemonics::Mnemonic;
 use crate::names::{label_of, name_of};
 use crate::numerals::number_of;
-use crate::operands::{
-    one_call, one_immediate, register_and_immediate, registers_and_immediate, two_registers,
-};
+use crate::operands::{one_call, two_registers};
 use crate::parts::{none, two};
 use crate::quotes::quoted_bytes;
 use crate::tokens::Tokens;
-use crate::{AsmKind, Refused};
+use crate::{AsmKind, Refused, immediate_forms};
 use pr_num::{Bytes, Instruction, Name, NoMemory};
 use std::alloc::Global;
 
@@ -55,13 +53,7 @@ fn code_of(mnemonic: Mnemonic, operands: Tokens) -> Result<Statement, AsmKind>
     match mnemonic {
         Mnemonic::Bpt => none(operands).map(|()| plain(Instruction::Bpt)),
         Mnemonic::Nop => none(operands).map(|()| plain(Instruction::Nop)),
-        Mnemonic::Set => register_and_immediate(operands).map(|(to, value)| Statement::Code {
-            instruction: Instruction::Set {
-                to,
-                imm: value.value,
-            },
-            name: value.name,
-        }),
+        Mnemonic::Set => immediate_forms::set(operands),
         Mnemonic::Mov => two_registers(operands).map(|(to, from)| plain(Instruction::Mov {
             to,
             from,
@@ -82,84 +74,15 @@ fn code_of(mnemonic: Mnemonic, operands: Tokens) -> Result<Statement, AsmKind>
             to,
             from,
         })),
-        Mnemonic::Ld => registers_and_immediate(operands).map(|(to, base, value)| Statement::Code {
-            instruction: Instruction::Ld {
-                to,
-                base,
-                offset: value.value,
-            },
-            name: value.name,
-        }),
-        Mnemonic::St => registers_and_immediate(operands).map(|(
-            from,
-            base,
-            value,
-        )| Statement::Code {
-            instruction: Instruction::St {
-                from,
-                base,
-                offset: value.value,
-            },
-            name: value.name,
-        }),
-        Mnemonic::Ldb => registers_and_immediate(operands).map(|(to, base, value)| Statement::Code {
-            instruction: Instruction::Ldb {
-                to,
-                base,
-                offset: value.value,
-            },
-            name: value.name,
-        }),
-        Mnemonic::Stb => registers_and_immediate(operands).map(|(
-            from,
-            base,
-            value,
-        )| Statement::Code {
-            instruction: Instruction::Stb {
-                from,
-                base,
-                offset: value.value,
-            },
-            name: value.name,
-        }),
-        Mnemonic::Jmp => one_immediate(operands).map(|value| Statement::Code {
-            instruction: Instruction::Jmp {
-                target: value.value,
-            },
-            name: value.name,
-        }),
-        Mnemonic::Jz => register_and_immediate(operands).map(|(test, value)| Statement::Code {
-            instruction: Instruction::Jz {
-                test,
-                target: value.value,
-            },
-            name: value.name,
-        }),
-        Mnemonic::Jnz => register_and_immediate(operands).map(|(test, value)| Statement::Code {
-            instruction: Instruction::Jnz {
-                test,
-                target: value.value,
-            },
-            name: value.name,
-        }),
-        Mnemonic::Jlt => registers_and_immediate(operands).map(|(
-            left,
-            right,
-            value,
-        )| Statement::Code {
-            instruction: Instruction::Jlt {
-                left,
-                right,
-                target: value.value,
-            },
-            name: value.name,
-        }),
-        Mnemonic::Call => one_immediate(operands).map(|value| Statement::Code {
-            instruction: Instruction::Call {
-                target: value.value,
-            },
-            name: value.name,
-        }),
+        Mnemonic::Ld => immediate_forms::ld(operands),
+        Mnemonic::St => immediate_forms::st(operands),
+        Mnemonic::Ldb => immediate_forms::ldb(operands),
+        Mnemonic::Stb => immediate_forms::stb(operands),
+        Mnemonic::Jmp => immediate_forms::jmp(operands),
+        Mnemonic::Jz => immediate_forms::jz(operands),
+        Mnemonic::Jnz => immediate_forms::jnz(operands),
+        Mnemonic::Jlt => immediate_forms::jlt(operands),
+        Mnemonic::Call => immediate_forms::call(operands),
         Mnemonic::Ret => none(operands).map(|()| plain(Instruction::Ret)),
         Mnemonic::Sys => one_call(operands).map(|call| plain(Instruction::Sys { call })),
     }

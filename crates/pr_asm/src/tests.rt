@@ -1,6 +1,6 @@
 use super::*;
 use pr_num::{Instruction, Name, Reg, Sysno};
-use std::alloc::Global;
+use std::alloc::{AllocError, Global};
 use std::process::Abort;
 use std::test::Fail;
 
@@ -166,6 +166,23 @@ fn names_the_first_fault(rt: HostRuntime) {
     }
 }
 
+// Where several kinds meet on one line, the first in the order of their table is named.
+#[test]
+fn names_the_first_kind(rt: HostRuntime) {
+    let rows: [(&[u8], u32, AsmKind); 7] = [
+        (b"nap r9", 1, AsmKind::UnknownWord),
+        (b"jmp nowhere, r1", 1, AsmKind::BadOperand),
+        (b"sys getpit fork", 1, AsmKind::BadOperand),
+        (b"a:\na: nop", 2, AsmKind::BadOperand),
+        (b"a:\nspace a 0", 2, AsmKind::BadOperand),
+        (b"space a 65536\nspace a 1", 2, AsmKind::Double),
+        (b"space a 65536\ntext a \"\"", 2, AsmKind::Double),
+    ];
+    for (text, line, kind) in rows {
+        assert_eq!(rt; fault(&rt, text), AsmFault { line, kind });
+    }
+}
+
 // The limits: 65,536 bytes of data, where data begins at a multiple of 8, and 4,096 instructions.
 #[test]
 fn keeps_to_its_limits(rt: HostRuntime) -> Result<(), Fail> {
@@ -181,31 +198,42 @@ fn keeps_to_its_limits(rt: HostRuntime) -> Result<(), Fail> {
             kind: AsmKind::TooBig
         }
     );
-    let mut text = Vec::new(rt.alloc());
+    let full = program(&rt, &full_text(rt.alloc())?);
+    assert_eq!(rt; full.code().len(), 4096);
+    assert_eq!(rt; &full.encode(0)[8..12], [0, 0, 2, 0].as_slice());
+    Ok(())
+}
+
+// A program of 4,096 instructions, with a label after them: 4,097 lines.
+fn full_text(alloc: Global) -> Result<Vec<u8>, AllocError> {
+    let mut text = Vec::new(alloc);
     for _ in 0..4096 {
         text.extend_from_slice(b"jmp z\n")?;
     }
     text.extend_from_slice(b"z:\n")?;
-    let full = program(&rt, &text);
-    assert_eq!(rt; full.code().len(), 4096);
-    assert_eq!(rt; &full.encode(0)[8..12], [0, 0, 2, 0].as_slice());
-    text.extend_from_slice(b"nop\n")?;
-    assert_eq!(rt;
-        fault(&rt, &text),
-        AsmFault {
-            line: 4098,
-            kind: AsmKind::TooBig
-        }
-    );
-    // Of the kinds of one line the first is named.
-    text.extend_from_slice(b"z:")?;
-    assert_eq!(rt;
-        fault(&rt, &text),
-        AsmFault {
-            line: 4098,
-            kind: AsmKind::TooBig
-        }
-    );
+    Ok(text)
+}
+
+// For what the line below that program is refused, where others may stand below it.
+fn kind_below_full(
+    rt: &(impl Abort + Alloc<A = Global>),
+    lines: &[u8],
+) -> Result<AsmKind, AllocError> {
+    let mut text = full_text(rt.alloc())?;
+    text.extend_from_slice(lines)?;
+    let fault = fault(rt, &text);
+    assert_eq!(rt; fault.line, 4098);
+    Ok(fault.kind)
+}
+
+// One instruction past the limit: what else is wrong with its line is named first, and what stands below it is not.
+#[test]
+fn names_the_first_kind_past_a_limit(rt: HostRuntime) -> Result<(), Fail> {
+    assert_eq!(rt; kind_below_full(&rt, b"nop")?, AsmKind::TooBig);
+    assert_eq!(rt; kind_below_full(&rt, b"jmp nowhere")?, AsmKind::UnknownName);
+    assert_eq!(rt; kind_below_full(&rt, b"nop r1")?, AsmKind::BadOperand);
+    assert_eq!(rt; kind_below_full(&rt, b"nap")?, AsmKind::UnknownWord);
+    assert_eq!(rt; kind_below_full(&rt, b"nop\nz:")?, AsmKind::TooBig);
     Ok(())
 }
 
@@ -224,39 +252,6 @@ fn finds_symbols(rt: HostRuntime) {
     for (pc, want) in rows {
         assert_eq!(rt; program.symbol_at(pc), want);
     }
-}
-
-// A program of fork and wait, and one that stores to its data.
-#[test]
-fn reads_whole_programs(rt: HostRuntime) {
-    let f = program(
-        &rt,
-        b"sys fork\njz r0, kid\nset r1, 0\nsys wait\nset r1, 0\nsys exit\nkid:\nset r1, 3\nsys exit\n",
-    );
-    assert_eq!(rt; f.code().len(), 8);
-    assert_eq!(rt;
-        f.encode(1),
-        [14, 0, 0, 0, 0, 0, 0, 0, 0x60, 0, 1, 0, 0, 0, 0, 0]
-    );
-    assert_eq!(rt;
-        f.encode(3),
-        [19, 0, 0, 0, 0, 0, 0, 0, 7, 0, 0, 0, 0, 0, 0, 0]
-    );
-    let s = program(
-        &rt,
-        b"space w 8\nset r2, w\nset r3, 1\nst r3, r2, 0\nsys fork\njz r0, kid\nset r1, 0\nsys wait\nld r1, r2, 0\nsys exit\nkid:\nset r3, 2\nst r3, r2, 0\nld r1, r2, 0\nsys exit\n",
-    );
-    assert_eq!(rt; s.code().len(), 13);
-    assert_eq!(rt; s.data(), [0; 8].as_slice());
-    assert_eq!(rt;
-        s.encode(0),
-        [3, 2, 0, 0, 0, 0, 0, 0, 0, 0, 8, 0, 0, 0, 0, 0]
-    );
-    assert_eq!(rt;
-        s.encode(4),
-        [14, 0, 0, 0, 0, 0, 0, 0, 0x90, 0, 1, 0, 0, 0, 0, 0]
-    );
-    assert_eq!(rt; s.symbol_at(0x100a0), Some((b"kid".as_slice(), 16)));
 }
 
 #[test]

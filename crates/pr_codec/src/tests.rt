@@ -28,6 +28,16 @@ fn writes_eight_bytes_alone(rt: HostRuntime) {
 }
 
 #[test]
+fn adds_a_word_behind_others(rt: HostRuntime) -> Result<(), Fail> {
+    let mut bytes = vec![in rt.alloc(); 9u8]?;
+    push_word(&mut bytes, 0x0102_0304_0506_0708)?;
+    push_word(&mut bytes, 0xff)?;
+    let want = [9, 8, 7, 6, 5, 4, 3, 2, 1, 0xff, 0, 0, 0, 0, 0, 0, 0];
+    assert_eq!(rt; bytes.as_slice(), want.as_slice());
+    Ok(())
+}
+
+#[test]
 fn writes_and_reads_words(rt: HostRuntime) {
     let mut words = [0; 2];
     read_words(&BYTES, &mut words);

@@ -1,8 +1,9 @@
-ghost use Rattle.std.specs.Prelude.{◌≡◌, ◌+◌, ◌*◌, ◌≤◌, ◌<◌, ◌↔◌, ◌++◌, length, take, drop, IsErr, OnOk, IfOk, IfErr};
+ghost use Rattle.std.specs.Prelude.{◌≡◌, ◌+◌, ◌*◌, ◌≤◌, ◌<◌, ◌↔◌, ◌++◌, length, take, drop, vec_capacity, IsOk, IsErr, OnOk, OnErr, IfOk, IfErr};
 ghost use Rattle.pr_num.specs.Words.{word_bytes, words_bytes};
 ghost use Rattle.pr_codec.specs.Words.{word_at};
 
 use byteorder::{ByteOrder, LittleEndian};
+use pr_num::NoMemory;
 use thiserror::Error;
 
 /// How many bytes a word has.
@@ -37,6 +38,18 @@ pub fn put(out: &mut [u8], at: usize, v: u64)
     ensures { out.new ≡ take at out.old ++ word_bytes v ++ drop (at + 8) out.old }
 {
     LittleEndian::write_u64(&mut out[at..at + WORD], v);
+}
+
+/// Adds a word at the end, the least byte first. Where memory runs out the bytes stay as they are, and it does not while
+/// there is room for the word.
+#[tactic(auto, unfolding(pr_num::specs::Words::word_bytes))]
+pub fn push_word(out: &mut Vec<u8>, v: u64) -> Result<(), NoMemory>
+    ensures ok { OnOk result (out.new.items ≡ out.old.items ++ word_bytes v) }
+    ensures err { OnErr result (out.new.items ≡ out.old.items) }
+    ensures room { length out.old.items + 8 ≤ vec_capacity out.old → IsOk result }
+{
+    out.extend_from_slice(&v.to_le_bytes())?;
+    Ok(())
 }
 
 /// Reads as many words as `out` has places, from bytes that are as many words. Takes no memory.

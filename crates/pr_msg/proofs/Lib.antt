@@ -1,4 +1,3 @@
 pub mod DecodeLemmas
 pub mod EncodeLemmas
-pub mod ReadLemmas
 pub mod RunFlagBounds

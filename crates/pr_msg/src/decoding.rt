@@ -5,7 +5,7 @@ ghost use Rattle.pr_msg.specs.Beginnings.{BeginsWith};
 ghost use Rattle.pr_num.specs.Messages.{nth_word, one_word, two_words, three_words, eleven_words, message_read, bad_operand, in_columns, tail_length, operand_count, unpadded_length, spelt_length, with_tail, first_message};
 
 use crate::paddings::padding;
-use byteorder::{ByteOrder, LittleEndian};
+use pr_codec::{WORD, word};
 use pr_num::{Message, MsgFault};
 
 /// The most milliseconds that a wait may ask for.
@@ -15,13 +15,12 @@ const LONGEST_WAIT: u64 = 1_000_000_000;
 const MOST_BYTES: u64 = 4_096;
 
 /// The word at a place, counted in words.
-#[tactic(auto, unfolding(pr_num::specs::Messages::nth_word, pr_num::specs::Words::word_of), using(crate::proofs::ReadLemmas::reads))]
+#[tactic(auto, unfolding(pr_num::specs::Messages::nth_word))]
 fn nth_word(bytes: &[u8], place: usize) -> u64
     requires { 8 * place + 8 ≤ length bytes.now }
     ensures { result ≡ nth_word bytes.now place }
 {
-    let at = 8 * place;
-    LittleEndian::read_u64(&bytes[at..at + 8])
+    word(bytes, WORD * place).unwrap()
 }
 
 #[tactic(auto, unfolding(pr_num::specs::Messages::one_word))]

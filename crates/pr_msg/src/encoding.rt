@@ -1,9 +1,10 @@
 ghost use Rattle.std.specs.Prelude.{◌≡◌, ◌++◌, ◌≤◌, length, replicate, None, IfOk, OnOk};
 ghost use Rattle.std.specs.List.{All};
-ghost use Rattle.pr_num.specs.Words.{IsWord, word_bytes, words_bytes};
+ghost use Rattle.pr_num.specs.Words.{IsWord, words_bytes};
 ghost use Rattle.pr_num.specs.Messages.{Spells, spelling, message_code, operands, operand_count, bad_operand, tail_length, padding};
 
 use crate::paddings::padding;
+use pr_codec::push_word;
 use pr_num::{Bytes, Message, NoMemory};
 use std::alloc::{AllocError, Global};
 
@@ -19,7 +20,7 @@ pub fn encode(alloc: Global, message: &Message, tail: &[u8]) -> Result<Bytes, No
     ensures spelt { bad_operand message.now ≡ None → IfOk result (λ b. Spells b message.now tail.now) }
 {
     let mut bytes = Vec::new(alloc);
-    put_word(&mut bytes, code(message))?;
+    push_word(&mut bytes, code(message))?;
     put_operands(&mut bytes, message)?;
     bytes.extend_from_slice(tail)?;
     put_padding(&mut bytes, tail.len())?;
@@ -60,7 +61,7 @@ fn code(message: &Message) -> u64
 
 /// Adds the operand words of a message.
 #[tactic(auto, unfolding(pr_num::specs::Messages::operands, pr_num::specs::Messages::operand_count))]
-fn put_operands(out: &mut Vec<u8>, message: &Message) -> Result<(), AllocError>
+fn put_operands(out: &mut Vec<u8>, message: &Message) -> Result<(), NoMemory>
     ensures bytes { OnOk result (out.new.items ≡ out.old.items ++ words_bytes (operands message.now)) }
     ensures words { All IsWord (operands message.now) }
     ensures count { length (operands message.now) ≡ operand_count message.now }
@@ -85,21 +86,14 @@ fn put_operands(out: &mut Vec<u8>, message: &Message) -> Result<(), AllocError>
     }
 }
 
-fn put_words(out: &mut Vec<u8>, words: &[u64]) -> Result<(), AllocError>
+fn put_words(out: &mut Vec<u8>, words: &[u64]) -> Result<(), NoMemory>
     ensures bytes { OnOk result (out.new.items ≡ out.old.items ++ words_bytes words.now) }
     ensures words { All IsWord words.now }
 {
     for word in words {
-        put_word(out, *word)?;
+        push_word(out, *word)?;
     }
     Ok(())
-}
-
-#[tactic(auto, unfolding(pr_num::specs::Words::word_bytes))]
-fn put_word(out: &mut Vec<u8>, word: u64) -> Result<(), AllocError>
-    ensures { OnOk result (out.new.items ≡ out.old.items ++ word_bytes word) }
-{
-    out.extend_from_slice(&word.to_le_bytes())
 }
 
 /// Adds the zeros that pad so many bytes to whole words.

@@ -1,14 +1,14 @@
 ghost use Rattle.std.specs.Prelude.{◌≡◌, ◌++◌, ◌<◌, ◌^◌, OnOk};
 ghost use Rattle.std.specs.List.{All};
 ghost use Rattle.pr_num.specs.Records.{lwpstatus_ranges, map_entry_ranges, watch_entry_ranges, fd_entry_ranges, list_entry_ranges};
-ghost use Rattle.pr_num.specs.Words.{IsWord, word_bytes, words_bytes};
+ghost use Rattle.pr_num.specs.Words.{IsWord, words_bytes};
 ghost use Rattle.pr_rec.specs.Lists.{AreInRange, watch_entry_words_of, fd_entry_words_of, fd_kind_number, access_number, list_entry_words_of};
 ghost use Rattle.pr_rec.specs.RecordWords.{lwpstatus_words_of, map_entry_words_of};
 
 use crate::fields::name_words;
 use crate::{Descriptor, LwpStatus, MapEntry};
-use pr_num::{Access, WatchFlags};
-use std::alloc::AllocError;
+use pr_codec::push_word;
+use pr_num::{Access, NoMemory, WatchFlags};
 
 /// A watched area (proc(4), "watch").
 #[derive(Clone, Copy, Debug, PartialEq, Eq)]
@@ -109,7 +109,7 @@ pub(crate) trait Entry {
     ghost is_ranged: { Self → Type 0 };
 
     /// Adds the words of the entry.
-    fn append(&self, out: &mut Vec<u8>) -> Result<(), AllocError>
+    fn append(&self, out: &mut Vec<u8>) -> Result<(), NoMemory>
         ensures bytes { OnOk result (out.new.items ≡ out.old.items ++ words_bytes (words self.now)) }
         ensures ranged { is_ranged self.now };
 }
@@ -120,7 +120,7 @@ impl Entry for LwpStatus {
     // The number of what it is stopped for may be any.
     ghost is_ranged = { λ l. l.what < 32 → AreInRange lwpstatus_ranges (lwpstatus_words_of l) };
 
-    fn append(&self, out: &mut Vec<u8>) -> Result<(), AllocError> {
+    fn append(&self, out: &mut Vec<u8>) -> Result<(), NoMemory> {
         append_words(out, &self.words())
     }
 }
@@ -130,7 +130,7 @@ impl Entry for MapEntry {
 
     ghost is_ranged = { λ m. AreInRange map_entry_ranges (map_entry_words_of m) };
 
-    fn append(&self, out: &mut Vec<u8>) -> Result<(), AllocError> {
+    fn append(&self, out: &mut Vec<u8>) -> Result<(), NoMemory> {
         append_words(out, &self.words())
     }
 }
@@ -140,7 +140,7 @@ impl Entry for WatchEntry {
 
     ghost is_ranged = { λ w. AreInRange watch_entry_ranges (watch_entry_words_of w) };
 
-    fn append(&self, out: &mut Vec<u8>) -> Result<(), AllocError> {
+    fn append(&self, out: &mut Vec<u8>) -> Result<(), NoMemory> {
         append_words(out, &self.words())
     }
 }
@@ -150,7 +150,7 @@ impl Entry for FdEntry {
 
     ghost is_ranged = { λ d. AreInRange fd_entry_ranges (fd_entry_words_of d) };
 
-    fn append(&self, out: &mut Vec<u8>) -> Result<(), AllocError> {
+    fn append(&self, out: &mut Vec<u8>) -> Result<(), NoMemory> {
         append_words(out, &self.words())
     }
 }
@@ -160,7 +160,7 @@ impl Entry for ListEntry {
 
     ghost is_ranged = { λ p. AreInRange list_entry_ranges (list_entry_words_of p) };
 
-    fn append(&self, out: &mut Vec<u8>) -> Result<(), AllocError> {
+    fn append(&self, out: &mut Vec<u8>) -> Result<(), NoMemory> {
         append_words(out, &self.words())
     }
 }
@@ -178,19 +178,12 @@ fn access_word(access: Access) -> u64
 }
 
 /// Adds words to a record.
-pub(crate) fn append_words(out: &mut Vec<u8>, words: &[u64]) -> Result<(), AllocError>
+pub(crate) fn append_words(out: &mut Vec<u8>, words: &[u64]) -> Result<(), NoMemory>
     ensures bytes { OnOk result (out.new.items ≡ out.old.items ++ words_bytes words.now) }
     ensures words { All IsWord words.now }
 {
     for word in words {
-        append_word(out, *word)?;
+        push_word(out, *word)?;
     }
     Ok(())
-}
-
-#[tactic(auto, unfolding(pr_num::specs::Words::word_bytes))]
-fn append_word(out: &mut Vec<u8>, word: u64) -> Result<(), AllocError>
-    ensures { OnOk result (out.new.items ≡ out.old.items ++ word_bytes word) }
-{
-    out.extend_from_slice(&word.to_le_bytes())
 }

@@ -10,7 +10,7 @@ use crate::columns::put_record;
 use crate::entries::{Entry, append_words};
 use crate::{FdEntry, ListEntry, LwpStatus, MapEntry, WatchEntry};
 use pr_num::{Bytes, NoMemory};
-use std::alloc::{AllocError, Global};
+use std::alloc::Global;
 
 /// The record of all lwps of a process: how many there are, and the status of each (proc(4), "lstatus").
 pub fn write_lstatus(alloc: Global, lwps: &[LwpStatus]) -> Result<Bytes, NoMemory>
@@ -74,7 +74,7 @@ pub fn encode_sigact(dispositions: &[u64; 31]) -> [u8; 248]
     bytes
 }
 
-fn append_entries<E: Entry>(out: &mut Vec<u8>, entries: &[E]) -> Result<(), AllocError>
+fn append_entries<E: Entry>(out: &mut Vec<u8>, entries: &[E]) -> Result<(), NoMemory>
     ensures bytes { OnOk result (out.new.items ≡ out.old.items ++ words_bytes (entries_words (map E.words entries.now))) }
     ensures ranged { OnOk result (All E.is_ranged entries.now) }
 {

@@ -29,7 +29,9 @@ fn ends_at_4096_bytes(rt: HostRuntime) -> Result<(), Fail> {
     assert_eq!(rt; line.hex(0x10), Err(TooLong));
     assert_eq!(rt; line.quoted(b"", true), Err(TooLong));
     assert_eq!(rt; line.quoted(b"ab", false), Err(TooLong));
+    assert_eq!(rt; line.hex8(1), Err(TooLong));
     assert_eq!(rt; line.len(), 4093);
+    assert_eq!(rt; line.bytes().last().copied(), Some(b'.'));
     assert_eq!(rt; line.hex(0xf), Ok(()));
     assert_eq!(rt; line.len(), 4096);
     line.clear();
