@@ -372,7 +372,7 @@ fn add(rt: &impl Abort, alloc: Global, files: &mut Files) -> Result<(), Fail> {
     let bytes = Bytes::from_vec(Vec::from_slice(alloc, b"bc")?);
     assert!(rt; files.file_count() < 256);
     assert!(rt; !files.has_file(&name));
-    files.add(alloc, name, bytes)?;
+    files.add(name, bytes)?;
     Ok(())
 }
 
