@@ -31,7 +31,7 @@ at_same here n = ap (λ b. cond b n 0) (eq-eqb here here refl)
 elsewhere : (here place n : ℕ) → here ≢ place → only_at here place n ≡ 0
 elsewhere here place n ne = ap (λ b. cond b n 0) (ne_eqb here place ne)
 
-from_flat : {X : Type 0} (found : Option (Option X)) (x : X) → option_flatten found ≡ Some x → found ≡ Some (Some x)
+pub from_flat : {X : Type 0} (found : Option (Option X)) (x : X) → option_flatten found ≡ Some x → found ≡ Some (Some x)
 from_flat None x e = cc
 from_flat (Some None) x e = cc
 from_flat (Some (Some y)) x e = ap Some e
@@ -305,7 +305,7 @@ from_pair : (o : Option OpenFile) (here : ℕ) (found : ℕ × OpenFile) → opt
 from_pair None here found e = cc
 from_pair (Some f) here found e = let same = same_Some (here, f) found e in (ap (λ x. x.0) same, ap (λ x. Some x.1) same)
 
-open_of-there : (t : FileTable) (fds : Descriptors) (fd : ℕ) (found : ℕ × OpenFile) → open_of t fds fd ≡ Some found → at_place t.opens found.0 ≡ Some found.1
+pub open_of-there : (t : FileTable) (fds : Descriptors) (fd : ℕ) (found : ℕ × OpenFile) → open_of t fds fd ≡ Some found → at_place t.opens found.0 ≡ Some found.1
 unfolding open_of
 open_of-there t fds fd found e = at (at_place fds fd) e
   where
@@ -339,11 +339,11 @@ chosen : (b : ℕ × OpenFile → Bool) (o : Option (ℕ × OpenFile)) (found : 
 chosen b None found e = cc
 chosen b (Some x) found e = ap Some (cond_some (b x) x found e).1
 
-read-there : (t : FileTable) (fds : Descriptors) (fd : ℕ) (found : ℕ × OpenFile) → open_for_reading t fds fd ≡ Some found → at_place t.opens found.0 ≡ Some found.1
+pub read-there : (t : FileTable) (fds : Descriptors) (fd : ℕ) (found : ℕ × OpenFile) → open_for_reading t fds fd ≡ Some found → at_place t.opens found.0 ≡ Some found.1
 unfolding open_for_reading
 read-there t fds fd found e = open_of-there t fds fd found (chosen (λ x. reads x.1.access) (open_of t fds fd) found e)
 
-write-there : (t : FileTable) (fds : Descriptors) (fd : ℕ) (found : ℕ × OpenFile) → open_for_writing t fds fd ≡ Some found → at_place t.opens found.0 ≡ Some found.1
+pub write-there : (t : FileTable) (fds : Descriptors) (fd : ℕ) (found : ℕ × OpenFile) → open_for_writing t fds fd ≡ Some found → at_place t.opens found.0 ≡ Some found.1
 unfolding open_for_writing
 write-there t fds fd found e = open_of-there t fds fd found (chosen (λ x. writes x.1.access) (open_of t fds fd) found e)
 
@@ -380,7 +380,7 @@ users-read t fds fd most place = at_open (open_for_reading t fds fd) refl
     at_open None e = rw e refl
     at_open (Some found) e = rw e (users-read_open t found.0 most place found.1 (read-there t fds fd found e))
 
-opens-file_bytes : (t : FileTable) (file : ℕ) (bytes : List ℕ) → (with_file_bytes t file bytes).opens ≡ t.opens
+pub opens-file_bytes : (t : FileTable) (file : ℕ) (bytes : List ℕ) → (with_file_bytes t file bytes).opens ≡ t.opens
 unfolding with_file_bytes
 opens-file_bytes t file bytes = at (slice_get t.files file) refl
   where

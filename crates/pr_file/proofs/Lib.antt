@@ -3,3 +3,4 @@ pub mod PlaceLemmas
 pub mod TableLemmas
 pub mod UserLemmas
 pub mod CountLemmas
+pub mod EndLemmas

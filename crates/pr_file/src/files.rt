@@ -89,7 +89,7 @@ impl Files {
     }
 
     /// Adds a file, whose name no file has yet.
-    pub fn add(&mut self, _alloc: Global, name: Name, bytes: Bytes) -> Result<(), NoMemory>
+    pub fn add(&mut self, name: Name, bytes: Bytes) -> Result<(), NoMemory>
         requires few { length self.old.files < 256 }
         requires short { length bytes ≤ 65536 }
         requires new_name { file_named self.old name ≡ None }

@@ -12,5 +12,5 @@ mod tests;
 
 pub use fds::Fds;
 pub use files::Files;
-pub use laws::users_are_counted;
+pub use laws::{pipes_have_open_ends, users_are_counted};
 pub use pr_parts::{FileNo, Stat};

@@ -13,10 +13,10 @@ enum Step {
     Make,
     Close(u64),
     CloseAll,
-    /// The write end's descriptor.
+    /// Makes a pipe, and keeps the descriptor of its write end.
     Pipe,
     Dup(u64),
-    /// The number of the process that goes on as a child: 1.
+    /// Goes on with the descriptors of a forked child, beside which the parent's still count; 1.
     Fork,
     Seek(u64, u64),
     /// Reads so many bytes, at most 4,096.
@@ -25,6 +25,8 @@ enum Step {
     Write(u64, usize),
     /// The size that fstat tells.
     Size(u64),
+    /// What a descriptor is open for: 1 for reading, 2 for writing, 3 for both, 0 for neither.
+    Directions(u64),
 }
 
 #[derive(Drop)]
@@ -47,6 +49,7 @@ impl Process {
             Step::Read(fd, count) => self.read(fd, count),
             Step::Write(fd, count) => self.write(alloc, fd, count),
             Step::Size(fd) => self.size(fd),
+            Step::Directions(fd) => self.directions(fd),
         }
     }
 
@@ -89,6 +92,12 @@ impl Process {
             Ok(stat) => Ok(stat.size),
             Err(why) => Err(why),
         }
+    }
+
+    fn directions(&self, fd: u64) -> Result<u64, FileNo> {
+        let reads = self.files.can_read(&self.fds, fd) as u64;
+        let writes = self.files.can_write(&self.fds, fd) as u64;
+        Ok(reads + 2 * writes)
     }
 
     fn open(&mut self, alloc: Global, name: &[u8], flags: u64) -> Result<u64, FileNo> {
@@ -218,7 +227,86 @@ fn pipes_wait_and_end(rt: HostRuntime) {
     );
 }
 
-/// There are 64 descriptors, and at most 256 pipes.
+/// An offset can stand at the longest file's end, and not behind it.
+#[test]
+fn offsets_have_an_end(rt: HostRuntime) {
+    play(
+        &rt,
+        rt.alloc(),
+        &[
+            (Step::Open(258), Ok(0)),
+            (Step::Seek(0, 65_537), Err(FileNo::BadOffset)),
+            (Step::Seek(0, 65_536), Ok(65_536)),
+            (Step::Read(0, 1), Ok(0)),
+            (Step::Write(0, 1), Err(FileNo::NoSpace)),
+            (Step::Write(0, 0), Ok(0)),
+            (Step::Size(0), Ok(0)),
+        ],
+    );
+}
+
+/// What a pipe's descriptor is open for does not hang on whether a call would wait.
+#[test]
+fn pipes_have_directions(rt: HostRuntime) {
+    play(
+        &rt,
+        rt.alloc(),
+        &[
+            (Step::Directions(0), Ok(0)),
+            (Step::Pipe, Ok(1)),
+            (Step::Directions(0), Ok(1)),
+            (Step::Directions(1), Ok(2)),
+            (Step::Write(1, 4096), Ok(4096)),
+            (Step::Directions(0), Ok(1)),
+            (Step::Directions(1), Ok(2)),
+            (Step::Read(0, 4096), Ok(4096)),
+            (Step::Close(1), Ok(0)),
+            (Step::Directions(0), Ok(1)),
+            (Step::Directions(1), Ok(0)),
+            (Step::Directions(64), Ok(0)),
+        ],
+    );
+}
+
+/// A file's descriptor is open for what its opening asked.
+#[test]
+fn files_have_directions(rt: HostRuntime) {
+    play(
+        &rt,
+        rt.alloc(),
+        &[
+            (Step::Open(256), Ok(0)),
+            (Step::Open(1), Ok(1)),
+            (Step::Open(2), Ok(2)),
+            (Step::Dup(1), Ok(3)),
+            (Step::Directions(0), Ok(1)),
+            (Step::Directions(1), Ok(2)),
+            (Step::Directions(2), Ok(3)),
+            (Step::Directions(3), Ok(2)),
+        ],
+    );
+}
+
+/// A duplicate wants one free descriptor, a pipe two.
+#[test]
+fn descriptors_run_out(rt: HostRuntime) {
+    let alloc = rt.alloc();
+    let mut process = Process {
+        files: Files::new(alloc),
+        fds: Fds::new(),
+    };
+    assert_eq!(rt; process.step(alloc, Step::Open(256)), Ok(0));
+    for fd in 1..63_u64 {
+        assert_eq!(rt; process.step(alloc, Step::Dup(0)), Ok(fd));
+    }
+    assert_eq!(rt; process.step(alloc, Step::Pipe), Err(FileNo::NoPlace));
+    assert_eq!(rt; process.step(alloc, Step::Dup(0)), Ok(63));
+    assert_eq!(rt; process.step(alloc, Step::Dup(0)), Err(FileNo::NoPlace));
+    assert_eq!(rt; process.step(alloc, Step::Dup(64)), Err(FileNo::BadFd));
+    assert_eq!(rt; process.step(alloc, Step::Open(0)), Err(FileNo::NoPlace));
+}
+
+/// There are 64 descriptors, and at most 256 pipes. In the last round the want of a descriptor comes before the full table.
 #[test]
 fn tables_are_full(rt: HostRuntime) {
     let alloc = rt.alloc();
@@ -238,7 +326,7 @@ fn tables_are_full(rt: HostRuntime) {
     assert_eq!(rt; process.step(alloc, Step::Pipe), Err(FileNo::TableFull));
 }
 
-/// There are at most 256 files.
+/// There are at most 256 files. Where no descriptor is free either, that comes first.
 #[test]
 fn files_are_counted(rt: HostRuntime) {
     let alloc = rt.alloc();
@@ -252,6 +340,10 @@ fn files_are_counted(rt: HostRuntime) {
     }
     assert_eq!(rt; process.step(alloc, Step::Make), Err(FileNo::TableFull));
     assert_eq!(rt; process.open(alloc, b"f9", 256), Ok(0));
+    for fd in 1..64_u64 {
+        assert_eq!(rt; process.step(alloc, Step::Dup(0)), Ok(fd));
+    }
+    assert_eq!(rt; process.step(alloc, Step::Make), Err(FileNo::NoPlace));
 }
 
 /// What stands between a file's end and what is written behind it is zeros.
@@ -280,7 +372,7 @@ fn add(rt: &impl Abort, alloc: Global, files: &mut Files) -> Result<(), Fail> {
     let bytes = Bytes::from_vec(Vec::from_slice(alloc, b"bc")?);
     assert!(rt; files.file_count() < 256);
     assert!(rt; !files.has_file(&name));
-    files.add(alloc, name, bytes)?;
+    files.add(name, bytes)?;
     Ok(())
 }
 

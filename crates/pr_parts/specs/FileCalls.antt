@@ -1,4 +1,4 @@
-use Rattle.std.specs.Prelude.{is_some, count_by, unwrap_or, slice_get, true, false, ◌+◌, ◌%◌, ◌==◌, ℕ, Bool, List, [], ◌∷◌, ◌++◌, length, Option, Some, None, Result, Ok, Err, nat_lt, nat_le, ◌||◌, ◌&&◌, if◌then◌else◌, slice_set}
+use Rattle.std.specs.Prelude.{is_some, is_ok, count_by, unwrap_or, slice_get, true, false, ◌+◌, ◌%◌, ◌==◌, ℕ, Bool, List, [], ◌∷◌, ◌++◌, length, Option, Some, None, Result, Ok, Err, nat_lt, nat_le, ◌||◌, ◌&&◌, if◌then◌else◌, slice_set}
 use Rattle.std.specs.Option.{option_map, option_and_then}
 use Rattle.pr_num.specs.Files.{FileTable, Descriptors, with_user_gone, pipe_of}
 use Rattle.pr_num.specs.declared.files.Access.{Access}
@@ -23,9 +23,9 @@ pub record FileEffect (A : Type 0) : Type 0 where
 abbrev pub refused : {A : Type 0} → FileTable → Descriptors → FileNo → FileEffect A
 refused t fds why = record { files = t; fds = fds; answer = Err why }
 
--- what a call does that may find no memory: where it found none it was refused
+-- what a call does that may find no memory: where it found none it was refused, but every other refusal comes before that
 abbrev pub unless_no_memory : {A : Type 0} → FileTable → Descriptors → Result A FileNo → FileEffect A → FileEffect A
-unless_no_memory t fds (Err NoMemory) done = refused t fds NoMemory
+unless_no_memory t fds (Err NoMemory) done = if is_ok done.answer then refused t fds NoMemory else done
 unless_no_memory t fds _ done = done
 
 -- no file, pipe or open file

@@ -1,7 +1,7 @@
 use Rattle.std.specs.Prelude.{◌≡◌, ◌==◌, ◌≤◌, ◌+◌, ◌<◌, ◌^◌, ◌&&◌, ℕ, Bool, true, false, count_by, not, List, [], ◌∷◌, length, Option, Some, None, is_some, is_none, nat_lt, drop, position, slice_get, bytes_eq}
 use Rattle.std.specs.List.{All, list_any, position_or_len}
 use Rattle.std.specs.Option.{option_map, option_flatten}
-use Rattle.pr_num.specs.Files.{FileTable, Descriptors}
+use Rattle.pr_num.specs.Files.{FileTable, Descriptors, is_end_of}
 use Rattle.pr_num.specs.declared.files.OpenFile.{OpenFile}
 use Rattle.pr_num.specs.declared.files.StoredFile.{StoredFile}
 use Rattle.pr_num.specs.declared.files.Target.{Target}
@@ -104,6 +104,10 @@ HasRoomAt more (Some o) = o.users + more < 2 ^ 32
 
 pub record HasRoom (t : FileTable) (more : ℕ) : Type 0 where
   pub each : All (HasRoomAt more) t.opens
+
+-- Each pipe that stands has an end that is open.
+pub record PipesHaveEnds (t : FileTable) : Type 0 where
+  pub each : (pipe : ℕ) → is_some (at_place t.pipes pipe) ≡ true → list_any (is_end_of pipe) t.opens ≡ true
 
 -- ---- which descriptors are open
 
