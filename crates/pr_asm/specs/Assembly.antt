@@ -116,7 +116,7 @@ unfoldable pub assembled : List ℕ → ℕ → List (Result Statement AsmKind) 
 assembled name first reads = with_lines (place_in first reads) first (program name [] [] []) reads
 
 -- The program of this name that a text spells, whose lines count from `first`, or the first line that is refused. First
--- each line is read on its own, then the names of the well formed lines are placed, and then the program is put together
--- line by line.
+-- each line is read on its own, then the names of the well formed lines are placed, and then the program is put
+-- together line by line.
 abbrev pub program_of : List ℕ → List ℕ → ℕ → Result Program AsmFault
 program_of name text first = assembled name first (reads_of text)

@@ -32,7 +32,8 @@ unfoldable mutual
   hex_bytes (h ∷ l ∷ bs) =
       option_and_then (λ high. option_and_then (λ low. before (high * 16 + low) (bytes_between bs)) (digit_of l)) (digit_of h)
 
--- The bytes of a text in quotes. The last byte of the word is the quote that closes it, which has no backslash before it.
+-- The bytes of a text in quotes. The last byte of the word is the quote that closes it, which has no backslash before
+-- it.
 unfoldable pub quoted_bytes : List ℕ → Option (List ℕ)
 quoted_bytes word =
     if nat_le 2 (length word) && (slice_index word 0 == 34) && (slice_index word (length word - 1) == 34) && not (slice_index word (length word - 2) == 92)

@@ -12,8 +12,8 @@ abbrev pub reaches : Option (List ℕ × ℕ) → ℕ → Bool
 reaches None at = true
 reaches (Some best) at = nat_le best.1 at
 
--- the better of the best label so far, with its address, and one more: a higher one at or below pc, or a later one at the
--- same address
+-- the better of the best label so far, with its address, and one more: a higher one at or below pc, or a later one at
+-- the same address
 unfoldable pub nearer : ℕ → Option (List ℕ × ℕ) → Label → Option (List ℕ × ℕ)
 nearer pc best l =
     if nat_le (label_address l) pc && reaches best (label_address l) then Some (l.name, label_address l) else best

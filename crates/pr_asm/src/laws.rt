@@ -14,9 +14,8 @@ pub fn a_refusal_names_the_first_line()
         → IsFirstFault name text first fault }
 {}
 
-/// A statement is read back from the line that spells it, and the text of statements, one on a line, is the program that
-/// these statements make, or stops where they stop. Without statements the text is empty, and so is the
-/// program.
+/// A statement is read back from the line that spells it, and the text of statements, one on a line, is the program
+/// that these statements make, or stops where they stop. Without statements the text is empty, and so is the program.
 pub fn statements_are_read_as_they_are_spelled()
     ensures lines { (s : Statement) → IsStatement s → statement_of (spelled s) ≡ Ok s }
     ensures programs { (name : List ℕ) (first : ℕ) (statements : List Statement) → AllByRecursion IsStatement statements

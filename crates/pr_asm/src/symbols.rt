@@ -5,8 +5,8 @@ ghost use Rattle.pr_asm.specs.Symbols.{label_address, nearer, nearest, symbol_at
 
 use crate::{Label, Program};
 
-/// The better of the best label so far, with its address, and one more: a higher one at or below `pc`, or a later one at
-/// the same address.
+/// The better of the best label so far, with its address, and one more: a higher one at or below `pc`, or a later one
+/// at the same address.
 #[tactic(auto, unfolding(crate::specs::Symbols::nearer))]
 fn nearer<'a>(pc: u64, best: Option<(&'a [u8], u64)>, label: &'a Label) -> Option<(&'a [u8], u64)>
     requires place { label.now.place ≤ 4096 }

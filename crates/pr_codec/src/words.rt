@@ -40,8 +40,8 @@ pub fn put(out: &mut [u8], at: usize, v: u64)
     LittleEndian::write_u64(&mut out[at..at + WORD], v);
 }
 
-/// Adds a word at the end, the least byte first. Where memory runs out the bytes stay as they are, and it does not while
-/// there is room for the word.
+/// Adds a word at the end, the least byte first. Where memory runs out the bytes stay as they are, and it does not
+/// while there is room for the word.
 #[tactic(auto, unfolding(pr_num::specs::Words::word_bytes))]
 pub fn push_word(out: &mut Vec<u8>, v: u64) -> Result<(), NoMemory>
     ensures ok { OnOk result (out.new.items ≡ out.old.items ++ word_bytes v) }

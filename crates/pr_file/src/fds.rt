@@ -5,8 +5,8 @@ ghost use Rattle.pr_parts.specs.FileTables.{at_place, free_fd, free_fd_behind};
 use crate::places::first_free;
 use std::marker::Model;
 
-/// The 64 descriptors of a process, kept in place (dup(2)), each free or standing for an open file, and seen by contracts
-/// as the list of the open files' places.
+/// The 64 descriptors of a process, kept in place (dup(2)), each free or standing for an open file, and seen by
+/// contracts as the list of the open files' places.
 #[derive(Drop)]
 pub struct Fds {
     places: [Option<usize>; 64],

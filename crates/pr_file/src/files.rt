@@ -122,8 +122,8 @@ impl Files {
         *fds = Fds::new();
     }
 
-    /// Lets the least free descriptor stand for the open file of another one (dup(2)): `BadFd` exactly where that is not
-    /// open, and then `NoPlace` exactly where no descriptor is free.
+    /// Lets the least free descriptor stand for the open file of another one (dup(2)): `BadFd` exactly where that is
+    /// not open, and then `NoPlace` exactly where no descriptor is free.
     #[tactic(auto, unfolding(pr_parts::specs::FileCalls::duplicated))]
     pub fn dup(&mut self, fds: &mut Fds, fd: u64) -> Result<u64, FileNo>
         requires { HasRoom self.old 1 }
@@ -192,10 +192,10 @@ impl Files {
         Ok(fd as u64)
     }
 
-    /// Opens the file of a name for the least free descriptor (open(2)). The flags are 0 for reading, 1 for writing, 2 for
-    /// both, and 256 beside them to make the file where there is none. `NoFile` comes exactly where there is none and none
-    /// is to be made, then `NoPlace` exactly where no descriptor is free, then `TableFull` exactly where the file is to be
-    /// made and 256 stand. Nothing is changed by a refusal.
+    /// Opens the file of a name for the least free descriptor (open(2)). The flags are 0 for reading, 1 for writing, 2
+    /// for both, and 256 beside them to make the file where there is none. `NoFile` comes exactly where there is none
+    /// and none is to be made, then `NoPlace` exactly where no descriptor is free, then `TableFull` exactly where the
+    /// file is to be made and 256 stand. Nothing is changed by a refusal.
     #[tactic(auto, unfolding(pr_parts::specs::FileCalls::opened))]
     pub fn open(
         &mut self,
@@ -220,8 +220,9 @@ impl Files {
         }
     }
 
-    /// Makes a pipe (pipe(2)), and answers the descriptors of its read end and its write end, which are the two least free
-    /// ones. `NoPlace` comes exactly where fewer than two are free, and then `TableFull` exactly where 256 pipes stand.
+    /// Makes a pipe (pipe(2)), and answers the descriptors of its read end and its write end, which are the two least
+    /// free ones. `NoPlace` comes exactly where fewer than two are free, and then `TableFull` exactly where 256 pipes
+    /// stand.
     #[tactic(auto, unfolding(pr_parts::specs::FileCalls::piped, pr_parts::specs::FileCalls::made_pipe))]
     pub fn pipe(&mut self, alloc: Global, fds: &mut Fds) -> Result<(u64, u64), FileNo>
         ensures { (record { files = self.new; fds = fds.new; answer = result }) ≡ unless_no_memory self.old fds.old result (piped self.old fds.old) }
@@ -241,9 +242,9 @@ impl Files {
         Ok((reader as u64, writer as u64))
     }
 
-    /// Moves the offset of an open file (lseek(2)), and answers it: `BadFd` exactly where the descriptor is not open, then
-    /// `NotSeekable` exactly where it stands for an end of a pipe, then `BadOffset` exactly where the offset is above
-    /// 65,536.
+    /// Moves the offset of an open file (lseek(2)), and answers it: `BadFd` exactly where the descriptor is not open,
+    /// then `NotSeekable` exactly where it stands for an end of a pipe, then `BadOffset` exactly where the offset is
+    /// above 65,536.
     #[tactic(auto, unfolding(pr_parts::specs::FileCalls::sought))]
     pub fn seek(&mut self, fds: &Fds, fd: u64, offset: u64) -> Result<u64, FileNo>
         ensures { (record { files = self.new; fds = fds.now; answer = result }) ≡ sought self.old fds.now fd offset }

@@ -4,11 +4,11 @@ ghost use Rattle.pr_parts.specs.FileTables.{AreOpenIn, CountsUsers, HasRoom, IsF
 ghost use Rattle.pr_parts.specs.FileCalls.{closed, duplicated, no_files, opened, piped, sought, with_all_shared, with_file};
 ghost use Rattle.pr_parts.specs.FileTransfers.{read_fd, write_fd};
 
-// What shows that open files count the descriptors that stand for them, and that pipes have open ends. Each function carries laws in its contract, and does
-// nothing.
+// What shows that open files count the descriptors that stand for them, and that pipes have open ends. Each function
+// carries laws in its contract, and does nothing.
 
-/// A call changes the count of each open file as it changes the descriptors that stand for it. So the counts of a system are
-/// those of all its descriptors, and have room for more where there are few enough.
+/// A call changes the count of each open file as it changes the descriptors that stand for it. So the counts of a
+/// system are those of all its descriptors, and have room for more where there are few enough.
 #[tactic(auto, using(crate::proofs::CountLemmas::countings))]
 pub fn users_are_counted()
     ensures closed { (t : FileTable) (fds : Descriptors) (fd : ℕ) → IsFileTable t → CountsUsers t fds (closed t fds fd).files (closed t fds fd).fds }
@@ -23,8 +23,8 @@ pub fn users_are_counted()
     ensures room { (t : FileTable) (more : ℕ) → ((place : ℕ) → users_at t place + more < 2 ^ 32) → HasRoom t more }
 {}
 
-/// A pipe that stands has an end that is open, whatever calls were made: at first no pipe stands, and each call keeps it. So
-/// no idle pipe takes a place of those that can stand.
+/// A pipe that stands has an end that is open, whatever calls were made: at first no pipe stands, and each call keeps
+/// it. So no idle pipe takes a place of those that can stand.
 #[tactic(auto, using(crate::proofs::EndLemmas::ends_kept))]
 pub fn pipes_have_open_ends()
     ensures none { PipesHaveEnds no_files }

@@ -9,7 +9,8 @@ pub(crate) fn first_free<T>(places: &[Option<T>]) -> Option<usize>
     places.iter().position(|place| place.is_none())
 }
 
-/// Puts something at the least free place of a list with room for one more place, and answers the place. Takes no memory.
+/// Puts something at the least free place of a list with room for one more place, and answers the place. Takes no
+/// memory.
 #[tactic(auto, using(crate::proofs::PlaceLemmas::placings))]
 pub(crate) fn put<T: Drop>(places: &mut Vec<Option<T>>, item: T) -> usize
     requires { vec_len places.old < vec_capacity places.old }

@@ -306,7 +306,8 @@ fn descriptors_run_out(rt: HostRuntime) {
     assert_eq!(rt; process.step(alloc, Step::Open(0)), Err(FileNo::NoPlace));
 }
 
-/// There are 64 descriptors, and at most 256 pipes. In the last round the want of a descriptor comes before the full table.
+/// There are 64 descriptors, and at most 256 pipes. In the last round the want of a descriptor comes before the full
+/// table.
 #[test]
 fn tables_are_full(rt: HostRuntime) {
     let alloc = rt.alloc();

@@ -5,7 +5,8 @@ use Rattle.pr_num.specs.Spaces.{Space}
 use Rattle.pr_num.specs.declared.mappings.Mapping.{Mapping}
 use Rattle.pr_parts.specs.AddressSpaces.{gap_limit, meets}
 
--- an address, or the multiple of 4,096 behind a mapping that a range of this size from there meets; no more than the limit
+-- an address, or the multiple of 4,096 behind a mapping that a range of this size from there meets; no more than the
+-- limit
 unfoldable pub moved_behind : ℕ → ℕ → Mapping → ℕ
 moved_behind size at m = if meets at size m then rounded (min (m.at + length m.bytes) gap_limit) else at
 

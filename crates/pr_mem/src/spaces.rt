@@ -45,7 +45,8 @@ impl Space {
         }
     }
 
-    /// The space in which a program begins: its text and its data, each where it is not empty, and a stack of 4,096 bytes.
+    /// The space in which a program begins: its text and its data, each where it is not empty, and a stack of 4,096
+    /// bytes.
     pub fn first(alloc: Global, text: &[u8], bytes: &[u8]) -> Result<Space, NoMemory>
         requires text { length text.now ≤ 0x10000 }
         requires data { length bytes.now ≤ 0x10000 }
@@ -83,8 +84,8 @@ impl Space {
         Ok(())
     }
 
-    /// Writes bytes from an address on, which need these protections. Where that fails at a byte, the first such byte is
-    /// named, and the space stays as it is.
+    /// Writes bytes from an address on, which need these protections. Where that fails at a byte, the first such byte
+    /// is named, and the space stays as it is.
     pub fn write(&mut self, at: u64, bytes: &[u8], need: u8) -> Result<(), MemFault>
         ensures answer { result ≡ access_answer (bytes_for need self.old at (length bytes.now)) }
         ensures ok { OnOk result (self.new ≡ with_bytes at bytes.now self.old) }
@@ -95,9 +96,9 @@ impl Space {
         Ok(())
     }
 
-    /// Reads a text that ends with a zero byte, of which at most `max` bytes are looked at, and puts what stands before the
-    /// zero into the front of the buffer. `None` where these bytes have no zero. Where one of them cannot be read and none
-    /// before it is zero, the first such byte is named. Then, and without a zero, the buffer stays as it is.
+    /// Reads a text that ends with a zero byte, of which at most `max` bytes are looked at, and puts what stands before
+    /// the zero into the front of the buffer. `None` where these bytes have no zero. Where one of them cannot be read
+    /// and none before it is zero, the first such byte is named. Then, and without a zero, the buffer stays as it is.
     pub fn string_at(
         &self,
         at: u64,
@@ -111,8 +112,8 @@ impl Space {
         Ok(texts::read_text(&self.mappings, at, max, &mut out[..])?)
     }
 
-    /// Maps zero bytes. Where a mapping stands there, where more than 1 MiB would be mapped, or where memory runs out, the
-    /// space stays as it is.
+    /// Maps zero bytes. Where a mapping stands there, where more than 1 MiB would be mapped, or where memory runs out,
+    /// the space stays as it is.
     pub fn map(&mut self, alloc: Global, m: Map) -> Result<(), MemFault>
         requires size { 0 < m.size }
         requires end { m.at + m.size < 2 ^ 64 }
@@ -166,9 +167,9 @@ impl Space {
         Ok(())
     }
 
-    /// Moves the break, which ends the heap: the heap is as many bytes as lie below the break, rounded up to a multiple of
-    /// 4,096. Bytes that come to it are zero. Where more than 1 MiB would be mapped, or where memory runs out, the space
-    /// stays as it is.
+    /// Moves the break, which ends the heap: the heap is as many bytes as lie below the break, rounded up to a multiple
+    /// of 4,096. Bytes that come to it are zero. Where more than 1 MiB would be mapped, or where memory runs out, the
+    /// space stays as it is.
     pub fn brk(&mut self, alloc: Global, end: u64) -> Result<(), MemFault>
         requires least { heap_base ≤ end }
         requires most { end ≤ break_limit }

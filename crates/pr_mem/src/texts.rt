@@ -18,8 +18,8 @@ fn zero_in(bytes: &[u8]) -> Option<usize>
     bytes.iter().position(|byte| *byte == 0)
 }
 
-/// How long the text at an address is, of which at most `most` bytes are read, its zero byte too; `None` where these have
-/// no zero.
+/// How long the text at an address is, of which at most `most` bytes are read, its zero byte too; `None` where these
+/// have no zero.
 fn length_at(mappings: &[Mapping], at: u64, most: usize) -> Result<Option<usize>, BadByte>
     requires { IsSpace mappings.now }
     ensures { result ≡ length_read (text_at mappings.now at most) }

@@ -1,5 +1,5 @@
--- What the calls on memory make of an address space: mmap(2), munmap(2), mprotect(2), brk(2), and reads and writes of its
--- bytes. An address space is the list of its mappings.
+-- What the calls on memory make of an address space: mmap(2), munmap(2), mprotect(2), brk(2), and reads and writes of
+-- its bytes. An address space is the list of its mappings.
 use Rattle.std.specs.Prelude.{◌==◌, ◌&&◌, ◌||◌, ◌+◌, ◌-◌, ◌%◌, ◌^◌, ℕ, zero, suc, Bool, IsTrue, not, List, [], ◌∷◌, ◌++◌, length, replicate, take, map, slice_index, find, Option, Some, None, Result, Ok, Err, nat_lt, nat_le, if◌then◌else◌}
 use Rattle.std.specs.List.{list_any}
 use Rattle.pr_num.specs.Control.{prot_read}
@@ -122,8 +122,8 @@ LeavesHeapPlace m = IsTrue (is_break_heap m || (nat_le (m.at + length m.bytes) h
 unfoldable pub resized : ℕ → Mapping → Mapping
 resized size m = record m { bytes = take size m.bytes ++ replicate (size - length m.bytes) 0 }
 
--- A space with a heap of so many bytes, none where they are 0. A heap that grows or shrinks keeps what it allows; one that
--- is made anew can be read and written.
+-- A space with a heap of so many bytes, none where they are 0. A heap that grows or shrinks keeps what it allows; one
+-- that is made anew can be read and written.
 unfoldable pub with_heap : ℕ → Space → Space
 with_heap size space = of (find is_break_heap space)
   where
@@ -172,8 +172,8 @@ abbrev pub text_with : Result ℕ BadByte → Result (Option (List ℕ)) BadByte
 text_with (Err bad) behind = Err bad
 text_with (Ok byte) behind = if byte == 0 then Ok (Some []) else text_behind byte behind
 
--- The text at an address, as a path is read: the bytes up to the first zero among so many, all of which can be read. None
--- where there is no zero; the first byte that cannot be read, where none stands before it.
+-- The text at an address, as a path is read: the bytes up to the first zero among so many, all of which can be read.
+-- None where there is no zero; the first byte that cannot be read, where none stands before it.
 unfoldable pub text_at : Space → ℕ → ℕ → Result (Option (List ℕ)) BadByte
 text_at space address zero = Ok None
 text_at space address (suc most) =

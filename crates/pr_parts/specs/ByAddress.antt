@@ -1,8 +1,8 @@
 -- Ranges of addresses, and lists of what stands at addresses.
 use Rattle.std.specs.Prelude.{◌+◌, ◌&&◌, ℕ, Bool, List, [], ◌∷◌, nat_lt, if◌then◌else◌}
 
--- Whether two ranges have an address in common, each given by its first address and its size. Sums do not wrap: a range may
--- end at 2^64. Neither is to be empty.
+-- Whether two ranges have an address in common, each given by its first address and its size. Sums do not wrap: a range
+-- may end at 2^64. Neither is to be empty.
 abbrev pub ranges_meet : ℕ → ℕ → ℕ → ℕ → Bool
 ranges_meet a size b other_size = nat_lt a (b + other_size) && nat_lt b (a + size)
 

@@ -23,7 +23,8 @@ pub record FileEffect (A : Type 0) : Type 0 where
 abbrev pub refused : {A : Type 0} → FileTable → Descriptors → FileNo → FileEffect A
 refused t fds why = record { files = t; fds = fds; answer = Err why }
 
--- what a call does that may find no memory: where it found none it was refused, but every other refusal comes before that
+-- what a call does that may find no memory: where it found none it was refused, but every other refusal comes before
+-- that
 abbrev pub unless_no_memory : {A : Type 0} → FileTable → Descriptors → Result A FileNo → FileEffect A → FileEffect A
 unless_no_memory t fds (Err NoMemory) done = if is_ok done.answer then refused t fds NoMemory else done
 unless_no_memory t fds _ done = done

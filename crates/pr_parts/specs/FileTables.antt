@@ -132,7 +132,7 @@ count_at fds place = count_by (stands_for place) fds
 pub record AreOpenIn (fds : Descriptors) (t : FileTable) : Type 0 where
   pub each : (place : ℕ) → count_at fds place ≤ users_at t place
 
--- What a call of a process makes of the files and of its descriptors: each open file counts as many descriptors more, or
--- fewer, as now stand for it. So where the open files count all descriptors of all processes, they do so afterwards.
+-- What a call of a process makes of the files and of its descriptors: each open file counts as many descriptors more,
+-- or fewer, as now stand for it. So where the open files count all descriptors of all processes, they do so afterwards.
 pub record CountsUsers (t : FileTable) (fds : Descriptors) (files : FileTable) (after : Descriptors) : Type 0 where
   pub each : (place : ℕ) → users_at files place + count_at fds place ≡ users_at t place + count_at after place

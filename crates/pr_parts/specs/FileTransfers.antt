@@ -75,8 +75,8 @@ read_file t place o most = record {
   bytes = Ok (bytes_from (contents t o.target) o.offset most);
 }
 
--- A pipe gives the bytes that were written first, and loses them. An empty one gives none where nothing can write it any
--- more, and else the read waits, also one of no bytes.
+-- A pipe gives the bytes that were written first, and loses them. An empty one gives none where nothing can write it
+-- any more, and else the read waits, also one of no bytes.
 unfoldable pub read_pipe : FileTable → ℕ → ℕ → ReadEffect
 read_pipe t pipe most =
     if length (pipe_bytes t pipe) == 0

@@ -14,8 +14,8 @@ area_limit = 64
 abbrev pub IsBelow : Area → Area → Type 0
 IsBelow a b = a.at + a.size ≤ b.at
 
--- what the watched areas of a process keep: they stand by rising address and apart, none is empty or reaches past the last
--- address, and there are at most 64
+-- what the watched areas of a process keep: they stand by rising address and apart, none is empty or reaches past the
+-- last address, and there are at most 64
 pub record AreAreas (areas : List Area) : Type 0 where
   pub apart : AllPairs IsBelow areas
   pub not_empty : All (λ (a : Area). 0 < a.size) areas
@@ -63,8 +63,8 @@ abbrev pub first_hit : ℕ → Option Area → Option (ℕ × Bool) → Option (
 first_hit address (Some a) behind = Some (watched_byte address a)
 first_hit address None behind = behind
 
--- The first watched byte of an access of so many bytes from an address on, which wraps at 2^64, and whether its area has
--- TRAPAFTER. For an access that does not wrap it is the least.
+-- The first watched byte of an access of so many bytes from an address on, which wraps at 2^64, and whether its area
+-- has TRAPAFTER. For an access that does not wrap it is the least.
 unfoldable pub hit_in : ℕ → List Area → ℕ → ℕ → Option (ℕ × Bool)
 hit_in kind areas address zero = None
 hit_in kind areas address (suc size) =

@@ -14,9 +14,9 @@ use std::alloc::Global;
 const MOST_PIPE_BYTES: usize = 4096;
 
 impl Files {
-    /// Reads at most so many bytes as the buffer has (read(2)), puts them at its front, and answers how many came. `BadFd`
-    /// comes exactly where the descriptor is not open for reading, and then `Sleep` exactly where it stands for an empty
-    /// pipe that can still be written. Nothing is changed by a refusal. Takes no memory.
+    /// Reads at most so many bytes as the buffer has (read(2)), puts them at its front, and answers how many came.
+    /// `BadFd` comes exactly where the descriptor is not open for reading, and then `Sleep` exactly where it stands for
+    /// an empty pipe that can still be written. Nothing is changed by a refusal. Takes no memory.
     #[tactic(auto, unfolding(pr_parts::specs::FileTransfers::read_fd))]
     pub fn read(&mut self, fds: &Fds, fd: u64, out: &mut [u8]) -> Result<usize, FileNo>
         requires { length out.old ≤ 4096 }
@@ -72,10 +72,10 @@ impl Files {
         Ok(count)
     }
 
-    /// Writes bytes (write(2)), and answers how many there were: all of them are written, or none. `BadFd` comes exactly
-    /// where the descriptor is not open for writing. A file gives `NoSpace` exactly where it would be longer than 65,536
-    /// bytes. A pipe gives `NoReader` exactly where nothing can read it any more, and then `Sleep` exactly where it has no
-    /// room for all bytes, of 4,096. Nothing is changed by a refusal.
+    /// Writes bytes (write(2)), and answers how many there were: all of them are written, or none. `BadFd` comes
+    /// exactly where the descriptor is not open for writing. A file gives `NoSpace` exactly where it would be longer
+    /// than 65,536 bytes. A pipe gives `NoReader` exactly where nothing can read it any more, and then `Sleep` exactly
+    /// where it has no room for all bytes, of 4,096. Nothing is changed by a refusal.
     #[tactic(auto, unfolding(pr_parts::specs::FileTransfers::write_fd))]
     pub fn write(
         &mut self,
