@@ -1,6 +1,7 @@
 # Prints each definition of crates/*/specs that docs/DEFINITIONS.md does not name, as `file: name`, and each name that its
 # last table gives to a file which has no such definition. Read docs/DEFINITIONS.md first, and then the files.
 FNR == 1 { document = FILENAME ~ /DEFINITIONS\.md$/ }
+/^[^ -]/ { in_module = /^module / }
 
 document {
   if (/^## /) by_file = /by file$/
@@ -12,8 +13,10 @@ document {
   next
 }
 
-/^(abbrev |unfoldable )?pub / && !/^pub (mod|ruleset|use) / {
-  line = $0
+{ line = $0; if (in_module) sub(/^  /, "", line) }
+
+# what stands in a module is set in by two blanks, and the fields of its records by four
+line ~ /^(abbrev |unfoldable )?pub / && line !~ /^pub (mod|ruleset|use) / {
   sub(/^(abbrev |unfoldable )?pub (record |data )?/, "", line)
   match(line, /^[^ :({]+/)
   name = substr(line, 1, RLENGTH)
