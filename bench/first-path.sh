@@ -1,8 +1,8 @@
 #!/usr/bin/env bash
-# Time of a run against the size of its scenario: a process is stopped, and a script of 16 opens reads its status and writes
-# to it as often as a quarter, a half and the whole of 1 MiB hold, with 100,000 turns; at last it is run. The time is that of
-# reading the scenario, running it and writing its history to a file. Prints seconds and their ratios, which are near 1 : 2 : 4
-# where time is linear.
+# Time of a run against the size of its scenario: a process is stopped, and a script of 16 opens reads its status and
+# writes to it as often as a quarter, a half and the whole of 1 MiB hold, with 100,000 turns; at last it is run. The
+# time is that of reading the scenario, running it and writing its history to a file. Prints seconds and their ratios,
+# which are near 1 : 2 : 4 where time is linear.
 set -eu
 program=$(cd "$(dirname "${BASH_SOURCE[0]}")/.." && pwd)/crates/proclab/out/proclab
 [ -x "$program" ] || { echo "no proved program: run ./proclab once" >&2; exit 1; }
