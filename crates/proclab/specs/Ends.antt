@@ -1,4 +1,4 @@
-use Rattle.std.specs.Prelude.{◌≡◌, ◌⊎◌, ◌×◌, ℕ, true, false, length}
+use Rattle.std.specs.Prelude.{◌≡◌, ◌⊎◌, ℕ, true, false, length}
 use Rattle.pr_model.specs.declared.events.Actor.{Actor}
 use Rattle.pr_world.specs.Worlds.{WorldState, all_finished, can_act}
 
