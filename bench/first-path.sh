@@ -11,8 +11,8 @@ program=$(cd "$(dirname "${BASH_SOURCE[0]}")/.." && pwd)/crates/proclab/out/proc
 scenario() {
   awk -v most="$1" 'BEGIN {
     text = "turns 100000\nprogram p\nsys getpid\nsys exit\nend\nspawn p\nscript\n"
-    for (k = 0; k < 16; k++) text = text "open v" k " 1 " (k % 2 ? "status r" : "ctl w") "\n"
-    text = text "write v0 dstop\nwrite v0 wstop\n"
+    text = text "open v0 1 ctl w\nwrite v0 dstop\nwrite v0 wstop\n"
+    for (k = 1; k < 16; k++) text = text "open v" k " 1 " (k % 2 ? "status r" : "ctl w") "\n"
     last = "write v0 run\nend\n"
     size = length(text) + length(last)
     printf "%s", text
