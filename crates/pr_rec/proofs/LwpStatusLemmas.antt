@@ -21,9 +21,9 @@ lwpstatus-ranged l flags id what held pending fit =
     first_unfit-none lwpstatus_ranges (lwpstatus_words_of l) 0 fit ((λ _. lt-ltb _ _ flags), ((λ _. lt-ltb _ _ id), ((λ _. lt-ltb _ _ (reason_small l.why)), ((λ _. lt-ltb _ _ what), ((λ _. lt-ltb _ _ (signal_small l.signal)), ((λ _. lt-ltb _ _ (fault_small l.fault)), (word-any _, ((λ _. lt-ltb _ _ (call_small l.call)), (word-any _, (word-any _, (word-any _, (word-any _, (word-any _, (word-any _, (word-any _, ((λ _. an_errno-field l.errno), ((λ _. lt-ltb _ _ held), ((λ _. lt-ltb _ _ pending), (word-any _, (word-any _, (word-any _, (word-any _, (word-any _, (word-any _, (word-any _, (word-any _, (word-any _, (word-any _, (word-any _, ((λ _. lt-ltb _ _ (disposition_small l.disposition)), tt))))))))))))))))))))))))))))))
 
 -- 30 words of which some are known in another way
-pub lwpstatus_elements : (ws : List ℕ) (flags why signal fault call errno held pending disposition : ℕ) → length ws ≡ 30 → flags ≡ get_or ws 0 0 → why ≡ get_or ws 2 0 → signal ≡ get_or ws 4 0 → fault ≡ get_or ws 5 0 → call ≡ get_or ws 7 0 → errno ≡ get_or ws 15 0 → held ≡ get_or ws 16 0 → pending ≡ get_or ws 17 0 → disposition ≡ get_or ws 29 0 → flags ∷ get_or ws 1 0 ∷ why ∷ get_or ws 3 0 ∷ signal ∷ fault ∷ get_or ws 6 0 ∷ call ∷ get_or ws 8 0 ∷ get_or ws 9 0 ∷ get_or ws 10 0 ∷ get_or ws 11 0 ∷ get_or ws 12 0 ∷ get_or ws 13 0 ∷ get_or ws 14 0 ∷ errno ∷ held ∷ pending ∷ get_or ws 18 0 ∷ get_or ws 19 0 ∷ get_or ws 20 0 ∷ get_or ws 21 0 ∷ get_or ws 22 0 ∷ get_or ws 23 0 ∷ get_or ws 24 0 ∷ get_or ws 25 0 ∷ get_or ws 26 0 ∷ get_or ws 27 0 ∷ get_or ws 28 0 ∷ disposition ∷ [] ≡ ws
-lwpstatus_elements ws flags why signal fault call errno held pending disposition size flags_is why_is signal_is fault_is call_is errno_is held_is pending_is disposition_is =
-    rw (flags_is, why_is, signal_is, fault_is, call_is, errno_is, held_is, pending_is, disposition_is) (each_of-elements 30 ws size)
+pub lwpstatus_elements : (ws : List ℕ) (flags why what signal fault call errno held pending disposition : ℕ) → length ws ≡ 30 → flags ≡ get_or ws 0 0 → why ≡ get_or ws 2 0 → what ≡ get_or ws 3 0 → signal ≡ get_or ws 4 0 → fault ≡ get_or ws 5 0 → call ≡ get_or ws 7 0 → errno ≡ get_or ws 15 0 → held ≡ get_or ws 16 0 → pending ≡ get_or ws 17 0 → disposition ≡ get_or ws 29 0 → flags ∷ get_or ws 1 0 ∷ why ∷ what ∷ signal ∷ fault ∷ get_or ws 6 0 ∷ call ∷ get_or ws 8 0 ∷ get_or ws 9 0 ∷ get_or ws 10 0 ∷ get_or ws 11 0 ∷ get_or ws 12 0 ∷ get_or ws 13 0 ∷ get_or ws 14 0 ∷ errno ∷ held ∷ pending ∷ get_or ws 18 0 ∷ get_or ws 19 0 ∷ get_or ws 20 0 ∷ get_or ws 21 0 ∷ get_or ws 22 0 ∷ get_or ws 23 0 ∷ get_or ws 24 0 ∷ get_or ws 25 0 ∷ get_or ws 26 0 ∷ get_or ws 27 0 ∷ get_or ws 28 0 ∷ disposition ∷ [] ≡ ws
+lwpstatus_elements ws flags why what signal fault call errno held pending disposition size flags_is why_is what_is signal_is fault_is call_is errno_is held_is pending_is disposition_is =
+    rw (flags_is, why_is, what_is, signal_is, fault_is, call_is, errno_is, held_is, pending_is, disposition_is) (each_of-elements 30 ws size)
 
 pub lwpstatus_tested : AreTested lwpstatus_ranges
 lwpstatus_tested = record {
@@ -38,6 +38,7 @@ lwpstatus_fields ws size ranged = record {
   flags = ltb-true _ _ (AreRanged-at lwpstatus_ranges ws 0 ranged);
   id = ltb-true _ _ (AreRanged-at lwpstatus_ranges ws 1 ranged);
   why = ltb-true _ _ (AreRanged-at lwpstatus_ranges ws 2 ranged);
+  what = ltb-true _ _ (AreRanged-at lwpstatus_ranges ws 3 ranged);
   signal = ltb-true _ _ (AreRanged-at lwpstatus_ranges ws 4 ranged);
   fault = ltb-true _ _ (AreRanged-at lwpstatus_ranges ws 5 ranged);
   call = ltb-true _ _ (AreRanged-at lwpstatus_ranges ws 7 ranged);

@@ -108,6 +108,7 @@ pub record HasLwpStatusFields (words : List ℕ) : Type 0 where
   pub flags : slice_index words 0 < 2 ^ 6
   pub id : slice_index words 1 < 2 ^ 32
   pub why : slice_index words 2 < 8
+  pub what : slice_index words 3 < 32
   pub signal : slice_index words 4 < 32
   pub fault : slice_index words 5 < 9
   pub call : slice_index words 7 < 30

@@ -117,8 +117,7 @@ pub(crate) trait Entry {
 impl Entry for LwpStatus {
     ghost words = { lwpstatus_words_of };
 
-    // The number of what it is stopped for may be any.
-    ghost is_ranged = { λ l. l.what < 32 → AreInRange lwpstatus_ranges (lwpstatus_words_of l) };
+    ghost is_ranged = { λ l. AreInRange lwpstatus_ranges (lwpstatus_words_of l) };
 
     fn append(&self, out: &mut Vec<u8>) -> Result<(), NoMemory> {
         append_words(out, &self.words())

@@ -12,7 +12,7 @@ ghost use Rattle.pr_num.specs.Spaces.{kind_number};
 ghost use Rattle.pr_rec.specs.Fields.{number_or_zero, truth_word, front_words, disposition_number};
 
 use crate::columns::fill;
-use crate::{Disposition, LwpFlags, ProcessFlags};
+use crate::{Disposition, LwpFlags, ProcessFlags, What};
 use pr_codec::put_words;
 use pr_num::{Errno, Flt, FltSet, MappingKind, Prot, Sig, SigSet, StopReason, SysSet, Sysno};
 
@@ -159,6 +159,16 @@ pub(crate) fn lwp_flags_of(word: u64) -> LwpFlags
         unreachable!()
     };
     flags
+}
+
+pub(crate) fn what_of(word: u64) -> What
+    requires { word < 32 }
+    ensures { result ≡ word }
+{
+    let Some(what) = What::from_number(word) else {
+        unreachable!()
+    };
+    what
 }
 
 pub(crate) fn truth_of(word: u64) -> bool

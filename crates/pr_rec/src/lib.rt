@@ -16,6 +16,7 @@ mod process_flags;
 mod processes;
 mod statuses;
 mod usages;
+mod whats;
 
 pub use descriptors::Descriptor;
 pub use entries::{FdEntry, FdKind, ListEntry, WatchEntry};
@@ -30,6 +31,7 @@ pub use process_flags::{ProcessFlags, words_of_process_flags};
 pub use processes::Psinfo;
 pub use statuses::Status;
 pub use usages::Usage;
+pub use whats::What;
 
 #[cfg(test)]
 mod tests;

@@ -15,7 +15,7 @@ use std::alloc::Global;
 /// The record of all lwps of a process: how many there are, and the status of each (proc(4), "lstatus").
 pub fn write_lstatus(alloc: Global, lwps: &[LwpStatus]) -> Result<Bytes, NoMemory>
     ensures bytes { IfOk result (λ bytes. bytes ≡ lstatus_bytes lwps.now) }
-    ensures ranged { IfOk result (λ _. All (λ x. x.what < 32 → AreInRange lwpstatus_ranges (lwpstatus_words_of x)) lwps.now) }
+    ensures ranged { IfOk result (λ _. All (λ x. AreInRange lwpstatus_ranges (lwpstatus_words_of x)) lwps.now) }
 {
     let mut out = Vec::new(alloc);
     append_words(&mut out, &[lwps.len() as u64])?;

@@ -8,9 +8,9 @@ ghost use Rattle.pr_rec.specs.declared.lwps.LwpStatus.{LwpStatus as Decoded};
 use crate::columns::{Column, put_record, read_record};
 use crate::fields::{
     call_of, call_word, disposition_of, disposition_word, errno_of, errno_word, fault_of,
-    fault_word, lwp_flags_of, reason_of, reason_word, signal_of, signal_word, signals_of,
+    fault_word, lwp_flags_of, reason_of, reason_word, signal_of, signal_word, signals_of, what_of,
 };
-use crate::{LwpFlags, RecFault};
+use crate::{LwpFlags, RecFault, What};
 use pr_num::{Errno, Flt, Sig, SigSet, StopReason, Sysno};
 
 /// How a process disposes of a signal (sigaction(2)).
@@ -31,8 +31,7 @@ pub struct LwpStatus {
     pub id: u32,
     /// Why it is stopped, if it is.
     pub why: Option<StopReason>,
-    /// The number of the signal, the fault or the system call that it is stopped for, below 32, and else 0.
-    pub what: u64,
+    pub what: What,
     /// The current signal.
     pub signal: Option<Sig>,
     /// The current fault.
@@ -92,10 +91,10 @@ pub(crate) const COLUMNS: [Column; 30] = [
 ];
 
 impl LwpStatus {
-    /// The bytes of the record. They spell it where `what` is below 32. Takes no memory.
+    /// The bytes of the record, which spell it. Takes no memory.
     pub fn encode(&self) -> [u8; 240]
         ensures bytes { result ≡ words_bytes (lwpstatus_words_of self.now) }
-        ensures spelt { self.now.what < 32 → SpellsRecord lwpstatus_ranges result (lwpstatus_words_of self.now) }
+        ensures spelt { SpellsRecord lwpstatus_ranges result (lwpstatus_words_of self.now) }
     {
         let mut bytes = [0; 240];
         put_record(&mut bytes, &self.words());
@@ -126,6 +125,7 @@ impl LwpStatus {
         ensures words { result ≡ lwpstatus_words_of self.now }
         ensures flags { self.now.flags < 2 ^ 6 }
         ensures id { self.now.id < 2 ^ 32 }
+        ensures what { self.now.what < 32 }
         ensures held { self.now.held < 2 ^ 31 }
         ensures pending { self.now.pending < 2 ^ 31 }
     {
@@ -135,7 +135,7 @@ impl LwpStatus {
             self.flags.word(),
             u64::from(self.id),
             reason_word(self.why),
-            self.what,
+            self.what.number(),
             signal_word(self.signal),
             fault_word(self.fault),
             self.fault_address,
@@ -174,7 +174,7 @@ impl LwpStatus {
             flags: lwp_flags_of(words[0]),
             id: words[1] as u32,
             why: reason_of(words[2]),
-            what: words[3],
+            what: what_of(words[3]),
             signal: signal_of(words[4]),
             fault: fault_of(words[5]),
             fault_address: words[6],

@@ -88,10 +88,10 @@ const COLUMNS: [Column; 43] = [
 ];
 
 impl Status {
-    /// The bytes of the record. They spell it where what the lwp is stopped for is below 32. Takes no memory.
+    /// The bytes of the record, which spell it. Takes no memory.
     pub fn encode(&self) -> [u8; 344]
         ensures bytes { result ≡ words_bytes (status_words_of self.now) }
-        ensures spelt { self.now.lwp.what < 32 → SpellsRecord status_ranges result (status_words_of self.now) }
+        ensures spelt { SpellsRecord status_ranges result (status_words_of self.now) }
     {
         let mut bytes = [0; 344];
         put_two(&mut bytes, &self.own_words(), &self.lwp.words());

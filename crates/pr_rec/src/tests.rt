@@ -129,12 +129,19 @@ fn bytes_of(alloc: Global, words: &[u64]) -> Result<Vec<u8>, AllocError> {
     Ok(bytes)
 }
 
+fn stopped_for(number: u64) -> What {
+    match What::from_number(number) {
+        Some(what) => what,
+        None => What::NONE,
+    }
+}
+
 fn lwp() -> LwpStatus {
     LwpStatus {
         flags: LwpFlags::STOPPED.union(LwpFlags::ISTOP),
         id: 4_294_967_295,
         why: Some(StopReason::SysEntry),
-        what: 4,
+        what: stopped_for(4),
         signal: Some(Sig::Int),
         fault: Some(Flt::Izdiv),
         fault_address: 77,
@@ -200,7 +207,7 @@ fn idle() -> LwpStatus {
         flags: LwpFlags::empty(),
         id: 0,
         why: None,
-        what: 0,
+        what: What::NONE,
         signal: None,
         fault: None,
         fault_address: 0,
@@ -319,6 +326,7 @@ fn mappings_and_areas_stand_one_behind_the_other(rt: HostRuntime) -> Result<(), 
 fn descriptors_and_processes_are_their_bytes(rt: HostRuntime) -> Result<(), Fail> {
     let alloc = rt.alloc();
     assert_eq!(rt; Descriptor::from_number(64), None);
+    assert_eq!(rt; What::from_number(32), None);
     let descriptor = FdEntry {
         descriptor: Descriptor::from_number(63).ok_or("63 is a descriptor")?,
         kind: FdKind::PipeWriter,

@@ -5,10 +5,10 @@ use Rattle.pr_rec.proofs.LwpStatusLemmas.{lwpstatus-ranged}
 use Rattle.pr_rec.proofs.lwps.LwpStatus.encode.Goals as goal
 
 pub returns-clause-spelt : goal.returns-clause-spelt
-returns-clause-spelt c what =
+returns-clause-spelt c =
     let words = c.words.ensures.words in
     record {
       count = refl;
-      ranged = lwpstatus-ranged c.args.self.now c.words.ensures.flags c.words.ensures.id what c.words.ensures.held c.words.ensures.pending (subst (All IsWord) words c.put_record.ensures.words);
+      ranged = lwpstatus-ranged c.args.self.now c.words.ensures.flags c.words.ensures.id c.words.ensures.what c.words.ensures.held c.words.ensures.pending (subst (All IsWord) words c.put_record.ensures.words);
       spelt = c.put_record.ensures.bytes ∙ ap words_bytes words;
     }

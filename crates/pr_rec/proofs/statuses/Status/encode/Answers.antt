@@ -11,11 +11,11 @@ pub returns-clause-bytes : goal.returns-clause-bytes
 returns-clause-bytes c = c.put_two.ensures.bytes ∙ two_parts _ _ _ _ c.own_words.ensures.words c.words.ensures.words
 
 pub returns-clause-spelt : goal.returns-clause-spelt
-returns-clause-spelt c what =
+returns-clause-spelt c =
     let own = c.own_words.ensures in
     let lwp = c.words.ensures in
     record {
       count = refl;
-      ranged = status-ranged c.args.self.now own.flags own.id own.parent own.pending own.signals own.faults own.entries own.exits own.agent lwp.flags lwp.id what lwp.held lwp.pending (All-append IsWord (own_words_of c.args.self.now) (lwpstatus_words_of c.args.self.now.lwp) (subst (All IsWord) own.words c.put_two.ensures.first) (subst (All IsWord) lwp.words c.put_two.ensures.second));
+      ranged = status-ranged c.args.self.now own.flags own.id own.parent own.pending own.signals own.faults own.entries own.exits own.agent lwp.flags lwp.id lwp.what lwp.held lwp.pending (All-append IsWord (own_words_of c.args.self.now) (lwpstatus_words_of c.args.self.now.lwp) (subst (All IsWord) own.words c.put_two.ensures.first) (subst (All IsWord) lwp.words c.put_two.ensures.second));
       spelt = c.put_two.ensures.bytes ∙ two_parts _ _ _ _ own.words lwp.words;
     }
