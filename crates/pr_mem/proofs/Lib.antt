@@ -1,5 +1,7 @@
 pub mod GapLemmas
 pub mod LawLemmas
+pub mod PlaceLemmas
 pub mod RoomLemmas
 pub mod RunLemmas
 pub mod TextLemmas
+pub mod WriteLemmas

@@ -1,20 +1,31 @@
 ghost use Rattle.std.specs.Prelude.{◌≡◌, ◌≤◌, ◌<◌, ◌+◌, ◌^◌, length, Ok, Err, IfOk, IfErr, OnOk};
 ghost use Rattle.pr_num.specs.Spaces.{IsSpace, byte_for, bytes_for};
 ghost use Rattle.pr_mem.specs.Answers.{checked, IsRun};
+ghost use Rattle.pr_mem.specs.Places.{GoesOn, IsPlace};
 
 use crate::ranges;
 use pr_num::{BadByte, Mapping};
 
-// The bytes that an access gets. Each step takes all that one mapping has of them.
+// The bytes that an access gets. Each step takes all that one mapping has of them, and the next step goes on in the
+// mapping behind it. So only the first has to be searched for, once for the steps of a call: its place is passed in.
 
-/// Bytes of a mapping from an address on, at least one and at most `most`; or why the first of them cannot be accessed.
-pub fn run_at(mappings: &[Mapping], need: u8, at: u64, most: usize) -> Result<&[u8], BadByte>
+/// Bytes from an address on, of which this is the place, that one mapping has, at least one and at most `most`; or why
+/// the first of them cannot be accessed.
+pub fn run_at(
+    mappings: &[Mapping],
+    place: usize,
+    need: u8,
+    at: u64,
+    most: usize,
+) -> Result<&[u8], BadByte>
     requires space { IsSpace mappings.now }
+    requires place { IsPlace mappings.now at place }
     requires some { 0 < most }
     ensures ok { IfOk result (λ run. IsRun need mappings.now at most run.now) }
+    ensures next { IfOk result (λ run. GoesOn mappings.now at most (length run.now) place) }
     ensures err { IfErr result (λ bad. byte_for need mappings.now at ≡ Err bad) }
 {
-    let Some(mapping) = ranges::mapping_of(mappings, at) else {
+    let Some(mapping) = ranges::mapping_at(mappings, place, at) else {
         return Err(BadByte::Hole(at));
     };
     if !ranges::allows(mapping, need) {
@@ -26,31 +37,51 @@ pub fn run_at(mappings: &[Mapping], need: u8, at: u64, most: usize) -> Result<&[
     Ok(&bytes[from..from + size])
 }
 
-/// Whether an access can be made, or the first byte at which it fails.
-pub fn check(mappings: &[Mapping], need: u8, at: u64, len: usize) -> Result<(), BadByte>
-    requires { IsSpace mappings.now }
+/// Whether an access can be made from an address on, of which `first` is the place; or the first byte at which it
+/// fails.
+pub fn check(
+    mappings: &[Mapping],
+    first: usize,
+    need: u8,
+    at: u64,
+    len: usize,
+) -> Result<(), BadByte>
+    requires space { IsSpace mappings.now }
+    requires place { IsPlace mappings.now at first }
     ensures answer { result ≡ checked (bytes_for need mappings.now at len) }
     ensures end { OnOk result (at + len < 2 ^ 64) }
 {
+    let mut place = first;
     let mut done = 0;
     while done < len {
-        let run = run_at(mappings, need, at + done as u64, len - done)?;
+        let run = run_at(mappings, place, need, at + done as u64, len - done)?;
         done += run.len();
+        place += 1;
     }
     Ok(())
 }
 
-/// Gives the bytes of an access, or the first byte at which it fails; then what the buffer holds is not said.
-pub fn fill(mappings: &[Mapping], need: u8, at: u64, out: &mut [u8]) -> Result<(), BadByte>
-    requires { IsSpace mappings.now }
+/// Gives the bytes of an access from an address on, of which `first` is the place; or the first byte at which it fails,
+/// and then what the buffer holds is not said.
+pub fn fill(
+    mappings: &[Mapping],
+    first: usize,
+    need: u8,
+    at: u64,
+    out: &mut [u8],
+) -> Result<(), BadByte>
+    requires space { IsSpace mappings.now }
+    requires place { IsPlace mappings.now at first }
     ensures answer { result ≡ checked (bytes_for need mappings.now at (length out.old)) }
     ensures ok { OnOk result (bytes_for need mappings.now at (length out.old) ≡ Ok out.new) }
 {
+    let mut place = first;
     let mut done = 0;
     while done < out.len() {
-        let run = run_at(mappings, need, at + done as u64, out.len() - done)?;
+        let run = run_at(mappings, place, need, at + done as u64, out.len() - done)?;
         out[done..done + run.len()].copy_from_slice(run);
         done += run.len();
+        place += 1;
     }
     Ok(())
 }

@@ -6,36 +6,48 @@ ghost use Rattle.pr_num.specs.Spaces.{IsSpace, covers, mapped_size};
 ghost use Rattle.pr_parts.specs.ByAddress.{is_behind};
 ghost use Rattle.pr_parts.specs.AddressSpaces.{address_of, meets, is_break_heap, is_free, is_range};
 ghost use Rattle.pr_mem.specs.Answers.{heap_bytes};
+ghost use Rattle.pr_mem.specs.Places.{IsPlace, ends_before};
 
 use pr_num::{Mapping, MappingKind};
 
-// Which mapping has a byte, and which stands in a range.
+// Which mapping has a byte, and which stands in a range. Mappings stand by rising address, so that each byte has its
+// place among them, and this is searched for by halves.
 
 /// Where the heap begins.
 pub const HEAP: u64 = 0x10_0000;
 
-fn covers(mapping: &Mapping, address: u64) -> bool
-    ensures { result ≡ covers address mapping.now }
+fn ends_before(mapping: &Mapping, address: u64) -> bool
+    ensures { result ≡ ends_before address mapping.now }
 {
-    mapping.at <= address && address - mapping.at < mapping.bytes.as_slice().len() as u64
+    mapping.at <= address && mapping.bytes.as_slice().len() as u64 <= address - mapping.at
 }
 
-fn find_mapping(mappings: &[Mapping], address: u64) -> Option<&Mapping>
-    ensures { option_copied result ≡ find (covers address) mappings.now }
-{
-    mappings.iter().find(|mapping| covers(mapping, address))
-}
-
-/// The mapping that has the byte at an address.
-#[tactic(auto, using(pr_parts::proofs::AccessLemmas::finds))]
-pub fn mapping_of(mappings: &[Mapping], address: u64) -> Option<&Mapping>
+/// The place of an address, by a search of the mappings. No mapping but the one in this place has the byte there.
+pub fn place_at(mappings: &[Mapping], address: u64) -> usize
     requires { IsSpace mappings.now }
+    ensures { IsPlace mappings.now address result }
+{
+    mappings.partition_point(|mapping| ends_before(mapping, address))
+}
+
+/// The mapping that has the byte at an address, of which this is the place. The byte behind that mapping has the next
+/// place.
+#[tactic(auto, using(pr_parts::proofs::AccessLemmas::finds))]
+pub fn mapping_at(mappings: &[Mapping], place: usize, address: u64) -> Option<&Mapping>
+    requires space { IsSpace mappings.now }
+    requires place { IsPlace mappings.now address place }
     ensures value { option_copied result ≡ find (covers address) mappings.now }
     ensures low { IfSome result (λ m. m.now.at ≤ address) }
     ensures high { IfSome result (λ m. address < m.now.at + length m.now.bytes) }
     ensures limit { IfSome result (λ m. m.now.at + length m.now.bytes < 2 ^ 64) }
+    ensures next { IfSome result (λ m. IsPlace mappings.now (m.now.at + length m.now.bytes) (place + 1)) }
 {
-    find_mapping(mappings, address)
+    let mapping = mappings.get(place)?;
+    if mapping.at <= address {
+        Some(mapping)
+    } else {
+        None
+    }
 }
 
 /// Whether a mapping allows an access that needs these protections.

@@ -79,8 +79,9 @@ impl Space {
         ensures ok { OnOk result (bytes_for need self.now at (length out.old) ≡ Ok out.new) }
         ensures err { OnErr result (out.new ≡ out.old) }
     {
-        accesses::check(&self.mappings, need, at, out.len())?;
-        accesses::fill(&self.mappings, need, at, out)?;
+        let first = ranges::place_at(&self.mappings, at);
+        accesses::check(&self.mappings, first, need, at, out.len())?;
+        accesses::fill(&self.mappings, first, need, at, out)?;
         Ok(())
     }
 
@@ -91,8 +92,9 @@ impl Space {
         ensures ok { OnOk result (self.new ≡ with_bytes at bytes.now self.old) }
         ensures err { OnErr result (self.new ≡ self.old) }
     {
-        accesses::check(&self.mappings, need, at, bytes.len())?;
-        writes::write_all(&mut self.mappings, at, bytes);
+        let first = ranges::place_at(&self.mappings, at);
+        accesses::check(&self.mappings, first, need, at, bytes.len())?;
+        writes::write_from(&mut self.mappings, first, at, bytes);
         Ok(())
     }
 

@@ -2,8 +2,9 @@ ghost use Rattle.std.specs.Prelude.{◌≡◌, ◌≤◌, position, length};
 ghost use Rattle.pr_num.specs.Spaces.{IsSpace};
 ghost use Rattle.pr_parts.specs.AddressSpaces.{text_at};
 ghost use Rattle.pr_mem.specs.Answers.{is_zero, length_read, with_text};
+ghost use Rattle.pr_mem.specs.Places.{IsPlace};
 
-use crate::accesses;
+use crate::{accesses, ranges};
 use pr_num::{BadByte, Mapping};
 
 // Texts that end with a zero byte.
@@ -18,19 +19,27 @@ fn zero_in(bytes: &[u8]) -> Option<usize>
     bytes.iter().position(|byte| *byte == 0)
 }
 
-/// How long the text at an address is, of which at most `most` bytes are read, its zero byte too; `None` where these
-/// have no zero.
-fn length_at(mappings: &[Mapping], at: u64, most: usize) -> Result<Option<usize>, BadByte>
-    requires { IsSpace mappings.now }
+/// How long the text at an address is, of which `first` is the place. At most `most` of its bytes are read, its zero
+/// byte too; `None` where these have no zero.
+fn length_at(
+    mappings: &[Mapping],
+    first: usize,
+    at: u64,
+    most: usize,
+) -> Result<Option<usize>, BadByte>
+    requires space { IsSpace mappings.now }
+    requires place { IsPlace mappings.now at first }
     ensures { result ≡ length_read (text_at mappings.now at most) }
 {
+    let mut place = first;
     let mut done = 0;
     while done < most {
-        let run = accesses::run_at(mappings, READ, at + done as u64, most - done)?;
+        let run = accesses::run_at(mappings, place, READ, at + done as u64, most - done)?;
         if let Some(end) = zero_in(run) {
             return Ok(Some(done + end));
         }
         done += run.len();
+        place += 1;
     }
     Ok(None)
 }
@@ -47,9 +56,10 @@ pub fn read_text(
     ensures answer { result ≡ length_read (text_at mappings.now at most) }
     ensures text { out.new ≡ with_text (text_at mappings.now at most) out.old }
 {
-    let Some(len) = length_at(mappings, at, most)? else {
+    let first = ranges::place_at(mappings, at);
+    let Some(len) = length_at(mappings, first, at, most)? else {
         return Ok(None);
     };
-    accesses::fill(mappings, READ, at, &mut out[..len])?;
+    accesses::fill(mappings, first, READ, at, &mut out[..len])?;
     Ok(Some(len))
 }

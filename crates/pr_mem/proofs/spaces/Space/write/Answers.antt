@@ -6,5 +6,5 @@ use Rattle.pr_mem.proofs.spaces.Space.write.Goals as goal
 pub invariant_of-self : goal.invariant_of-self
 invariant_of-self c =
     let items = c.self.inside.mappings.items in
-    let now = c.write_all.ensures in
+    let now = c.write_from.ensures in
     (subst IsSpace (sym now) (IsSpace-with_bytes c.args.at c.args.bytes.now items c.self.invariant.0), c.self.invariant.1 ∙ sym (ap mapped_size now ∙ mapped_size-with_bytes c.args.at c.args.bytes.now items))

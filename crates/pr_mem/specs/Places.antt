@@ -1,0 +1,22 @@
+-- Where in the list of mappings the bytes of an access stand.
+use Rattle.std.specs.Prelude.{◌+◌, ◌<◌, ◌≤◌, ℕ, Bool, length, nat_le}
+use Rattle.std.specs.List.{AllWithin}
+use Rattle.pr_num.specs.Spaces.{Space}
+use Rattle.pr_num.specs.declared.mappings.Mapping.{Mapping}
+
+-- whether a mapping has all its bytes before an address
+abbrev pub ends_before : ℕ → Mapping → Bool
+ends_before address m = nat_le (m.at + length m.bytes) address
+
+-- The place of an address: the mappings before it have all their bytes before the address, and those from it on end
+-- behind it. So the one in the place, if any, has the byte at the address.
+pub record IsPlace (space : Space) (address place : ℕ) : Type 0 where
+  pub within : place ≤ length space
+  pub before : AllWithin (λ (m : Mapping). m.at + length m.bytes ≤ address) space 0 place
+  pub behind : AllWithin (λ (m : Mapping). address < m.at + length m.bytes) space place (length space)
+
+-- An access to so many bytes took a run of them from the mapping in a place; where it wants more, the next of them has
+-- the next place.
+pub record GoesOn (space : Space) (at most size place : ℕ) : Type 0 where
+  pub stands : place < length space
+  pub next : size < most → IsPlace space (at + size) (place + 1)
