@@ -1,4 +1,5 @@
 pub mod GapLemmas
+pub mod HeapPlaceLemmas
 pub mod LawLemmas
 pub mod PlaceLemmas
 pub mod RoomLemmas

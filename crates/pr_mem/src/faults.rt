@@ -1,6 +1,6 @@
 ghost use Rattle.std.specs.Prelude.{◌≡◌, ◌≤◌, ◌<◌};
 
-use pr_num::{BadByte, NoMemory};
+use pr_num::{BadByte, MappingKind, NoMemory, Prot};
 use thiserror::Error;
 
 /// A mapping that is asked for.
@@ -10,10 +10,9 @@ pub struct Map {
     pub at: u64,
     /// How many bytes it has.
     pub size: u64,
-    /// What may be done with them, a word of protections.
-    pub prot: u8,
-    /// The number of its kind, from 1 to 5.
-    pub kind: u8,
+    /// What may be done with them.
+    pub prot: Prot,
+    pub kind: MappingKind,
 }
 
 /// Why a call on an address space is refused.

@@ -4,7 +4,7 @@
 mod accesses;
 mod faults;
 mod gaps;
-pub mod laws;
+mod laws;
 mod mappings;
 mod ranges;
 mod spaces;
@@ -12,6 +12,7 @@ mod texts;
 mod writes;
 
 pub use faults::{Map, MemFault};
+pub use laws::{a_gap_is_free_and_least, what_is_written_is_read};
 pub use spaces::Space;
 
 #[cfg(test)]

@@ -2,7 +2,7 @@ ghost use Rattle.std.specs.Prelude.{◌≡◌, ◌≤◌, ◌<◌, ◌^◌, ◌+
 ghost use Rattle.pr_num.specs.Programs.{whole_pages};
 ghost use Rattle.pr_num.specs.Spaces.{unless_empty};
 ghost use Rattle.pr_num.specs.declared.mappings.Mapping.{Mapping};
-ghost use Rattle.pr_parts.specs.AddressSpaces.{first_mappings, kind_of, resized, with_prot, zeros_at};
+ghost use Rattle.pr_parts.specs.AddressSpaces.{first_mappings, resized, with_prot, zeros_at};
 
 use pr_num::{Bytes, Mapping, MappingKind, NoMemory, Prot};
 use std::alloc::Global;
@@ -15,19 +15,6 @@ pub const READ_WRITE: u8 = 6;
 
 /// The word of those to read and to run.
 const READ_EXECUTE: u8 = 5;
-
-/// The kind of a number from 1 to 5.
-pub fn kind_of(number: u8) -> MappingKind
-    ensures { result ≡ kind_of number }
-{
-    match number {
-        1 => MappingKind::Text,
-        2 => MappingKind::Data,
-        3 => MappingKind::Heap,
-        4 => MappingKind::Stack,
-        _ => MappingKind::Mapped,
-    }
-}
 
 /// The protections of a word.
 pub fn prot_of(word: u8) -> Prot

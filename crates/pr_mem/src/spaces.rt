@@ -1,11 +1,11 @@
-ghost use Rattle.std.specs.Prelude.{◌≡◌, ◌≤◌, ◌<◌, ◌+◌, ◌^◌, [], All, length, position, remove, true, Some, None, Ok, Err, OnOk, OnErr, IfOk, IfSome, IsOkUnless};
+ghost use Rattle.std.specs.Prelude.{◌≡◌, ◌≤◌, ◌<◌, ◌+◌, ◌^◌, [], All, length, position, remove, true, Some, None, Ok, Err, OnOk, OnErr, IfOk, IfSome, IsOkUnless, IsTrue};
 ghost use Rattle.pr_num.specs.Programs.{rounded};
 ghost use Rattle.pr_num.specs.Spaces.{mapped_size, mapping_limit, bytes_for};
-ghost use Rattle.pr_parts.specs.AddressSpaces.{LeavesHeapPlace, break_limit, first_mappings, gap_in, heap_base, is_break_heap, is_free, kind_of, text_at, with_break, with_bytes, with_heap, with_mapping, with_protected, without_range, zeros_at};
-ghost use Rattle.pr_mem.specs.Answers.{access_answer, break_refusal, done_unless, has_heap_room, map_refusal, range_refusal, text_answer, with_text};
+ghost use Rattle.pr_parts.specs.AddressSpaces.{LeavesHeapPlace, break_limit, first_mappings, gap_in, heap_base, is_break_heap, is_free, text_at, with_break, with_bytes, with_heap, with_mapping, with_protected, without_range, zeros_at};
+ghost use Rattle.pr_mem.specs.Answers.{access_answer, break_refusal, done_unless, has_heap_room, is_outside_heap_place, map_refusal, range_refusal, text_answer, with_text};
 
 use crate::{Map, MemFault, accesses, gaps, mappings, ranges, texts, writes};
-use pr_num::{Mapping, MappingKind, NoMemory};
+use pr_num::{Mapping, MappingKind, NoMemory, Prot};
 use std::alloc::Global;
 use std::marker::Model;
 
@@ -50,7 +50,8 @@ impl Space {
     pub fn first(alloc: Global, text: &[u8], bytes: &[u8]) -> Result<Space, NoMemory>
         requires text { length text.now ≤ 0x10000 }
         requires data { length bytes.now ≤ 0x10000 }
-        ensures { IfOk result (λ space. space ≡ first_mappings text.now bytes.now) }
+        ensures value { IfOk result (λ space. space ≡ first_mappings text.now bytes.now) }
+        ensures heap_place { IfOk result (λ space. All LeavesHeapPlace space) }
     {
         let mappings = mappings::first_mappings(alloc, text, bytes)?;
         let mapped = rounded(text.len()) + rounded(bytes.len()) + 4096;
@@ -91,6 +92,7 @@ impl Space {
         ensures answer { result ≡ access_answer (bytes_for need self.old at (length bytes.now)) }
         ensures ok { OnOk result (self.new ≡ with_bytes at bytes.now self.old) }
         ensures err { OnErr result (self.new ≡ self.old) }
+        ensures heap_place { All LeavesHeapPlace self.old → All LeavesHeapPlace self.new }
     {
         let first = ranges::place_at(&self.mappings, at);
         accesses::check(&self.mappings, first, need, at, bytes.len())?;
@@ -115,17 +117,16 @@ impl Space {
     }
 
     /// Maps zero bytes. Where a mapping stands there, where more than 1 MiB would be mapped, or where memory runs out,
-    /// the space stays as it is.
+    /// the space stays as it is. A mapping that has no byte where the heap can be leaves the heap its place, as the
+    /// other calls do.
     pub fn map(&mut self, alloc: Global, m: Map) -> Result<(), MemFault>
         requires size { 0 < m.size }
         requires end { m.at + m.size < 2 ^ 64 }
-        requires prot { m.prot < 8 }
-        requires least_kind { 1 ≤ m.kind }
-        requires most_kind { m.kind ≤ 5 }
         ensures refused { IfSome (map_refusal m.at m.size self.old) (λ fault. result ≡ Err fault) }
         ensures granted { map_refusal m.at m.size self.old ≡ None → IsOkUnless result MemFault.NoMemory }
-        ensures ok { OnOk result (self.new ≡ with_mapping (zeros_at m.at m.size m.prot (kind_of m.kind)) self.old) }
+        ensures ok { OnOk result (self.new ≡ with_mapping (zeros_at m.at m.size m.prot m.kind) self.old) }
         ensures err { OnErr result (self.new ≡ self.old) }
+        ensures heap_place { IsTrue (is_outside_heap_place m.at m.size) → All LeavesHeapPlace self.old → All LeavesHeapPlace self.new }
     {
         if !ranges::is_free(&self.mappings, m.at, m.size) {
             return Err(MemFault::Overlap);
@@ -133,9 +134,7 @@ impl Space {
         if m.size > Space::LIMIT - self.mapped {
             return Err(MemFault::TooBig);
         }
-        let prot = mappings::prot_of(m.prot);
-        let kind = mappings::kind_of(m.kind);
-        let mapping = mappings::zeros_at(alloc, m.at, m.size as usize, prot, kind)?;
+        let mapping = mappings::zeros_at(alloc, m.at, m.size as usize, m.prot, m.kind)?;
         self.add(mapping)?;
         Ok(())
     }
@@ -146,6 +145,7 @@ impl Space {
         ensures answer { result ≡ done_unless (range_refusal at size self.old) }
         ensures ok { OnOk result (self.new ≡ without_range at size self.old) }
         ensures err { OnErr result (self.new ≡ self.old) }
+        ensures heap_place { All LeavesHeapPlace self.old → All LeavesHeapPlace self.new }
     {
         let Some(place) = ranges::place_of(&self.mappings, at, size) else {
             return Err(MemFault::Hole { at });
@@ -156,16 +156,16 @@ impl Space {
 
     /// Lets the mapping that is this range allow something else; where none is, the space stays as it is.
     #[tactic(auto, using(pr_parts::proofs::SpaceLemmas::ranges))]
-    pub fn protect(&mut self, at: u64, size: u64, prot: u8) -> Result<(), MemFault>
-        requires { prot < 8 }
+    pub fn protect(&mut self, at: u64, size: u64, prot: Prot) -> Result<(), MemFault>
         ensures answer { result ≡ done_unless (range_refusal at size self.old) }
         ensures ok { OnOk result (self.new ≡ with_protected at size prot self.old) }
         ensures err { OnErr result (self.new ≡ self.old) }
+        ensures heap_place { All LeavesHeapPlace self.old → All LeavesHeapPlace self.new }
     {
         let Some(place) = ranges::place_of(&self.mappings, at, size) else {
             return Err(MemFault::Hole { at });
         };
-        mappings::set_prot(&mut self.mappings[place], mappings::prot_of(prot));
+        mappings::set_prot(&mut self.mappings[place], prot);
         Ok(())
     }
 
@@ -180,7 +180,7 @@ impl Space {
         ensures granted { break_refusal end self.old ≡ None → IsOkUnless result MemFault.NoMemory }
         ensures ok { OnOk result (self.new ≡ with_break end self.old) }
         ensures err { OnErr result (self.new ≡ self.old) }
-        ensures kept { All LeavesHeapPlace self.new }
+        ensures heap_place { All LeavesHeapPlace self.new }
     {
         let size = (end - ranges::HEAP + 4095) / 4096 * 4096;
         if !self.has_heap_room(size) {

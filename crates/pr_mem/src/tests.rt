@@ -1,4 +1,5 @@
 use super::*;
+use pr_num::{MappingKind, Prot};
 use std::test::Fail;
 
 const READ: u8 = 4;
@@ -7,20 +8,25 @@ const WRITE: u8 = 2;
 
 const EXEC: u8 = 1;
 
+/// To read and to write.
+fn change() -> Prot {
+    Prot::READ.union(Prot::WRITE)
+}
+
 /// A space with 0x20 bytes to read and write at 0x1000, and right behind them 0x10 bytes to read.
 fn two_mappings(rt: &HostRuntime) -> Result<Space, MemFault> {
     let mut space = Space::new(rt.alloc());
     let low = Map {
         at: 0x1000,
         size: 0x20,
-        prot: 6,
-        kind: 5,
+        prot: change(),
+        kind: MappingKind::Mapped,
     };
     let high = Map {
         at: 0x1020,
         size: 0x10,
-        prot: 4,
-        kind: 5,
+        prot: Prot::READ,
+        kind: MappingKind::Mapped,
     };
     space.map(rt.alloc(), high)?;
     space.map(rt.alloc(), low)?;
@@ -43,8 +49,8 @@ fn maps_where_nothing_stands(rt: HostRuntime) -> Result<(), Fail> {
         let map = Map {
             at,
             size,
-            prot: 7,
-            kind: 5,
+            prot: change().union(Prot::EXEC),
+            kind: MappingKind::Mapped,
         };
         assert!(rt; 0 < map.size);
         assert_eq!(rt; space.map(alloc, map), want, "at {at:#x}, {size} bytes");
@@ -91,10 +97,10 @@ fn accesses_byte_by_byte(rt: HostRuntime) -> Result<(), Fail> {
     );
     assert_eq!(rt; space.read(u64::MAX, &mut bytes[..0], READ), Ok(()));
     assert_eq!(rt;
-        space.protect(0x1000, 0x1f, 4),
+        space.protect(0x1000, 0x1f, Prot::READ),
         Err(MemFault::Hole { at: 0x1000 })
     );
-    assert_eq!(rt; space.protect(0x1000, 0x20, 4), Ok(()));
+    assert_eq!(rt; space.protect(0x1000, 0x20, Prot::READ), Ok(()));
     assert_eq!(rt;
         space.write(0x1000, &[1], WRITE),
         Err(MemFault::NotAllowed { at: 0x1000 })
@@ -122,6 +128,64 @@ fn reads_texts(rt: HostRuntime) -> Result<(), Fail> {
 }
 
 #[test]
+fn reads_no_text_that_may_only_be_written(rt: HostRuntime) -> Result<(), Fail> {
+    let mut space = Space::new(rt.alloc());
+    space.map(
+        rt.alloc(),
+        Map {
+            at: 0x1000,
+            size: 0x10,
+            prot: Prot::WRITE,
+            kind: MappingKind::Mapped,
+        },
+    )?;
+    let mut out = [9; 32];
+    assert_eq!(rt;
+        space.string_at(0x1004, 4, &mut out),
+        Err(MemFault::NotAllowed { at: 0x1004 })
+    );
+    assert_eq!(rt; space.string_at(0x1004, 0, &mut out), Ok(None));
+    assert_eq!(rt; out[..2], [9, 9][..]);
+    Ok(())
+}
+
+#[test]
+fn writes_nothing_that_reaches_a_hole(rt: HostRuntime) -> Result<(), Fail> {
+    let mut space = two_mappings(&rt)?;
+    assert_eq!(rt;
+        space.write(0x102e, &[1, 2, 3], 0),
+        Err(MemFault::Hole { at: 0x1030 })
+    );
+    let mut bytes = [9; 2];
+    assert_eq!(rt; space.read(0x102e, &mut bytes, READ), Ok(()));
+    assert_eq!(rt; bytes, [0, 0]);
+    Ok(())
+}
+
+/// A mapping ends before the last address, which has no byte.
+#[test]
+fn maps_up_to_the_last_address(rt: HostRuntime) -> Result<(), Fail> {
+    let mut space = Space::new(rt.alloc());
+    space.map(
+        rt.alloc(),
+        Map {
+            at: u64::MAX - 0x10,
+            size: 0x10,
+            prot: Prot::READ,
+            kind: MappingKind::Mapped,
+        },
+    )?;
+    let mut bytes = [9; 2];
+    assert_eq!(rt; space.read(u64::MAX - 2, &mut bytes, READ), Ok(()));
+    assert_eq!(rt; bytes, [0, 0]);
+    assert_eq!(rt;
+        space.read(u64::MAX - 1, &mut bytes, READ),
+        Err(MemFault::Hole { at: u64::MAX })
+    );
+    Ok(())
+}
+
+#[test]
 fn finds_the_least_gap(rt: HostRuntime) -> Result<(), Fail> {
     let mut space = Space::new(rt.alloc());
     assert_eq!(rt; space.gap(0x1000), Some(0x20_0000));
@@ -133,8 +197,8 @@ fn finds_the_least_gap(rt: HostRuntime) -> Result<(), Fail> {
         Map {
             at: 0x20_1000,
             size: 0x1001,
-            prot: 6,
-            kind: 5,
+            prot: change(),
+            kind: MappingKind::Mapped,
         },
     )?;
     assert_eq!(rt; space.gap(0x1000), Some(0x20_0000));
@@ -162,6 +226,30 @@ fn moves_the_break(rt: HostRuntime) -> Result<(), Fail> {
     assert_eq!(rt; bytes, [1, 2]);
     assert_eq!(rt; copy.read(0x10_0fff, &mut bytes, READ), Ok(()));
     assert_eq!(rt; bytes, [0, 0]);
+    Ok(())
+}
+
+#[test]
+fn moves_the_break_up_to_the_limit(rt: HostRuntime) -> Result<(), Fail> {
+    let mut space = Space::new(rt.alloc());
+    space.map(
+        rt.alloc(),
+        Map {
+            at: 0x20_0000,
+            size: 0x8_1000,
+            prot: Prot::READ,
+            kind: MappingKind::Mapped,
+        },
+    )?;
+    assert_eq!(rt; space.brk(rt.alloc(), 0x18_0000), Err(MemFault::TooBig));
+    assert_eq!(rt; space.mapped(), 0x8_1000);
+    assert_eq!(rt; space.brk(rt.alloc(), 0x17_f000), Ok(()));
+    assert_eq!(rt; space.mapped(), 0x10_0000);
+    assert_eq!(rt; space.brk(rt.alloc(), 0x17_f001), Err(MemFault::TooBig));
+    assert_eq!(rt; space.mapped(), 0x10_0000);
+    assert_eq!(rt; space.unmap(0x20_0000, 0x8_1000), Ok(()));
+    assert_eq!(rt; space.brk(rt.alloc(), 0x18_0000), Ok(()));
+    assert_eq!(rt; space.mapped(), 0x8_0000);
     Ok(())
 }
 

@@ -58,7 +58,7 @@ pub resized-size : (size : ℕ) (m : Mapping) → length (resized size m).bytes 
 unfolding resized
 resized-size size m = omega (arith, length-append (take size m.bytes) (replicate (size - length m.bytes) 0), length-take size m.bytes, length-replicate {A = ℕ} (size - length m.bytes) 0)
 
-All-changed : (P : Mapping → Type 0) (p : Mapping → Bool) (f : Mapping → Mapping) (xs : Space) → ((x : Mapping) → p x ≡ true → P x → P (f x)) → All P xs → All P (change_first p f xs)
+pub All-changed : (P : Mapping → Type 0) (p : Mapping → Bool) (f : Mapping → Mapping) (xs : Space) → ((x : Mapping) → p x ≡ true → P x → P (f x)) → All P xs → All P (change_first p f xs)
 All-changed P p f [] keeps all = all
 All-changed P p f (x ∷ xs) keeps all =
     elim (p x) as (λ b. p x ≡ b → All P (cond b (f x ∷ xs) (x ∷ change_first p f xs))) [ true ↦ λ t. All-cons P (f x) xs (keeps x t (All-head P x xs all)) (All-tail P x xs all) | false ↦ λ e. All-cons P x (change_first p f xs) (All-head P x xs all) (All-changed P p f xs keeps (All-tail P x xs all)) ] refl

@@ -9,7 +9,7 @@ use Rattle.pr_num.specs.Spaces.{Space, byte_for, is_heap, mapped_size, mapping_l
 use Rattle.pr_num.specs.declared.mappings.BadByte.{BadByte}
 use Rattle.pr_num.specs.declared.mappings.Mapping.{Mapping}
 use Rattle.pr_num.specs.declared.mappings.MappingKind.{MappingKind}
-use Rattle.pr_num.specs.declared.mappings.MappingKind.TheVariants.{Text, Data, Heap, Stack, Mapped}
+use Rattle.pr_num.specs.declared.mappings.MappingKind.TheVariants.{Text, Data, Heap, Stack}
 use Rattle.pr_parts.specs.ByAddress.{ranges_meet, with_placed}
 
 -- ---- mapping (mmap(2))
@@ -29,14 +29,6 @@ is_free at size space = not (list_any (meets at size) space)
 -- whether so many bytes more can be mapped
 abbrev pub has_room : ℕ → Space → Bool
 has_room size space = nat_le (mapped_size space + size) mapping_limit
-
--- the kind of mapping that has a number from 1 to 5
-abbrev pub kind_of : ℕ → MappingKind
-kind_of n =
-    if n == 1 then Text
-    else (if n == 2 then Data
-    else (if n == 3 then Heap
-    else (if n == 4 then Stack else Mapped)))
 
 -- a mapping of so many zero bytes
 abbrev pub zeros_at : ℕ → ℕ → ℕ → MappingKind → Mapping

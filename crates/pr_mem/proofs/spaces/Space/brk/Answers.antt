@@ -5,6 +5,6 @@ use Rattle.pr_parts.specs.AddressSpaces.{LeavesHeapPlace, heap_base}
 use Rattle.pr_parts.proofs.HeapLemmas.{LeavesHeapPlace-with_heap}
 use Rattle.pr_mem.proofs.spaces.Space.brk.Goals as goal
 
-pub returns-clause-kept : goal.returns-clause-kept
-returns-clause-kept c =
+pub returns-clause-heap_place : goal.returns-clause-heap_place
+returns-clause-heap_place c =
     subst (All LeavesHeapPlace) (sym c.in_ok-set_heap.ensures.ok) (LeavesHeapPlace-with_heap (rounded (c.args.end - heap_base)) c.args.self.now c.requires.place)
