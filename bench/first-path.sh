@@ -26,7 +26,7 @@ scenario() {
   }'
 }
 
-# timed: the seconds that the program takes for the input, and nothing where it does not end as a run does
+# timed: the seconds that the program takes for the input; it ends with 0, or with 3 where the turns do not suffice
 timed() {
   local start end status=0
   start=$(date +%s.%N)

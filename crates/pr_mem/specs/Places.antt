@@ -9,7 +9,7 @@ abbrev pub ends_before : ℕ → Mapping → Bool
 ends_before address m = nat_le (m.at + length m.bytes) address
 
 -- The place of an address: the mappings before it have all their bytes before the address, and those from it on end
--- behind it. So the one in the place, if any, has the byte at the address.
+-- behind it. So if a mapping has the byte at the address, it is the one in the place.
 pub record IsPlace (space : Space) (address place : ℕ) : Type 0 where
   pub within : place ≤ length space
   pub before : AllWithin (λ (m : Mapping). m.at + length m.bytes ≤ address) space 0 place

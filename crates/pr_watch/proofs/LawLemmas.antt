@@ -1,11 +1,12 @@
 -- What an access hits that does not wrap.
 use Rattle.std.proofs.Common.{◌≡◌, ℕ, zero, suc, ◌+◌, ◌^◌, ◌%◌, ◌<◌, ◌≤◌, Bool, true, false, leb, cond, ◌||◌, Option, Some, None, is_some, List, [], ◌∷◌, refl, sym, ◌∙◌, ap, arith, inl, inr}
 use Rattle.std.specs.List.{list_any}
+use Rattle.std.specs.Option.{option_map}
 use Rattle.std.proofs.lemmas.Bool.{leb-true, leb-false, false≢true, cases_Bool}
 use Rattle.std.proofs.lemmas.Option.{same_Some}
 use Rattle.pr_num.specs.declared.mappings.Area.{Area}
 use Rattle.pr_parts.specs.WatchedAreas.{first_hit, watches, watcher, hit_in}
-use Rattle.pr_watch.specs.Laws.{is_watched, IsLeastWatched, IsUnwatched}
+use Rattle.pr_watch.specs.Laws.{is_watched, traps_after, IsLeastWatched, IsUnwatched}
 
 -- a byte is watched where an area is found that watches it
 is_watched-watcher : (kind byte : ℕ) (areas : List Area) → is_watched kind areas byte ≡ is_some (watcher kind areas byte)
@@ -33,19 +34,20 @@ not_first : (kind address byte : ℕ) (areas : List Area) → watcher kind areas
 not_first kind address byte areas none low others =
     elim (cases_Bool (leb byte address)) [ inl t ↦ (let same : byte ≡ address = omega (arith, leb-true byte address t) in ap (is_watched kind areas) same ∙ is_watched-watcher kind address areas ∙ ap is_some none) | inr f ↦ others (omega (arith, leb-false byte address f)) ]
 
-pub hit_in-least : (kind address size byte : ℕ) (after : Bool) (areas : List Area) → address + size ≤ 2 ^ 64 → hit_in kind areas address size ≡ Some (byte, after) → IsLeastWatched kind areas address size byte
+pub hit_in-least : (kind address size byte : ℕ) (after : Bool) (areas : List Area) → address + size ≤ 2 ^ 64 → hit_in kind areas address size ≡ Some (byte, after) → IsLeastWatched kind areas address size byte after
 unfolding hit_in
 hit_in-least kind address zero byte after areas within hit = absurd cc
 hit_in-least kind address (suc size) byte after areas within hit =
     by (watcher kind areas address) refl hit (λ e. hit_in-least kind (address + 1) size byte after areas (omega arith) (sym (behind_first kind address size areas within) ∙ e))
   where
-    by : (here : Option Area) → watcher kind areas address ≡ here → first_hit address here (hit_in kind areas ((address + 1) % 2 ^ 64) size) ≡ Some (byte, after) → (hit_in kind areas ((address + 1) % 2 ^ 64) size ≡ Some (byte, after) → IsLeastWatched kind areas (address + 1) size byte) → IsLeastWatched kind areas address (suc size) byte
+    by : (here : Option Area) → watcher kind areas address ≡ here → first_hit address here (hit_in kind areas ((address + 1) % 2 ^ 64) size) ≡ Some (byte, after) → (hit_in kind areas ((address + 1) % 2 ^ 64) size ≡ Some (byte, after) → IsLeastWatched kind areas (address + 1) size byte after) → IsLeastWatched kind areas address (suc size) byte after
     by (Some a) is e others =
         let same : address ≡ byte = ap (λ (p : ℕ × Bool). p.0) (same_Some _ _ e) in
         record {
           from = omega arith;
           to = omega arith;
           watched = ap (is_watched kind areas) (sym same) ∙ is_watched-watcher kind address areas ∙ ap is_some is;
+          after_is = ap (λ (b : ℕ). option_map traps_after (watcher kind areas b)) (sym same) ∙ ap (option_map traps_after) is ∙ ap Some (ap (λ (p : ℕ × Bool). p.1) (same_Some _ _ e));
           least = λ lower low high. absurd (omega arith);
         }
     by None is e others =
@@ -54,6 +56,7 @@ hit_in-least kind address (suc size) byte after areas within hit =
           from = omega (arith, rest.from);
           to = omega (arith, rest.to);
           watched = rest.watched;
+          after_is = rest.after_is;
           least = λ lower low high. not_first kind address lower areas is low (λ more. rest.least lower more high);
         }
 

@@ -14,10 +14,10 @@ use Rattle.pr_scen.specs.declared.refusals.ScenFault.{ScenFault}
 use Rattle.pr_scen.specs.declared.scenarios.Scenario.{Scenario}
 use Rattle.pr_world.specs.Runs.{IsFresh}
 use Rattle.pr_world.specs.Worlds.{WorldState, after_moves, all_finished, end_of, end_with, next_actor, quiet_end}
-use Rattle.pr_world.proofs.NextLemmas.{moves-counted, run-places}
+use Rattle.pr_world.proofs.NextLemmas.{moves-counted}
 use Rattle.pr_world.proofs.RestLemmas.{all-rest, next-can}
 use Rattle.proclab.specs.Ends.{EndsAs, IsFull, IsOver, IsStuck}
-use Rattle.proclab.proofs.RunLemmas.{first_world-fresh, first_world-places}
+use Rattle.proclab.proofs.RunLemmas.{first_world-fresh}
 use Rattle.proclab.specs.Answers.{Answer, Took, TookAll, IsAfterMoves, IsGiven, IsCutShort, RanOutEarly, RanOutLate, answer_of, answer_to, end_status, input_limit, ran, ran_so, refused_at, taken_of}
 use Rattle.proclab.specs.Serving.{Answered, AnswersInput, CutShort, HistoryIsKept, IsHistoryOfRun, LeftNothing, RanOut, RanOutBehind, RunsScenario}
 
@@ -97,29 +97,28 @@ answers-input (Some left) new status h w v a = subst (λ (i : Option (List ℕ))
 
 -- ---- a scenario is run
 
-ended : (first : WorldState) (n : ℕ) → IsFresh first → n ≡ first.kernel.places → (next : Option Actor) → next_actor (after_moves n first) ≡ next → EndsAs (after_moves n first) (end_status (end_with (after_moves n first) next))
+ended : (first : WorldState) (n : ℕ) → IsFresh first → (next : Option Actor) → next_actor (after_moves n first) ≡ next → EndsAs n (after_moves n first) (end_status (end_with (after_moves n first) next))
 unfolding end_status
-ended first n fresh all None rest = by (all_finished (after_moves n first)) refl
+ended first n fresh None rest = by (all_finished (after_moves n first)) refl
   where
-    by : (b : Bool) → all_finished (after_moves n first) ≡ b → EndsAs (after_moves n first) (end_status (quiet_end b))
+    by : (b : Bool) → all_finished (after_moves n first) ≡ b → EndsAs n (after_moves n first) (end_status (quiet_end b))
     by true finished = inl (refl, record { rest = λ actor. all-rest (after_moves n first) actor rest; finished = finished })
     by false unfinished = inr (inr (refl, record { rest = λ actor. all-rest (after_moves n first) actor rest; unfinished = unfinished }))
-ended first n fresh all (Some actor) next =
-    let made : length (after_moves n first).kernel.history ≡ n = moves-counted first n fresh (ap is_some next) in
-    inr (inl (refl, record { mover = actor; can_move = next-can (after_moves n first) actor next; full = made ∙ all ∙ sym (run-places first n) }))
+ended first n fresh (Some actor) next =
+    inr (inl (refl, record { mover = actor; can_move = next-can (after_moves n first) actor next; full = moves-counted first n fresh (ap is_some next) }))
 
-run_ended : (s : Scenario) → EndsAs (run_of s) (end_status (end_of (run_of s)))
+run_ended : (s : Scenario) → EndsAs s.turns (run_of s) (end_status (end_of (run_of s)))
 unfolding end_of
-run_ended s = ended (first_world s) s.turns (first_world-fresh s) (sym (first_world-places s)) (next_actor (run_of s)) refl
+run_ended s = ended (first_world s) s.turns (first_world-fresh s) (next_actor (run_of s)) refl
 
-run_given : (text : List ℕ) (s : Result Scenario ScenFault) (status : ℕ) → scenario_of text ≡ s → (status ≤ 4 → status ≡ (answer_of (scenario_of text)).status) → IfOk s (λ scenario. status ≤ 4 → EndsAs (run_of scenario) status)
+run_given : (text : List ℕ) (s : Result Scenario ScenFault) (status : ℕ) → scenario_of text ≡ s → (status ≤ 4 → status ≡ (answer_of (scenario_of text)).status) → IfOk s (λ scenario. status ≤ 4 → EndsAs scenario.turns (run_of scenario) status)
 unfolding answer_of ran ran_so
 run_given text (Err fault) status spelt is = tt
 run_given text (Ok s) status spelt is = λ four.
     let given : status ≡ end_status (end_of (run_of s)) = is four ∙ ap (λ (x : Result Scenario ScenFault). (answer_of x).status) spelt in
-    subst (EndsAs (run_of s)) (sym given) (run_ended s)
+    subst (EndsAs s.turns (run_of s)) (sym given) (run_ended s)
 
-run_taken : (input : Option (List ℕ)) (status : ℕ) → (status ≤ 4 → status ≡ (answer_to input).status) → IfSome input (λ text. IfOk (scenario_of text) (λ scenario. status ≤ 4 → EndsAs (run_of scenario) status))
+run_taken : (input : Option (List ℕ)) (status : ℕ) → (status ≤ 4 → status ≡ (answer_to input).status) → IfSome input (λ text. IfOk (scenario_of text) (λ scenario. status ≤ 4 → EndsAs scenario.turns (run_of scenario) status))
 unfolding answer_to
 run_taken None status is = tt
 run_taken (Some text) status is = run_given text (scenario_of text) status refl is

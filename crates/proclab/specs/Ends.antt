@@ -2,23 +2,23 @@ use Rattle.std.specs.Prelude.{◌≡◌, ◌⊎◌, ℕ, true, false, length}
 use Rattle.pr_model.specs.declared.events.Actor.{Actor}
 use Rattle.pr_world.specs.Worlds.{WorldState, all_finished, can_act}
 
--- The cause of each status of a run that was made, in the world that the run led to. Just one of them holds of a world.
+-- The cause of each status of a run that was made, in the world that the run led to. No two of them hold of one world.
 
 -- 0: nobody can move, and every controller has finished
 pub record IsOver (w : WorldState) : Type 0 where
   pub rest : (actor : Actor) → can_act w actor ≡ false
   pub finished : all_finished w ≡ true
 
--- 3: somebody can move, and the history has all its entries
-pub record IsFull (w : WorldState) : Type 0 where
+-- 3: somebody can move, and the history has as many entries as the scenario has turns
+pub record IsFull (turns : ℕ) (w : WorldState) : Type 0 where
   pub mover : Actor
   pub can_move : can_act w mover ≡ true
-  pub full : length w.kernel.history ≡ w.kernel.places
+  pub full : length w.kernel.history ≡ turns
 
 -- 4: nobody can move, and a controller has not finished
 pub record IsStuck (w : WorldState) : Type 0 where
   pub rest : (actor : Actor) → can_act w actor ≡ false
   pub unfinished : all_finished w ≡ false
 
-abbrev pub EndsAs : WorldState → ℕ → Type 0
-EndsAs w status = ((status ≡ 0) × IsOver w) ⊎ (((status ≡ 3) × IsFull w) ⊎ ((status ≡ 4) × IsStuck w))
+abbrev pub EndsAs : ℕ → WorldState → ℕ → Type 0
+EndsAs turns w status = ((status ≡ 0) × IsOver w) ⊎ (((status ≡ 3) × IsFull turns w) ⊎ ((status ≡ 4) × IsStuck w))

@@ -52,8 +52,8 @@ abbrev pub AnswersInput : Option (List ℕ) → ℕ → List Entry → Option (L
 AnswersInput left status history written_old written_new =
     IfSome left (λ input. IsGiven (answer_to (taken_of input)) status history written_old written_new)
 
--- Completeness: an input that is a scenario is run, where no memory is wanting, or a read or a write failed; and the
--- status says how the run ended.
+-- Completeness: an input that is a scenario is run, unless memory is wanting or a read or a write failed; and where it was
+-- run, the status says how it ended.
 abbrev pub RunsScenario : Option (List ℕ) → ℕ → Type 0
 RunsScenario left status =
-    IfSome left (λ input. IfSome (taken_of input) (λ text. IfOk (scenario_of text) (λ scenario. status ≤ 4 → EndsAs (run_of scenario) status)))
+    IfSome left (λ input. IfSome (taken_of input) (λ text. IfOk (scenario_of text) (λ scenario. status ≤ 4 → EndsAs scenario.turns (run_of scenario) status)))

@@ -1,7 +1,7 @@
 //! The program `proclab`: its words say what is done, and its status how that ended.
 #![tactic(auto)]
 
-ghost use Rattle.std.specs.Prelude.{◌≡◌, drop, IfOk, IfErr};
+ghost use Rattle.std.specs.Prelude.{◌≡◌, ◌≢◌, [], drop, IfOk, IfErr};
 ghost use Rattle.std.specs.IoError.{error_kind};
 ghost use Rattle.std.specs.Vec.Iter.{into_iter_items};
 ghost use Rattle.std.specs.declared.io.ErrorKind.TheVariants.{OutOfMemory};
@@ -21,7 +21,7 @@ use crate::outcomes::Status;
 use crate::serving::serve;
 use pr_io::{OpenGate, StdSink, StdSource};
 use std::alloc::{AllocError, Global};
-use std::env::{Args, Env};
+use std::env::Args;
 use std::io::ErrorKind;
 use std::process::ExitCode;
 use std::{env, io};
@@ -33,20 +33,22 @@ fn words_behind_name(alloc: Global, arguments: Args) -> Result<Vec<String>, Allo
     arguments.skip(1).collect(alloc)
 }
 
-// The words after the program's name; none where a word is no text, since none of any shape has such a word. Which
-// arguments a program gets is nothing that a contract can say.
-fn words_of<R: Env + Alloc<A = Global>>(rt: &R) -> io::Result<Vec<String>>
-    ensures { IfErr result (λ error. error_kind error ≡ OutOfMemory) }
+// The words of a program that was given these arguments, or was not for this error; none where an argument is no text,
+// since words of no shape have such a word.
+fn words_of(alloc: Global, given: io::Result<Args>) -> io::Result<Vec<String>>
+    ensures words { IfOk given (λ arguments. IfOk result (λ words. words.items ≡ drop 1 (into_iter_items arguments))) }
+    ensures no_text { IfErr given (λ error. error_kind error ≢ OutOfMemory → IfOk result (λ words. words.items ≡ [])) }
+    ensures memory { IfErr result (λ error. error_kind error ≡ OutOfMemory) }
 {
-    match env::args(rt) {
-        Ok(arguments) => Ok(words_behind_name(rt.alloc(), arguments)?),
+    match given {
+        Ok(arguments) => Ok(words_behind_name(alloc, arguments)?),
         Err(error) if error.kind() == ErrorKind::OutOfMemory => Err(error),
-        Err(_) => Ok(Vec::new(rt.alloc())),
+        Err(_) => Ok(Vec::new(alloc)),
     }
 }
 
 fn main(rt: HostRuntime) -> ExitCode {
-    let Ok(words) = words_of(&rt) else {
+    let Ok(words) = words_of(rt.alloc(), env::args(&rt)) else {
         return ExitCode::from(Status::OutOfMemory as u8);
     };
     let mut source = StdSource::new(rt.stdin());

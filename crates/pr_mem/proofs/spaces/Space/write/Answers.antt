@@ -13,4 +13,4 @@ invariant_of-self c =
     (subst IsSpace (sym now) (IsSpace-with_bytes c.args.at c.args.bytes.now items c.self.invariant.0), c.self.invariant.1 ∙ sym (ap mapped_size now ∙ mapped_size-with_bytes c.args.at c.args.bytes.now items))
 
 pub returns-clause-heap_place : goal.returns-clause-heap_place
-returns-clause-heap_place c = λ leaves. subst (All LeavesHeapPlace) (sym c.write_all.ensures) (LeavesHeapPlace-with_bytes c.args.at c.args.bytes.now c.self.inside.mappings.items (subst (All LeavesHeapPlace) (sym c.self.view_is) leaves))
+returns-clause-heap_place c = λ leaves. subst (All LeavesHeapPlace) (sym c.write_from.ensures) (LeavesHeapPlace-with_bytes c.args.at c.args.bytes.now c.self.inside.mappings.items (subst (All LeavesHeapPlace) (sym c.self.view_is) leaves))
