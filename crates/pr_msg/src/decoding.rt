@@ -2,7 +2,7 @@ ghost use Rattle.std.specs.Prelude.{◌≡◌, ◌↔◌, ◌==◌, ◌+◌, ◌
 ghost use Rattle.std.specs.List.{list_all};
 ghost use Rattle.pr_num.specs.declared.messages.Message.{Message};
 ghost use Rattle.pr_msg.specs.Beginnings.{BeginsWith};
-ghost use Rattle.pr_num.specs.Messages.{nth_word, one_word, two_words, three_words, eleven_words, message_read, bad_operand, in_columns, tail_length, operand_count, unpadded_length, spelt_length, with_tail, first_message};
+ghost use Rattle.pr_num.specs.Messages.{nth_word, one_word, two_words, three_words, eleven_words, message_read, bad_operand, in_columns, tail_length, operand_count, unpadded_length, encoded_length, with_tail, first_message};
 
 use crate::paddings::padding;
 use pr_codec::{WORD, word};
@@ -253,7 +253,7 @@ fn are_zeros(bytes: &[u8]) -> bool
     bytes.iter().all(|byte| *byte == 0)
 }
 
-#[tactic(auto, unfolding(pr_num::specs::Messages::with_tail, pr_num::specs::Messages::spelt_length, pr_num::specs::Messages::unpadded_length))]
+#[tactic(auto, unfolding(pr_num::specs::Messages::with_tail, pr_num::specs::Messages::encoded_length, pr_num::specs::Messages::unpadded_length))]
 fn with_tail(bytes: &[u8], message: Message) -> Result<(Message, usize), MsgFault>
     requires { tail_length message ≤ 4096 }
     ensures { result ≡ with_tail bytes.now message }
