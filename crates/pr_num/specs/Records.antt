@@ -150,14 +150,15 @@ entries_words entries = flat_map (λ (words : List ℕ). words) entries
 abbrev pub counted_words : List (List ℕ) → List ℕ
 counted_words entries = length entries ∷ entries_words entries
 
--- The place of the first word that is out of its range, if there is one; words and ranges are as many.
+-- The place of the first word that is out of its range, if there is one, counted from a place on. Words and ranges are
+-- as many.
+abbrev pub first_out_from : ℕ → List Range → List ℕ → Option ℕ
+first_out_from at [] words = None
+first_out_from at (r ∷ rs) [] = None
+first_out_from at (r ∷ rs) (w ∷ ws) = if r w then first_out_from (at + 1) rs ws else Some at
+
 abbrev pub first_out_of_range : List Range → List ℕ → Option ℕ
-first_out_of_range ranges words = out_from 0 ranges words
-  where
-    out_from : ℕ → List Range → List ℕ → Option ℕ
-    out_from at [] words = None
-    out_from at (r ∷ rs) [] = None
-    out_from at (r ∷ rs) (w ∷ ws) = if r w then out_from (at + 1) rs ws else Some at
+first_out_of_range ranges words = first_out_from 0 ranges words
 
 -- The wire format of records: these bytes encode a record of these words, each in its range.
 pub record EncodesRecord (ranges : List Range) (bytes words : List ℕ) : Type 0 where
