@@ -1,8 +1,9 @@
 pub mod CloseLemmas
+pub mod FileLemmas
+pub mod HeapLemmas
 pub mod KeptLemmas
 pub mod MessageLemmas
 pub mod OrderLemmas
-pub mod PlaceLemmas
 pub mod SoundLemmas
 pub mod StartLemmas
 pub mod StepLemmas

@@ -1,12 +1,7 @@
-use Rattle.std.proofs.Common.{◌≡◌, ℕ, ◌<◌, ◌≤◌, ◌^◌, Bool, true, false, eqb, cond, Option, Some, None, IfSome, Result, Ok, Err, List, [], ◌∷◌, refl, sym, subst, inl, inr, arith}
-use Rattle.std.specs.List.{All, find}
+use Rattle.std.proofs.Common.{◌≡◌, ℕ, ◌≤◌, Bool, true, false, eqb, cond, Option, Some, None, IfSome, Result, Ok, Err, List, refl, sym, subst, inl, inr, arith}
 use Rattle.std.specs.Option.{option_map}
 use Rattle.std.proofs.lemmas.Bool.{cases_Bool}
-use Rattle.std.proofs.lemmas.Option.{same_Some}
-use Rattle.std.proofs.lemmas.List.Elements.{All-head, All-tail, All-map, All-weaker}
-use Rattle.pr_num.proofs.TableLaws.{All-change_first}
 use Rattle.pr_num.specs.Control.{has_flags, klc_mode, rlc_mode}
-use Rattle.pr_num.specs.Spaces.{heap_size, mapping_limit}
 use Rattle.pr_num.specs.Messages.{first_message}
 use Rattle.pr_num.specs.declared.errnos.Errno.{Errno}
 use Rattle.pr_num.specs.declared.errnos.Errno.TheVariants.{Intr}
@@ -16,8 +11,7 @@ use Rattle.pr_num.specs.declared.messages.MsgFault.{MsgFault}
 use Rattle.pr_model.specs.Calls.{Answer, refused, answer_to, open_unless, opened, open_answer, close_held, close_answer, read_held, read_answer, read_file, read_status, readable, controlled, waited}
 use Rattle.pr_model.specs.ControlMessages.{Controlled, refused as message_refused, control_answer, held_answer, targeted_answer, decoded_answer, message_answer, run_answer, target_of, control_handle, with_directed}
 use Rattle.pr_model.specs.Handles.{handle_of, is_of_lwp, released, after_last_close, with_last_close, with_closed, with_opened, sigkill}
-use Rattle.pr_model.specs.Lives.{zombie, bare_process, orphaned, told_of_child, with_parent_told, with_ended}
-use Rattle.pr_model.specs.Lwps.{is_process}
+use Rattle.pr_model.specs.Lives.{with_parent_told, with_ended}
 use Rattle.pr_model.specs.Running.{with_run}
 use Rattle.pr_model.specs.State.{TracedState, TracedSystem, TracedProcess, live_process, with_process}
 use Rattle.pr_model.specs.Stops.{with_all_directed}
@@ -29,57 +23,9 @@ use Rattle.pr_model.specs.declared.calls.Reply.{Reply}
 use Rattle.pr_model.specs.declared.calls.Reply.TheVariants.{Fail}
 use Rattle.pr_model.specs.declared.handles.Held.{Held}
 use Rattle.pr_proc.proofs.CountLemmas.{AllUsedAtMost-more, AllUsedAtMost-with_process, AllUsedAtMost-with_ended, released-usage}
-use Rattle.pr_proc.proofs.LifeLemmas.{live_process-found}
-use Rattle.pr_kern.specs.Soundness.{HasSmallHeap, HaveSmallHeaps, IsSound}
+use Rattle.pr_kern.specs.Soundness.{IsSound}
 
 -- What the calls of controllers leave of a sound system.
-
--- ---- heaps
-
-All-find : {X : Type 0} (P : X → Type 0) (t : X → Bool) (x : X) (xs : List X) → find t xs ≡ Some x → All P xs → P x
-All-find P t x [] found all = cc
-All-find P t x (y ∷ ys) found all =
-    elim (cases_Bool (t y)) [ inl here ↦ subst P (same_Some y x (let Q : Bool → Type 0 = λ b. cond b (Some y) (find t ys) ≡ Some x in subst Q here found)) (All-head P y ys all) | inr not_here ↦ All-find P t x ys (let Q : Bool → Type 0 = λ b. cond b (Some y) (find t ys) ≡ Some x in subst Q not_here found) (All-tail P y ys all) ]
-
--- the heap of a live process is small
-pub heap-live : (s : TracedSystem) (pid : ℕ) (p : TracedProcess) → live_process s pid ≡ Some p → HaveSmallHeaps s → heap_size p.space < 2 ^ 64
-heap-live s pid p live h =
-    let small : heap_size p.space ≤ mapping_limit = All-find HasSmallHeap (is_process pid) p s.processes (live_process-found s pid p live) h.each in
-    omega arith
-
--- a process whose space is that of another one has a heap as small
-small-same : (p q : TracedProcess) → q.space ≡ p.space → HasSmallHeap p → HasSmallHeap q
-small-same p q same h = subst (λ space. heap_size space ≤ mapping_limit) (sym same) h
-
-pub heaps-with_process : (pid : ℕ) (f : TracedProcess → TracedProcess) (s : TracedSystem) → ((p : TracedProcess) → HasSmallHeap p → HasSmallHeap (f p)) → HaveSmallHeaps s → HaveSmallHeaps (with_process pid f s)
-unfolding with_process
-heaps-with_process pid f s keeps h = record { each = All-change_first HasSmallHeap (is_process pid) f (λ p _ small. keeps p small) s.processes h.each }
-
-told_of_child-space : (p : TracedProcess) → (told_of_child p).space ≡ p.space
-unfolding told_of_child
-told_of_child-space p = elim p.ended as (λ o. (told_of_child (record p { ended = o })).space ≡ p.space) [ None ↦ refl | Some status ↦ refl ]
-
-orphaned-space : (pid : ℕ) (p : TracedProcess) → (orphaned pid p).space ≡ p.space
-unfolding orphaned
-orphaned-space pid p = elim (cases_Bool (eqb p.parent pid)) [ inl here ↦ rw here refl | inr not_here ↦ rw not_here refl ]
-
--- nothing is mapped in a zombie
-zombie-small : (status : ℕ) (p : TracedProcess) → HasSmallHeap (zombie status p)
-unfolding zombie bare_process
-zombie-small status p = omega arith
-
-heaps-with_parent_told : (parent : ℕ) (s : TracedSystem) → HaveSmallHeaps s → HaveSmallHeaps (with_parent_told parent s)
-unfolding with_parent_told
-heaps-with_parent_told parent s h =
-    elim (cases_Bool (eqb parent 0)) [ inl none ↦ rw none h | inr some ↦ rw some (heaps-with_process parent told_of_child s (λ p. small-same p (told_of_child p) (told_of_child-space p)) h) ]
-
-pub heaps-with_ended : (status : ℕ) (p : TracedProcess) (s : TracedSystem) → HaveSmallHeaps s → HaveSmallHeaps (with_ended p status s)
-unfolding with_ended
-heaps-with_ended status p s h =
-    heaps-with_parent_told p.parent _ (record {
-      each =
-          All-map HasSmallHeap (orphaned p.id) _ (All-weaker HasSmallHeap (λ q. HasSmallHeap (orphaned p.id q)) (λ q small. small-same q (orphaned p.id q) (orphaned-space p.id q) small) _ (All-change_first HasSmallHeap (is_process p.id) (zombie status) (λ q _ small. zombie-small status q) s.processes h.each));
-    })
 
 -- ---- the clock
 
@@ -95,42 +41,28 @@ clock-with_ended status p s = clock-with_parent_told p.parent _
 
 -- a sound system is sound after more steps
 pub IsSound-more : (n m : ℕ) (s : TracedSystem) → n ≤ m → IsSound n s → IsSound m s
-IsSound-more n m s more h = record { clock = omega (arith, h.clock); counts = AllUsedAtMost-more n m s more h.counts; heaps = h.heaps }
+IsSound-more n m s more h = record { clock = omega (arith, h.clock); counts = AllUsedAtMost-more n m s more h.counts }
 
-sound-with_process : (n pid : ℕ) (f : TracedProcess → TracedProcess) (s : TracedSystem) → ((p : TracedProcess) → (f p).usage ≡ p.usage) → ((p : TracedProcess) → (f p).space ≡ p.space) → IsSound n s → IsSound n (with_process pid f s)
+sound-with_process : (n pid : ℕ) (f : TracedProcess → TracedProcess) (s : TracedSystem) → ((p : TracedProcess) → (f p).usage ≡ p.usage) → IsSound n s → IsSound n (with_process pid f s)
 unfolding with_process
-sound-with_process n pid f s usage space h = record {
+sound-with_process n pid f s usage h = record {
   clock = h.clock;
   counts = AllUsedAtMost-with_process n pid f s usage h.counts;
-  heaps = heaps-with_process pid f s (λ p. small-same p (f p) (space p)) h.heaps;
 }
 
 sound-with_ended : (n status : ℕ) (p : TracedProcess) (s : TracedSystem) → IsSound n s → IsSound n (with_ended p status s)
 sound-with_ended n status p s h = record {
   clock = subst (λ c. c ≤ n) (sym (clock-with_ended status p s)) h.clock;
   counts = AllUsedAtMost-with_ended n status p s h.counts;
-  heaps = heaps-with_ended status p s h.heaps;
 }
-
-released-space : (p : TracedProcess) → (released p).space ≡ p.space
-unfolding released
-released-space p = refl
 
 with_run-usage : (p : TracedProcess) → (with_run p).usage ≡ p.usage
 unfolding with_run
 with_run-usage p = refl
 
-with_run-space : (p : TracedProcess) → (with_run p).space ≡ p.space
-unfolding with_run
-with_run-space p = refl
-
 with_directed-usage : (h : Held) (p : TracedProcess) → (with_directed h p).usage ≡ p.usage
 unfolding with_directed with_all_directed
 with_directed-usage h p = elim (cases_Bool (is_of_lwp h.file)) [ inl one ↦ rw one refl | inr all ↦ rw all refl ]
-
-with_directed-space : (h : Held) (p : TracedProcess) → (with_directed h p).space ≡ p.space
-unfolding with_directed with_all_directed
-with_directed-space h p = elim (cases_Bool (is_of_lwp h.file)) [ inl one ↦ rw one refl | inr all ↦ rw all refl ]
 
 -- ---- control messages, a lemma a row
 
@@ -161,10 +93,10 @@ module _ (n : ℕ) (s : TracedSystem) (sound : IsSound n s) where
   unless-kept false e c h = h
 
   directed-sound : (h : Held) (pid : ℕ) → IsSound n (with_process pid (with_directed h) s)
-  directed-sound h pid = sound-with_process n pid (with_directed h) s (with_directed-usage h) (with_directed-space h) sound
+  directed-sound h pid = sound-with_process n pid (with_directed h) s (with_directed-usage h) sound
 
   run-sound : (pid : ℕ) → IsSound n (with_process pid with_run s)
-  run-sound pid = sound-with_process n pid with_run s with_run-usage with_run-space sound
+  run-sound pid = sound-with_process n pid with_run s with_run-usage sound
 
   run-kept : (h : Held) (p : TracedProcess) (flags length : ℕ) → Kept (run_answer s h p flags length)
   run-kept h p flags length = none-kept _ _ (unless-kept _ _ _ (granted _ (run-sound p.id)))
@@ -194,7 +126,7 @@ module _ (n : ℕ) (s : TracedSystem) (sound : IsSound n s) where
 
   close-cases : (p : TracedProcess) (killed let_go : Bool) → IsSound n (cond killed (with_ended p sigkill s) (cond let_go (with_process p.id released s) s))
   close-cases p true let_go = sound-with_ended n sigkill p s sound
-  close-cases p false true = sound-with_process n p.id released s released-usage released-space sound
+  close-cases p false true = sound-with_process n p.id released s released-usage sound
   close-cases p false false = sound
 
   last_close-sound : (p : Option TracedProcess) → IsSound n (after_last_close p s)
@@ -285,5 +217,3 @@ module _ (n : ℕ) (s : TracedState) (by : ℕ) (sound : IsSound n s.system) whe
 pub answer-sound : (n : ℕ) (s : TracedState) (by : ℕ) (c : calls.Call) (a : Answer) → answer_to s by c ≡ Some a → IsSound n s.system → IsSound n a.state.system
 unfolding Leaves
 answer-sound n s by c a e sound = let Q : Option Answer → Type 0 = λ o. IfSome o (λ a. IsSound n a.state.system) in subst Q e (answer-leaves n s by sound c)
-
-pub ruleset heap_laws = (heap-live)

@@ -1,25 +1,14 @@
 use Rattle.std.specs.Prelude.{◌≤◌, ◌<◌, ◌+◌, ◌^◌, ℕ, length}
-use Rattle.std.specs.List.{All}
-use Rattle.pr_num.specs.Spaces.{heap_size, mapping_limit}
 use Rattle.pr_proc.specs.Counts.{AllUsedAtMost}
 use Rattle.pr_model.specs.Kept.{Kept}
-use Rattle.pr_model.specs.State.{TracedSystem, TracedProcess}
+use Rattle.pr_model.specs.State.{TracedSystem}
 
 -- What the kernel keeps of its system and its history, so that all numbers fit their types and each step has its place.
 
--- the heap of a process is within the limit of an address space
-abbrev pub HasSmallHeap : TracedProcess → Type 0
-HasSmallHeap p = heap_size p.space ≤ mapping_limit
-
--- that of every process is
-pub record HaveSmallHeaps (s : TracedSystem) : Type 0 where
-  pub each : All HasSmallHeap s.processes
-
--- After n steps the clock is at most n, no process has used anything more than n times, and every heap is small.
+-- After n steps the clock is at most n, and no process has used anything more than n times.
 pub record IsSound (n : ℕ) (s : TracedSystem) : Type 0 where
   pub clock : s.clock ≤ n
   pub counts : AllUsedAtMost n s
-  pub heaps : HaveSmallHeaps s
 
 -- There is room for as many entries as there are places for, and not more entries.
 pub record HasRoom (history : Kept) (places : ℕ) : Type 0 where

@@ -5,15 +5,15 @@ ghost use Rattle.pr_model.specs.ControlMessages.{control_answer, wait_reply};
 ghost use Rattle.pr_model.specs.Handles.{handle_of};
 ghost use Rattle.pr_model.specs.Legal.{clock_limit};
 ghost use Rattle.pr_kern.specs.Kernels.{takes_no_memory};
-ghost use Rattle.pr_kern.specs.Soundness.{HaveSmallHeaps};
 
+use crate::Machine;
 use crate::closes::close;
 use crate::messages::{control, control_wait, plan};
-use crate::opens::{is_control, open};
+use crate::opens::{is_control, open, own};
 use crate::records::{part_read, status_words};
-use crate::{Machine, Places};
 use pr_model::{Call, File, Held, Reply};
 use pr_num::{Errno, NoMemory};
+use pr_open::Opens;
 use pr_proc::live;
 use std::alloc::Global;
 
@@ -60,10 +60,10 @@ fn wait(state: &mut Machine, by: u32, handle: u32, until: u64, bytes: &[u8]) -> 
 }
 
 /// The handle of a number, if this controller has it open and it can be read.
-fn readable(places: &Places, by: u32, handle: u32) -> Option<Held>
-    ensures { result ≡ readable (handle_of places.now by handle) }
+fn readable(opens: &Opens, by: u32, handle: u32) -> Option<Held>
+    ensures { result ≡ readable (handle_of opens.now by handle) }
 {
-    let held = places.own(by, handle)?;
+    let held = own(opens, by, handle)?;
     if is_control(held.file) {
         None
     } else {
@@ -91,7 +91,7 @@ fn can_read(state: &Machine, by: u32, handle: u32, at: u64, len: u64) -> bool
 
 /// Reads at most `len` bytes of a record from byte `at` on. The refusals come in the order: EBADF, EINVAL for a length
 /// of 0 or above 16,384, ENOENT.
-#[tactic(auto, using(crate::proofs::SoundLemmas::heap_laws), unfolding(pr_model::specs::Calls::read_answer))]
+#[tactic(auto, unfolding(pr_model::specs::Calls::read_answer))]
 fn read(
     state: &Machine,
     alloc: Global,
@@ -100,8 +100,7 @@ fn read(
     at: u64,
     len: u64,
 ) -> Result<Reply, NoMemory>
-    requires built { is_some (read_answer state.now by handle at len) ≡ true }
-    requires heaps { HaveSmallHeaps state.now.system }
+    requires { is_some (read_answer state.now by handle at len) ≡ true }
     ensures { IfOk result (λ reply. Some (record { state = state.now; reply = reply }) ≡ read_answer state.now by handle at len) }
 {
     let Some(held) = readable(&state.opens, by, handle) else {
@@ -154,7 +153,6 @@ pub fn ready(state: &Machine, by: u32, call: &Call) -> bool
 pub fn answer(state: &mut Machine, alloc: Global, by: u32, call: &Call) -> Result<Reply, NoMemory>
     requires by { by < 64 }
     requires clock { state.old.system.clock ≤ clock_limit }
-    requires heaps { HaveSmallHeaps state.old.system }
     requires ready { is_some (answer_to state.old by call.now) ≡ true }
     ensures ok { IfOk result (λ reply. answer_to state.old by call.now ≡ Some (record { state = state.new; reply = reply })) }
     ensures err { OnErr result (state.new ≡ state.old) }

@@ -4,10 +4,11 @@ ghost use Rattle.pr_model.specs.Calls.{Answer, close_answer};
 ghost use Rattle.pr_model.specs.Handles.{after_last_close, released, was_last_writer};
 ghost use Rattle.pr_model.specs.State.{live_process, with_process};
 
+use crate::Machine;
 use crate::opens::is_writable;
-use crate::{Machine, Places};
 use pr_model::{Held, Reply};
 use pr_num::{Errno, Modes};
+use pr_open::Opens;
 use pr_proc::{Sys, end, live, release};
 
 /// SIGKILL's number, which is the wait status of a process that it ended.
@@ -41,10 +42,10 @@ fn end_tracing(sys: &mut Sys, pid: u32)
 }
 
 /// Whether a handle that is closed was the last one for writing on its process.
-fn was_last_writer(held: Held, others: &Places) -> bool
+fn was_last_writer(held: Held, others: &Opens) -> bool
     ensures { result ≡ was_last_writer held others.now }
 {
-    is_writable(held.mode) && !others.has_writer(held.pid)
+    is_writable(held.mode) && !others.writable(held.pid)
 }
 
 /// Closes a handle of a controller, or refuses it with EBADF; where no other handle for writing is left on its process,
@@ -53,10 +54,9 @@ fn was_last_writer(held: Held, others: &Places) -> bool
 pub fn close(state: &mut Machine, by: u32, handle: u32) -> Reply
     ensures { (record { state = state.new; reply = result }) ≡ close_answer state.old by handle }
 {
-    let Some(held) = state.opens.own(by, handle) else {
+    let Ok(held) = state.opens.close(by, handle) else {
         return Reply::Fail(Errno::Badf);
     };
-    state.opens.set(handle, None);
     if was_last_writer(held, &state.opens) {
         end_tracing(&mut state.system, held.pid);
     }

@@ -1,4 +1,4 @@
-ghost use Rattle.std.specs.Prelude.{◌≡◌, ◌≤◌, ◌<◌, ◌+◌, ◌^◌, [], true, length, Some, IsOk, OnOk, IfOk, OnErr, is_some};
+ghost use Rattle.std.specs.Prelude.{◌≡◌, ◌≤◌, ◌<◌, ◌+◌, ◌^◌, [], true, length, All, Some, IsOk, OnOk, IfOk, OnErr, is_some};
 ghost use Rattle.std.specs.Option.{option_copied};
 ghost use Rattle.pr_model.specs.Calls.{answer_to};
 ghost use Rattle.pr_model.specs.FirstState.{first_state};
@@ -7,6 +7,7 @@ ghost use Rattle.pr_kern.specs.Kernels.{after_call, after_tick, after_turn, last
 ghost use Rattle.pr_model.specs.LwpTurns.{can_move};
 ghost use Rattle.pr_kern.specs.Orders.{next_of};
 ghost use Rattle.pr_kern.specs.Starts.{stored};
+ghost use Rattle.pr_parts.specs.FileTables.{names_differ};
 
 use crate::Machine;
 use crate::calls::{answer, ready};
@@ -52,7 +53,10 @@ impl Kern {
         spawns: &[u32],
         places: u32,
     ) -> Result<Kern, NoMemory>
-        requires { length spawns.now + 1 < 2 ^ 32 }
+        requires spawns { length spawns.now + 1 < 2 ^ 32 }
+        requires few { length files.items ≤ 256 }
+        requires short { All (λ f. length f.1 ≤ 65536) files.items }
+        requires own_names { names_differ (stored files.items) ≡ true }
         ensures state { IfOk result (λ kernel. kernel.state ≡ first_state programs.items (stored files.items) spawns.now) }
         ensures history { IfOk result (λ kernel. kernel.history ≡ []) }
         ensures places { IfOk result (λ kernel. kernel.places ≡ places) }

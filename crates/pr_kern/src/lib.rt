@@ -7,7 +7,6 @@ mod kernels;
 mod laws;
 mod messages;
 mod opens;
-mod places;
 mod plans;
 mod records;
 mod running;
@@ -20,13 +19,12 @@ pub use kernels::Kern;
 pub use laws::made_entries_are_legal;
 pub use messages::{control, control_wait};
 pub use opens::open;
-pub use places::Places;
 pub use records::{part_read, status_words};
 pub use running::{run, run_refused};
 
 /// The state that a machine is in: the system, the open handles, and the interrupted controllers. Contracts see it as
 /// the traced state of the definitions.
-pub type Machine = pr_model::State<pr_proc::Sys, Places>;
+pub type Machine = pr_model::State<pr_proc::Sys, pr_open::Opens>;
 
 #[cfg(test)]
 mod tests;

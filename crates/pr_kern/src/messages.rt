@@ -9,21 +9,21 @@ ghost use Rattle.pr_model.specs.Running.{with_run};
 ghost use Rattle.pr_model.specs.State.{with_process};
 ghost use Rattle.pr_kern.specs.Plans.{carried_out};
 
-use crate::Places;
-use crate::opens::{is_control, is_of_lwp};
+use crate::opens::{is_control, is_of_lwp, own};
 use crate::plans::Plan;
 use crate::running::{run, run_refused};
 use pr_model::{Held, Reply};
 use pr_msg::decode_one;
 use pr_num::{Errno, Message, MsgFault};
+use pr_open::Opens;
 use pr_proc::{Proc, Sys, live};
 use pr_stop::{direct, direct_all, is_stopped};
 
 /// The handle of a number, if this controller has it open and it takes control messages.
-fn control_handle(places: &Places, by: u32, handle: u32) -> Option<Held>
-    ensures { result ≡ control_handle (handle_of places.now by handle) }
+fn control_handle(opens: &Opens, by: u32, handle: u32) -> Option<Held>
+    ensures { result ≡ control_handle (handle_of opens.now by handle) }
 {
-    let held = places.own(by, handle)?;
+    let held = own(opens, by, handle)?;
     if is_control(held.file) {
         Some(held)
     } else {
@@ -163,11 +163,11 @@ fn plan_first(sys: &Sys, held: Held, process: &Proc, bytes: &[u8]) -> Option<Pla
 
 /// What the first control message of a write by a controller does; `None`: it is not built yet. Takes no memory.
 #[tactic(auto, unfolding(pr_model::specs::ControlMessages::control_answer, crate::specs::Plans::carried_out))]
-pub fn plan(sys: &Sys, places: &Places, by: u32, handle: u32, bytes: &[u8]) -> Option<Plan>
+pub fn plan(sys: &Sys, opens: &Opens, by: u32, handle: u32, bytes: &[u8]) -> Option<Plan>
     requires { sys.now.clock ≤ clock_limit }
-    ensures { option_map (carried_out sys.now) result ≡ control_answer sys.now places.now by handle bytes.now }
+    ensures { option_map (carried_out sys.now) result ≡ control_answer sys.now opens.now by handle bytes.now }
 {
-    let Some(held) = control_handle(places, by, handle) else {
+    let Some(held) = control_handle(opens, by, handle) else {
         return Some(Plan::Refuse(Errno::Badf));
     };
     let Some(process) = target(sys, held) else {
@@ -218,12 +218,12 @@ fn carry_out(sys: &mut Sys, plan: Plan) -> Reply
 /// Handles the first control message of a write by a controller, or refuses it: EBADF, ENOENT, EINVAL for bytes that
 /// begin with no message, and what process 0 and the message itself refuse, in this order. `None`: the message is not
 /// built yet, and nothing changes. Takes no memory.
-pub fn control(sys: &mut Sys, places: &Places, by: u32, handle: u32, bytes: &[u8]) -> Option<Reply>
+pub fn control(sys: &mut Sys, opens: &Opens, by: u32, handle: u32, bytes: &[u8]) -> Option<Reply>
     requires { sys.old.clock ≤ clock_limit }
-    ensures answer { option_map (λ reply. record { system = sys.new; reply = reply }) result ≡ control_answer sys.old places.now by handle bytes.now }
+    ensures answer { option_map (λ reply. record { system = sys.new; reply = reply }) result ≡ control_answer sys.old opens.now by handle bytes.now }
     ensures not_built { IfNone result (sys.new ≡ sys.old) }
 {
-    let plan = plan(sys, places, by, handle, bytes)?;
+    let plan = plan(sys, opens, by, handle, bytes)?;
     Some(carry_out(sys, plan))
 }
 
@@ -273,16 +273,16 @@ fn waiting_reply(
 #[tactic(auto, unfolding(pr_model::specs::ControlMessages::wait_reply))]
 pub fn control_wait(
     sys: &Sys,
-    places: &Places,
+    opens: &Opens,
     by: u32,
     handle: u32,
     until: u64,
     interrupted: bool,
     bytes: &[u8],
 ) -> Option<Reply>
-    ensures { result ≡ wait_reply sys.now places.now by handle until interrupted bytes.now }
+    ensures { result ≡ wait_reply sys.now opens.now by handle until interrupted bytes.now }
 {
-    let Some(held) = control_handle(places, by, handle) else {
+    let Some(held) = control_handle(opens, by, handle) else {
         return Some(Reply::Fail(Errno::Badf));
     };
     let Some(process) = target(sys, held) else {

@@ -2,12 +2,13 @@
 ghost use Rattle.std.specs.Prelude.{◌≡◌, ◌==◌, ◌&&◌, ◌||◌, not};
 ghost use Rattle.std.specs.Option.{option_copied};
 ghost use Rattle.pr_model.specs.Calls.{Answer, open_answer};
-ghost use Rattle.pr_model.specs.Handles.{conflicts, fits_file, has_file, is_control, is_exclusive, is_of_lwp, is_writable, open_refusal, outlives};
-ghost use Rattle.pr_model.specs.State.{process_of};
+ghost use Rattle.pr_model.specs.Handles.{fits_file, handle_of, has_file, is_control, is_of_lwp, is_writable, outlives};
+ghost use Rattle.pr_kern.specs.Openings.{errno_of};
 
-use crate::{Machine, Places};
+use crate::Machine;
 use pr_model::{File, Held, Mode, Reply};
 use pr_num::Errno;
+use pr_open::{OpenNo, Opens};
 use pr_proc::Proc;
 
 /// Whether a file takes control messages.
@@ -50,13 +51,13 @@ pub fn is_writable(mode: Mode) -> bool
     }
 }
 
-/// Whether a mode lets no other writer in.
-pub fn is_exclusive(mode: Mode) -> bool
-    ensures { result ≡ is_exclusive mode }
+/// The handle of a number, if this controller has it open.
+pub fn own(opens: &Opens, by: u32, number: u32) -> Option<Held>
+    ensures { result ≡ handle_of opens.now by number }
 {
-    match mode {
-        Mode::WriteExcl => true,
-        _ => false,
+    match opens.get(by, number) {
+        Ok(held) => Some(*held),
+        Err(_) => None,
     }
 }
 
@@ -80,45 +81,31 @@ pub fn has_file(process: Option<&Proc>, file: File, lwp: u32) -> bool
     }
 }
 
-/// Whether those who have a process open keep out an open in this mode.
-pub fn conflicts(pid: u32, mode: Mode, places: &Places) -> bool
-    ensures { result ≡ conflicts pid mode places.now }
+/// The errno of an open that the open handles refuse.
+fn errno_of(refusal: OpenNo) -> Errno
+    ensures { result ≡ errno_of refusal }
 {
-    (is_exclusive(mode) && places.has_writer(pid))
-        || (is_writable(mode) && places.has_exclusive_writer(pid))
+    match refusal {
+        OpenNo::Busy => Errno::Busy,
+        OpenNo::Full => Errno::Mfile,
+        OpenNo::BadHandle => Errno::Badf,
+    }
 }
 
-/// What refuses an open while there are free places.
-#[tactic(auto, unfolding(pr_model::specs::Handles::open_refusal))]
-fn open_refusal(state: &Machine, pid: u32, lwp: u32, file: File, mode: Mode) -> Option<Errno>
-    ensures { result ≡ open_refusal state.now pid lwp file mode }
-{
-    if !fits_file(file, mode, lwp) {
-        return Some(Errno::Inval);
-    }
-    if !has_file(state.system.processes.get(pid), file, lwp) {
-        return Some(Errno::Noent);
-    }
-    if conflicts(pid, mode, &state.opens) {
-        return Some(Errno::Busy);
-    }
-    None
-}
-
-/// Opens a file of a process for a controller, at the least free place (EINVAL, ENOENT, EBUSY, EMFILE in this order).
-/// Takes no memory.
-#[tactic(auto, unfolding(pr_model::specs::Calls::open_answer, pr_model::specs::Handles::with_opened), using(crate::proofs::PlaceLemmas::place_laws))]
+/// Opens a file of a process for a controller, with the least free number (EINVAL, ENOENT, EBUSY, EMFILE in this
+/// order). Takes no memory.
+#[tactic(auto, unfolding(pr_model::specs::Calls::open_answer, pr_model::specs::Handles::open_refusal, pr_model::specs::Handles::with_opened, pr_open::specs::Opening::open_answer))]
 pub fn open(state: &mut Machine, held: Held) -> Reply
     ensures { (record { state = state.new; reply = result }) ≡ open_answer state.old held.controller held.pid held.lwp held.file held.mode }
 {
-    if let Some(error) = open_refusal(state, held.pid, held.lwp, held.file, held.mode) {
-        return Reply::Fail(error);
+    if !fits_file(held.file, held.mode, held.lwp) {
+        return Reply::Fail(Errno::Inval);
     }
-    match state.opens.first_free() {
-        None => Reply::Fail(Errno::Mfile),
-        Some(place) => {
-            state.opens.set(place, Some(held));
-            Reply::Handle(place)
-        }
+    if !has_file(state.system.processes.get(held.pid), held.file, held.lwp) {
+        return Reply::Fail(Errno::Noent);
+    }
+    match state.opens.open(held) {
+        Ok(number) => Reply::Handle(number),
+        Err(refusal) => Reply::Fail(errno_of(refusal)),
     }
 }

@@ -5,6 +5,7 @@ ghost use Rattle.pr_num.specs.Spaces.{heap_size, is_heap};
 ghost use Rattle.pr_model.specs.StatusRecords.{call_words, disposition_class, disposition_word, fault_words, flag, heap_base, is_asleep, lwp_flags, lwpstatus_words, part_read, process_flags, representative_words, result_words, shown_words, signal_word, status_words, stop_words};
 
 use pr_codec::{WORD, put_words};
+use pr_mem::Space;
 use pr_model::{Lwp, Phase, Res, Shown, Stop};
 use pr_num::{AGENT, Bytes, Mapping, MappingKind, NoMemory, Sig, SigSet, StopReason};
 use pr_proc::Proc;
@@ -205,11 +206,18 @@ fn heap_part(mapping: &Mapping) -> u64
 
 /// How many mapped bytes belong to the heap.
 #[tactic(auto, unfolding(pr_num::specs::Spaces::heap_size))]
-fn heap_size(space: &[Mapping]) -> u64
-    requires { heap_size space.now < 2 ^ 64 }
+fn heap_part_of_all(mappings: &[Mapping]) -> u64
+    requires { heap_size mappings.now < 2 ^ 64 }
+    ensures { result ≡ heap_size mappings.now }
+{
+    mappings.iter().map(|mapping| heap_part(mapping)).sum()
+}
+
+#[tactic(auto, using(crate::proofs::HeapLemmas::heap_laws))]
+fn heap_size(space: &Space) -> u64
     ensures { result ≡ heap_size space.now }
 {
-    space.iter().map(|mapping| heap_part(mapping)).sum()
+    heap_part_of_all(space.mappings())
 }
 
 /// A process's flags: its modes, and whether it is the system process.
@@ -222,7 +230,6 @@ fn process_flags(process: &Proc) -> u64
 /// The 43 words of a process's status.
 #[tactic(auto, unfolding(pr_model::specs::StatusRecords::status_words))]
 pub fn status_words(alloc: Global, process: &Proc) -> Result<Vec<u64>, NoMemory>
-    requires { heap_size process.now.space < 2 ^ 64 }
     ensures { IfOk result (λ words. words.items ≡ status_words process.now) }
 {
     let mut words = Vec::new(alloc);
@@ -238,7 +245,7 @@ pub fn status_words(alloc: Global, process: &Proc) -> Result<Vec<u64>, NoMemory>
         process.traced_entries.word(),
         process.traced_exits.word(),
         HEAP_BASE,
-        heap_size(process.space.as_slice()),
+        heap_size(&process.space),
         flag(agent, AGENT as u64),
         process.areas.len() as u64,
     ])?;

@@ -1,24 +1,31 @@
 //! The state before the first step.
-ghost use Rattle.std.specs.Prelude.{◌≡◌, ◌+◌, ◌<◌, ◌^◌, length, IfOk};
+ghost use Rattle.std.specs.Prelude.{◌≡◌, ◌≤◌, ◌+◌, ◌<◌, ◌^◌, All, length, true, IfOk};
+ghost use Rattle.pr_parts.specs.FileTables.{names_differ};
+ghost use Rattle.pr_proc.specs.FirstFiles.{stored_alone};
 ghost use Rattle.pr_model.specs.FirstState.{first_state};
 ghost use Rattle.pr_kern.specs.Starts.{stored};
 
-use crate::{Machine, Places};
+use crate::Machine;
 use pr_asm::Program;
-use pr_num::{Bytes, Name, NoMemory, StoredFile, Table};
+use pr_file::Files;
+use pr_num::{Bytes, Name, NoMemory, Table};
+use pr_open::Opens;
 use pr_proc::first_system;
 use std::alloc::Global;
 
 /// Files as the system keeps them.
-#[tactic(auto, unfolding(crate::specs::Starts::stored_file))]
-fn stored(alloc: Global, files: Vec<(Name, Bytes)>) -> Result<Table<StoredFile>, NoMemory>
-    ensures { IfOk result (λ table. table ≡ stored files.items) }
+#[tactic(auto, using(crate::proofs::FileLemmas::storing))]
+fn stored(alloc: Global, files: Vec<(Name, Bytes)>) -> Result<Files, NoMemory>
+    requires few { length files.items ≤ 256 }
+    requires short { All (λ f. length f.1 ≤ 65536) files.items }
+    requires own_names { names_differ (stored files.items) ≡ true }
+    ensures { IfOk result (λ all. all ≡ stored_alone (stored files.items)) }
 {
-    let mut table = Table::new(alloc);
+    let mut all = Files::new(alloc);
     for (name, bytes) in files {
-        table.push(StoredFile { name, bytes })?;
+        all.add(name, bytes)?;
     }
-    Ok(table)
+    Ok(all)
 }
 
 /// The state before the first step: these programs and files, a process of each program that is spawned, by its place
@@ -30,13 +37,16 @@ pub fn first_machine(
     files: Vec<(Name, Bytes)>,
     spawns: &[u32],
 ) -> Result<Machine, NoMemory>
-    requires { length spawns.now + 1 < 2 ^ 32 }
+    requires spawns { length spawns.now + 1 < 2 ^ 32 }
+    requires few { length files.items ≤ 256 }
+    requires short { All (λ f. length f.1 ≤ 65536) files.items }
+    requires own_names { names_differ (stored files.items) ≡ true }
     ensures { IfOk result (λ state. state ≡ first_state programs.items (stored files.items) spawns.now) }
 {
     let programs = Table::from_vec(programs);
     let files = stored(alloc, files)?;
     let system = first_system(alloc, programs, files, spawns)?;
-    let opens = Places::new(alloc)?;
+    let opens = Opens::new(alloc)?;
     Ok(Machine {
         system,
         opens,

@@ -7,11 +7,11 @@ use Rattle.std.proofs.lemmas.List.Sums.{count_by-le-length, sum_by-cons, sum_by-
 use Rattle.std.proofs.lemmas.Iterator.Adapters.{position_from-zero}
 use Rattle.std.proofs.lemmas.Option.{same_Some, none-some}
 use Rattle.slab.specs.Slab.{Slab, get, slab_len, Updates}
-use Rattle.pr_model.specs.Handles.{own, conflicts}
+use Rattle.pr_model.specs.Handles.{own, conflicts, handle_of}
 use Rattle.pr_model.specs.State.{handle_places, nothing_open}
 use Rattle.pr_model.specs.declared.handles.Held.{Held}
 use Rattle.pr_open.specs.Keys.{held_at, places_of, IsKeyed}
-use Rattle.pr_open.specs.Opening.{open_answer, or_full, handle_in}
+use Rattle.pr_open.specs.Opening.{open_answer, or_full}
 use Rattle.pr_open.specs.declared.refusals.OpenNo.{OpenNo}
 use Rattle.pr_open.specs.declared.refusals.OpenNo.TheVariants.{Busy}
 
@@ -29,21 +29,22 @@ any-seen test slab keys lent places found seen same is =
     is ∙ ap (list_any (λ key. test (held_at slab key))) same ∙ list_any-places_of test slab keys ∙ ap (list_any test) seen
 
 -- the handle of a number is that of its key
-handle_in-places_of : (slab : Slab Held) (keys : List (Option ℕ)) (by number : ℕ) → handle_in (places_of slab keys) by number ≡ own by (Some (held_at slab (get_or keys number None)))
-handle_in-places_of slab [] by number = none number
+handle_of-places_of : (slab : Slab Held) (keys : List (Option ℕ)) (by number : ℕ) → handle_of (places_of slab keys) by number ≡ own by (Some (held_at slab (get_or keys number None)))
+unfolding handle_of
+handle_of-places_of slab [] by number = none number
   where
-    none : (number : ℕ) → handle_in (places_of slab []) by number ≡ None
+    none : (number : ℕ) → handle_of (places_of slab []) by number ≡ None
     none zero = refl
     none (suc number) = refl
-handle_in-places_of slab (key ∷ keys) by zero = refl
-handle_in-places_of slab (key ∷ keys) by (suc number) = handle_in-places_of slab keys by number
+handle_of-places_of slab (key ∷ keys) by zero = refl
+handle_of-places_of slab (key ∷ keys) by (suc number) = handle_of-places_of slab keys by number
 
 module _ (slab : Slab Held) (keys : List (Option ℕ)) (places : List (Option Held)) (seen : places_of slab keys ≡ places) (by number : ℕ) where
-  own_seen : (held : Option Held) → held_at slab (get_or keys number None) ≡ held → handle_in places by number ≡ own by (Some held)
+  own_seen : (held : Option Held) → held_at slab (get_or keys number None) ≡ held → handle_of places by number ≡ own by (Some held)
   own_seen held is =
-      ap (λ ps. handle_in ps by number) (sym seen) ∙ handle_in-places_of slab keys by number ∙ ap (λ h. own by (Some h)) is
+      ap (λ ps. handle_of ps by number) (sym seen) ∙ handle_of-places_of slab keys by number ∙ ap (λ h. own by (Some h)) is
 
-  pub own_handle : (key : ℕ) (h : Held) → get_or keys number None ≡ Some key → Some h ≡ get slab key → h.controller ≡ by → handle_in places by number ≡ Some h
+  pub own_handle : (key : ℕ) (h : Held) → get_or keys number None ≡ Some key → Some h ≡ get slab key → h.controller ≡ by → handle_of places by number ≡ Some h
   own_handle key h is here same =
       own_seen (Some h) (ap (held_at slab) is ∙ sym here) ∙ ap (λ b. cond b (Some h) None) (eq-eqb h.controller by same)
 

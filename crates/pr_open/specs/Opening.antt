@@ -1,10 +1,10 @@
-use Rattle.std.specs.Prelude.{ℕ, List, Option, Some, None, is_none, Result, Ok, Err, slice_get, position, if◌then◌else◌}
-use Rattle.pr_model.specs.Handles.{conflicts, own}
+use Rattle.std.specs.Prelude.{ℕ, List, Option, Some, None, is_none, Result, Ok, Err, position, if◌then◌else◌}
+use Rattle.pr_model.specs.Handles.{conflicts}
 use Rattle.pr_model.specs.declared.handles.Held.{Held}
 use Rattle.pr_open.specs.declared.refusals.OpenNo.{OpenNo}
 use Rattle.pr_open.specs.declared.refusals.OpenNo.TheVariants.{Busy, Full}
 
--- Opening and finding handles, over the places for them by number.
+-- Opening handles, over the places for them by number.
 
 -- the least free number, if there is one
 abbrev pub least_free : List (Option Held) → Option ℕ
@@ -20,7 +20,3 @@ unfoldable pub open_answer : Held → List (Option Held) → Result ℕ OpenNo
 open_answer h places =
     if conflicts h.pid h.mode places then Err Busy
     else or_full (least_free places)
-
--- the handle of a number, if this controller has it open
-abbrev pub handle_in : List (Option Held) → ℕ → ℕ → Option Held
-handle_in places by number = own by (slice_get places number)

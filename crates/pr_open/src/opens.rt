@@ -1,7 +1,7 @@
 ghost use Rattle.std.specs.Prelude.{◌≡◌, ◌==◌, ◌<◌, length, replicate, is_none, position, None, Some, Err, IfOk, IfErr, IfSome, OnErr, slice_set, slice_index_or};
 ghost use Rattle.std.specs.List.{list_any};
 ghost use Rattle.slab.specs.Slab.{get};
-ghost use Rattle.pr_model.specs.Handles.{is_writable, is_exclusive, is_writer, is_exclusive_writer, has_writer, has_exclusive_writer, conflicts};
+ghost use Rattle.pr_model.specs.Handles.{is_writable, is_exclusive, is_writer, is_exclusive_writer, has_writer, has_exclusive_writer, conflicts, handle_of};
 ghost use Rattle.pr_model.specs.State.{nothing_open, handle_places};
 ghost use Rattle.pr_open.specs.Keys.{held_at};
 
@@ -35,7 +35,7 @@ impl Model for Opens {
 }
 
 impl Opens {
-    ghost use Rattle.pr_open.specs.Opening.{open_answer, handle_in, least_free};
+    ghost use Rattle.pr_open.specs.Opening.{open_answer, least_free};
 
     /// How many handles can be open.
     pub const PLACES: usize = 1_024;
@@ -68,9 +68,10 @@ impl Opens {
     }
 
     /// The handle of a number: `BadHandle` exactly where it is not open or not this controller's.
+    #[tactic(auto, unfolding(pr_model::specs::Handles::handle_of))]
     pub fn get(&self, controller: u32, handle: u32) -> Result<&Held, OpenNo>
-        ensures ok { IfOk result (λ h. handle_in self.now controller handle ≡ Some h.now) }
-        ensures err { IfErr result (λ refusal. (refusal ≡ OpenNo.BadHandle) × (handle_in self.now controller handle ≡ None)) }
+        ensures ok { IfOk result (λ h. handle_of self.now controller handle ≡ Some h.now) }
+        ensures err { IfErr result (λ refusal. (refusal ≡ OpenNo.BadHandle) × (handle_of self.now controller handle ≡ None)) }
     {
         let Some(key) = key_of(&self.keys, handle) else {
             return Err(OpenNo::BadHandle);
@@ -87,8 +88,8 @@ impl Opens {
     /// Closes the handle of a number, which is free then: `BadHandle` exactly where it is not open or not this
     /// controller's, and then nothing changes.
     pub fn close(&mut self, controller: u32, handle: u32) -> Result<Held, OpenNo>
-        ensures ok { IfOk result (λ h. (handle_in self.old controller handle ≡ Some h) × (self.new ≡ slice_set self.old handle None)) }
-        ensures err { IfErr result (λ refusal. (refusal ≡ OpenNo.BadHandle) × (handle_in self.old controller handle ≡ None) × (self.new ≡ self.old)) }
+        ensures ok { IfOk result (λ h. (handle_of self.old controller handle ≡ Some h) × (self.new ≡ slice_set self.old handle None)) }
+        ensures err { IfErr result (λ refusal. (refusal ≡ OpenNo.BadHandle) × (handle_of self.old controller handle ≡ None) × (self.new ≡ self.old)) }
     {
         let h = *self.get(controller, handle)?;
         self.remove(handle);

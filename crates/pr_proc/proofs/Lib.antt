@@ -1,5 +1,4 @@
 pub mod CountLemmas
-pub mod FileLemmas
 pub mod FirstLemmas
 pub mod LifeLemmas
 pub mod OrderLemmas

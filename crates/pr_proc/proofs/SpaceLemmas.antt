@@ -1,34 +1,29 @@
-use Rattle.std.proofs.Common.{◌≡◌, ℕ, ◌-◌, ◌<◌, List, [], ◌∷◌, ◌++◌, length, take, replicate, refl, ap, ◌∙◌, arith}
-use Rattle.std.proofs.lemmas.List.{take_all}
-use Rattle.std.specs.Int.{next_multiple_of}
-use Rattle.pr_num.specs.Programs.{Program, rounded, whole_pages, text_of}
-use Rattle.pr_num.specs.Spaces.{unless_empty, first_space, read_execute, read_write}
-use Rattle.pr_num.specs.declared.mappings.MappingKind.{MappingKind}
-use Rattle.pr_num.specs.declared.mappings.MappingKind.TheVariants.{Text, Data, Stack}
-use Rattle.pr_proc.specs.Blanks.{zeros}
+use Rattle.std.proofs.Common.{◌≡◌, ℕ, ◌*◌, ◌+◌, ◌≤◌, List, [], ◌∷◌, ◌++◌, length, refl, arith, length-append}
+use Rattle.std.specs.List.{flat_map}
+use Rattle.pr_num.specs.Instructions.{instruction_bytes}
+use Rattle.pr_num.specs.Programs.{Program, text_of}
+use Rattle.pr_num.specs.Spaces.{first_space}
+use Rattle.pr_num.specs.declared.instructions.Instruction.{Instruction}
+use Rattle.pr_num.specs.Words.{word_bytes}
+use Rattle.pr_parts.specs.AddressSpaces.{first_mappings}
 
--- a length rounded up is the next multiple
-next_multiple-rounded : (n : ℕ) → next_multiple_of n 4096 ≡ rounded n
-next_multiple-rounded n = omega arith
+-- The space in which a program begins.
 
--- bytes that were made longer with zeros, up to a multiple of 4,096
-pub whole_pages-longer : (bytes : List ℕ) (size : ℕ) → size ≡ next_multiple_of (length bytes) 4096 → take size bytes ++ replicate (size - length bytes) 0 ≡ whole_pages bytes
-whole_pages-longer bytes size e =
-    let at : size ≡ rounded (length bytes) = e ∙ next_multiple-rounded (length bytes) in
-    ap (λ xs. xs ++ replicate (size - length bytes) 0) (take_all size bytes (omega arith)) ∙ ap (λ n. bytes ++ replicate (n - length bytes) 0) at
+-- an instruction has 16 bytes
+length-instruction_bytes : (i : Instruction) → length (instruction_bytes i) ≡ 16
+unfolding word_bytes
+length-instruction_bytes i = refl
 
--- nothing is mapped where there are no bytes
-pub unless_empty-none : (address prot : ℕ) (kind : MappingKind) (bytes : List ℕ) → length bytes ≡ 0 → unless_empty address prot kind bytes ≡ []
-unless_empty-none address prot kind [] none = refl
-unless_empty-none address prot kind (b ∷ bytes) none = cc
+length-text : (code : List Instruction) → length (flat_map instruction_bytes code) ≡ 16 * length code
+length-text [] = refl
+length-text (i ∷ code) = omega (arith, length-append (instruction_bytes i) (flat_map instruction_bytes code), length-instruction_bytes i, length-text code)
 
-pub unless_empty-some : (address prot : ℕ) (kind : MappingKind) (bytes : List ℕ) → 0 < length bytes → unless_empty address prot kind bytes ≡ record { at = address; prot = prot; kind = kind; bytes = whole_pages bytes } ∷ []
-unless_empty-some address prot kind [] some = absurd (omega arith)
-unless_empty-some address prot kind (b ∷ bytes) some = refl
+pub text-within : (p : Program) → length p.code ≤ 4096 → length (text_of p) ≤ 0x10000
+text-within p within = omega (arith, length-text p.code)
 
-pub ruleset page_laws = (whole_pages-longer, unless_empty-none, unless_empty-some)
+-- it is made of the text and the data
+pub first_mappings-program : (p : Program) → first_mappings (text_of p) p.bytes ≡ first_space p
+unfolding first_mappings first_space
+first_mappings-program p = refl
 
--- the parts of the space in which a program begins
-pub first_space_parts : (p : Program) → unless_empty 0x10000 read_execute Text (text_of p) ++ unless_empty 0x80000 read_write Data p.bytes ++ record { at = 0x700000; prot = read_write; kind = Stack; bytes = zeros 4096 } ∷ [] ≡ first_space p
-unfolding first_space zeros
-first_space_parts p = refl
+pub ruleset first_space_laws = (text-within, first_mappings-program)

@@ -6,17 +6,21 @@ ghost use Rattle.pr_model.specs.State.{live_process, with_process};
 ghost use Rattle.pr_model.specs.Lives.{zombie, orphaned, told_of_child, with_parent_told, with_ended};
 
 use crate::{Proc, Sys, live};
-use pr_model::Usage;
+use pr_file::Fds;
 use pr_num::{FltSet, Modes, Sig, SigSet, SysSet};
+use pr_watch::Areas;
+use std::mem;
 
 /// Leaves of a process what a zombie keeps: its id, parent, program name, moment and usage, and this wait status.
+/// Answers the descriptors that it had.
 #[tactic(auto, unfolding(pr_model::specs::Lives::zombie, pr_model::specs::Lives::bare_process))]
-fn become_zombie(process: &mut Proc, status: u64)
-    ensures { process.new ≡ zombie status process.old }
+fn become_zombie(process: &mut Proc, status: u64) -> Fds
+    ensures process { process.new ≡ zombie status process.old }
+    ensures fds { result ≡ process.old.fds }
 {
+    let fds = mem::replace(&mut process.fds, Fds::new());
     process.ended = Some(status);
-    process.space.truncate(0);
-    process.fds = [None; 64];
+    process.space.clear();
     process.dispositions = [0; 31];
     process.pending = SigSet::empty();
     process.job_stop = None;
@@ -27,7 +31,8 @@ fn become_zombie(process: &mut Proc, status: u64)
     process.traced_entries = SysSet::empty();
     process.traced_exits = SysSet::empty();
     process.modes = Modes::empty();
-    process.areas.truncate(0);
+    process.areas = Areas::new();
+    fds
 }
 
 /// Gives a child of a process that ended process 0 as its parent.
@@ -70,13 +75,14 @@ fn tell_parent(sys: &mut Sys, parent: u32)
     tell_of_child(sys.processes.get_mut(parent));
 }
 
-/// Makes a zombie of the process of an id.
-#[tactic(auto, using(pr_num::proofs::TableLemmas::change_first_laws), unfolding(pr_model::specs::State::with_process))]
-fn bury(sys: &mut Sys, pid: u32, status: u64)
+/// Makes a zombie of the process of an id. Answers the descriptors that it had.
+#[tactic(auto, using(pr_num::proofs::TableLemmas::change_first_laws, std::proofs::lemmas::Option::same_Some), unfolding(pr_model::specs::State::with_process))]
+fn bury(sys: &mut Sys, pid: u32, status: u64) -> Fds
     requires { IsSome (find (is_process pid) sys.old.processes) }
-    ensures { sys.new ≡ with_process pid (zombie status) sys.old }
+    ensures system { sys.new ≡ with_process pid (zombie status) sys.old }
+    ensures fds { ForSome (find (is_process pid) sys.old.processes) (λ p. result ≡ p.fds) }
 {
-    become_zombie(sys.processes.get_mut(pid), status);
+    become_zombie(sys.processes.get_mut(pid), status)
 }
 
 /// Gives the children of a process that ended process 0 as their parent.
@@ -95,9 +101,8 @@ pub fn end(sys: &mut Sys, pid: u32, status: u64)
 {
     let process = live(sys, pid).unwrap();
     let parent = process.parent;
-    let fds = process.fds;
-    bury(sys, pid, status);
-    sys.files.close_all(&fds);
+    let mut fds = bury(sys, pid, status);
+    sys.files.close_all(&mut fds);
     orphan_children(sys, pid);
     tell_parent(sys, parent);
 }

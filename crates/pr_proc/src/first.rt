@@ -1,12 +1,14 @@
 //! The system before the first step.
 ghost use Rattle.std.specs.Prelude.{◌≡◌, ◌+◌, ◌<◌, ◌≤◌, ◌^◌, ◌∷◌, [], length, slice_get, IfOk, OnOk, OnErr};
 ghost use Rattle.pr_model.specs.FirstState.{system_process, bare_system, spawned_at, first_system};
+ghost use Rattle.pr_proc.specs.FirstFiles.{stored_alone};
 
 use crate::spawns::{bare_process, spawn};
-use crate::{Files, Proc, Sys};
+use crate::{Proc, Sys};
 use pr_asm::Program;
+use pr_file::Files;
 use pr_model::System;
-use pr_num::{Name, NoMemory, StoredFile, Table};
+use pr_num::{Name, NoMemory, Table};
 use std::alloc::Global;
 
 /// Process 0, the system process.
@@ -20,12 +22,9 @@ fn system_process(alloc: Global) -> Proc
 
 /// Nothing but process 0, these programs and these files.
 #[tactic(auto, unfolding(pr_model::specs::FirstState::bare_system))]
-fn bare_system(
-    alloc: Global,
-    programs: Table<Program>,
-    files: Table<StoredFile>,
-) -> Result<Sys, NoMemory>
-    ensures { IfOk result (λ s. s ≡ bare_system programs files) }
+fn bare_system(alloc: Global, programs: Table<Program>, files: Files) -> Result<Sys, NoMemory>
+    requires { files ≡ stored_alone files.files }
+    ensures { IfOk result (λ s. s ≡ bare_system programs files.files) }
 {
     let mut processes = Table::new(alloc);
     processes.push(system_process(alloc))?;
@@ -33,7 +32,7 @@ fn bare_system(
         programs,
         clock: 0,
         made: 1,
-        files: Files::new(alloc, files),
+        files,
         processes,
     })
 }
@@ -53,16 +52,17 @@ fn spawn_at(sys: &mut Sys, alloc: Global, place: u32) -> Result<(), NoMemory>
 }
 
 /// The system with the processes that are spawned at the start, one after another, each of the program at a place of
-/// the list; a place with no program spawns none.
+/// the list; a place with no program spawns none. Nothing is open in its files.
 #[tactic(auto, using(crate::proofs::FirstLemmas::spawning_laws))]
 pub fn first_system(
     alloc: Global,
     programs: Table<Program>,
-    files: Table<StoredFile>,
+    files: Files,
     spawns: &[u32],
 ) -> Result<Sys, NoMemory>
-    requires { length spawns.now + 1 < 2 ^ 32 }
-    ensures { IfOk result (λ s. s ≡ first_system programs files spawns.now) }
+    requires room { length spawns.now + 1 < 2 ^ 32 }
+    requires files { files ≡ stored_alone files.files }
+    ensures { IfOk result (λ s. s ≡ first_system programs files.files spawns.now) }
 {
     let mut sys = bare_system(alloc, programs, files)?;
     for place in spawns {

@@ -3,22 +3,19 @@
 
 mod counts;
 mod ends;
-mod files;
 mod first;
 mod order;
 mod releases;
-mod spaces;
 mod spawns;
 mod systems;
 
 pub use counts::has_room;
 pub use ends::end;
-pub use files::Files;
 pub use first::first_system;
 pub use order::{is_after, next_lwp};
 pub use releases::release;
 pub use spawns::spawn;
-pub use systems::{Fds, Proc, Sys, has_agent, live};
+pub use systems::{Proc, Sys, has_agent, live};
 
 #[cfg(test)]
 mod tests;

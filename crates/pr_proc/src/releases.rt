@@ -5,6 +5,7 @@ ghost use Rattle.pr_model.specs.Handles.{released_lwp, released};
 use crate::Proc;
 use pr_model::Lwp;
 use pr_num::{FltSet, SigSet, SysSet};
+use pr_watch::Areas;
 
 /// Clears what a controller asked of an lwp; one that stood on an event of interest runs again.
 #[tactic(auto, unfolding(pr_model::specs::Handles::released_lwp))]
@@ -36,5 +37,5 @@ pub fn release(process: &mut Proc)
     process.traced_faults = FltSet::empty();
     process.traced_entries = SysSet::empty();
     process.traced_exits = SysSet::empty();
-    process.areas.truncate(0);
+    process.areas = Areas::new();
 }

@@ -2,13 +2,15 @@
 ghost use Rattle.std.specs.Prelude.{◌≡◌, ◌+◌, ◌<◌, ◌^◌, ℕ, length, slice_get, codes, IfOk, OnOk, OnErr};
 ghost use Rattle.std.specs.Option.{ForSome};
 ghost use Rattle.pr_model.specs.Lives.{first_lwp, bare_process, new_process, with_spawned};
-ghost use Rattle.pr_model.specs.FirstState.{system_process, bare_system, spawned_at, first_system};
+ghost use Rattle.pr_num.specs.Spaces.{first_space};
 
-use crate::spaces::first_space;
-use crate::{Files, Proc, Sys};
+use crate::{Proc, Sys};
 use pr_asm::Program;
-use pr_model::{Frames, Lwp, Phase, System, Usage};
-use pr_num::{FltSet, Modes, Name, NoMemory, SigSet, StoredFile, SysSet, Table};
+use pr_file::Fds;
+use pr_mem::Space;
+use pr_model::{Frames, Lwp, Phase, Usage};
+use pr_num::{FltSet, Modes, Name, NoMemory, SigSet, SysSet, Table};
+use pr_watch::Areas;
 use std::alloc::Global;
 
 /// The lwp of a new process, directed to stop or not. It begins at the first instruction, with an empty stack.
@@ -49,8 +51,8 @@ pub(crate) fn bare_process(alloc: Global, pid: u32, parent: u32, name: Name, clo
             instructions: 0,
         },
         ended: None,
-        space: Table::new(alloc),
-        fds: [None; 64],
+        space: Space::new(alloc),
+        fds: Fds::new(),
         dispositions: [0; 31],
         pending: SigSet::empty(),
         job_stop: None,
@@ -61,8 +63,18 @@ pub(crate) fn bare_process(alloc: Global, pid: u32, parent: u32, name: Name, clo
         traced_entries: SysSet::empty(),
         traced_exits: SysSet::empty(),
         modes: Modes::empty(),
-        areas: Table::new(alloc),
+        areas: Areas::new(),
     }
+}
+
+/// The address space in which a program begins.
+#[tactic(auto, using(crate::proofs::SpaceLemmas::first_space_laws))]
+fn first_space(alloc: Global, program: &Program) -> Result<Space, NoMemory>
+    ensures { IfOk result (λ space. space ≡ first_space program.now) }
+{
+    prove!(program.code().len() <= Program::MAX_CODE);
+    let text = program.text(alloc)?;
+    Space::first(alloc, &text, program.data())
 }
 
 /// A new process of a program, whose parent is process 0; `held`: it is directed to stop before it runs.
@@ -76,7 +88,7 @@ fn new_process(
 ) -> Result<Proc, NoMemory>
     ensures { IfOk result (λ p. p ≡ new_process pid program.now clock held) }
 {
-    let space = first_space(program, alloc)?;
+    let space = first_space(alloc, program)?;
     let mut lwps = Table::new(alloc);
     lwps.push(first_lwp(held))?;
     let mut process = bare_process(alloc, pid, 0, program.name(), clock);

@@ -3,18 +3,17 @@ ghost use Rattle.std.specs.Option.{option_copied};
 ghost use Rattle.pr_model.specs.Lwps.{has_agent};
 ghost use Rattle.pr_model.specs.State.{live_process};
 
-use crate::Files;
 use pr_asm::Program;
+use pr_file::{Fds, Files};
+use pr_mem::Space;
 use pr_model::{Process, System};
-use pr_num::{AGENT, Area, Mapping, SigSet, Table};
+use pr_num::{AGENT, SigSet, Table};
+use pr_watch::Areas;
 
-/// A process's 64 places for descriptors, each the place of an open file.
-pub type Fds = [Option<u32>; 64];
+/// A process with its address space, its descriptors and its watched areas.
+pub type Proc = Process<Space, Fds, SigSet, Areas>;
 
-/// A process in its plainest shape: lists of mappings and of watched areas, and pending signals as a set.
-pub type Proc = Process<Table<Mapping>, Fds, SigSet, Table<Area>>;
-
-/// The system in its plainest shape. Contracts see it as the traced system of the definitions.
+/// The system with its files. Contracts see it as the traced system of the definitions.
 pub type Sys = System<Table<Program>, Files, Table<Proc>>;
 
 /// The live process of an id: `None` for an id that no process has, and for a zombie's.

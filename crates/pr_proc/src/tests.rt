@@ -2,6 +2,7 @@
 //! process begins.
 use crate::{Proc, first_system, live, spawn};
 use pr_asm::{Program, read_program};
+use pr_file::Files;
 use pr_num::{Name, NoMemory, Table};
 use std::alloc::Global;
 use std::process::Abort;
@@ -18,7 +19,7 @@ fn programs_with(alloc: Global, program: Program) -> Result<Table<Program>, NoMe
 /// of zeros as its stack.
 fn check_process(rt: &impl Abort, process: &Proc, parent: u32, held: bool) {
     assert_eq!(rt; process.parent, parent);
-    let mappings = process.space.as_slice();
+    let mappings = process.space.mappings();
     assert_eq!(rt; mappings.len(), 2);
     let text = mappings[0].bytes.as_slice();
     assert_eq!(rt; mappings[0].at, 0x10000);
@@ -44,7 +45,7 @@ fn processes_begin_with_their_text_and_a_stack(rt: HostRuntime) -> Result<(), Fa
     let name = Name::from_slice(b"p").ok_or("no name")?;
     let program = read_program(rt.alloc(), name, b"sys getpid\n", 1)?;
     let programs = programs_with(rt.alloc(), program)?;
-    let mut sys = first_system(rt.alloc(), programs, Table::new(rt.alloc()), &[0, 7])?;
+    let mut sys = first_system(rt.alloc(), programs, Files::new(rt.alloc()), &[0, 7])?;
     assert_eq!(rt; sys.made, 2, "place 7 has no program");
     check_process(&rt, live(&sys, 1).ok_or("no process 1")?, 0, false);
     assert_eq!(rt; sys.programs.len(), 1);

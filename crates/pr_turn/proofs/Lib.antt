@@ -1,5 +1,5 @@
+pub mod AccessLemmas
 pub mod CountLaws
 pub mod EffectLemmas
-pub mod FetchLemmas
 pub mod SettlingLemmas
 pub mod TurnLemmas

@@ -4,10 +4,11 @@ ghost use Rattle.pr_model.specs.InstructionEffects.{effect_of, fetch_fault, deco
 ghost use Rattle.pr_num.specs.Instructions.{instruction_in};
 ghost use Rattle.pr_model.specs.CallEffects.{call_effect};
 
-use crate::fetches::fetch;
+use crate::accesses::fetch;
 use crate::rows::move_on;
+use pr_mem::Space;
 use pr_model::{CallEffect, InstructionEffect, PC, Res};
-use pr_num::{BadByte, Flt, Instruction, Mapping, Sysno};
+use pr_num::{BadByte, Flt, Instruction, Sysno};
 
 /// What an instruction does, where it is built.
 #[tactic(auto, using(crate::proofs::EffectLemmas::effect_laws), unfolding(pr_model::specs::InstructionEffects::effect_of))]
@@ -51,7 +52,7 @@ fn decoded_effect(bytes: &[u8; 16], regs: &[u64; 11]) -> Option<InstructionEffec
 /// What the instruction at pc does: its 16 bytes are fetched, which have to be executable, decoded, and take effect.
 /// `None` for an instruction that is not built.
 #[tactic(auto, unfolding(pr_model::specs::InstructionEffects::instruction_effect))]
-pub fn effect_at(regs: &[u64; 11], space: &[Mapping]) -> Option<InstructionEffect>
+pub fn effect_at(regs: &[u64; 11], space: &Space) -> Option<InstructionEffect>
     ensures { result ≡ instruction_effect regs.now space.now }
 {
     match fetch(space, regs[PC]) {

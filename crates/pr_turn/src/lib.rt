@@ -1,8 +1,8 @@
 //! One turn of an lwp.
 #![tactic(auto)]
 
+mod accesses;
 mod effects;
-mod fetches;
 mod rows;
 mod settling;
 mod tables;

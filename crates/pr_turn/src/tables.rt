@@ -61,7 +61,7 @@ fn row_at_call(process: &Proc, lwp: &Lwp<SigSet>, call: Sysno) -> Option<TurnRow
 fn row_in_program(process: &Proc, lwp: &Lwp<SigSet>) -> Option<TurnRow>
     ensures { result ≡ option_map instruction_row (instruction_effect lwp.now.regs process.now.space) }
 {
-    let effect = effect_at(&lwp.regs, process.space.as_slice())?;
+    let effect = effect_at(&lwp.regs, &process.space)?;
     Some(instruction_row(effect))
 }
 

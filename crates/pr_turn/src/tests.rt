@@ -1,11 +1,13 @@
 //! What no clause says: worked turns, with what the rules of the turn table say of them.
 use crate::{movable, turn};
+use pr_file::{Fds, Files};
+use pr_mem::Space;
 use pr_model::{Did, Frames, Lwp, Phase, Process, Res, Stop, System, Turned, Usage};
 use pr_num::{
-    Bytes, Flt, FltSet, Instruction, Mapping, MappingKind, Modes, Name, NoMemory, Prot, Reg, Sig,
-    SigSet, SysSet, Sysno, Table,
+    Flt, FltSet, Instruction, Modes, Name, NoMemory, Reg, Sig, SigSet, SysSet, Sysno, Table,
 };
-use pr_proc::{Files, Proc, Sys, has_room, live};
+use pr_proc::{Proc, Sys, has_room, live};
+use pr_watch::Areas;
 use std::alloc::Global;
 use std::process::Abort;
 use std::test::Fail;
@@ -31,6 +33,7 @@ fn lwp_at(id: u32, pc: u64) -> Lwp<SigSet> {
 /// Process 4, a child of process 3, with these instructions and then zeros at 0x10000, and lwps 1 and 2 that begin
 /// there.
 fn process_of(
+    rt: &impl Abort,
     alloc: Global,
     name: Name,
     code: &[Instruction],
@@ -41,13 +44,8 @@ fn process_of(
         bytes.extend_from_slice(&instruction.encode())?;
     }
     bytes.extend_from_slice(&[0; 16])?;
-    let mut space = Table::new(alloc);
-    space.push(Mapping {
-        at: 0x10000,
-        prot: Prot::EXEC,
-        kind: MappingKind::Text,
-        bytes: Bytes::from_vec(bytes),
-    })?;
+    assert!(rt; bytes.len() <= 4_096);
+    let space = Space::first(alloc, &bytes, &[])?;
     let mut lwps = Table::new(alloc);
     lwps.push(lwp_at(1, 0x10000))?;
     lwps.push(lwp_at(2, 0x10000))?;
@@ -64,7 +62,7 @@ fn process_of(
         },
         ended: None,
         space,
-        fds: [None; 64],
+        fds: Fds::new(),
         dispositions: [0; 31],
         pending: SigSet::empty(),
         job_stop: None,
@@ -75,7 +73,7 @@ fn process_of(
         traced_entries: traced,
         traced_exits: SysSet::empty(),
         modes: Modes::empty(),
-        areas: Table::new(alloc),
+        areas: Areas::new(),
     })
 }
 
@@ -87,7 +85,7 @@ fn system_of(alloc: Global, process: Proc) -> Result<Sys, NoMemory> {
         programs: Table::new(alloc),
         clock: 0,
         made: 5,
-        files: Files::new(alloc, Table::new(alloc)),
+        files: Files::new(alloc),
         processes,
     })
 }
@@ -117,7 +115,7 @@ fn a_call_is_come_to_made_and_left(rt: HostRuntime) -> Result<(), Fail> {
     let name = Name::from_slice(b"p").ok_or("no name")?;
     let getpid = Sysno::Getpid;
     let code = [Instruction::Sys { call: getpid }];
-    let process = process_of(rt.alloc(), name, &code, SysSet::empty())?;
+    let process = process_of(&rt, rt.alloc(), name, &code, SysSet::empty())?;
     let mut sys = system_of(rt.alloc(), process)?;
     // behind the call stand zeros, which spell no instruction
     let turns = [
@@ -154,7 +152,7 @@ fn exit_ends_its_process(rt: HostRuntime) -> Result<(), Fail> {
         },
         Instruction::Sys { call: Sysno::Exit },
     ];
-    let process = process_of(rt.alloc(), name, &code, SysSet::empty())?;
+    let process = process_of(&rt, rt.alloc(), name, &code, SysSet::empty())?;
     let mut sys = system_of(rt.alloc(), process)?;
     let turns = [
         Did::Ran,
@@ -176,7 +174,7 @@ fn a_traced_call_stops_its_lwp_and_directs_the_other(rt: HostRuntime) -> Result<
     let name = Name::from_slice(b"p").ok_or("no name")?;
     let getpid = Sysno::Getpid;
     let code = [Instruction::Sys { call: getpid }];
-    let process = process_of(rt.alloc(), name, &code, SysSet::empty().with(getpid))?;
+    let process = process_of(&rt, rt.alloc(), name, &code, SysSet::empty().with(getpid))?;
     let mut sys = system_of(rt.alloc(), process)?;
     let stopped = Turned {
         did: Did::Entered(getpid),
@@ -204,9 +202,9 @@ fn a_traced_call_stops_its_lwp_and_directs_the_other(rt: HostRuntime) -> Result<
 #[test]
 fn a_fetch_fails_at_its_first_bad_byte(rt: HostRuntime) -> Result<(), Fail> {
     let name = Name::from_slice(b"p").ok_or("no name")?;
-    let mut process = process_of(rt.alloc(), name, &[], SysSet::empty())?;
-    // the mapping ends at 0x10010
-    process.lwps.push(lwp_at(3, 0x10008))?;
+    let mut process = process_of(&rt, rt.alloc(), name, &[], SysSet::empty())?;
+    // the text ends at 0x11000
+    process.lwps.push(lwp_at(3, 0x10ff8))?;
     let mut sys = system_of(rt.alloc(), process)?;
     let faulted = Turned {
         did: Did::Faulted(Flt::Bounds),
@@ -219,7 +217,7 @@ fn a_fetch_fails_at_its_first_bad_byte(rt: HostRuntime) -> Result<(), Fail> {
         lwp.phase,
         Phase::Faulted {
             fault: Flt::Bounds,
-            address: 0x10010
+            address: 0x11000
         }
     );
     Ok(())

@@ -1,5 +1,0 @@
-use Rattle.std.specs.Prelude.{ℕ, List, replicate}
-
--- so many zero bytes
-unfoldable pub zeros : ℕ → List ℕ
-zeros n = replicate n 0
