@@ -1,3 +1,4 @@
+pub mod BoolLemmas
 pub mod ByIdLaws
 pub mod ByIdLemmas
 pub mod EntryLemmas
@@ -5,6 +6,7 @@ pub mod FlagBounds
 pub mod InstructionLemmas
 pub mod NameLemmas
 pub mod NumberedLemmas
+pub mod SearchLemmas
 pub mod SetBounds
 pub mod SetLemmas
 pub mod TableLaws
