@@ -39,6 +39,10 @@ kind_number Heap = 3
 kind_number Stack = 4
 kind_number Mapped = 5
 
+-- every kind of mapping, in the order of its number
+abbrev pub mapping_kinds : List MappingKind
+mapping_kinds = Text ∷ Data ∷ Heap ∷ Stack ∷ Mapped ∷ []
+
 -- whether a mapping has the byte at an address
 abbrev pub covers : ℕ → Mapping → Bool
 covers address m = nat_le m.at address && nat_lt address (m.at + length m.bytes)

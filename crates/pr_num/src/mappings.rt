@@ -1,4 +1,8 @@
-use crate::{Bytes, Prot, WatchFlags};
+ghost use Rattle.std.specs.Prelude.{◌≡◌};
+ghost use Rattle.pr_num.specs.Spaces.{kind_number, mapping_kinds};
+ghost use Rattle.pr_num.specs.Tables.{entry_at};
+
+use crate::{Bytes, Prot, WatchFlags, tables};
 
 /// What a mapping is for, with numbers of this project's own.
 #[derive(Clone, Copy, Debug, PartialEq, Eq)]
@@ -12,6 +16,32 @@ pub enum MappingKind {
     Stack = 4,
     /// What mmap(2) made.
     Mapped = 5,
+}
+
+impl MappingKind {
+    /// Every kind, in the order of its number.
+    pub const ALL: [MappingKind; 5] = [
+        MappingKind::Text,
+        MappingKind::Data,
+        MappingKind::Heap,
+        MappingKind::Stack,
+        MappingKind::Mapped,
+    ];
+
+    /// The kind of a number, `None` exactly where it is not 1 to 5.
+    pub fn from_number(n: u64) -> Option<MappingKind>
+        ensures { result ≡ entry_at mapping_kinds n }
+    {
+        tables::entry_at(&MappingKind::ALL, n)
+    }
+
+    /// The kind's number, 1 to 5.
+    #[tactic(auto, unfolding(crate::specs::Spaces::kind_number))]
+    pub fn number(self) -> u64
+        ensures { result ≡ kind_number self }
+    {
+        self as u64
+    }
 }
 
 /// A mapping of an address space with its bytes, as many as it is long.
