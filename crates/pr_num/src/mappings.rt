@@ -1,8 +1,7 @@
 ghost use Rattle.std.specs.Prelude.{◌≡◌};
-ghost use Rattle.pr_num.specs.Spaces.{kind_number, mapping_kinds};
-ghost use Rattle.pr_num.specs.Tables.{entry_at};
+ghost use Rattle.pr_num.specs.Spaces.{kind_number, kind_of_number};
 
-use crate::{Bytes, Prot, WatchFlags, tables};
+use crate::{Bytes, Prot, WatchFlags};
 
 /// What a mapping is for, with numbers of this project's own.
 #[derive(Clone, Copy, Debug, PartialEq, Eq)]
@@ -19,20 +18,18 @@ pub enum MappingKind {
 }
 
 impl MappingKind {
-    /// Every kind, in the order of its number.
-    pub const ALL: [MappingKind; 5] = [
-        MappingKind::Text,
-        MappingKind::Data,
-        MappingKind::Heap,
-        MappingKind::Stack,
-        MappingKind::Mapped,
-    ];
-
     /// The kind of a number, `None` exactly where it is not 1 to 5.
     pub fn from_number(n: u64) -> Option<MappingKind>
-        ensures { result ≡ entry_at mapping_kinds n }
+        ensures { result ≡ kind_of_number n }
     {
-        tables::entry_at(&MappingKind::ALL, n)
+        match n {
+            1 => Some(MappingKind::Text),
+            2 => Some(MappingKind::Data),
+            3 => Some(MappingKind::Heap),
+            4 => Some(MappingKind::Stack),
+            5 => Some(MappingKind::Mapped),
+            _ => None,
+        }
     }
 
     /// The kind's number, 1 to 5.
