@@ -1,63 +1,110 @@
-ghost use Rattle.std.specs.Prelude.{◌≡◌, true};
-ghost use Rattle.pr_num.specs.Sets.{has_number, minus_word, with_number, without_number};
-ghost use Rattle.pr_num.specs.Signals.{signal_number};
+ghost use Rattle.std.specs.Prelude.{◌≡◌, Some, IsTrue, IsSome};
+ghost use Rattle.pr_parts.specs.PendingSignals.{IsPendings, nothing_pending, info_of, pending_set, has_room, added, without_one, without_signals};
 
-use pr_num::{Sig, SigSet};
+use crate::places::Places;
+use pr_num::{Info, Sig, SigSet};
 use std::marker::Model;
 
-/// The signals that are pending for a process or an lwp (sigpending(2)), seen by contracts as the word of their set. A
-/// signal is pending once at most, however often it was generated.
-#[derive(Clone, Copy, Debug, PartialEq, Eq)]
+/// The signals that are pending for a process or an lwp, with what came with them (sigpending(2), sigqueue(3C)): a
+/// standard signal once at most, and the others in the order in which they came. Nothing here takes memory.
+#[derive(Drop)]
 pub struct Pendings {
-    signals: SigSet,
+    /// The set of those that stand, so that a question for it looks at no place.
+    set: SigSet,
+    places: Places,
 }
 
 impl Model for Pendings {
-    ghost use Rattle.std.specs.Prelude.{ℕ};
+    ghost use Rattle.std.specs.Prelude.{◌≡◌};
+    ghost use Rattle.pr_parts.specs.PendingSignals.{Pending, pending_set};
 
-    ghost Value = { ℕ };
+    ghost Value = { Pending };
 
-    ghost view = { λ pendings. pendings.signals };
+    ghost view = { λ a. a.places };
 
-    ghost inverse = { λ word. record { signals = word } };
+    ghost invariant = { λ a. a.set ≡ pending_set a.places };
 }
 
 impl Pendings {
     /// No signal is pending.
     pub fn new() -> Pendings
-        ensures { result ≡ 0 }
+        ensures { result ≡ nothing_pending }
     {
         Pendings {
-            signals: SigSet::empty(),
+            set: SigSet::empty(),
+            places: Places::new(),
         }
+    }
+
+    /// Every process and every lwp has a place for each standard signal, and a queue within its limit.
+    pub fn have_places(&self)
+        ensures { IsPendings self.now }
+    {
+        self.places.are_places();
     }
 
     /// The pending signals.
     pub fn set(&self) -> SigSet
-        ensures { result ≡ self.now }
+        ensures { result ≡ pending_set self.now }
     {
-        self.signals
+        self.set
     }
 
-    /// The signal becomes pending.
-    pub fn add(&mut self, s: Sig)
-        ensures { self.new ≡ with_number self.old (signal_number s) }
+    /// What came with a signal, if it is pending; of one that queues, with the first that came.
+    pub fn info(&self, s: Sig) -> Option<Info>
+        ensures { result ≡ info_of s self.now }
     {
-        self.signals = self.signals.with(s);
+        self.places.info(s)
     }
 
-    /// The signal, which was pending, is taken.
-    pub fn take(&mut self, s: Sig)
-        requires { has_number self.old (signal_number s) ≡ true }
-        ensures { self.new ≡ without_number self.old (signal_number s) }
+    /// Whether a signal can be added: one that queues can while the queue is not full.
+    pub fn room(&self, s: Sig) -> bool
+        ensures { result ≡ has_room s self.now }
     {
-        self.signals = self.signals.without(s);
+        self.places.room(s)
     }
 
-    /// The signals of a set are pending no longer.
-    pub fn delete(&mut self, s: SigSet)
-        ensures { self.new ≡ minus_word self.old s }
+    /// The signal becomes pending with its information; there is room for it. What came with a standard signal that is
+    /// pending already stays, unless a fault sends it.
+    #[tactic(auto, using(pr_parts::proofs::PendingLemmas::pending_laws))]
+    pub fn add(&mut self, s: Sig, info: Info)
+        requires { IsTrue (has_room s self.old) }
+        ensures { self.new ≡ added s info self.old }
     {
-        self.signals = self.signals.minus(s);
+        self.places.are_places();
+        self.places.add(s, info);
+        self.set = self.set.with(s);
+    }
+
+    /// The signal, which is pending, is taken, and what came with it is answered.
+    pub fn take(&mut self, s: Sig) -> Info
+        requires { IsSome (info_of s self.old) }
+        ensures info { info_of s self.old ≡ Some result }
+        ensures rest { self.new ≡ without_one s self.old }
+    {
+        let info = self.info(s).unwrap();
+        self.delete_one(s);
+        info
+    }
+
+    /// A standard signal is pending no longer; of one that queues, the first that came is not.
+    #[tactic(auto, using(pr_parts::proofs::PendingLemmas::pending_laws))]
+    pub fn delete_one(&mut self, s: Sig)
+        ensures { self.new ≡ without_one s self.old }
+    {
+        self.places.are_places();
+        self.places.remove_one(s);
+        if self.places.info(s).is_none() {
+            self.set = self.set.without(s);
+        }
+    }
+
+    /// The signals of a set are pending no longer, however often they came.
+    #[tactic(auto, using(pr_parts::proofs::PendingLemmas::pending_laws))]
+    pub fn delete(&mut self, signals: SigSet)
+        ensures { self.new ≡ without_signals signals self.old }
+    {
+        self.places.remove_all(signals);
+        self.set = self.set.minus(signals);
     }
 }
