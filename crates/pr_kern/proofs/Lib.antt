@@ -1,4 +1,5 @@
 pub mod CloseLemmas
+pub mod InterruptLemmas
 pub mod KeptLemmas
 pub mod MessageLemmas
 pub mod OrderLemmas
@@ -7,3 +8,4 @@ pub mod SoundLemmas
 pub mod StartLemmas
 pub mod StepLemmas
 pub mod TurnedLemmas
+pub mod ViewLemmas

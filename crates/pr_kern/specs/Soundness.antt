@@ -1,4 +1,5 @@
-use Rattle.std.specs.Prelude.{◌≤◌, ◌<◌, ◌+◌, ◌^◌, ℕ, length}
+pub use Rattle.pr_api.specs.Rooms.{HasRoom}
+use Rattle.std.specs.Prelude.{◌≤◌, ℕ, length}
 use Rattle.std.specs.List.{All}
 use Rattle.pr_num.specs.Spaces.{heap_size, mapping_limit}
 use Rattle.pr_proc.specs.Counts.{AllUsedAtMost}
@@ -20,12 +21,6 @@ pub record IsSound (n : ℕ) (s : TracedSystem) : Type 0 where
   pub clock : s.clock ≤ n
   pub counts : AllUsedAtMost n s
   pub heaps : HaveSmallHeaps s
-
--- There is room for as many entries as there are places for, and not more entries.
-pub record HasRoom (history : Kept) (places : ℕ) : Type 0 where
-  pub within : length history.entries ≤ places
-  pub room : places ≤ length history.entries + history.room
-  pub fits : places < 2 ^ 32
 
 -- The system is as sound as the history is long, and the history has its room.
 pub record IsKept (s : TracedSystem) (history : Kept) (places : ℕ) : Type 0 where
