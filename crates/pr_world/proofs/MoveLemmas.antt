@@ -1,0 +1,225 @@
+use Rattle.std.proofs.Common.{◌≡◌, ◌<◌, ◌+◌, ◌-◌, ◌&&◌, ℕ, zero, suc, Bool, true, false, Option, Some, None, IfSome, IsSome, List, [], ◌∷◌, ◌++◌, length, slice_get, slice_index_or, slice_set, nat_lt, cond, refl, sym, ◌∙◌, ap, subst, arith, rules, length-append}
+use Rattle.std.proofs.lemmas.Option.{same_Some, slice_get_within}
+use borrow.Author.Tests.{ltb-true}
+use Rattle.std.specs.Borrow.{Bor}
+use Rattle.std.specs.Option.{option_and_then, option_copied}
+use Rattle.pr_api.specs.Entries.{call_entry, last_reply_of, reply_of, tick_entry, turn_entry}
+use Rattle.pr_api.specs.Steps.{IsAnswer, IsCalled, IsTicked, IsTurned, IsTurnOf}
+use Rattle.pr_api.specs.Views.{IsLawful, KernelView, kernel_of}
+use Rattle.pr_model.specs.Calls.{Answer, answer_to}
+use Rattle.pr_model.specs.Legal.{IsLegalEntry, after, after_call, after_turn, clock_limit, ticked}
+use Rattle.pr_model.specs.LwpTurns.{LwpTurn, turn_of}
+use Rattle.pr_model.specs.State.{TracedState, TracedSystem, with_system}
+use Rattle.pr_model.specs.declared.calls.Call.{Call}
+use Rattle.pr_model.specs.declared.calls.Reply.{Reply}
+use Rattle.pr_model.specs.declared.events.Act.TheVariants.{Call as Called, Turn, Tick}
+use Rattle.pr_model.specs.declared.events.Actor.TheVariants.{Controller, Lwp, Clock}
+use Rattle.pr_model.specs.declared.events.Entry.{Entry}
+use Rattle.pr_model.specs.declared.events.Turned.{Turned}
+use Rattle.pr_world.specs.Controllers.{after_reply, call_by, feed_at, is_clock_awaited, next_call, with_fed}
+use Rattle.pr_world.specs.Moves.{Does, IsMachines, Moves}
+use Rattle.pr_world.specs.Protocol.{controllers_after}
+use Rattle.pr_world.specs.Worlds.{WorldOf, WorldState, can_act, is_answered, seen}
+use Rattle.pr_world.specs.declared.controllers.Controller.{Controller as Core}
+
+-- A step of the kernel makes a move of the world.
+
+-- what follows of a machine that is told
+told : {X : Type 0} (o : Option X) (A B : X → Type 0) → ((x : X) → o ≡ Some x → A x → B x) → IfSome o A → IfSome o B
+told None A B f a = tt
+told (Some x) A B f a = f x refl a
+
+-- ---- the last reply
+
+at-end : (h : List Entry) (e : Entry) → slice_get (h ++ e ∷ []) (length h) ≡ Some e
+at-end [] e = refl
+at-end (x ∷ h) e = at-end h e
+
+-- the last entry of a list one longer
+last-pushed : (h : List Entry) (e : Entry) → slice_get (h ++ e ∷ []) (length (h ++ e ∷ []) - 1) ≡ Some e
+last-pushed h e = let there : length (h ++ e ∷ []) - 1 ≡ length h = omega (arith, length-append h (e ∷ [])) in ap (slice_get (h ++ e ∷ [])) there ∙ at-end h e
+
+pub last-reply : (h : List Entry) (k : ℕ) (c : Call) (r : Reply) → last_reply_of (h ++ call_entry k c r ∷ []) ≡ Some r
+unfolding last_reply_of
+last-reply h k c r = ap (option_and_then reply_of) (last-pushed h (call_entry k c r))
+
+copied-some : {X : Type 0} (o : Option (Bor X)) (x : X) → option_copied o ≡ Some x → IsSome o
+copied-some None x e = cc
+copied-some (Some b) x e = search rules
+
+module _ (k : ℕ) (c : Call) (old new : KernelView) (called : IsCalled k c old new) where
+  called-reply : last_reply_of new.history ≡ Some called.reply
+  called-reply = ap last_reply_of called.history ∙ last-reply old.history k c called.reply
+
+  -- after a call there is a reply
+  pub replied : (o : Option (Bor Reply)) → option_copied o ≡ last_reply_of new.history → IsSome o
+  replied o is = copied-some o called.reply (is ∙ called-reply)
+
+-- ---- who has a next call is one of the controllers
+
+has_call : (controllers : List Core) (k : ℕ) (o : Option Core) (c : Call) → slice_get controllers k ≡ o → option_and_then next_call o ≡ Some c → k < length controllers
+has_call controllers k None c found is = cc
+has_call controllers k (Some s) c found is = slice_get_within controllers k s found
+
+pub with_call : (controllers : List Core) (k : ℕ) (c : Call) → call_by controllers k ≡ Some c → k < length controllers
+unfolding call_by
+with_call controllers k c is = has_call controllers k (slice_get controllers k) c refl is
+
+-- the call of a controller that can move, and that it is ready
+pub record HasCall (w : WorldState) (k : ℕ) : Type 0 where
+  pub call : Call
+  pub next : call_by w.controllers k ≡ Some call
+  pub ready : w.kernel.is_ready k call ≡ true
+
+pub acts-call : (w : WorldState) (k : ℕ) → can_act w (Controller k) ≡ true → HasCall w k
+unfolding can_act
+acts-call w k h = of (call_by w.controllers k) refl h
+  where
+    of : (o : Option Call) → call_by w.controllers k ≡ o → is_answered w.kernel k o ≡ true → HasCall w k
+    of None is h = cc
+    of (Some c) is h = record { call = c; next = is; ready = h }
+
+-- a controller that is fed
+get-at : (controllers : List Core) (k : ℕ) (c : Core) → k < length controllers → c ≡ slice_index_or controllers k c → slice_get controllers k ≡ Some c
+get-at [] k c h e = absurd (omega arith)
+get-at (x ∷ xs) zero c h e = ap Some (sym e)
+get-at (x ∷ xs) (suc k) c h e = get-at xs k c (omega arith) e
+
+pub fed-set : (controllers : List Core) (k : ℕ) (r : Reply) (c new : Core) → k < length controllers → c ≡ slice_index_or controllers k c → new ≡ after_reply c r → slice_set controllers k new ≡ with_fed k r controllers
+unfolding with_fed
+fed-set controllers k r c new within at is = ap (slice_set controllers k) is ∙ ap (feed_at k r controllers) (sym (get-at controllers k c within at))
+
+-- ---- one lemma a kind of move
+
+answer-machines : (n k : ℕ) (c : Call) (r : Reply) (now : Option TracedState) (s : TracedState) → k < n → IsAnswer k c r now s → IsMachines n (call_entry k c r) now s
+unfolding IsLegalEntry after
+answer-machines n k c r now s within made = record {
+  legal = (within, (made.0, made.1));
+  state = made.2 ∙ ap Some (sym (ap (after_call s) made.1));
+}
+
+pub controller-moves : (w v : WorldState) (k : ℕ) (c : Call) (r : Reply) → can_act w (Controller k) ≡ true → call_by w.controllers k ≡ Some c → IsCalled k c w.kernel v.kernel → last_reply_of v.kernel.history ≡ Some r → v.controllers ≡ with_fed k r w.controllers
+    → v.schedule ≡ w.schedule → v.last ≡ w.last → IsLawful v.kernel → Moves w (Controller k) v
+unfolding Does controllers_after
+controller-moves w v k c r acts next called reply fed schedule last lawful =
+    let same : called.reply ≡ r = same_Some called.reply r (sym (called-reply k c w.kernel v.kernel called) ∙ reply) in
+    record {
+      act = Called c called.reply;
+      acts = acts;
+      does = (next, called.shaped);
+      history = called.history;
+      places = called.places;
+      controllers = fed ∙ ap (λ (x : Reply). with_fed k x w.controllers) (sym same);
+      schedule = schedule;
+      last = last;
+      machine = told w.kernel.machine _ _ (λ s is made. answer-machines (length w.controllers) k c called.reply v.kernel.machine s (with_call w.controllers k c next) made) called.machine;
+      lawful = lawful;
+    }
+
+turn-machines : (n pid id : ℕ) (t : Turned) (now : Option TracedState) (s : TracedState) → IsTurnOf pid id t now s → IsMachines n (turn_entry pid id t) now s
+unfolding IsLegalEntry after
+turn-machines n pid id t now s made = record {
+  legal = (made.0, made.1);
+  state = made.2 ∙ ap Some (sym (ap (after_turn s) made.1));
+}
+
+pub lwp-moves : (w v : WorldState) (pid id : ℕ) (t : Turned) → can_act w (Lwp pid id) ≡ true → IsTurned pid id t w.kernel v.kernel → v.controllers ≡ w.controllers → v.schedule ≡ w.schedule → v.last ≡ w.last → IsLawful v.kernel → Moves w (Lwp pid id) v
+unfolding Does controllers_after
+lwp-moves w v pid id t acts turned controllers schedule last lawful = record {
+  act = Turn t;
+  acts = acts;
+  does = tt;
+  history = turned.history;
+  places = turned.places;
+  controllers = controllers;
+  schedule = schedule;
+  last = last;
+  machine = told w.kernel.machine _ _ (λ s is made. turn-machines (length w.controllers) pid id t v.kernel.machine s made) turned.machine;
+  lawful = lawful;
+}
+
+-- the clock is awaited below its last moment alone
+pub awaited-early : (clock : ℕ) (sleeper : Bool) (controllers : List Core) → is_clock_awaited clock sleeper controllers ≡ true → clock < clock_limit
+unfolding is_clock_awaited
+awaited-early clock sleeper controllers is = ltb-true clock clock_limit (and_left (nat_lt clock clock_limit) _ is)
+  where
+    and_left : (a b : Bool) → (a && b) ≡ true → a ≡ true
+    and_left true b h = refl
+    and_left false b h = cc
+
+pub acts-early : (w : WorldState) → can_act w Clock ≡ true → w.kernel.clock < clock_limit
+unfolding can_act
+acts-early w h = awaited-early w.kernel.clock w.kernel.has_sleeper w.controllers h
+
+-- the clock of a kernel that tells its machine is the machine's
+pub told-clock : (k : KernelView) (s : TracedState) → IsLawful k → k.machine ≡ Some s → k.clock ≡ s.system.clock
+unfolding kernel_of
+told-clock k s lawful is = ap (λ (x : KernelView). x.clock) (lawful.told s is)
+
+tick-machines : (n clock : ℕ) (now : Option TracedState) (s : TracedState) → clock ≡ s.system.clock → clock < clock_limit → now ≡ Some (with_system ticked s) → IsMachines n (tick_entry (clock + 1)) now s
+unfolding IsLegalEntry after
+tick-machines n clock now s same early made = record {
+  legal = (subst (λ (m : ℕ). m < clock_limit) same early, ap (λ m. m + 1) same);
+  state = made;
+}
+
+pub clock-moves : (w v : WorldState) → can_act w Clock ≡ true → IsTicked w.kernel v.kernel → v.controllers ≡ w.controllers → v.schedule ≡ w.schedule → v.last ≡ w.last → IsLawful w.kernel → IsLawful v.kernel → Moves w Clock v
+unfolding Does controllers_after
+clock-moves w v acts made controllers schedule last before lawful = record {
+  act = Tick (w.kernel.clock + 1);
+  acts = acts;
+  does = (refl, made.clock);
+  history = made.history;
+  places = made.places;
+  controllers = controllers;
+  schedule = schedule;
+  last = last;
+  machine = told w.kernel.machine _ _ (λ s is now. tick-machines (length w.controllers) w.kernel.clock v.kernel.machine s (told-clock w.kernel s before is) (acts-early w acts) now) made.machine;
+  lawful = lawful;
+}
+
+-- ---- the world of any kernel, whose fields are these
+
+module _ {K : Type 0} (view : K → KernelView) (lawful : (k : K) → IsLawful (view k)) (w inside : WorldOf K) (is : inside ≡ w) where
+  pub lwp-moved : (kern : K) (pid id : ℕ) (t : Turned) → can_act (seen view w) (Lwp pid id) ≡ true → IsTurned pid id t (view inside.kernel) (view kern) → Moves (seen view w) (Lwp pid id) (seen view (record inside { kernel = kern }))
+  lwp-moved kern pid id t acts turned =
+      let here : can_act (seen view inside) (Lwp pid id) ≡ true = ap (λ (x : WorldOf K). can_act (seen view x) (Lwp pid id)) is ∙ acts in
+      subst (λ (x : WorldOf K). Moves (seen view x) (Lwp pid id) (seen view (record inside { kernel = kern }))) is
+      (lwp-moves (seen view inside) (seen view (record inside { kernel = kern })) pid id t here turned refl refl refl (lawful kern))
+
+  pub clock-early : can_act (seen view w) Clock ≡ true → (view inside.kernel).clock < clock_limit
+  clock-early acts = acts-early (seen view inside) (ap (λ (x : WorldOf K). can_act (seen view x) Clock) is ∙ acts)
+
+  pub clock-moved : (kern : K) → can_act (seen view w) Clock ≡ true → IsTicked (view inside.kernel) (view kern) → Moves (seen view w) Clock (seen view (record inside { kernel = kern }))
+  clock-moved kern acts made =
+      let here : can_act (seen view inside) Clock ≡ true = ap (λ (x : WorldOf K). can_act (seen view x) Clock) is ∙ acts in
+      subst (λ (x : WorldOf K). Moves (seen view x) Clock (seen view (record inside { kernel = kern }))) is
+      (clock-moves (seen view inside) (seen view (record inside { kernel = kern })) here made refl refl refl (lawful inside.kernel) (lawful kern))
+
+  module _ (k : ℕ) (acts : can_act (seen view w) (Controller k) ≡ true) where
+    here : can_act (seen view inside) (Controller k) ≡ true
+    here = ap (λ (x : WorldOf K). can_act (seen view x) (Controller k)) is ∙ acts
+
+    pub some_call : (o : Option Call) → o ≡ call_by w.controllers k → IsSome o
+    some_call o value =
+        let h = acts-call (seen view w) k acts in
+        let P : Option Call → Type 0 = λ x. IsSome x in
+        subst P (sym (value ∙ h.next)) refl
+
+    module _ (c : Call) (next : call_by w.controllers k ≡ Some c) where
+      next_here : call_by inside.controllers k ≡ Some c
+      next_here = ap (λ (x : WorldOf K). call_by x.controllers k) is ∙ next
+
+      pub call-within : k < length inside.controllers
+      call-within = with_call inside.controllers k c next_here
+
+      pub call-ready : (view inside.kernel).is_ready k c ≡ true
+      call-ready =
+          let h = acts-call (seen view inside) k here in
+          let same : h.call ≡ c = same_Some h.call c (sym h.next ∙ next_here) in
+          ap ((view inside.kernel).is_ready k) (sym same) ∙ h.ready
+
+      pub controller-moved : (kern : K) (r : Reply) (fed : List Core) → IsCalled k c (view inside.kernel) (view kern) → last_reply_of (view kern).history ≡ Some r → fed ≡ with_fed k r inside.controllers → Moves (seen view w) (Controller k) (seen view (record inside { kernel = kern; controllers = fed }))
+      controller-moved kern r fed called reply feeds =
+          subst (λ (x : WorldOf K). Moves (seen view x) (Controller k) (seen view (record inside { kernel = kern; controllers = fed }))) is
+          (controller-moves (seen view inside) (seen view (record inside { kernel = kern; controllers = fed })) k c r here next_here called reply feeds refl refl (lawful kern))
