@@ -64,7 +64,7 @@ module _ (s : TracedState) (w : WorldState) where
       ∙ ap (λ (m : ℕ). Some (let v : WorldState = record w { kernel = kernel_of (with_system ticked s) (w.kernel.history ++ tick_entry m ∷ []) w.kernel.places } in v)) (sym legal.1)
   row v _ _ clock sleeper acts does legal = absurd does
 
-told-sleeper : (k : KernelView) (s : TracedState) → IsLawful k → k.machine ≡ Some s → k.has_sleeper ≡ some_sleeper s.system
+pub told-sleeper : (k : KernelView) (s : TracedState) → IsLawful k → k.machine ≡ Some s → k.has_sleeper ≡ some_sleeper s.system
 unfolding kernel_of
 told-sleeper k s lawful is = ap (λ (x : KernelView). x.has_sleeper) (lawful.told s is)
 
@@ -86,7 +86,7 @@ pub record Goes (s : TracedState) (w : WorldState) (actor : Actor) : Type 0 wher
 
 module _ (s : TracedState) (w : WorldState) (is : w.kernel ≡ kernel_of s w.kernel.history w.kernel.places) where
   -- what is seen of the kernel is what the machine says
-  is-told : w.kernel.machine ≡ Some s
+  pub is-told : w.kernel.machine ≡ Some s
   unfolding kernel_of
   is-told = ap (λ (k : KernelView). k.machine) is
 
