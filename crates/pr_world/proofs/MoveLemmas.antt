@@ -1,4 +1,4 @@
-use Rattle.std.proofs.Common.{◌≡◌, ◌<◌, ◌+◌, ◌-◌, ◌&&◌, ℕ, zero, suc, Bool, true, false, Option, Some, None, IfSome, IsSome, List, [], ◌∷◌, ◌++◌, length, slice_get, slice_index_or, slice_set, nat_lt, cond, refl, sym, ◌∙◌, ap, subst, arith, rules, length-append}
+use Rattle.std.proofs.Common.{◌≡◌, ◌<◌, ◌+◌, ◌-◌, ◌&&◌, ℕ, zero, suc, Bool, true, false, Option, Some, None, IfSome, IsSome, List, [], ◌∷◌, ◌++◌, length, slice_get, slice_index_or, slice_set, nat_lt, refl, sym, ◌∙◌, ap, subst, arith, rules, length-append}
 use Rattle.std.proofs.lemmas.Option.{same_Some, slice_get_within}
 use borrow.Author.Tests.{ltb-true}
 use Rattle.std.specs.Borrow.{Bor}
@@ -6,10 +6,8 @@ use Rattle.std.specs.Option.{option_and_then, option_copied}
 use Rattle.pr_api.specs.Entries.{call_entry, last_reply_of, reply_of, tick_entry, turn_entry}
 use Rattle.pr_api.specs.Steps.{IsAnswer, IsCalled, IsTicked, IsTurned, IsTurnOf}
 use Rattle.pr_api.specs.Views.{IsLawful, KernelView, kernel_of}
-use Rattle.pr_model.specs.Calls.{Answer, answer_to}
 use Rattle.pr_model.specs.Legal.{IsLegalEntry, after, after_call, after_turn, clock_limit, ticked}
-use Rattle.pr_model.specs.LwpTurns.{LwpTurn, turn_of}
-use Rattle.pr_model.specs.State.{TracedState, TracedSystem, with_system}
+use Rattle.pr_model.specs.State.{TracedState, with_system}
 use Rattle.pr_model.specs.declared.calls.Call.{Call}
 use Rattle.pr_model.specs.declared.calls.Reply.{Reply}
 use Rattle.pr_model.specs.declared.events.Act.TheVariants.{Call as Called, Turn, Tick}

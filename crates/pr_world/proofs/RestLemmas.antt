@@ -1,7 +1,7 @@
-use Rattle.std.proofs.Common.{◌≡◌, ◌<◌, ◌≤◌, ◌+◌, ◌-◌, ◌==◌, ◌&&◌, ◌||◌, ◌⊎◌, inl, inr, ℕ, zero, suc, Bool, true, false, not, Option, Some, None, is_some, is_none, List, [], ◌∷◌, ◌++◌, map, length, cond, find, nat_lt, refl, sym, ◌∙◌, ap, subst, arith}
+use Rattle.std.proofs.Common.{◌≡◌, ◌<◌, ◌≤◌, ◌+◌, ◌-◌, ◌&&◌, ◌⊎◌, inl, inr, ℕ, zero, suc, Bool, true, false, Option, Some, None, is_some, List, [], ◌∷◌, length, cond, find, nat_lt, refl, sym, ◌∙◌, ap, arith}
 use Rattle.std.proofs.lemmas.Option.{same_Some}
-use Rattle.std.specs.List.{Contains, range_with_len, slice_index_or}
-use Rattle.std.specs.Option.{option_map, option_and_then}
+use Rattle.std.specs.List.{range_with_len, slice_index_or}
+use Rattle.std.specs.Option.{option_map}
 use Rattle.pr_api.specs.Views.{IsLawful, KernelView, is_after, next_of, turns_after}
 use Rattle.pr_model.specs.Stops.{or_else}
 use Rattle.pr_model.specs.declared.events.Actor.{Actor}
@@ -9,7 +9,7 @@ use Rattle.pr_model.specs.declared.events.Actor.TheVariants.{Controller, Lwp, Cl
 use Rattle.pr_world.specs.declared.ends.End.{End}
 use Rattle.pr_world.specs.declared.ends.End.TheVariants.{Quiet, Spent, Stuck}
 use Rattle.pr_world.specs.Worlds.{Pick, WorldState, actor_of, as_lwp, can_act, clock_if_awaited, controller_acts, first_controller, first_lwp, first_scheduled, from_controller, from_lwp, in_rounds, WorldOf, all_finished, end_of, end_with, ended_as, goes_on, quiet_end, seen, next_actor, next_in_round, next_in_rounds, next_pick}
-use Rattle.pr_world.proofs.MoveLemmas.{HasCall, acts-call, with_call}
+use Rattle.pr_world.proofs.MoveLemmas.{acts-call, with_call}
 
 -- ---- who is next, can move
 

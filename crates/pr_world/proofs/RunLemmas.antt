@@ -1,12 +1,11 @@
-use Rattle.std.proofs.Common.{◌≡◌, ◌<◌, ◌≤◌, ◌+◌, ◌-◌, ◌&&◌, ℕ, zero, suc, Bool, true, false, Option, Some, None, IfSome, is_some, List, [], ◌∷◌, ◌++◌, length, nat_lt, cond, refl, sym, ◌∙◌, ap, subst, arith, add-one, append_assoc, length-append}
+use Rattle.std.proofs.Common.{◌≡◌, ◌+◌, ℕ, zero, suc, Bool, true, false, Option, Some, None, IfSome, is_some, List, [], ◌∷◌, ◌++◌, length, refl, sym, ◌∙◌, ap, subst, arith, append_assoc, length-append}
 use Rattle.std.proofs.lemmas.List.{append-nil}
-use Rattle.std.proofs.lemmas.Option.{same_Some}
 use Rattle.std.specs.Option.{option_and_then, option_map}
 use Rattle.pr_api.specs.MachineLaws.{machine-lawful}
 use Rattle.pr_api.specs.Sleepers.{some_sleeper}
-use Rattle.pr_api.specs.Views.{IsLawful, KernelView, kernel_of}
+use Rattle.pr_api.specs.Views.{IsLawful, KernelView}
 use Rattle.pr_model.proofs.HistoryLemmas.{IsLegal-push, state_after-push}
-use Rattle.pr_model.specs.Legal.{IsLegal, IsLegalEntry, after, state_after}
+use Rattle.pr_model.specs.Legal.{IsLegalEntry, after, state_after}
 use Rattle.pr_model.specs.State.{TracedState}
 use Rattle.pr_model.specs.declared.events.Act.{Act}
 use Rattle.pr_model.specs.declared.events.Act.TheVariants.{Call as Called, Turn, Tick}
@@ -15,7 +14,7 @@ use Rattle.pr_model.specs.declared.events.Actor.TheVariants.{Controller, Lwp, Cl
 use Rattle.pr_model.specs.declared.events.Entry.{Entry}
 use Rattle.pr_world.specs.Controllers.{is_clock_awaited}
 use Rattle.pr_world.specs.Moves.{Does, IsMachines, Moves, after_move, entry_of, move_in}
-use Rattle.pr_world.specs.Protocol.{AreNextCalls, Follows, FollowsAt, IsNextCall, controllers_after, controllers_at}
+use Rattle.pr_world.specs.Protocol.{FollowsAt, IsNextCall, controllers_after, controllers_at}
 use Rattle.pr_world.specs.Runs.{CameFrom, IsFresh, IsMachineRun, IsTold, RunsFor, Steps, after_moves, after_next, moved_by, or_unmoved}
 use Rattle.pr_world.specs.Worlds.{Pick, WorldState, actor_of, can_act, next_actor, next_pick, with_pick}
 use Rattle.pr_world.specs.declared.controllers.Controller.{Controller as Core}
@@ -170,7 +169,7 @@ unfolding after_next
 stuck-next w e = ap (moved_by w) e
 
 -- picked or not, an actor can move
-can_act-picked : (w : WorldState) (p : Pick) (actor : Actor) → can_act (with_pick p w) actor ≡ can_act w actor
+pub can_act-picked : (w : WorldState) (p : Pick) (actor : Actor) → can_act (with_pick p w) actor ≡ can_act w actor
 unfolding can_act with_pick
 can_act-picked w p (Controller k) = refl
 can_act-picked w p (Lwp pid id) = refl

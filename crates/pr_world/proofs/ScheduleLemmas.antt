@@ -1,9 +1,8 @@
-use Rattle.std.proofs.Common.{◌≡◌, ◌<◌, ◌≤◌, ◌+◌, ℕ, zero, suc, Bool, true, false, Option, Some, None, List, [], ◌∷◌, cond, drop, length, refl, sym, ◌∙◌, ap, subst, arith, add-one}
+use Rattle.std.proofs.Common.{◌≡◌, ◌≤◌, ◌+◌, ℕ, zero, suc, Bool, true, false, Some, None, List, [], ◌∷◌, cond, drop, length, refl, sym, ◌∙◌, ap, arith, add-one}
 use Rattle.std.proofs.lemmas.Option.{same_Some}
 use Rattle.std.specs.List.{slice_get}
-use Rattle.std.specs.Option.{option_map}
 use Rattle.pr_model.specs.declared.events.Actor.{Actor}
-use Rattle.pr_world.specs.Worlds.{Pick, WorldOf, WorldState, actor_of, can_act, first_scheduled, picked, with_pick}
+use Rattle.pr_world.specs.Worlds.{Pick, WorldState, can_act, first_scheduled}
 
 -- A search through the schedule, actor by actor.
 

@@ -1,6 +1,5 @@
-use Rattle.std.proofs.Common.{◌≡◌, ◌<◌, ◌+◌, ◌&&◌, ℕ, Bool, true, false, Option, Some, None, IfSome, is_some, List, [], ◌∷◌, ◌++◌, length, cond, refl, sym, ◌∙◌, ap, subst}
-use Rattle.std.proofs.lemmas.Option.{same_Some}
-use Rattle.std.specs.Option.{option_map, option_and_then}
+use Rattle.std.proofs.Common.{◌≡◌, ◌+◌, ℕ, Bool, true, Option, Some, None, IfSome, is_some, List, [], ◌∷◌, ◌++◌, length, cond, refl, sym, ◌∙◌, ap, subst}
+use Rattle.std.specs.Option.{option_map}
 use Rattle.pr_api.proofs.ShapeLemmas.{machine-shaped}
 use Rattle.pr_api.specs.Entries.{call_entry, tick_entry, turn_entry}
 use Rattle.pr_api.specs.MachineLaws.{machine-lawful}
@@ -12,19 +11,17 @@ use Rattle.pr_model.specs.Legal.{IsLegalEntry, after, after_call, after_turn, ti
 use Rattle.pr_model.specs.LwpTurns.{LwpTurn, can_move, turn_of}
 use Rattle.pr_model.specs.State.{TracedState, TracedSystem, with_system}
 use Rattle.pr_model.specs.declared.calls.Call.{Call}
-use Rattle.pr_model.specs.declared.calls.Reply.{Reply}
 use Rattle.pr_model.specs.declared.events.Act.{Act}
 use Rattle.pr_model.specs.declared.events.Act.TheVariants.{Call as Called, Turn, Tick}
 use Rattle.pr_model.specs.declared.events.Actor.{Actor}
 use Rattle.pr_model.specs.declared.events.Actor.TheVariants.{Controller, Lwp, Clock}
 use Rattle.pr_model.specs.declared.events.Entry.{Entry}
-use Rattle.pr_model.specs.declared.events.Turned.{Turned}
 use Rattle.pr_world.specs.Controllers.{call_by, is_clock_awaited, with_fed}
-use Rattle.pr_world.specs.Moves.{Does, IsMachines, Moves, after_call_by, after_move, entry_of, move_in, with_answer, with_entry, with_tick, with_turn}
+use Rattle.pr_world.specs.Moves.{Does, IsMachines, Moves, after_call_by, entry_of, move_in, with_answer, with_entry, with_tick, with_turn}
 use Rattle.pr_world.specs.Protocol.{controllers_after}
-use Rattle.pr_world.specs.Worlds.{WorldState, can_act, is_answered}
+use Rattle.pr_world.specs.Worlds.{WorldState, can_act}
 use Rattle.pr_world.specs.declared.controllers.Controller.{Controller as Core}
-use Rattle.pr_world.proofs.MoveLemmas.{HasCall, acts-call, clock-moves, told-clock, controller-moves, last-reply, lwp-moves}
+use Rattle.pr_world.proofs.MoveLemmas.{acts-call, clock-moves, told-clock, controller-moves, last-reply, lwp-moves}
 
 -- Over a machine that is told a move is a function of the world.
 

@@ -1,4 +1,4 @@
-use Rattle.std.specs.Prelude.{◌≡◌, ◌+◌, ◌++◌, ℕ, Bool, true, List, [], ◌∷◌, Option, Some, None, IfSome, length, option_map, option_and_then, if◌then◌else◌}
+use Rattle.std.specs.Prelude.{◌≡◌, ◌+◌, ◌++◌, ℕ, true, [], ◌∷◌, Option, Some, None, IfSome, length, option_map, option_and_then, if◌then◌else◌}
 use Rattle.pr_api.specs.Entries.{call_entry, turn_entry, tick_entry}
 use Rattle.pr_api.specs.Shapes.{has_shape}
 use Rattle.pr_api.specs.Sleepers.{some_sleeper}

@@ -1,12 +1,12 @@
-use Rattle.std.specs.Prelude.{◌≡◌, ℕ, true, List, [], ◌∷◌, Some}
+use Rattle.std.specs.Prelude.{◌≡◌, true, List, [], ◌∷◌, Some}
 use Rattle.pr_api.specs.Shapes.{has_shape}
 use Rattle.pr_api.specs.Sleepers.{some_sleeper}
 use Rattle.pr_model.specs.Legal.{after}
 use Rattle.pr_model.specs.State.{TracedState}
 use Rattle.pr_model.specs.declared.events.Act.{Act}
-use Rattle.pr_model.specs.declared.events.Act.TheVariants.{Call, Turn, Tick}
+use Rattle.pr_model.specs.declared.events.Act.TheVariants.{Call, Tick}
 use Rattle.pr_model.specs.declared.events.Actor.{Actor}
-use Rattle.pr_model.specs.declared.events.Actor.TheVariants.{Controller, Lwp, Clock}
+use Rattle.pr_model.specs.declared.events.Actor.TheVariants.{Controller, Clock}
 use Rattle.pr_model.specs.declared.events.Entry.{Entry}
 use Rattle.pr_world.specs.Controllers.{call_by, is_clock_awaited, with_fed}
 use Rattle.pr_world.specs.declared.controllers.Controller.{Controller as Core}

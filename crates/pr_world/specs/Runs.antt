@@ -1,11 +1,11 @@
-use Rattle.std.specs.Prelude.{◌≡◌, ◌≤◌, ◌++◌, ℕ, zero, suc, List, [], Option, Some, None, IfSome, length}
+use Rattle.std.specs.Prelude.{◌≡◌, ◌++◌, ℕ, zero, suc, List, [], Option, Some, None, IfSome, length}
 use Rattle.pr_api.specs.Views.{kernel_of}
 use Rattle.pr_model.specs.Legal.{IsLegal, state_after}
 use Rattle.pr_model.specs.State.{TracedState}
 use Rattle.pr_model.specs.declared.events.Entry.{Entry}
 use Rattle.pr_world.specs.Moves.{Moves, after_move}
 use Rattle.pr_world.specs.Protocol.{AreNextCalls, Follows, controllers_at}
-use Rattle.pr_world.specs.Worlds.{Pick, WorldOf, WorldState, next_pick, with_pick}
+use Rattle.pr_world.specs.Worlds.{Pick, WorldState, next_pick, with_pick}
 use Rattle.pr_world.specs.declared.controllers.Controller.{Controller as Core}
 
 -- Runs of a world.

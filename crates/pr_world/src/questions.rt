@@ -16,11 +16,7 @@ use std::alloc::Global;
 const CLOCK_LIMIT: u64 = 1 << 62;
 
 /// Whether one of these controllers waits for a moment that is still to come.
-fn some_awaits_clock(
-    alloc: Global,
-    clock: u64,
-    callers: &mut [Caller],
-) -> Result<bool, NoMemory>
+fn some_awaits_clock(alloc: Global, clock: u64, callers: &mut [Caller]) -> Result<bool, NoMemory>
     ensures value { IfOk result (λ some. some ≡ list_any (awaits_clock clock) callers.old) }
     ensures same { callers.new ≡ callers.old }
 {

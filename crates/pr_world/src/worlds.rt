@@ -55,7 +55,8 @@ impl<Q> World<Q> {
         controllers: Vec<Controller>,
         schedule: Vec<Actor>,
     ) -> Result<World<Q>, NoMemory>
-        where Q: Drop,
+    where
+        Q: Drop,
         requires { length controllers.items ≤ 64 }
         ensures { IfOk result (λ world. world ≡ record { kernel = kernel; controllers = controllers.items; schedule = schedule.items; last = None }) }
     {

@@ -7,6 +7,6 @@ use Rattle.pr_world.proofs.worlds.World.first_controller.Given as goal
 abbrev pub invariant-loop-controller : goal.invariant-loop-controller
 invariant-loop-controller g l = record {
   none : find (controller_acts (seen g.Q.Kernel.view l.fn.self)) (range_with_len l.controller (length l.fn.self.controllers - l.controller))
-    ≡ find (controller_acts (seen g.Q.Kernel.view l.fn.self)) (range_with_len l.from (length l.fn.self.controllers - l.from));
+      ≡ find (controller_acts (seen g.Q.Kernel.view l.fn.self)) (range_with_len l.from (length l.fn.self.controllers - l.from));
   same : l.self ≡ l.fn.self;
 }

@@ -1,4 +1,4 @@
-use Rattle.std.proofs.Common.{◌≡◌, ◌<◌, Some, sym, ◌∙◌, ap, arith}
+use Rattle.std.proofs.Common.{◌≡◌, Some, sym, ◌∙◌, ap, arith}
 use Rattle.std.specs.Option.{option_copied}
 use Rattle.pr_world.specs.Controllers.{call_by}
 use Rattle.pr_world.proofs.MoveLemmas.{call-ready, call-within, controller-moved, fed-set, replied, some_call}
