@@ -92,7 +92,7 @@ came-picked : (first w : WorldState) (p : Pick) → CameFrom first w → CameFro
 unfolding with_pick
 came-picked first w p came = record { entries = came.entries; history = came.history; places = came.places; controllers = came.controllers; calls = came.calls; machine = came.machine }
 
-picked-kernel : (p : Pick) (w : WorldState) → (with_pick p w).kernel ≡ w.kernel
+pub picked-kernel : (p : Pick) (w : WorldState) → (with_pick p w).kernel ≡ w.kernel
 unfolding with_pick
 picked-kernel p w = refl
 
