@@ -4,3 +4,6 @@
 mod one;
 
 pub use one::run_one;
+
+#[cfg(test)]
+mod tests;
