@@ -6,7 +6,7 @@ use Rattle.pr_model.specs.declared.events.Actor.{Actor}
 use Rattle.pr_world.proofs.RestLemmas.{pick-acts}
 use Rattle.pr_world.proofs.RunLemmas.{can_act-picked, run-function, run-longer, run-places, stuck-stays}
 use Rattle.pr_world.specs.Moves.{Moves}
-use Rattle.pr_world.specs.Runs.{IsTold, RunsFor, Steps, after_moves}
+use Rattle.pr_world.specs.Runs.{IsTold, RunsFor, Steps, StoppedIn, after_moves}
 use Rattle.pr_world.specs.Worlds.{Pick, WorldOf, WorldState, actor_of, can_act, end_of, ended_as, goes_on, next_actor, next_pick, picked, seen, with_pick}
 use Rattle.pr_world.specs.declared.ends.End.{End}
 use Rattle.pr_run.specs.OneRuns.{Advanced, StandsAs, end_of_run}
@@ -145,3 +145,16 @@ module _ (first w : WorldState) (i e p : ℕ) (begin : e ≡ length first.kernel
   full-is h t =
       let same : i - length first.kernel.history ≡ first.kernel.places - length first.kernel.history = omega arith in
       run-function (i - length first.kernel.history) first w t run ∙ ap (λ (n : ℕ). after_moves n first) same
+
+  pub stopped : (v : WorldState) → i ≤ p → StandsAs w v → StoppedIn first v
+  stopped v h stands = record {
+    made = i - length first.kernel.history;
+    within = omega arith;
+    world = w;
+    runs = run;
+    kernel = stands.kernel;
+    controllers = stands.controllers;
+  }
+
+pub stands-same : (w v : WorldState) → v ≡ w → StandsAs w v
+stands-same w v e = record { kernel = ap (λ (x : WorldState). x.kernel) e; controllers = ap (λ (x : WorldState). x.controllers) e }

@@ -1,4 +1,4 @@
-use Rattle.std.specs.Prelude.{◌≡◌, ◌++◌, ℕ, zero, suc, List, [], Option, Some, None, IfSome, length}
+use Rattle.std.specs.Prelude.{◌≡◌, ◌++◌, ◌-◌, ◌≤◌, ℕ, zero, suc, List, [], Option, Some, None, IfSome, length}
 use Rattle.pr_api.specs.Views.{kernel_of}
 use Rattle.pr_model.specs.Legal.{IsLegal, state_after}
 use Rattle.pr_model.specs.State.{TracedState}
@@ -42,9 +42,11 @@ unfoldable pub RunsFor : ℕ → WorldState → WorldState → Type 0
 RunsFor zero w v = v ≡ w
 RunsFor (suc n) w v = (u : WorldState) × RunsFor n w u × Steps u v
 
--- A run that was stopped for want of memory: so many steps were made, and after them an actor may have been picked.
+-- A run that was stopped for want of memory: so many steps were made, at most as many as there were places left, and
+-- after them an actor may have been picked.
 pub record StoppedIn (first w : WorldState) : Type 0 where
   pub made : ℕ
+  pub within : made ≤ first.kernel.places - length first.kernel.history
   pub world : WorldState
   pub runs : RunsFor made first world
   pub kernel : w.kernel ≡ world.kernel
