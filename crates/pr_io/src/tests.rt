@@ -100,7 +100,7 @@ fn a_source_in_memory_gives_its_bytes_and_fails_where_listed(rt: HostRuntime) ->
 fn a_sink_in_memory_takes_what_it_has_room_for_and_fails_where_listed(
     rt: HostRuntime,
 ) -> Result<(), Fail> {
-    let mut sink = MemSink::new(5, [1].to_vec(rt.alloc())?)?;
+    let mut sink = MemSink::new(rt.alloc(), 5, [1].to_vec(rt.alloc())?)?;
     for (part, want) in [
         ("abc", Ok(3)),
         ("def", Err(Failed)),
@@ -113,7 +113,7 @@ fn a_sink_in_memory_takes_what_it_has_room_for_and_fails_where_listed(
     assert_eq!(rt; sink.calls(), 4);
     assert_eq!(rt; sink.faults(), 2);
 
-    let mut full = MemSink::new(0, Vec::new(rt.alloc()))?;
+    let mut full = MemSink::new(rt.alloc(), 0, Vec::new(rt.alloc()))?;
     assert_eq!(rt; full.write(b"a"), Err(Failed));
     assert_eq!(rt; full.bytes().len(), 0);
     Ok(())
@@ -184,7 +184,7 @@ fn all_is_written_or_a_front(rt: HostRuntime) -> Result<(), Fail> {
         ("abc", 5, [0].as_slice(), Err(Failed), "", 1),
         ("", 0, [0].as_slice(), Ok(()), "", 0),
     ] {
-        let mut sink = MemSink::new(room, fails.to_vec(rt.alloc())?)?;
+        let mut sink = MemSink::new(rt.alloc(), room, fails.to_vec(rt.alloc())?)?;
         assert_eq!(rt;
             write_all(&mut sink, part.as_bytes()),
             want,

@@ -47,7 +47,7 @@ fn a_run_is_written_or_a_front(rt: HostRuntime) -> Result<(), Fail> {
         ),
         (0, [].as_slice(), Err(Cut::WriteFailed), ""),
     ] {
-        let mut sink = MemSink::new(room, fails.to_vec(rt.alloc())?)?;
+        let mut sink = MemSink::new(rt.alloc(), room, fails.to_vec(rt.alloc())?)?;
         assert_eq!(rt; write_run(rt.alloc(), &mut sink, &history, 0), want);
         assert_eq!(rt; sink.bytes(), there.as_bytes());
     }
@@ -60,7 +60,7 @@ fn a_refusal_is_written_or_a_front(rt: HostRuntime) -> Result<(), Fail> {
         (20, Ok(()), "line 12: not a line\n"),
         (7, Err(Cut::WriteFailed), "line 12"),
     ] {
-        let mut sink = MemSink::new(room, Vec::new(rt.alloc()))?;
+        let mut sink = MemSink::new(rt.alloc(), room, Vec::new(rt.alloc()))?;
         assert_eq!(rt;
             write_refusal(rt.alloc(), &mut sink, 12, b"not a line"),
             want

@@ -94,7 +94,7 @@ fn source_of(alloc: Global, input: &str, fails: &[u64]) -> Option<MemSource> {
 }
 
 fn sink_of(alloc: Global, room: usize, fails: &[u64]) -> Option<MemSink> {
-    MemSink::new(room, fails.to_vec(alloc).ok()?).ok()
+    MemSink::new(alloc, room, fails.to_vec(alloc).ok()?).ok()
 }
 
 // The call that is tested, without its clauses: they would weigh on the proof of each caller.
