@@ -1,4 +1,4 @@
-ghost use Rattle.std.specs.Prelude.{◌≡◌, ◌≤◌, ◌++◌, OnOk, IsErrOf};
+ghost use Rattle.std.specs.Prelude.{◌≡◌, ◌≢◌, ◌≤◌, ◌++◌, OnOk, IsErrOf, Err};
 ghost use Rattle.pr_io.specs.Faults.{Rose};
 ghost use Rattle.pr_io.specs.Known.{with_end};
 ghost use Rattle.pr_io.specs.Writing.{AppendsFront};
@@ -36,7 +36,7 @@ fn put_refusal<K: Sink>(alloc: Global, sink: &mut K, line: u32, kind: &[u8]) -> 
 
 /// Writes to a sink why an input is refused: the first line at fault, which counts from 1, and what is wrong with it.
 ///
-/// Where a write fails, the sink has a front of the text that lacks some bytes; where memory runs out, a front of it.
+/// Where a write fails, the sink has a prefix of the text that lacks some bytes; where memory runs out, a prefix of it.
 pub fn write_refusal<K: Sink>(
     alloc: Global,
     sink: &mut K,
@@ -49,6 +49,7 @@ pub fn write_refusal<K: Sink>(
     ensures rose { IsErrOf result variants.WriteFailed → Rose (K.faults sink.old) (K.faults sink.new) }
     ensures memory { IsErrOf result variants.NoMemory
         → AppendsSome (K.written sink.old) (K.written sink.new) (refusal_text line kind.now) }
+    ensures no_fault { result ≢ Err variants.WriteFailed → K.faults sink.new ≡ K.faults sink.old }
     ensures never_falls { K.faults sink.old ≤ K.faults sink.new }
 {
     put_refusal(alloc, sink, line, kind)
