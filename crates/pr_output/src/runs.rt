@@ -1,10 +1,5 @@
-ghost use Rattle.std.specs.Prelude.{◌≡◌, ◌≢◌, ◌≤◌, OnOk, IsErrOf, Err};
-ghost use Rattle.pr_io.specs.Faults.{Rose};
-ghost use Rattle.pr_io.specs.Known.{with_end};
-ghost use Rattle.pr_io.specs.Writing.{AppendsFront};
-ghost use Rattle.pr_output.specs.Output.{AppendsSome, history_text, run_text};
+ghost use Rattle.pr_output.specs.Output.{history_text, run_text};
 ghost use Rattle.pr_output.specs.Puts.{Puts};
-ghost use Rattle.pr_output.specs.declared.cuts.Cut.TheVariants as variants;
 
 use crate::Cut;
 use crate::lines::{put_entries, put_heading, put_status};
@@ -56,14 +51,8 @@ pub fn write_run<K: Sink>(
     history: &History,
     status: u8,
 ) -> Result<(), Cut>
-    ensures ok { OnOk result (K.written sink.new ≡ with_end (K.written sink.old) (run_text quiet history.now.entries status)) }
-    ensures failed { IsErrOf result variants.WriteFailed
-        → AppendsFront (K.written sink.old) (K.written sink.new) (run_text quiet history.now.entries status) }
-    ensures rose { IsErrOf result variants.WriteFailed → Rose (K.faults sink.old) (K.faults sink.new) }
-    ensures memory { IsErrOf result variants.NoMemory
-        → AppendsSome (K.written sink.old) (K.written sink.new) (run_text quiet history.now.entries status) }
-    ensures no_fault { result ≢ Err variants.WriteFailed → K.faults sink.new ≡ K.faults sink.old }
-    ensures never_falls { K.faults sink.old ≤ K.faults sink.new }
+    ensures { Puts result (K.written sink.old) (K.written sink.new) (K.faults sink.old) (K.faults sink.new)
+        (run_text quiet history.now.entries status) }
 {
     put_run(&mut Vec::new(alloc), sink, quiet, history, status)
 }
