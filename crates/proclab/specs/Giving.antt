@@ -8,7 +8,7 @@ use Rattle.pr_output.specs.declared.cuts.Cut.{Cut}
 use Rattle.pr_output.specs.declared.cuts.Cut.TheVariants as cut
 use Rattle.proclab.specs.Answers.{Answer}
 use Rattle.proclab.specs.declared.outcomes.Status.{Status}
-use Rattle.proclab.specs.declared.outcomes.Status.TheVariants.{WriteFailed, OutOfMemory}
+use Rattle.proclab.specs.declared.outcomes.Status.TheVariants.{ReadFailed, WriteFailed, OutOfMemory}
 
 -- What becomes of an answer: the bytes that were written and the count of faults of the sink are known before and after.
 
@@ -29,13 +29,14 @@ pub record RanOutLate (answer : Answer) (history : List Entry) (old new : Option
   pub written : AppendsSome old new answer.text
 
 -- How an answer is given: whole; or a write failed, and the count of faults rose; or memory ran out, early, of which
--- the caller says what holds then, or late. Only a write that failed raises the count.
+-- the caller says what holds then, or late. Only a write that failed raises the count. The input was read before.
 pub record Responds (answer : Answer) (early : Type 0) (status : Status) (history : List Entry) (old new : Option (List ℕ)) (before after : ℕ) : Type 0 where
   pub whole : status ≢ WriteFailed → status ≢ OutOfMemory → IsGiven answer status history old new
   pub cut : status ≡ WriteFailed → IsCutShort answer history old new
   pub rose : status ≡ WriteFailed → Rose before after
   pub memory : status ≡ OutOfMemory → early ⊎ RanOutLate answer history old new
   pub no_fault : status ≢ WriteFailed → after ≡ before
+  pub read : status ≢ ReadFailed
 
 -- the status where a text of this status was written, or was not
 unfoldable pub status_after : Result Unit Cut → Status → Status

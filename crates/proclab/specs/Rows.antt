@@ -90,12 +90,6 @@ abbrev pub EndsBy : Row → Ends → Ends → Status → List Entry → Type 0
 EndsBy (says answer) old new status history = Says answer old new status history
 EndsBy (reads limit answer runs) old new status history = Reads limit answer runs old new status history
 
--- The same of the number with which the process ends.
-pub record EndsWith (row : Row) (old new : Ends) (code : ℕ) (history : List Entry) : Type 0 where
-  pub status : Status
-  pub code_is : code ≡ number status
-  pub ends : EndsBy row old new status history
-
 -- Completeness: an input that is a scenario is run, unless a read or a write failed or memory ran out; and where it was
 -- run, the status says how it ended.
 abbrev pub RunsScenario : Work → Option (List ℕ) → Status → Type 0
@@ -103,6 +97,9 @@ RunsScenario Explains left status = Unit {0}
 RunsScenario (Runs quiet) left status =
     IfSome left (λ input. IfSome (taken_of input_limit input) (λ text. IfOk (scenario_of text) (λ scenario. IsWhole status → EndsAs scenario.turns (run_of scenario) status)))
 
--- The same of the number with which the process ends.
-abbrev pub RunsWith : Work → Option (List ℕ) → ℕ → Type 0
-RunsWith work left code = (status : Status) → code ≡ number status → RunsScenario work left status
+-- How a call ends that does this work, by the number with which the process ends.
+pub record EndsWith (work : Work) (old new : Ends) (code : ℕ) (history : List Entry) : Type 0 where
+  pub status : Status
+  pub code_is : code ≡ number status
+  pub ends : EndsBy (row_of work) old new status history
+  pub runs_scenario : RunsScenario work old.left status

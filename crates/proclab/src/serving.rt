@@ -1,7 +1,7 @@
 ghost use Rattle.std.specs.Prelude.{◌≡◌, map, string_bytes};
 ghost use Rattle.proclab.specs.Commands.{command_of, work_of};
 ghost use Rattle.proclab.specs.Histories.{HistoryIsKept};
-ghost use Rattle.proclab.specs.Rows.{Ends, EndsWith, RunsWith, row_of};
+ghost use Rattle.proclab.specs.Rows.{Ends, EndsWith};
 ghost use Rattle.proclab.specs.Statuses.{number};
 ghost use Rattle.proclab.specs.declared.commands.Work.TheVariants.{Explains};
 
@@ -29,17 +29,15 @@ pub fn serve<R: Threads + Wait + Sync, S: Source, K: Sink, G: Gate + Sync>(
     sink: &mut K,
     gate: &G,
 ) -> Outcome
-    // Status, history and text, and what was read, are those of the row of the command.
-    ensures ends { EndsWith (row_of (work_of (command_of (map string_bytes words.now))))
+    // What was read and written, the status and the history are those of the row of the command. An input that is a
+    // scenario is run, and the status says how that ended.
+    ensures ends { EndsWith (work_of (command_of (map string_bytes words.now)))
         (record { left = S.left source.old; read_faults = S.faults source.old; written = K.written sink.old; write_faults = K.faults sink.old })
         (record { left = S.left source.new; read_faults = S.faults source.new; written = K.written sink.new; write_faults = K.faults sink.new })
         result.status result.history.entries }
 
     // Words whose command is not built leave the source alone.
     ensures unread { work_of (command_of (map string_bytes words.now)) ≡ Explains → source.new ≡ source.old }
-
-    // An input that is a scenario is run, and the status says how that ended.
-    ensures runs_scenario { RunsWith (work_of (command_of (map string_bytes words.now))) (S.left source.old) result.status }
 
     // However the call ends: a legal history that follows the protocol, and in which tracing is transparent.
     ensures kept { HistoryIsKept (S.left source.old) (S.left source.new) result.history.entries }
