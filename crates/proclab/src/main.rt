@@ -14,8 +14,6 @@ mod responses;
 mod running;
 mod runs;
 mod serving;
-#[cfg(test)]
-mod tests;
 
 use crate::outcomes::{Status, number};
 use crate::serving::serve;
