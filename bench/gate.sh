@@ -9,7 +9,7 @@ trap 'rm -rf "$copy"' EXIT
 git clone -q "$top" "$copy/repository"
 cd "$copy/repository"
 
-# in_order: the crates of crates.txt, each behind those that it names
+# in_order: the crates of crates.txt, each after those that it names
 in_order() {
   awk '
     /^[ \t]*(#|$)/ { next }

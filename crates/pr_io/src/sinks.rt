@@ -26,7 +26,7 @@ pub trait Sink {
         ensures never_falls { faults self.old ≤ faults self.new };
 }
 
-/// Appends all of `part`, in as many writes as it takes, or fails and has appended a front of it
+/// Appends all of `part`, in as many writes as it takes, or fails and has appended a prefix of it
 /// that lacks some bytes. It takes no memory.
 #[tactic(auto, using(crate::proofs::Counts::counts, crate::proofs::Known::known, crate::proofs::Known::parts))]
 pub fn write_all<K: Sink>(sink: &mut K, part: &[u8]) -> Result<(), Failed>

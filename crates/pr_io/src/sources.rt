@@ -23,7 +23,7 @@ pub trait Source {
 
     /// Moves the next bytes to the front of `buf`, and answers how many: 0 only at the end.
     /// A read that fails leaves what is to come as it was, and it alone raises the count. What
-    /// stands in `buf` then, and behind the bytes that came, is not said.
+    /// stands in `buf` then, and after the bytes that came, is not said.
     fn read(&mut self, buf: &mut [u8]) -> Result<usize, Failed>
         requires { 0 < length buf.old }
         ensures fits { IfOk result (λ n. n ≤ length buf.new) }

@@ -35,8 +35,8 @@ pub(crate) fn put_heading<K: Sink>(
 /// Lines are put as soon as they have so many bytes together.
 const BLOCK: usize = 65_536;
 
-/// Writes the lines of the entries from a place on into a buffer, until that is a block or no entry is left. Answers the
-/// place of the first entry that is not in it.
+/// Writes the lines of the entries from a place on into a buffer, until that is a block or no entry is left. Answers
+/// the place of the first entry that is not in it.
 fn fill_block(block: &mut Vec<u8>, history: &History, from: usize) -> Result<usize, NoMemory>
     requires { from < length history.now.entries }
     ensures { IfOk result (λ to. IsNextBlock history.now.entries from to block.new.items) }

@@ -50,7 +50,7 @@ fn append_pair(out: &mut Vec<u8>, word: &[u8], number: u64) -> Result<(), AllocE
     append(out, b"\n")
 }
 
-// Leaves a buffer as it was at this length, where what was to be written behind that was not.
+// Leaves a buffer as it was at this length, where what was to be written after that was not.
 fn whole_or_nothing(out: &mut Vec<u8>, before: usize, written: Result<(), AllocError>) -> Result<(), NoMemory>
     ensures whole { OnOk written (IsOk result × (out.new.items ≡ out.old.items)) }
     ensures nothing { OnErr written (IsErr result × (out.new.items ≡ take before out.old.items)) }

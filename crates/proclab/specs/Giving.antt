@@ -10,7 +10,8 @@ use Rattle.proclab.specs.Answers.{Answer}
 use Rattle.proclab.specs.declared.outcomes.Status.{Status}
 use Rattle.proclab.specs.declared.outcomes.Status.TheVariants.{ReadFailed, WriteFailed, OutOfMemory}
 
--- What becomes of an answer: the bytes that were written and the count of faults of the sink are known before and after.
+-- What becomes of an answer. The bytes that were written, and the count of faults of the sink, are known before and
+-- after.
 
 -- An answer was given whole: its status and history, and its text was written.
 pub record IsGiven (answer : Answer) (status : Status) (history : List Entry) (old new : Option (List ℕ)) : Type 0 where

@@ -68,10 +68,10 @@ pub record RanOutAfter (limit : ℕ) (answer : Option (List ℕ) → Answer) (ru
   pub took : Took limit old.left new.left input
   pub ran_out : RanOutEarly runs input history old.written new.written ⊎ RanOutLate (answer input) history old.written new.written
 
--- How it ends. Where nothing failed, the answer to what was read was given; and where the bytes that were left are known,
--- status, history and text are a function of them. A read failed: nothing was written, and there is no history. A write
--- failed: the history is that of the answer, and a prefix of its text was written. Memory ran out in the reading, or
--- after it. Only a read that failed raises the count of the source, and only a write that failed that of the sink.
+-- How it ends. Where nothing failed, the answer to what was read was given; and where the bytes that were left are
+-- known, status, history and text are a function of them. A read failed: nothing was written, and there is no history.
+-- A write failed: the history is that of the answer, and a prefix of its text was written. Memory ran out in the reading,
+-- or after it. Only a read that failed raises the count of the source, and only a write that failed that of the sink.
 pub record Reads (limit : ℕ) (answer : Option (List ℕ) → Answer) (runs : Bool) (old new : Ends) (status : Status) (history : List Entry) : Type 0 where
   pub answered : IsWhole status → Answered limit answer old new status history
   pub answers : IsWhole status → IfSome old.left (λ left. IsGiven (answer (taken_of limit left)) status history old.written new.written)

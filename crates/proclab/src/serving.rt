@@ -16,11 +16,11 @@ use std::thread::Threads;
 /// Does what the words after the program's name ask for, from `source` to `sink`. A worker of a run on several
 /// threads passes `gate` before each of its turns.
 ///
-/// The words `run` and `run -q` alone are built: the run of a scenario on one thread. Status 0, 3 and 4: the run was made
-/// and written; nobody could move and all controllers had finished, or the history had all its entries, or nobody could
-/// move and a controller had not finished. Status 2: the input was refused. Status 5: a read failed. Status 6: a write
-/// failed. Status 7: memory ran out. All other words get the usage line and status 1, or 6 where a write failed; nothing
-/// is read then, and no memory taken.
+/// The words `run` and `run -q` alone are built: the run of a scenario on one thread. Status 0, 3 and 4: the run was
+/// made and written; nobody could move and all controllers had finished, or the history had all its entries, or nobody
+/// could move and a controller had not finished. Status 2: the input was refused. Status 5: a read failed. Status 6: a
+/// write failed. Status 7: memory ran out. All other words get the usage line and status 1, or 6 where a write failed;
+/// nothing is read then, and no memory taken.
 pub fn serve<R: Threads + Wait + Sync, S: Source, K: Sink, G: Gate + Sync>(
     rt: &R,
     alloc: Global,

@@ -3,7 +3,7 @@ ghost use Rattle.std.specs.Prelude.{◌≡◌, ◌+◌, ◌≤◌, ◌<◌, ◌^
 ghost use Rattle.pr_lock.specs.History.{StartsWith, IsInOrder};
 ghost use Rattle.pr_lock.specs.Seats.{IsOutside, seen_of, own_of, shares_of};
 
-use crate::{Logged, NewNo, Seat, Shared};
+use pr_lock::{Logged, NewNo, Seat, Shared};
 use pr_num::NoMemory;
 use std::alloc::{AllocError, Global};
 use std::sync::Wait;
@@ -20,7 +20,7 @@ struct Line {
 }
 
 trait Journal: Drop {
-    ghost use Rattle.pr_lock.specs.declared.tests.Line.{Line};
+    ghost use Rattle.pr_words_tests.specs.declared.locks.Line.{Line};
 
     ghost lines: { Self → List Line };
 

@@ -1,6 +1,6 @@
 use Rattle.std.proofs.Common.{◌≡◌, subst, arith}
 use Rattle.pr_lock.specs.Seats.{IsOutside, shares_of}
-use Rattle.pr_lock.proofs.tests.work.Goals as goal
+use Rattle.pr_words_tests.proofs.locks.work.Goals as goal
 
 pub returns : goal.returns
 returns g c = λ k d below.

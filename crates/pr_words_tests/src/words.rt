@@ -1,4 +1,4 @@
-use super::*;
+use pr_codec::{Short, push_word, put, put_words, read_words, word};
 use std::test::Fail;
 
 // 0x0807060504030201 and then 0xff, least byte first.

@@ -1,6 +1,6 @@
 use Rattle.std.proofs.Common.{◌≡◌, ◌+◌, All, vec_len}
 use Rattle.pr_lock.specs.Seats.{IsOutside, shares_of}
-use Rattle.pr_lock.proofs.tests.gather.Given as goal
+use Rattle.pr_words_tests.proofs.locks.gather.Given as goal
 
 abbrev pub invariant-loop-worker : goal.invariant-loop-worker
 invariant-loop-worker g l = record {

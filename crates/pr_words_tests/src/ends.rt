@@ -1,4 +1,6 @@
-use crate::{
+//! What no clause says: that ends are read and written where there is memory, what errors say, and that errors of readers
+//! and writers of std are counted.
+use pr_io::{
     Failed, Gate, MemSink, MemSource, OpenGate, ReadEnd, Sink, Source, StdSink, StdSource,
     read_all, write_all,
 };
@@ -17,23 +19,6 @@ fn answer(got: &Result<Bytes, ReadEnd>) -> Result<&[u8], ReadEnd> {
     match got {
         Ok(bytes) => Ok(bytes.as_slice()),
         Err(end) => Err(*end),
-    }
-}
-
-// One byte a read: the slowest source that there is.
-#[derive(Drop)]
-struct Trickle<S>(S);
-
-#[tactic(auto, unfolding(crate::specs::Known::with_front))]
-impl<S: Source> Source for Trickle<S> {
-    ghost use Rattle.std.specs.Prelude.{None};
-
-    ghost left = { λ _. None };
-
-    ghost faults = { λ t. S.faults t.0 };
-
-    fn read(&mut self, buf: &mut [u8]) -> Result<usize, Failed> {
-        self.0.read(&mut buf[..1])
     }
 }
 
@@ -141,41 +126,7 @@ fn all_is_read_up_to_the_limit(rt: HostRuntime) -> Result<(), Fail> {
 }
 
 #[test]
-fn the_slowest_source_is_read_once_more_than_the_limit(rt: HostRuntime) -> Result<(), Fail> {
-    for (limit, fails, want, calls) in [
-        (9, [].as_slice(), Ok(b"abcd".as_slice()), 5),
-        (4, [].as_slice(), Ok(b"abcd".as_slice()), 5),
-        (3, [].as_slice(), Err(ReadEnd::TooLong), 4),
-        (0, [].as_slice(), Err(ReadEnd::TooLong), 1),
-        (4, [3].as_slice(), Err(ReadEnd::Failed), 4),
-    ] {
-        let mut trickle = Trickle(source(rt.alloc(), "abcd", fails)?);
-        let got = read_all(rt.alloc(), &mut trickle, limit);
-        assert_eq!(rt; answer(&got), want, "at {limit}");
-        assert_eq!(rt; trickle.0.calls(), calls, "at {limit}");
-    }
-    Ok(())
-}
-
-#[test]
-fn an_input_of_many_pieces_is_read_whole(rt: HostRuntime) -> Result<(), Fail> {
-    let text = vec![in rt.alloc(); b'x'; 10_000]?;
-    for (limit, want, calls) in [
-        (10_000, Ok(text.as_slice()), 4),
-        (9_999, Err(ReadEnd::TooLong), 3),
-        (4_095, Err(ReadEnd::TooLong), 1),
-    ] {
-        let bytes = Bytes::from_vec(text.clone()?);
-        let mut source = MemSource::new(bytes, Vec::new(rt.alloc()));
-        let got = read_all(rt.alloc(), &mut source, limit);
-        assert!(rt; answer(&got) == want, "at {limit}");
-        assert_eq!(rt; source.calls(), calls, "at {limit}");
-    }
-    Ok(())
-}
-
-#[test]
-fn all_is_written_or_a_front(rt: HostRuntime) -> Result<(), Fail> {
+fn all_is_written_or_a_prefix(rt: HostRuntime) -> Result<(), Fail> {
     for (part, room, fails, want, there, calls) in [
         ("abc", 5, [].as_slice(), Ok(()), "abc", 1),
         ("abc", 3, [].as_slice(), Ok(()), "abc", 1),

@@ -1,6 +1,6 @@
 use Rattle.std.proofs.Common.{◌≡◌, ◌+◌, All, vec_len}
 use Rattle.pr_lock.specs.Seats.{IsOutside, shares_of}
-use Rattle.pr_lock.proofs.tests.hire.Given as goal
+use Rattle.pr_words_tests.proofs.locks.hire.Given as goal
 
 abbrev pub invariant-loop-by : goal.invariant-loop-by
 invariant-loop-by g l = record {
