@@ -1,4 +1,4 @@
-ghost use Rattle.std.specs.Prelude.{◌≡◌, ◌++◌, [], ◌∷◌, decimal,  take, IsOk, IsErr, OnOk, OnErr};
+ghost use Rattle.std.specs.Prelude.{◌≡◌, ◌++◌, [], ◌∷◌, decimal, take, IsOk, IsErr, OnOk, OnErr};
 ghost use Rattle.pr_plain.specs.Buffers.{StartsWith};
 ghost use Rattle.pr_plain.specs.HistoryText.{joined, newline, spaced, act_words, entry_text, heading_text, status_text};
 
@@ -51,7 +51,11 @@ fn append_pair(out: &mut Vec<u8>, word: &[u8], number: u64) -> Result<(), AllocE
 }
 
 // Leaves a buffer as it was at this length, where what was to be written after that was not.
-fn whole_or_nothing(out: &mut Vec<u8>, before: usize, written: Result<(), AllocError>) -> Result<(), NoMemory>
+fn whole_or_nothing(
+    out: &mut Vec<u8>,
+    before: usize,
+    written: Result<(), AllocError>,
+) -> Result<(), NoMemory>
     ensures whole { OnOk written (IsOk result × (out.new.items ≡ out.old.items)) }
     ensures nothing { OnErr written (IsErr result × (out.new.items ≡ take before out.old.items)) }
 {

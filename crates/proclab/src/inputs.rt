@@ -16,7 +16,11 @@ pub enum Unread {
 }
 
 /// Reads an input to its end; `None` where it has more bytes than the limit.
-pub fn take_input<S: Source>(alloc: Global, source: &mut S, limit: usize) -> Result<Option<Bytes>, Unread>
+pub fn take_input<S: Source>(
+    alloc: Global,
+    source: &mut S,
+    limit: usize,
+) -> Result<Option<Bytes>, Unread>
     ensures took { IfOk result (λ input. Took limit (S.left source.old) (S.left source.new) input) }
     ensures small { IfOk result (λ input. IfSome input (λ bytes. length bytes ≤ limit)) }
     ensures failed { result ≡ Err Unread.Failed → Rose (S.faults source.old) (S.faults source.new) }
