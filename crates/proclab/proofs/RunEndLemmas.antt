@@ -1,6 +1,8 @@
 -- What is kept of a run, and how its status is caused.
 use Rattle.std.proofs.Common.{◌≡◌, ◌≢◌, ◌⊎◌, inl, inr, ⊎_elim, ℕ, Bool, true, false, List, [], Option, Some, None, is_some, Result, Ok, Err, IfOk, IfSome, refl, sym, ◌∙◌, ap, subst, arith}
 use Rattle.std.proofs.lemmas.List.{append-nil}
+use Rattle.pr_api.specs.MachineLaws.{machine-lawful}
+use Rattle.pr_api.specs.Views.{IsLawful}
 use Rattle.pr_model.specs.declared.events.Actor.{Actor}
 use Rattle.pr_model.specs.declared.events.Entry.{Entry}
 use Rattle.pr_run_laws.specs.Fronts.{IsFront}
@@ -12,7 +14,7 @@ use Rattle.pr_scen.specs.declared.scenarios.Scenario.{Scenario}
 use Rattle.pr_world.specs.Runs.{IsFresh, IsTold, after_moves}
 use Rattle.pr_world.specs.Worlds.{WorldState, all_finished, end_of, end_with, next_actor, quiet_end}
 use Rattle.pr_world.proofs.RestLemmas.{all-rest, next-acts}
-use Rattle.pr_world.proofs.RunLemmas.{moves-counted, moves-told, told-lawful}
+use Rattle.pr_world.proofs.RunLemmas.{moves-counted, moves-told}
 use Rattle.proclab.specs.Answers.{Answer, answer_of, answer_to, end_status, input_limit, ran, ran_so, refused_at}
 use Rattle.proclab.specs.Ends.{EndsAs}
 use Rattle.proclab.specs.Giving.{IsGiven, RanOutLate}
@@ -77,6 +79,9 @@ history-kept quiet old new status h r = by (status_cases status)
     by (inr (inr (inr s))) = of_memory quiet old new h (r.memory s)
 
 -- ---- a scenario is run
+
+told-lawful : (w : WorldState) → IsTold w → IsLawful w.kernel
+told-lawful w t = subst IsLawful (sym t.is) (machine-lawful t.machine w.kernel.history w.kernel.places)
 
 ended : (first : WorldState) (n : ℕ) → IsTold first → IsFresh first → (next : Option Actor) → next_actor (after_moves n first) ≡ next → EndsAs n (after_moves n first) (end_status (end_with (after_moves n first) next))
 unfolding end_status
