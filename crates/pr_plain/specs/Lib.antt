@@ -1,5 +1,10 @@
+pub mod Cuts
+pub mod DecimalWords
 pub mod FileNames
 pub mod Forms
 pub mod HexWords
 pub mod HistoryText
 pub mod Lines
+pub mod Readings
+pub mod TurnReading
+pub mod WordReading

@@ -6,6 +6,11 @@ mod calls;
 mod entries;
 mod laws;
 mod names;
+mod numerals;
+mod pieces;
+mod refusals;
+mod word_readers;
+mod turn_readers;
 mod turns;
 mod words;
 
@@ -14,6 +19,7 @@ pub use laws::{
     a_line_is_its_words, a_text_grows_at_its_end, a_text_is_its_lines, bytes_are_their_hex_word,
     file_names, forms_are_told_by_their_first_word, mode_names,
 };
+pub use refusals::HistRefusal;
 pub use names::{file_name, mode_name};
 
 #[cfg(test)]
