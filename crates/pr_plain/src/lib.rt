@@ -2,13 +2,16 @@
 #![tactic(auto)]
 
 mod actors;
+mod call_readers;
 mod calls;
 mod entries;
 mod laws;
+mod name_readers;
 mod names;
 mod numerals;
 mod pieces;
 mod refusals;
+mod reply_readers;
 mod word_readers;
 mod turn_readers;
 mod turns;
