@@ -1,3 +1,4 @@
+pub mod EntryLoop
 pub mod FormLemmas
 pub mod FrontLemmas
 pub mod HexLemmas

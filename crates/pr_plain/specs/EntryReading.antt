@@ -79,6 +79,16 @@ abbrev pub then_reads : {X Y : Type 0} → Result X ℕ → (X → Result Y ℕ)
 then_reads (Ok x) f = f x
 then_reads (Err line) f = Err line
 
+-- the entry of a number off the next line, and the lines below it
+unfoldable pub next_entry : ℕ → ℕ → List (List ℕ) → Result (Entry × List (List ℕ)) ℕ
+next_entry line n ls =
+    then_reads (or_line line (word_at ls)) (λ l. then_reads (or_line line (entry_in n l.0)) (λ e. Ok (e, l.1)))
+
+-- the heading off the first line, and the lines below it
+unfoldable pub next_heading : ℕ → List (List ℕ) → Result (ℕ × List (List ℕ)) ℕ
+next_heading line ls =
+    then_reads (or_line line (word_at ls)) (λ l. then_reads (or_line line (heading_in l.0)) (λ count. Ok (count, l.1)))
+
 -- The entries from a number on, up to as many as there are to be, in lines that count from `line`; or the first line that
 -- is wrong. Where the lines end too early that is the line behind the last.
 unfoldable pub entries_in : ℕ → ℕ → ℕ → List (List ℕ) → Result (List Entry) ℕ
@@ -89,8 +99,7 @@ entries_in line count n (l ∷ ls) =
 
 -- the entries of the history that lines begin with, or the first line that is wrong
 unfoldable pub history_in : ℕ → List (List ℕ) → Result (List Entry) ℕ
-history_in line [] = Err line
-history_in line (l ∷ ls) = then_reads (or_line line (heading_in l)) (λ count. entries_in (line + 1) count 0 ls)
+history_in line ls = then_reads (next_heading line ls) (λ heading. entries_in (line + 1) heading.0 0 heading.1)
 
 -- the same of a text
 abbrev pub history_of : ℕ → List ℕ → Result (List Entry) ℕ

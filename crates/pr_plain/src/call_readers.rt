@@ -114,6 +114,7 @@ fn read_at(words: &mut Pieces<'_>) -> Option<Call>
 }
 
 /// Takes handles, up to the arrow.
+#[tactic(auto, using(crate::proofs::FrontLemmas::handles_read))]
 fn handles_at(alloc: Global, words: &mut Pieces<'_>) -> Result<Handles, Refused>
     ensures { Gives (λ hs. (hs, words.new)) result (handles_at words.old) }
 {
