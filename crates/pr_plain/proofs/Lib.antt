@@ -1,3 +1,4 @@
+pub mod DecimalLemmas
 pub mod EntryLoop
 pub mod FormLemmas
 pub mod FrontLemmas
@@ -5,4 +6,6 @@ pub mod HexLemmas
 pub mod LineLemmas
 pub mod NameLemmas
 pub mod PieceLemmas
+pub mod RowLemmas
+pub mod WordLaws
 pub mod WordLemmas

@@ -2,16 +2,13 @@
 use Rattle.std.specs.Prelude.{ℕ, ◌==◌, ◌&&◌, not, Bool, true, false, Option, Some, None, List, [], ◌∷◌, codes, if◌then◌else◌}
 use Rattle.std.specs.List.{slice_split, list_any}
 use Rattle.std.specs.Str.{bytes_eq}
-use Rattle.pr_num.specs.Errnos.{errno_of_name}
-use Rattle.pr_asm.specs.Names.{name_of}
 use Rattle.pr_model.specs.declared.calls.Call.{Call}
 use Rattle.pr_model.specs.declared.calls.Call.TheVariants as call
 use Rattle.pr_model.specs.declared.calls.Reply.{Reply}
 use Rattle.pr_model.specs.declared.calls.Reply.TheVariants as reply
-use Rattle.pr_plain.specs.FileNames.{file_of_name, mode_of_name}
 use Rattle.pr_plain.specs.DecimalWords.{id_of}
 use Rattle.pr_plain.specs.Readings.{◌>>=◌}
-use Rattle.pr_plain.specs.WordReading.{Words, word_at, is_done, behind_word, number_at, id_at, bytes_at}
+use Rattle.pr_plain.specs.WordReading.{Words, word_at, is_done, behind_word, number_at, id_at, bytes_at, errno_at, file_at, mode_at, program_at}
 
 -- the byte between a process and its lwp
 abbrev pub slash : ℕ
@@ -32,6 +29,12 @@ unfoldable pub target_of : List ℕ → Option (ℕ × ℕ)
 target_of w = do
   p ← id_at (slice_split is_slash w)
   if is_done p.1 then Some (p.0, 0) else (id_at p.1 >>= λ l. if is_done l.1 && not (l.0 == 0) then Some (p.0, l.0) else None)
+
+unfoldable pub target_at : Words → Option ((ℕ × ℕ) × Words)
+target_at ws = do
+  w ← word_at ws
+  target ← target_of w.0
+  Some (target, w.1)
 
 -- whether a process is directed to stop: the word behind its program
 abbrev pub held_by : Option (List ℕ × Words) → Words → Bool × Words
@@ -56,13 +59,10 @@ handles_at (w ∷ ws) =
 
 unfoldable pub open_at : Words → Option (Call × Words)
 open_at ws = do
-  w ← word_at ws
-  target ← target_of w.0
-  f ← word_at w.1
-  file ← file_of_name f.0
-  m ← word_at f.1
-  mode ← mode_of_name m.0
-  Some (call.Open target.0 target.1 file mode, m.1)
+  target ← target_at ws
+  file ← file_at target.1
+  mode ← mode_at file.1
+  Some (call.Open target.0.0 target.0.1 file.0 mode.0, mode.1)
 
 unfoldable pub close_at : Words → Option (Call × Words)
 close_at ws = do
@@ -99,12 +99,10 @@ interrupt_at ws = do
   k ← id_at ws
   Some (call.Interrupt k.0, k.1)
 
--- the program has a name of a scenario's form
 unfoldable pub spawn_at : Words → Option (Call × Words)
 spawn_at ws = do
-  w ← word_at ws
-  program ← name_of w.0
-  Some (call.Spawn program (held_at w.1).0, (held_at w.1).1)
+  program ← program_at ws
+  Some (call.Spawn program.0 (held_at program.1).0, (held_at program.1).1)
 
 unfoldable pub kill_at : Words → Option (Call × Words)
 kill_at ws = do
@@ -179,9 +177,8 @@ ready_at ws = do
 
 unfoldable pub fail_at : Words → Option (Reply × Words)
 fail_at ws = do
-  w ← word_at ws
-  e ← errno_of_name w.0
-  Some (reply.Fail e, w.1)
+  e ← errno_at ws
+  Some (reply.Fail e.0, e.1)
 
 -- the form without bytes that a first word begins
 unfoldable pub plain_reply_behind : List ℕ → Words → Option (Reply × Words)

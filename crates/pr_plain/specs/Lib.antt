@@ -1,6 +1,7 @@
 pub mod CallReading
 pub mod Cuts
 pub mod DecimalWords
+pub mod EntryForms
 pub mod EntryReading
 pub mod FileNames
 pub mod Forms

@@ -39,6 +39,12 @@ how_of w =
     else (if bytes_eq w (codes "died") then Some Died
     else None)))
 
+unfoldable pub how_at : Words → Option (How × Words)
+how_at ws = do
+  w ← word_at ws
+  how ← how_of w.0
+  Some (how, w.1)
+
 -- ---- a row for each form of turn, behind its first word
 
 unfoldable pub stopped_at : Words → Option (Did × Words)
@@ -93,9 +99,8 @@ took_at ws = do
 unfoldable pub acted_at : Words → Option (Did × Words)
 acted_at ws = do
   s ← signal_at ws
-  w ← word_at s.1
-  how ← how_of w.0
-  Some (Acted s.0 how, w.1)
+  how ← how_at s.1
+  Some (Acted s.0 how.0, how.1)
 
 -- the form that a first word begins
 unfoldable pub did_behind : List ℕ → Words → Option (Did × Words)

@@ -6,10 +6,15 @@ use Rattle.pr_num.specs.declared.errnos.Errno.{Errno}
 use Rattle.pr_num.specs.declared.faults.Flt.{Flt}
 use Rattle.pr_num.specs.declared.signals.Sig.{Sig}
 use Rattle.pr_num.specs.declared.syscalls.Sysno.{Sysno}
+use Rattle.pr_num.specs.Errnos.{errno_of_name}
 use Rattle.pr_num.specs.Faults.{fault_of_name}
 use Rattle.pr_num.specs.Signals.{signal_name, signal_of_name}
 use Rattle.pr_num.specs.Syscalls.{syscall_of_name}
+use Rattle.pr_asm.specs.Names.{name_of}
+use Rattle.pr_model.specs.declared.calls.File.{File}
+use Rattle.pr_model.specs.declared.calls.Mode.{Mode}
 use Rattle.pr_plain.specs.DecimalWords.{number_of, id_of}
+use Rattle.pr_plain.specs.FileNames.{file_of_name, mode_of_name}
 use Rattle.pr_plain.specs.HexWords.{bytes_of_word}
 use Rattle.pr_plain.specs.Readings.{◌>>=◌}
 
@@ -64,8 +69,36 @@ fault_at ws = do
   Some (f, w.1)
 
 -- a signal by its whole name, with SIG
+unfoldable pub signal_of : List ℕ → Option Sig
+signal_of w = signal_of_name w >>= λ s. if bytes_eq w (signal_name s) then Some s else None
+
 unfoldable pub signal_at : Words → Option (Sig × Words)
 signal_at ws = do
   w ← word_at ws
-  s ← signal_of_name w.0
-  if bytes_eq w.0 (signal_name s) then Some (s, w.1) else None
+  s ← signal_of w.0
+  Some (s, w.1)
+
+unfoldable pub errno_at : Words → Option (Errno × Words)
+errno_at ws = do
+  w ← word_at ws
+  e ← errno_of_name w.0
+  Some (e, w.1)
+
+unfoldable pub file_at : Words → Option (File × Words)
+file_at ws = do
+  w ← word_at ws
+  f ← file_of_name w.0
+  Some (f, w.1)
+
+unfoldable pub mode_at : Words → Option (Mode × Words)
+mode_at ws = do
+  w ← word_at ws
+  m ← mode_of_name w.0
+  Some (m, w.1)
+
+-- a program, whose name has the form of a scenario's
+unfoldable pub program_at : Words → Option (List ℕ × Words)
+program_at ws = do
+  w ← word_at ws
+  name ← name_of w.0
+  Some (name, w.1)

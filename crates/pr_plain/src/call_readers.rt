@@ -1,14 +1,12 @@
 //! Calls of controllers and what the kernel answered, read from the words of a line.
 ghost use Rattle.std.specs.Prelude.{◌≡◌};
-ghost use Rattle.pr_plain.specs.CallReading.{lwp_of, target_of, held_at, handles_at, open_at, close_at, ctl_at, ctl_wait_at, read_at, poll_at, interrupt_at, spawn_at, kill_at, until_at, begins_call, call_behind, call_at};
+ghost use Rattle.pr_plain.specs.CallReading.{lwp_of, target_of, target_at, held_at, handles_at, open_at, close_at, ctl_at, ctl_wait_at, read_at, poll_at, interrupt_at, spawn_at, kill_at, until_at, begins_call, call_behind, call_at};
 ghost use Rattle.pr_plain.specs.Readings.{Says, Gives};
 
-use crate::name_readers::{file_of_name, mode_of_name};
 use crate::numerals::id_of;
 use crate::pieces::Pieces;
 use crate::refusals::Refused;
-use crate::word_readers::{bytes_at, id_at, number_at};
-use pr_asm::name_of;
+use crate::word_readers::{bytes_at, file_at, id_at, mode_at, number_at, program_at};
 use pr_model::Call;
 use pr_num::{Handles, NoMemory};
 use std::alloc::Global;
@@ -42,6 +40,14 @@ fn target_of(word: &[u8]) -> Option<(u32, u32)>
     }
 }
 
+/// Takes the process and the lwp whose file is opened.
+#[tactic(auto, unfolding(crate::specs::CallReading::target_at))]
+fn target_at(words: &mut Pieces<'_>) -> Option<(u32, u32)>
+    ensures { Says (λ t. (t, words.new)) result (target_at words.old) }
+{
+    target_of(words.next()?)
+}
+
 /// Takes `held`, if it is the next word.
 #[tactic(auto, unfolding(crate::specs::CallReading::held_at))]
 fn held_at(words: &mut Pieces<'_>) -> bool
@@ -61,9 +67,9 @@ fn held_at(words: &mut Pieces<'_>) -> bool
 fn open_at(words: &mut Pieces<'_>) -> Option<Call>
     ensures { Says (λ c. (c, words.new)) result (open_at words.old) }
 {
-    let (pid, lwp) = target_of(words.next()?)?;
-    let file = file_of_name(words.next()?)?;
-    let mode = mode_of_name(words.next()?)?;
+    let (pid, lwp) = target_at(words)?;
+    let file = file_at(words)?;
+    let mode = mode_at(words)?;
     Some(Call::Open {
         pid,
         lwp,
@@ -150,7 +156,7 @@ fn interrupt_at(words: &mut Pieces<'_>) -> Option<Call>
 fn spawn_at(words: &mut Pieces<'_>) -> Option<Call>
     ensures { Says (λ c. (c, words.new)) result (spawn_at words.old) }
 {
-    let program = name_of(words.next()?)?;
+    let program = program_at(words)?;
     let held = held_at(words);
     Some(Call::Spawn { program, held })
 }

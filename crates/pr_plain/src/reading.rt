@@ -77,6 +77,7 @@ fn read_entries(
 }
 
 /// The history that the text begins with, or its first line that is wrong.
+#[tactic(auto, using(crate::proofs::EntryLoop::entries_read), unfolding(crate::specs::EntryReading::history_in))]
 fn read_text(alloc: Global, text: &[u8], first_line: u32) -> Result<History, HistRefusal>
     requires { first_line + length text.now < 2 ^ 32 }
     ensures { Answers (λ h. h.entries) result (history_of first_line text.now) }

@@ -5,9 +5,8 @@ ghost use Rattle.pr_plain.specs.Readings.{Says, Gives};
 
 use crate::pieces::Pieces;
 use crate::refusals::Refused;
-use crate::word_readers::{bytes_at, id_at, number_at};
+use crate::word_readers::{bytes_at, errno_at, id_at, number_at};
 use pr_model::Reply;
-use pr_num::Errno;
 use std::alloc::Global;
 
 #[tactic(auto, unfolding(crate::specs::CallReading::reply_bytes_at))]
@@ -21,7 +20,7 @@ fn reply_bytes_at(alloc: Global, words: &mut Pieces<'_>) -> Result<Reply, Refuse
 fn fail_at(words: &mut Pieces<'_>) -> Option<Reply>
     ensures { Says (λ r. (r, words.new)) result (fail_at words.old) }
 {
-    Some(Reply::Fail(Errno::from_name(words.next()?)?))
+    Some(Reply::Fail(errno_at(words)?))
 }
 
 /// The form of reply without bytes that a first word begins.

@@ -1,7 +1,7 @@
 //! Turns of lwps, read from the words of a line.
 ghost use Rattle.std.specs.Prelude.{◌≡◌};
 ghost use Rattle.pr_plain.specs.Readings.{Says};
-ghost use Rattle.pr_plain.specs.TurnReading.{result_at, how_of, stopped_at, entered_at, made_at, slept_at, woke_at, returned_at, faulted_at, posted_at, took_at, acted_at, did_behind, did_at, stop_of, turn_of};
+ghost use Rattle.pr_plain.specs.TurnReading.{result_at, how_of, how_at, stopped_at, entered_at, made_at, slept_at, woke_at, returned_at, faulted_at, posted_at, took_at, acted_at, did_behind, did_at, stop_of, turn_of};
 
 use crate::pieces::Pieces;
 use crate::word_readers::{fault_at, number_at, pass, signal_at, syscall_at};
@@ -43,6 +43,14 @@ fn how_of(word: &[u8]) -> Option<How>
     } else {
         None
     }
+}
+
+/// Takes how a signal was acted on.
+#[tactic(auto, unfolding(crate::specs::TurnReading::how_at))]
+fn how_at(words: &mut Pieces<'_>) -> Option<How>
+    ensures { Says (λ h. (h, words.new)) result (how_at words.old) }
+{
+    how_of(words.next()?)
 }
 
 #[tactic(auto, unfolding(crate::specs::TurnReading::stopped_at))]
@@ -116,7 +124,7 @@ fn acted_at(words: &mut Pieces<'_>) -> Option<Did>
     ensures { Says (λ d. (d, words.new)) result (acted_at words.old) }
 {
     let signal = signal_at(words)?;
-    let how = how_of(words.next()?)?;
+    let how = how_at(words)?;
     Some(Did::Acted(signal, how))
 }
 

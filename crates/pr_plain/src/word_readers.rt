@@ -2,12 +2,15 @@
 ghost use Rattle.std.specs.Prelude.{◌≡◌, ◌<◌, IfSome};
 ghost use Rattle.pr_plain.specs.HexWords.{digit_value, byte_of, bytes_of_digits, bytes_of_word};
 ghost use Rattle.pr_plain.specs.Readings.{Says, Gives};
-ghost use Rattle.pr_plain.specs.WordReading.{behind_word, number_at, id_at, bytes_at, syscall_at, fault_at, signal_at};
+ghost use Rattle.pr_plain.specs.WordReading.{behind_word, number_at, id_at, bytes_at, syscall_at, fault_at, signal_of, signal_at, errno_at, file_at, mode_at, program_at};
 
+use crate::name_readers::{file_of_name, mode_of_name};
 use crate::numerals::{id_of, number_of};
 use crate::pieces::Pieces;
 use crate::refusals::Refused;
-use pr_num::{Bytes, Flt, NoMemory, Sig, Sysno};
+use pr_asm::name_of;
+use pr_model::{File, Mode};
+use pr_num::{Bytes, Errno, Flt, Name, NoMemory, Sig, Sysno};
 use std::alloc::Global;
 
 /// Takes this word, if it is the next.
@@ -50,18 +53,57 @@ pub fn fault_at(words: &mut Pieces<'_>) -> Option<Flt>
     Flt::from_name(words.next()?)
 }
 
-/// Takes the whole name of a signal.
-#[tactic(auto, unfolding(crate::specs::WordReading::signal_at))]
-pub fn signal_at(words: &mut Pieces<'_>) -> Option<Sig>
-    ensures { Says (λ s. (s, words.new)) result (signal_at words.old) }
+/// The signal of a whole name, with `SIG`.
+#[tactic(auto, unfolding(crate::specs::WordReading::signal_of))]
+fn signal_of(word: &[u8]) -> Option<Sig>
+    ensures { result ≡ signal_of word.now }
 {
-    let word = words.next()?;
     let signal = Sig::from_name(word)?;
     if word == signal.name().as_bytes() {
         Some(signal)
     } else {
         None
     }
+}
+
+/// Takes the whole name of a signal.
+#[tactic(auto, unfolding(crate::specs::WordReading::signal_at))]
+pub fn signal_at(words: &mut Pieces<'_>) -> Option<Sig>
+    ensures { Says (λ s. (s, words.new)) result (signal_at words.old) }
+{
+    signal_of(words.next()?)
+}
+
+/// Takes the name of an errno.
+#[tactic(auto, unfolding(crate::specs::WordReading::errno_at))]
+pub fn errno_at(words: &mut Pieces<'_>) -> Option<Errno>
+    ensures { Says (λ e. (e, words.new)) result (errno_at words.old) }
+{
+    Errno::from_name(words.next()?)
+}
+
+/// Takes the name of a file.
+#[tactic(auto, unfolding(crate::specs::WordReading::file_at))]
+pub fn file_at(words: &mut Pieces<'_>) -> Option<File>
+    ensures { Says (λ f. (f, words.new)) result (file_at words.old) }
+{
+    file_of_name(words.next()?)
+}
+
+/// Takes the name of a way to open a file.
+#[tactic(auto, unfolding(crate::specs::WordReading::mode_at))]
+pub fn mode_at(words: &mut Pieces<'_>) -> Option<Mode>
+    ensures { Says (λ m. (m, words.new)) result (mode_at words.old) }
+{
+    mode_of_name(words.next()?)
+}
+
+/// Takes the name of a program.
+#[tactic(auto, unfolding(crate::specs::WordReading::program_at))]
+pub fn program_at(words: &mut Pieces<'_>) -> Option<Name>
+    ensures { Says (λ n. (n, words.new)) result (program_at words.old) }
+{
+    name_of(words.next()?)
 }
 
 /// The value of a hex digit of lower case.
