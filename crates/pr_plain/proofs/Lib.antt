@@ -7,5 +7,6 @@ pub mod LineLemmas
 pub mod NameLemmas
 pub mod PieceLemmas
 pub mod RowLemmas
+pub mod TurnLaws
 pub mod WordLaws
 pub mod WordLemmas

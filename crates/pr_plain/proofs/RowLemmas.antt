@@ -24,7 +24,7 @@ pub record Pair {A : Type 0} (a x : A) (ws rest : Words) : Type 0 where
   pub value : a ≡ x
   pub words : ws ≡ rest
 
-pair_of : {A : Type 0} (a x : A) (ws rest : Words) → ◌≡◌ {A = Option (A × Words)} (Some (a, ws)) (Some (x, rest)) → Pair a x ws rest
+pub pair_of : {A : Type 0} (a x : A) (ws rest : Words) → ◌≡◌ {A = Option (A × Words)} (Some (a, ws)) (Some (x, rest)) → Pair a x ws rest
 pair_of {A} a x ws rest e = record {
   value = ap (λ (o : Option (A × Words)). value_of a o) e;
   words = ap (λ (o : Option (A × Words)). words_of ws o) e;
@@ -112,6 +112,9 @@ by_word {A} w k x y v P e here other = by (bytes_eq w k) refl e
 
 abbrev pub one_row : {A D : Type 0} → (Words → Option (A × Words)) → (A → D) → Words → Option (D × Words)
 one_row first make ws = first ws >>= λ a. Some (make a.0, a.1)
+
+abbrev pub passed_row : {D : Type 0} → D → Option Words → Option (D × Words)
+passed_row d o = o >>= λ rest. Some (d, rest)
 
 abbrev pub two_row : {A B D : Type 0} → (Words → Option (A × Words)) → (Words → Option (B × Words)) → (A → B → D) → Words → Option (D × Words)
 two_row first second make ws = first ws >>= λ a. (second a.1 >>= λ b. Some (make a.0 b.0, b.1))
