@@ -1,3 +1,4 @@
+pub mod CallLaws
 pub mod DecimalLemmas
 pub mod EntryLoop
 pub mod FormLemmas
