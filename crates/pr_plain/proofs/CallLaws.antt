@@ -1,32 +1,31 @@
 -- Calls and replies are read back from their words, and from no others.
-use Rattle.std.proofs.Common.{◌≡◌, ℕ, Bool, true, false, cond, eqb, leb, not, ◌&&◌, Option, Some, None, List, [], ◌∷◌, ◌++◌, codes, map, refl, sym, ap, ◌∙◌, append_assoc, arith, ◌<◌, ◌≤◌}
+use Rattle.std.proofs.Common.{◌≡◌, ℕ, Bool, true, false, cond, eqb, leb, not, ◌&&◌, Option, Some, None, List, [], ◌∷◌, ◌++◌, codes, map, refl, sym, ap, ◌∙◌, append_assoc, arith}
 use Rattle.std.specs.Fmt.{decimal}
-use Rattle.std.specs.List.{All, list_all, list_any, slice_split}
+use Rattle.std.specs.List.{All, list_all, slice_split}
 use Rattle.std.specs.Str.{bytes_eq}
-use Rattle.std.proofs.lemmas.Bool.{and_parts, and_from, leb-true, eqb-false, ne_eqb, not-true, not_from_false, eq-eqb, eqb-true}
+use Rattle.std.proofs.lemmas.Bool.{and_parts, and_from, leb-true, ne_eqb, not-true, eqb-true}
 use Rattle.std.proofs.lemmas.List.Elements.{All-nil, All-cons}
 use Rattle.std.proofs.lemmas.List.Splits.{slice_split_none, slice_split_at}
 use Rattle.std.proofs.lemmas.List.Splits.{join_with_byte-slice_split}
 use Rattle.std.proofs.lemmas.Option.{same_Some, none-some}
 use Rattle.std.specs.List.{join_with_byte}
-use Rattle.pr_num.specs.Errnos.{errno_name}
 use Rattle.pr_asm.specs.Names.{is_name}
 use Rattle.pr_model.specs.declared.calls.Call.{Call}
 use Rattle.pr_model.specs.declared.calls.Call.TheVariants as call
 use Rattle.pr_model.specs.declared.calls.Reply.{Reply}
 use Rattle.pr_model.specs.declared.calls.Reply.TheVariants as reply
-use Rattle.pr_plain.specs.CallReading.{slash, is_slash, lwp_of, target_of, target_at, held_by, held_at, arrow, handles_at, open_at, close_at, ctl_at, ctl_wait_at, read_at, poll_at, interrupt_at, spawn_at, kill_at, until_at, call_names, begins_call, call_behind, call_at, handle_at, used_at, half_at, reply_bytes_at, pid_at, ready_at, fail_at, plain_reply_behind, reply_behind, reply_at}
+use Rattle.pr_plain.specs.CallReading.{slash, is_slash, lwp_of, target_of, target_at, held_at, arrow, handles_at, open_at, close_at, ctl_at, ctl_wait_at, read_at, poll_at, interrupt_at, spawn_at, kill_at, until_at, call_behind, call_at, handle_at, used_at, half_at, reply_bytes_at, pid_at, ready_at, fail_at, plain_reply_behind, reply_behind, reply_at}
 use Rattle.pr_plain.specs.DecimalWords.{with_digit, number_from, number_of, id_of}
 use Rattle.pr_plain.specs.EntryForms.{is_number, is_id, is_byte, call_form, reply_form}
 use Rattle.pr_plain.specs.FileNames.{file_name, mode_name}
 use Rattle.pr_plain.specs.HexWords.{hex_word}
 use Rattle.pr_plain.specs.HistoryText.{lwp_text, target_text, held_words, call_words, reply_words}
 use Rattle.pr_plain.specs.Readings.{◌>>=◌}
-use Rattle.pr_plain.specs.WordReading.{Words, word_at, is_done, behind_word, number_at, id_at, bytes_at, errno_at, file_at, mode_at, program_at}
+use Rattle.pr_plain.specs.WordReading.{Words, word_at, is_done, number_at, id_at, bytes_at, errno_at, file_at, mode_at, program_at}
 use Rattle.pr_plain.proofs.DecimalLemmas.{are_digits, decimal-digits, is_number-from_id}
-use Rattle.pr_plain.proofs.FrontLemmas.{word_at-is, word_at-none}
-use Rattle.pr_plain.proofs.RowLemmas.{Undoes, Takes, Taken, one_word, found_by, pair_of, behind_word-is, behind_word-again, bytes_eq-self, by_word, one_found, two_found, three_found, one_again, two_again, three_again, taken_as}
-use Rattle.pr_plain.proofs.WordLaws.{any, ids, number_step, id_step, bytes_step, errno_step, file_step, mode_step, program_step}
+use Rattle.pr_plain.proofs.FrontLemmas.{word_at-is}
+use Rattle.pr_plain.proofs.RowLemmas.{Takes, Taken, one_word, found_by, pair_of, bytes_eq-self, by_word, one_found, two_found, three_found, one_again, two_again, three_again, taken_as}
+use Rattle.pr_plain.proofs.WordLaws.{ids, number_step, id_step, bytes_step, errno_step, file_step, mode_step, program_step}
 use Rattle.std.proofs.lemmas.Slice.Eq.{bytes_eq-Decides}
 
 -- ---- a process and its lwp
@@ -60,7 +59,7 @@ joined_one w u e = sym (join_with_byte-slice_split slash w) ∙ ap (join_with_by
 joined_two : (w u v : List ℕ) → slice_split is_slash w ≡ u ∷ v ∷ [] → w ≡ u ++ codes "/" ++ v
 joined_two w u v e = sym (join_with_byte-slice_split slash w) ∙ ap (join_with_byte slash) e ∙ sym (append_assoc u (codes "/") v)
 
-done_is : (ws : Words) → is_done ws ≡ true → ws ≡ []
+pub done_is : (ws : Words) → is_done ws ≡ true → ws ≡ []
 unfolding word_at
 done_is [] h = refl
 done_is (w ∷ ws) h = cc

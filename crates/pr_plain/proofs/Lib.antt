@@ -1,9 +1,11 @@
 pub mod CallLaws
 pub mod DecimalLemmas
+pub mod EntryLaws
 pub mod EntryLoop
 pub mod FormLemmas
 pub mod FrontLemmas
 pub mod HexLemmas
+pub mod HistoryLaws
 pub mod LineLemmas
 pub mod NameLemmas
 pub mod PieceLemmas

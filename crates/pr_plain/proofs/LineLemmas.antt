@@ -30,7 +30,7 @@ no_newline w h = All-weaker (λ b. is_word_byte b ≡ true) (λ b. is_newline b 
 
 -- ---- words of a line
 
-joined-words : (w : List ℕ) (ws : List (List ℕ)) → list_all is_word (w ∷ ws) ≡ true → slice_split is_blank (joined (w ∷ ws)) ≡ w ∷ ws
+pub joined-words : (w : List ℕ) (ws : List (List ℕ)) → list_all is_word (w ∷ ws) ≡ true → slice_split is_blank (joined (w ∷ ws)) ≡ w ∷ ws
 unfolding joined behind_blank
 joined-words w [] h =
     ap (slice_split is_blank) (append-nil w) ∙ slice_split_none is_blank w (no_blank w (left_of (is_word w) true h))

@@ -1,12 +1,9 @@
 -- Turns are read back from their words, and from no others.
-use Rattle.std.proofs.Common.{◌≡◌, ℕ, Bool, true, false, cond, Option, Some, None, List, [], ◌∷◌, ◌++◌, codes, refl, sym, ap, subst, ◌∙◌, append_assoc}
+use Rattle.std.proofs.Common.{◌≡◌, ℕ, Bool, true, false, cond, Option, Some, None, List, [], ◌∷◌, ◌++◌, codes, refl, sym, ap, ◌∙◌}
 use Rattle.std.specs.Fmt.{decimal}
 use Rattle.std.specs.Str.{bytes_eq}
-use Rattle.std.proofs.lemmas.List.{append-nil}
-use Rattle.std.proofs.lemmas.Option.{cond_some}
 use Rattle.pr_num.specs.declared.errnos.Errno.{Errno}
 use Rattle.pr_num.specs.declared.errnos.Errno.TheVariants.{Perm}
-use Rattle.pr_num.specs.declared.syscalls.Sysno.{Sysno}
 use Rattle.pr_num.specs.Errnos.{errno_name, errno_of_name}
 use Rattle.pr_num.specs.Faults.{fault_name, fault_signal}
 use Rattle.pr_num.specs.Signals.{signal_name}
@@ -19,15 +16,14 @@ use Rattle.pr_model.specs.declared.events.How.TheVariants.{Caught, Ignored, JobS
 use Rattle.pr_model.specs.declared.events.Res.{Res}
 use Rattle.pr_model.specs.declared.events.Res.TheVariants.{Value, Error, Ended}
 use Rattle.pr_model.specs.declared.events.Turned.{Turned}
-use Rattle.pr_plain.specs.EntryForms.{is_number, result_form, did_form}
+use Rattle.pr_plain.specs.EntryForms.{result_form, did_form}
 use Rattle.pr_plain.specs.HistoryText.{result_words, how_text, did_words, stop_words, turn_words}
 use Rattle.pr_plain.specs.Readings.{◌>>=◌}
-use Rattle.pr_plain.specs.TurnReading.{errno_or_ended, result_by, result_at, how_of, how_at, stopped_at, entered_at, made_at, slept_at, woke_at, returned_at, faulted_at, posted_at, took_at, acted_at, did_behind, did_at, stop_by, stop_of, turn_of}
+use Rattle.pr_plain.specs.TurnReading.{errno_or_ended, result_at, how_of, how_at, stopped_at, entered_at, made_at, slept_at, woke_at, returned_at, faulted_at, posted_at, took_at, acted_at, did_behind, did_at, stop_of, turn_of}
 use Rattle.pr_plain.specs.WordReading.{Words, word_at, is_done, behind_word, number_at, syscall_at, fault_at, signal_at}
-use Rattle.pr_plain.proofs.FrontLemmas.{word_at-is, word_at-none}
-use Rattle.pr_plain.proofs.RowLemmas.{Undoes, Takes, Taken, one_word, found_by, pair_of, behind_word-is, behind_word-again, bytes_eq-self, by_word, one_row, passed_row, one_found, two_found, one_again, two_again, taken_as}
+use Rattle.pr_plain.proofs.FrontLemmas.{word_at-is}
+use Rattle.pr_plain.proofs.RowLemmas.{Takes, Taken, one_word, found_by, pair_of, behind_word-is, behind_word-again, by_word, one_row, passed_row, one_found, two_found, one_again, two_again, taken_as}
 use Rattle.pr_plain.proofs.WordLaws.{any, number_step, syscall_step, fault_step, signal_step}
-use Rattle.std.proofs.lemmas.Slice.Eq.{bytes_eq-Decides}
 
 -- ---- what a system call gave
 

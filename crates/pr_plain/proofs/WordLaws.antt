@@ -1,5 +1,5 @@
 -- Each kind of word is read back, and no other word is read as one.
-use Rattle.std.proofs.Common.{◌≡◌, ℕ, ◌+◌, ◌*◌, ◌<◌, Bool, true, false, cond, eqb, ltb, ◌&&◌, Option, Some, None, List, [], ◌∷◌, ◌++◌, refl, sym, ap, ◌∙◌, arith}
+use Rattle.std.proofs.Common.{◌≡◌, ℕ, ◌+◌, ◌*◌, ◌<◌, Bool, true, cond, eqb, Option, Some, None, List, [], ◌∷◌, refl, sym, ap, ◌∙◌, arith}
 use Rattle.std.specs.Fmt.{decimal}
 use Rattle.std.specs.List.{All, list_all}
 use Rattle.std.specs.Str.{bytes_eq}
@@ -9,18 +9,13 @@ use Rattle.std.proofs.lemmas.List.Elements.{All-weaker}
 use Rattle.std.proofs.lemmas.List.Sums.{AllPass-from_list_all}
 use Rattle.std.proofs.lemmas.Option.{cond_some}
 use Rattle.pr_num.specs.Words.{IsByte}
-use Rattle.pr_num.specs.declared.errnos.Errno.{Errno}
-use Rattle.pr_num.specs.declared.faults.Flt.{Flt}
 use Rattle.pr_num.specs.declared.signals.Sig.{Sig}
-use Rattle.pr_num.specs.declared.syscalls.Sysno.{Sysno}
 use Rattle.pr_num.specs.Errnos.{errno_name, errno_of_name}
 use Rattle.pr_num.specs.Faults.{fault_name, fault_of_name}
 use Rattle.pr_num.specs.Signals.{signal_name, signal_of_name}
 use Rattle.pr_num.specs.Syscalls.{syscall_name, syscall_of_name}
 use Rattle.pr_num.proofs.EntryLemmas.{errno_of_name-name, errno_name-of_name, fault_of_name-name, fault_name-of_name, signal_of_name-name, syscall_of_name-name, syscall_name-of_name}
 use Rattle.pr_asm.specs.Names.{is_name, name_of}
-use Rattle.pr_model.specs.declared.calls.File.{File}
-use Rattle.pr_model.specs.declared.calls.Mode.{Mode}
 use Rattle.pr_plain.specs.DecimalWords.{number_of, id_of}
 use Rattle.pr_plain.specs.EntryForms.{is_number, is_id, is_byte}
 use Rattle.pr_plain.specs.FileNames.{file_name, file_of_name, mode_name, mode_of_name}

@@ -8,7 +8,7 @@ use Rattle.pr_model.specs.declared.calls.Reply.{Reply}
 use Rattle.pr_model.specs.declared.calls.Reply.TheVariants as reply
 use Rattle.pr_plain.specs.DecimalWords.{id_of}
 use Rattle.pr_plain.specs.Readings.{◌>>=◌}
-use Rattle.pr_plain.specs.WordReading.{Words, word_at, is_done, behind_word, number_at, id_at, bytes_at, errno_at, file_at, mode_at, program_at}
+use Rattle.pr_plain.specs.WordReading.{Words, word_at, is_done, number_at, id_at, bytes_at, errno_at, file_at, mode_at, program_at}
 
 -- the byte between a process and its lwp
 abbrev pub slash : ℕ

@@ -1,6 +1,6 @@
 -- What has a text that is read back: numbers that are words of their types, bytes that are bytes, and programs whose
 -- names have the form of a scenario's. An entry that the program holds has all of that but the last.
-use Rattle.std.specs.Prelude.{ℕ, ◌^◌, ◌&&◌, nat_lt, Bool, true, List}
+use Rattle.std.specs.Prelude.{ℕ, ◌^◌, ◌&&◌, nat_lt, Bool, true}
 use Rattle.std.specs.List.{list_all}
 use Rattle.pr_asm.specs.Names.{is_name}
 use Rattle.pr_model.specs.declared.calls.Call.{Call}

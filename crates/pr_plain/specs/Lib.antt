@@ -6,6 +6,7 @@ pub mod EntryReading
 pub mod FileNames
 pub mod Forms
 pub mod HexWords
+pub mod Histories
 pub mod HistoryText
 pub mod Lines
 pub mod Readings

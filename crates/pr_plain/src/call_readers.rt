@@ -19,7 +19,11 @@ pub fn lwp_of(word: &[u8]) -> Option<(u32, u32)>
     let mut ids = Pieces::of(word, b'/');
     let pid = id_at(&mut ids)?;
     let lwp = id_at(&mut ids)?;
-    if ids.is_done() { Some((pid, lwp)) } else { None }
+    if ids.is_done() {
+        Some((pid, lwp))
+    } else {
+        None
+    }
 }
 
 /// The process and the lwp whose file is opened; the lwp is 0 where the file is the process's.

@@ -14,9 +14,9 @@ mod pieces;
 mod reading;
 mod refusals;
 mod reply_readers;
-mod word_readers;
 mod turn_readers;
 mod turns;
+mod word_readers;
 mod words;
 
 pub use entries::{write_entry, write_heading, write_status};
@@ -24,8 +24,9 @@ pub use laws::{
     a_line_is_its_words, a_text_grows_at_its_end, a_text_is_its_lines, bytes_are_their_hex_word,
     file_names, forms_are_told_by_their_first_word, mode_names,
 };
-pub use refusals::HistRefusal;
 pub use names::{file_name, mode_name};
+pub use reading::read_history;
+pub use refusals::HistRefusal;
 
 #[cfg(test)]
 mod tests;

@@ -1,5 +1,7 @@
 //! Histories, read from their text.
-ghost use Rattle.std.specs.Prelude.{◌≡◌, ◌+◌, ◌≤◌, ◌<◌, ◌^◌, length};
+ghost use Rattle.std.specs.Prelude.{◌≡◌, ◌+◌, ◌<◌, ◌^◌, List, length, IfOk, IfErr};
+ghost use Rattle.pr_model.specs.declared.events.Entry.{Entry as AnyEntry};
+ghost use Rattle.pr_plain.specs.Histories.{BeginsWith, Refuses};
 ghost use Rattle.pr_plain.specs.EntryReading.{or_line, next_entry, next_heading, entries_in, history_of};
 ghost use Rattle.pr_plain.specs.WordReading.{word_at};
 ghost use Rattle.pr_plain.specs.Readings.{Answers, LineGave};
@@ -86,4 +88,22 @@ fn read_text(alloc: Global, text: &[u8], first_line: u32) -> Result<History, His
     let count = next_heading(&mut lines, first_line)?;
     let room = count.min((text.len() / SHORTEST_ENTRY) as u64) as usize;
     read_entries(alloc, &mut lines, count, first_line + 1, room)
+}
+
+/// The history that a text begins with: a heading that tells how many entries there are, and each entry on a line of its
+/// own, as they are written. Or the first line that is wrong, where the text's lines count from `first_line`; where the
+/// lines end too early that is the line behind the last. The last line may lack its newline, and what stands below the
+/// last entry is not looked at.
+///
+/// Goes over the text once. Of memory it takes what the history needs, and at most twice that for handles of a poll.
+pub fn read_history(alloc: Global, text: &[u8], first_line: u32) -> Result<History, HistRefusal>
+    requires { first_line + length text.now < 2 ^ 32 }
+    // What is read is what the text begins with.
+    ensures read { IfOk result (λ h. BeginsWith text.now h.entries) }
+    // What it begins with is read, and nothing else, unless memory runs out.
+    ensures only { (es : List AnyEntry) → BeginsWith text.now es → Answers (λ h. h.entries) result (Ok es) }
+    // What is refused names the first line that is wrong.
+    ensures refused { IfErr result (Refuses first_line text.now) }
+{
+    read_text(alloc, text, first_line)
 }

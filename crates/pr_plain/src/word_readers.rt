@@ -18,7 +18,11 @@ use std::alloc::Global;
 pub fn pass(words: &mut Pieces<'_>, word: &[u8]) -> Option<()>
     ensures { Says (λ _. words.new) result (behind_word word.now words.old) }
 {
-    if words.next()? == word { Some(()) } else { None }
+    if words.next()? == word {
+        Some(())
+    } else {
+        None
+    }
 }
 
 /// Takes a number.
