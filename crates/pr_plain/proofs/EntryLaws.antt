@@ -358,7 +358,7 @@ heading_in-is line n found =
     let t = heading_of-is (slice_split is_blank line) n found in
     record { line_is = line_of_words line (codes "history") (decimal n ∷ []) t.words; formed = t.formed }
 
-heading_words : (n : ℕ) → list_all is_word (codes "history" ∷ decimal n ∷ []) ≡ true
+pub heading_words : (n : ℕ) → list_all is_word (codes "history" ∷ decimal n ∷ []) ≡ true
 heading_words n = (two (codes "history") (decimal n) (record { is = refl }) (decimal_word n)).each
 
 pub heading_in-line : (n : ℕ) → is_number n ≡ true → heading_in (heading_line n) ≡ Some n

@@ -4,12 +4,15 @@ pub mod EntryLaws
 pub mod EntryLoop
 pub mod FormLemmas
 pub mod FrontLemmas
+pub mod GeneratedLemmas
 pub mod HexLemmas
 pub mod HistoryLaws
 pub mod LineLemmas
 pub mod NameLemmas
 pub mod PieceLemmas
 pub mod RowLemmas
+pub mod TextLaws
+pub mod TraceLemmas
 pub mod TurnLaws
 pub mod WordLaws
 pub mod WordLemmas

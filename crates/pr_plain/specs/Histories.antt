@@ -3,7 +3,7 @@ use Rattle.std.specs.Prelude.{◌≡◌, ◌≢◌, ℕ, ◌+◌, ◌<◌, ◌�
 use Rattle.std.specs.List.{list_all, slice_split}
 use Rattle.pr_model.specs.declared.events.Entry.{Entry}
 use Rattle.pr_plain.specs.EntryForms.{is_number, has_form}
-use Rattle.pr_plain.specs.HistoryText.{joined, entry_line, heading_text, entries_text}
+use Rattle.pr_plain.specs.HistoryText.{newline, joined, entry_line, heading_text, entries_text}
 use Rattle.pr_plain.specs.Lines.{is_newline, entry_lines}
 use Rattle.pr_plain.specs.declared.refusals.HistRefusal.{HistRefusal}
 use Rattle.pr_plain.specs.declared.refusals.HistRefusal.TheVariants.{Line, NoMemory}
@@ -29,6 +29,11 @@ pub record BeginsWith (text : List ℕ) (es : List Entry) : Type 0 where
   pub below : List (List ℕ)
   pub lines : lines_of text ≡ history_lines es ++ below
   pub formed : list_all has_form es ≡ true
+
+-- A text is that of a history with anything behind it, or lacks only its last newline. These are the texts that begin with
+-- it.
+abbrev pub IsTextOf : List ℕ → List Entry → Type 0
+IsTextOf text es = ((rest : List ℕ) × (text ≡ history_text es ++ rest)) ⊎ (text ++ newline ∷ [] ≡ history_text es)
 
 -- the first of some lines is no heading
 abbrev pub NoHeading : List (List ℕ) → Type 0

@@ -5,6 +5,7 @@ pub mod EntryForms
 pub mod EntryReading
 pub mod FileNames
 pub mod Forms
+pub mod Generated
 pub mod HexWords
 pub mod Histories
 pub mod HistoryText
