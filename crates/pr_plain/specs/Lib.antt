@@ -10,6 +10,7 @@ pub mod HexWords
 pub mod Histories
 pub mod HistoryText
 pub mod Lines
+pub mod PlainText
 pub mod Readings
 pub mod TurnReading
 pub mod WordReading

@@ -15,6 +15,7 @@ mod pieces;
 mod reading;
 mod refusals;
 mod reply_readers;
+mod steps;
 mod traces;
 mod turn_readers;
 mod turns;
@@ -30,6 +31,7 @@ pub use laws::{
 pub use names::{file_name, mode_name};
 pub use reading::read_history;
 pub use refusals::HistRefusal;
+pub use steps::{write_plain_heading, write_step, write_trace_heading};
 pub use traces::trace;
 
 #[cfg(test)]

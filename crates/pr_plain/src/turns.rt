@@ -9,7 +9,7 @@ use std::alloc::AllocError;
 
 /// Writes what a system call gave.
 #[tactic(auto, unfolding(crate::specs::HistoryText::result_words))]
-fn write_result(out: &mut Vec<u8>, res: Res) -> Result<(), AllocError>
+pub fn write_result(out: &mut Vec<u8>, res: Res) -> Result<(), AllocError>
     ensures { OnOk result (out.new.items ≡ out.old.items ++ spaced (result_words res)) }
 {
     match res {
