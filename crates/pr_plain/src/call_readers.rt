@@ -6,9 +6,9 @@ ghost use Rattle.pr_plain.specs.Readings.{Says, Gives};
 use crate::numerals::id_of;
 use crate::pieces::Pieces;
 use crate::refusals::Refused;
-use crate::word_readers::{bytes_at, file_at, id_at, mode_at, number_at, program_at};
+use crate::word_readers::{bytes_at, file_at, id_at, mode_at, number_at, program_at, put};
 use pr_model::Call;
-use pr_num::{Handles, NoMemory};
+use pr_num::Handles;
 use std::alloc::Global;
 
 /// The process and the lwp that a word says.
@@ -134,7 +134,7 @@ fn handles_at(alloc: Global, words: &mut Pieces<'_>) -> Result<Handles, Refused>
             return Ok(Handles::from_vec(handles));
         }
         let handle = id_of(word).ok_or(Refused::Malformed)?;
-        handles.push(handle).map_err(NoMemory::from)?;
+        put(&mut handles, handle)?;
         *words = rest;
     }
     Err(Refused::Malformed)

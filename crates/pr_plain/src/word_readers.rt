@@ -1,5 +1,5 @@
 //! Words of a line, taken one after another.
-ghost use Rattle.std.specs.Prelude.{◌≡◌, ◌<◌, IfSome};
+ghost use Rattle.std.specs.Prelude.{◌≡◌, ◌<◌, ◌++◌, [], ◌∷◌, IfSome, IfOk, OnOk};
 ghost use Rattle.pr_plain.specs.HexWords.{digit_value, byte_of, bytes_of_digits, bytes_of_word};
 ghost use Rattle.pr_plain.specs.Readings.{Says, Gives};
 ghost use Rattle.pr_plain.specs.WordReading.{behind_word, number_at, id_at, bytes_at, syscall_at, fault_at, signal_of, signal_at, errno_at, file_at, mode_at, program_at};
@@ -110,6 +110,20 @@ pub fn program_at(words: &mut Pieces<'_>) -> Option<Name>
     name_of(words.next()?)
 }
 
+/// No bytes, with room for so many.
+fn with_capacity(alloc: Global, room: usize) -> Result<Vec<u8>, NoMemory>
+    ensures { IfOk result (λ bytes. bytes.items ≡ []) }
+{
+    Ok(Vec::with_capacity(alloc, room)?)
+}
+
+/// Puts a number behind others.
+pub fn put<T: Drop>(items: &mut Vec<T>, item: T) -> Result<(), NoMemory>
+    ensures { OnOk result (items.new.items ≡ items.old.items ++ item ∷ []) }
+{
+    Ok(items.push(item)?)
+}
+
 /// The value of a hex digit of lower case.
 #[tactic(auto, unfolding(crate::specs::HexWords::digit_value))]
 fn digit_value(c: u8) -> Option<u8>
@@ -135,11 +149,11 @@ fn byte_of(high: u8, low: u8) -> Option<u8>
 fn bytes_of_digits(alloc: Global, digits: &[u8]) -> Result<Bytes, Refused>
     ensures { Gives (λ bytes. bytes) result (bytes_of_digits digits.now) }
 {
-    let mut bytes = Vec::with_capacity(alloc, digits.len() / 2).map_err(NoMemory::from)?;
+    let mut bytes = with_capacity(alloc, digits.len() / 2)?;
     let mut rest = digits;
     while let [high, low, others @ ..] = rest {
         let byte = byte_of(*high, *low).ok_or(Refused::Malformed)?;
-        bytes.push(byte).map_err(NoMemory::from)?;
+        put(&mut bytes, byte)?;
         rest = others;
     }
     if rest.is_empty() {
