@@ -18,7 +18,7 @@ use pr_proc::live;
 use std::alloc::Global;
 
 /// The longest read, in bytes.
-const LONGEST_READ: u64 = 16_384;
+const LONGEST_READ: u64 = 20_480;
 
 /// Handles the first control message of a write; `None`: it is not built yet.
 fn write(state: &mut Machine, by: u32, handle: u32, bytes: &[u8]) -> Option<Reply>
@@ -91,7 +91,7 @@ fn can_read(state: &Machine, by: u32, handle: u32, at: u64, len: u64) -> bool
 }
 
 /// Reads at most `len` bytes of a record from byte `at` on. The refusals come in the order: EBADF, EINVAL for a length
-/// of 0 or above 16,384, ENOENT.
+/// of 0 or above 20,480, ENOENT.
 #[tactic(auto, unfolding(pr_model::specs::Calls::read_answer))]
 fn read(
     state: &Machine,

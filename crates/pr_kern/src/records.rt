@@ -32,7 +32,7 @@ const ISSYS: u64 = 16;
 const HEAP_BASE: u64 = 0x100000;
 
 /// How many words an lwp's status has.
-const LWP_WORDS: usize = 30;
+const LWP_WORDS: usize = 33;
 
 /// A stop reason's number, and the number of what it is about.
 fn stop_words(stop: Stop) -> [u64; 2]
@@ -158,7 +158,7 @@ fn disposition_class(disposition: u64) -> u64
 }
 
 /// The disposition of the current signal, 0 for none.
-fn disposition_word(dispositions: &[u64; 31], signal: Option<Sig>) -> u64
+fn disposition_word(dispositions: &[u64; 39], signal: Option<Sig>) -> u64
     ensures { result ≡ disposition_word dispositions.now signal }
 {
     match signal {
@@ -167,7 +167,8 @@ fn disposition_word(dispositions: &[u64; 31], signal: Option<Sig>) -> u64
     }
 }
 
-/// Adds the 30 words of an lwp's status.
+/// Adds the 33 words of an lwp's status; the last three are of the information of its current signal, which is not kept
+/// yet.
 #[tactic(auto, unfolding(pr_model::specs::StatusRecords::lwpstatus_words))]
 fn add_lwp_status(words: &mut Vec<u64>, process: &Proc, lwp: &Lwp<SigSet>) -> Result<(), NoMemory>
     ensures { OnOk result (words.new.items ≡ words.old.items ++ lwpstatus_words process.now lwp.now) }
@@ -181,6 +182,7 @@ fn add_lwp_status(words: &mut Vec<u64>, process: &Proc, lwp: &Lwp<SigSet>) -> Re
     words.extend_from_slice(&[lwp.held.word(), lwp.pending.word()])?;
     words.extend_from_slice(&lwp.regs)?;
     words.push(disposition_word(&process.dispositions, lwp.current))?;
+    words.extend_from_slice(&[0; 3])?;
     Ok(())
 }
 
@@ -227,7 +229,7 @@ fn process_flags(process: &Proc) -> u64
     process.modes.word() + flag(process.id == 0, ISSYS)
 }
 
-/// The 43 words of a process's status.
+/// The 46 words of a process's status.
 #[tactic(auto, unfolding(pr_model::specs::StatusRecords::status_words))]
 pub fn status_words(alloc: Global, process: &Proc) -> Result<Vec<u64>, NoMemory>
     ensures { IfOk result (λ words. words.items ≡ status_words process.now) }

@@ -48,7 +48,7 @@ close_answer s by handle = close_held s handle (handle_of s.opens by handle)
 
 -- the longest read, in bytes
 abbrev pub longest_read : ℕ
-longest_read = 16384
+longest_read = 20480
 
 -- the status of a process that is live
 abbrev pub read_status : TracedState → Option TracedProcess → ℕ → ℕ → Answer
@@ -70,7 +70,7 @@ read_held s None from len = Some (refused s Badf)
 read_held s (Some h) from len =
     if (len == 0) || nat_lt longest_read len then Some (refused s Inval) else read_file s h from len h.file
 
--- A read's refusals come in the order: no such handle or one of a control file, a length of 0 or above 16,384, the
+-- A read's refusals come in the order: no such handle or one of a control file, a length of 0 or above 20,480, the
 -- process or the lwp has ended.
 unfoldable pub read_answer : TracedState → ℕ → ℕ → ℕ → ℕ → Option Answer
 read_answer s by handle from len = read_held s (readable (handle_of s.opens by handle)) from len

@@ -13,7 +13,7 @@ use Rattle.pr_model.specs.declared.processes.Usage.{Usage}
 
 -- default dispositions
 abbrev pub default_dispositions : List ℕ
-default_dispositions = replicate 31 0
+default_dispositions = replicate 39 0
 
 -- nothing used yet
 abbrev pub nothing_used : Usage

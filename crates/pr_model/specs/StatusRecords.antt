@@ -89,18 +89,18 @@ abbrev pub disposition_word : List ℕ → Option Sig → ℕ
 disposition_word dispositions None = 0
 disposition_word dispositions (Some s) = disposition_class (slice_index dispositions (signal_number s - 1))
 
--- the 30 words of an lwp's status
+-- the 33 words of an lwp's status; the last three are of the information of its current signal, which is not kept yet
 unfoldable pub lwpstatus_words : TracedProcess → TracedLwp → List ℕ
 lwpstatus_words p l =
     lwp_flags (shown p.job_stop l) l ∷ l.id ∷ shown_words (shown p.job_stop l)
     ++ signal_word l.current ∷ fault_words l.phase
     ++ call_words l.regs l.phase
     ++ l.held ∷ l.pending ∷ l.regs
-    ++ disposition_word p.dispositions l.current ∷ []
+    ++ disposition_word p.dispositions l.current ∷ 0 ∷ 0 ∷ 0 ∷ []
 
 -- the words of the representative, or zeros where there are no lwps
 abbrev pub representative_words : TracedProcess → Option TracedLwp → List ℕ
-representative_words p None = replicate 30 0
+representative_words p None = replicate 33 0
 representative_words p (Some l) = lwpstatus_words p l
 
 -- where the heap begins
@@ -111,7 +111,7 @@ heap_base = 0x100000
 abbrev pub process_flags : TracedProcess → ℕ
 process_flags p = p.modes + flag (p.id == 0) issys_flag
 
--- the 43 words of a process's status
+-- the 46 words of a process's status
 unfoldable pub status_words : TracedProcess → List ℕ
 status_words p =
     process_flags p ∷ p.id ∷ p.parent ∷ length p.lwps ∷ p.pending ∷ p.traced_signals ∷ p.traced_faults ∷ p.traced_entries ∷ p.traced_exits

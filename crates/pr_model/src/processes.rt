@@ -34,7 +34,7 @@ pub struct Process<S, F, P, A> {
     pub space: S,
     pub fds: F,
     /// For each signal from 1 on: 0 default, 1 ignored, else the address of its handler.
-    pub dispositions: [u64; 31],
+    pub dispositions: [u64; 39],
     /// The signals sent to the process that no lwp has taken yet.
     pub pending: P,
     /// The signal that stopped it by job control.

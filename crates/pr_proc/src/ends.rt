@@ -21,7 +21,7 @@ fn become_zombie(process: &mut Proc, status: u64) -> Fds
     let fds = mem::replace(&mut process.fds, Fds::new());
     process.ended = Some(status);
     process.space.clear();
-    process.dispositions = [0; 31];
+    process.dispositions = [0; 39];
     process.pending = SigSet::empty();
     process.job_stop = None;
     process.next_lwp = 1;

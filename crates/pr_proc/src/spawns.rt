@@ -53,7 +53,7 @@ pub(crate) fn bare_process(alloc: Global, pid: u32, parent: u32, name: Name, clo
         ended: None,
         space: Space::new(alloc),
         fds: Fds::new(),
-        dispositions: [0; 31],
+        dispositions: [0; 39],
         pending: SigSet::empty(),
         job_stop: None,
         next_lwp: 1,

@@ -63,7 +63,7 @@ fn process_of(
         ended: None,
         space,
         fds: Fds::new(),
-        dispositions: [0; 31],
+        dispositions: [0; 39],
         pending: SigSet::empty(),
         job_stop: None,
         next_lwp: 3,
