@@ -46,6 +46,10 @@ seen-told s w is = subst IsTold (sym is) (first-told s)
 pub seen-fresh : (s : Scenario) (w : WorldState) → w ≡ first_world s → IsFresh w
 seen-fresh s w is = subst IsFresh (sym is) (first-fresh s)
 
+-- The moves of the first world are the run.
+pub run-is : (s : Scenario) (w : WorldState) → w ≡ first_world s → after_moves w.kernel.places w ≡ run_of s
+run-is s w is = ap (λ (x : WorldState). after_moves x.kernel.places x) is ∙ ap (λ (n : ℕ). after_moves n (first_world s)) (first_world-places s)
+
 -- ---- the end of a run
 
 ended-is : (w : WorldState) (end : End) → ended_as w ≡ Some end → end ≡ end_of w
