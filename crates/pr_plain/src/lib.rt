@@ -1,4 +1,4 @@
-//! Histories as text: how each entry is written on a line.
+//! Histories as text: each entry is written on a line, and a history is read back from its text.
 #![tactic(auto)]
 
 mod actors;
