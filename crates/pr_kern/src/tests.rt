@@ -229,7 +229,7 @@ const OPENS_AND_READS: [Step<'static>; 25] = [
     Step::Read(0, (3, 0, 8), BADF),
     Step::Read(5, (1, 0, 8), BADF),
     Step::Read(0, (1, 1, 0), INVAL),
-    Step::Read(0, (1, 1, 16_385), INVAL),
+    Step::Read(0, (1, 1, 20_481), INVAL),
     Step::Read(0, (1, 1_000, 20_480), Said::Bytes),
     // handles belong to who opened them, and the least free one is taken
     Step::Close(5, 0, BADF),

@@ -50,7 +50,7 @@ fn process_of(
         ended: None,
         space: (),
         fds: (),
-        dispositions: [0; 31],
+        dispositions: [0; 39],
         pending: SigSet::empty(),
         job_stop,
         next_lwp: 4,
