@@ -1,15 +1,18 @@
 //! The words that every other crate uses: numbers with names, sets of them, byte strings and names.
 #![tactic(auto)]
 
+mod by_id;
 mod bytes;
 mod call_sets;
 mod errnos;
 mod fault_sets;
 mod faults;
 mod files;
+mod infos;
 mod instruction_laws;
 mod instructions;
 mod keyed_tables;
+pub mod limits;
 mod mappings;
 mod memory;
 mod messages;
@@ -31,12 +34,14 @@ pub const AGENT: u32 = 65_535;
 #[cfg(test)]
 mod tests;
 
+pub use by_id::ById;
 pub use bytes::{Bytes, Handles};
 pub use call_sets::SysSet;
 pub use errnos::Errno;
 pub use fault_sets::FltSet;
 pub use faults::Flt;
 pub use files::{Access, OpenFile, StoredFile, Target};
+pub use infos::Info;
 pub use instruction_laws::an_instruction_is_its_bytes;
 pub use instructions::{Instruction, Reg};
 pub use keyed_tables::{Keyed, Table};
