@@ -1,3 +1,5 @@
+pub mod ByIdLaws
+pub mod ByIdLemmas
 pub mod EntryLemmas
 pub mod FlagBounds
 pub mod InstructionLemmas

@@ -1,4 +1,6 @@
 pub mod Agents
+pub mod ById
+pub mod ByIdLending
 pub mod Control
 pub mod Errnos
 pub mod Faults

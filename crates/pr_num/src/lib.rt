@@ -1,6 +1,7 @@
 //! The words that every other crate uses: numbers with names, sets of them, byte strings and names.
 #![tactic(auto)]
 
+mod by_id;
 mod bytes;
 mod call_sets;
 mod errnos;
@@ -31,6 +32,7 @@ pub const AGENT: u32 = 65_535;
 #[cfg(test)]
 mod tests;
 
+pub use by_id::ById;
 pub use bytes::{Bytes, Handles};
 pub use call_sets::SysSet;
 pub use errnos::Errno;
