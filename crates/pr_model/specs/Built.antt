@@ -1,7 +1,7 @@
-use Rattle.std.specs.Prelude.{◌==◌, ◌||◌, ◌&&◌, ℕ, Bool, true, false, not, List, Option, Some, None, Result, Ok, Err, is_some, if◌then◌else◌}
+use Rattle.std.specs.Prelude.{◌==◌, ◌||◌, ◌&&◌, ℕ, Bool, true, false, not, List, Option, Some, None, Result, Ok, Err, is_some}
 use Rattle.pr_num.specs.Control.{prot_exec}
 use Rattle.pr_num.specs.Instructions.{instruction_in}
-use Rattle.pr_num.specs.Spaces.{Space, bytes_for}
+use Rattle.pr_num.specs.Spaces.{bytes_for}
 use Rattle.pr_num.specs.declared.instructions.Instruction.{Instruction}
 use Rattle.pr_num.specs.declared.instructions.Instruction.TheVariants.{Set, Sys}
 use Rattle.pr_num.specs.declared.mappings.BadByte.{BadByte}

@@ -8,7 +8,7 @@ use Rattle.pr_model.specs.MemoryCalls.{brk_effect, mmap_effect, munmap_effect, m
 use Rattle.pr_model.specs.ProcessCalls.{exit_effect, fork_effect, wait_effect, exec_effect, sleep_effect}
 use Rattle.pr_model.specs.Readers.{children_of, life_of}
 use Rattle.pr_model.specs.SignalCalls.{send_effect, sigaction_effect, sigmask_effect, sigreturn_effect}
-use Rattle.pr_model.specs.SignalInfo.{from_kill, from_queue}
+use Rattle.pr_model.specs.SignalInfo.{from_kill}
 use Rattle.pr_model.specs.State.{LwpOf, ProcessOf, SystemOf}
 
 -- What system calls do (section 2 of the manual), a row a call: of the lwp of an id in the process of an id, which

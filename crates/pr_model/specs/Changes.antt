@@ -1,4 +1,4 @@
-use Rattle.std.specs.Prelude.{◌==◌, ◌&&◌, ℕ, Bool, List, [], ◌∷◌, Option, Some, None, if◌then◌else◌}
+use Rattle.std.specs.Prelude.{◌==◌, ◌&&◌, ℕ, Bool, true, false, List, [], ◌∷◌, Some, None, if◌then◌else◌}
 use Rattle.pr_num.specs.Files.{FileTable, Descriptors}
 use Rattle.pr_num.specs.Programs.{Program}
 use Rattle.pr_num.specs.Spaces.{Space}
@@ -8,7 +8,7 @@ use Rattle.pr_model.specs.Lives.{with_child, with_program, with_new_lwp, with_re
 use Rattle.pr_model.specs.Machines.{Machine}
 use Rattle.pr_model.specs.PendingSignals.{taken}
 use Rattle.pr_model.specs.Signals.{generated, is_kill, with_disposition}
-use Rattle.pr_model.specs.State.{LwpOf, ProcessOf, SystemOf, with_process, with_lwp, live_process}
+use Rattle.pr_model.specs.State.{LwpOf, ProcessOf, SystemOf, with_process, with_lwp}
 use Rattle.pr_model.specs.declared.events.Res.{Res}
 use Rattle.pr_model.specs.declared.events.Res.TheVariants.{Value, Error}
 use Rattle.pr_model.specs.declared.frames.Frame.{Frame}
@@ -62,6 +62,12 @@ gives value changes = does (Value value) changes
 abbrev pub fails : Errno → Effect
 fails e = does (Error e) []
 
+-- whether an effect is not that the lwp sleeps
+abbrev pub is_over : Effect → Bool
+is_over (does result changes) = true
+is_over sleeps = false
+is_over (ends ending) = true
+
 module _ {C H K : Type 0} where
   unfoldable pub with_fds : Descriptors → ProcessOf C H K → ProcessOf C H K
   with_fds fds p = record p { fds = fds }
@@ -78,6 +84,7 @@ module _ {C H K : Type 0} where
   unfoldable pub with_disposition_of : Sig → ℕ → ProcessOf C H K → ProcessOf C H K
   with_disposition_of s disposition p = record p { dispositions = with_disposition s disposition p.dispositions }
 
+module _ {H K : Type 0} where
   unfoldable pub with_held : ℕ → LwpOf H K → LwpOf H K
   with_held held l = record l { held = held }
 

@@ -1,4 +1,4 @@
-use Rattle.std.specs.Prelude.{◌×◌, ◌==◌, ◌+◌, ◌-◌, ◌*◌, ◌/◌, ◌%◌, ◌^◌, ℕ, Bool, true, false, List, [], ◌∷◌, ◌++◌, Option, Some, None, Result, Ok, Err, not, length, take, drop, nat_lt, slice_index, slice_set, if◌then◌else◌}
+use Rattle.std.specs.Prelude.{◌==◌, ◌+◌, ◌-◌, ◌*◌, ◌/◌, ◌%◌, ◌^◌, ℕ, Bool, true, false, List, [], ◌∷◌, ◌++◌, Option, Some, None, Result, Ok, Err, not, length, take, drop, nat_lt, slice_index, slice_set, if◌then◌else◌}
 use Rattle.pr_num.specs.Control.{prot_exec, prot_read, prot_write, watch_read, watch_write, watch_exec}
 use Rattle.pr_num.specs.Instructions.{instruction_in, register_number}
 use Rattle.pr_num.specs.Spaces.{Space, bytes_for}

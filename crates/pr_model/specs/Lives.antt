@@ -1,11 +1,11 @@
-use Rattle.std.specs.Prelude.{◌×◌, ◌==◌, ◌+◌, ℕ, Bool, false, List, [], ◌∷◌, Option, Some, None, is_some, length, map, nat_lt, replicate, if◌then◌else◌}
+use Rattle.std.specs.Prelude.{◌==◌, ◌+◌, ℕ, Bool, false, List, [], ◌∷◌, Option, Some, None, is_some, length, map, nat_lt, replicate, if◌then◌else◌}
 use Rattle.pr_num.specs.Files.{no_descriptors, with_all_closed}
 use Rattle.pr_num.specs.Programs.{Program}
 use Rattle.pr_num.specs.Spaces.{first_space, first_registers}
 use Rattle.pr_num.specs.declared.signals.Sig.TheVariants.{Cld}
 use Rattle.pr_num.specs.declared.syscalls.Sysno.TheVariants.{Fork}
 use Rattle.pr_parts.specs.FileCalls.{with_all_shared}
-use Rattle.pr_model.specs.ById.{change_under, inserted, map_each, without_id}
+use Rattle.pr_num.specs.ById.{change_under, inserted, map_each, without_id}
 use Rattle.pr_model.specs.Generation.{told}
 use Rattle.pr_model.specs.Machines.{Machine}
 use Rattle.pr_model.specs.PendingSignals.{nothing_pending}
@@ -27,6 +27,27 @@ default_dispositions = replicate signal_count 0
 -- a process that runs another program keeps what it ignores, and catches nothing (exec(2))
 abbrev pub uncaught : ℕ → ℕ
 uncaught disposition = if nat_lt 1 disposition then 0 else disposition
+
+module _ {C H K : Type 0} where
+  -- a system with one process more, under the next id
+  unfoldable pub with_made : ProcessOf C H K → SystemOf C H K → SystemOf C H K
+  with_made p s = record s { made = s.made + 1; processes = inserted s.made p s.processes }
+
+  -- a child of a process that has ended gets process 0 as its parent
+  unfoldable pub orphaned : ℕ → ProcessOf C H K → ProcessOf C H K
+  orphaned pid p = if p.parent == pid then record p { parent = 0 } else p
+
+  -- the parent of a process that ended gets SIGCLD, unless that is process 0
+  unfoldable pub with_parent_told : ℕ → ℕ → ℕ → SystemOf C H K → SystemOf C H K
+  with_parent_told parent pid status s =
+      if parent == 0 then s else with_process parent (told None Cld (from_child pid status)) s
+
+  unfoldable pub without_lwp : ℕ → ProcessOf C H K → ProcessOf C H K
+  without_lwp id p = record p { lwps = without_id id p.lwps }
+
+  -- a zombie is reaped (wait(3C))
+  unfoldable pub with_reaped : ℕ → SystemOf C H K → SystemOf C H K
+  with_reaped pid s = record s { processes = without_id pid s.processes }
 
 module _ {C H K : Type 0} (m : Machine C H K) where
   -- ---- beginnings
@@ -69,10 +90,6 @@ module _ {C H K : Type 0} (m : Machine C H K) where
   unfoldable pub new_process : Program → ℕ → Bool → ProcessOf C H K
   new_process program clock held =
       record (bare_process 0 program.name clock) { space = first_space program; next_lwp = 2; lwps = (1, first_lwp held) ∷ [] }
-
-  -- a system with one process more, under the next id
-  unfoldable pub with_made : ProcessOf C H K → SystemOf C H K → SystemOf C H K
-  with_made p s = record s { made = s.made + 1; processes = inserted s.made p s.processes }
 
   unfoldable pub with_spawned : Program → Bool → SystemOf C H K → SystemOf C H K
   with_spawned program held s = with_made (new_process program s.clock held) s
@@ -141,15 +158,6 @@ module _ {C H K : Type 0} (m : Machine C H K) where
   unfoldable pub zombie : ℕ → ProcessOf C H K → ProcessOf C H K
   zombie status p = record (bare_process p.parent p.program p.made_at) { ended = Some status; control = m.of_zombie p.control }
 
-  -- a child of a process that has ended gets process 0 as its parent
-  unfoldable pub orphaned : ℕ → ProcessOf C H K → ProcessOf C H K
-  orphaned pid p = if p.parent == pid then record p { parent = 0 } else p
-
-  -- the parent of a process that ended gets SIGCLD, unless that is process 0
-  unfoldable pub with_parent_told : ℕ → ℕ → ℕ → SystemOf C H K → SystemOf C H K
-  with_parent_told parent pid status s =
-      if parent == 0 then s else with_process parent (told None Cld (from_child pid status)) s
-
   -- A live process ends with a wait status: it loses its lwps, its descriptors and its memory, its children get process
   -- 0 as their parent, and its own parent gets SIGCLD.
   unfoldable pub with_this_ended : ℕ → ProcessOf C H K → ℕ → SystemOf C H K → SystemOf C H K
@@ -167,14 +175,7 @@ module _ {C H K : Type 0} (m : Machine C H K) where
   unfoldable pub with_ended : ℕ → ℕ → SystemOf C H K → SystemOf C H K
   with_ended pid status s = ended_if_live pid status s (live_process s pid)
 
-  unfoldable pub without_lwp : ℕ → ProcessOf C H K → ProcessOf C H K
-  without_lwp id p = record p { lwps = without_id id p.lwps }
-
   -- one lwp ends, and with the last one its process, with wait status 0
   unfoldable pub with_lwp_ended : ℕ → ProcessOf C H K → ℕ → SystemOf C H K → SystemOf C H K
   with_lwp_ended pid p id s =
       if length p.lwps == 1 then with_this_ended pid p 0 s else with_process pid (without_lwp id) s
-
-  -- a zombie is reaped (wait(3C))
-  unfoldable pub with_reaped : ℕ → SystemOf C H K → SystemOf C H K
-  with_reaped pid s = record s { processes = without_id pid s.processes }

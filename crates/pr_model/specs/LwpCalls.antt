@@ -1,9 +1,9 @@
-use Rattle.std.specs.Prelude.{◌==◌, ◌||◌, ℕ, Bool, true, false, List, [], ◌∷◌, Option, length, is_some, nat_lt, nat_le, replicate, slice_set, if◌then◌else◌}
+use Rattle.std.specs.Prelude.{◌==◌, ◌||◌, ℕ, Bool, true, false, List, [], ◌∷◌, length, is_some, nat_lt, nat_le, replicate, slice_set, if◌then◌else◌}
 use Rattle.pr_num.specs.Agents.{agent_id}
 use Rattle.pr_num.specs.declared.errnos.Errno.TheVariants.{Inval, Srch, Again, Notsup}
 use Rattle.pr_model.specs.Changes.{Effect, gives, fails, makes_lwp, suspends}
 use Rattle.pr_model.specs.Registers.{with_pc, with_sp}
-use Rattle.pr_model.specs.State.{LwpOf, ProcessOf, lwp_of}
+use Rattle.pr_model.specs.State.{ProcessOf, lwp_of}
 
 -- The system calls on lwps, a definition a call. Each tries its refusals in their order.
 

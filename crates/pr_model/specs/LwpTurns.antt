@@ -1,17 +1,17 @@
-use Rattle.std.specs.Prelude.{◌==◌, ◌||◌, ◌&&◌, ◌+◌, ℕ, Bool, true, false, not, List, Option, Some, None, is_some, slice_index, if◌then◌else◌, option_and_then}
+use Rattle.std.specs.Prelude.{◌==◌, ◌||◌, ◌&&◌, ◌+◌, ℕ, Bool, true, false, not, List, Option, Some, None, is_some, if◌then◌else◌}
 use Rattle.pr_num.specs.Agents.{agent_id}
 use Rattle.pr_num.specs.declared.syscalls.Sysno.{Sysno}
 use Rattle.pr_num.specs.declared.syscalls.Sysno.TheVariants.{Read, Write, Wait, Pause, Sleep}
 use Rattle.pr_model.specs.Built.{is_built_turn}
 use Rattle.pr_model.specs.CallEffects.{call_effect}
-use Rattle.pr_model.specs.Changes.{Effect, does, sleeps, ends, Ending, ended}
+use Rattle.pr_model.specs.Changes.{is_over}
 use Rattle.pr_model.specs.Machines.{traced}
-use Rattle.pr_model.specs.Moves.{after_turn}
 use Rattle.pr_model.specs.Points.{meets, after_meeting}
 use Rattle.pr_model.specs.Rows.{Row, row_for}
 use Rattle.pr_model.specs.Signals.{has_takeable}
 use Rattle.pr_model.specs.State.{TracedSystem, TracedProcess, TracedLwp, live_process, lwp_of, with_process}
 use Rattle.pr_model.specs.Stops.{has_event_stop}
+use Rattle.pr_model.specs.Transitions.{after_transition}
 use Rattle.pr_model.specs.declared.events.Did.{Did}
 use Rattle.pr_model.specs.declared.events.Did.TheVariants.{Made, Woke, Took, Faulted}
 use Rattle.pr_model.specs.declared.events.Turned.{Turned}
@@ -27,12 +27,6 @@ use Rattle.pr_model.specs.declared.processes.Usage.{Usage}
 -- job control, which does not hold the agent.
 unfoldable pub is_held_back : TracedProcess → ℕ → TracedLwp → Bool
 is_held_back p id l = has_event_stop l || (l.suspended || (is_some p.job_stop && not (id == agent_id)))
-
--- whether an effect is not that the lwp sleeps
-abbrev pub is_over : Effect → Bool
-is_over (does result changes) = true
-is_over sleeps = false
-is_over (ends ending) = true
 
 module _ (s : TracedSystem) (pid : ℕ) (p : TracedProcess) (id : ℕ) (l : TracedLwp) where
   -- Whether a call in which an lwp sleeps since some moment is ready: it would not sleep any more. Only these calls may
@@ -110,20 +104,13 @@ pub record LwpTurn : Type 0 where
   pub system : TracedSystem
   pub turned : Turned
 
--- the end of the lwp or of its process, if the turn has one
-abbrev pub ended_if : ℕ → TracedProcess → ℕ → Option Ending → TracedSystem → TracedSystem
-ended_if pid p id None s = s
-ended_if pid p id (Some ending) s = ended traced pid p id ending s
-
--- What a row makes of the system, in this order: its changes and its move, the end of the lwp or of its process, the
--- counts, and the stop at the point that it met. So an lwp that the turn made is directed by that stop too.
+-- What a row makes of the system, in this order: its transition, the counts, and the stop at the point that it met. So an lwp that the turn made is directed by that stop too.
 unfoldable pub settled : TracedSystem → ℕ → TracedProcess → ℕ → TracedLwp → Row → LwpTurn
 settled s pid p id l row = record {
   system =
       with_process pid (after_meeting row.point id)
       (with_process pid (with_counted row.did row.begun)
-      (ended_if pid p id row.ending
-      (after_turn traced pid p id l row.changes row.move s)));
+      (after_transition traced pid p id l row.transition s));
   turned = record { did = row.did; stop = meets p.control row.point };
 }
 

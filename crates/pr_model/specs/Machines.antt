@@ -1,4 +1,4 @@
-use Rattle.std.specs.Prelude.{◌==◌, ℕ, Bool, true, false, List, [], Option, Some, None, if◌then◌else◌}
+use Rattle.std.specs.Prelude.{ℕ, Bool, false, List, [], Option, Some, None, if◌then◌else◌}
 use Rattle.pr_num.specs.Control.{has_flags, fork_mode}
 use Rattle.pr_num.specs.Faults.{fault_signal}
 use Rattle.pr_num.specs.Sets.{has_number}

@@ -1,17 +1,15 @@
-use Rattle.std.specs.Prelude.{ℕ, Bool, List, Option, Some, None, if◌then◌else◌}
+use Rattle.std.specs.Prelude.{ℕ, Bool, List, Some, None, if◌then◌else◌}
 use Rattle.pr_num.specs.declared.faults.Flt.{Flt}
 use Rattle.pr_num.specs.declared.syscalls.Sysno.{Sysno}
-use Rattle.pr_model.specs.Changes.{Change, all_changed}
 use Rattle.pr_model.specs.Machines.{Machine}
 use Rattle.pr_model.specs.PendingSignals.{taken}
 use Rattle.pr_model.specs.Registers.{stored}
-use Rattle.pr_model.specs.State.{LwpOf, ProcessOf, SystemOf, with_lwp_of}
+use Rattle.pr_model.specs.State.{LwpOf}
 use Rattle.pr_model.specs.declared.events.Res.{Res}
 use Rattle.pr_model.specs.declared.frames.Frame.{Frame}
 use Rattle.pr_model.specs.declared.lwps.Current.{Current}
 
--- What a turn makes of its lwp itself, as data: a row a kind of move. A turn makes its changes of the system first, and
--- then one move.
+-- What a turn makes of its lwp itself, as data: a row a kind of move.
 
 pub data Move : Type 0 where
   -- nothing
@@ -56,8 +54,3 @@ module _ {C H K : Type 0} (m : Machine C H K) where
   moved drops l = record l { current = None }
   moved (catches frames regs held) l =
       record l { frames = frames; regs = regs; held = held; current = None; phase = m.in_user }
-
-  -- What a turn of the lwp of an id makes of the system, which with its process was as is said here when it began: its
-  -- changes, and then its move.
-  unfoldable pub after_turn : ℕ → ProcessOf C H K → ℕ → LwpOf H K → List Change → Move → SystemOf C H K → SystemOf C H K
-  after_turn pid p id l changes move s = with_lwp_of pid id (moved move) (all_changed m pid p id l changes s)

@@ -1,4 +1,4 @@
-use Rattle.std.specs.Prelude.{◌×◌, ◌==◌, ℕ, List, [], ◌∷◌, if◌then◌else◌}
+use Rattle.std.specs.Prelude.{◌==◌, ℕ, List, [], ◌∷◌, if◌then◌else◌}
 
 -- every thing changed but the one under an id
 abbrev pub change_others : {X : Type 0} → ℕ → (X → X) → List (ℕ × X) → List (ℕ × X)

@@ -1,5 +1,4 @@
-use Rattle.std.specs.Prelude.{◌==◌, ◌-◌, ◌<◌, ℕ, Bool, true, false, List, [], ◌∷◌, ◌++◌, Option, Some, None, replicate, slice_index, slice_set, find, length, nat_lt, is_some, if◌then◌else◌}
-use Rattle.pr_num.specs.Sets.{with_number, has_number}
+use Rattle.std.specs.Prelude.{◌-◌, ℕ, Bool, List, [], Option, Some, None, replicate, slice_set, nat_lt}
 use Rattle.pr_num.specs.Signals.{signal_number}
 use Rattle.pr_num.specs.declared.signals.Sig.{Sig}
 use Rattle.pr_model.specs.declared.infos.Info.{Info}

@@ -7,7 +7,7 @@ use Rattle.pr_num.specs.Words.{word_bytes}
 use Rattle.pr_num.specs.declared.errnos.Errno.{Errno}
 use Rattle.pr_num.specs.declared.errnos.Errno.TheVariants.{Inval, Noent, Again, Nomem, Child, Fault, Notsup}
 use Rattle.pr_parts.specs.AddressSpaces.{with_bytes}
-use Rattle.pr_model.specs.Changes.{Change, Effect, sleeps, ends, ends_process, gives, fails, forks, becomes, reaps, space_is}
+use Rattle.pr_model.specs.Changes.{Effect, sleeps, ends, ends_process, gives, fails, forks, becomes, reaps, space_is}
 use Rattle.pr_model.specs.MemoryCalls.{can_write, path_at}
 use Rattle.pr_model.specs.FileCallRows.{word_size}
 use Rattle.pr_model.specs.Readers.{Children, no_child, all_live, first_zombie, process_limit, size_of, total_has_room}

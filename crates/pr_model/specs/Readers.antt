@@ -1,7 +1,5 @@
-use Rattle.std.specs.Prelude.{◌×◌, ◌==◌, ◌&&◌, ◌+◌, ℕ, Bool, List, [], ◌∷◌, Option, Some, None, sum_by, nat_le, if◌then◌else◌}
-use Rattle.pr_num.specs.Programs.{Program}
-use Rattle.pr_num.specs.Spaces.{Space, mapped_size}
-use Rattle.pr_model.specs.ById.{under}
+use Rattle.std.specs.Prelude.{◌==◌, ◌+◌, ℕ, Bool, List, [], ◌∷◌, Option, Some, None, nat_le, if◌then◌else◌}
+use Rattle.pr_num.specs.Spaces.{mapped_size}
 use Rattle.pr_model.specs.PendingSignals.{Pending}
 use Rattle.pr_model.specs.State.{ProcessOf, SystemOf, process_of}
 

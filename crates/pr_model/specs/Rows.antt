@@ -1,24 +1,21 @@
-use Rattle.std.specs.Prelude.{◌&&◌, ℕ, Bool, true, false, List, [], ◌∷◌, Option, Some, None, length, nat_lt, slice_index, if◌then◌else◌}
-use Rattle.pr_num.specs.Signals.{signal_number}
+use Rattle.std.specs.Prelude.{ℕ, Bool, true, false, List, Option, Some, None, length, nat_lt, if◌then◌else◌}
 use Rattle.pr_num.specs.declared.errnos.Errno.TheVariants.{Intr}
 use Rattle.pr_num.specs.declared.faults.Flt.{Flt}
 use Rattle.pr_num.specs.declared.faults.Flt.TheVariants.{Trace, Watch}
 use Rattle.pr_num.specs.declared.signals.Sig.{Sig}
-use Rattle.pr_num.specs.declared.signals.Sig.TheVariants.{Segv}
 use Rattle.pr_num.specs.declared.syscalls.Sysno.{Sysno}
-use Rattle.pr_num.specs.Spaces.{Space}
-use Rattle.pr_parts.specs.AddressSpaces.{with_bytes}
 use Rattle.pr_parts.specs.declared.actions.Action.{Action}
 use Rattle.pr_parts.specs.declared.actions.Action.TheVariants as act
 use Rattle.pr_model.specs.CallEffects.{call_effect}
-use Rattle.pr_model.specs.Changes.{Change, Ending, Effect, does, sleeps as effect_sleeps, ends, ends_process, space_is, takes_shared, job_stops}
-use Rattle.pr_model.specs.InstructionEffects.{InstructionEffect, runs as instruction_runs, calls, faults, runs_into_watch, Store, instruction_effect}
-use Rattle.pr_model.specs.Moves.{Move, stays, stops, posts, returns, runs, enters, incurs, traps, leaves, sleeps, takes, drops, catches}
+use Rattle.pr_model.specs.Changes.{Effect, does, sleeps, ends}
+use Rattle.pr_model.specs.InstructionEffects.{InstructionEffect, runs, calls, faults, runs_into_watch, Store, instruction_effect}
 use Rattle.pr_model.specs.Registers.{arguments, pc_of}
-use Rattle.pr_model.specs.Signals.{own_takeable, shared_takeable, current_of, action_for, frame_limit, with_frame, handler_registers, handler_held}
+use Rattle.pr_model.specs.Signals.{own_takeable, shared_takeable, action_for, frame_limit}
 use Rattle.pr_model.specs.State.{TracedSystem, TracedProcess, TracedLwp}
+use Rattle.pr_model.specs.Transitions.{Transition, requested, posted, interrupted, performed, own_taken, shared_taken, handled, dropped, job_stopped, died, returned, ran, entered, incurred, trapped}
 use Rattle.pr_model.specs.declared.events.Did.{Did}
 use Rattle.pr_model.specs.declared.events.Did.TheVariants.{Stopped, Ran, Entered, Made, Slept, Woke, Returned, Faulted, Posted, Took, Acted}
+use Rattle.pr_model.specs.declared.events.How.{How}
 use Rattle.pr_model.specs.declared.events.How.TheVariants.{Caught, Ignored, JobStop, Died}
 use Rattle.pr_model.specs.declared.events.Res.{Res}
 use Rattle.pr_model.specs.declared.events.Res.TheVariants.{Error, Ended}
@@ -28,39 +25,33 @@ use Rattle.pr_model.specs.declared.lwps.Phase.TheVariants as phase
 use Rattle.pr_model.specs.declared.stops.Point.{Point}
 use Rattle.pr_model.specs.declared.stops.Point.TheVariants.{Signal, Fault, Entry, Exit}
 
--- The rows of the turn table: what one turn of an lwp does, a row a definition. The first that fits is taken.
+-- The rows of the turn table: what one turn of an lwp of the traced machine does, a row a definition. The first that
+-- fits is taken.
 
--- What a turn did; the point that it met, if one; whether it began an instruction; what it changes of the system and
--- what it makes of the lwp; and whether it ends the lwp or its process.
+-- What a turn did; the point that it met, if one; whether it began an instruction; and its transition.
 pub record Row : Type 0 where
   pub did : Did
   pub point : Option Point
   pub begun : Bool
-  pub changes : List Change
-  pub move : Move
-  pub ending : Option Ending
+  pub transition : Transition
 
--- a row that ends nothing and begins no instruction; one that begins an instruction; and one that ends the lwp or its
--- process, and meets nothing
-abbrev pub row : Did → Option Point → List Change → Move → Row
-row did point changes move = record { did = did; point = point; begun = false; changes = changes; move = move; ending = None }
+-- a row that meets nothing; one that meets a point; and one of an instruction that meets a point, or none
+abbrev pub quiet_row : Did → Transition → Row
+quiet_row did t = record { did = did; point = None; begun = false; transition = t }
 
-abbrev pub instruction_row : Did → Option Point → List Change → Move → Row
-instruction_row did point changes move =
-    record { did = did; point = point; begun = true; changes = changes; move = move; ending = None }
+abbrev pub point_row : Did → Point → Transition → Row
+point_row did point t = record { did = did; point = Some point; begun = false; transition = t }
 
-abbrev pub ending_row : Did → Ending → Row
-ending_row did ending = record { did = did; point = None; begun = false; changes = []; move = stays; ending = Some ending }
+abbrev pub instruction_row : Did → Option Point → Transition → Row
+instruction_row did point t = record { did = did; point = point; begun = true; transition = t }
 
--- ---- an lwp that was directed to stop
+-- ---- an lwp that was directed to stop, and one that incurred a fault, whose signal is posted
 
 unfoldable pub requested_row : Row
-requested_row = row Stopped None [] stops
-
--- ---- an lwp that incurred a fault: its signal is posted
+requested_row = quiet_row Stopped requested
 
 unfoldable pub posted_row : Flt → ℕ → Row
-posted_row f address = row (Posted f) None [] (posts f address)
+posted_row f address = quiet_row (Posted f) (posted f address)
 
 -- ---- an lwp in a system call: at one, or asleep in one
 
@@ -71,34 +62,31 @@ finished true call result = Woke call result
 
 -- the call ends with EINTR
 unfoldable pub interrupted_row : Bool → Sysno → List ℕ → Row
-interrupted_row woken call args =
-    row (finished woken call (Error Intr)) (Some (Exit call)) [] (leaves call args (Error Intr))
+interrupted_row woken call args = point_row (finished woken call (Error Intr)) (Exit call) (interrupted call args)
 
--- The call does what it does; since is when its sleep began, or begins.
+-- the call does what it does; one that ends its lwp or its process meets nothing
 unfoldable pub performed_row : Bool → Sysno → List ℕ → ℕ → Effect → Row
 performed_row woken call args since (does result changes) =
-    row (finished woken call result) (Some (Exit call)) changes (leaves call args result)
-performed_row woken call args since effect_sleeps = row (Slept call) None [] (sleeps call args since)
-performed_row woken call args since (ends ending) = ending_row (finished woken call Ended) ending
+    point_row (finished woken call result) (Exit call) (performed call args since (does result changes))
+performed_row woken call args since sleeps = quiet_row (Slept call) (performed call args since sleeps)
+performed_row woken call args since (ends how) = quiet_row (finished woken call Ended) (performed call args since (ends how))
 
--- ---- a signal that is taken
+-- ---- a signal that is taken, from those of the lwp alone, and from those of its process
 
--- from those that pend for the lwp alone, and from those of its process
 unfoldable pub own_taken_row : TracedLwp → Sig → Row
-own_taken_row l s = row (Took s) (Some (Signal s)) [] (takes (current_of s l.pending) true)
+own_taken_row l s = point_row (Took s) (Signal s) (own_taken l s)
 
 unfoldable pub shared_taken_row : TracedProcess → Sig → Row
-shared_taken_row p s = row (Took s) (Some (Signal s)) (takes_shared s ∷ []) (takes (current_of s p.pending) false)
+shared_taken_row p s = point_row (Took s) (Signal s) (shared_taken p s)
 
 -- ---- the current signal, which is acted on
 
--- A handler runs, where its frame has room; else the process ends as by SIGSEGV.
+-- a handler runs, or the process ends where its frame has no room
+abbrev pub handled_how : TracedLwp → How
+handled_how l = if nat_lt (length l.frames) frame_limit then Caught else Died
+
 unfoldable pub handler_row : TracedLwp → Current → ℕ → Row
-handler_row l c handler =
-    if nat_lt (length l.frames) frame_limit
-    then row (Acted c.signal Caught) None []
-        (catches (with_frame l.regs l.held l.frames) (handler_registers c handler l.regs) (handler_held c l.held))
-    else ending_row (Acted c.signal Died) (ends_process (signal_number Segv))
+handler_row l c handler = quiet_row (Acted c.signal (handled_how l)) (handled l c handler)
 
 -- A caught signal first ends the system call in which the lwp is with EINTR, and stays the current one.
 unfoldable pub caught_row : TracedLwp → Current → ℕ → Phase → Row
@@ -111,45 +99,40 @@ unfoldable pub acted_row : TracedProcess → TracedLwp → Current → Row
 acted_row p l c = by (action_for p.dispositions c.signal)
   where
     by : Action → Row
-    by act.Ignore = row (Acted c.signal Ignored) None [] drops
-    by act.Stop = row (Acted c.signal JobStop) None (job_stops c.signal ∷ []) drops
-    by act.Die = ending_row (Acted c.signal Died) (ends_process (signal_number c.signal))
+    by act.Ignore = quiet_row (Acted c.signal Ignored) dropped
+    by act.Stop = quiet_row (Acted c.signal JobStop) (job_stopped c.signal)
+    by act.Die = quiet_row (Acted c.signal Died) (died c.signal)
     by (act.Catch handler) = caught_row l c handler l.phase
 
 -- ---- an lwp on its way out of a call, and one in its program
 
 -- After an instruction, and on the way out of a call, a step mark is used up: FLTTRACE is incurred, and the turn is that
 -- fault's.
-unfoldable pub returned_row : TracedLwp → Sysno → Row
-returned_row l call =
-    if l.control.step then row (Faulted Trace) (Some (Fault Trace)) [] (traps Trace (pc_of l.regs) l.regs)
-    else row (Returned call) None [] returns
+unfoldable pub returned_row : TracedProcess → TracedLwp → Sysno → Row
+returned_row p l call =
+    if l.control.step then point_row (Faulted Trace) (Fault Trace) (trapped Trace (pc_of l.regs) p.space l.regs None)
+    else quiet_row (Returned call) returned
 
-unfoldable pub ran_row : TracedLwp → List ℕ → List Change → Row
-ran_row l regs changes =
-    if l.control.step then instruction_row (Faulted Trace) (Some (Fault Trace)) changes (traps Trace (pc_of regs) regs)
-    else instruction_row Ran None changes (runs regs)
+unfoldable pub ran_row : TracedProcess → TracedLwp → List ℕ → Option Store → Row
+ran_row p l regs store =
+    if l.control.step then instruction_row (Faulted Trace) (Some (Fault Trace)) (trapped Trace (pc_of regs) p.space regs store)
+    else instruction_row Ran None (ran p.space regs store)
 
 unfoldable pub entered_row : Sysno → List ℕ → Row
-entered_row call regs = instruction_row (Entered call) (Some (Entry call)) [] (enters call regs)
+entered_row call regs = instruction_row (Entered call) (Some (Entry call)) (entered call regs)
 
 unfoldable pub incurred_row : Flt → ℕ → Row
-incurred_row f address = instruction_row (Faulted f) (Some (Fault f)) [] (incurs f address)
+incurred_row f address = instruction_row (Faulted f) (Some (Fault f)) (incurred f address)
 
 -- a watched area that traps after the access prevails over a step mark, which it uses up too
-unfoldable pub watched_row : ℕ → List ℕ → List Change → Row
-watched_row address regs changes = instruction_row (Faulted Watch) (Some (Fault Watch)) changes (traps Watch address regs)
-
--- what an instruction stores, as a change
-unfoldable pub stored_in : Space → Option Store → List Change
-stored_in space None = []
-stored_in space (Some store) = space_is (with_bytes store.at store.bytes space) ∷ []
+unfoldable pub watched_row : ℕ → TracedProcess → List ℕ → Option Store → Row
+watched_row address p regs store = instruction_row (Faulted Watch) (Some (Fault Watch)) (trapped Watch address p.space regs store)
 
 unfoldable pub executed_row : TracedProcess → TracedLwp → InstructionEffect → Row
-executed_row p l (instruction_runs regs store) = ran_row l regs (stored_in p.space store)
+executed_row p l (runs regs store) = ran_row p l regs store
 executed_row p l (calls call regs) = entered_row call regs
 executed_row p l (faults f address) = incurred_row f address
-executed_row p l (runs_into_watch address regs store) = watched_row address regs (stored_in p.space store)
+executed_row p l (runs_into_watch address regs store) = watched_row address p regs store
 
 -- ---- the table
 
@@ -165,7 +148,7 @@ module _ (s : TracedSystem) (pid : ℕ) (p : TracedProcess) (id : ℕ) (l : Trac
   row_in phase.User = executed_row p l (instruction_effect p.space p.control.areas l.regs)
   row_in (phase.Entered call) = call_row false call (arguments l.regs) s.clock
   row_in (phase.Asleep call args since) = call_row true call args since
-  row_in (phase.Exiting call args result) = returned_row l call
+  row_in (phase.Exiting call args result) = returned_row p l call
   row_in (phase.Faulted f address) = posted_row f address
 
   -- a signal is taken if there is one, from those of the lwp first

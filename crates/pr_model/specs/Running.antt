@@ -1,13 +1,13 @@
-use Rattle.std.specs.Prelude.{◌×◌, ◌==◌, ◌&&◌, ◌||◌, ℕ, Bool, true, false, not, List, Option, Some, None, if◌then◌else◌}
+use Rattle.std.specs.Prelude.{◌==◌, ◌&&◌, ◌||◌, ℕ, Bool, true, false, not, List, Option, Some, None, if◌then◌else◌}
 use Rattle.std.specs.List.{list_all}
 use Rattle.pr_num.specs.Agents.{agent_id}
 use Rattle.pr_num.specs.Control.{has_flags, clear_signal, clear_fault, single_step, abort_call, stop_again}
 use Rattle.pr_num.specs.declared.signals.Sig.{Sig}
-use Rattle.pr_model.specs.ById.{change_under, map_each}
+use Rattle.pr_num.specs.ById.{change_under, map_each}
 use Rattle.pr_model.specs.State.{TracedProcess, TracedLwp, has_agent, with_lwp}
 use Rattle.pr_model.specs.Stops.{shown, has_event_stop, representative}
 use Rattle.pr_model.specs.declared.lwps.Phase.{Phase}
-use Rattle.pr_model.specs.declared.lwps.Phase.TheVariants.{User, Entered, Asleep, Exiting, Faulted as AtFault}
+use Rattle.pr_model.specs.declared.lwps.Phase.TheVariants.{User, Asleep, Faulted as AtFault}
 use Rattle.pr_model.specs.declared.stops.Stop.{Stop}
 use Rattle.pr_model.specs.declared.stops.Stop.TheVariants.{Requested, Signalled, SysEntry, SysExit, Faulted}
 use Rattle.pr_model.specs.declared.stops.Shown.{Shown}

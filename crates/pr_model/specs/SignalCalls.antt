@@ -6,9 +6,11 @@ use Rattle.pr_num.specs.declared.signals.Sig.{Sig}
 use Rattle.pr_num.specs.declared.signals.Sig.TheVariants.{Kill, Stop}
 use Rattle.pr_model.specs.Changes.{Effect, gives, fails, ends, ends_process, signals, disposition_is, held_is, resumes}
 use Rattle.pr_model.specs.Lives.{signal_count}
+use Rattle.pr_model.specs.Machines.{Machine}
 use Rattle.pr_model.specs.PendingSignals.{Pending, has_room}
 use Rattle.pr_model.specs.Readers.{Life, gone, a_zombie, live}
-use Rattle.pr_model.specs.Signals.{is_kill, disposition_of}
+use Rattle.pr_model.specs.Signals.{generated, is_kill, disposition_of}
+use Rattle.pr_model.specs.State.{SystemOf}
 use Rattle.pr_model.specs.declared.frames.Frame.{Frame}
 use Rattle.pr_model.specs.declared.infos.Info.{Info}
 
@@ -42,6 +44,12 @@ sent_effect own target info (refuses e) = fails e
 sent_effect own target info sends_nothing = gives 0 []
 sent_effect own target info (sends s) =
     if is_kill s && (target == own) then ends (ends_process (signal_number s)) else gives 0 (signals target s info ∷ [])
+
+-- what comes of it in the system, where it is sent from outside
+unfoldable pub with_sent : {C H K : Type 0} → Machine C H K → ℕ → Info → Sending → SystemOf C H K → SystemOf C H K
+with_sent m target info (refuses e) system = system
+with_sent m target info sends_nothing system = system
+with_sent m target info (sends s) system = generated m target None s info system
 
 -- kill(2) and sigqueue(3C)
 unfoldable pub send_effect : ℕ → ℕ → ℕ → Info → Life → Effect

@@ -1,4 +1,4 @@
-use Rattle.std.specs.Prelude.{◌×◌, ◌-◌, ℕ, Bool, true, false, List, ◌∷◌, [], ◌++◌, Option, Some, None, is_some, length, nat_lt, slice_index, slice_set, option_map, if◌then◌else◌}
+use Rattle.std.specs.Prelude.{◌-◌, ℕ, Bool, true, false, List, ◌∷◌, [], ◌++◌, Option, is_some, slice_index, slice_set, if◌then◌else◌}
 use Rattle.pr_num.specs.Sets.{minus_word, with_number}
 use Rattle.pr_num.specs.Signals.{signal_number, least_signal}
 use Rattle.pr_num.specs.declared.signals.Sig.{Sig}
@@ -8,7 +8,7 @@ use Rattle.pr_parts.specs.declared.actions.Action.{Action}
 use Rattle.pr_model.specs.Generation.{told}
 use Rattle.pr_model.specs.Lives.{with_ended}
 use Rattle.pr_model.specs.Machines.{Machine}
-use Rattle.pr_model.specs.PendingSignals.{Pending, pending_set, info_of, taken}
+use Rattle.pr_model.specs.PendingSignals.{Pending, pending_set, info_of}
 use Rattle.pr_model.specs.Registers.{with_pc}
 use Rattle.pr_model.specs.State.{LwpOf, ProcessOf, SystemOf, with_process}
 use Rattle.pr_model.specs.declared.frames.Frame.{Frame}
@@ -35,11 +35,11 @@ module _ {C H K : Type 0} (m : Machine C H K) where
 
 -- ---- taking
 
-module _ {C H K : Type 0} where
-  -- the least signal that pends for an lwp alone and that it does not hold; and the least such of its process
-  unfoldable pub own_takeable : LwpOf H K → Option Sig
-  own_takeable l = least_signal (minus_word (pending_set l.pending) l.held)
+-- the least signal that pends for an lwp alone and that it does not hold; and the least such of its process
+unfoldable pub own_takeable : {H K : Type 0} → LwpOf H K → Option Sig
+own_takeable l = least_signal (minus_word (pending_set l.pending) l.held)
 
+module _ {C H K : Type 0} where
   unfoldable pub shared_takeable : ProcessOf C H K → LwpOf H K → Option Sig
   shared_takeable p l = least_signal (minus_word (pending_set p.pending) l.held)
 

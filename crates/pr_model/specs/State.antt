@@ -1,10 +1,10 @@
-use Rattle.std.specs.Prelude.{◌×◌, ℕ, Bool, List, Option, Some, None, is_none, is_some, replicate, if◌then◌else◌, option_and_then}
+use Rattle.std.specs.Prelude.{ℕ, Bool, List, Option, Some, None, is_none, is_some, replicate, if◌then◌else◌, option_and_then}
 use Rattle.pr_num.specs.Agents.{agent_id}
 use Rattle.pr_num.specs.Files.{FileTable, Descriptors}
 use Rattle.pr_num.specs.Programs.{Program}
 use Rattle.pr_num.specs.Spaces.{Space}
 use Rattle.pr_num.specs.declared.mappings.Area.{Area}
-use Rattle.pr_model.specs.ById.{under, change_under}
+use Rattle.pr_num.specs.ById.{under, change_under}
 use Rattle.pr_model.specs.PendingSignals.{Pending}
 use Rattle.pr_model.specs.declared.handles.Held.{Held}
 use Rattle.pr_model.specs.declared.lwps.LwpControl.{LwpControl}

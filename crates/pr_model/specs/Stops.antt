@@ -1,8 +1,8 @@
-use Rattle.std.specs.Prelude.{◌×◌, ◌==◌, ℕ, Bool, true, false, List, [], ◌∷◌, Option, Some, None, find, is_some, option_map, if◌then◌else◌}
+use Rattle.std.specs.Prelude.{◌==◌, ℕ, Bool, true, false, List, Option, Some, None, find, is_some, option_map, if◌then◌else◌}
 use Rattle.std.specs.Option.{option_or}
 use Rattle.pr_num.specs.Agents.{agent_id}
 use Rattle.pr_num.specs.declared.signals.Sig.{Sig}
-use Rattle.pr_model.specs.ById.{map_each}
+use Rattle.pr_num.specs.ById.{map_each}
 use Rattle.pr_model.specs.State.{TracedLwp, TracedProcess, lwp_of}
 use Rattle.pr_model.specs.declared.stops.Stop.{Stop}
 use Rattle.pr_model.specs.declared.stops.Stop.TheVariants.{Requested, Signalled, SysEntry, SysExit, Faulted}
@@ -76,14 +76,14 @@ agent_of p = option_map (λ l. (agent_id, l)) (lwp_of p agent_id)
 unfoldable pub representative : TracedProcess → Option (ℕ × TracedLwp)
 representative p =
     option_or
-        (option_or
-            (option_or
-                (option_or
-                    (option_or (agent_of p) (first_in_class p.job_stop 1 p.lwps))
-                    (first_in_class p.job_stop 2 p.lwps))
-                (first_in_class p.job_stop 3 p.lwps))
-            (first_in_class p.job_stop 4 p.lwps))
-        (first_in_class p.job_stop 5 p.lwps)
+    (option_or
+    (option_or
+    (option_or
+    (option_or (agent_of p) (first_in_class p.job_stop 1 p.lwps))
+    (first_in_class p.job_stop 2 p.lwps))
+    (first_in_class p.job_stop 3 p.lwps))
+    (first_in_class p.job_stop 4 p.lwps))
+    (first_in_class p.job_stop 5 p.lwps)
 
 -- whether an lwp, if there is one, stands on an event of interest
 abbrev pub stands_on_event : Option TracedLwp → Bool

@@ -24,7 +24,7 @@ pub use histories::History;
 pub use infos::{Info, Queued};
 pub use laws::{history_grows_at_its_end, trace_is_that_of_the_steps};
 pub use lwps::{Current, Lwp, LwpControl, LwpOf, PC, Phase};
-pub use processes::{Control, ProcessOf, Usage};
+pub use processes::{Control, Process, ProcessOf, Usage};
 pub use states::{State, System};
 pub use steps::{Step, Steps, Trace};
 pub use stops::{Point, Shown, Stop};

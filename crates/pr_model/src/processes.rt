@@ -1,4 +1,5 @@
-use pr_num::{FltSet, Modes, Name, Sig, SigSet, SysSet};
+use crate::Lwp;
+use pr_num::{ById, FltSet, Modes, Name, Sig, SigSet, SysSet};
 
 /// What a process has used, counted from its making (proc(4), "usage").
 #[derive(Clone, Copy, Debug, PartialEq, Eq)]
@@ -54,3 +55,6 @@ pub struct Control<A> {
     pub areas: A,
     pub usage: Usage,
 }
+
+/// A process of the traced machine. `A` is how watched areas are kept.
+pub type Process<S, F, P, A> = ProcessOf<S, F, P, ById<Lwp<P>>, Control<A>>;
