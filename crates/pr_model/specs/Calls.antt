@@ -1,11 +1,18 @@
-use Rattle.std.specs.Prelude.{◌==◌, ◌||◌, ◌-◌, ◌^◌, ℕ, Bool, Option, Some, None, is_none, option_map, position, nat_lt, if◌then◌else◌}
+use Rattle.std.specs.Prelude.{◌==◌, ◌||◌, ◌-◌, ◌^◌, ℕ, Bool, true, false, List, Option, Some, None, Result, Ok, Err, is_none, option_map, position, take, drop, nat_lt, if◌then◌else◌}
 use Rattle.std.specs.Int.{bit_at}
+use Rattle.pr_num.specs.Messages.{first_message}
+use Rattle.pr_num.specs.Words.{words_bytes}
 use Rattle.pr_num.specs.declared.errnos.Errno.{Errno}
 use Rattle.pr_num.specs.declared.errnos.Errno.TheVariants.{Inval, Noent, Badf, Mfile, Intr}
-use Rattle.pr_model.specs.ControlMessages.{Controlled, control_answer, wait_reply}
-use Rattle.pr_model.specs.Handles.{is_control, handle_of, open_refusal, with_opened, with_closed}
+use Rattle.pr_num.specs.declared.messages.Message.{Message}
+use Rattle.pr_num.specs.declared.messages.MsgFault.{MsgFault}
+use Rattle.pr_rec.specs.RecordWords.{status_words_of}
+use Rattle.pr_model.specs.Built.{is_built_message, is_built_read}
+use Rattle.pr_model.specs.ControlMessages.{control_answer, wait_reply}
+use Rattle.pr_model.specs.Handles.{is_control, is_of_lwp, handle_of, open_refusal, with_opened, with_closed}
+use Rattle.pr_model.specs.Messages.{Controlled}
 use Rattle.pr_model.specs.State.{TracedState, TracedProcess, live_process}
-use Rattle.pr_model.specs.StatusRecords.{status_words, part_read}
+use Rattle.pr_model.specs.Statuses.{status_of}
 use Rattle.pr_model.specs.declared.calls.Call.{Call}
 use Rattle.pr_model.specs.declared.calls.Call.TheVariants.{Open, Close, Ctl, CtlWait, Read, Poll, Interrupt, Spawn, Kill, Until, List as ListProcesses}
 use Rattle.pr_model.specs.declared.calls.File.{File}
@@ -25,6 +32,8 @@ pub record Answer : Type 0 where
 -- a call refused: nothing changes
 abbrev pub refused : TracedState → Errno → Answer
 refused s e = record { state = s; reply = Fail e }
+
+-- ---- opening and closing
 
 -- An open answers the least number that is free, and is refused last of all where none is.
 abbrev pub opened : TracedState → Held → Option ℕ → Answer
@@ -46,34 +55,49 @@ close_held s handle (Some h) = record { state = with_closed h handle s; reply = 
 unfoldable pub close_answer : TracedState → ℕ → ℕ → Answer
 close_answer s by handle = close_held s handle (handle_of s.opens by handle)
 
+-- ---- reading
+
 -- the longest read, in bytes
 abbrev pub longest_read : ℕ
-longest_read = 16384
+longest_read = 20480
+
+-- The part of a record that a read from a byte on gets, at most so many bytes.
+unfoldable pub part_read : List ℕ → ℕ → ℕ → List ℕ
+part_read bytes from len = take len (drop from bytes)
+
+abbrev pub answered : TracedState → Reply → Answer
+answered s reply = record { state = s; reply = reply }
+
+-- the bytes of a record, from a byte on
+abbrev pub part_answer : TracedState → List ℕ → ℕ → ℕ → Answer
+part_answer s bytes from len = answered s (Bytes (part_read bytes from len))
 
 -- the status of a process that is live
-abbrev pub read_status : TracedState → Option TracedProcess → ℕ → ℕ → Answer
-read_status s None from len = refused s Noent
-read_status s (Some p) from len = record { state = s; reply = Bytes (part_read (status_words p) from len) }
+abbrev pub read_status : TracedState → ℕ → Option TracedProcess → ℕ → ℕ → Answer
+read_status s pid None from len = refused s Noent
+read_status s pid (Some p) from len = part_answer s (words_bytes (status_words_of (status_of pid p))) from len
 
--- Reading what a handle stands for, a row a file. None: the record is not built yet.
-abbrev pub read_file : TracedState → Held → ℕ → ℕ → File → Option Answer
-read_file s h from len Status = Some (read_status s (live_process s.system h.pid) from len)
-read_file s h from len _ = None
+-- Reading what a handle stands for, a row a file.
+unfoldable pub read_file : TracedState → Held → ℕ → ℕ → File → Answer
+read_file s h from len Status = read_status s h.pid (live_process s.system h.pid) from len
+read_file s h from len _ = refused s Noent
 
 -- a handle that can be read
 abbrev pub readable : Option Held → Option Held
 readable None = None
 readable (Some h) = if is_control h.file then None else Some h
 
-abbrev pub read_held : TracedState → Option Held → ℕ → ℕ → Option Answer
-read_held s None from len = Some (refused s Badf)
+abbrev pub read_held : TracedState → Option Held → ℕ → ℕ → Answer
+read_held s None from len = refused s Badf
 read_held s (Some h) from len =
-    if (len == 0) || nat_lt longest_read len then Some (refused s Inval) else read_file s h from len h.file
+    if (len == 0) || nat_lt longest_read len then refused s Inval else read_file s h from len h.file
 
--- A read's refusals come in the order: no such handle or one of a control file, a length of 0 or above 16,384, the
+-- A read's refusals come in the order: no such handle or one of a control file, a length of 0 or above 20,480, the
 -- process or the lwp has ended.
-unfoldable pub read_answer : TracedState → ℕ → ℕ → ℕ → ℕ → Option Answer
+unfoldable pub read_answer : TracedState → ℕ → ℕ → ℕ → ℕ → Answer
 read_answer s by handle from len = read_held s (readable (handle_of s.opens by handle)) from len
+
+-- ---- control messages
 
 -- control messages change the system alone
 abbrev pub controlled : TracedState → Controlled → Answer
@@ -89,19 +113,55 @@ with_interrupt_seen by s = record s { interrupted = s.interrupted - 2 ^ by }
 -- a wait changes nothing, but that EINTR is how a controller sees that it was interrupted
 abbrev pub waited : TracedState → ℕ → Reply → Answer
 waited s by (Fail Intr) = refused (with_interrupt_seen by s) Intr
-waited s by reply = record { state = s; reply = reply }
+waited s by reply = answered s reply
 
--- The answer to a call of a controller, a row a call. None: the call is not ready, or not built yet.
-unfoldable pub answer_to : TracedState → ℕ → Call → Option Answer
-answer_to s by (Open pid id file mode) = Some (open_answer s by pid id file mode)
-answer_to s by (Close handle) = Some (close_answer s by handle)
-answer_to s by (Ctl handle bytes) = option_map (controlled s) (control_answer s.system s.opens by handle bytes)
-answer_to s by (CtlWait handle until bytes) =
+-- ---- the calls
+
+-- What the machine answers to a call of a controller, a row a call. None: the call is not ready, which a wait alone can
+-- be.
+unfoldable pub whole_answer : TracedState → ℕ → Call → Option Answer
+whole_answer s by (Open pid id file mode) = Some (open_answer s by pid id file mode)
+whole_answer s by (Close handle) = Some (close_answer s by handle)
+whole_answer s by (Ctl handle bytes) = Some (controlled s (control_answer s.system s.opens by handle bytes))
+whole_answer s by (CtlWait handle until bytes) =
     option_map (waited s by) (wait_reply s.system s.opens by handle until (is_interrupted s by) bytes)
-answer_to s by (Read handle from len) = read_answer s by handle from len
-answer_to s by (Poll handles) = None
-answer_to s by (Interrupt controller) = None
-answer_to s by (Spawn program held) = None
-answer_to s by (Kill pid sig) = None
-answer_to s by (Until moment) = None
-answer_to s by ListProcesses = None
+whole_answer s by (Read handle from len) = Some (read_answer s by handle from len)
+whole_answer s by (Poll handles) = None
+whole_answer s by (Interrupt controller) = None
+whole_answer s by (Spawn program held) = None
+whole_answer s by (Kill pid sig) = None
+whole_answer s by (Until moment) = None
+whole_answer s by ListProcesses = None
+
+-- ---- what is built
+
+-- whether what a handle stands for takes the message with which bytes begin
+abbrev pub is_built_decoded : Held → Result (Message × ℕ) MsgFault → Bool
+is_built_decoded h (Err fault) = true
+is_built_decoded h (Ok (m, len)) = is_built_message (is_of_lwp h.file) m
+
+abbrev pub is_built_ctl : Option Held → List ℕ → Bool
+is_built_ctl None bytes = true
+is_built_ctl (Some h) bytes = is_built_decoded h (first_message bytes)
+
+abbrev pub is_built_read_of : Option Held → Bool
+is_built_read_of None = true
+is_built_read_of (Some h) = is_control h.file || is_built_read h.file
+
+-- whether a call is built, a row a call
+unfoldable pub is_built_call : TracedState → ℕ → Call → Bool
+is_built_call s by (Open pid id file mode) = true
+is_built_call s by (Close handle) = true
+is_built_call s by (Ctl handle bytes) = is_built_ctl (handle_of s.opens by handle) bytes
+is_built_call s by (CtlWait handle until bytes) = true
+is_built_call s by (Read handle from len) = is_built_read_of (handle_of s.opens by handle)
+is_built_call s by (Poll handles) = false
+is_built_call s by (Interrupt controller) = false
+is_built_call s by (Spawn program held) = false
+is_built_call s by (Kill pid sig) = false
+is_built_call s by (Until moment) = false
+is_built_call s by ListProcesses = false
+
+-- The answer to a call of a controller. None: the call is not ready.
+unfoldable pub answer_to : TracedState → ℕ → Call → Option Answer
+answer_to s by call = if is_built_call s by call then whole_answer s by call else None
