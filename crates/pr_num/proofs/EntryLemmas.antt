@@ -14,6 +14,7 @@ use Rattle.pr_num.specs.declared.syscalls.Sysno.{Sysno}
 use Rattle.pr_num.specs.declared.syscalls.Sysno.TheVariants.{Exit}
 use Rattle.pr_num.specs.declared.stop_reasons.StopReason.{StopReason}
 use Rattle.pr_num.specs.declared.stop_reasons.StopReason.TheVariants.{Requested}
+use Rattle.pr_num.specs.Limits.{signal_count, syscall_count}
 use Rattle.pr_num.specs.Tables.{entry_at}
 use Rattle.pr_num.specs.Signals.{signals, signal_number, signal_name, signal_of_number, signal_of_name, is_named as is_signal_named}
 use Rattle.pr_num.specs.Faults.{faults, fault_number, fault_name, fault_of_number, fault_of_name, is_named as is_fault_named}
@@ -53,7 +54,7 @@ pub signal_number-of_number : (n : ℕ) (found : Sig) → signal_of_number n ≡
 unfolding signal_of_number
 signal_number-of_number n found e = number-entry_at signal_number signals signals_counted n found e
 
-pub signal_numbers-range : (n : ℕ) → IsSome (signal_of_number n) ↔ ((1 ≤ n) × (n ≤ 31))
+pub signal_numbers-range : (n : ℕ) → IsSome (signal_of_number n) ↔ ((1 ≤ n) × (n ≤ signal_count))
 unfolding signal_of_number
 signal_numbers-range n = IsSome-entry_at signals n
 
@@ -148,7 +149,7 @@ pub syscall_number-of_number : (n : ℕ) (found : Sysno) → syscall_of_number n
 unfolding syscall_of_number
 syscall_number-of_number n found e = number-entry_at syscall_number syscalls syscalls_counted n found e
 
-pub syscall_numbers-range : (n : ℕ) → IsSome (syscall_of_number n) ↔ ((1 ≤ n) × (n ≤ 29))
+pub syscall_numbers-range : (n : ℕ) → IsSome (syscall_of_number n) ↔ ((1 ≤ n) × (n ≤ syscall_count))
 unfolding syscall_of_number
 syscall_numbers-range n = IsSome-entry_at syscalls n
 

@@ -6,6 +6,7 @@ use Rattle.pr_num.specs.declared.signals.Sig.{Sig}
 use Rattle.pr_num.specs.declared.faults.Flt.{Flt}
 use Rattle.pr_num.specs.declared.syscalls.Sysno.{Sysno}
 use Rattle.pr_num.specs.Sets.{has_number, least_entry}
+use Rattle.pr_num.specs.Limits.{signal_count, syscall_count}
 use Rattle.pr_num.specs.Tables.{entry_at}
 use Rattle.pr_num.specs.Signals.{signals, signal_number, least_signal}
 use Rattle.pr_num.specs.Faults.{faults, fault_number, least_fault}
@@ -121,7 +122,7 @@ pub least_signal-zero : least_signal 0 ≡ None
 unfolding least_signal
 least_signal-zero = least_entry-zero signal_number signals
 
-pub zero-least_signal : (w : ℕ) → w < 2 ^ 31 → IsNone (least_signal w) → w ≡ 0
+pub zero-least_signal : (w : ℕ) → w < 2 ^ signal_count → IsNone (least_signal w) → w ≡ 0
 unfolding least_signal
 zero-least_signal w small e = zero-from-none signal_number w signals signals_counted small (from_is_none _ e)
 
@@ -137,7 +138,7 @@ pub least_syscall-zero : least_syscall 0 ≡ None
 unfolding least_syscall
 least_syscall-zero = least_entry-zero syscall_number syscalls
 
-pub zero-least_syscall : (w : ℕ) → w < 2 ^ 29 → IsNone (least_syscall w) → w ≡ 0
+pub zero-least_syscall : (w : ℕ) → w < 2 ^ syscall_count → IsNone (least_syscall w) → w ≡ 0
 unfolding least_syscall
 zero-least_syscall w small e = zero-from-none syscall_number w syscalls syscalls_counted small (from_is_none _ e)
 

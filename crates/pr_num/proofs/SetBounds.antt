@@ -34,19 +34,19 @@ union_word-lt-4 = union_word-lt 4
 pub union_word-lt-8 : (a b : ℕ) → a < 2 ^ 8 → b < 2 ^ 8 → union_word a b < 2 ^ 8
 union_word-lt-8 = union_word-lt 8
 
-pub union_word-lt-29 : (a b : ℕ) → a < 2 ^ 29 → b < 2 ^ 29 → union_word a b < 2 ^ 29
-union_word-lt-29 = union_word-lt 29
+pub union_word-lt-30 : (a b : ℕ) → a < 2 ^ 30 → b < 2 ^ 30 → union_word a b < 2 ^ 30
+union_word-lt-30 = union_word-lt 30
 
-pub union_word-lt-31 : (a b : ℕ) → a < 2 ^ 31 → b < 2 ^ 31 → union_word a b < 2 ^ 31
-union_word-lt-31 = union_word-lt 31
+pub union_word-lt-39 : (a b : ℕ) → a < 2 ^ 39 → b < 2 ^ 39 → union_word a b < 2 ^ 39
+union_word-lt-39 = union_word-lt 39
 
 pub with_number-lt-8 : (w n : ℕ) → w < 2 ^ 8 → 1 ≤ n → n ≤ 8 → with_number w n < 2 ^ 8
 with_number-lt-8 = with_number-lt 8
 
-pub with_number-lt-29 : (w n : ℕ) → w < 2 ^ 29 → 1 ≤ n → n ≤ 29 → with_number w n < 2 ^ 29
-with_number-lt-29 = with_number-lt 29
+pub with_number-lt-30 : (w n : ℕ) → w < 2 ^ 30 → 1 ≤ n → n ≤ 30 → with_number w n < 2 ^ 30
+with_number-lt-30 = with_number-lt 30
 
-pub with_number-lt-31 : (w n : ℕ) → w < 2 ^ 31 → 1 ≤ n → n ≤ 31 → with_number w n < 2 ^ 31
-with_number-lt-31 = with_number-lt 31
+pub with_number-lt-39 : (w n : ℕ) → w < 2 ^ 39 → 1 ≤ n → n ≤ 39 → with_number w n < 2 ^ 39
+with_number-lt-39 = with_number-lt 39
 
-pub ruleset set_bounds = (union_word-lt-3, union_word-lt-4, union_word-lt-8, union_word-lt-29, union_word-lt-31, with_number-lt-8, with_number-lt-29, with_number-lt-31, common_word-le, minus_word-le, without_number-le)
+pub ruleset set_bounds = (union_word-lt-3, union_word-lt-4, union_word-lt-8, union_word-lt-30, union_word-lt-39, with_number-lt-8, with_number-lt-30, with_number-lt-39, common_word-le, minus_word-le, without_number-le)

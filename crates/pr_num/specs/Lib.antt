@@ -5,8 +5,10 @@ pub mod Control
 pub mod Errnos
 pub mod Faults
 pub mod Files
+pub mod Infos
 pub mod Instructions
 pub mod KeyedTables
+pub mod Limits
 pub mod Messages
 pub mod Padding
 pub mod Programs

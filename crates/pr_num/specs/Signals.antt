@@ -3,14 +3,14 @@ use Rattle.std.specs.Str.{bytes_eq}
 use Rattle.pr_num.specs.Sets.{without_number, least_entry}
 use Rattle.pr_num.specs.Tables.{entry_at}
 use Rattle.pr_num.specs.declared.signals.Sig.{Sig}
-use Rattle.pr_num.specs.declared.signals.Sig.TheVariants.{Hup, Int, Quit, Ill, Trap, Abrt, Emt, Fpe, Kill, Bus, Segv, Sys, Pipe, Alrm, Term, Usr1, Usr2, Cld, Pwr, Winch, Urg, Poll, Stop, Tstp, Cont, Ttin, Ttou, Vtalrm, Prof, Xcpu, Xfsz}
+use Rattle.pr_num.specs.declared.signals.Sig.TheVariants.{Hup, Int, Quit, Ill, Trap, Abrt, Emt, Fpe, Kill, Bus, Segv, Sys, Pipe, Alrm, Term, Usr1, Usr2, Cld, Pwr, Winch, Urg, Poll, Stop, Tstp, Cont, Ttin, Ttou, Vtalrm, Prof, Xcpu, Xfsz, Rt0, Rt1, Rt2, Rt3, Rt4, Rt5, Rt6, Rt7}
 use Rattle.pr_num.specs.declared.signals.DefAct.{DefAct}
 use Rattle.pr_num.specs.declared.signals.DefAct.TheVariants.{Die, Ignore}
 use Rattle.pr_num.specs.declared.signals.DefAct.TheVariants.{Stop as StopProcess}
 
 -- every signal, in the order of its number, which counts from 1
 abbrev pub signals : List Sig
-signals = Hup ∷ Int ∷ Quit ∷ Ill ∷ Trap ∷ Abrt ∷ Emt ∷ Fpe ∷ Kill ∷ Bus ∷ Segv ∷ Sys ∷ Pipe ∷ Alrm ∷ Term ∷ Usr1 ∷ Usr2 ∷ Cld ∷ Pwr ∷ Winch ∷ Urg ∷ Poll ∷ Stop ∷ Tstp ∷ Cont ∷ Ttin ∷ Ttou ∷ Vtalrm ∷ Prof ∷ Xcpu ∷ Xfsz ∷ []
+signals = Hup ∷ Int ∷ Quit ∷ Ill ∷ Trap ∷ Abrt ∷ Emt ∷ Fpe ∷ Kill ∷ Bus ∷ Segv ∷ Sys ∷ Pipe ∷ Alrm ∷ Term ∷ Usr1 ∷ Usr2 ∷ Cld ∷ Pwr ∷ Winch ∷ Urg ∷ Poll ∷ Stop ∷ Tstp ∷ Cont ∷ Ttin ∷ Ttou ∷ Vtalrm ∷ Prof ∷ Xcpu ∷ Xfsz ∷ Rt0 ∷ Rt1 ∷ Rt2 ∷ Rt3 ∷ Rt4 ∷ Rt5 ∷ Rt6 ∷ Rt7 ∷ []
 
 -- the number of a signal (signal.h(3HEAD))
 unfoldable pub signal_number : Sig → ℕ
@@ -45,6 +45,14 @@ signal_number Vtalrm = 28
 signal_number Prof = 29
 signal_number Xcpu = 30
 signal_number Xfsz = 31
+signal_number Rt0 = 32
+signal_number Rt1 = 33
+signal_number Rt2 = 34
+signal_number Rt3 = 35
+signal_number Rt4 = 36
+signal_number Rt5 = 37
+signal_number Rt6 = 38
+signal_number Rt7 = 39
 
 -- the name of a signal, with SIG
 unfoldable pub signal_name : Sig → List ℕ
@@ -79,6 +87,14 @@ signal_name Vtalrm = codes "SIGVTALRM"
 signal_name Prof = codes "SIGPROF"
 signal_name Xcpu = codes "SIGXCPU"
 signal_name Xfsz = codes "SIGXFSZ"
+signal_name Rt0 = codes "SIGRT0"
+signal_name Rt1 = codes "SIGRT1"
+signal_name Rt2 = codes "SIGRT2"
+signal_name Rt3 = codes "SIGRT3"
+signal_name Rt4 = codes "SIGRT4"
+signal_name Rt5 = codes "SIGRT5"
+signal_name Rt6 = codes "SIGRT6"
+signal_name Rt7 = codes "SIGRT7"
 
 -- whether these bytes name the signal: its name, with or without SIG
 abbrev pub is_named : List ℕ → Sig → Bool
@@ -117,6 +133,14 @@ default_action Vtalrm = Die
 default_action Prof = Die
 default_action Xcpu = Die
 default_action Xfsz = Die
+default_action Rt0 = Die
+default_action Rt1 = Die
+default_action Rt2 = Die
+default_action Rt3 = Die
+default_action Rt4 = Die
+default_action Rt5 = Die
+default_action Rt6 = Die
+default_action Rt7 = Die
 
 -- what of a set of signals an lwp can hold: all but SIGKILL and SIGSTOP (sigprocmask(2))
 unfoldable pub holdable_word : ℕ → ℕ

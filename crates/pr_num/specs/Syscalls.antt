@@ -3,13 +3,13 @@ use Rattle.std.specs.Str.{bytes_eq}
 use Rattle.pr_num.specs.Sets.{least_entry}
 use Rattle.pr_num.specs.Tables.{entry_at}
 use Rattle.pr_num.specs.declared.syscalls.Sysno.{Sysno}
-use Rattle.pr_num.specs.declared.syscalls.Sysno.TheVariants.{Exit, Fork, Read, Write, Open, Close, Wait, Getpid, Getppid, Exec, Pipe, Dup, Lseek, Kill, Sigaction, Sigmask, Pause, Sigreturn, Brk, Mmap, Munmap, Mprotect, Time, Sleep, LwpCreate, LwpExit, LwpSuspend, LwpContinue, Fstat}
+use Rattle.pr_num.specs.declared.syscalls.Sysno.TheVariants.{Exit, Fork, Read, Write, Open, Close, Wait, Getpid, Getppid, Exec, Pipe, Dup, Lseek, Kill, Sigaction, Sigmask, Pause, Sigreturn, Brk, Mmap, Munmap, Mprotect, Time, Sleep, LwpCreate, LwpExit, LwpSuspend, LwpContinue, Fstat, Sigqueue}
 use Rattle.pr_num.specs.declared.syscalls.ArgKind.{ArgKind}
 use Rattle.pr_num.specs.declared.syscalls.ArgKind.TheVariants.{Dec, Hex, Text, Buf}
 
 -- every system call, in the order of its number, which counts from 1
 abbrev pub syscalls : List Sysno
-syscalls = Exit ∷ Fork ∷ Read ∷ Write ∷ Open ∷ Close ∷ Wait ∷ Getpid ∷ Getppid ∷ Exec ∷ Pipe ∷ Dup ∷ Lseek ∷ Kill ∷ Sigaction ∷ Sigmask ∷ Pause ∷ Sigreturn ∷ Brk ∷ Mmap ∷ Munmap ∷ Mprotect ∷ Time ∷ Sleep ∷ LwpCreate ∷ LwpExit ∷ LwpSuspend ∷ LwpContinue ∷ Fstat ∷ []
+syscalls = Exit ∷ Fork ∷ Read ∷ Write ∷ Open ∷ Close ∷ Wait ∷ Getpid ∷ Getppid ∷ Exec ∷ Pipe ∷ Dup ∷ Lseek ∷ Kill ∷ Sigaction ∷ Sigmask ∷ Pause ∷ Sigreturn ∷ Brk ∷ Mmap ∷ Munmap ∷ Mprotect ∷ Time ∷ Sleep ∷ LwpCreate ∷ LwpExit ∷ LwpSuspend ∷ LwpContinue ∷ Fstat ∷ Sigqueue ∷ []
 
 -- the number of a call, of this project's own
 unfoldable pub syscall_number : Sysno → ℕ
@@ -42,6 +42,7 @@ syscall_number LwpExit = 26
 syscall_number LwpSuspend = 27
 syscall_number LwpContinue = 28
 syscall_number Fstat = 29
+syscall_number Sigqueue = 30
 
 -- the name of a call (section 2 of the manual)
 unfoldable pub syscall_name : Sysno → List ℕ
@@ -74,6 +75,7 @@ syscall_name LwpExit = codes "lwp_exit"
 syscall_name LwpSuspend = codes "lwp_suspend"
 syscall_name LwpContinue = codes "lwp_continue"
 syscall_name Fstat = codes "fstat"
+syscall_name Sigqueue = codes "sigqueue"
 
 -- whether these bytes are the whole name of the call
 abbrev pub is_named : List ℕ → Sysno → Bool
@@ -110,6 +112,7 @@ syscall_args LwpExit = []
 syscall_args LwpSuspend = Dec ∷ []
 syscall_args LwpContinue = Dec ∷ []
 syscall_args Fstat = Dec ∷ Hex ∷ []
+syscall_args Sigqueue = Dec ∷ Dec ∷ Dec ∷ []
 
 -- whether a call can put its lwp to sleep
 unfoldable pub may_sleep : Sysno → Bool
@@ -142,6 +145,7 @@ may_sleep LwpExit = false
 may_sleep LwpSuspend = false
 may_sleep LwpContinue = false
 may_sleep Fstat = false
+may_sleep Sigqueue = false
 
 -- the call of least number in a set, none where the set is empty
 unfoldable pub least_syscall : ℕ → Option Sysno

@@ -1,7 +1,9 @@
 ghost use Rattle.std.specs.Prelude.{◌≡◌, ◌==◌, ◌-◌, ◌^◌, ◌<◌, ◌↔◌, IsNone};
 ghost use Rattle.pr_num.specs.Syscalls.{syscall_number, least_syscall};
 ghost use Rattle.pr_num.specs.Sets.{has_number, union_word, common_word, minus_word, with_number, without_number, set_of_word};
+ghost use Rattle.pr_num.specs.Limits.{syscall_count};
 
+use crate::limits::SYSCALL_COUNT;
 use crate::sets;
 use crate::syscalls::Sysno;
 use std::marker::Model;
@@ -14,19 +16,20 @@ pub struct SysSet {
 
 impl Model for SysSet {
     ghost use Rattle.std.specs.Prelude.{ℕ, ◌<◌, ◌^◌};
+    ghost use Rattle.pr_num.specs.Limits.{syscall_count};
 
     ghost Value = { ℕ };
 
     ghost view = { λ set. set.word };
 
-    ghost invariant = { λ set. set.word < 2 ^ 29 };
+    ghost invariant = { λ set. set.word < 2 ^ syscall_count };
 
     ghost inverse = { λ word. record { word = word } };
 }
 
 impl SysSet {
     /// The lowest bit that stands for no call.
-    const BEYOND: u64 = 1 << 29;
+    const BEYOND: u64 = 1 << SYSCALL_COUNT;
 
     /// No call.
     pub fn empty() -> SysSet
@@ -37,16 +40,16 @@ impl SysSet {
 
     /// Every call.
     pub fn all() -> SysSet
-        ensures { result ≡ 2 ^ 29 - 1 }
+        ensures { result ≡ 2 ^ syscall_count - 1 }
     {
         SysSet {
             word: SysSet::BEYOND - 1,
         }
     }
 
-    /// The set of a word, `None` exactly where a bit beyond call 29 is set.
+    /// The set of a word, `None` exactly where a bit beyond the last call is set.
     pub fn from_word(w: u64) -> Option<SysSet>
-        ensures { result ≡ set_of_word 29 w }
+        ensures { result ≡ set_of_word syscall_count w }
     {
         if w < SysSet::BEYOND {
             Some(SysSet { word: w })
@@ -57,7 +60,7 @@ impl SysSet {
 
     pub fn word(self) -> u64
         ensures value { result ≡ self }
-        ensures range { result < 2 ^ 29 }
+        ensures range { result < 2 ^ syscall_count }
     {
         self.word
     }

@@ -1,7 +1,9 @@
 ghost use Rattle.std.specs.Prelude.{◌≡◌, ◌==◌, ◌-◌, ◌^◌, ◌<◌, ◌↔◌, IsNone};
 ghost use Rattle.pr_num.specs.Signals.{signal_number, least_signal, holdable_word};
 ghost use Rattle.pr_num.specs.Sets.{has_number, union_word, common_word, minus_word, with_number, without_number, set_of_word};
+ghost use Rattle.pr_num.specs.Limits.{signal_count};
 
+use crate::limits::SIGNAL_COUNT;
 use crate::sets;
 use crate::signals::Sig;
 use std::marker::Model;
@@ -14,19 +16,20 @@ pub struct SigSet {
 
 impl Model for SigSet {
     ghost use Rattle.std.specs.Prelude.{ℕ, ◌<◌, ◌^◌};
+    ghost use Rattle.pr_num.specs.Limits.{signal_count};
 
     ghost Value = { ℕ };
 
     ghost view = { λ set. set.word };
 
-    ghost invariant = { λ set. set.word < 2 ^ 31 };
+    ghost invariant = { λ set. set.word < 2 ^ signal_count };
 
     ghost inverse = { λ word. record { word = word } };
 }
 
 impl SigSet {
     /// The lowest bit that stands for no signal.
-    const BEYOND: u64 = 1 << 31;
+    const BEYOND: u64 = 1 << SIGNAL_COUNT;
 
     /// No signal.
     pub fn empty() -> SigSet
@@ -37,16 +40,16 @@ impl SigSet {
 
     /// Every signal.
     pub fn all() -> SigSet
-        ensures { result ≡ 2 ^ 31 - 1 }
+        ensures { result ≡ 2 ^ signal_count - 1 }
     {
         SigSet {
             word: SigSet::BEYOND - 1,
         }
     }
 
-    /// The set of a word, `None` exactly where a bit beyond signal 31 is set.
+    /// The set of a word, `None` exactly where a bit beyond the last signal is set.
     pub fn from_word(w: u64) -> Option<SigSet>
-        ensures { result ≡ set_of_word 31 w }
+        ensures { result ≡ set_of_word signal_count w }
     {
         if w < SigSet::BEYOND {
             Some(SigSet { word: w })
@@ -57,7 +60,7 @@ impl SigSet {
 
     pub fn word(self) -> u64
         ensures value { result ≡ self }
-        ensures range { result < 2 ^ 31 }
+        ensures range { result < 2 ^ signal_count }
     {
         self.word
     }

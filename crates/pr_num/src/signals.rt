@@ -1,5 +1,6 @@
 ghost use Rattle.std.specs.Prelude.{◌≡◌, ◌≤◌, length};
 ghost use Rattle.pr_num.specs.Signals.{signal_of_number, signal_of_name, signal_number, signal_name, is_named, default_action};
+ghost use Rattle.pr_num.specs.Limits.{signal_count};
 
 use crate::tables;
 
@@ -79,11 +80,27 @@ pub enum Sig {
     Xcpu = 30,
     /// File size limit exceeded.
     Xfsz = 31,
+    /// Real-time signal 0, whose information queues, as that of the seven after it.
+    Rt0 = 32,
+    /// Real-time signal 1.
+    Rt1 = 33,
+    /// Real-time signal 2.
+    Rt2 = 34,
+    /// Real-time signal 3.
+    Rt3 = 35,
+    /// Real-time signal 4.
+    Rt4 = 36,
+    /// Real-time signal 5.
+    Rt5 = 37,
+    /// Real-time signal 6.
+    Rt6 = 38,
+    /// Real-time signal 7.
+    Rt7 = 39,
 }
 
 impl Sig {
     /// Every signal, in the order of its number.
-    pub const ALL: [Sig; 31] = [
+    pub const ALL: [Sig; 39] = [
         Sig::Hup,
         Sig::Int,
         Sig::Quit,
@@ -115,9 +132,17 @@ impl Sig {
         Sig::Prof,
         Sig::Xcpu,
         Sig::Xfsz,
+        Sig::Rt0,
+        Sig::Rt1,
+        Sig::Rt2,
+        Sig::Rt3,
+        Sig::Rt4,
+        Sig::Rt5,
+        Sig::Rt6,
+        Sig::Rt7,
     ];
 
-    /// The signal of a number, `None` exactly where it is not 1 to 31.
+    /// The signal of a number, `None` exactly where it is not 1 to 39.
     #[tactic(auto, unfolding(crate::specs::Signals::signal_of_number))]
     pub fn from_number(n: u64) -> Option<Sig>
         ensures { result ≡ signal_of_number n }
@@ -125,11 +150,11 @@ impl Sig {
         tables::entry_at(&Sig::ALL, n)
     }
 
-    /// The signal's number, 1 to 31.
+    /// The signal's number, 1 to 39.
     #[tactic(auto, unfolding(crate::specs::Signals::signal_number))]
     pub fn number(self) -> u64
         ensures value { result ≡ signal_number self }
-        ensures range { (1 ≤ result) × (result ≤ 31) }
+        ensures range { (1 ≤ result) × (result ≤ signal_count) }
     {
         self as u64
     }
@@ -184,6 +209,14 @@ impl Sig {
             Sig::Prof => "SIGPROF",
             Sig::Xcpu => "SIGXCPU",
             Sig::Xfsz => "SIGXFSZ",
+            Sig::Rt0 => "SIGRT0",
+            Sig::Rt1 => "SIGRT1",
+            Sig::Rt2 => "SIGRT2",
+            Sig::Rt3 => "SIGRT3",
+            Sig::Rt4 => "SIGRT4",
+            Sig::Rt5 => "SIGRT5",
+            Sig::Rt6 => "SIGRT6",
+            Sig::Rt7 => "SIGRT7",
         }
     }
 

@@ -1,5 +1,6 @@
 ghost use Rattle.std.specs.Prelude.{◌≡◌, ◌≤◌};
 ghost use Rattle.pr_num.specs.Syscalls.{syscall_of_number, syscall_of_name, syscall_number, syscall_name, syscall_args, may_sleep};
+ghost use Rattle.pr_num.specs.Limits.{syscall_count};
 
 use crate::tables;
 
@@ -77,11 +78,13 @@ pub enum Sysno {
     LwpContinue = 28,
     /// What a descriptor stands for.
     Fstat = 29,
+    /// Sends a signal with a value to a process.
+    Sigqueue = 30,
 }
 
 impl Sysno {
     /// Every call, in the order of its number.
-    pub const ALL: [Sysno; 29] = [
+    pub const ALL: [Sysno; 30] = [
         Sysno::Exit,
         Sysno::Fork,
         Sysno::Read,
@@ -111,9 +114,10 @@ impl Sysno {
         Sysno::LwpSuspend,
         Sysno::LwpContinue,
         Sysno::Fstat,
+        Sysno::Sigqueue,
     ];
 
-    /// The call of a number, `None` exactly where it is not 1 to 29.
+    /// The call of a number, `None` exactly where it is not 1 to 30.
     #[tactic(auto, unfolding(crate::specs::Syscalls::syscall_of_number))]
     pub fn from_number(n: u64) -> Option<Sysno>
         ensures { result ≡ syscall_of_number n }
@@ -121,11 +125,11 @@ impl Sysno {
         tables::entry_at(&Sysno::ALL, n)
     }
 
-    /// The call's number, 1 to 29.
+    /// The call's number, 1 to 30.
     #[tactic(auto, unfolding(crate::specs::Syscalls::syscall_number))]
     pub fn number(self) -> u64
         ensures value { result ≡ syscall_number self }
-        ensures range { (1 ≤ result) × (result ≤ 29) }
+        ensures range { (1 ≤ result) × (result ≤ syscall_count) }
     {
         self as u64
     }
@@ -176,6 +180,7 @@ impl Sysno {
             Sysno::LwpSuspend => "lwp_suspend",
             Sysno::LwpContinue => "lwp_continue",
             Sysno::Fstat => "fstat",
+            Sysno::Sigqueue => "sigqueue",
         }
     }
 
@@ -214,6 +219,7 @@ impl Sysno {
             Sysno::LwpSuspend => &[ArgKind::Dec],
             Sysno::LwpContinue => &[ArgKind::Dec],
             Sysno::Fstat => &[ArgKind::Dec, ArgKind::Hex],
+            Sysno::Sigqueue => &[ArgKind::Dec, ArgKind::Dec, ArgKind::Dec],
         }
     }
 

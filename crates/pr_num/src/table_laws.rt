@@ -4,6 +4,7 @@ ghost use Rattle.pr_num.specs.Faults.{fault_number, fault_name, fault_of_number,
 ghost use Rattle.pr_num.specs.Errnos.{errno_number, errno_name, errno_of_number, errno_of_name};
 ghost use Rattle.pr_num.specs.Syscalls.{syscall_number, syscall_name, syscall_of_number, syscall_of_name};
 ghost use Rattle.pr_num.specs.StopReasons.{stop_reasons, reason_number, reason_name, is_reason_named};
+ghost use Rattle.pr_num.specs.Limits.{signal_count, syscall_count};
 ghost use Rattle.pr_num.specs.Tables.{entry_at};
 ghost use Rattle.pr_num.specs.declared.signals.Sig.{Sig as AnySignal};
 ghost use Rattle.pr_num.specs.declared.faults.Flt.{Flt as AnyFault};
@@ -19,11 +20,11 @@ use crate::syscalls::Sysno;
 
 // A number or a name stands for one entry of its table, and an entry for its number and its name.
 
-/// The numbers of signals are 1 to 31, each of one signal.
+/// The numbers of signals are 1 to 39, each of one signal.
 pub fn signal_numbers(signal: Sig)
     ensures back { signal_of_number (signal_number signal) ≡ Some signal }
     ensures only { (n : ℕ) (found : AnySignal) → signal_of_number n ≡ Some found → signal_number found ≡ n }
-    ensures range { (n : ℕ) → IsSome (signal_of_number n) ↔ ((1 ≤ n) × (n ≤ 31)) }
+    ensures range { (n : ℕ) → IsSome (signal_of_number n) ↔ ((1 ≤ n) × (n ≤ signal_count)) }
 {}
 
 /// Each signal has its name, with and without `SIG`, and no other signal has it.
@@ -62,11 +63,11 @@ pub fn errno_names(errno: Errno)
     ensures none { (bytes : List ℕ) (other : AnyErrno) → errno_of_name bytes ≡ None → bytes ≢ errno_name other }
 {}
 
-/// The numbers of calls are 1 to 29, each of one call.
+/// The numbers of calls are 1 to 30, each of one call.
 pub fn syscall_numbers(syscall: Sysno)
     ensures back { syscall_of_number (syscall_number syscall) ≡ Some syscall }
     ensures only { (n : ℕ) (found : AnySyscall) → syscall_of_number n ≡ Some found → syscall_number found ≡ n }
-    ensures range { (n : ℕ) → IsSome (syscall_of_number n) ↔ ((1 ≤ n) × (n ≤ 29)) }
+    ensures range { (n : ℕ) → IsSome (syscall_of_number n) ↔ ((1 ≤ n) × (n ≤ syscall_count)) }
 {}
 
 /// Each call has its name, and no other call has it.

@@ -6,7 +6,7 @@ use std::alloc::Global;
 use std::test::Fail;
 
 // Solaris 10, signal.h(3HEAD).
-static SIGNALS: [(u64, &str, DefAct); 31] = [
+static SIGNALS: [(u64, &str, DefAct); 39] = [
     (1, "SIGHUP", DefAct::Die),
     (2, "SIGINT", DefAct::Die),
     (3, "SIGQUIT", DefAct::Die),
@@ -38,6 +38,14 @@ static SIGNALS: [(u64, &str, DefAct); 31] = [
     (29, "SIGPROF", DefAct::Die),
     (30, "SIGXCPU", DefAct::Die),
     (31, "SIGXFSZ", DefAct::Die),
+    (32, "SIGRT0", DefAct::Die),
+    (33, "SIGRT1", DefAct::Die),
+    (34, "SIGRT2", DefAct::Die),
+    (35, "SIGRT3", DefAct::Die),
+    (36, "SIGRT4", DefAct::Die),
+    (37, "SIGRT5", DefAct::Die),
+    (38, "SIGRT6", DefAct::Die),
+    (39, "SIGRT7", DefAct::Die),
 ];
 
 // Solaris 10, errno.h(3HEAD).
@@ -99,7 +107,7 @@ static REASONS: [(u64, &str); 7] = [
 
 // A call's arguments by the letters of the argument kinds: decimal, hexadecimal, text, buffer; a star where it may
 // sleep.
-static CALLS: [(u64, &str, &str); 29] = [
+static CALLS: [(u64, &str, &str); 30] = [
     (1, "exit", "d"),
     (2, "fork", ""),
     (3, "read", "dbd*"),
@@ -129,6 +137,7 @@ static CALLS: [(u64, &str, &str); 29] = [
     (27, "lwp_suspend", "d"),
     (28, "lwp_continue", "d"),
     (29, "fstat", "dx"),
+    (30, "sigqueue", "ddd"),
 ];
 
 /// The signal of a number has this name and does this by default, and each of its two names leads back to it.
