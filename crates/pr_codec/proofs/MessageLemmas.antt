@@ -7,7 +7,7 @@ use Rattle.std.specs.Result.{result_ok}
 use Rattle.std.proofs.lemmas.List.Elements.{All-cons, All-replicate}
 use Rattle.std.proofs.lemmas.List.Sums.{list_all-from_AllPass}
 use Rattle.pr_num.specs.Words.{IsWord, words_bytes, word_of}
-use Rattle.pr_num.specs.Messages.{message_code, operands, bad_operand, operand_count, tail_length, padding, spelling, Spells, ◌>>=◌, nth_word, one_word, two_words, three_words, eleven_words, message_read, in_columns, unpadded_length, spelt_length, with_tail, first_message}
+use Rattle.pr_num.specs.Messages.{message_code, operands, bad_operand, operand_count, tail_length, padding, spelling, Spells, ◌>>=◌, nth_word, one_word, two_words, three_words, eleven_words, message_read, in_columns, unpadded_length, encoded_length, with_tail, first_message}
 use Rattle.pr_num.specs.declared.messages.Message.{Message}
 use Rattle.pr_num.specs.declared.messages.Message.TheVariants.{Stop, Dstop, Wstop, Twstop, Run, Csig, Cfault, Ssig, Kill, Unkill, Shold, Strace, Sfault, Sentry, Sexit, Set, Unset, Sreg, Svaddr, Watch, Agent, Read, Write}
 use Rattle.pr_num.specs.declared.messages.MsgFault.{MsgFault}
@@ -123,8 +123,8 @@ message_code-word (Write at len) = omega arith
 are_zeros : (n : ℕ) → list_all (λ b. b == 0) (replicate n 0) ≡ true
 are_zeros n = list_all-from_AllPass (λ b. b == 0) (replicate n 0) (All-replicate (λ b. (b == 0) ≡ true) n 0 refl)
 
-length-spelling : (m : Message) (tail : List ℕ) → length (operands m) ≡ operand_count m → length tail ≡ tail_length m → length (spelling m tail) ≡ spelt_length m
-unfolding spelt_length unpadded_length
+length-spelling : (m : Message) (tail : List ℕ) → length (operands m) ≡ operand_count m → length tail ≡ tail_length m → length (spelling m tail) ≡ encoded_length m
+unfolding encoded_length unpadded_length
 length-spelling m tail count fits =
     let front = length-append (words_bytes (message_code m ∷ operands m)) tail in
     let whole = length-append (words_bytes (message_code m ∷ operands m) ++ tail) (replicate (padding (length tail)) 0) in
@@ -133,8 +133,8 @@ length-spelling m tail count fits =
     let same : padding (length tail) ≡ padding (tail_length m) = ap (λ (n : ℕ). padding n) fits in
     omega arith
 
-with_tail-spelt : (m : Message) (tail rest : List ℕ) → length (operands m) ≡ operand_count m → length tail ≡ tail_length m → with_tail (spelling m tail ++ rest) m ≡ Ok (m, spelt_length m)
-unfolding with_tail spelt_length unpadded_length
+with_tail-spelt : (m : Message) (tail rest : List ℕ) → length (operands m) ≡ operand_count m → length tail ≡ tail_length m → with_tail (spelling m tail ++ rest) m ≡ Ok (m, encoded_length m)
+unfolding with_tail encoded_length unpadded_length
 with_tail-spelt m tail rest count fits =
     let front : List ℕ = words_bytes (message_code m ∷ operands m) ++ tail in
     let zeros : List ℕ = replicate (padding (length tail)) 0 in
@@ -143,16 +143,16 @@ with_tail-spelt m tail rest count fits =
     length-append (words_bytes (message_code m ∷ operands m)) tail ∙ omega arith in
     let size = length-spelling m tail count fits in
     let same : padding (length tail) ≡ padding (tail_length m) = ap (λ (n : ℕ). padding n) fits in
-    let long : ltb (length (spelling m tail ++ rest)) (spelt_length m) ≡ false =
-    le-ltb (length (spelling m tail ++ rest)) (spelt_length m) (omega (arith, length-append (spelling m tail) rest)) in
+    let long : ltb (length (spelling m tail ++ rest)) (encoded_length m) ≡ false =
+    le-ltb (length (spelling m tail ++ rest)) (encoded_length m) (omega (arith, length-append (spelling m tail) rest)) in
     let behind : drop (unpadded_length m) (spelling m tail ++ rest) ≡ zeros ++ rest =
     ap (drop (unpadded_length m)) (append_assoc front zeros rest) ∙ drop_at front (zeros ++ rest) (unpadded_length m) unpadded in
-    let padded : take (spelt_length m - unpadded_length m) (zeros ++ rest) ≡ zeros =
-    take_at zeros rest (spelt_length m - unpadded_length m) (length-replicate (padding (length tail)) 0 ∙ same ∙ omega arith) in
+    let padded : take (encoded_length m - unpadded_length m) (zeros ++ rest) ≡ zeros =
+    take_at zeros rest (encoded_length m - unpadded_length m) (length-replicate (padding (length tail)) 0 ∙ same ∙ omega arith) in
     rw (long, behind, padded, are_zeros (padding (length tail)))
 
 -- Each spelling is read as what it spells, whatever follows it.
-spelling-read : (m : Message) (tail rest : List ℕ) → All IsWord (operands m) → length (operands m) ≡ operand_count m → bad_operand m ≡ None → length tail ≡ tail_length m → first_message (spelling m tail ++ rest) ≡ Ok (m, spelt_length m)
+spelling-read : (m : Message) (tail rest : List ℕ) → All IsWord (operands m) → length (operands m) ≡ operand_count m → bad_operand m ≡ None → length tail ≡ tail_length m → first_message (spelling m tail ++ rest) ≡ Ok (m, encoded_length m)
 unfolding first_message in_columns
 spelling-read m tail rest fit count columns fits =
     let zeros : List ℕ = replicate (padding (length tail)) 0 in
@@ -170,7 +170,7 @@ spelling-read m tail rest fit count columns fits =
 
 pub spelt_is_read : (bytes rest : List ℕ) (m : Message) (tail : List ℕ) → Spells bytes m tail → first_message (bytes ++ rest) ≡ Ok (m, length bytes)
 spelt_is_read bytes rest m tail s =
-    let size : length bytes ≡ spelt_length m = ap length s.spelt ∙ length-spelling m tail s.count s.tail_fits in
+    let size : length bytes ≡ encoded_length m = ap length s.spelt ∙ length-spelling m tail s.count s.tail_fits in
     ap (λ front. first_message (front ++ rest)) s.spelt ∙ spelling-read m tail rest s.words s.count s.columns s.tail_fits ∙ ap (λ (n : ℕ). Ok (m, n)) (sym size)
 
 -- The same answer is the same message, of the same length.

@@ -6,7 +6,7 @@ use Rattle.std.proofs.lemmas.Bool.{and_parts}
 use Rattle.std.proofs.lemmas.List.{drop-take, take-take}
 use Rattle.std.proofs.lemmas.List.Elements.{All-nil, All-cons, All-take, All-drop}
 use Rattle.pr_num.specs.Words.{IsByte, IsWord, words_bytes, word_of}
-use Rattle.pr_num.specs.Messages.{message_code, operands, bad_operand, operand_count, tail_length, padding, spelling, Spells, ◌>>=◌, nth_word, one_word, two_words, three_words, eleven_words, message_read, unless_bad, in_columns, unpadded_length, spelt_length, with_tail, first_message}
+use Rattle.pr_num.specs.Messages.{message_code, operands, bad_operand, operand_count, tail_length, padding, spelling, Spells, ◌>>=◌, nth_word, one_word, two_words, three_words, eleven_words, message_read, unless_bad, in_columns, unpadded_length, encoded_length, with_tail, first_message}
 use Rattle.pr_num.specs.declared.messages.Message.{Message}
 use Rattle.pr_num.specs.declared.messages.Message.TheVariants.{Stop, Dstop, Wstop, Twstop, Run, Csig, Cfault, Ssig, Kill, Unkill, Shold, Strace, Sfault, Sentry, Sexit, Set, Unset, Sreg, Svaddr, Watch, Agent, Read, Write}
 use Rattle.pr_num.specs.declared.messages.MsgFault.{MsgFault}
@@ -84,9 +84,9 @@ module _ (bytes : List ℕ) where
 record WasRead (bytes : List ℕ) (m : Message) (n : ℕ) : Type 0 where
   stood : Stands bytes (nth_word bytes 0) m
   columns : bad_operand m ≡ None
-  enough : spelt_length m ≤ length bytes
-  zeros : list_all (λ b. b == 0) (slice_range bytes (unpadded_length m) (spelt_length m)) ≡ true
-  size : n ≡ spelt_length m
+  enough : encoded_length m ≤ length bytes
+  zeros : list_all (λ b. b == 0) (slice_range bytes (unpadded_length m) (encoded_length m)) ≡ true
+  size : n ≡ encoded_length m
 
 module _ (bytes : List ℕ) where
   abbrev IfRead : Result (Message × ℕ) MsgFault → Type 0
@@ -94,13 +94,13 @@ module _ (bytes : List ℕ) where
 
   with_tail-was : (m : Message) → Stands bytes (nth_word bytes 0) m → bad_operand m ≡ None → IfRead (with_tail bytes m)
   unfolding with_tail
-  with_tail-was m stood columns = by (ltb (length bytes) (spelt_length m)) refl
+  with_tail-was m stood columns = by (ltb (length bytes) (encoded_length m)) refl
     where
-      padded : (b : Bool) → list_all (λ x. x == 0) (slice_range bytes (unpadded_length m) (spelt_length m)) ≡ b → spelt_length m ≤ length bytes → IfRead (cond b (Ok (m, spelt_length m)) (Err (BadOperand (spelt_length m / 8 - 1))))
+      padded : (b : Bool) → list_all (λ x. x == 0) (slice_range bytes (unpadded_length m) (encoded_length m)) ≡ b → encoded_length m ≤ length bytes → IfRead (cond b (Ok (m, encoded_length m)) (Err (BadOperand (encoded_length m / 8 - 1))))
       padded true e enough = record { stood = stood; columns = columns; enough = enough; zeros = e; size = refl }
       padded false e enough = tt
 
-      by : (b : Bool) → ltb (length bytes) (spelt_length m) ≡ b → IfRead (cond b (Err Short) (cond (list_all (λ x. x == 0) (slice_range bytes (unpadded_length m) (spelt_length m))) (Ok (m, spelt_length m)) (Err (BadOperand (spelt_length m / 8 - 1)))))
+      by : (b : Bool) → ltb (length bytes) (encoded_length m) ≡ b → IfRead (cond b (Err Short) (cond (list_all (λ x. x == 0) (slice_range bytes (unpadded_length m) (encoded_length m))) (Ok (m, encoded_length m)) (Err (BadOperand (encoded_length m / 8 - 1)))))
       by true e = tt
       by false e = padded _ refl (ltb-false _ _ e)
 
@@ -165,12 +165,12 @@ module _ (bytes : List ℕ) (m : Message) (n : ℕ) (small : All IsByte bytes) (
   tail_of = take (tail_length m) (drop (8 * (1 + operand_count m)) bytes)
 
   length-tail_of : length tail_of ≡ tail_length m
-  unfolding tail_of spelt_length unpadded_length
+  unfolding tail_of encoded_length unpadded_length
   length-tail_of =
       omega (arith, was.enough, length-take (tail_length m) (drop (8 * (1 + operand_count m)) bytes), length-drop (8 * (1 + operand_count m)) bytes)
 
   words-front : words_bytes (message_code m ∷ operands m) ≡ take (8 * (1 + operand_count m)) bytes
-  unfolding spelt_length unpadded_length
+  unfolding encoded_length unpadded_length
   words-front =
       let stood = was.stood in
       let words : message_code m ∷ operands m ≡ each_of (suc (operand_count m)) (nth_word bytes) =
@@ -179,9 +179,9 @@ module _ (bytes : List ℕ) (m : Message) (n : ℕ) (small : All IsByte bytes) (
       ap words_bytes words ∙ words_bytes-front bytes (suc (operand_count m)) small (omega (arith, was.enough)) ∙ ap (λ k. take (8 * k) bytes) count
 
   padding-zeros : take (padding (tail_length m)) (drop (unpadded_length m) bytes) ≡ replicate (padding (tail_length m)) 0
-  unfolding spelt_length
+  unfolding encoded_length
   padding-zeros =
-      let p : spelt_length m - unpadded_length m ≡ padding (tail_length m) = omega arith in
+      let p : encoded_length m - unpadded_length m ≡ padding (tail_length m) = omega arith in
       let zeros : list_all (λ b. b == 0) (take (padding (tail_length m)) (drop (unpadded_length m) bytes)) ≡ true =
       ap (λ k. list_all (λ b. b == 0) (take k (drop (unpadded_length m) bytes))) (sym p) ∙ was.zeros in
       let size : length (take (padding (tail_length m)) (drop (unpadded_length m) bytes)) ≡ padding (tail_length m) =
@@ -189,7 +189,7 @@ module _ (bytes : List ℕ) (m : Message) (n : ℕ) (small : All IsByte bytes) (
       all_zeros (take (padding (tail_length m)) (drop (unpadded_length m) bytes)) zeros ∙ ap (λ k. replicate k 0) size
 
   spelt-here : take n bytes ≡ spelling m tail_of
-  unfolding tail_of spelt_length unpadded_length
+  unfolding tail_of encoded_length unpadded_length
   spelt-here =
       let front : List ℕ = take (8 * (1 + operand_count m)) bytes in
       let parts : take n bytes ≡ take (unpadded_length m) bytes ++ take (padding (tail_length m)) (drop (unpadded_length m) bytes) =

@@ -2,7 +2,7 @@ ghost use Rattle.std.specs.Prelude.{◌≡◌, ◌↔◌, ◌==◌, ◌+◌, ◌
 ghost use Rattle.std.specs.List.{list_all};
 ghost use Rattle.pr_num.specs.declared.messages.Message.{Message};
 ghost use Rattle.pr_msg.specs.Beginnings.{BeginsWith};
-ghost use Rattle.pr_num.specs.Messages.{nth_word, one_word, two_words, three_words, eleven_words, message_read, bad_operand, in_columns, tail_length, operand_count, unpadded_length, spelt_length, with_tail, first_message};
+ghost use Rattle.pr_num.specs.Messages.{nth_word, one_word, two_words, three_words, eleven_words, message_read, bad_operand, in_columns, tail_length, operand_count, unpadded_length, encoded_length, with_tail, first_message};
 
 use crate::paddings::padding;
 use pr_codec::{WORD, word};
@@ -13,6 +13,17 @@ const LONGEST_WAIT: u64 = 1_000_000_000;
 
 /// The most bytes that one message reads or writes.
 const MOST_BYTES: u64 = 4_096;
+
+/// The greatest number of a signal.
+const LAST_SIGNAL: u64 = 39;
+
+/// The signal that ends a process, whatever it does.
+const SIGKILL: u64 = 9;
+
+/// The words of sets of signals, of faults and of system calls lie below these.
+const SIGNAL_SETS: u64 = 1 << 39;
+const FAULT_SETS: u64 = 1 << 8;
+const CALL_SETS: u64 = 1 << 30;
 
 /// The word at a place, counted in words.
 #[tactic(auto, unfolding(pr_num::specs::Messages::nth_word))]
@@ -91,7 +102,7 @@ fn make_agent(bytes: &[u8]) -> Result<Message, MsgFault>
     Ok(Message::Agent { regs })
 }
 
-/// The message of a code, with the operand words that stand behind it.
+/// The message of a code, with the operand words that stand after it.
 #[tactic(auto, unfolding(pr_num::specs::Messages::message_read))]
 fn message_read(code: u64, bytes: &[u8]) -> Result<Message, MsgFault>
     ensures { result ≡ message_read code bytes.now }
@@ -132,12 +143,12 @@ fn bad_operand(message: &Message) -> Option<u32>
     match *message {
         Message::Twstop { ms } => outside(ms <= LONGEST_WAIT, 1),
         Message::Run { flags } => outside(flags < 32, 1),
-        Message::Ssig { signal } => outside(signal <= 31, 1),
-        Message::Kill { signal } => outside(1 <= signal && signal <= 31, 1),
-        Message::Unkill { signal } => outside(1 <= signal && signal <= 31 && signal != 9, 1),
-        Message::Shold { signals } | Message::Strace { signals } => outside(signals < 1 << 31, 1),
-        Message::Sfault { faults } => outside(faults < 1 << 8, 1),
-        Message::Sentry { calls } | Message::Sexit { calls } => outside(calls < 1 << 29, 1),
+        Message::Ssig { signal } => outside(signal <= LAST_SIGNAL, 1),
+        Message::Kill { signal } => outside(1 <= signal && signal <= LAST_SIGNAL, 1),
+        Message::Unkill { signal } => outside(1 <= signal && signal <= LAST_SIGNAL && signal != SIGKILL, 1),
+        Message::Shold { signals } | Message::Strace { signals } => outside(signals < SIGNAL_SETS, 1),
+        Message::Sfault { faults } => outside(faults < FAULT_SETS, 1),
+        Message::Sentry { calls } | Message::Sexit { calls } => outside(calls < CALL_SETS, 1),
         Message::Set { modes } | Message::Unset { modes } => outside(modes < 16, 1),
         Message::Watch { at, size, flags } => bad_area(at, size, flags),
         Message::Read { len, .. } | Message::Write { len, .. } => {
@@ -186,7 +197,7 @@ fn in_columns(message: Message) -> Result<Message, MsgFault>
     }
 }
 
-/// How many bytes stand behind the operand words of a message, the padding aside: for PCWRITE those to write, and else
+/// How many bytes stand after the operand words of a message, the padding aside: for PCWRITE those to write, and else
 /// none. Takes no memory.
 #[tactic(auto, unfolding(pr_num::specs::Messages::tail_length))]
 pub fn tail_length(message: &Message) -> u64
@@ -225,7 +236,8 @@ fn operand_count(message: &Message) -> usize
     }
 }
 
-/// The first message of bytes, and how many of them spell it: `Ok((m, n))` exactly where the first `n` bytes spell `m`.
+/// The first message of bytes, and how many of them encode it: `Ok((m, n))` exactly where the first `n` bytes encode
+/// `m`.
 /// The faults are tried in the order: 8 bytes for the code, a known code, the operand words, their columns, and for
 /// PCWRITE its bytes and then zeros up to a multiple of 8. Takes no memory.
 pub fn decode_one(bytes: &[u8]) -> Result<(Message, usize), MsgFault>
@@ -253,22 +265,22 @@ fn are_zeros(bytes: &[u8]) -> bool
     bytes.iter().all(|byte| *byte == 0)
 }
 
-#[tactic(auto, unfolding(pr_num::specs::Messages::with_tail, pr_num::specs::Messages::spelt_length, pr_num::specs::Messages::unpadded_length))]
+#[tactic(auto, unfolding(pr_num::specs::Messages::with_tail, pr_num::specs::Messages::encoded_length, pr_num::specs::Messages::unpadded_length))]
 fn with_tail(bytes: &[u8], message: Message) -> Result<(Message, usize), MsgFault>
     requires { tail_length message ≤ 4096 }
     ensures { result ≡ with_tail bytes.now message }
 {
     let tail = tail_length(&message) as usize;
     let unpadded = 8 * (1 + operand_count(&message)) + tail;
-    let spelt = unpadded + padding(tail);
-    if bytes.len() < spelt {
+    let encoded = unpadded + padding(tail);
+    if bytes.len() < encoded {
         return Err(MsgFault::Short);
     }
-    if are_zeros(&bytes[unpadded..spelt]) {
-        Ok((message, spelt))
+    if are_zeros(&bytes[unpadded..encoded]) {
+        Ok((message, encoded))
     } else {
         Err(MsgFault::BadOperand {
-            word: (spelt / 8 - 1) as u32,
+            word: (encoded / 8 - 1) as u32,
         })
     }
 }

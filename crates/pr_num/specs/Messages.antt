@@ -6,7 +6,7 @@ use Rattle.pr_num.specs.declared.messages.MsgFault.{MsgFault}
 use Rattle.pr_num.specs.declared.messages.MsgFault.TheVariants.{Short, UnknownOp, BadOperand}
 use Rattle.pr_num.specs.declared.messages.Message.TheVariants.{Stop, Dstop, Wstop, Twstop, Run, Csig, Cfault, Ssig, Kill, Unkill, Shold, Strace, Sfault, Sentry, Sexit, Set, Unset, Sreg, Svaddr, Watch, Agent, Read, Write}
 
--- Control messages as bytes (proc(4)). A message is spelt by its code word, its operand words and, for PCWRITE, the
+-- Control messages as bytes (proc(4)). A message is encoded as its code word, its operand words and, for PCWRITE, the
 -- bytes to write, padded with zeros to a multiple of 8.
 
 -- the code of a message
@@ -35,7 +35,7 @@ message_code (Agent regs) = 21
 message_code (Read at len) = 22
 message_code (Write at len) = 23
 
--- the operand words behind the code
+-- the operand words after the code
 unfoldable pub operands : Message → List ℕ
 operands Stop = []
 operands Dstop = []
@@ -72,14 +72,14 @@ bad_operand (Twstop ms) = if nat_le ms 1000000000 then None else Some 1
 bad_operand (Run flags) = if nat_lt flags 32 then None else Some 1
 bad_operand Csig = None
 bad_operand Cfault = None
-bad_operand (Ssig signal) = if nat_le signal 31 then None else Some 1
-bad_operand (Kill signal) = if nat_le 1 signal && nat_le signal 31 then None else Some 1
-bad_operand (Unkill signal) = if (nat_le 1 signal && nat_le signal 31) && not (signal == 9) then None else Some 1
-bad_operand (Shold signals) = if nat_lt signals (2 ^ 31) then None else Some 1
-bad_operand (Strace signals) = if nat_lt signals (2 ^ 31) then None else Some 1
+bad_operand (Ssig signal) = if nat_le signal 39 then None else Some 1
+bad_operand (Kill signal) = if nat_le 1 signal && nat_le signal 39 then None else Some 1
+bad_operand (Unkill signal) = if (nat_le 1 signal && nat_le signal 39) && not (signal == 9) then None else Some 1
+bad_operand (Shold signals) = if nat_lt signals (2 ^ 39) then None else Some 1
+bad_operand (Strace signals) = if nat_lt signals (2 ^ 39) then None else Some 1
 bad_operand (Sfault faults) = if nat_lt faults (2 ^ 8) then None else Some 1
-bad_operand (Sentry calls) = if nat_lt calls (2 ^ 29) then None else Some 1
-bad_operand (Sexit calls) = if nat_lt calls (2 ^ 29) then None else Some 1
+bad_operand (Sentry calls) = if nat_lt calls (2 ^ 30) then None else Some 1
+bad_operand (Sexit calls) = if nat_lt calls (2 ^ 30) then None else Some 1
 bad_operand (Set modes) = if nat_lt modes 16 then None else Some 1
 bad_operand (Unset modes) = if nat_lt modes 16 then None else Some 1
 bad_operand (Sreg regs) = None
@@ -118,7 +118,7 @@ operand_count (Agent regs) = 11
 operand_count (Read at len) = 2
 operand_count (Write at len) = 2
 
--- how many bytes stand behind the operand words of a message, the padding aside
+-- how many bytes stand after the operand words of a message, the padding aside
 unfoldable pub tail_length : Message → ℕ
 tail_length (Write at len) = len
 tail_length _ = 0
@@ -127,12 +127,12 @@ tail_length _ = 0
 abbrev pub padding : ℕ → ℕ
 padding len = (8 - len % 8) % 8
 
--- the spelling of a message with these bytes behind its operands
+-- the bytes that encode a message with this tail after its operands
 abbrev pub spelling : Message → List ℕ → List ℕ
 spelling m tail = words_bytes (message_code m ∷ operands m) ++ tail ++ replicate (padding (length tail)) 0
 
--- The wire format of control messages: these bytes spell this message with these bytes behind its operands. No operand
--- lies outside its column, and behind the operands stand the bytes that the message speaks of, and zeros up to a
+-- The wire format of control messages: these bytes encode this message with this tail after its operands. No operand
+-- lies outside its column, and after the operands stand the bytes that the message speaks of, and zeros up to a
 -- multiple of 8.
 pub record Spells (bytes : List ℕ) (m : Message) (tail : List ℕ) : Type 0 where
   pub words : All IsWord (operands m)
@@ -152,7 +152,7 @@ abbrev pub ◌>>=◌ : {A B : Type 0} → Result A MsgFault → (A → Result B 
 unfoldable pub nth_word : List ℕ → ℕ → ℕ
 nth_word bytes place = word_of (take 8 (drop (8 * place) bytes))
 
--- the operand words behind a code, where there are enough bytes for them
+-- the operand words after a code, where there are enough bytes for them
 unfoldable pub one_word : List ℕ → Result ℕ MsgFault
 one_word bytes = if nat_lt (length bytes) 16 then Err Short else Ok (nth_word bytes 1)
 
@@ -205,23 +205,23 @@ unless_bad m (Some word) = Err (BadOperand word)
 unfoldable pub in_columns : Message → Result Message MsgFault
 in_columns m = unless_bad m (bad_operand m)
 
--- how many bytes spell a message, the padding aside, and in all
+-- how many bytes encode a message, the padding aside, and in all
 unfoldable pub unpadded_length : Message → ℕ
 unpadded_length m = 8 * (1 + operand_count m) + tail_length m
 
-unfoldable pub spelt_length : Message → ℕ
-spelt_length m = unpadded_length m + padding (tail_length m)
+unfoldable pub encoded_length : Message → ℕ
+encoded_length m = unpadded_length m + padding (tail_length m)
 
--- Behind the operands the bytes that the message speaks of have to be there, and the padding to be zeros. It stands in
--- the last word.
+-- After the operands the bytes that the message speaks of have to be there, and the padding has to be zeros. It stands
+-- in the last word.
 unfoldable pub with_tail : List ℕ → Message → Result (Message × ℕ) MsgFault
 with_tail bytes m =
-    if nat_lt (length bytes) (spelt_length m) then Err Short
-    else (if list_all (λ b. b == 0) (slice_range bytes (unpadded_length m) (spelt_length m))
-    then Ok (m, spelt_length m)
-    else Err (BadOperand (spelt_length m / 8 - 1)))
+    if nat_lt (length bytes) (encoded_length m) then Err Short
+    else (if list_all (λ b. b == 0) (slice_range bytes (unpadded_length m) (encoded_length m))
+    then Ok (m, encoded_length m)
+    else Err (BadOperand (encoded_length m / 8 - 1)))
 
--- the message with which bytes begin, and how many of them spell it
+-- the message with which bytes begin, and how many of them encode it
 unfoldable pub first_message : List ℕ → Result (Message × ℕ) MsgFault
 first_message bytes =
     if nat_lt (length bytes) 8 then Err Short

@@ -28,7 +28,7 @@ an_id = below (2 ^ 32)
 
 -- a signal's number, or 0 for none
 abbrev pub a_signal : Range
-a_signal = below 32
+a_signal = below 40
 
 -- a fault's number, or 0 for none
 abbrev pub a_fault : Range
@@ -36,7 +36,7 @@ a_fault = below 9
 
 -- a system call's number, or 0 for none
 abbrev pub a_call : Range
-a_call = below 30
+a_call = below 31
 
 -- a stop reason's number, or 0 for none
 abbrev pub a_reason : Range
@@ -44,17 +44,17 @@ a_reason = below 8
 
 -- what a stop is about: a signal's, a fault's or a call's number, or 0
 abbrev pub a_matter : Range
-a_matter = below 32
+a_matter = below 40
 
 -- a set of signals, of faults, of system calls
 abbrev pub signal_set : Range
-signal_set = below (2 ^ 31)
+signal_set = below (2 ^ 39)
 
 abbrev pub fault_set : Range
 fault_set = below (2 ^ 8)
 
 abbrev pub call_set : Range
-call_set = below (2 ^ 29)
+call_set = below (2 ^ 30)
 
 -- the number of an errno, or 0 for none
 abbrev pub an_errno : Range
@@ -64,21 +64,34 @@ an_errno w = (w == 0) || list_any (λ e. errno_number e == w) errnos
 abbrev pub a_disposition : Range
 a_disposition = below 3
 
+-- where a signal came from: kill(2), sigqueue(3C), the kernel, a fault, a controller; or 0 for nowhere
+abbrev pub an_origin : Range
+an_origin = below 6
+
 -- a kind of mapping: text, data, heap, stack, mapped
 abbrev pub a_mapping_kind : Range
 a_mapping_kind w = nat_le 1 w && nat_le w 5
 
--- The 30 words of an lwp's status: flags, lwp id, why and what it stands stopped for, current signal, current fault
+-- The 33 words of an lwp's status: flags, lwp id, why and what it stands stopped for, current signal, current fault
 -- and its address, system call, its 6 arguments, result and errno, held set, pending set, the registers r0 to r7,
--- sp, fp and pc, and the disposition of the current signal.
+-- sp, fp and pc, the disposition of the current signal, and the code, process id and value of its information.
 abbrev pub lwpstatus_ranges : List Range
 lwpstatus_ranges =
     below 64 ∷ an_id ∷ a_reason ∷ a_matter ∷ a_signal ∷ a_fault ∷ any_word ∷ a_call
     ∷ any_word ∷ any_word ∷ any_word ∷ any_word ∷ any_word ∷ any_word ∷ any_word ∷ an_errno ∷ signal_set ∷ signal_set
     ∷ any_word ∷ any_word ∷ any_word ∷ any_word ∷ any_word ∷ any_word ∷ any_word ∷ any_word ∷ any_word ∷ any_word ∷ any_word
+    ∷ a_disposition ∷ an_origin ∷ an_id ∷ any_word ∷ []
+
+-- The 30 words of an lwp's status as it was before signals had information (version 1): signals up to 31, and system
+-- calls up to 29. These ranges are for good.
+abbrev pub first_lwpstatus_ranges : List Range
+first_lwpstatus_ranges =
+    below 64 ∷ an_id ∷ a_reason ∷ below 32 ∷ below 32 ∷ a_fault ∷ any_word ∷ below 30
+    ∷ any_word ∷ any_word ∷ any_word ∷ any_word ∷ any_word ∷ any_word ∷ any_word ∷ an_errno ∷ below (2 ^ 31) ∷ below (2 ^ 31)
+    ∷ any_word ∷ any_word ∷ any_word ∷ any_word ∷ any_word ∷ any_word ∷ any_word ∷ any_word ∷ any_word ∷ any_word ∷ any_word
     ∷ a_disposition ∷ []
 
--- The 43 words of a process's status: flags, process id, parent's id, number of lwps, pending set, traced signals,
+-- The 46 words of a process's status: flags, process id, parent's id, number of lwps, pending set, traced signals,
 -- traced faults, calls traced at entry and at exit, base and size of the heap, the agent's id or 0, number of
 -- watched areas, and the status of the representative lwp.
 abbrev pub status_ranges : List Range
@@ -100,10 +113,10 @@ map_entry_ranges = any_word ∷ any_word ∷ below 8 ∷ a_mapping_kind ∷ any_
 abbrev pub usage_ranges : List Range
 usage_ranges = an_id ∷ any_word ∷ any_word ∷ any_word ∷ any_word ∷ []
 
--- The 31 words of a process's dispositions, of the signals 1 to 31: 0 default, 1 ignored, and else the address of a
+-- The 39 words of a process's dispositions, of the signals 1 to 39: 0 default, 1 ignored, and else the address of a
 -- handler.
 abbrev pub sigact_ranges : List Range
-sigact_ranges = replicate 31 any_word
+sigact_ranges = replicate 39 any_word
 
 -- The 3 words of a watched area: address, size, flags.
 abbrev pub watch_entry_ranges : List Range
@@ -129,7 +142,7 @@ fd_entry_ranges = a_descriptor ∷ a_file_kind ∷ an_access ∷ any_word ∷ an
 abbrev pub list_entry_ranges : List Range
 list_entry_ranges = an_id ∷ an_id ∷ any_word ∷ any_word ∷ any_word ∷ any_word ∷ []
 
--- Entries one behind the other, as in the records of mappings, watched areas, descriptors and processes; and behind
+-- Entries one after the other, as in the records of mappings, watched areas, descriptors and processes; and after
 -- their number, as in the record of all lwps of a process.
 abbrev pub entries_words : List (List ℕ) → List ℕ
 entries_words entries = flat_map (λ (words : List ℕ). words) entries
@@ -137,21 +150,22 @@ entries_words entries = flat_map (λ (words : List ℕ). words) entries
 abbrev pub counted_words : List (List ℕ) → List ℕ
 counted_words entries = length entries ∷ entries_words entries
 
--- The place of the first word that is out of its range, if there is one; words and ranges are as many.
-abbrev pub first_out_of_range : List Range → List ℕ → Option ℕ
-first_out_of_range ranges words = out_from 0 ranges words
-  where
-    out_from : ℕ → List Range → List ℕ → Option ℕ
-    out_from at [] words = None
-    out_from at (r ∷ rs) [] = None
-    out_from at (r ∷ rs) (w ∷ ws) = if r w then out_from (at + 1) rs ws else Some at
+-- The place of the first word that is out of its range, if there is one, counted from a place on. Words and ranges are
+-- as many.
+abbrev pub first_out_from : ℕ → List Range → List ℕ → Option ℕ
+first_out_from at [] words = None
+first_out_from at (r ∷ rs) [] = None
+first_out_from at (r ∷ rs) (w ∷ ws) = if r w then first_out_from (at + 1) rs ws else Some at
 
--- The wire format of records: these bytes spell a record of these words, each in its range.
-pub record SpellsRecord (ranges : List Range) (bytes words : List ℕ) : Type 0 where
+abbrev pub first_out_of_range : List Range → List ℕ → Option ℕ
+first_out_of_range ranges words = first_out_from 0 ranges words
+
+-- The wire format of records: these bytes encode a record of these words, each in its range.
+pub record EncodesRecord (ranges : List Range) (bytes words : List ℕ) : Type 0 where
   pub count : length words ≡ length ranges
   pub ranged : first_out_of_range ranges words ≡ None
-  pub spelt : bytes ≡ words_bytes words
+  pub encoded : bytes ≡ words_bytes words
 
--- a name of at most 31 bytes in a record: 32 bytes, with zeros behind the name
+-- a name of at most 31 bytes in a record: 32 bytes, with zeros after the name
 abbrev pub name_field : List ℕ → List ℕ
 name_field name = name ++ replicate (32 - length name) 0

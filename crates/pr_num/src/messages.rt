@@ -1,7 +1,7 @@
 /// A control message (proc(4), "CONTROL MESSAGES"): what one write to a `ctl` or `lwpctl` file asks for.
 ///
 /// The fields are the message's operand words as they were written. Some words are no operands of their message, as
-/// a signal number of 99: such a message has no spelling.
+/// a signal number of 99: such a message has no encoding.
 #[derive(Clone, Copy, Debug, PartialEq, Eq)]
 pub enum Message {
     /// PCSTOP: direct to stop, and wait for the stop.
@@ -48,7 +48,7 @@ pub enum Message {
     Agent { regs: [u64; 11] },
     /// PCREAD: read memory.
     Read { at: u64, len: u64 },
-    /// PCWRITE: write memory. The bytes stand behind the operand words, padded with zeros to a multiple of 8.
+    /// PCWRITE: write memory. The bytes stand after the operand words, padded with zeros to a multiple of 8.
     Write { at: u64, len: u64 },
 }
 

@@ -36,14 +36,14 @@ none_where_zero : {T : Type 0} (o : Option T) (w most : ℕ) → (IsSome o ↔ (
 none_where_zero o zero most range small e = refl
 none_where_zero o (suc w) most range small e = absurd (false≢true (sym (ap is_some e) ∙ range.1 (omega arith, omega arith)))
 
-pub signal_back : (w : ℕ) → w < 32 → number_or_zero signal_number (signal_of_number w) ≡ w
-signal_back w small = number-back signal_number (signal_of_number w) w (signal_number-of_number w) (none_where_zero _ w 31 (signal_numbers-range w) small)
+pub signal_back : (w : ℕ) → w < 40 → number_or_zero signal_number (signal_of_number w) ≡ w
+signal_back w small = number-back signal_number (signal_of_number w) w (signal_number-of_number w) (none_where_zero _ w 39 (signal_numbers-range w) small)
 
 pub fault_back : (w : ℕ) → w < 9 → number_or_zero fault_number (fault_of_number w) ≡ w
 fault_back w small = number-back fault_number (fault_of_number w) w (fault_number-of_number w) (none_where_zero _ w 8 (fault_numbers-range w) small)
 
-pub call_back : (w : ℕ) → w < 30 → number_or_zero syscall_number (syscall_of_number w) ≡ w
-call_back w small = number-back syscall_number (syscall_of_number w) w (syscall_number-of_number w) (none_where_zero _ w 29 (syscall_numbers-range w) small)
+pub call_back : (w : ℕ) → w < 31 → number_or_zero syscall_number (syscall_of_number w) ≡ w
+call_back w small = number-back syscall_number (syscall_of_number w) w (syscall_number-of_number w) (none_where_zero _ w 30 (syscall_numbers-range w) small)
 
 pub reason_back : (w : ℕ) → w < 8 → number_or_zero reason_number (entry_at stop_reasons w) ≡ w
 reason_back w small = number-back reason_number (entry_at stop_reasons w) w (reason_number-of_number w) (none_where_zero _ w 7 (reason_numbers-range w) small)
@@ -134,14 +134,35 @@ small_entry : {T : Type 0} (number : T → ℕ) (most : ℕ) → ((x : T) → nu
 small_entry number most small None = omega arith
 small_entry number most small (Some x) = omega (arith, small x)
 
-pub signal_small : (o : Option Sig) → number_or_zero signal_number o < 32
-signal_small = small_entry signal_number 31 (λ s. ((signal_numbers-range (signal_number s)).0 (ap is_some (signal_of_number-number s))).1)
+signal_most : (s : Sig) → signal_number s ≤ 39
+signal_most s = ((signal_numbers-range (signal_number s)).0 (ap is_some (signal_of_number-number s))).1
+
+fault_most : (f : Flt) → fault_number f ≤ 8
+fault_most f = ((fault_numbers-range (fault_number f)).0 (ap is_some (fault_of_number-number f))).1
+
+call_most : (c : Sysno) → syscall_number c ≤ 30
+call_most c = ((syscall_numbers-range (syscall_number c)).0 (ap is_some (syscall_of_number-number c))).1
+
+-- what a stop is about has a number below 40
+pub signal_number-lt : (s : Sig) → signal_number s < 40
+signal_number-lt s = omega (arith, signal_most s)
+
+pub fault_number-lt : (f : Flt) → fault_number f < 40
+fault_number-lt f = omega (arith, fault_most f)
+
+pub syscall_number-lt : (c : Sysno) → syscall_number c < 40
+syscall_number-lt c = omega (arith, call_most c)
+
+pub ruleset number_bounds = (signal_number-lt, fault_number-lt, syscall_number-lt)
+
+pub signal_small : (o : Option Sig) → number_or_zero signal_number o < 40
+signal_small = small_entry signal_number 39 signal_most
 
 pub fault_small : (o : Option Flt) → number_or_zero fault_number o < 9
-fault_small = small_entry fault_number 8 (λ f. ((fault_numbers-range (fault_number f)).0 (ap is_some (fault_of_number-number f))).1)
+fault_small = small_entry fault_number 8 fault_most
 
-pub call_small : (o : Option Sysno) → number_or_zero syscall_number o < 30
-call_small = small_entry syscall_number 29 (λ c. ((syscall_numbers-range (syscall_number c)).0 (ap is_some (syscall_of_number-number c))).1)
+pub call_small : (o : Option Sysno) → number_or_zero syscall_number o < 31
+call_small = small_entry syscall_number 30 call_most
 
 pub reason_small : (o : Option StopReason) → number_or_zero reason_number o < 8
 reason_small = small_entry reason_number 7 (λ r. ((reason_numbers-range (reason_number r)).0 (ap is_some (reason_of_number-number r))).1)

@@ -1,11 +1,14 @@
+pub mod EncodingLemmas
+pub mod EntryLemmas
 pub mod FieldLemmas
 pub mod FlagBounds
+pub mod ListEntryLemmas
 pub mod LwpStatusLemmas
 pub mod MapEntryLemmas
 pub mod PsinfoLemmas
 pub mod ReadLemmas
 pub mod RecordLemmas
 pub mod SigactLemmas
-pub mod SpellingLemmas
 pub mod StatusLemmas
+pub mod UpgradeLemmas
 pub mod UsageLemmas

@@ -1,5 +1,14 @@
-use Rattle.std.specs.Prelude.{ℕ, zero, suc, Bool, true, false, List, [], ◌∷◌, Option, Some, None, take, drop, slice_index, ◌+◌}
+use Rattle.std.specs.Prelude.{ℕ, zero, suc, Bool, true, false, List, [], ◌∷◌, Option, Some, None, take, drop, replicate, slice_index, ◌+◌}
+use Rattle.pr_num.specs.Control.{stopped_flag, istop_flag, dstop_flag, step_flag, asleep_flag, agent_flag, issys_flag}
 use Rattle.pr_num.specs.Words.{word_of}
+use Rattle.pr_num.specs.declared.files.Access.{Access}
+use Rattle.pr_num.specs.declared.files.Access.TheVariants.{Read, Write, Both}
+use Rattle.pr_num.specs.declared.files.Target.{Target}
+use Rattle.pr_num.specs.declared.files.Target.TheVariants as target
+use Rattle.pr_num.specs.declared.infos.Info.{Info}
+use Rattle.pr_rec.specs.declared.entries.FdKind.{FdKind}
+use Rattle.pr_rec.specs.declared.entries.FdKind.TheVariants.{File, PipeReader, PipeWriter}
+use Rattle.pr_rec.specs.declared.lwp_flags.LwpMarks.{LwpMarks}
 use Rattle.pr_rec.specs.declared.lwps.Disposition.{Disposition}
 use Rattle.pr_rec.specs.declared.lwps.Disposition.TheVariants.{Default, Ignored, Caught}
 
@@ -20,6 +29,49 @@ abbrev pub disposition_number : Disposition → ℕ
 disposition_number Default = 0
 disposition_number Ignored = 1
 disposition_number Caught = 2
+
+-- what a disposition is: 0 default, 1 ignored, else the address of a handler
+abbrev pub disposition_of : ℕ → Disposition
+disposition_of zero = Default
+disposition_of (suc zero) = Ignored
+disposition_of (suc (suc n)) = Caught
+
+-- what a descriptor stands for, by number
+abbrev pub fd_kind_number : FdKind → ℕ
+fd_kind_number File = 1
+fd_kind_number PipeReader = 2
+fd_kind_number PipeWriter = 3
+
+-- what an open file is, in a record of descriptors
+abbrev pub fd_kind_of : Target → FdKind
+fd_kind_of (target.File place) = File
+fd_kind_of (target.PipeReader place) = PipeReader
+fd_kind_of (target.PipeWriter place) = PipeWriter
+
+-- for what a file is open, by number
+abbrev pub access_number : Access → ℕ
+access_number Read = 0
+access_number Write = 1
+access_number Both = 2
+
+-- the code, process id and value of a signal's information
+abbrev pub info_words : Info → List ℕ
+info_words i = i.code ∷ i.pid ∷ i.value ∷ []
+
+-- a flag that is set or not
+abbrev pub flag_if : Bool → ℕ → ℕ
+flag_if false bit = 0
+flag_if true bit = bit
+
+-- the flags of an lwp with these marks
+abbrev pub lwp_flags_of : LwpMarks → ℕ
+lwp_flags_of m =
+    flag_if m.stopped stopped_flag + flag_if m.on_event istop_flag + flag_if m.directed dstop_flag + flag_if m.step step_flag
+    + flag_if m.asleep asleep_flag + flag_if m.agent agent_flag
+
+-- the flags of a process: its modes, and whether it is the system process
+abbrev pub process_flags_of : ℕ → Bool → ℕ
+process_flags_of modes system = modes + flag_if system issys_flag
 
 -- the first so many words of bytes
 abbrev pub front_words : ℕ → List ℕ → List ℕ

@@ -1,5 +1,7 @@
 pub mod Columns
 pub mod Fields
-pub mod Lists
+pub mod InRange
+pub mod NoLwp
 pub mod Reading
+pub mod RecordBytes
 pub mod RecordWords

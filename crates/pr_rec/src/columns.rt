@@ -6,7 +6,8 @@ ghost use Rattle.pr_num.specs.Words.{IsWord, words_bytes};
 ghost use Rattle.pr_num.specs.Errnos.{errnos, errno_number};
 ghost use Rattle.pr_rec.specs.Columns.{range_of};
 ghost use Rattle.pr_rec.specs.Fields.{front_words};
-ghost use Rattle.pr_rec.specs.Reading.{first_unfit, words_read};
+ghost use Rattle.pr_num.specs.Records.{first_out_of_range};
+ghost use Rattle.pr_rec.specs.Reading.{record_read};
 
 use crate::RecFault;
 use pr_codec::{WORD, put_words, read_words};
@@ -33,28 +34,28 @@ impl Column {
     pub(crate) const TRUTH: Column = Column::Below(2);
 
     /// A signal's number, or 0 for none.
-    pub(crate) const SIGNAL: Column = Column::Below(32);
+    pub(crate) const SIGNAL: Column = Column::Below(40);
 
     /// A fault's number, or 0 for none.
     pub(crate) const FAULT: Column = Column::Below(9);
 
     /// A system call's number, or 0 for none.
-    pub(crate) const CALL: Column = Column::Below(30);
+    pub(crate) const CALL: Column = Column::Below(31);
 
     /// A stop reason's number, or 0 for none.
     pub(crate) const REASON: Column = Column::Below(8);
 
     /// The number of what an lwp is stopped for, or 0.
-    pub(crate) const MATTER: Column = Column::Below(32);
+    pub(crate) const MATTER: Column = Column::Below(40);
 
     /// A set of signals.
-    pub(crate) const SIGNALS: Column = Column::Below(1 << 31);
+    pub(crate) const SIGNALS: Column = Column::Below(1 << 39);
 
     /// A set of faults.
     pub(crate) const FAULTS: Column = Column::Below(1 << 8);
 
     /// A set of system calls.
-    pub(crate) const CALLS: Column = Column::Below(1 << 29);
+    pub(crate) const CALLS: Column = Column::Below(1 << 30);
 
     /// The flags of an lwp.
     pub(crate) const LWP_FLAGS: Column = Column::Below(64);
@@ -64,6 +65,9 @@ impl Column {
 
     /// How a process disposes of a signal.
     pub(crate) const DISPOSITION: Column = Column::Below(3);
+
+    /// Where a signal came from, or 0 for nowhere.
+    pub(crate) const ORIGIN: Column = Column::Below(6);
 
     /// What a mapping allows.
     pub(crate) const PROTECTION: Column = Column::Below(8);
@@ -91,9 +95,9 @@ fn is_errno(word: u64) -> bool
 }
 
 /// The place of the first word that does not fit its column.
-fn first_unfit(columns: &[Column], words: &[u64]) -> Option<usize>
+fn first_out_of_range(columns: &[Column], words: &[u64]) -> Option<usize>
     requires { length columns.now ≡ length words.now }
-    ensures value { result ≡ first_unfit 0 (map range_of columns.now) words.now }
+    ensures value { result ≡ first_out_of_range (map range_of columns.now) words.now }
     ensures within { IfSome result (λ place. place < length words.now) }
 {
     for (place, column) in columns.iter().enumerate() {
@@ -113,22 +117,22 @@ pub(crate) fn fill(bytes: &[u8], words: &mut [u64])
 }
 
 /// Reads the words with which bytes begin, as many as the table has columns, and tests each by its column.
-#[tactic(auto, unfolding(crate::specs::Reading::words_read))]
+#[tactic(auto, unfolding(crate::specs::Reading::record_read))]
 pub(crate) fn read_record(
     columns: &[Column],
     bytes: &[u8],
     words: &mut [u64],
 ) -> Result<(), RecFault>
     requires { length columns.now ≡ length words.old }
-    ensures ok { OnOk result (words_read (map range_of columns.now) bytes.now ≡ Ok words.new) }
-    ensures err { IfErr result (λ fault. words_read (map range_of columns.now) bytes.now ≡ Err fault) }
+    ensures ok { OnOk result (record_read (map range_of columns.now) bytes.now ≡ Ok words.new) }
+    ensures err { IfErr result (λ fault. record_read (map range_of columns.now) bytes.now ≡ Err fault) }
 {
     let count = words.len();
     if bytes.len() / WORD < count {
         return Err(RecFault::Short);
     }
     fill(&bytes[..WORD * count], words);
-    match first_unfit(columns, words) {
+    match first_out_of_range(columns, words) {
         None => Ok(()),
         Some(place) => Err(RecFault::BadField { at: WORD * place }),
     }

@@ -35,6 +35,16 @@ impl Descriptor {
         }
     }
 
+    /// The descriptor at a place of a process's table of them.
+    pub fn at(place: usize) -> Descriptor
+        requires { place < 64 }
+        ensures { result ≡ place }
+    {
+        Descriptor {
+            number: place as u32,
+        }
+    }
+
     pub fn number(self) -> u32
         ensures value { result ≡ self }
         ensures range { result < 64 }

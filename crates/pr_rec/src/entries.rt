@@ -1,14 +1,14 @@
 ghost use Rattle.std.specs.Prelude.{◌≡◌, ◌++◌, ◌<◌, ◌^◌, OnOk};
 ghost use Rattle.std.specs.List.{All};
-ghost use Rattle.pr_num.specs.Records.{lwpstatus_ranges, map_entry_ranges, watch_entry_ranges, fd_entry_ranges, list_entry_ranges};
 ghost use Rattle.pr_num.specs.Words.{IsWord, words_bytes};
-ghost use Rattle.pr_rec.specs.Lists.{AreInRange, watch_entry_words_of, fd_entry_words_of, fd_kind_number, access_number, list_entry_words_of};
-ghost use Rattle.pr_rec.specs.RecordWords.{lwpstatus_words_of, map_entry_words_of};
+ghost use Rattle.pr_rec.specs.Fields.{fd_kind_number, fd_kind_of, access_number};
+ghost use Rattle.pr_rec.specs.InRange.{IsInfo, IsNameField, IsLwpStatus, IsMapEntry, IsWatchEntry, IsFdEntry, IsListEntry};
+ghost use Rattle.pr_rec.specs.RecordWords.{lwpstatus_words_of, map_entry_words_of, watch_entry_words_of, fd_entry_words_of, list_entry_words_of};
 
 use crate::fields::name_words;
 use crate::{Descriptor, LwpStatus, MapEntry};
 use pr_codec::push_word;
-use pr_num::{Access, NoMemory, WatchFlags};
+use pr_num::{Access, NoMemory, Target, WatchFlags};
 
 /// A watched area (proc(4), "watch").
 #[derive(Clone, Copy, Debug, PartialEq, Eq)]
@@ -31,6 +31,19 @@ pub enum FdKind {
     PipeWriter = 3,
 }
 
+impl FdKind {
+    /// What a descriptor of this open file stands for.
+    pub fn of(target: Target) -> FdKind
+        ensures { result ≡ fd_kind_of target }
+    {
+        match target {
+            Target::File(_) => FdKind::File,
+            Target::PipeReader(_) => FdKind::PipeReader,
+            Target::PipeWriter(_) => FdKind::PipeWriter,
+        }
+    }
+}
+
 /// An open descriptor of a process.
 #[derive(Clone, Copy, Debug, PartialEq, Eq)]
 pub struct FdEntry {
@@ -39,7 +52,7 @@ pub struct FdEntry {
     pub access: Access,
     /// Where the next read or write of a file begins.
     pub offset: u64,
-    /// The file's name, with zeros behind it, and zeros for a pipe.
+    /// The file's name, with zeros after it, and zeros for a pipe.
     pub name: [u8; 32],
 }
 
@@ -49,14 +62,14 @@ pub struct ListEntry {
     pub id: u32,
     /// The parent's id, 0 where it has none.
     pub parent: u32,
-    /// The name of its program, with zeros behind it.
+    /// The name of its program, with zeros after it.
     pub program: [u8; 32],
 }
 
 impl WatchEntry {
     fn words(&self) -> [u64; 3]
         ensures words { result ≡ watch_entry_words_of self.now }
-        ensures flags { self.now.flags < 2 ^ 4 }
+        ensures flags { self.now.flags < 16 }
     {
         [self.at, self.size, self.flags.word()]
     }
@@ -66,6 +79,7 @@ impl FdEntry {
     fn words(&self) -> [u64; 8]
         ensures words { result ≡ fd_entry_words_of self.now }
         ensures descriptor { self.now.descriptor < 64 }
+        ensures name { IsNameField self.now.name }
     {
         let name = name_words(&self.name);
         [
@@ -86,6 +100,7 @@ impl ListEntry {
         ensures words { result ≡ list_entry_words_of self.now }
         ensures id { self.now.id < 2 ^ 32 }
         ensures parent { self.now.parent < 2 ^ 32 }
+        ensures name { IsNameField self.now.program }
     {
         let program = name_words(&self.program);
         [
@@ -105,7 +120,7 @@ pub(crate) trait Entry {
 
     ghost words: { Self → List ℕ };
 
-    // That each of its words is in its range.
+    // That its fields are in their ranges.
     ghost is_ranged: { Self → Type 0 };
 
     /// Adds the words of the entry.
@@ -117,7 +132,7 @@ pub(crate) trait Entry {
 impl Entry for LwpStatus {
     ghost words = { lwpstatus_words_of };
 
-    ghost is_ranged = { λ l. AreInRange lwpstatus_ranges (lwpstatus_words_of l) };
+    ghost is_ranged = { λ l. IsInfo l.info → IsLwpStatus l };
 
     fn append(&self, out: &mut Vec<u8>) -> Result<(), NoMemory> {
         append_words(out, &self.words())
@@ -127,7 +142,7 @@ impl Entry for LwpStatus {
 impl Entry for MapEntry {
     ghost words = { map_entry_words_of };
 
-    ghost is_ranged = { λ m. AreInRange map_entry_ranges (map_entry_words_of m) };
+    ghost is_ranged = { IsMapEntry };
 
     fn append(&self, out: &mut Vec<u8>) -> Result<(), NoMemory> {
         append_words(out, &self.words())
@@ -137,7 +152,7 @@ impl Entry for MapEntry {
 impl Entry for WatchEntry {
     ghost words = { watch_entry_words_of };
 
-    ghost is_ranged = { λ w. AreInRange watch_entry_ranges (watch_entry_words_of w) };
+    ghost is_ranged = { IsWatchEntry };
 
     fn append(&self, out: &mut Vec<u8>) -> Result<(), NoMemory> {
         append_words(out, &self.words())
@@ -147,7 +162,7 @@ impl Entry for WatchEntry {
 impl Entry for FdEntry {
     ghost words = { fd_entry_words_of };
 
-    ghost is_ranged = { λ d. AreInRange fd_entry_ranges (fd_entry_words_of d) };
+    ghost is_ranged = { IsFdEntry };
 
     fn append(&self, out: &mut Vec<u8>) -> Result<(), NoMemory> {
         append_words(out, &self.words())
@@ -157,7 +172,7 @@ impl Entry for FdEntry {
 impl Entry for ListEntry {
     ghost words = { list_entry_words_of };
 
-    ghost is_ranged = { λ p. AreInRange list_entry_ranges (list_entry_words_of p) };
+    ghost is_ranged = { IsListEntry };
 
     fn append(&self, out: &mut Vec<u8>) -> Result<(), NoMemory> {
         append_words(out, &self.words())

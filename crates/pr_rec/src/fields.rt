@@ -9,6 +9,7 @@ ghost use Rattle.pr_num.specs.Syscalls.{syscall_number};
 ghost use Rattle.pr_num.specs.Errnos.{errno_number};
 ghost use Rattle.pr_num.specs.StopReasons.{reason_number};
 ghost use Rattle.pr_num.specs.Spaces.{kind_number};
+ghost use Rattle.pr_rec.specs.InRange.{IsNameField};
 ghost use Rattle.pr_rec.specs.Fields.{number_or_zero, truth_word, front_words, disposition_number};
 
 use crate::columns::fill;
@@ -27,7 +28,7 @@ pub(crate) fn signal_word(signal: Option<Sig>) -> u64
 
 #[tactic(auto, using(crate::proofs::FieldLemmas::numbers_back))]
 pub(crate) fn signal_of(word: u64) -> Option<Sig>
-    requires { word < 32 }
+    requires { word < 40 }
     ensures { number_or_zero signal_number result ≡ word }
 {
     Sig::from_number(word)
@@ -61,7 +62,7 @@ pub(crate) fn call_word(call: Option<Sysno>) -> u64
 
 #[tactic(auto, using(crate::proofs::FieldLemmas::numbers_back))]
 pub(crate) fn call_of(word: u64) -> Option<Sysno>
-    requires { word < 30 }
+    requires { word < 31 }
     ensures { number_or_zero syscall_number result ≡ word }
 {
     Sysno::from_number(word)
@@ -102,7 +103,7 @@ pub(crate) fn errno_of(word: u64) -> Option<Errno>
 }
 
 pub(crate) fn signals_of(word: u64) -> SigSet
-    requires { word < 2 ^ 31 }
+    requires { word < 2 ^ 39 }
     ensures { result ≡ word }
 {
     let Some(signals) = SigSet::from_word(word) else {
@@ -122,7 +123,7 @@ pub(crate) fn faults_of(word: u64) -> FltSet
 }
 
 pub(crate) fn calls_of(word: u64) -> SysSet
-    requires { word < 2 ^ 29 }
+    requires { word < 2 ^ 30 }
     ensures { result ≡ word }
 {
     let Some(calls) = SysSet::from_word(word) else {
@@ -162,7 +163,7 @@ pub(crate) fn lwp_flags_of(word: u64) -> LwpFlags
 }
 
 pub(crate) fn what_of(word: u64) -> What
-    requires { word < 32 }
+    requires { word < 40 }
     ensures { result ≡ word }
 {
     let Some(what) = What::from_number(word) else {
@@ -217,9 +218,10 @@ pub(crate) fn disposition_of(word: u64) -> Disposition
     }
 }
 
-/// The words of a name and the zeros behind it.
+/// The words of a name and the zeros after it.
 pub(crate) fn name_words(name: &[u8; 32]) -> [u64; 4]
-    ensures { result ≡ front_words 4 name.now }
+    ensures words { result ≡ front_words 4 name.now }
+    ensures name { IsNameField name.now }
 {
     let mut words = [0; 4];
     fill(name, &mut words);
@@ -229,7 +231,7 @@ pub(crate) fn name_words(name: &[u8; 32]) -> [u64; 4]
 pub(crate) fn name_of(words: &[u64]) -> [u8; 32]
     requires { length words.now ≡ 4 }
     ensures words { front_words 4 result ≡ words.now }
-    ensures whole { (length result ≡ 32) × All IsByte result }
+    ensures name { IsNameField result }
 {
     let mut name = [0; 32];
     put_words(&mut name, words);

@@ -15,21 +15,25 @@ mod names;
 mod process_flags;
 mod processes;
 mod statuses;
+mod upgrades;
 mod usages;
 mod whats;
 
 pub use descriptors::Descriptor;
 pub use entries::{FdEntry, FdKind, ListEntry, WatchEntry};
 pub use faults::RecFault;
-pub use laws::one_spelling_one_record;
+pub use laws::{
+    entries_stand_in_their_places, one_encoding_one_record, what_is_encoded_is_decoded,
+};
 pub use lists::{encode_sigact, write_fds, write_list, write_lstatus, write_map, write_watch};
-pub use lwp_flags::{LwpFlags, words_of_lwp_flags};
+pub use lwp_flags::{LwpFlags, LwpMarks, words_of_lwp_flags};
 pub use lwps::{Disposition, LwpStatus};
 pub use mappings::MapEntry;
 pub use names::name_field;
 pub use process_flags::{ProcessFlags, words_of_process_flags};
 pub use processes::Psinfo;
 pub use statuses::Status;
+pub use upgrades::upgrade;
 pub use usages::Usage;
 pub use whats::What;
 

@@ -1,10 +1,10 @@
 //! The records of the process file system that are lists.
 ghost use Rattle.std.specs.Prelude.{◌≡◌, ◌++◌, ◌<◌, map, IfOk, OnOk};
 ghost use Rattle.std.specs.List.{All};
-ghost use Rattle.pr_num.specs.Records.{SpellsRecord, entries_words, lwpstatus_ranges, map_entry_ranges, sigact_ranges, watch_entry_ranges, fd_entry_ranges, list_entry_ranges};
+ghost use Rattle.pr_num.specs.Records.{EncodesRecord, entries_words, sigact_ranges};
 ghost use Rattle.pr_num.specs.Words.{words_bytes};
-ghost use Rattle.pr_rec.specs.Lists.{AreInRange, fd_entry_words_of, fds_bytes, list_bytes, list_entry_words_of, lstatus_bytes, map_bytes, sigact_bytes, watch_bytes, watch_entry_words_of};
-ghost use Rattle.pr_rec.specs.RecordWords.{lwpstatus_words_of, map_entry_words_of};
+ghost use Rattle.pr_rec.specs.InRange.{IsInfo, IsLwpStatus, IsMapEntry, IsWatchEntry, IsFdEntry, IsListEntry};
+ghost use Rattle.pr_rec.specs.RecordBytes.{lstatus_bytes, map_bytes, watch_bytes, fds_bytes, list_bytes, sigact_bytes};
 
 use crate::columns::put_record;
 use crate::entries::{Entry, append_words};
@@ -13,9 +13,10 @@ use pr_num::{Bytes, NoMemory};
 use std::alloc::Global;
 
 /// The record of all lwps of a process: how many there are, and the status of each (proc(4), "lstatus").
+#[tactic(auto, unfolding(crate::specs::RecordBytes::lstatus_bytes))]
 pub fn write_lstatus(alloc: Global, lwps: &[LwpStatus]) -> Result<Bytes, NoMemory>
     ensures bytes { IfOk result (λ bytes. bytes ≡ lstatus_bytes lwps.now) }
-    ensures ranged { IfOk result (λ _. All (λ x. AreInRange lwpstatus_ranges (lwpstatus_words_of x)) lwps.now) }
+    ensures ranged { IfOk result (λ _. All (λ l. IsInfo l.info → IsLwpStatus l) lwps.now) }
 {
     let mut out = Vec::new(alloc);
     append_words(&mut out, &[lwps.len() as u64])?;
@@ -24,9 +25,10 @@ pub fn write_lstatus(alloc: Global, lwps: &[LwpStatus]) -> Result<Bytes, NoMemor
 }
 
 /// The record of the mappings of a process (proc(4), "map").
+#[tactic(auto, unfolding(crate::specs::RecordBytes::map_bytes))]
 pub fn write_map(alloc: Global, mappings: &[MapEntry]) -> Result<Bytes, NoMemory>
     ensures bytes { IfOk result (λ bytes. bytes ≡ map_bytes mappings.now) }
-    ensures ranged { IfOk result (λ _. All (λ x. AreInRange map_entry_ranges (map_entry_words_of x)) mappings.now) }
+    ensures ranged { IfOk result (λ _. All IsMapEntry mappings.now) }
 {
     let mut out = Vec::new(alloc);
     append_entries(&mut out, mappings)?;
@@ -34,9 +36,10 @@ pub fn write_map(alloc: Global, mappings: &[MapEntry]) -> Result<Bytes, NoMemory
 }
 
 /// The record of the watched areas of a process (proc(4), "watch").
+#[tactic(auto, unfolding(crate::specs::RecordBytes::watch_bytes))]
 pub fn write_watch(alloc: Global, areas: &[WatchEntry]) -> Result<Bytes, NoMemory>
     ensures bytes { IfOk result (λ bytes. bytes ≡ watch_bytes areas.now) }
-    ensures ranged { IfOk result (λ _. All (λ x. AreInRange watch_entry_ranges (watch_entry_words_of x)) areas.now) }
+    ensures ranged { IfOk result (λ _. All IsWatchEntry areas.now) }
 {
     let mut out = Vec::new(alloc);
     append_entries(&mut out, areas)?;
@@ -44,9 +47,10 @@ pub fn write_watch(alloc: Global, areas: &[WatchEntry]) -> Result<Bytes, NoMemor
 }
 
 /// The record of the open descriptors of a process.
+#[tactic(auto, unfolding(crate::specs::RecordBytes::fds_bytes))]
 pub fn write_fds(alloc: Global, descriptors: &[FdEntry]) -> Result<Bytes, NoMemory>
     ensures bytes { IfOk result (λ bytes. bytes ≡ fds_bytes descriptors.now) }
-    ensures ranged { IfOk result (λ _. All (λ x. AreInRange fd_entry_ranges (fd_entry_words_of x)) descriptors.now) }
+    ensures ranged { IfOk result (λ _. All IsFdEntry descriptors.now) }
 {
     let mut out = Vec::new(alloc);
     append_entries(&mut out, descriptors)?;
@@ -54,22 +58,24 @@ pub fn write_fds(alloc: Global, descriptors: &[FdEntry]) -> Result<Bytes, NoMemo
 }
 
 /// The list of processes.
+#[tactic(auto, unfolding(crate::specs::RecordBytes::list_bytes))]
 pub fn write_list(alloc: Global, processes: &[ListEntry]) -> Result<Bytes, NoMemory>
     ensures bytes { IfOk result (λ bytes. bytes ≡ list_bytes processes.now) }
-    ensures ranged { IfOk result (λ _. All (λ x. AreInRange list_entry_ranges (list_entry_words_of x)) processes.now) }
+    ensures ranged { IfOk result (λ _. All IsListEntry processes.now) }
 {
     let mut out = Vec::new(alloc);
     append_entries(&mut out, processes)?;
     Ok(Bytes::from_vec(out))
 }
 
-/// The dispositions of the signals 1 to 31: 0 default, 1 ignored, else the address of a handler (proc(4), "sigact").
+/// The dispositions of the signals 1 to 39: 0 default, 1 ignored, else the address of a handler (proc(4), "sigact").
 /// Takes no memory.
-pub fn encode_sigact(dispositions: &[u64; 31]) -> [u8; 248]
+#[tactic(auto, unfolding(crate::specs::RecordBytes::sigact_bytes))]
+pub fn encode_sigact(dispositions: &[u64; 39]) -> [u8; 312]
     ensures bytes { result ≡ sigact_bytes dispositions.now }
-    ensures spelt { SpellsRecord sigact_ranges result dispositions.now }
+    ensures encoded { EncodesRecord sigact_ranges result dispositions.now }
 {
-    let mut bytes = [0; 248];
+    let mut bytes = [0; 312];
     put_record(&mut bytes, dispositions);
     bytes
 }

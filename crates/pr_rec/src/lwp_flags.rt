@@ -1,5 +1,6 @@
-ghost use Rattle.std.specs.Prelude.{⊤, ◌≡◌, ◌^◌, ◌<◌, [], ◌∷◌, codes};
+ghost use Rattle.std.specs.Prelude.{⊤, ◌≡◌, ◌≤◌, ◌^◌, ◌<◌, [], ◌∷◌, codes};
 ghost use Rattle.pr_num.specs.Sets.{union_word, set_of_word};
+ghost use Rattle.pr_rec.specs.Fields.{flag_if, lwp_flags_of};
 ghost use Rattle.pr_num.specs.Control.{has_flags, stopped_flag, istop_flag, dstop_flag, step_flag, asleep_flag, agent_flag};
 
 use bitflags::{Flag, Flags, bitflag_items};
@@ -41,6 +42,23 @@ impl Flags for LwpBits {
     fn from_bits_retain(bits: u64) -> LwpBits {
         LwpBits(bits)
     }
+}
+
+/// What the flags of an lwp tell of it.
+#[derive(Clone, Copy, Debug, PartialEq, Eq)]
+pub struct LwpMarks {
+    /// It is stopped, for whatever reason.
+    pub stopped: bool,
+    /// It is stopped on an event of interest.
+    pub on_event: bool,
+    /// It is directed to stop.
+    pub directed: bool,
+    /// It is to incur FLTTRACE after the next instruction.
+    pub step: bool,
+    /// It is asleep in a system call.
+    pub asleep: bool,
+    /// It is the agent.
+    pub agent: bool,
 }
 
 /// How an lwp stands (proc(4), "lwpstatus"). Seen by contracts as the word of its flags, whose numbers are this
@@ -102,6 +120,21 @@ impl LwpFlags {
         }
     }
 
+    /// The flags of an lwp with these marks.
+    pub fn of(marks: LwpMarks) -> LwpFlags
+        ensures { result ≡ lwp_flags_of marks }
+    {
+        let word = bit_if(marks.stopped, LwpFlags::STOPPED)
+            + bit_if(marks.on_event, LwpFlags::ISTOP)
+            + bit_if(marks.directed, LwpFlags::DSTOP)
+            + bit_if(marks.step, LwpFlags::STEP)
+            + bit_if(marks.asleep, LwpFlags::ASLEEP)
+            + bit_if(marks.agent, LwpFlags::AGENT);
+        LwpFlags {
+            bits: LwpBits(word),
+        }
+    }
+
     /// The flags of a word, `None` exactly where a bit that is no flag of an lwp is set.
     #[tactic(auto, using(crate::proofs::FlagBounds::flag_bounds), unfolding(bitflags::specs::Sets::known_from))]
     pub fn from_word(w: u64) -> Option<LwpFlags>
@@ -135,6 +168,14 @@ impl LwpFlags {
             bits: self.bits.union(flags.bits),
         }
     }
+}
+
+/// The word of a flag that is set, else 0.
+fn bit_if(set: bool, flag: LwpFlags) -> u64
+    ensures value { result ≡ flag_if set flag }
+    ensures bound { result ≤ flag }
+{
+    if set { flag.word() } else { 0 }
 }
 
 /// The words of the flags of an lwp.

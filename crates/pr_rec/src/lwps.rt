@@ -1,8 +1,11 @@
 ghost use Rattle.std.specs.Prelude.{◌≡◌, ◌↔◌, ◌<◌, ◌^◌, Ok, Err, IfOk, IfErr};
-ghost use Rattle.pr_num.specs.Records.{SpellsRecord, lwpstatus_ranges};
-ghost use Rattle.pr_num.specs.Words.{words_bytes};
+ghost use Rattle.pr_num.specs.Records.{EncodesRecord, lwpstatus_ranges};
+ghost use Rattle.pr_rec.specs.Fields.{disposition_of};
+ghost use Rattle.pr_rec.specs.InRange.{HasArraySizes, HasLwpStatusFields, IsInfo, IsLwpStatus};
+ghost use Rattle.pr_rec.specs.NoLwp.{no_lwp};
 ghost use Rattle.pr_rec.specs.Reading.{BeginsWith, record_read};
-ghost use Rattle.pr_rec.specs.RecordWords.{lwpstatus_words_of, IsLwpStatus, HasLwpStatusFields};
+ghost use Rattle.pr_rec.specs.RecordBytes.{lwpstatus_bytes};
+ghost use Rattle.pr_rec.specs.RecordWords.{lwpstatus_words_of};
 ghost use Rattle.pr_rec.specs.declared.lwps.LwpStatus.{LwpStatus as Decoded};
 
 use crate::columns::{Column, put_record, read_record};
@@ -11,7 +14,7 @@ use crate::fields::{
     fault_word, lwp_flags_of, reason_of, reason_word, signal_of, signal_word, signals_of, what_of,
 };
 use crate::{LwpFlags, RecFault, What};
-use pr_num::{Errno, Flt, Sig, SigSet, StopReason, Sysno};
+use pr_num::{Errno, Flt, Info, Sig, SigSet, StopReason, Sysno};
 
 /// How a process disposes of a signal (sigaction(2)).
 #[derive(Clone, Copy, Debug, PartialEq, Eq)]
@@ -22,6 +25,20 @@ pub enum Disposition {
     Ignored = 1,
     /// It is caught by a handler.
     Caught = 2,
+}
+
+impl Disposition {
+    /// How a process disposes of a signal, of the word that sigaction(2) sets: 0 for the default, 1 for ignoring it, and
+    /// else the address of a handler.
+    pub fn of(word: u64) -> Disposition
+        ensures { result ≡ disposition_of word }
+    {
+        match word {
+            0 => Disposition::Default,
+            1 => Disposition::Ignored,
+            _ => Disposition::Caught,
+        }
+    }
 }
 
 /// The status of an lwp (proc(4), "lwpstatus").
@@ -54,10 +71,12 @@ pub struct LwpStatus {
     pub regs: [u64; 11],
     /// How the process disposes of the current signal; the default where there is none.
     pub disposition: Disposition,
+    /// Where the current signal came from (siginfo.h(3HEAD)); zeros where there is none.
+    pub info: Info,
 }
 
 /// What each word may hold.
-pub(crate) const COLUMNS: [Column; 30] = [
+pub(crate) const COLUMNS: [Column; 33] = [
     Column::LWP_FLAGS,
     Column::ID,
     Column::REASON,
@@ -88,25 +107,60 @@ pub(crate) const COLUMNS: [Column; 30] = [
     Column::Any,
     Column::Any,
     Column::DISPOSITION,
+    Column::ORIGIN,
+    Column::ID,
+    Column::Any,
 ];
 
 impl LwpStatus {
-    /// The bytes of the record, which spell it. Takes no memory.
-    pub fn encode(&self) -> [u8; 240]
-        ensures bytes { result ≡ words_bytes (lwpstatus_words_of self.now) }
-        ensures spelt { SpellsRecord lwpstatus_ranges result (lwpstatus_words_of self.now) }
+    /// What stands in the status of a process without lwps: zeros alone.
+    #[tactic(auto, unfolding(crate::specs::NoLwp::no_lwp))]
+    pub fn none() -> LwpStatus
+        ensures { result ≡ no_lwp }
     {
-        let mut bytes = [0; 240];
+        LwpStatus {
+            flags: LwpFlags::empty(),
+            id: 0,
+            why: None,
+            what: What::NONE,
+            signal: None,
+            fault: None,
+            fault_address: 0,
+            call: None,
+            arguments: [0; 6],
+            result: 0,
+            errno: None,
+            held: SigSet::empty(),
+            pending: SigSet::empty(),
+            regs: [0; 11],
+            disposition: Disposition::Default,
+            info: Info {
+                code: 0,
+                pid: 0,
+                value: 0,
+            },
+        }
+    }
+
+    /// The bytes of the record. Its fields are in their ranges, save for the information of a signal, which may have any
+    /// words: where it has a code and a process id, the bytes encode the record. Takes no memory.
+    #[tactic(auto, unfolding(crate::specs::RecordBytes::lwpstatus_bytes))]
+    pub fn encode(&self) -> [u8; 264]
+        ensures bytes { result ≡ lwpstatus_bytes self.now }
+        ensures ranged { IsInfo self.now.info → IsLwpStatus self.now }
+        ensures encoded { IsInfo self.now.info → EncodesRecord lwpstatus_ranges result (lwpstatus_words_of self.now) }
+    {
+        let mut bytes = [0; 264];
         put_record(&mut bytes, &self.words());
         bytes
     }
 
-    /// The record with which bytes begin: `Short` exactly where there are fewer than 240 bytes, and else `BadField`
+    /// The record with which bytes begin: `Short` exactly where there are fewer than 264 bytes, and else `BadField`
     /// exactly where a word is out of its range. Takes no memory.
     pub fn decode(bytes: &[u8]) -> Result<LwpStatus, RecFault>
         ensures ok { IfOk result (λ l. record_read lwpstatus_ranges bytes.now ≡ Ok (lwpstatus_words_of l)) }
         ensures err { IfErr result (λ fault. record_read lwpstatus_ranges bytes.now ≡ Err fault) }
-        ensures spelt { (l : Decoded) → (result ≡ Ok l) ↔ (IsLwpStatus l × BeginsWith lwpstatus_ranges bytes.now (lwpstatus_words_of l)) }
+        ensures encoded { (l : Decoded) → (result ≡ Ok l) ↔ (HasArraySizes l × BeginsWith lwpstatus_ranges bytes.now (lwpstatus_words_of l)) }
     {
         LwpStatus::read(bytes)
     }
@@ -114,20 +168,21 @@ impl LwpStatus {
     fn read(bytes: &[u8]) -> Result<LwpStatus, RecFault>
         ensures ok { IfOk result (λ l. record_read lwpstatus_ranges bytes.now ≡ Ok (lwpstatus_words_of l)) }
         ensures err { IfErr result (λ fault. record_read lwpstatus_ranges bytes.now ≡ Err fault) }
-        ensures whole { IfOk result IsLwpStatus }
+        ensures sizes { IfOk result HasArraySizes }
     {
-        let mut words = [0; 30];
+        let mut words = [0; 33];
         read_record(&COLUMNS, bytes, &mut words)?;
         Ok(LwpStatus::from_words(&words))
     }
 
-    pub(crate) fn words(&self) -> [u64; 30]
+    pub(crate) fn words(&self) -> [u64; 33]
         ensures words { result ≡ lwpstatus_words_of self.now }
         ensures flags { self.now.flags < 2 ^ 6 }
         ensures id { self.now.id < 2 ^ 32 }
-        ensures what { self.now.what < 32 }
-        ensures held { self.now.held < 2 ^ 31 }
-        ensures pending { self.now.pending < 2 ^ 31 }
+        ensures what { self.now.what < 40 }
+        ensures held { self.now.held < 2 ^ 39 }
+        ensures pending { self.now.pending < 2 ^ 39 }
+        ensures sizes { HasArraySizes self.now }
     {
         let arguments = &self.arguments;
         let regs = &self.regs;
@@ -162,13 +217,16 @@ impl LwpStatus {
             regs[9],
             regs[10],
             disposition_word(self.disposition),
+            self.info.code,
+            self.info.pid,
+            self.info.value,
         ]
     }
 
     pub(crate) fn from_words(words: &[u64]) -> LwpStatus
         requires { HasLwpStatusFields words.now }
         ensures words { lwpstatus_words_of result ≡ words.now }
-        ensures whole { IsLwpStatus result }
+        ensures sizes { HasArraySizes result }
     {
         LwpStatus {
             flags: lwp_flags_of(words[0]),
@@ -191,6 +249,11 @@ impl LwpStatus {
                 words[25], words[26], words[27], words[28],
             ],
             disposition: disposition_of(words[29]),
+            info: Info {
+                code: words[30],
+                pid: words[31],
+                value: words[32],
+            },
         }
     }
 }

@@ -1,7 +1,9 @@
 ghost use Rattle.std.specs.Prelude.{◌≡◌, ◌↔◌, ◌<◌, ◌≤◌, ◌^◌, Ok, Err, IfOk, IfErr, slice_index};
-ghost use Rattle.pr_num.specs.Records.{SpellsRecord, map_entry_ranges};
+ghost use Rattle.pr_num.specs.Records.{EncodesRecord, map_entry_ranges};
+ghost use Rattle.pr_num.specs.Words.{words_bytes};
+ghost use Rattle.pr_rec.specs.InRange.{IsNameField, IsMapEntry};
 ghost use Rattle.pr_rec.specs.Reading.{BeginsWith, record_read};
-ghost use Rattle.pr_rec.specs.RecordWords.{map_entry_words_of, IsNameField};
+ghost use Rattle.pr_rec.specs.RecordWords.{map_entry_words_of};
 ghost use Rattle.pr_rec.specs.declared.mappings.MapEntry.{MapEntry as Decoded};
 
 use crate::RecFault;
@@ -19,7 +21,7 @@ pub struct MapEntry {
     /// What may be done with its bytes.
     pub prot: Prot,
     pub kind: MappingKind,
-    /// The program's name for text and data, with zeros behind it, and else zeros.
+    /// The program's name for text and data, with zeros after it, and else zeros.
     pub name: [u8; 32],
 }
 
@@ -38,7 +40,9 @@ const COLUMNS: [Column; 8] = [
 impl MapEntry {
     /// The bytes of the record. Takes no memory.
     pub fn encode(&self) -> [u8; 64]
-        ensures { SpellsRecord map_entry_ranges result (map_entry_words_of self.now) }
+        ensures bytes { result ≡ words_bytes (map_entry_words_of self.now) }
+        ensures ranged { IsMapEntry self.now }
+        ensures encoded { EncodesRecord map_entry_ranges result (map_entry_words_of self.now) }
     {
         let mut bytes = [0; 64];
         put_record(&mut bytes, &self.words());
@@ -50,7 +54,7 @@ impl MapEntry {
     pub fn decode(bytes: &[u8]) -> Result<MapEntry, RecFault>
         ensures ok { IfOk result (λ m. record_read map_entry_ranges bytes.now ≡ Ok (map_entry_words_of m)) }
         ensures err { IfErr result (λ fault. record_read map_entry_ranges bytes.now ≡ Err fault) }
-        ensures spelt { (m : Decoded) → (result ≡ Ok m) ↔ (IsNameField m.name × BeginsWith map_entry_ranges bytes.now (map_entry_words_of m)) }
+        ensures encoded { (m : Decoded) → (result ≡ Ok m) ↔ (IsNameField m.name × BeginsWith map_entry_ranges bytes.now (map_entry_words_of m)) }
     {
         MapEntry::read(bytes)
     }
@@ -68,6 +72,7 @@ impl MapEntry {
     pub(crate) fn words(&self) -> [u64; 8]
         ensures words { result ≡ map_entry_words_of self.now }
         ensures prot { self.now.prot < 8 }
+        ensures name { IsNameField self.now.name }
     {
         let name = name_words(&self.name);
         [

@@ -3,7 +3,7 @@ ghost use Rattle.pr_num.specs.Records.{name_field};
 
 use pr_num::Name;
 
-/// A name as it stands in a record: 32 bytes, with zeros behind the name.
+/// A name as it stands in a record: 32 bytes, with zeros after the name.
 pub fn name_field(name: &Name) -> [u8; 32]
     ensures { result ≡ name_field name.now }
 {

@@ -1,8 +1,10 @@
 ghost use Rattle.std.specs.Prelude.{⊤, ◌≡◌, ◌^◌, ◌<◌, [], ◌∷◌, codes};
 ghost use Rattle.pr_num.specs.Sets.{union_word, set_of_word};
+ghost use Rattle.pr_rec.specs.Fields.{process_flags_of};
 ghost use Rattle.pr_num.specs.Control.{has_flags, fork_mode, rlc_mode, klc_mode, async_mode, issys_flag};
 
 use bitflags::{Flag, Flags, bitflag_items};
+use pr_num::Modes;
 use std::marker::Model;
 
 /// Any bits of a word, also such as are no flag of a process: what `bitflags` works on.
@@ -93,6 +95,20 @@ impl ProcessFlags {
     {
         ProcessFlags {
             bits: ProcessBits::empty(),
+        }
+    }
+
+    /// The flags of a process with these modes, which may be the system process.
+    pub fn of(modes: Modes, system: bool) -> ProcessFlags
+        ensures { result ≡ process_flags_of modes system }
+    {
+        let bit = if system {
+            ProcessFlags::ISSYS.word()
+        } else {
+            0
+        };
+        ProcessFlags {
+            bits: ProcessBits(modes.word() + bit),
         }
     }
 

@@ -1,7 +1,9 @@
 ghost use Rattle.std.specs.Prelude.{◌≡◌, ◌↔◌, ◌<◌, ◌^◌, Ok, Err, IfOk, IfErr, slice_index};
-ghost use Rattle.pr_num.specs.Records.{SpellsRecord, psinfo_ranges};
+ghost use Rattle.pr_num.specs.Records.{EncodesRecord, psinfo_ranges};
+ghost use Rattle.pr_rec.specs.InRange.{IsNameField, IsPsinfo};
 ghost use Rattle.pr_rec.specs.Reading.{BeginsWith, record_read};
-ghost use Rattle.pr_rec.specs.RecordWords.{psinfo_words_of, IsNameField};
+ghost use Rattle.pr_rec.specs.RecordBytes.{psinfo_bytes};
+ghost use Rattle.pr_rec.specs.RecordWords.{psinfo_words_of};
 ghost use Rattle.pr_rec.specs.declared.processes.Psinfo.{Psinfo as Decoded};
 
 use crate::RecFault;
@@ -27,7 +29,7 @@ pub struct Psinfo {
     pub made_at: u64,
     /// The signal that stopped it by job control.
     pub job_stop: Option<Sig>,
-    /// The name of its program, with zeros behind it.
+    /// The name of its program, with zeros after it.
     pub program: [u8; 32],
 }
 
@@ -49,8 +51,11 @@ const COLUMNS: [Column; 12] = [
 
 impl Psinfo {
     /// The bytes of the record. Takes no memory.
+    #[tactic(auto, unfolding(crate::specs::RecordBytes::psinfo_bytes))]
     pub fn encode(&self) -> [u8; 96]
-        ensures { SpellsRecord psinfo_ranges result (psinfo_words_of self.now) }
+        ensures bytes { result ≡ psinfo_bytes self.now }
+        ensures ranged { IsPsinfo self.now }
+        ensures encoded { EncodesRecord psinfo_ranges result (psinfo_words_of self.now) }
     {
         let mut bytes = [0; 96];
         put_record(&mut bytes, &self.words());
@@ -62,7 +67,7 @@ impl Psinfo {
     pub fn decode(bytes: &[u8]) -> Result<Psinfo, RecFault>
         ensures ok { IfOk result (λ p. record_read psinfo_ranges bytes.now ≡ Ok (psinfo_words_of p)) }
         ensures err { IfErr result (λ fault. record_read psinfo_ranges bytes.now ≡ Err fault) }
-        ensures spelt { (p : Decoded) → (result ≡ Ok p) ↔ (IsNameField p.program × BeginsWith psinfo_ranges bytes.now (psinfo_words_of p)) }
+        ensures encoded { (p : Decoded) → (result ≡ Ok p) ↔ (IsNameField p.program × BeginsWith psinfo_ranges bytes.now (psinfo_words_of p)) }
     {
         Psinfo::read(bytes)
     }
@@ -81,6 +86,7 @@ impl Psinfo {
         ensures words { result ≡ psinfo_words_of self.now }
         ensures id { self.now.id < 2 ^ 32 }
         ensures parent { self.now.parent < 2 ^ 32 }
+        ensures name { IsNameField self.now.program }
     {
         let program = name_words(&self.program);
         [
@@ -103,7 +109,7 @@ impl Psinfo {
         requires id { slice_index words.now 0 < 2 ^ 32 }
         requires parent { slice_index words.now 1 < 2 ^ 32 }
         requires zombie { slice_index words.now 3 < 2 }
-        requires job_stop { slice_index words.now 7 < 32 }
+        requires job_stop { slice_index words.now 7 < 40 }
         ensures words { psinfo_words_of result ≡ words.now }
         ensures name { IsNameField result.program }
     {

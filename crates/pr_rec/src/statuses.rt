@@ -1,8 +1,9 @@
 ghost use Rattle.std.specs.Prelude.{◌≡◌, ◌↔◌, ◌<◌, ◌^◌, Ok, Err, IfOk, IfErr, drop, length, slice_index};
-ghost use Rattle.pr_num.specs.Records.{SpellsRecord, status_ranges};
-ghost use Rattle.pr_num.specs.Words.{words_bytes};
+ghost use Rattle.pr_num.specs.Records.{EncodesRecord, status_ranges};
+ghost use Rattle.pr_rec.specs.InRange.{HasArraySizes, HasLwpStatusFields, IsInfo, IsStatus};
 ghost use Rattle.pr_rec.specs.Reading.{BeginsWith, record_read};
-ghost use Rattle.pr_rec.specs.RecordWords.{status_words_of, own_words_of, IsLwpStatus, HasLwpStatusFields};
+ghost use Rattle.pr_rec.specs.RecordBytes.{status_bytes};
+ghost use Rattle.pr_rec.specs.RecordWords.{status_words_of, own_words_of};
 ghost use Rattle.pr_rec.specs.declared.statuses.Status.{Status as Decoded};
 
 use crate::columns::{Column, put_two, read_record};
@@ -35,12 +36,12 @@ pub struct Status {
     pub agent: u32,
     /// How many watched areas it has.
     pub areas: u64,
-    /// The representative lwp. Where the process has no lwp, its words are 0.
+    /// The representative lwp; where the process has no lwp, `LwpStatus::none()`.
     pub lwp: LwpStatus,
 }
 
 /// What each word may hold.
-const COLUMNS: [Column; 43] = [
+const COLUMNS: [Column; 46] = [
     Column::PROCESS_FLAGS,
     Column::ID,
     Column::ID,
@@ -85,25 +86,31 @@ const COLUMNS: [Column; 43] = [
     Column::Any,
     Column::Any,
     Column::DISPOSITION,
+    Column::ORIGIN,
+    Column::ID,
+    Column::Any,
 ];
 
 impl Status {
-    /// The bytes of the record, which spell it. Takes no memory.
-    pub fn encode(&self) -> [u8; 344]
-        ensures bytes { result ≡ words_bytes (status_words_of self.now) }
-        ensures spelt { SpellsRecord status_ranges result (status_words_of self.now) }
+    /// The bytes of the record. Its fields are in their ranges, save for the information of the representative's signal,
+    /// which may have any words: where it has a code and a process id, the bytes encode the record. Takes no memory.
+    #[tactic(auto, unfolding(crate::specs::RecordBytes::status_bytes))]
+    pub fn encode(&self) -> [u8; 368]
+        ensures bytes { result ≡ status_bytes self.now }
+        ensures ranged { IsInfo self.now.lwp.info → IsStatus self.now }
+        ensures encoded { IsInfo self.now.lwp.info → EncodesRecord status_ranges result (status_words_of self.now) }
     {
-        let mut bytes = [0; 344];
+        let mut bytes = [0; 368];
         put_two(&mut bytes, &self.own_words(), &self.lwp.words());
         bytes
     }
 
-    /// The record with which bytes begin: `Short` exactly where there are fewer than 344 bytes, and else `BadField`
+    /// The record with which bytes begin: `Short` exactly where there are fewer than 368 bytes, and else `BadField`
     /// exactly where a word is out of its range. Takes no memory.
     pub fn decode(bytes: &[u8]) -> Result<Status, RecFault>
         ensures ok { IfOk result (λ s. record_read status_ranges bytes.now ≡ Ok (status_words_of s)) }
         ensures err { IfErr result (λ fault. record_read status_ranges bytes.now ≡ Err fault) }
-        ensures spelt { (s : Decoded) → (result ≡ Ok s) ↔ (IsLwpStatus s.lwp × BeginsWith status_ranges bytes.now (status_words_of s)) }
+        ensures encoded { (s : Decoded) → (result ≡ Ok s) ↔ (HasArraySizes s.lwp × BeginsWith status_ranges bytes.now (status_words_of s)) }
     {
         Status::read(bytes)
     }
@@ -111,9 +118,9 @@ impl Status {
     fn read(bytes: &[u8]) -> Result<Status, RecFault>
         ensures ok { IfOk result (λ s. record_read status_ranges bytes.now ≡ Ok (status_words_of s)) }
         ensures err { IfErr result (λ fault. record_read status_ranges bytes.now ≡ Err fault) }
-        ensures whole { IfOk result (λ s. IsLwpStatus s.lwp) }
+        ensures sizes { IfOk result (λ s. HasArraySizes s.lwp) }
     {
-        let mut words = [0; 43];
+        let mut words = [0; 46];
         read_record(&COLUMNS, bytes, &mut words)?;
         Ok(Status::from_words(&words))
     }
@@ -124,11 +131,11 @@ impl Status {
         ensures flags { self.now.flags < 2 ^ 5 }
         ensures id { self.now.id < 2 ^ 32 }
         ensures parent { self.now.parent < 2 ^ 32 }
-        ensures pending { self.now.pending < 2 ^ 31 }
-        ensures signals { self.now.traced_signals < 2 ^ 31 }
+        ensures pending { self.now.pending < 2 ^ 39 }
+        ensures signals { self.now.traced_signals < 2 ^ 39 }
         ensures faults { self.now.traced_faults < 2 ^ 8 }
-        ensures entries { self.now.traced_entries < 2 ^ 29 }
-        ensures exits { self.now.traced_exits < 2 ^ 29 }
+        ensures entries { self.now.traced_entries < 2 ^ 30 }
+        ensures exits { self.now.traced_exits < 2 ^ 30 }
         ensures agent { self.now.agent < 2 ^ 32 }
     {
         [
@@ -149,19 +156,19 @@ impl Status {
     }
 
     fn from_words(words: &[u64]) -> Status
-        requires size { length words.now ≡ 43 }
+        requires size { length words.now ≡ 46 }
         requires flags { slice_index words.now 0 < 2 ^ 5 }
         requires id { slice_index words.now 1 < 2 ^ 32 }
         requires parent { slice_index words.now 2 < 2 ^ 32 }
-        requires pending { slice_index words.now 4 < 2 ^ 31 }
-        requires signals { slice_index words.now 5 < 2 ^ 31 }
+        requires pending { slice_index words.now 4 < 2 ^ 39 }
+        requires signals { slice_index words.now 5 < 2 ^ 39 }
         requires faults { slice_index words.now 6 < 2 ^ 8 }
-        requires entries { slice_index words.now 7 < 2 ^ 29 }
-        requires exits { slice_index words.now 8 < 2 ^ 29 }
+        requires entries { slice_index words.now 7 < 2 ^ 30 }
+        requires exits { slice_index words.now 8 < 2 ^ 30 }
         requires agent { slice_index words.now 11 < 2 ^ 32 }
         requires lwp { HasLwpStatusFields (drop 13 words.now) }
         ensures words { status_words_of result ≡ words.now }
-        ensures whole { IsLwpStatus result.lwp }
+        ensures sizes { HasArraySizes result.lwp }
     {
         Status {
             flags: process_flags_of(words[0]),

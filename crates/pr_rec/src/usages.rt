@@ -1,6 +1,8 @@
 ghost use Rattle.std.specs.Prelude.{◌≡◌, ◌↔◌, ◌<◌, ◌^◌, Ok, Err, IfOk, IfErr, slice_index};
-ghost use Rattle.pr_num.specs.Records.{SpellsRecord, usage_ranges};
+ghost use Rattle.pr_num.specs.Records.{EncodesRecord, usage_ranges};
+ghost use Rattle.pr_rec.specs.InRange.{IsUsage};
 ghost use Rattle.pr_rec.specs.Reading.{BeginsWith, record_read};
+ghost use Rattle.pr_rec.specs.RecordBytes.{usage_bytes};
 ghost use Rattle.pr_rec.specs.RecordWords.{usage_words_of};
 ghost use Rattle.pr_rec.specs.declared.usages.Usage.{Usage as Decoded};
 
@@ -33,8 +35,11 @@ const COLUMNS: [Column; 5] = [
 
 impl Usage {
     /// The bytes of the record. Takes no memory.
+    #[tactic(auto, unfolding(crate::specs::RecordBytes::usage_bytes))]
     pub fn encode(&self) -> [u8; 40]
-        ensures { SpellsRecord usage_ranges result (usage_words_of self.now) }
+        ensures bytes { result ≡ usage_bytes self.now }
+        ensures ranged { IsUsage self.now }
+        ensures encoded { EncodesRecord usage_ranges result (usage_words_of self.now) }
     {
         let mut bytes = [0; 40];
         put_record(&mut bytes, &self.words());
@@ -46,7 +51,7 @@ impl Usage {
     pub fn decode(bytes: &[u8]) -> Result<Usage, RecFault>
         ensures ok { IfOk result (λ u. record_read usage_ranges bytes.now ≡ Ok (usage_words_of u)) }
         ensures err { IfErr result (λ fault. record_read usage_ranges bytes.now ≡ Err fault) }
-        ensures spelt { (u : Decoded) → (result ≡ Ok u) ↔ BeginsWith usage_ranges bytes.now (usage_words_of u) }
+        ensures encoded { (u : Decoded) → (result ≡ Ok u) ↔ BeginsWith usage_ranges bytes.now (usage_words_of u) }
     {
         Usage::read(bytes)
     }

@@ -10,7 +10,7 @@ pub returns-clause-words : goal.returns-clause-words
 returns-clause-words c =
     sym (words-front_words c.args.words.now c.put_words.new.out 4 (sym c.put_words.ensures) c.requires (All-from_get_or IsWord c.args.words.now 0 (λ i inside. let fits = c.type_inv.words i in omega arith)))
 
-pub returns-clause-whole : goal.returns-clause-whole
-returns-clause-whole c =
+pub returns-clause-name : goal.returns-clause-name
+returns-clause-name c =
     let e = c.put_words.ensures in
-    (omega (arith, ap length e, length-words_bytes c.args.words.now), subst (All IsByte) (sym e) (AreBytes-words_bytes c.args.words.now))
+    record { whole = omega (arith, ap length e, length-words_bytes c.args.words.now); bytes = subst (All IsByte) (sym e) (AreBytes-words_bytes c.args.words.now) }

@@ -1,12 +1,11 @@
 use Rattle.std.proofs.Common.{◌≡◌, length, arith}
-use Rattle.pr_rec.proofs.SigactLemmas.{sigact-ranged}
+use Rattle.pr_num.specs.Records.{sigact_ranges}
+use Rattle.pr_rec.proofs.RecordLemmas.{ranged-encodes}
+use Rattle.pr_rec.proofs.SigactLemmas.{any_words-ranged}
 use Rattle.pr_rec.proofs.lists.encode_sigact.Goals as goal
 
-pub returns-clause-spelt : goal.returns-clause-spelt
-returns-clause-spelt c =
-    let size : length c.args.dispositions.now ≡ 31 = omega arith in
-    record {
-      count = size;
-      ranged = sigact-ranged c.args.dispositions.now size c.put_record.ensures.words;
-      spelt = c.put_record.ensures.bytes;
-    }
+pub returns-clause-encoded : goal.returns-clause-encoded
+returns-clause-encoded c =
+    let words = c.args.dispositions.now in
+    let size : length words ≡ 39 = omega arith in
+    ranged-encodes sigact_ranges words _ size (any_words-ranged 39 words size c.put_record.ensures.words) c.put_record.ensures.bytes

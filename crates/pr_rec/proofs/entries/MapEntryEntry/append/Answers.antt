@@ -1,13 +1,8 @@
-use Rattle.std.proofs.Common.{refl, subst}
+use Rattle.std.proofs.Common.{subst}
 use Rattle.std.specs.List.{All}
 use Rattle.pr_num.specs.Words.{IsWord}
-use Rattle.pr_rec.proofs.MapEntryLemmas.{map_entry-ranged}
+use Rattle.pr_rec.proofs.MapEntryLemmas.{map_entry-typed}
 use Rattle.pr_rec.proofs.entries.MapEntryEntry.append.Goals as goal
 
 pub returns-clause-ranged : goal.returns-clause-ranged
-returns-clause-ranged c =
-    let words = c.words.ensures in
-    record {
-      count = refl;
-      ranged = map_entry-ranged c.args.self.now words.prot (subst (All IsWord) words.words c.append_words.ensures.words);
-    }
+returns-clause-ranged c = map_entry-typed c.args.self.now c.words.ensures.prot c.words.ensures.name (subst (All IsWord) c.words.ensures.words c.append_words.ensures.words)

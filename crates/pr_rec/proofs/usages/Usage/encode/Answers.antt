@@ -1,14 +1,15 @@
 use Rattle.std.proofs.Common.{refl, subst, ap, ◌∙◌}
 use Rattle.std.specs.List.{All}
+use Rattle.pr_num.specs.Records.{usage_ranges}
 use Rattle.pr_num.specs.Words.{IsWord, words_bytes}
-use Rattle.pr_rec.proofs.UsageLemmas.{usage-ranged}
+use Rattle.pr_rec.proofs.RecordLemmas.{ranged-encodes}
+use Rattle.pr_rec.proofs.UsageLemmas.{usage-ranged, usage-typed}
+use Rattle.pr_rec.specs.RecordWords.{usage_words_of}
 use Rattle.pr_rec.proofs.usages.Usage.encode.Goals as goal
 
-pub returns : goal.returns
-returns c =
-    let words = c.words.ensures.words in
-    record {
-      count = refl;
-      ranged = usage-ranged c.args.self.now c.words.ensures.id (subst (All IsWord) words c.put_record.ensures.words);
-      spelt = c.put_record.ensures.bytes ∙ ap words_bytes words;
-    }
+pub returns-clause-ranged : goal.returns-clause-ranged
+returns-clause-ranged c = usage-typed c.args.self.now c.words.ensures.id (subst (All IsWord) c.words.ensures.words c.put_record.ensures.words)
+
+pub returns-clause-encoded : goal.returns-clause-encoded
+returns-clause-encoded c =
+    ranged-encodes usage_ranges (usage_words_of c.args.self.now) _ refl (usage-ranged c.args.self.now (returns-clause-ranged c)) (c.put_record.ensures.bytes ∙ ap words_bytes c.words.ensures.words)

@@ -2,18 +2,17 @@ use Rattle.std.proofs.Common.{Ok, sym, ap, ◌∙◌}
 use Rattle.std.proofs.lemmas.Result.{err_from_is_err_and}
 use Rattle.std.proofs.lemmas.Bool.{ltb-true}
 use Rattle.pr_num.specs.Records.{usage_ranges}
-use Rattle.pr_rec.proofs.RecordLemmas.{record_read-words_read, words_read-at}
-use Rattle.pr_rec.proofs.UsageLemmas.{usage_tested}
+use Rattle.pr_rec.proofs.RecordLemmas.{read-at}
 use Rattle.pr_rec.proofs.usages.Usage.read.Goals as goal
 
 pub returns-in_err-read_record-clause-err : goal.returns-in_err-read_record-clause-err
 returns-in_err-read_record-clause-err c =
     let p = err_from_is_err_and c.from_residual.result c.from_residual.ensures.1 in
-    rw (p.1, p.2) (record_read-words_read usage_ranges usage_tested c.args.bytes.now ∙ c.in_err-read_record.ensures.err)
+    rw (p.1, p.2) (c.in_err-read_record.ensures.err)
 
 pub from_words-requires : goal.from_words-requires
-from_words-requires c = ltb-true _ _ (words_read-at usage_ranges c.args.bytes.now c.read_record.new.words 0 c.in_ok-read_record.ensures.ok)
+from_words-requires c = ltb-true _ _ (read-at usage_ranges c.args.bytes.now c.read_record.new.words 0 c.in_ok-read_record.ensures.ok)
 
 pub returns-clause-ok : goal.returns-clause-ok
 returns-clause-ok c =
-    record_read-words_read usage_ranges usage_tested c.args.bytes.now ∙ c.in_ok-read_record.ensures.ok ∙ ap Ok (sym c.from_words.ensures)
+    c.in_ok-read_record.ensures.ok ∙ ap Ok (sym c.from_words.ensures)
