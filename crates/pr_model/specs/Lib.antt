@@ -25,11 +25,12 @@ pub mod PendingSignals
 pub mod Points
 pub mod ProcessCalls
 pub mod Readers
+pub mod Reads
+pub mod Records
 pub mod Registers
 pub mod Rows
 pub mod Running
 pub mod SignalCalls
-pub mod SignalInfo
 pub mod Signals
 pub mod Spawning
 pub mod State
