@@ -4,12 +4,14 @@ pub mod Calls
 pub mod Changes
 pub mod ControlMessages
 pub mod Erasure
+pub mod Events
 pub mod FileCallRows
 pub mod FirstState
 pub mod Generation
 pub mod Handles
 pub mod InstructionEffects
 pub mod Kept
+pub mod Lawful
 pub mod Legal
 pub mod Lives
 pub mod LwpCalls
