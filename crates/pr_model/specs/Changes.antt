@@ -12,7 +12,7 @@ use Rattle.pr_model.specs.State.{LwpOf, ProcessOf, SystemOf, with_process, with_
 use Rattle.pr_model.specs.declared.events.Res.{Res}
 use Rattle.pr_model.specs.declared.events.Res.TheVariants.{Value, Error}
 use Rattle.pr_model.specs.declared.frames.Frame.{Frame}
-use Rattle.pr_model.specs.declared.infos.Info.{Info}
+use Rattle.pr_num.specs.declared.infos.Info.{Info}
 
 -- What a turn of an lwp changes of the system, beside the lwp itself, as data: a row a kind of change. No change ends
 -- the lwp whose turn it is, nor its process: an ending does.

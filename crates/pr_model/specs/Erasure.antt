@@ -2,7 +2,7 @@ use Rattle.pr_num.specs.Faults.{fault_signal}
 use Rattle.pr_num.specs.ById.{map_each}
 use Rattle.pr_model.specs.Machines.{Place, in_program, at_call, sleeping, UntracedLwp, UntracedProcess, UntracedSystem}
 use Rattle.pr_model.specs.PendingSignals.{Pending, added}
-use Rattle.pr_model.specs.SignalInfo.{from_fault}
+use Rattle.pr_num.specs.Infos.{of_fault}
 use Rattle.pr_model.specs.State.{TracedState, TracedSystem, TracedProcess, TracedLwp}
 use Rattle.pr_model.specs.declared.lwps.Phase.{Phase}
 use Rattle.pr_model.specs.declared.lwps.Phase.TheVariants.{User, Entered, Asleep, Exiting, Faulted}
@@ -25,7 +25,7 @@ erased_pending User pending = pending
 erased_pending (Entered call) pending = pending
 erased_pending (Asleep call args since) pending = pending
 erased_pending (Exiting call args result) pending = pending
-erased_pending (Faulted f address) pending = added (fault_signal f) (from_fault address) pending
+erased_pending (Faulted f address) pending = added (fault_signal f) (of_fault address) pending
 
 unfoldable pub erased_lwp : TracedLwp → UntracedLwp
 erased_lwp l = record {

@@ -15,7 +15,7 @@ use Rattle.pr_parts.specs.declared.files.FileNo.TheVariants.{BadFd, NoFile, NoPl
 use Rattle.pr_parts.specs.declared.files.Stat.{Stat}
 use Rattle.pr_model.specs.Changes.{Effect, does, sleeps, gives, fails, files_are, space_is, signals_itself}
 use Rattle.pr_model.specs.MemoryCalls.{can_write, path_at}
-use Rattle.pr_model.specs.SignalInfo.{from_pipe}
+use Rattle.pr_num.specs.Infos.{of_broken_pipe}
 use Rattle.pr_model.specs.declared.events.Res.TheVariants.{Error}
 
 -- The system calls on files and pipes, a definition a call, of the files, of the descriptors and of the space of the
@@ -38,7 +38,7 @@ file_errno NoMemory = Nomem
 -- sent SIGPIPE.
 abbrev pub refusal_effect : FileNo → Effect
 refusal_effect Sleep = sleeps
-refusal_effect NoReader = does (Error Pipe) (signals_itself SigPipe from_pipe ∷ [])
+refusal_effect NoReader = does (Error Pipe) (signals_itself SigPipe of_broken_pipe ∷ [])
 refusal_effect why = fails (file_errno why)
 
 -- a call on files that gives a number

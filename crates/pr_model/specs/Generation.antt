@@ -5,7 +5,7 @@ use Rattle.pr_parts.specs.SignalRules.{deleted_by}
 use Rattle.pr_num.specs.ById.{change_under, map_each}
 use Rattle.pr_model.specs.PendingSignals.{added, without_signals}
 use Rattle.pr_model.specs.State.{LwpOf, ProcessOf}
-use Rattle.pr_model.specs.declared.infos.Info.{Info}
+use Rattle.pr_num.specs.declared.infos.Info.{Info}
 
 -- How a signal becomes pending, for a process or for one of its lwps (signal.h(3HEAD)). SIGKILL never does: see Signals.
 

@@ -10,15 +10,12 @@ use Rattle.pr_model.specs.Generation.{told}
 use Rattle.pr_model.specs.Machines.{Machine}
 use Rattle.pr_model.specs.PendingSignals.{nothing_pending}
 use Rattle.pr_model.specs.Registers.{with_result}
-use Rattle.pr_model.specs.SignalInfo.{from_child}
+use Rattle.pr_num.specs.Infos.{of_child}
+use Rattle.pr_num.specs.Limits.{signal_count, register_count}
 use Rattle.pr_model.specs.State.{LwpOf, ProcessOf, SystemOf, live_process, lwp_of, with_process}
 use Rattle.pr_model.specs.declared.events.Res.TheVariants.{Value}
 
 -- How processes and lwps begin and end.
-
--- how many signals there are, each with a disposition
-abbrev pub signal_count : ℕ
-signal_count = 39
 
 -- default dispositions
 abbrev pub default_dispositions : List ℕ
@@ -40,7 +37,7 @@ module _ {C H K : Type 0} where
   -- the parent of a process that ended gets SIGCLD, unless that is process 0
   unfoldable pub with_parent_told : ℕ → ℕ → ℕ → SystemOf C H K → SystemOf C H K
   with_parent_told parent pid status s =
-      if parent == 0 then s else with_process parent (told None Cld (from_child pid status)) s
+      if parent == 0 then s else with_process parent (told None Cld (of_child pid status)) s
 
   unfoldable pub without_lwp : ℕ → ProcessOf C H K → ProcessOf C H K
   without_lwp id p = record p { lwps = without_id id p.lwps }

@@ -7,7 +7,7 @@ use Rattle.pr_num.specs.declared.faults.Flt.{Flt}
 use Rattle.pr_num.specs.declared.syscalls.Sysno.{Sysno}
 use Rattle.pr_num.specs.declared.syscalls.Sysno.TheVariants.{Fork}
 use Rattle.pr_model.specs.PendingSignals.{added}
-use Rattle.pr_model.specs.SignalInfo.{from_fault}
+use Rattle.pr_num.specs.Infos.{of_fault}
 use Rattle.pr_model.specs.State.{LwpOf, ProcessOf, SystemOf, TracedControl, TracedLwp}
 use Rattle.pr_model.specs.declared.events.Res.{Res}
 use Rattle.pr_model.specs.declared.lwps.LwpControl.{LwpControl}
@@ -102,7 +102,7 @@ unfoldable pub fault_incurred : Flt → ℕ → TracedLwp → TracedLwp
 fault_incurred f address l = record l { phase = Faulted f address }
 
 unfoldable pub fault_posted : Flt → ℕ → TracedLwp → TracedLwp
-fault_posted f address l = record l { phase = User; pending = added (fault_signal f) (from_fault address) l.pending }
+fault_posted f address l = record l { phase = User; pending = added (fault_signal f) (of_fault address) l.pending }
 
 unfoldable pub traced : Machine TracedControl Phase LwpControl
 traced = record {
@@ -150,7 +150,7 @@ UntracedSystem = SystemOf Nothing Place Nothing
 
 -- the signal of a fault is pending at once
 unfoldable pub fault_pending : Flt → ℕ → UntracedLwp → UntracedLwp
-fault_pending f address l = record l { pending = added (fault_signal f) (from_fault address) l.pending }
+fault_pending f address l = record l { pending = added (fault_signal f) (of_fault address) l.pending }
 
 -- and is not posted again
 unfoldable pub unchanged : Flt → ℕ → UntracedLwp → UntracedLwp

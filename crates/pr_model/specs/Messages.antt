@@ -14,15 +14,15 @@ use Rattle.pr_num.specs.declared.messages.Message.TheVariants.{Stop, Dstop, Wsto
 use Rattle.pr_num.specs.declared.signals.Sig.{Sig}
 use Rattle.pr_num.specs.declared.signals.Sig.TheVariants as sig
 use Rattle.pr_parts.specs.AddressSpaces.{with_bytes}
-use Rattle.pr_parts.specs.WatchedAreas.{area_limit, is_taken, with_area, without_area}
+use Rattle.pr_parts.specs.WatchedAreas.{is_taken, with_area, without_area}
 use Rattle.pr_model.specs.Changes.{with_space}
 use Rattle.pr_model.specs.Lives.{with_this_ended, new_lwp}
-use Rattle.pr_model.specs.LwpCalls.{lwp_limit}
 use Rattle.pr_model.specs.Machines.{traced, no_marks}
 use Rattle.pr_model.specs.PendingSignals.{Pending, has_room, without_one}
 use Rattle.pr_model.specs.Registers.{with_pc}
 use Rattle.pr_model.specs.Running.{without_current, without_fault, run_lwp, lwp_run_refused, run_refused, with_run}
-use Rattle.pr_model.specs.SignalInfo.{from_controller}
+use Rattle.pr_num.specs.Infos.{by_controller}
+use Rattle.pr_num.specs.Limits.{area_limit, lwp_limit}
 use Rattle.pr_model.specs.Signals.{generated, is_kill}
 use Rattle.pr_model.specs.State.{TracedSystem, TracedControl, TracedProcess, TracedLwp, has_agent, lwp_of, with_lwp, with_process}
 use Rattle.pr_model.specs.Stops.{directed, has_event_stop, representative, shown, with_all_directed}
@@ -54,7 +54,7 @@ pub data Aim : Type 0 where
 -- another current signal, which no other is given up for
 abbrev pub with_current : Option Sig → TracedLwp → TracedLwp
 with_current None l = without_current l
-with_current (Some s) l = record l { current = Some (record { signal = s; info = from_controller }) }
+with_current (Some s) l = record l { current = Some (record { signal = s; info = by_controller }) }
 
 unfoldable pub with_signal_set : Option Sig → TracedLwp → TracedLwp
 with_signal_set signal l = with_current signal l
@@ -202,7 +202,7 @@ module _ (s : TracedSystem) (pid : ℕ) (p : TracedProcess) where
   kill_by aim len None = record { system = s; reply = Used len }
   kill_by aim len (Some g) =
       if has_room g (pending_at aim)
-      then record { system = generated traced pid (target_of_aim aim) g from_controller s; reply = Used len }
+      then record { system = generated traced pid (target_of_aim aim) g by_controller s; reply = Used len }
       else refused s Again
 
   unfoldable pub kill_answer : Aim → ℕ → ℕ → Controlled

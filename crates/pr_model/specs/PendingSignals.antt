@@ -1,7 +1,7 @@
 use Rattle.std.specs.Prelude.{◌-◌, ℕ, Bool, List, [], Option, Some, None, replicate, slice_set, nat_lt}
 use Rattle.pr_num.specs.Signals.{signal_number}
 use Rattle.pr_num.specs.declared.signals.Sig.{Sig}
-use Rattle.pr_model.specs.declared.infos.Info.{Info}
+use Rattle.pr_num.specs.declared.infos.Info.{Info}
 use Rattle.pr_model.specs.declared.infos.Queued.{Queued}
 
 pub record Pending : Type 0 where

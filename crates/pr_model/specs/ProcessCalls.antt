@@ -6,11 +6,12 @@ use Rattle.pr_num.specs.Spaces.{Space, first_space, mapped_size}
 use Rattle.pr_num.specs.Words.{word_bytes}
 use Rattle.pr_num.specs.declared.errnos.Errno.{Errno}
 use Rattle.pr_num.specs.declared.errnos.Errno.TheVariants.{Inval, Noent, Again, Nomem, Child, Fault, Notsup}
+use Rattle.pr_num.specs.Limits.{process_limit}
 use Rattle.pr_parts.specs.AddressSpaces.{with_bytes}
 use Rattle.pr_model.specs.Changes.{Effect, sleeps, ends, ends_process, gives, fails, forks, becomes, reaps, space_is}
 use Rattle.pr_model.specs.MemoryCalls.{can_write, path_at}
 use Rattle.pr_model.specs.FileCallRows.{word_size}
-use Rattle.pr_model.specs.Readers.{Children, no_child, all_live, first_zombie, process_limit, size_of, total_has_room}
+use Rattle.pr_model.specs.Readers.{Children, no_child, all_live, first_zombie, size_of, total_has_room}
 use Rattle.pr_model.specs.State.{ProcessOf, SystemOf}
 
 -- The system calls on processes and on the clock, a definition a call. Each tries its refusals in their order.

@@ -1,17 +1,10 @@
 use Rattle.std.specs.Prelude.{◌==◌, ◌+◌, ℕ, Bool, List, [], ◌∷◌, Option, Some, None, nat_le, if◌then◌else◌}
+use Rattle.pr_num.specs.Limits.{all_mappings_limit}
 use Rattle.pr_num.specs.Spaces.{mapped_size}
 use Rattle.pr_model.specs.PendingSignals.{Pending}
 use Rattle.pr_model.specs.State.{ProcessOf, SystemOf, process_of}
 
 -- What a system call reads of the rest of the system. None of it is set by controllers.
-
--- how many bytes all live processes may have mapped together, 64 MiB
-abbrev pub total_limit : ℕ
-total_limit = 0x4000000
-
--- how many processes can ever be made, process 0 among them
-abbrev pub process_limit : ℕ
-process_limit = 4096
 
 -- a process that a signal is sent to: there is none, or it was reaped; it has ended; or it is live, with what pends for it
 pub data Life : Type 0 where
@@ -67,4 +60,4 @@ module _ {C H K : Type 0} where
 
   -- whether so many bytes more can be mapped where so many are given up
   unfoldable pub total_has_room : SystemOf C H K → ℕ → ℕ → Bool
-  total_has_room s more less = nat_le (total_size s + more) (total_limit + less)
+  total_has_room s more less = nat_le (total_size s + more) (all_mappings_limit + less)

@@ -4,13 +4,14 @@ use Rattle.pr_num.specs.declared.faults.Flt.{Flt}
 use Rattle.pr_num.specs.declared.faults.Flt.TheVariants.{Trace, Watch}
 use Rattle.pr_num.specs.declared.signals.Sig.{Sig}
 use Rattle.pr_num.specs.declared.syscalls.Sysno.{Sysno}
+use Rattle.pr_num.specs.Limits.{frame_limit}
 use Rattle.pr_parts.specs.declared.actions.Action.{Action}
 use Rattle.pr_parts.specs.declared.actions.Action.TheVariants as act
 use Rattle.pr_model.specs.CallEffects.{call_effect}
 use Rattle.pr_model.specs.Changes.{Effect, does, sleeps, ends}
 use Rattle.pr_model.specs.InstructionEffects.{InstructionEffect, runs, calls, faults, runs_into_watch, Store, instruction_effect}
 use Rattle.pr_model.specs.Registers.{arguments, pc_of}
-use Rattle.pr_model.specs.Signals.{own_takeable, shared_takeable, action_for, frame_limit}
+use Rattle.pr_model.specs.Signals.{own_takeable, shared_takeable, action_for}
 use Rattle.pr_model.specs.State.{TracedSystem, TracedProcess, TracedLwp}
 use Rattle.pr_model.specs.Transitions.{Transition, requested, posted, interrupted, performed, own_taken, shared_taken, handled, dropped, job_stopped, died, returned, ran, entered, incurred, trapped}
 use Rattle.pr_model.specs.declared.events.Did.{Did}

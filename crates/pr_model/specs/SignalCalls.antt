@@ -5,14 +5,14 @@ use Rattle.pr_num.specs.declared.errnos.Errno.TheVariants.{Inval, Perm, Srch, Ag
 use Rattle.pr_num.specs.declared.signals.Sig.{Sig}
 use Rattle.pr_num.specs.declared.signals.Sig.TheVariants.{Kill, Stop}
 use Rattle.pr_model.specs.Changes.{Effect, gives, fails, ends, ends_process, signals, disposition_is, held_is, resumes}
-use Rattle.pr_model.specs.Lives.{signal_count}
 use Rattle.pr_model.specs.Machines.{Machine}
 use Rattle.pr_model.specs.PendingSignals.{Pending, has_room}
 use Rattle.pr_model.specs.Readers.{Life, gone, a_zombie, live}
 use Rattle.pr_model.specs.Signals.{generated, is_kill, disposition_of}
 use Rattle.pr_model.specs.State.{SystemOf}
 use Rattle.pr_model.specs.declared.frames.Frame.{Frame}
-use Rattle.pr_model.specs.declared.infos.Info.{Info}
+use Rattle.pr_num.specs.declared.infos.Info.{Info}
+use Rattle.pr_num.specs.Limits.{signal_count}
 
 -- The system calls on signals, a definition a call. Each tries its refusals in their order.
 

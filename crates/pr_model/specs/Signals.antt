@@ -12,7 +12,7 @@ use Rattle.pr_model.specs.PendingSignals.{Pending, pending_set, info_of}
 use Rattle.pr_model.specs.Registers.{with_pc}
 use Rattle.pr_model.specs.State.{LwpOf, ProcessOf, SystemOf, with_process}
 use Rattle.pr_model.specs.declared.frames.Frame.{Frame}
-use Rattle.pr_model.specs.declared.infos.Info.{Info}
+use Rattle.pr_num.specs.declared.infos.Info.{Info}
 use Rattle.pr_model.specs.declared.lwps.Current.{Current}
 
 -- Signals (signal.h(3HEAD), sigaction(2)): how one is generated, which one an lwp takes, and what is done with it.
@@ -67,10 +67,6 @@ action_for dispositions s = action_of s (disposition_of dispositions s)
 -- another disposition of a signal
 abbrev pub with_disposition : Sig → ℕ → List ℕ → List ℕ
 with_disposition s disposition dispositions = slice_set dispositions (signal_number s - 1) disposition
-
--- how many handlers of an lwp can run at once
-abbrev pub frame_limit : ℕ
-frame_limit = 32
 
 -- What a handler comes back to is saved in a frame, behind those that stand: the registers and the held set.
 abbrev pub with_frame : List ℕ → ℕ → List Frame → List Frame

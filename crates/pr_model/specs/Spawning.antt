@@ -3,7 +3,8 @@ use Rattle.pr_num.specs.Programs.{Program}
 use Rattle.pr_num.specs.Spaces.{first_space, mapped_size}
 use Rattle.pr_num.specs.declared.errnos.Errno.{Errno}
 use Rattle.pr_num.specs.declared.errnos.Errno.TheVariants.{Again, Nomem}
-use Rattle.pr_model.specs.Readers.{process_limit, total_has_room}
+use Rattle.pr_num.specs.Limits.{process_limit}
+use Rattle.pr_model.specs.Readers.{total_has_room}
 use Rattle.pr_model.specs.State.{SystemOf}
 
 -- What refuses a process of a program that is made from outside: EAGAIN, as many processes were made as can be; ENOMEM,

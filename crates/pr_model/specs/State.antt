@@ -5,6 +5,7 @@ use Rattle.pr_num.specs.Programs.{Program}
 use Rattle.pr_num.specs.Spaces.{Space}
 use Rattle.pr_num.specs.declared.mappings.Area.{Area}
 use Rattle.pr_num.specs.ById.{under, change_under}
+use Rattle.pr_num.specs.Limits.{handle_limit}
 use Rattle.pr_model.specs.PendingSignals.{Pending}
 use Rattle.pr_model.specs.declared.handles.Held.{Held}
 use Rattle.pr_model.specs.declared.lwps.LwpControl.{LwpControl}
@@ -94,10 +95,6 @@ TracedState = state.State TracedSystem Places
 abbrev pub with_system : (TracedSystem → TracedSystem) → TracedState → TracedState
 with_system change s = record s { system = change s.system }
 
--- how many handles can be open
-abbrev pub handle_places : ℕ
-handle_places = 1024
-
 -- no handle is open
 unfoldable pub nothing_open : Places
-nothing_open = replicate handle_places None
+nothing_open = replicate handle_limit None

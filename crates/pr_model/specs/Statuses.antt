@@ -12,6 +12,9 @@ use Rattle.pr_num.specs.declared.stop_reasons.StopReason.{StopReason}
 use Rattle.pr_num.specs.declared.stop_reasons.StopReason.TheVariants as reason
 use Rattle.pr_num.specs.declared.syscalls.Sysno.{Sysno}
 use Rattle.pr_parts.specs.AddressSpaces.{heap_base}
+use Rattle.pr_num.specs.Infos.{no_info}
+use Rattle.pr_num.specs.declared.infos.Info.{Info}
+use Rattle.pr_rec.specs.NoLwp.{no_lwp}
 use Rattle.pr_rec.specs.declared.lwps.Disposition.{Disposition}
 use Rattle.pr_rec.specs.declared.lwps.Disposition.TheVariants as disposition
 use Rattle.pr_rec.specs.declared.lwps.LwpStatus.{LwpStatus}
@@ -116,6 +119,10 @@ unfoldable pub signal_in : Option Current → Option Sig
 signal_in None = None
 signal_in (Some c) = Some c.signal
 
+unfoldable pub info_in : Option Current → Info
+info_in None = no_info
+info_in (Some c) = c.info
+
 -- what a process does with a signal: 0 default, 1 ignored, else caught
 abbrev pub disposition_class : ℕ → Disposition
 disposition_class d = if d == 0 then disposition.Default else (if d == 1 then disposition.Ignored else disposition.Caught)
@@ -150,30 +157,12 @@ lwpstatus_of p id l = record {
   pending = pending_set l.pending;
   regs = l.regs;
   disposition = disposition_in p.dispositions l.current;
+  info = info_in l.current;
 }
 
--- that of no lwp: nothing
-unfoldable pub no_lwpstatus : LwpStatus
-no_lwpstatus = record {
-  flags = 0;
-  id = 0;
-  why = None;
-  what = 0;
-  signal = None;
-  fault = None;
-  fault_address = 0;
-  call = None;
-  arguments = replicate 6 0;
-  result = 0;
-  errno = None;
-  held = 0;
-  pending = 0;
-  regs = replicate 11 0;
-  disposition = disposition.Default;
-}
-
+-- that of the representative; a process without lwps has none
 abbrev pub status_of_found : TracedProcess → Option (ℕ × TracedLwp) → LwpStatus
-status_of_found p None = no_lwpstatus
+status_of_found p None = no_lwp
 status_of_found p (Some e) = lwpstatus_of p e.0 e.1
 
 -- a process's flags: its modes, and whether it is the system process

@@ -6,12 +6,13 @@ use Rattle.pr_num.specs.declared.faults.Flt.{Flt}
 use Rattle.pr_num.specs.declared.signals.Sig.{Sig}
 use Rattle.pr_num.specs.declared.signals.Sig.TheVariants.{Segv}
 use Rattle.pr_num.specs.declared.syscalls.Sysno.{Sysno}
+use Rattle.pr_num.specs.Limits.{frame_limit}
 use Rattle.pr_parts.specs.AddressSpaces.{with_bytes}
 use Rattle.pr_model.specs.Changes.{Change, space_is, takes_shared, job_stops, Ending, ends_process, Effect, does, sleeps as effect_sleeps, ends, all_changed, ended}
 use Rattle.pr_model.specs.InstructionEffects.{Store}
 use Rattle.pr_model.specs.Machines.{Machine}
 use Rattle.pr_model.specs.Moves.{Move, moved, stays, stops, posts, returns, runs, enters, incurs, traps, leaves, sleeps, takes, drops, catches}
-use Rattle.pr_model.specs.Signals.{current_of, frame_limit, with_frame, handler_registers, handler_held}
+use Rattle.pr_model.specs.Signals.{current_of, with_frame, handler_registers, handler_held}
 use Rattle.pr_model.specs.State.{LwpOf, ProcessOf, SystemOf, with_lwp_of}
 use Rattle.pr_model.specs.declared.events.Res.TheVariants.{Error}
 use Rattle.pr_model.specs.declared.lwps.Current.{Current}

@@ -15,7 +15,7 @@ use Rattle.pr_model.specs.ProcessCalls.{program_named}
 use Rattle.pr_model.specs.Readers.{life_of}
 use Rattle.pr_model.specs.Registers.{arguments}
 use Rattle.pr_model.specs.SignalCalls.{Sending, sends_nothing, sends, sending, with_sent}
-use Rattle.pr_model.specs.SignalInfo.{from_kill}
+use Rattle.pr_num.specs.Infos.{killed_by}
 use Rattle.pr_model.specs.Signals.{action_for, has_takeable, own_takeable, shared_takeable}
 use Rattle.pr_model.specs.Spawning.{spawn_refusal}
 use Rattle.pr_model.specs.State.{live_process, lwp_of}
@@ -212,7 +212,7 @@ pub data IsGranted : Sending → Type 0 where
 
 pub record Sends (u : UntracedSystem) (pid number : ℕ) (new : UntracedSystem) : Type 0 where
   pub granted : IsGranted (sending pid number (life_of u pid))
-  pub state : new ≡ with_sent untraced pid (from_kill 0) (sending pid number (life_of u pid)) u
+  pub state : new ≡ with_sent untraced pid (killed_by 0) (sending pid number (life_of u pid)) u
 
 -- ---- steps and runs
 

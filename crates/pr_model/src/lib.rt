@@ -21,7 +21,7 @@ pub use events::{Act, Actor, Did, Entry, How, Res, Turned};
 pub use frames::{Frame, Frames};
 pub use handles::Held;
 pub use histories::History;
-pub use infos::{Info, Queued};
+pub use infos::Queued;
 pub use laws::{history_grows_at_its_end, trace_is_that_of_the_steps};
 pub use lwps::{Current, Lwp, LwpControl, LwpOf, PC, Phase};
 pub use processes::{Control, Process, ProcessOf, Usage};

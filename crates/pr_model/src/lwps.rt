@@ -1,5 +1,5 @@
-use crate::{Frames, Info, Res, Stop};
-use pr_num::{Flt, Sig, SigSet, Sysno};
+use crate::{Frames, Res, Stop};
+use pr_num::{Flt, Info, Sig, SigSet, Sysno};
 
 /// Where an lwp is between its program and the kernel.
 #[derive(Clone, Copy, Debug, PartialEq, Eq)]
