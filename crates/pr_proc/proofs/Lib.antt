@@ -2,4 +2,5 @@ pub mod CountLemmas
 pub mod FirstLemmas
 pub mod LifeLemmas
 pub mod OrderLemmas
+pub mod SignalLemmas
 pub mod SpaceLemmas

@@ -1,3 +1,3 @@
 pub mod Counts
 pub mod FirstFiles
-pub mod Order
+pub mod Room

@@ -1,6 +1,7 @@
 //! The system before the first step.
 ghost use Rattle.std.specs.Prelude.{◌≡◌, ◌+◌, ◌<◌, ◌≤◌, ◌^◌, ◌∷◌, [], length, slice_get, IfOk, OnOk, OnErr};
 ghost use Rattle.pr_model.specs.FirstState.{system_process, bare_system, spawned_at, first_system};
+ghost use Rattle.pr_proc.specs.Counts.{IsNumbered};
 ghost use Rattle.pr_proc.specs.FirstFiles.{stored_alone};
 
 use crate::spawns::{bare_process, spawn};
@@ -8,7 +9,7 @@ use crate::{Proc, Sys};
 use pr_asm::Program;
 use pr_file::Files;
 use pr_model::System;
-use pr_num::{Name, NoMemory, Table};
+use pr_num::{ById, Name, NoMemory, Table};
 use std::alloc::Global;
 
 /// Process 0, the system process.
@@ -17,17 +18,18 @@ fn system_process(alloc: Global) -> Proc
     ensures { result ≡ system_process }
 {
     let name = Name::from_slice(b"sched").unwrap();
-    bare_process(alloc, 0, 0, name, 0)
+    bare_process(alloc, 0, name, 0)
 }
 
 /// Nothing but process 0, these programs and these files.
-#[tactic(auto, unfolding(pr_model::specs::FirstState::bare_system))]
+#[tactic(auto, using(crate::proofs::FirstLemmas::numbering), unfolding(pr_model::specs::FirstState::bare_system))]
 fn bare_system(alloc: Global, programs: Table<Program>, files: Files) -> Result<Sys, NoMemory>
     requires { files ≡ stored_alone files.files }
-    ensures { IfOk result (λ s. s ≡ bare_system programs files.files) }
+    ensures value { IfOk result (λ s. s ≡ bare_system programs files.files) }
+    ensures ids { IfOk result (λ s. IsNumbered s) }
 {
-    let mut processes = Table::new(alloc);
-    processes.push(system_process(alloc))?;
+    let mut processes = ById::new(alloc);
+    processes.insert(0, system_process(alloc))?;
     Ok(System {
         programs,
         clock: 0,
@@ -40,9 +42,11 @@ fn bare_system(alloc: Global, programs: Table<Program>, files: Files) -> Result<
 /// Makes a process of the program at a place, if there is one.
 #[tactic(auto, using(crate::proofs::FirstLemmas::spawning_laws))]
 fn spawn_at(sys: &mut Sys, alloc: Global, place: u32) -> Result<(), NoMemory>
-    requires { sys.old.made + 1 < 2 ^ 32 }
+    requires room { sys.old.made + 1 < 2 ^ 32 }
+    requires ids { IsNumbered sys.old }
     ensures ok { OnOk result (sys.new ≡ spawned_at (slice_get sys.old.programs place) sys.old) }
     ensures made { OnOk result (sys.new.made ≤ sys.old.made + 1) }
+    ensures ids { IsNumbered sys.new }
 {
     let place = place as usize;
     if place < sys.programs.len() {

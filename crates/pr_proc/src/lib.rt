@@ -6,6 +6,7 @@ mod ends;
 mod first;
 mod order;
 mod releases;
+mod signals;
 mod spawns;
 mod systems;
 
@@ -14,8 +15,9 @@ pub use ends::end;
 pub use first::first_system;
 pub use order::{is_after, next_lwp};
 pub use releases::release;
+pub use signals::generate;
 pub use spawns::spawn;
-pub use systems::{Proc, Sys, has_agent, live};
+pub use systems::{Lwp, Proc, Sys, has_agent, live};
 
 #[cfg(test)]
 mod tests;
