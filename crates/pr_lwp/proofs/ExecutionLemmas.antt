@@ -8,7 +8,7 @@ use Rattle.pr_parts.specs.WatchedAreas.{hit_in}
 use Rattle.pr_num.specs.declared.mappings.BadByte.TheVariants.{Hole, NotAllowed}
 use Rattle.pr_num.specs.declared.faults.Flt.TheVariants.{Watch}
 use Rattle.pr_parts.specs.AddressSpaces.{with_bytes}
-use Rattle.pr_model.specs.InstructionEffects.{InstructionEffect, faults, Load, Store, load_effect, store_effect, loaded, access_fault, is_stack_load, unless_watched, trapped_after, hit_before, hit_after}
+use Rattle.pr_model.specs.InstructionEffects.{faults, Load, Store, load_effect, store_effect, loaded, access_fault, is_stack_load, unless_watched, trapped_after, hit_before, hit_after}
 use Rattle.pr_lwp.specs.Plain.{loaded_from, outcome_of, space_after, with_store}
 
 -- Loads and stores, by whether their bytes can be had.

@@ -1,5 +1,4 @@
 use Rattle.std.specs.Prelude.{ℕ, List, false, if◌then◌else◌}
-use Rattle.pr_num.specs.Spaces.{Space}
 use Rattle.pr_num.specs.declared.faults.Flt.TheVariants.{Trace, Watch}
 use Rattle.pr_model.specs.Registers.{pc_of}
 use Rattle.pr_model.specs.declared.lwps.LwpControl.{LwpControl}

@@ -1,5 +1,1 @@
-pub mod AccessLemmas
-pub mod CountLaws
-pub mod EffectLemmas
-pub mod SettlingLemmas
-pub mod TurnLemmas
+pub mod NextLemmas

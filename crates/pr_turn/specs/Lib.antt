@@ -1,2 +1,1 @@
-pub mod BadBytes
 pub mod NextRows

@@ -1,36 +1,58 @@
-use Rattle.std.specs.Prelude.{ℕ, Option, Some, None, option_and_then, if◌then◌else◌}
-use Rattle.pr_model.specs.Lwps.{lwp_of}
-use Rattle.pr_model.specs.LwpTurns.{is_kept, row_for, rest_made, with_row, turned_by}
-use Rattle.pr_model.specs.State.{TracedSystem, TracedProcess, TracedLwp, live_process}
-use Rattle.pr_model.specs.declared.effects.TurnRow.{TurnRow}
-use Rattle.pr_model.specs.declared.events.Turned.{Turned}
+use Rattle.std.specs.Prelude.{ℕ, Bool, false, true, List, [], Option, Some, None, if◌then◌else◌}
+use Rattle.pr_num.specs.declared.faults.Flt.TheVariants.{Trace, Watch}
+use Rattle.pr_model.specs.Changes.{ends_process}
+use Rattle.pr_model.specs.InstructionEffects.{InstructionEffect, runs, calls, faults, runs_into_watch, instruction_effect}
+use Rattle.pr_model.specs.Machines.{traced}
+use Rattle.pr_model.specs.Moves.{Move, moved, stops, posts, returns, leaves, enters, incurs, traps, stays}
+use Rattle.pr_model.specs.Moves as move
+use Rattle.pr_model.specs.Registers.{pc_of}
+use Rattle.pr_model.specs.Rows.{Row, requested_row, posted_row, returned_row, executed_row, point_row, quiet_row}
+use Rattle.pr_model.specs.State.{TracedProcess, TracedLwp, with_lwp}
+use Rattle.pr_model.specs.Transitions.{changing, ending}
+use Rattle.pr_model.specs.declared.events.Did.TheVariants.{Made}
+use Rattle.pr_model.specs.declared.events.Res.TheVariants.{Ended}
+use Rattle.pr_model.specs.declared.stops.Point.TheVariants.{Exit}
+use Rattle.pr_lwp.specs.Plain.{space_after}
+use Rattle.pr_turn.specs.declared.next.Next.{Next}
+use Rattle.pr_turn.specs.declared.next.Next.TheVariants.{Requested, Posted, Gave, Ends, Returned, Executed}
 
--- The row that is made in the next turn of an lwp, if it can have one.
+-- What the crate's own type of rows says, in the words of the turn table.
 
--- of an lwp of a live process: none while it is kept from its turns
-unfoldable pub next_row : TracedProcess → TracedLwp → Option TurnRow
-next_row p l = if is_kept p l then None else row_for p l
+module _ (p : TracedProcess) (l : TracedLwp) where
+  -- the instruction at pc
+  abbrev pub effect_at : InstructionEffect
+  effect_at = instruction_effect p.space p.control.areas l.regs
 
--- of the lwp of an id
-unfoldable pub next_row_in : ℕ → TracedProcess → Option TurnRow
-next_row_in id p = option_and_then (next_row p) (lwp_of p id)
+  -- the row that is meant
+  unfoldable pub row_of : Next → Row
+  row_of Requested = requested_row
+  row_of (Posted f address) = posted_row f address
+  row_of (Gave call args result) = point_row (Made call result) (Exit call) (changing [] (leaves call args result))
+  row_of (Ends call status) = quiet_row (Made call Ended) (ending (ends_process status))
+  row_of (Returned call) = returned_row p l call
+  row_of Executed = executed_row p l effect_at
 
--- of the lwp of an id in the live process of an id
-unfoldable pub next_row_of : TracedSystem → ℕ → ℕ → Option TurnRow
-next_row_of s pid id = option_and_then (next_row_in id) (live_process s pid)
+-- the move of an lwp by an instruction
+unfoldable pub executed_move : TracedLwp → InstructionEffect → Move
+executed_move l (runs regs store) = if l.control.step then traps Trace (pc_of regs) regs else move.runs regs
+executed_move l (calls call regs) = enters call regs
+executed_move l (faults f address) = incurs f address
+executed_move l (runs_into_watch address regs store) = traps Watch address regs
 
--- a process after a row of the lwp of an id
-unfoldable pub with_row_of : ℕ → TurnRow → TracedProcess → TracedProcess
-with_row_of id row p = after (lwp_of p id)
-  where
-    after : Option TracedLwp → TracedProcess
-    after None = p
-    after (Some l) = with_row row l p
+-- the move of an lwp by another row
+unfoldable pub move_of : TracedLwp → Next → Move
+move_of l Requested = stops
+move_of l (Posted f address) = posts f address
+move_of l (Gave call args result) = leaves call args result
+move_of l (Ends call status) = stays
+move_of l (Returned call) = if l.control.step then traps Trace (pc_of l.regs) l.regs else returns
+move_of l Executed = stays
 
--- and what that turn did
-unfoldable pub turned_of : ℕ → TurnRow → TracedProcess → Option Turned
-turned_of id row p = by (lwp_of p id)
-  where
-    by : Option TracedLwp → Option Turned
-    by None = None
-    by (Some l) = Some (turned_by p (rest_made row l))
+-- whether a row moves its lwp and changes nothing else
+abbrev pub is_own_row : Next → Bool
+is_own_row Requested = true
+is_own_row (Posted f address) = true
+is_own_row (Gave call args result) = true
+is_own_row (Ends call status) = false
+is_own_row (Returned call) = true
+is_own_row Executed = false

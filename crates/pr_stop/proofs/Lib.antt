@@ -1,0 +1,2 @@
+pub mod OtherLemmas
+pub mod StopLemmas

@@ -1,0 +1,124 @@
+//! What a row of the turn table makes of its lwp.
+ghost use Rattle.std.specs.Prelude.{◌≡◌, true};
+ghost use Rattle.pr_lwp.specs.Plain.{outcome_of, space_after};
+ghost use Rattle.pr_model.specs.InstructionEffects.{instruction_effect};
+ghost use Rattle.pr_model.specs.Machines.{call_over, fault_posted, step_taken, stopped_as_directed, traced};
+ghost use Rattle.pr_model.specs.Moves.{leaves, moved, posts, stops};
+ghost use Rattle.pr_model.specs.Registers.{stored, with_result};
+ghost use Rattle.pr_turn.specs.NextRows.{executed_move, is_own_row, move_of};
+
+use crate::next::Next;
+use pr_lwp::{Effect, step};
+use pr_mem::Space;
+use pr_model::{PC, Phase, Res, Stop};
+use pr_num::{Flt, Info, Sysno};
+use pr_proc::Lwp;
+use pr_watch::Areas;
+
+/// Stops an lwp as it was directed to.
+#[tactic(auto, unfolding(pr_model::specs::Moves::moved, pr_model::specs::Machines::traced, pr_model::specs::Machines::stopped_as_directed))]
+fn stop(lwp: &mut Lwp)
+    ensures { lwp.new ≡ moved traced stops lwp.old }
+{
+    lwp.control.directed = false;
+    lwp.control.stop = Some(Stop::Requested);
+}
+
+/// The signal of a fault becomes pending for the lwp that incurred it.
+#[tactic(auto, using(crate::proofs::MoveLemmas::room_laws), unfolding(pr_model::specs::Moves::moved, pr_model::specs::Machines::traced, pr_model::specs::Machines::fault_posted))]
+fn post(lwp: &mut Lwp, fault: Flt, address: u64)
+    ensures { lwp.new ≡ moved traced (posts fault address) lwp.old }
+{
+    lwp.phase = Phase::User;
+    lwp.pending.add(fault.signal(), Info::of_fault(address));
+}
+
+/// Stores the result of a call: a value in r0, with r7 = 0, or an error in r7, with r0 = 0.
+#[tactic(auto, unfolding(pr_model::specs::Registers::with_result))]
+fn store_result(regs: &mut [u64; 11], outcome: Res)
+    ensures { regs.new ≡ with_result outcome regs.old }
+{
+    match outcome {
+        Res::Value(value) => {
+            regs[0] = value;
+            regs[7] = 0;
+        }
+        Res::Error(error) => {
+            regs[0] = 0;
+            regs[7] = error.number();
+        }
+        Res::Ended => {}
+    }
+}
+
+/// Stores the result of a call, but for sigreturn and a successful exec, which leave the registers as they made them.
+#[tactic(auto, using(crate::proofs::MoveLemmas::stored_laws))]
+fn store(regs: &mut [u64; 11], call: Sysno, outcome: Res)
+    ensures { regs.new ≡ stored call outcome regs.old }
+{
+    let keeps = match call {
+        Sysno::Sigreturn | Sysno::Exec => true,
+        _ => false,
+    };
+    match outcome {
+        Res::Value(_) if keeps => {}
+        _ => store_result(regs, outcome),
+    }
+}
+
+/// A call gives its result.
+#[tactic(auto, unfolding(pr_model::specs::Moves::moved, pr_model::specs::Machines::traced, pr_model::specs::Machines::call_over))]
+fn leave(lwp: &mut Lwp, call: Sysno, args: [u64; 6], result: Res)
+    ensures { lwp.new ≡ moved traced (leaves call args result) lwp.old }
+{
+    store(&mut lwp.regs, call, result);
+    lwp.phase = Phase::Exiting { call, args, result };
+    lwp.control.abort = false;
+}
+
+/// Takes an lwp on its way out of a call back to its program; a step mark is used up.
+#[tactic(auto, unfolding(crate::specs::NextRows::move_of, pr_model::specs::Moves::moved, pr_model::specs::Machines::traced, pr_model::specs::Machines::step_taken, pr_model::specs::Machines::fault_incurred))]
+fn return_from(lwp: &mut Lwp, call: Sysno)
+    ensures { lwp.new ≡ moved traced (move_of lwp.old (Next.Returned call)) lwp.old }
+{
+    if lwp.control.step {
+        lwp.control.step = false;
+        lwp.phase = Phase::Faulted {
+            fault: Flt::Trace,
+            address: lwp.regs[PC],
+        };
+    } else {
+        lwp.phase = Phase::User;
+    }
+}
+
+/// What a row that changes its lwp alone makes of it.
+#[tactic(auto, unfolding(crate::specs::NextRows::move_of))]
+pub fn move_lwp(lwp: &mut Lwp, next: Next)
+    requires { is_own_row next ≡ true }
+    ensures { lwp.new ≡ moved traced (move_of lwp.old next) lwp.old }
+{
+    match next {
+        Next::Requested => stop(lwp),
+        Next::Posted { fault, address } => post(lwp, fault, address),
+        Next::Gave { call, args, result } => leave(lwp, call, args, result),
+        Next::Returned(call) => return_from(lwp, call),
+        Next::Ends { .. } | Next::Executed => unreachable!(),
+    }
+}
+
+/// Runs the instruction at pc, and brings the lwp to the system call or the fault to which it came.
+#[tactic(auto, using(crate::proofs::MoveLemmas::executed_laws))]
+pub fn execute_lwp(lwp: &mut Lwp, space: &mut Space, areas: &Areas) -> Effect
+    ensures lwp { lwp.new ≡ moved traced (executed_move lwp.old (instruction_effect space.old areas.now lwp.old.regs)) lwp.old }
+    ensures space { space.new ≡ space_after (instruction_effect space.old areas.now lwp.old.regs) space.old }
+    ensures effect { result ≡ effect_of lwp.old (instruction_effect space.old areas.now lwp.old.regs) }
+{
+    let effect = step(lwp, space, areas).unwrap();
+    match effect {
+        Effect::Ran => {}
+        Effect::Sys(call) => lwp.phase = Phase::Entered(call),
+        Effect::Fault(fault, address) => lwp.phase = Phase::Faulted { fault, address },
+    }
+    effect
+}
