@@ -1,5 +1,5 @@
 use crate::{Action, Pendings, action, deletes, takeable};
-use pr_num::{Sig, SigSet};
+use pr_num::{Info, Sig, SigSet};
 use std::test::Fail;
 
 /// What is taken next, by the words of the lwp's own pending signals, its process's, and the held ones.
@@ -46,16 +46,45 @@ fn deletes_and_acts_by_the_tables(rt: HostRuntime) {
     }
 }
 
+/// A standard signal is pending once, with what came first; the queue answers in the order in which they came.
 #[test]
 fn pending_signals_come_and_go(rt: HostRuntime) {
     let mut pending = Pendings::new();
-    pending.add(Sig::Tstp);
-    pending.add(Sig::Hup);
-    pending.add(Sig::Tstp);
-    pending.delete(deletes(Sig::Cont));
-    assert_eq!(rt; pending.set().word(), 1);
-    if pending.set().has(Sig::Hup) {
-        pending.take(Sig::Hup);
+    pending.add(Sig::Segv, Info::killed_by(7));
+    pending.add(Sig::Segv, Info::killed_by(8));
+    assert_eq!(rt; pending.info(Sig::Segv), Some(Info::killed_by(7)));
+    pending.add(Sig::Segv, Info::of_fault(0x1000));
+    assert_eq!(rt; pending.info(Sig::Segv), Some(Info::of_fault(0x1000)));
+
+    pending.add(Sig::Tstp, Info::killed_by(7));
+    for value in [1, 2] {
+        if pending.room(Sig::Rt3) {
+            pending.add(Sig::Rt3, Info::queued_by(9, value));
+        }
     }
+    // SEGV is bit 10, TSTP bit 23, SIGRT3 bit 34.
+    assert_eq!(rt; pending.set().word(), 1 << 10 | 1 << 23 | 1 << 34);
+    pending.delete(deletes(Sig::Cont));
+    for value in [1, 2] {
+        assert_eq!(rt; pending.info(Sig::Rt3), Some(Info::queued_by(9, value)));
+        pending.delete_one(Sig::Rt3);
+    }
+    assert_eq!(rt; pending.set().word(), 1 << 10);
+    pending.delete_one(Sig::Segv);
     assert!(rt; pending.set().is_empty());
+}
+
+/// A queue has 32 pairs at most; standard signals always have room.
+#[test]
+fn a_queue_has_a_limit(rt: HostRuntime) {
+    let mut pending = Pendings::new();
+    let mut queued = 0;
+    for value in 0..40 {
+        if pending.room(Sig::Rt0) {
+            pending.add(Sig::Rt0, Info::queued_by(1, value));
+            queued += 1;
+        }
+    }
+    assert_eq!(rt; queued, 32);
+    assert!(rt; pending.room(Sig::Hup));
 }
