@@ -1,7 +1,6 @@
 //! Who is directed to stop (proc(4), "PCDSTOP").
 ghost use Rattle.std.specs.Prelude.{◌≡◌};
 ghost use Rattle.pr_num.specs.ById.{change_under, map_each};
-ghost use Rattle.pr_model.specs.Others.{change_others};
 ghost use Rattle.pr_model.specs.Points.{with_others_directed};
 ghost use Rattle.pr_model.specs.Stops.{directed};
 ghost use Rattle.pr_stop.specs.Classes.{with_directed};
@@ -28,18 +27,6 @@ fn direct_each(lwps: &mut ById<Lwp>)
     }
 }
 
-#[tactic(auto, using(crate::proofs::OtherLemmas::others))]
-fn direct_each_but(lwps: &mut ById<Lwp>, but: u32)
-    ensures { lwps.new ≡ change_others but directed lwps.old }
-{
-    for place in 0..lwps.len() {
-        let (id, _) = lwps.at(place);
-        if id != but {
-            direct_lwp(lwps.at_mut(place));
-        }
-    }
-}
-
 /// Directs the lwp of an id, if there is one.
 #[tactic(auto, using(pr_num::proofs::ByIdLaws::by_id_laws))]
 fn direct_under(lwps: &mut ById<Lwp>, id: u32)
@@ -63,11 +50,12 @@ pub fn direct(process: &mut Proc, lwp: Option<u32>)
 }
 
 /// Directs every other lwp of a process, as the stop of one lwp on an event of interest does, unless PR_ASYNC is set.
+/// The one that stopped stands on an event.
 #[tactic(auto, unfolding(pr_model::specs::Points::with_others_directed))]
-pub fn direct_others(process: &mut Proc, but: u32)
-    ensures { process.new ≡ with_others_directed but process.old }
+pub fn direct_others(process: &mut Proc)
+    ensures { process.new ≡ with_others_directed process.old }
 {
     if !process.control.modes.has(Modes::ASYNC) {
-        direct_each_but(&mut process.lwps, but);
+        direct(process, None);
     }
 }

@@ -1,1 +1,3 @@
+pub mod MakeLemmas
+pub mod MoveLemmas
 pub mod NextLemmas

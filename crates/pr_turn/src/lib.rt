@@ -1,11 +1,9 @@
 //! One turn of an lwp.
 #![tactic(auto)]
 
-mod calls;
 mod making;
 mod moving;
 mod next;
-mod settling;
 mod turns;
 
 pub use next::Next;

@@ -5,7 +5,8 @@ ghost use Rattle.pr_model.specs.InstructionEffects.{instruction_effect};
 ghost use Rattle.pr_model.specs.Machines.{call_over, fault_posted, step_taken, stopped_as_directed, traced};
 ghost use Rattle.pr_model.specs.Moves.{leaves, moved, posts, stops};
 ghost use Rattle.pr_model.specs.Registers.{stored, with_result};
-ghost use Rattle.pr_turn.specs.NextRows.{executed_move, is_own_row, move_of};
+ghost use Rattle.pr_turn.specs.Making.{effect_of, executed_by, finished, keeps_registers};
+ghost use Rattle.pr_turn.specs.NextRows.{is_own_row, move_of};
 
 use crate::next::Next;
 use pr_lwp::{Effect, step};
@@ -51,19 +52,27 @@ fn store_result(regs: &mut [u64; 11], outcome: Res)
     }
 }
 
+/// Whether a call that succeeds leaves the registers as it made them.
+fn keeps_registers(call: Sysno) -> bool
+    ensures { result ≡ keeps_registers call }
+{
+    match call {
+        Sysno::Sigreturn | Sysno::Exec => true,
+        _ => false,
+    }
+}
+
 /// Stores the result of a call, but for sigreturn and a successful exec, which leave the registers as they made them.
 #[tactic(auto, using(crate::proofs::MoveLemmas::stored_laws))]
 fn store(regs: &mut [u64; 11], call: Sysno, outcome: Res)
     ensures { regs.new ≡ stored call outcome regs.old }
 {
-    let keeps = match call {
-        Sysno::Sigreturn | Sysno::Exec => true,
-        _ => false,
-    };
-    match outcome {
-        Res::Value(_) if keeps => {}
-        _ => store_result(regs, outcome),
+    if let Res::Value(_) = outcome {
+        if keeps_registers(call) {
+            return;
+        }
     }
+    store_result(regs, outcome);
 }
 
 /// A call gives its result.
@@ -107,18 +116,26 @@ pub fn move_lwp(lwp: &mut Lwp, next: Next)
     }
 }
 
-/// Runs the instruction at pc, and brings the lwp to the system call or the fault to which it came.
-#[tactic(auto, using(crate::proofs::MoveLemmas::executed_laws))]
-pub fn execute_lwp(lwp: &mut Lwp, space: &mut Space, areas: &Areas) -> Effect
-    ensures lwp { lwp.new ≡ moved traced (executed_move lwp.old (instruction_effect space.old areas.now lwp.old.regs)) lwp.old }
-    ensures space { space.new ≡ space_after (instruction_effect space.old areas.now lwp.old.regs) space.old }
-    ensures effect { result ≡ effect_of lwp.old (instruction_effect space.old areas.now lwp.old.regs) }
+/// Brings an lwp to the system call or the fault to which its instruction came.
+#[tactic(auto, unfolding(crate::specs::Making::finished))]
+fn finish(lwp: &mut Lwp, effect: Effect)
+    ensures { lwp.new ≡ finished effect lwp.old }
 {
-    let effect = step(lwp, space, areas).unwrap();
     match effect {
         Effect::Ran => {}
         Effect::Sys(call) => lwp.phase = Phase::Entered(call),
         Effect::Fault(fault, address) => lwp.phase = Phase::Faulted { fault, address },
     }
+}
+
+/// Runs the instruction at pc, and brings the lwp to the system call or the fault to which it came.
+#[tactic(auto, using(crate::proofs::MoveLemmas::executed_laws))]
+pub fn execute_lwp(lwp: &mut Lwp, space: &mut Space, areas: &Areas) -> Effect
+    ensures lwp { lwp.new ≡ executed_by (instruction_effect space.old areas.now lwp.old.regs) lwp.old }
+    ensures space { space.new ≡ space_after (instruction_effect space.old areas.now lwp.old.regs) space.old }
+    ensures effect { result ≡ effect_of lwp.old (instruction_effect space.old areas.now lwp.old.regs) }
+{
+    let effect = step(lwp, space, areas).unwrap();
+    finish(lwp, effect);
     effect
 }

@@ -1,0 +1,164 @@
+//! One turn of an lwp, as it changes the whole system.
+ghost use Rattle.std.specs.Prelude.{◌≡◌, ◌-◌, ◌^◌, true, Some, IsSome, IfOk, IsOk};
+ghost use Rattle.std.specs.Option.{ForSome};
+ghost use Rattle.pr_num.specs.ById.{change_under, under};
+ghost use Rattle.pr_model.specs.LwpTurns.{can_move, counted, may_turn, turn_of, with_counted};
+ghost use Rattle.pr_model.specs.Points.{after_meeting, stopped_at, with_stop_at};
+ghost use Rattle.pr_model.specs.State.{lwp_of, with_process};
+ghost use Rattle.pr_proc.specs.Counts.{AllUsedAtMost, UsedAtMost};
+
+use crate::making::{Made, make, made_of};
+use crate::next::{Next, is_built_turn, is_held_back, next_row};
+use pr_model::{Did, Point, Turned, Usage};
+use pr_num::{ById, NoMemory};
+use pr_proc::{Lwp, Proc, Sys, end, live};
+use pr_stop::{direct_others, is_traced, meets, stop_at};
+
+/// Counts what a turn did.
+#[tactic(auto, unfolding(pr_model::specs::LwpTurns::counted))]
+fn count(usage: &mut Usage, did: Did, begun: bool)
+    requires { UsedAtMost (2 ^ 64 - 2) usage.old }
+    ensures { usage.new ≡ counted did begun usage.old }
+{
+    match did {
+        Did::Made(..) | Did::Woke(..) => usage.calls += 1,
+        Did::Took(_) => usage.signals += 1,
+        Did::Faulted(_) => usage.faults += 1,
+        _ => {}
+    }
+    if begun {
+        usage.instructions += 1;
+    }
+}
+
+#[tactic(auto, unfolding(pr_model::specs::LwpTurns::with_counted))]
+fn count_in(process: &mut Proc, did: Did, begun: bool)
+    requires { UsedAtMost (2 ^ 64 - 2) process.old.control.usage }
+    ensures { process.new ≡ with_counted did begun process.old }
+{
+    count(&mut process.control.usage, did, begun);
+}
+
+/// An lwp stops at what it met.
+#[tactic(auto, unfolding(pr_model::specs::Points::stopped_at))]
+fn stop_lwp(lwp: &mut Lwp, point: Point)
+    ensures { lwp.new ≡ stopped_at point lwp.old }
+{
+    lwp.control.stop = Some(stop_at(point));
+}
+
+#[tactic(auto, using(pr_num::proofs::ByIdLaws::by_id_laws))]
+fn stop_under(lwps: &mut ById<Lwp>, id: u32, point: Point)
+    ensures { lwps.new ≡ change_under id (stopped_at point) lwps.old }
+{
+    if lwps.contains(id) {
+        stop_lwp(lwps.get_mut(id), point);
+    }
+}
+
+/// An lwp of a process stops at what it met, and the others are directed to stop.
+#[tactic(auto, unfolding(pr_model::specs::Points::with_stop_at, pr_model::specs::State::with_lwp))]
+fn stop_in(process: &mut Proc, id: u32, point: Point)
+    ensures { process.new ≡ with_stop_at point id process.old }
+{
+    stop_under(&mut process.lwps, id, point);
+    direct_others(process);
+}
+
+/// An lwp of a process met this, or nothing: it stops where that is traced.
+#[tactic(auto, unfolding(pr_model::specs::Points::after_meeting))]
+fn meet(process: &mut Proc, id: u32, point: Option<Point>)
+    ensures { process.new ≡ after_meeting point id process.old }
+{
+    if let Some(point) = point {
+        if is_traced(&process.control, point) {
+            stop_in(process, id, point);
+        }
+    }
+}
+
+/// Whether an lwp, with its id, may have a turn: it is not held back, does not sleep, and its turn is built.
+#[tactic(auto, using(crate::proofs::TurnLemmas::may_laws), unfolding(pr_model::specs::LwpTurns::may_turn))]
+fn may_turn(process: &Proc, id: u32, lwp: &Lwp) -> bool
+    ensures { (s : TracedSystem) (pid : ℕ) → result ≡ may_turn s pid process.now id lwp.now }
+{
+    !is_held_back(process, id, lwp) && is_built_turn(process, lwp)
+}
+
+/// Whether an lwp can have a turn: its process is live, it is not held back, and what it would do is built.
+#[tactic(auto, unfolding(pr_model::specs::LwpTurns::can_move))]
+pub fn movable(sys: &Sys, pid: u32, lwp: u32) -> bool
+    ensures { result ≡ can_move sys.now pid lwp }
+{
+    let Some(process) = live(sys, pid) else {
+        return false;
+    };
+    match process.lwps.get(lwp) {
+        None => false,
+        Some(found) => may_turn(process, lwp, found),
+    }
+}
+
+/// The row that is the next turn of an lwp that can have one.
+#[tactic(auto, using(crate::proofs::TurnLemmas::turn_laws))]
+fn next_of(sys: &Sys, pid: u32, id: u32) -> Next
+    requires { can_move sys.now pid id ≡ true }
+    ensures { IsNext sys.now pid id result }
+{
+    let process = live(sys, pid).unwrap();
+    let lwp = process.lwps.get(id).unwrap();
+    next_row(pid, process, lwp)
+}
+
+/// What a row that does not end its process makes of the system.
+fn make_in(sys: &mut Sys, pid: u32, id: u32, next: Next) -> (Made, bool)
+    requires next { IsNext sys.old pid id next }
+    requires lives { ends next ≡ false }
+    ensures { MakesIn sys.old sys.new pid id next result.0 result.1 }
+{
+    make_and_ask(sys.processes.get_mut(pid), id, next)
+}
+
+/// What a row makes of the system, and what it did.
+fn make_turn(sys: &mut Sys, pid: u32, id: u32, next: Next) -> (Made, bool)
+    requires next { IsNext sys.old pid id next }
+    ensures { Makes sys.old sys.new pid id next result.0 result.1 }
+{
+    match next {
+        Next::Ends { call, status } => {
+            end(sys, pid, status);
+            (ended_by(call), false)
+        }
+        _ => make_in(sys, pid, id, next),
+    }
+}
+
+/// Counts what a turn did in the process of an id, and lets its lwp stop where that is traced.
+fn finish(sys: &mut Sys, pid: u32, id: u32, made: Made)
+    requires { AllUsedAtMost (2 ^ 64 - 2) sys.old }
+    ensures { sys.new ≡ with_process pid (after_meeting made.point id) (with_process pid (with_counted made.did made.begun) sys.old) }
+{
+    if sys.processes.contains(pid) {
+        count_in(sys.processes.get_mut(pid), made.did, made.begun);
+    }
+    if sys.processes.contains(pid) {
+        meet(sys.processes.get_mut(pid), id, made.point);
+    }
+}
+
+/// One turn of an lwp: it makes the first row of the turn table that fits. No turn that is built takes memory.
+pub fn turn(sys: &mut Sys, pid: u32, lwp: u32) -> Result<Turned, NoMemory>
+    requires movable { can_move sys.old pid lwp ≡ true }
+    // the counts of use do not wrap
+    requires room { AllUsedAtMost (2 ^ 64 - 2) sys.old }
+    ensures ok { IfOk result (λ turned. turn_of sys.old pid lwp ≡ Some (record { system = sys.new; turned = turned })) }
+    ensures sure { IsOk result }
+{
+    let next = next_of(sys, pid, lwp);
+    let (made, stop) = make_turn(sys, pid, lwp, next);
+    finish(sys, pid, lwp, made);
+    Ok(Turned {
+        did: made.did,
+        stop,
+    })
+}
