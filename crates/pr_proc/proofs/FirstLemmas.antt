@@ -1,4 +1,4 @@
-use Rattle.std.proofs.Common.{◌≡◌, ℕ, ◌+◌, ◌<◌, ◌≤◌, false, List, [], ◌∷◌, IsNone, is_none, length, drop, get_or, refl, ap, sym, subst, arith}
+use Rattle.std.proofs.Common.{◌≡◌, ℕ, ◌+◌, ◌<◌, ◌≤◌, false, List, [], ◌∷◌, IsNone, is_some, length, drop, get_or, refl, ap, sym, subst, arith}
 use Rattle.std.specs.List.{All, slice_get}
 use Rattle.std.proofs.lemmas.List.Elements.{All-nil, All-cons, All-weaker}
 use Rattle.pr_num.specs.ById.{inserted, under}
@@ -36,7 +36,7 @@ bare_system-made programs files = refl
 
 -- no process has the next id
 pub next_id-free : (s : TracedSystem) → IsNumbered s → IsNone (under s.made s.processes)
-next_id-free s ids = ap is_none (under-beyond s.made s.processes ids.each)
+next_id-free s ids = ap is_some (under-beyond s.made s.processes ids.each)
 
 -- one more process under the next id
 pub made-numbered : (s new : TracedSystem) (p : TracedProcess) → IsNumbered s → new.made ≡ s.made + 1 → new.processes ≡ inserted s.made p s.processes → IsNumbered new

@@ -1,4 +1,4 @@
-use Rattle.std.proofs.Common.{◌≡◌, ℕ, zero, suc, ◌+◌, ◌≤◌, true, false, cond, Option, Some, None, List, [], ◌∷◌, ◌++◌, length, drop, refl, sym, ap, ◌∙◌, add-one}
+use Rattle.std.proofs.Common.{◌≡◌, ℕ, zero, suc, ◌+◌, ◌≤◌, true, false, cond, Option, Some, None, List, [], ◌∷◌, ◌++◌, length, drop, refl, sym, ap, ◌∙◌, arith}
 use Rattle.std.specs.List.{find, slice_get}
 use Rattle.std.specs.Option.{option_or}
 use Rattle.std.proofs.lemmas.List.{drop_all}
@@ -13,7 +13,9 @@ use Rattle.pr_model.specs.State.{TracedLwp, TracedProcess}
 drop-at : {X : Type 0} (xs : List X) (i : ℕ) (x : X) → slice_get xs i ≡ Some x → drop i xs ≡ x ∷ drop (i + 1) xs
 drop-at [] i x e = absurd (none-some x e)
 drop-at (y ∷ xs) zero x e = ap (λ z. z ∷ xs) (same_Some y x e)
-drop-at (y ∷ xs) (suc i) x e = drop-at xs i x e
+drop-at (y ∷ xs) (suc i) x e =
+    let step : suc (i + 1) ≡ suc i + 1 = omega arith in
+    drop-at xs i x e ∙ ap (λ n. x ∷ drop n (y ∷ xs)) step
 
 module _ (after : Option (ℕ × ℕ)) (pid : ℕ) (lwps : List (ℕ × TracedLwp)) (i : ℕ) (e : ℕ × TracedLwp) where
   pub first-here : slice_get lwps i ≡ Some e → is_after after (pid, e.0) ≡ true → find (is_after after) (pairs_of pid (drop i lwps)) ≡ Some (pid, e.0)

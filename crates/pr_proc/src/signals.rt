@@ -1,10 +1,10 @@
 //! How signals are generated (signal.h(3HEAD)).
-ghost use Rattle.std.specs.Prelude.{◌≡◌, ◌++◌, IsTrue, None, Some, true};
-ghost use Rattle.pr_num.specs.ById.{map_each};
+ghost use Rattle.std.specs.Prelude.{◌≡◌, IsSome, IfSome, IsTrue};
+ghost use Rattle.pr_num.specs.ById.{change_under, map_each};
 ghost use Rattle.pr_model.specs.Generation.{lwp_with_pending, lwp_without_pending, told, with_deletions, with_pending, without_job_stop, without_pending};
 ghost use Rattle.pr_model.specs.Machines.{traced};
 ghost use Rattle.pr_model.specs.Signals.{generated};
-ghost use Rattle.pr_model.specs.State.{with_process};
+ghost use Rattle.pr_model.specs.State.{live_process, with_process};
 ghost use Rattle.pr_parts.specs.PendingSignals.{has_room};
 ghost use Rattle.pr_proc.specs.Room.{has_room_for, has_room_in};
 
@@ -108,7 +108,7 @@ pub(crate) fn tell(process: &mut Proc, lwp: Option<u32>, s: Sig, info: Info)
 #[tactic(auto, using(pr_num::proofs::ByIdLaws::by_id_laws, crate::proofs::LifeLemmas::life_laws), unfolding(pr_model::specs::Signals::generated, pr_model::specs::State::with_process))]
 pub fn generate(sys: &mut Sys, pid: u32, lwp: Option<u32>, s: Sig, info: Info)
     requires live { IsSome (live_process sys.old pid) }
-    requires room { ForSome (live_process sys.old pid) (λ p. IsTrue (has_room_for lwp s (with_deletions s p))) }
+    requires room { IfSome (live_process sys.old pid) (λ p. IsTrue (has_room_for lwp s (with_deletions s p))) }
     ensures { sys.new ≡ generated traced pid lwp s info sys.old }
 {
     if let Sig::Kill = s {

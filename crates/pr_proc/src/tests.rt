@@ -30,14 +30,11 @@ fn check_process(rt: &impl Abort, process: &Proc, parent: u32, held: bool) {
     );
     assert_eq!(rt; mappings[1].at, 0x700000);
     assert_eq!(rt; mappings[1].bytes.as_slice().len(), 4096);
-    let lwps = process.lwps.as_slice();
-    assert_eq!(rt; lwps.len(), 1);
-    assert_eq!(rt; lwps[0].id, 1);
-    assert_eq!(rt; lwps[0].directed, held);
-    assert_eq!(rt;
-        lwps[0].regs,
-        [0, 0, 0, 0, 0, 0, 0, 0, 0x701000, 0, 0x10000]
-    );
+    assert_eq!(rt; process.lwps.len(), 1);
+    let (id, lwp) = process.lwps.at(0);
+    assert_eq!(rt; id, 1);
+    assert_eq!(rt; lwp.control.directed, held);
+    assert_eq!(rt; lwp.regs, [0, 0, 0, 0, 0, 0, 0, 0, 0x701000, 0, 0x10000]);
 }
 
 #[test]
