@@ -259,14 +259,17 @@ fn an_old_status_is_upgraded(rt: HostRuntime) -> Result<(), Fail> {
         if let Some(changed) = words.get_mut(place) {
             *changed = word;
         }
+        let bytes = bytes_of(alloc, &words)?;
+        assert_eq!(rt; bytes.len(), 240);
         let mut old = [0; 240];
-        old.copy_from_slice(&bytes_of(alloc, &words)?);
+        old.copy_from_slice(&bytes);
+        let mut today = [0; 264];
+        today[..240].copy_from_slice(&bytes);
         let upgraded = upgrade(&old);
         assert_eq!(rt; upgraded.map(|_| ()), want, "word {place}");
         if let Ok(new) = upgraded {
-            assert_eq!(rt; &new[..240], old.as_slice());
-            assert_eq!(rt; &new[240..], [0; 24].as_slice());
-            assert_eq!(rt; LwpStatus::decode(&new).is_ok(), true);
+            assert_eq!(rt; new, today);
+            assert!(rt; LwpStatus::decode(&new).is_ok());
         }
     }
     Ok(())
