@@ -1,7 +1,7 @@
 ghost use Rattle.std.specs.Prelude.{◌≡◌, ◌≤◌, ◌<◌, ◌+◌, ◌^◌, [], All, length, position, remove, true, Some, None, Ok, Err, OnOk, OnErr, IfOk, IfSome, IsOkUnless, IsTrue};
 ghost use Rattle.pr_num.specs.Programs.{rounded};
-ghost use Rattle.pr_num.specs.Spaces.{mapped_size, mapping_limit, bytes_for};
-ghost use Rattle.pr_parts.specs.AddressSpaces.{LeavesHeapPlace, break_limit, first_mappings, gap_in, heap_base, is_break_heap, is_free, text_at, with_break, with_bytes, with_heap, with_mapping, with_protected, without_range, zeros_at};
+ghost use Rattle.pr_num.specs.Spaces.{mapped_size, mapping_limit, bytes_for, first_mappings};
+ghost use Rattle.pr_parts.specs.AddressSpaces.{LeavesHeapPlace, break_limit, gap_in, heap_base, is_break_heap, is_free, text_at, with_break, with_bytes, with_heap, with_mapping, with_protected, without_range, zeros_at};
 ghost use Rattle.pr_mem.specs.Answers.{access_answer, break_refusal, done_unless, has_heap_room, is_outside_heap_place, map_refusal, range_refusal, text_answer, with_text};
 
 use crate::{Map, MemFault, accesses, gaps, mappings, ranges, texts, writes};
