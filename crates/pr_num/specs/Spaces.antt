@@ -1,4 +1,4 @@
-use Rattle.std.specs.Prelude.{◌&&◌, ◌+◌, ◌-◌, ◌%◌, ◌^◌, ◌<◌, ◌≤◌, ℕ, zero, suc, Bool, true, false, List, [], ◌∷◌, ◌++◌, length, replicate, slice_index, find, sum_by, All, AllPairs, Option, Some, None, Result, Ok, Err, nat_lt, nat_le, if◌then◌else◌}
+use Rattle.std.specs.Prelude.{◌==◌, ◌&&◌, ◌+◌, ◌-◌, ◌%◌, ◌^◌, ◌<◌, ◌≤◌, ℕ, zero, suc, Bool, true, false, List, [], ◌∷◌, ◌++◌, length, replicate, slice_index, find, sum_by, All, AllPairs, Option, Some, None, Result, Ok, Err, nat_lt, nat_le, if◌then◌else◌}
 use Rattle.pr_num.specs.Control.{has_flags, prot_read, prot_write, prot_exec}
 pub use Rattle.pr_num.specs.Limits.{mapping_limit}
 use Rattle.pr_num.specs.Programs.{Program, text_of, whole_pages}
@@ -35,6 +35,15 @@ kind_number Data = 2
 kind_number Heap = 3
 kind_number Stack = 4
 kind_number Mapped = 5
+
+-- the kind of mapping of a number, where it is one
+abbrev pub kind_of_number : ℕ → Option MappingKind
+kind_of_number n =
+    if n == 1 then Some Text
+    else (if n == 2 then Some Data
+    else (if n == 3 then Some Heap
+    else (if n == 4 then Some Stack
+    else (if n == 5 then Some Mapped else None))))
 
 -- whether a mapping has the byte at an address
 abbrev pub covers : ℕ → Mapping → Bool

@@ -7,7 +7,7 @@ use Rattle.pr_num.specs.declared.mappings.Mapping.{Mapping}
 use Rattle.pr_parts.specs.AddressSpaces.{LeavesHeapPlace, is_range, with_prot, with_protected}
 use Rattle.pr_parts.proofs.SpaceLemmas.{IsSpace-with_protected, mapped_size-with_protected, set-with_protected}
 use Rattle.pr_mem.proofs.HeapPlaceLemmas.{LeavesHeapPlace-with_protected}
-use Rattle.pr_mem.proofs.spaces.Space.protect.Goals as goal
+use Rattle.pr_mem.proofs.spaces.Space.protect_as.Goals as goal
 
 -- the list with the mapping changed
 holds : (items found : Space) (at size place prot : ℕ) (m n : Mapping) → found ≡ items → position (is_range at size) found ≡ Some place → m ≡ get_or items place m → n ≡ with_prot prot m → set items place n ≡ with_protected at size prot items
