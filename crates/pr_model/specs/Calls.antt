@@ -172,8 +172,8 @@ kill_answer s pid number = record {
 
 -- ---- the calls
 
--- What the machine answers to a call of a controller, a row a call. None: the call is not ready, which CtlWait, Poll and
--- Until alone can be.
+-- What the machine answers to a call of a controller, a row a call. None: the call is not ready, which CtlWait, Poll
+-- and Until alone can be.
 unfoldable pub whole_answer : TracedState → ℕ → Call → Option Answer
 whole_answer s by (Open pid id file mode) = Some (open_answer s by pid id file mode)
 whole_answer s by (Close handle) = Some (close_answer s by handle)

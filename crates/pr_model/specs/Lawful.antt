@@ -34,8 +34,8 @@ pub record IsEmptyZombie (p : TracedProcess) : Type 0 where
   pub no_lwps : (status : ℕ) → p.ended ≡ Some status → p.lwps ≡ []
   pub no_memory : (status : ℕ) → p.ended ≡ Some status → p.space ≡ []
 
--- A process's id is one that was given out, its parent is live or process 0, its lwps stand under rising ids, at most 64
--- of them, and SIGKILL is not traced.
+-- A process's id is one that was given out, its parent is live or process 0, its lwps stand under rising ids, at most
+-- 64 of them, and SIGKILL is not traced.
 pub record IsLawfulProcess (s : TracedSystem) (e : ℕ × TracedProcess) : Type 0 where
   pub id : e.0 < s.made
   pub parent : (e.1.parent ≡ 0) ⊎ IsSome (live_process s e.1.parent)
