@@ -95,7 +95,7 @@ module _ {H K : Type 0} where
   with_suspended suspended l = record l { suspended = suspended }
 
 -- What a change makes of the system, in the turn of the lwp of an id, which with its process was as is said here when
--- the turn began. A turn never sends SIGKILL to its own process, nor reaps it, by a change.
+-- the turn began. By a change a turn never sends SIGKILL to its own process, nor reaps it, nor makes it anew.
 module _ {C H K : Type 0} (m : Machine C H K) (pid : ℕ) (p : ProcessOf C H K) (id : ℕ) (l : LwpOf H K) where
   unfoldable pub changed : Change → SystemOf C H K → SystemOf C H K
   changed (files_are files fds) s = with_process pid (with_fds fds) (record s { files = files })
@@ -107,7 +107,7 @@ module _ {C H K : Type 0} (m : Machine C H K) (pid : ℕ) (p : ProcessOf C H K) 
   changed (disposition_is g disposition) s = with_process pid (with_disposition_of g disposition) s
   changed (held_is held) s = with_process pid (with_lwp id (with_held held)) s
   changed (resumes frame frames) s = with_process pid (with_lwp id (resumed frame frames)) s
-  changed (forks args) s = with_child m pid p l args s
+  changed (forks args) s = if s.made == pid then s else with_child m pid p l args s
   changed (reaps child) s = if child == pid then s else with_reaped child s
   changed (becomes program) s = with_process pid (with_program m id l program) s
   changed (makes_lwp new regs held) s = with_process pid (with_new_lwp m new regs held) s
