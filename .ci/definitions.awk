@@ -41,7 +41,7 @@ document { next }
 /^[^ -]/ { nested = /^(module|mutual|unfoldable mutual|abbrev mutual)/ }
 { line = $0; if (nested) sub(/^  /, "", line) }
 
-line ~ /^(abbrev |unfoldable )?pub / && line !~ /^pub (mod|ruleset|use) / {
+line ~ /^(abbrev |unfoldable )?pub / && line !~ /^(abbrev |unfoldable )?pub (mod|ruleset|use) / {
   sub(/^(abbrev |unfoldable )?pub (record |data )?/, "", line)
   match(line, /^[^ :({]+/)
   it = FILENAME ": " substr(line, 1, RLENGTH)

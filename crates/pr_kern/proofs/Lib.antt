@@ -1,6 +1,7 @@
 pub mod CloseLemmas
 pub mod FileLemmas
 pub mod HeapLemmas
+pub mod InterruptLemmas
 pub mod KeptLemmas
 pub mod MessageLemmas
 pub mod OrderLemmas
@@ -8,3 +9,4 @@ pub mod SoundLemmas
 pub mod StartLemmas
 pub mod StepLemmas
 pub mod TurnedLemmas
+pub mod ViewLemmas

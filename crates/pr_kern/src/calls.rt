@@ -28,12 +28,13 @@ fn write(state: &mut Machine, by: u32, handle: u32, bytes: &[u8]) -> Option<Repl
     control(&mut state.system, &state.opens, by, handle, bytes)
 }
 
-/// Whether a controller was interrupted and has not seen it yet.
+/// Whether a controller was interrupted and has not seen it yet. There are 64 controllers at most.
+#[tactic(auto, using(crate::proofs::InterruptLemmas::interrupt_laws))]
 fn is_interrupted(state: &Machine, by: u32) -> bool
-    requires { by < 64 }
     ensures { result ≡ is_interrupted state.now by }
 {
-    (state.interrupted >> by) & 1 == 1
+    let interrupted = state.interrupted;
+    by < u64::BITS && (interrupted >> by) & 1 == 1
 }
 
 /// The reply to the wait of a controller; `None`: the wait goes on. EINTR ends the controller's interrupt. Takes no
@@ -119,8 +120,7 @@ fn read(
 /// Whether a call of a controller is ready: the machine has an answer to it. Takes no memory.
 #[tactic(auto, unfolding(pr_model::specs::Calls::answer_to))]
 pub fn ready(state: &Machine, by: u32, call: &Call) -> bool
-    requires by { by < 64 }
-    requires clock { state.now.system.clock ≤ clock_limit }
+    requires { state.now.system.clock ≤ clock_limit }
     ensures { result ≡ is_some (answer_to state.now by call.now) }
 {
     match call {

@@ -74,7 +74,6 @@ impl Kern {
 
     /// Whether a call of a controller is ready. Takes no memory.
     pub fn ready(&self, by: u32, call: &Call) -> bool
-        requires { by < 64 }
         ensures { result ≡ is_some (answer_to self.now.state by call.now) }
     {
         ready(&self.state, by, call)

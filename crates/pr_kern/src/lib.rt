@@ -1,6 +1,7 @@
 //! The kernel with its history: the calls that controllers make, and the one entry that each step adds.
 #![tactic(auto)]
 
+mod as_kernel;
 mod calls;
 mod closes;
 mod kernels;

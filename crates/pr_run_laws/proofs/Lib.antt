@@ -1,5 +1,2 @@
-pub mod BuiltLemmas
 pub mod GrowthLemmas
 pub mod KeptLemmas
-pub mod PassiveLemmas
-pub mod ReplyLemmas

@@ -1,33 +1,63 @@
 use Rattle.std.specs.Prelude.{ℕ, List, [], None, length, map}
+use Rattle.pr_api.specs.Views.{kernel_of}
 use Rattle.pr_erasure.specs.Transparency.{IsTransparent}
 use Rattle.pr_model.specs.FirstState.{first_state}
 use Rattle.pr_model.specs.Legal.{IsLegal}
 use Rattle.pr_model.specs.Passive.{IsPassive}
 use Rattle.pr_model.specs.State.{TracedState}
+use Rattle.pr_model.specs.declared.events.Actor.{Actor}
 use Rattle.pr_model.specs.declared.events.Entry.{Entry}
-use Rattle.pr_scen.specs.Scripts.{ScriptState, first_script}
+use Rattle.pr_num.specs.declared.files.StoredFile.{StoredFile}
+use Rattle.pr_scen.specs.Scripts.{first_script}
 use Rattle.pr_scen.specs.declared.scenarios.Scenario.{Scenario}
+use Rattle.pr_scen.specs.declared.script_lines.ScriptLine.{ScriptLine}
 use Rattle.pr_world.specs.Protocol.{Follows}
-use Rattle.pr_world.specs.Worlds.{WorldState, after_moves}
+use Rattle.pr_world.specs.Runs.{after_moves}
+use Rattle.pr_world.specs.Worlds.{WorldState}
+use Rattle.pr_world.specs.declared.controllers.Controller.{Controller as Core}
+use Rattle.pr_world.specs.declared.controllers.Controller.TheVariants.{Script}
 
--- The run of a scenario, on one thread.
+-- The runs of a scenario.
 
--- the state of the machine before the first move: the processes that the scenario spawns, of its programs; it has no
--- files yet
+-- the files that it begins with; a scenario names none yet
+abbrev pub files_of : Scenario → List StoredFile
+files_of s = []
+
+-- the state of the machine before the first move: the processes that the scenario spawns, of its programs, and its files
 abbrev pub first_state_of : Scenario → TracedState
-first_state_of s = first_state s.programs [] s.spawns
+first_state_of s = first_state s.programs (files_of s) s.spawns
 
 -- its controllers before their first calls: its scripts
-abbrev pub controllers_of : Scenario → List ScriptState
-controllers_of s = map first_script s.scripts
+abbrev pub controller_of : List ScriptLine → Core
+controller_of lines = Script (first_script lines)
+
+abbrev pub controllers_of : Scenario → List Core
+controllers_of s = map controller_of s.scripts
+
+-- the actors that move first, in order; a scenario names none yet
+abbrev pub schedule_of : Scenario → List Actor
+schedule_of s = []
 
 -- The world before the first move; the history has as many places as the scenario has turns.
 unfoldable pub first_world : Scenario → WorldState
 first_world s = record {
-  kernel = record { state = first_state_of s; history = []; places = s.turns };
-  scripts = controllers_of s;
+  kernel = kernel_of (first_state_of s) [] s.turns;
+  controllers = controllers_of s;
+  schedule = schedule_of s;
   last = None;
 }
+
+-- ---- what is kept of a run
+
+-- What every run of a scenario keeps, in whatever order its actors move: each entry is what the machine does; the
+-- controllers make the calls that come after the replies that they got, and the clock goes on only where it is awaited;
+-- and if controllers only stopped, ran and read, the programs did what they could have done without controllers.
+pub record IsKept (s : Scenario) (h : List Entry) : Type 0 where
+  pub legal : IsLegal (length (controllers_of s)) (first_state_of s) h
+  pub follows : Follows (controllers_of s) (first_state_of s) h
+  pub transparent : IsPassive h → IsTransparent (first_state_of s) h
+
+-- ---- on one thread a run is a function of the scenario
 
 -- the world after so many moves, and the history that they made
 abbrev pub world_after : ℕ → Scenario → WorldState
@@ -39,12 +69,3 @@ history_after n s = (world_after n s).kernel.history
 -- the run: as many moves as there are turns, or until nobody can move
 abbrev pub run_of : Scenario → WorldState
 run_of s = world_after s.turns s
-
--- What a run keeps: every entry is what the machine does; the controllers make the calls of their scripts, and the
--- clock goes on only where it is awaited; of control messages there are only those that stop, run and read; and so the
--- programs did what they could have done without controllers.
-pub record IsKept (s : Scenario) (h : List Entry) : Type 0 where
-  pub legal : IsLegal (length (controllers_of s)) (first_state_of s) h
-  pub follows : Follows (controllers_of s) (first_state_of s) h
-  pub passive : IsPassive h
-  pub transparent : IsTransparent (first_state_of s) h

@@ -1,7 +1,7 @@
-pub mod CallLemmas
 pub mod MoveLemmas
-pub mod NextLemmas
 pub mod ProtocolLemmas
 pub mod RestLemmas
 pub mod RunLemmas
+pub mod ScheduleLemmas
 pub mod SearchLemmas
+pub mod ToldLemmas

@@ -1,150 +1,223 @@
-use Rattle.std.proofs.Common.{◌≡◌, ◌<◌, ◌+◌, ◌&&◌, ℕ, Bool, true, false, Option, Some, None, is_some, List, [], ◌∷◌, ◌++◌, length, slice_get, slice_set, nat_lt, cond, refl, sym, ◌∙◌, ap, subst}
+use Rattle.std.proofs.Common.{◌≡◌, ◌<◌, ◌+◌, ◌-◌, ◌&&◌, ℕ, zero, suc, Bool, true, false, Option, Some, None, IfSome, IsSome, List, [], ◌∷◌, ◌++◌, length, slice_get, slice_index_or, slice_set, nat_lt, refl, sym, ◌∙◌, ap, subst, arith, rules, length-append}
 use Rattle.std.proofs.lemmas.Option.{same_Some, slice_get_within}
 use borrow.Author.Tests.{ltb-true}
-use Rattle.std.proofs.lemmas.List.{length-set}
-use Rattle.std.specs.Option.{option_map, option_and_then}
-use Rattle.pr_kern.specs.Kernels.{Kernel, TurnedKernel, after_answer, after_lwp_turn, after_turn, after_tick, call_entry, turn_entry, tick_entry}
-use Rattle.pr_model.specs.Calls.{Answer, answer_to}
-use Rattle.pr_model.specs.Legal.{IsLegalEntry, after, after_call, after_turn as state_after_turn, clock_limit, ticked}
-use Rattle.pr_model.specs.LwpTurns.{LwpTurn, turn_of}
-use Rattle.pr_model.specs.State.{TracedState, TracedSystem}
+use Rattle.std.specs.Borrow.{Bor}
+use Rattle.std.specs.Option.{option_and_then, option_copied}
+use Rattle.pr_api.specs.Entries.{call_entry, last_reply_of, reply_of, tick_entry, turn_entry}
+use Rattle.pr_api.specs.Steps.{IsAnswer, IsCalled, IsTicked, IsTurned, IsTurnOf}
+use Rattle.pr_api.specs.Views.{IsLawful, KernelView, kernel_of}
+use Rattle.pr_model.specs.Legal.{IsLegalEntry, after, after_call, after_turn, clock_limit, ticked}
+use Rattle.pr_model.specs.State.{TracedState, with_system}
 use Rattle.pr_model.specs.declared.calls.Call.{Call}
 use Rattle.pr_model.specs.declared.calls.Reply.{Reply}
-use Rattle.pr_model.specs.declared.events.Actor.{Actor}
+use Rattle.pr_model.specs.declared.events.Act.TheVariants.{Call as Called, Turn, Tick}
 use Rattle.pr_model.specs.declared.events.Actor.TheVariants.{Controller, Lwp, Clock}
 use Rattle.pr_model.specs.declared.events.Entry.{Entry}
-use Rattle.pr_scen.specs.Scripts.{ScriptState, next_call_of, fed}
-use Rattle.pr_world.specs.Protocol.{FollowsAt, scripts_after}
-use Rattle.pr_world.specs.Worlds.{WorldState, answer_for, call_by, feed_at, with_fed, with_answer, after_call_by, after_controller, with_turned, after_lwp, is_clock_awaited, after_clock, after_move}
+use Rattle.pr_model.specs.declared.events.Turned.{Turned}
+use Rattle.pr_world.specs.Controllers.{after_reply, call_by, feed_at, is_clock_awaited, next_call, with_fed}
+use Rattle.pr_world.specs.Moves.{Does, IsMachines, Moves}
+use Rattle.pr_world.specs.Protocol.{controllers_after}
+use Rattle.pr_world.specs.Worlds.{WorldOf, WorldState, can_act, is_answered, seen}
+use Rattle.pr_world.specs.declared.controllers.Controller.{Controller as Core}
 
--- What a move adds to a world: one entry, which is legal and follows the protocol, and what the entry makes of the
--- machine and of the controllers.
-pub record Moves (w v : WorldState) : Type 0 where
-  pub entry : Entry
-  pub history : v.kernel.history ≡ w.kernel.history ++ entry ∷ []
-  pub places : v.kernel.places ≡ w.kernel.places
-  pub legal : IsLegalEntry (length w.scripts) w.kernel.state entry
-  pub follows : FollowsAt w.scripts w.kernel.state entry
-  pub state : v.kernel.state ≡ after w.kernel.state entry
-  pub scripts : v.scripts ≡ scripts_after w.scripts entry
-  pub count : length v.scripts ≡ length w.scripts
+-- A step of the kernel makes a move of the world.
 
--- who has a next call is one of the controllers
-has_call : (scripts : List ScriptState) (k : ℕ) (s : Option ScriptState) (c : Call) → slice_get scripts k ≡ s → option_and_then next_call_of s ≡ Some c → k < length scripts
-has_call scripts k None c found is = cc
-has_call scripts k (Some s) c found is = slice_get_within scripts k s found
+-- what follows of a machine that is told
+told : {X : Type 0} (o : Option X) (A B : X → Type 0) → ((x : X) → o ≡ Some x → A x → B x) → IfSome o A → IfSome o B
+told None A B f a = tt
+told (Some x) A B f a = f x refl a
 
-with_call : (scripts : List ScriptState) (k : ℕ) (c : Call) → call_by scripts k ≡ Some c → k < length scripts
+-- ---- the last reply
+
+at-end : (h : List Entry) (e : Entry) → slice_get (h ++ e ∷ []) (length h) ≡ Some e
+at-end [] e = refl
+at-end (x ∷ h) e = at-end h e
+
+-- the last entry of a list one longer
+last-pushed : (h : List Entry) (e : Entry) → slice_get (h ++ e ∷ []) (length (h ++ e ∷ []) - 1) ≡ Some e
+last-pushed h e = let there : length (h ++ e ∷ []) - 1 ≡ length h = omega (arith, length-append h (e ∷ [])) in ap (slice_get (h ++ e ∷ [])) there ∙ at-end h e
+
+pub last-reply : (h : List Entry) (k : ℕ) (c : Call) (r : Reply) → last_reply_of (h ++ call_entry k c r ∷ []) ≡ Some r
+unfolding last_reply_of
+last-reply h k c r = ap (option_and_then reply_of) (last-pushed h (call_entry k c r))
+
+copied-some : {X : Type 0} (o : Option (Bor X)) (x : X) → option_copied o ≡ Some x → IsSome o
+copied-some None x e = cc
+copied-some (Some b) x e = search rules
+
+module _ (k : ℕ) (c : Call) (old new : KernelView) (called : IsCalled k c old new) where
+  called-reply : last_reply_of new.history ≡ Some called.reply
+  called-reply = ap last_reply_of called.history ∙ last-reply old.history k c called.reply
+
+  -- after a call there is a reply
+  pub replied : (o : Option (Bor Reply)) → option_copied o ≡ last_reply_of new.history → IsSome o
+  replied o is = copied-some o called.reply (is ∙ called-reply)
+
+-- ---- who has a next call is one of the controllers
+
+has_call : (controllers : List Core) (k : ℕ) (o : Option Core) (c : Call) → slice_get controllers k ≡ o → option_and_then next_call o ≡ Some c → k < length controllers
+has_call controllers k None c found is = cc
+has_call controllers k (Some s) c found is = slice_get_within controllers k s found
+
+pub with_call : (controllers : List Core) (k : ℕ) (c : Call) → call_by controllers k ≡ Some c → k < length controllers
 unfolding call_by
-with_call scripts k c is = has_call scripts k (slice_get scripts k) c refl is
+with_call controllers k c is = has_call controllers k (slice_get controllers k) c refl is
 
--- a reply changes nothing of how many controllers there are
-fed-count : (k : ℕ) (r : Reply) (scripts : List ScriptState) (s : Option ScriptState) → length (feed_at k r scripts s) ≡ length scripts
-fed-count k r scripts None = refl
-fed-count k r scripts (Some s) = length-set scripts k (fed s r)
+-- the call of a controller that can move, and that it is ready
+pub record HasCall (w : WorldState) (k : ℕ) : Type 0 where
+  pub call : Call
+  pub next : call_by w.controllers k ≡ Some call
+  pub ready : w.kernel.is_ready k call ≡ true
 
-pub with_fed-count : (k : ℕ) (r : Reply) (scripts : List ScriptState) → length (with_fed k r scripts) ≡ length scripts
+pub acts-call : (w : WorldState) (k : ℕ) → can_act w (Controller k) ≡ true → HasCall w k
+unfolding can_act
+acts-call w k h = of (call_by w.controllers k) refl h
+  where
+    of : (o : Option Call) → call_by w.controllers k ≡ o → is_answered w.kernel k o ≡ true → HasCall w k
+    of None is h = cc
+    of (Some c) is h = record { call = c; next = is; ready = h }
+
+-- a controller that is fed
+get-at : (controllers : List Core) (k : ℕ) (c : Core) → k < length controllers → c ≡ slice_index_or controllers k c → slice_get controllers k ≡ Some c
+get-at [] k c h e = absurd (omega arith)
+get-at (x ∷ xs) zero c h e = ap Some (sym e)
+get-at (x ∷ xs) (suc k) c h e = get-at xs k c (omega arith) e
+
+pub fed-set : (controllers : List Core) (k : ℕ) (r : Reply) (c new : Core) → k < length controllers → c ≡ slice_index_or controllers k c → new ≡ after_reply c r → slice_set controllers k new ≡ with_fed k r controllers
 unfolding with_fed
-with_fed-count k r scripts = fed-count k r scripts (slice_get scripts k)
+fed-set controllers k r c new within at is = ap (slice_set controllers k) is ∙ ap (feed_at k r controllers) (sym (get-at controllers k c within at))
 
--- The state after an answer, a turn and a tick is that after its entry.
-after-answer : (s : TracedState) (k : ℕ) (c : Call) (a : Answer) → answer_to s k c ≡ Some a → after s (call_entry k c a.reply) ≡ a.state
-unfolding after
-after-answer s k c a is = ap (λ (o : Option Answer). after_call s o) is
+-- ---- one lemma a kind of move
 
-after-turn : (s : TracedState) (pid id : ℕ) (t : LwpTurn) → turn_of s.system pid id ≡ Some t → after s (turn_entry pid id t.turned) ≡ record s { system = t.system }
-unfolding after
-after-turn s pid id t is = ap (λ (o : Option LwpTurn). state_after_turn s o) is
-
-controller-moves : (w v : WorldState) (k : ℕ) (c : Call) (a : Answer) → call_by w.scripts k ≡ Some c → answer_to w.kernel.state k c ≡ Some a → v ≡ with_answer w k c a → Moves w v
-unfolding with_answer IsLegalEntry FollowsAt scripts_after
-controller-moves w v k c a next is led = record {
-  entry = call_entry k c a.reply;
-  history = ap (λ (x : WorldState). x.kernel.history) led;
-  places = ap (λ (x : WorldState). x.kernel.places) led;
-  legal = (with_call w.scripts k c next, (a.state, is));
-  follows = next;
-  state = ap (λ (x : WorldState). x.kernel.state) led ∙ sym (after-answer w.kernel.state k c a is);
-  scripts = ap (λ (x : WorldState). x.scripts) led;
-  count = ap (λ (x : WorldState). length x.scripts) led ∙ with_fed-count k a.reply w.scripts;
+answer-machines : (n k : ℕ) (c : Call) (r : Reply) (now : Option TracedState) (s : TracedState) → k < n → IsAnswer k c r now s → IsMachines n (call_entry k c r) now s
+unfolding IsLegalEntry after
+answer-machines n k c r now s within made = record {
+  legal = (within, (made.0, made.1));
+  state = made.2 ∙ ap Some (sym (ap (after_call s) made.1));
 }
 
-lwp-moves : (w v : WorldState) (pid id : ℕ) (t : LwpTurn) → turn_of w.kernel.state.system pid id ≡ Some t → v ≡ with_turned w (after_lwp_turn pid id w.kernel t) → Moves w v
-unfolding IsLegalEntry FollowsAt scripts_after
-lwp-moves w v pid id t is led = record {
-  entry = turn_entry pid id t.turned;
-  history = ap (λ (x : WorldState). x.kernel.history) led;
-  places = ap (λ (x : WorldState). x.kernel.places) led;
-  legal = (t.system, is);
-  follows = tt;
-  state = ap (λ (x : WorldState). x.kernel.state) led ∙ sym (after-turn w.kernel.state pid id t is);
-  scripts = ap (λ (x : WorldState). x.scripts) led;
-  count = ap (λ (x : WorldState). length x.scripts) led;
+pub controller-moves : (w v : WorldState) (k : ℕ) (c : Call) (r : Reply) → can_act w (Controller k) ≡ true → call_by w.controllers k ≡ Some c → IsCalled k c w.kernel v.kernel → last_reply_of v.kernel.history ≡ Some r → v.controllers ≡ with_fed k r w.controllers
+    → v.schedule ≡ w.schedule → v.last ≡ w.last → IsLawful v.kernel → Moves w (Controller k) v
+unfolding Does controllers_after
+controller-moves w v k c r acts next called reply fed schedule last lawful =
+    let same : called.reply ≡ r = same_Some called.reply r (sym (called-reply k c w.kernel v.kernel called) ∙ reply) in
+    record {
+      act = Called c called.reply;
+      acts = acts;
+      does = (next, called.shaped);
+      history = called.history;
+      places = called.places;
+      controllers = fed ∙ ap (λ (x : Reply). with_fed k x w.controllers) (sym same);
+      schedule = schedule;
+      last = last;
+      machine = told w.kernel.machine _ _ (λ s is made. answer-machines (length w.controllers) k c called.reply v.kernel.machine s (with_call w.controllers k c next) made) called.machine;
+      lawful = lawful;
+    }
+
+turn-machines : (n pid id : ℕ) (t : Turned) (now : Option TracedState) (s : TracedState) → IsTurnOf pid id t now s → IsMachines n (turn_entry pid id t) now s
+unfolding IsLegalEntry after
+turn-machines n pid id t now s made = record {
+  legal = (made.0, made.1);
+  state = made.2 ∙ ap Some (sym (ap (after_turn s) made.1));
 }
 
-clock-moves : (w v : WorldState) → (w.kernel.state.system.clock < clock_limit) → is_clock_awaited w.kernel.state.system w.scripts ≡ true → v ≡ record w { kernel = after_tick w.kernel } → Moves w v
-unfolding IsLegalEntry FollowsAt scripts_after after after_tick
-clock-moves w v early awaited led = record {
-  entry = tick_entry (w.kernel.state.system.clock + 1);
-  history = ap (λ (x : WorldState). x.kernel.history) led;
-  places = ap (λ (x : WorldState). x.kernel.places) led;
-  legal = (early, refl);
-  follows = awaited;
-  state = ap (λ (x : WorldState). x.kernel.state) led;
-  scripts = ap (λ (x : WorldState). x.scripts) led;
-  count = ap (λ (x : WorldState). length x.scripts) led;
+pub lwp-moves : (w v : WorldState) (pid id : ℕ) (t : Turned) → can_act w (Lwp pid id) ≡ true → IsTurned pid id t w.kernel v.kernel → v.controllers ≡ w.controllers → v.schedule ≡ w.schedule → v.last ≡ w.last → IsLawful v.kernel → Moves w (Lwp pid id) v
+unfolding Does controllers_after
+lwp-moves w v pid id t acts turned controllers schedule last lawful = record {
+  act = Turn t;
+  acts = acts;
+  does = tt;
+  history = turned.history;
+  places = turned.places;
+  controllers = controllers;
+  schedule = schedule;
+  last = last;
+  machine = told w.kernel.machine _ _ (λ s is made. turn-machines (length w.controllers) pid id t v.kernel.machine s made) turned.machine;
+  lawful = lawful;
 }
-
--- What there is behind an option that was mapped.
-mapped : {X Y : Type 0} (f : X → Y) (o : Option X) (y : Y) → option_map f o ≡ Some y → (x : X) × ((o ≡ Some x) × (y ≡ f x))
-mapped f None y e = cc
-mapped f (Some x) y e = (x, (refl, sym (same_Some (f x) y e)))
-
--- One lemma a row of the table of moves.
-controller-row : (w v : WorldState) (k : ℕ) (c : Option Call) → call_by w.scripts k ≡ c → after_call_by w k c ≡ Some v → Moves w v
-controller-row w v k None next led = cc
-controller-row w v k (Some c) next led =
-    let found = mapped (with_answer w k c) (answer_to w.kernel.state k c) v led in
-    controller-moves w v k c found.0 next found.1.0 found.1.1
-
-lwp-row : (w v : WorldState) (pid id : ℕ) → after_lwp w pid id ≡ Some v → Moves w v
-unfolding after_lwp after_turn
-lwp-row w v pid id led =
-    let turned = mapped (with_turned w) (option_map (after_lwp_turn pid id w.kernel) (turn_of w.kernel.state.system pid id)) v led in
-    let found = mapped (after_lwp_turn pid id w.kernel) (turn_of w.kernel.state.system pid id) turned.0 turned.1.0 in
-    lwp-moves w v pid id found.0 found.1.0 (turned.1.1 ∙ ap (with_turned w) found.1.1)
 
 -- the clock is awaited below its last moment alone
-pub awaited-early : (s : TracedSystem) (scripts : List ScriptState) → is_clock_awaited s scripts ≡ true → s.clock < clock_limit
+pub awaited-early : (clock : ℕ) (sleeper : Bool) (controllers : List Core) → is_clock_awaited clock sleeper controllers ≡ true → clock < clock_limit
 unfolding is_clock_awaited
-awaited-early s scripts is = ltb-true s.clock clock_limit (and_left (nat_lt s.clock clock_limit) _ is)
+awaited-early clock sleeper controllers is = ltb-true clock clock_limit (and_left (nat_lt clock clock_limit) _ is)
   where
     and_left : (a b : Bool) → (a && b) ≡ true → a ≡ true
     and_left true b h = refl
     and_left false b h = cc
 
-clock-row : (w v : WorldState) (b : Bool) → is_clock_awaited w.kernel.state.system w.scripts ≡ b → cond b (Some (record w { kernel = after_tick w.kernel })) None ≡ Some v → Moves w v
-clock-row w v true is led =
-    clock-moves w v (awaited-early w.kernel.state.system w.scripts is) is (sym (same_Some (record w { kernel = after_tick w.kernel }) v led))
-clock-row w v false is led = cc
+pub acts-early : (w : WorldState) → can_act w Clock ≡ true → w.kernel.clock < clock_limit
+unfolding can_act
+acts-early w h = awaited-early w.kernel.clock w.kernel.has_sleeper w.controllers h
 
--- whoever moves
-pub move-adds : (w v : WorldState) (actor : Actor) → after_move w actor ≡ Some v → Moves w v
-unfolding after_move after_controller after_clock
-move-adds w v (Controller k) led = controller-row w v k (call_by w.scripts k) refl led
-move-adds w v (Lwp pid id) led = lwp-row w v pid id led
-move-adds w v Clock led = clock-row w v (is_clock_awaited w.kernel.state.system w.scripts) refl led
+-- the clock of a kernel that tells its machine is the machine's
+pub told-clock : (k : KernelView) (s : TracedState) → IsLawful k → k.machine ≡ Some s → k.clock ≡ s.system.clock
+unfolding kernel_of
+told-clock k s lawful is = ap (λ (x : KernelView). x.clock) (lawful.told s is)
 
--- A controller that has a call, or whose call has an answer, is one of those that there are.
-pub call-within : (scripts : List ScriptState) (k : ℕ) (c : Call) → call_by scripts k ≡ Some c → k < length scripts
-call-within scripts k c is = with_call scripts k c is
+tick-machines : (n clock : ℕ) (now : Option TracedState) (s : TracedState) → clock ≡ s.system.clock → clock < clock_limit → now ≡ Some (with_system ticked s) → IsMachines n (tick_entry (clock + 1)) now s
+unfolding IsLegalEntry after
+tick-machines n clock now s same early made = record {
+  legal = (subst (λ (m : ℕ). m < clock_limit) same early, ap (λ m. m + 1) same);
+  state = made;
+}
 
-pub answer-within : (w : WorldState) (k : ℕ) → is_some (answer_for w k) ≡ true → k < length w.scripts
-unfolding answer_for
-answer-within w k h = of (call_by w.scripts k) refl h
-  where
-    of : (c : Option Call) → call_by w.scripts k ≡ c → is_some (option_and_then (answer_to w.kernel.state k) c) ≡ true → k < length w.scripts
-    of None is h = cc
-    of (Some c) is h = with_call w.scripts k c is
+pub clock-moves : (w v : WorldState) → can_act w Clock ≡ true → IsTicked w.kernel v.kernel → v.controllers ≡ w.controllers → v.schedule ≡ w.schedule → v.last ≡ w.last → IsLawful w.kernel → IsLawful v.kernel → Moves w Clock v
+unfolding Does controllers_after
+clock-moves w v acts made controllers schedule last before lawful = record {
+  act = Tick (w.kernel.clock + 1);
+  acts = acts;
+  does = (refl, made.clock);
+  history = made.history;
+  places = made.places;
+  controllers = controllers;
+  schedule = schedule;
+  last = last;
+  machine = told w.kernel.machine _ _ (λ s is now. tick-machines (length w.controllers) w.kernel.clock v.kernel.machine s (told-clock w.kernel s before is) (acts-early w acts) now) made.machine;
+  lawful = lawful;
+}
 
-pub ruleset calls = (call-within, answer-within, awaited-early)
+-- ---- the world of any kernel, whose fields are these
+
+module _ {K : Type 0} (view : K → KernelView) (lawful : (k : K) → IsLawful (view k)) (w inside : WorldOf K) (is : inside ≡ w) where
+  pub lwp-moved : (kern : K) (pid id : ℕ) (t : Turned) → can_act (seen view w) (Lwp pid id) ≡ true → IsTurned pid id t (view inside.kernel) (view kern) → Moves (seen view w) (Lwp pid id) (seen view (record inside { kernel = kern }))
+  lwp-moved kern pid id t acts turned =
+      let here : can_act (seen view inside) (Lwp pid id) ≡ true = ap (λ (x : WorldOf K). can_act (seen view x) (Lwp pid id)) is ∙ acts in
+      subst (λ (x : WorldOf K). Moves (seen view x) (Lwp pid id) (seen view (record inside { kernel = kern }))) is
+      (lwp-moves (seen view inside) (seen view (record inside { kernel = kern })) pid id t here turned refl refl refl (lawful kern))
+
+  pub clock-early : can_act (seen view w) Clock ≡ true → (view inside.kernel).clock < clock_limit
+  clock-early acts = acts-early (seen view inside) (ap (λ (x : WorldOf K). can_act (seen view x) Clock) is ∙ acts)
+
+  pub clock-moved : (kern : K) → can_act (seen view w) Clock ≡ true → IsTicked (view inside.kernel) (view kern) → Moves (seen view w) Clock (seen view (record inside { kernel = kern }))
+  clock-moved kern acts made =
+      let here : can_act (seen view inside) Clock ≡ true = ap (λ (x : WorldOf K). can_act (seen view x) Clock) is ∙ acts in
+      subst (λ (x : WorldOf K). Moves (seen view x) Clock (seen view (record inside { kernel = kern }))) is
+      (clock-moves (seen view inside) (seen view (record inside { kernel = kern })) here made refl refl refl (lawful inside.kernel) (lawful kern))
+
+  module _ (k : ℕ) (acts : can_act (seen view w) (Controller k) ≡ true) where
+    here : can_act (seen view inside) (Controller k) ≡ true
+    here = ap (λ (x : WorldOf K). can_act (seen view x) (Controller k)) is ∙ acts
+
+    pub some_call : (o : Option Call) → o ≡ call_by w.controllers k → IsSome o
+    some_call o value =
+        let h = acts-call (seen view w) k acts in
+        let P : Option Call → Type 0 = λ x. IsSome x in
+        subst P (sym (value ∙ h.next)) refl
+
+    module _ (c : Call) (next : call_by w.controllers k ≡ Some c) where
+      next_here : call_by inside.controllers k ≡ Some c
+      next_here = ap (λ (x : WorldOf K). call_by x.controllers k) is ∙ next
+
+      pub call-within : k < length inside.controllers
+      call-within = with_call inside.controllers k c next_here
+
+      pub call-ready : (view inside.kernel).is_ready k c ≡ true
+      call-ready =
+          let h = acts-call (seen view inside) k here in
+          let same : h.call ≡ c = same_Some h.call c (sym h.next ∙ next_here) in
+          ap ((view inside.kernel).is_ready k) (sym same) ∙ h.ready
+
+      pub controller-moved : (kern : K) (r : Reply) (fed : List Core) → IsCalled k c (view inside.kernel) (view kern) → last_reply_of (view kern).history ≡ Some r → fed ≡ with_fed k r inside.controllers → Moves (seen view w) (Controller k) (seen view (record inside { kernel = kern; controllers = fed }))
+      controller-moved kern r fed called reply feeds =
+          subst (λ (x : WorldOf K). Moves (seen view x) (Controller k) (seen view (record inside { kernel = kern; controllers = fed }))) is
+          (controller-moves (seen view inside) (seen view (record inside { kernel = kern; controllers = fed })) k c r here next_here called reply feeds refl refl (lawful kern))

@@ -1,4 +1,4 @@
-use Rattle.std.proofs.Common.{◌≡◌, ◌<◌, ◌≤◌, ◌+◌, ◌-◌, ℕ, zero, suc, Bool, true, false, Option, Some, None, List, [], ◌∷◌, length, cond, find, refl, sym, ◌∙◌, ap, arith}
+use Rattle.std.proofs.Common.{◌≡◌, ◌<◌, ◌≤◌, ◌+◌, ◌-◌, ℕ, suc, Bool, true, false, Option, Some, None, [], ◌∷◌, length, cond, find, ◌∙◌, ap, arith}
 use Rattle.std.specs.List.{range_with_len}
 use Rattle.std.specs.Option.{option_map}
 use Rattle.pr_model.specs.Stops.{or_else}
@@ -27,8 +27,8 @@ search-end q k n h = ap (find q) (range-none k n h)
 pub ruleset searches = (search-here, search-on, search-end)
 
 -- Behind the last controller the lwps come.
-pub no_more-controllers : (w : WorldState) (k : ℕ) → length w.scripts ≤ k → from_controller w k ≡ from_lwp w None
+pub no_more-controllers : (w : WorldState) (k : ℕ) → length w.controllers ≤ k → from_controller w k ≡ from_lwp w None
 unfolding from_controller first_controller
-no_more-controllers w k past = ap (λ (o : Option ℕ). or_else (option_map Controller o) (from_lwp w None)) (search-end (controller_acts w) k (length w.scripts) past)
+no_more-controllers w k past = ap (λ (o : Option ℕ). or_else (option_map Controller o) (from_lwp w None)) (search-end (controller_acts w) k (length w.controllers) past)
 
 pub ruleset rounds = (no_more-controllers)

@@ -1,40 +1,59 @@
-use Rattle.std.specs.Prelude.{◌≡◌, ℕ, true, List, [], ◌∷◌, Some}
+use Rattle.std.specs.Prelude.{◌≡◌, true, List, [], ◌∷◌, Some}
+use Rattle.pr_api.specs.Shapes.{has_shape}
+use Rattle.pr_api.specs.Sleepers.{some_sleeper}
 use Rattle.pr_model.specs.Legal.{after}
 use Rattle.pr_model.specs.State.{TracedState}
 use Rattle.pr_model.specs.declared.events.Act.{Act}
-use Rattle.pr_model.specs.declared.events.Act.TheVariants.{Call, Turn, Tick}
+use Rattle.pr_model.specs.declared.events.Act.TheVariants.{Call, Tick}
 use Rattle.pr_model.specs.declared.events.Actor.{Actor}
-use Rattle.pr_model.specs.declared.events.Actor.TheVariants.{Controller, Lwp, Clock}
+use Rattle.pr_model.specs.declared.events.Actor.TheVariants.{Controller, Clock}
 use Rattle.pr_model.specs.declared.events.Entry.{Entry}
-use Rattle.pr_scen.specs.Scripts.{ScriptState}
-use Rattle.pr_world.specs.Worlds.{call_by, with_fed, is_clock_awaited}
+use Rattle.pr_world.specs.Controllers.{call_by, is_clock_awaited, with_fed}
+use Rattle.pr_world.specs.declared.controllers.Controller.{Controller as Core}
 
 -- The controller protocol: in a history each controller makes the calls that it makes after the replies that it got so
 -- far, and the clock goes on only where somebody waits for it. What lwps do is their own.
 
 -- the controllers after an entry: who made a call got its reply
-unfoldable pub scripts_after : List ScriptState → Entry → List ScriptState
-scripts_after scripts e = by e.actor e.act
+unfoldable pub controllers_after : List Core → Entry → List Core
+controllers_after controllers e = by e.actor e.act
   where
-    by : Actor → Act → List ScriptState
-    by (Controller k) (Call c r) = with_fed k r scripts
-    by _ _ = scripts
+    by : Actor → Act → List Core
+    by (Controller k) (Call c r) = with_fed k r controllers
+    by _ _ = controllers
 
--- whether an entry follows the protocol, where the controllers are so and the machine is in this state
-unfoldable pub FollowsAt : List ScriptState → TracedState → Entry → Type 0
-FollowsAt scripts s e = by e.actor e.act
+-- the controllers after a history
+abbrev pub controllers_at : List Core → List Entry → List Core
+controllers_at controllers [] = controllers
+controllers_at controllers (e ∷ es) = controllers_at (controllers_after controllers e) es
+
+-- ---- over any kernel
+
+-- whether a call is the one that its controller makes, with a reply of its shape
+unfoldable pub IsNextCall : List Core → Entry → Type 0
+IsNextCall controllers e = by e.actor e.act
   where
     by : Actor → Act → Type 0
-    by (Controller k) (Call c r) = call_by scripts k ≡ Some c
-    by Clock (Tick n) = is_clock_awaited s.system scripts ≡ true
+    by (Controller k) (Call c r) = (call_by controllers k ≡ Some c) × (has_shape c r ≡ true)
+    by _ _ = Unit {0}
+
+-- whether every call of a history is
+abbrev pub AreNextCalls : List Core → List Entry → Type 0
+AreNextCalls controllers [] = Unit {0}
+AreNextCalls controllers (e ∷ es) = IsNextCall controllers e × AreNextCalls (controllers_after controllers e) es
+
+-- ---- over a machine
+
+-- whether an entry follows the protocol, where the controllers are so and the machine is in this state
+unfoldable pub FollowsAt : List Core → TracedState → Entry → Type 0
+FollowsAt controllers s e = by e.actor e.act
+  where
+    by : Actor → Act → Type 0
+    by (Controller k) (Call c r) = call_by controllers k ≡ Some c
+    by Clock (Tick n) = is_clock_awaited s.system.clock (some_sleeper s.system) controllers ≡ true
     by _ _ = Unit {0}
 
 -- whether every entry of a history follows it
-abbrev pub Follows : List ScriptState → TracedState → List Entry → Type 0
-Follows scripts s [] = Unit {0}
-Follows scripts s (e ∷ es) = FollowsAt scripts s e × Follows (scripts_after scripts e) (after s e) es
-
--- the controllers after a history
-abbrev pub scripts_at : List ScriptState → List Entry → List ScriptState
-scripts_at scripts [] = scripts
-scripts_at scripts (e ∷ es) = scripts_at (scripts_after scripts e) es
+abbrev pub Follows : List Core → TracedState → List Entry → Type 0
+Follows controllers s [] = Unit {0}
+Follows controllers s (e ∷ es) = FollowsAt controllers s e × Follows (controllers_after controllers e) (after s e) es

@@ -1,89 +1,57 @@
-//! Moves of controllers.
-ghost use Rattle.std.specs.Prelude.{◌≡◌, ◌≤◌, ◌<◌, ◌-◌, true, Some, length, find, option_map, IfOk, OnOk, OnErr, is_some};
-ghost use Rattle.std.specs.List.{list_any, range_with_len};
-ghost use Rattle.pr_world.specs.Worlds.{after_controller, answer_for, awaits_clock, controller_acts, first_controller, wait_end_of};
+ghost use Rattle.std.specs.Prelude.{◌≡◌, Ok, IfOk};
+ghost use Rattle.pr_world.specs.Controllers.{after_reply, next_call, printed};
 
-use crate::World;
-use pr_model::{Actor, Call};
-use pr_num::NoMemory;
+use pr_asm::Program;
+use pr_model::{Call, Reply};
+use pr_num::{Bytes, NoMemory};
 use pr_scen::Script;
 use std::alloc::Global;
 
-/// The moment at which the wait of a call ends in any case; 0 sets no end.
-fn wait_end_of(call: &Call) -> u64
-    ensures { result ≡ wait_end_of call.now }
-{
-    match call {
-        Call::CtlWait { until, .. } => *until,
-        Call::Until { moment } => *moment,
-        _ => 0,
-    }
+/// A controller of a world: a core that says which call it makes next and is fed the reply.
+#[derive(Drop)]
+pub enum Controller {
+    /// The lines of a scenario.
+    Script(Script),
 }
 
-/// Whether a controller waits for a moment that is still to come.
-#[tactic(auto, unfolding(crate::specs::Worlds::awaits_clock))]
-fn awaits_clock(alloc: Global, clock: u64, script: &Script) -> Result<bool, NoMemory>
-    ensures { IfOk result (λ awaits. awaits ≡ awaits_clock clock script.now) }
-{
-    match script.next_call(alloc)? {
-        Some(call) => Ok(clock < wait_end_of(&call)),
-        None => Ok(false),
-    }
-}
-
-/// Whether one of these controllers does.
-pub(crate) fn some_awaits_clock(
-    alloc: Global,
-    clock: u64,
-    scripts: &[Script],
-) -> Result<bool, NoMemory>
-    ensures { IfOk result (λ some. some ≡ list_any (awaits_clock clock) scripts.now) }
-{
-    for script in scripts {
-        if awaits_clock(alloc, clock, script)? {
-            return Ok(true);
-        }
-    }
-    Ok(false)
-}
-
-impl World {
-    /// Whether a controller can move: its next call is ready.
-    #[tactic(auto, using(crate::proofs::MoveLemmas::calls), unfolding(crate::specs::Worlds::answer_for))]
-    pub(crate) fn controller_acts(&self, controller: u32) -> Result<bool, NoMemory>
-        ensures { IfOk result (λ acts. acts ≡ is_some (answer_for self.now controller)) }
+impl Controller {
+    /// The call that it makes next; `None` exactly where it has finished.
+    #[tactic(auto, unfolding(crate::specs::Controllers::next_call))]
+    pub fn next_call(&self, alloc: Global) -> Result<Option<Call>, NoMemory>
+        ensures { IfOk result (λ call. call ≡ next_call self.now) }
     {
-        match self.call_by(controller)? {
-            Some(call) => Ok(self.kern.ready(controller, &call)),
-            None => Ok(false),
+        match self {
+            Controller::Script(script) => script.next_call(alloc),
         }
     }
 
-    /// The first controller from a number on that can move.
-    #[tactic(auto, using(crate::proofs::SearchLemmas::searches), unfolding(crate::specs::Worlds::first_controller, crate::specs::Worlds::controller_acts, crate::specs::Worlds::can_act))]
-    pub(crate) fn first_controller(&self, from: u32) -> Result<Option<Actor>, NoMemory>
-        ensures { IfOk result (λ first. first ≡ first_controller self.now from) }
+    /// Makes one `feed` possible without memory.
+    pub fn prepare(&mut self) -> Result<(), NoMemory>
+        ensures { self.new ≡ self.old }
     {
-        for controller in from..self.controllers() {
-            if self.controller_acts(controller)? {
-                return Ok(Some(Actor::Controller(controller)));
-            }
+        match self {
+            Controller::Script(script) => script.prepare(),
         }
-        Ok(None)
     }
 
-    /// Makes the next call of a controller, which gets the reply.
-    #[tactic(auto, using(crate::proofs::MoveLemmas::calls), unfolding(crate::specs::Worlds::after_controller, crate::specs::Worlds::answer_for))]
-    pub(crate) fn move_controller(&mut self, controller: u32) -> Result<(), NoMemory>
-        requires acts { is_some (answer_for self.old controller) ≡ true }
-        requires place { length self.old.kernel.history < self.old.kernel.places }
-        ensures ok { OnOk result (after_controller self.old controller ≡ Some self.new) }
-        ensures err { OnErr result (self.new ≡ self.old) }
+    /// Takes the reply to the call that `next_call` gave. Takes no memory.
+    #[tactic(auto, unfolding(crate::specs::Controllers::after_reply))]
+    pub fn feed(&mut self, reply: &Reply)
+        ensures { self.new ≡ after_reply self.old reply.now }
     {
-        let call = self.call_by(controller)?.unwrap();
-        self.kern.call(controller, call)?;
-        let reply = self.kern.last_reply().unwrap();
-        self.scripts.at_mut(controller as usize).feed(reply);
-        Ok(())
+        match self {
+            Controller::Script(script) => script.feed(reply),
+        }
+    }
+
+    /// What it prints at the end of a run.
+    #[tactic(auto, unfolding(crate::specs::Controllers::printed))]
+    pub fn print(&self, alloc: Global, programs: &[Program]) -> Result<Bytes, NoMemory>
+        ensures { IfOk result (λ text. text ≡ printed self.now programs.now) }
+    {
+        let _ = programs;
+        match self {
+            Controller::Script(_) => Ok(Bytes::from_vec(Vec::new(alloc))),
+        }
     }
 }

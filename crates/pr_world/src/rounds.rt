@@ -1,37 +1,31 @@
-//! Who moves next.
-ghost use Rattle.std.specs.Prelude.{◌≡◌, ◌+◌, None, IfOk, OnErr};
-ghost use Rattle.pr_world.specs.Worlds.{all_finished, clock_if_awaited, end_of, from_controller, from_lwp, has_finished, next_actor, next_in_round, picked};
-ghost use Rattle.std.specs.List.{list_all};
+//! Who moves next, and how a world ends.
+ghost use Rattle.std.specs.Prelude.{◌≡◌, ◌<◌, ◌+◌, [], None, Some, drop, length, nat_lt, slice_get, option_map, if◌then◌else◌, IfOk, OnOk, OnErr};
+ghost use Rattle.pr_world.specs.Worlds.{actor_of, clock_if_awaited, ended_as, first_controller, first_scheduled, from_controller, from_lwp, in_rounds, next_actor, next_in_round, next_in_rounds, next_pick, picked, seen};
 
 use crate::{End, World};
+use pr_api::Kernel;
 use pr_model::Actor;
 use pr_num::NoMemory;
-use pr_scen::Script;
-use std::alloc::Global;
 
-/// Whether a controller has finished: it has no next call.
-#[tactic(auto, unfolding(crate::specs::Worlds::has_finished))]
-fn has_finished(alloc: Global, script: &Script) -> Result<bool, NoMemory>
-    ensures { IfOk result (λ finished. finished ≡ has_finished script.now) }
-{
-    Ok(script.next_call(alloc)?.is_none())
-}
-
-fn all_finished(alloc: Global, scripts: &[Script]) -> Result<bool, NoMemory>
-    ensures { IfOk result (λ all. all ≡ list_all has_finished scripts.now) }
-{
-    for script in scripts {
-        if !has_finished(alloc, script)? {
-            return Ok(false);
+impl<Q: Kernel> World<Q> {
+    /// The first controller from a number on that can move.
+    #[tactic(auto, using(crate::proofs::SearchLemmas::searches), unfolding(crate::specs::Worlds::first_controller, crate::specs::Worlds::controller_acts, crate::specs::Worlds::can_act))]
+    fn first_controller(&mut self, from: u32) -> Result<Option<Actor>, NoMemory>
+        ensures value { IfOk result (λ first. first ≡ first_controller (seen Q.view self.old) from) }
+        ensures same { self.new ≡ self.old }
+    {
+        for controller in from..self.controllers() {
+            if self.controller_acts(controller)? {
+                return Ok(Some(Actor::Controller(controller)));
+            }
         }
+        Ok(None)
     }
-    Ok(true)
-}
 
-impl World {
     #[tactic(auto, unfolding(crate::specs::Worlds::clock_if_awaited))]
-    fn clock_if_awaited(&self) -> Result<Option<Actor>, NoMemory>
-        ensures { IfOk result (λ next. next ≡ clock_if_awaited self.now) }
+    fn clock_if_awaited(&mut self) -> Result<Option<Actor>, NoMemory>
+        ensures value { IfOk result (λ next. next ≡ clock_if_awaited (seen Q.view self.old)) }
+        ensures same { self.new ≡ self.old }
     {
         if self.movable(Actor::Clock)? {
             Ok(Some(Actor::Clock))
@@ -42,8 +36,9 @@ impl World {
 
     /// Who moves next in a round behind an lwp, or from the first lwp on.
     #[tactic(auto, unfolding(crate::specs::Worlds::from_lwp, crate::specs::Worlds::first_lwp))]
-    fn from_lwp(&self, after: Option<(u32, u32)>) -> Result<Option<Actor>, NoMemory>
-        ensures { IfOk result (λ next. next ≡ from_lwp self.now after) }
+    fn from_lwp(&mut self, after: Option<(u32, u32)>) -> Result<Option<Actor>, NoMemory>
+        ensures value { IfOk result (λ next. next ≡ from_lwp (seen Q.view self.old) after) }
+        ensures same { self.new ≡ self.old }
     {
         match self.kern.next_lwp(after, true) {
             Some((pid, lwp)) => Ok(Some(Actor::Lwp(pid, lwp))),
@@ -53,8 +48,9 @@ impl World {
 
     /// Who moves next in a round from a controller on.
     #[tactic(auto, unfolding(crate::specs::Worlds::from_controller))]
-    fn from_controller(&self, controller: u32) -> Result<Option<Actor>, NoMemory>
-        ensures { IfOk result (λ next. next ≡ from_controller self.now controller) }
+    fn from_controller(&mut self, controller: u32) -> Result<Option<Actor>, NoMemory>
+        ensures value { IfOk result (λ next. next ≡ from_controller (seen Q.view self.old) controller) }
+        ensures same { self.new ≡ self.old }
     {
         match self.first_controller(controller)? {
             Some(actor) => Ok(Some(actor)),
@@ -62,10 +58,11 @@ impl World {
         }
     }
 
-    /// Who moves next in the round in which an actor moved last.
+    /// Who moves next in the round in which an actor was picked last.
     #[tactic(auto, using(crate::proofs::SearchLemmas::rounds), unfolding(crate::specs::Worlds::next_in_round))]
-    fn next_in_round(&self) -> Result<Option<Actor>, NoMemory>
-        ensures { IfOk result (λ next. next ≡ next_in_round self.now self.now.last) }
+    fn next_in_round(&mut self) -> Result<Option<Actor>, NoMemory>
+        ensures value { IfOk result (λ next. next ≡ next_in_round (seen Q.view self.old) self.old.last) }
+        ensures same { self.new ≡ self.old }
     {
         match self.last {
             None | Some(Actor::Clock) => Ok(None),
@@ -77,10 +74,11 @@ impl World {
         }
     }
 
-    /// Who moves next; `None` exactly where nobody can move.
-    #[tactic(auto, unfolding(crate::specs::Worlds::next_actor))]
-    pub fn next(&self) -> Result<Option<Actor>, NoMemory>
-        ensures { IfOk result (λ next. next ≡ next_actor self.now) }
+    /// Who moves next in the rounds.
+    #[tactic(auto, unfolding(crate::specs::Worlds::next_in_rounds))]
+    fn next_in_rounds(&mut self) -> Result<Option<Actor>, NoMemory>
+        ensures value { IfOk result (λ next. next ≡ next_in_rounds (seen Q.view self.old)) }
+        ensures same { self.new ≡ self.old }
     {
         match self.next_in_round()? {
             Some(actor) => Ok(Some(actor)),
@@ -88,32 +86,108 @@ impl World {
         }
     }
 
-    /// Picks who moves next, whose turn comes then: the place in the round moves on to that actor.
-    #[tactic(auto, unfolding(crate::specs::Worlds::with_last))]
-    pub fn pick(&mut self) -> Result<Option<Actor>, NoMemory>
-        ensures value { IfOk result (λ next. next ≡ next_actor self.old) }
-        ensures place { IfOk result (λ next. self.new ≡ picked self.old next) }
+    /// Picks the first actor of the schedule that can move. It is spent then, and so are those before it.
+    #[tactic(auto, using(crate::proofs::ScheduleLemmas::schedules), unfolding(crate::specs::Worlds::with_pick))]
+    fn pick_scheduled(&mut self) -> Result<Option<Actor>, NoMemory>
+        ensures value { IfOk result (λ next. next ≡ option_map actor_of (first_scheduled (seen Q.view self.old) self.old.schedule)) }
+        ensures place { OnOk result (self.new ≡ picked (first_scheduled (seen Q.view self.old) self.old.schedule) self.old) }
         ensures err { OnErr result (self.new ≡ self.old) }
     {
-        let next = self.next()?;
+        for place in 0..self.scheduled() {
+            let actor = self.scheduled_at(place);
+            if self.movable(actor)? {
+                self.spend(place);
+                return Ok(Some(actor));
+            }
+        }
+        Ok(None)
+    }
+
+    /// Picks who moves next in the rounds. The schedule is at its end then.
+    #[tactic(auto, unfolding(crate::specs::Worlds::with_pick))]
+    fn pick_in_rounds(&mut self) -> Result<Option<Actor>, NoMemory>
+        ensures value { IfOk result (λ next. next ≡ next_in_rounds (seen Q.view self.old)) }
+        ensures place { IfOk result (λ next. self.new ≡ picked (option_map in_rounds next) self.old) }
+        ensures err { OnErr result (self.new ≡ self.old) }
+    {
+        let next = self.next_in_rounds()?;
         if let Some(actor) = next {
-            self.last = Some(actor);
+            self.end_schedule(actor);
         }
         Ok(next)
     }
 
-    /// How the world ends as it stands: nobody can move, or somebody could still.
-    #[tactic(auto, unfolding(crate::specs::Worlds::end_of, crate::specs::Worlds::all_finished))]
-    pub fn end(&self) -> Result<End, NoMemory>
-        ensures { IfOk result (λ end. end ≡ end_of self.now) }
+    /// Picks who moves next, whose turn comes then: the first actor of the schedule that can move, where one is left, and
+    /// then the next in the rounds. The place in the schedule, or in the round, moves on to that actor; where nobody can
+    /// move it stays.
+    #[tactic(auto, unfolding(crate::specs::Worlds::next_pick, crate::specs::Worlds::next_actor))]
+    pub fn pick(&mut self) -> Result<Option<Actor>, NoMemory>
+        ensures value { IfOk result (λ next. next ≡ next_actor (seen Q.view self.old)) }
+        ensures place { OnOk result (self.new ≡ picked (next_pick (seen Q.view self.old)) self.old) }
+        ensures err { OnErr result (self.new ≡ self.old) }
     {
-        if self.next()?.is_some() {
-            return Ok(End::Spent);
+        match self.pick_scheduled()? {
+            Some(actor) => Ok(Some(actor)),
+            None => self.pick_in_rounds(),
         }
-        if all_finished(self.alloc, self.scripts.as_slice())? {
-            Ok(End::Quiet)
+    }
+
+    /// How the world has ended: `None` exactly where somebody can move and a place of the history is free.
+    pub fn ended(&mut self) -> Result<Option<End>, NoMemory>
+        ensures value { IfOk result (λ end. end ≡ ended_as (seen Q.view self.old)) }
+        ensures same { self.new ≡ self.old }
+    {
+        if self.next_in_rounds()?.is_some() {
+            return Ok(self.spent_places());
+        }
+        if self.all_finished()? {
+            Ok(Some(End::Quiet))
         } else {
-            Ok(End::Stuck)
+            Ok(Some(End::Stuck))
         }
+    }
+
+    /// How a world has ended in which somebody can move: all places are taken, or it goes on.
+    fn spent_places(&self) -> Option<End>
+        ensures { result ≡ (if nat_lt (length (Q.view self.now.kernel).history) (Q.view self.now.kernel).places then None else Some End.Spent) }
+    {
+        if self.kern.entries() < self.kern.places() {
+            None
+        } else {
+            Some(End::Spent)
+        }
+    }
+}
+
+impl<Q> World<Q> {
+    /// How many actors are left of the schedule.
+    fn scheduled(&self) -> usize
+        ensures { result ≡ length self.now.schedule }
+    {
+        self.schedule.len().saturating_sub(self.spent)
+    }
+
+    fn scheduled_at(&self, place: usize) -> Actor
+        requires { place < length self.now.schedule }
+        ensures { slice_get self.now.schedule place ≡ Some result }
+    {
+        self.schedule[self.spent + place]
+    }
+
+    /// The actors of the schedule up to a place are spent.
+    fn spend(&mut self, place: usize)
+        requires { place < length self.old.schedule }
+        ensures { self.new ≡ record self.old { schedule = drop (place + 1) self.old.schedule } }
+    {
+        let last = self.spent + place;
+        self.spent = last + 1;
+    }
+
+    /// The schedule is at its end, and this actor was picked in the rounds.
+    fn end_schedule(&mut self, actor: Actor)
+        ensures { self.new ≡ record self.old { schedule = []; last = Some actor } }
+    {
+        self.spent = self.schedule.len();
+        self.last = Some(actor);
     }
 }

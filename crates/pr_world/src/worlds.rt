@@ -1,78 +1,104 @@
 //! A world: a kernel and its controllers.
-ghost use Rattle.std.specs.Prelude.{◌≡◌, ◌≤◌, ◌<◌, None, length, IfOk};
-ghost use Rattle.pr_world.specs.Worlds.{call_by};
+ghost use Rattle.std.specs.Prelude.{◌≡◌, ◌≤◌, ◌<◌, None, length, slice_get, IfOk};
+ghost use Rattle.std.specs.Option.{ForSome};
+ghost use Rattle.pr_world.specs.Controllers.{printed};
 
-use pr_kern::Kern;
-use pr_model::{Actor, Call};
-use pr_num::{NoMemory, Table};
-use pr_scen::Script;
+use crate::Controller;
+use crate::callers::Caller;
+use pr_asm::Program;
+use pr_model::Actor;
+use pr_num::{Bytes, NoMemory};
 use std::alloc::Global;
 use std::marker::Model;
 
-/// A kernel and its controllers, at most 64, which move in rounds: controllers by number, lwps by process and lwp id,
-/// the clock. Contracts see a plain record of the kernel, the controllers, and who moved last.
+/// A kernel and its controllers, at most 64. The actors of a schedule move first, and then all in rounds: controllers by
+/// number, lwps by process and lwp id, the clock. Contracts see a plain record of the kernel, the controllers, what is
+/// left of the schedule, and who was picked last in the rounds.
 #[derive(Drop)]
-pub struct World {
+pub struct World<Q> {
     pub(crate) alloc: Global,
-    pub(crate) kern: Kern,
-    pub(crate) scripts: Table<Script>,
+    pub(crate) kern: Q,
+    pub(crate) callers: Vec<Caller>,
+    pub(crate) schedule: Vec<Actor>,
+    /// How many actors of the schedule are spent.
+    pub(crate) spent: usize,
     pub(crate) last: Option<Actor>,
 }
 
-impl Model for World {
-    ghost use Rattle.std.specs.Prelude.{◌≤◌, length};
-    ghost use Rattle.pr_world.specs.Worlds.{WorldState};
+impl<Q> Model for World<Q> {
+    ghost use Rattle.std.specs.Prelude.{◌≤◌, drop, length};
+    ghost use Rattle.pr_world.specs.Worlds.{WorldOf};
 
-    ghost Value = { WorldState };
+    ghost Value = { WorldOf Q };
 
-    ghost view = { λ a. record { kernel = a.kern; scripts = a.scripts; last = a.last } };
+    ghost view = { λ a. record { kernel = a.kern; controllers = a.callers.items; schedule = drop a.spent a.schedule.items; last = a.last } };
 
-    ghost invariant = { λ a. length a.scripts ≤ 64 };
+    ghost invariant = { λ a. length a.callers.items ≤ 64 };
 }
 
-impl World {
-    /// A world in which nobody has moved. Takes no memory.
-    pub fn new(alloc: Global, kern: Kern, scripts: Table<Script>) -> World
-        requires { length scripts ≤ 64 }
-        ensures { result ≡ record { kernel = kern; scripts = scripts; last = None } }
+/// The controllers, of which no call was made yet.
+fn callers_of(alloc: Global, controllers: Vec<Controller>) -> Result<Vec<Caller>, NoMemory>
+    ensures { IfOk result (λ callers. callers.items ≡ controllers.items) }
+{
+    let mut callers = Vec::with_capacity(alloc, controllers.len())?;
+    for controller in controllers {
+        callers.push(Caller::new(controller))?;
+    }
+    Ok(callers)
+}
+
+impl<Q> World<Q> {
+    /// A world in which nobody has moved.
+    pub fn new(
+        alloc: Global,
+        kernel: Q,
+        controllers: Vec<Controller>,
+        schedule: Vec<Actor>,
+    ) -> Result<World<Q>, NoMemory>
+    where
+        Q: Drop,
+        requires { length controllers.items ≤ 64 }
+        ensures { IfOk result (λ world. world ≡ record { kernel = kernel; controllers = controllers.items; schedule = schedule.items; last = None }) }
     {
-        World {
+        let callers = callers_of(alloc, controllers)?;
+        Ok(World {
             alloc,
-            kern,
-            scripts,
+            kern: kernel,
+            callers,
+            schedule,
+            spent: 0,
             last: None,
-        }
+        })
     }
 
     /// How many controllers there are.
     pub fn controllers(&self) -> u32
-        ensures value { result ≡ length self.now.scripts }
+        ensures value { result ≡ length self.now.controllers }
         ensures limit { result ≤ 64 }
     {
-        self.scripts.len() as u32
+        self.callers.len() as u32
     }
 
-    pub fn kernel(&self) -> &Kern
+    pub fn kernel(&self) -> &Q
         ensures { result.now ≡ self.now.kernel }
     {
         &self.kern
     }
 
     /// The kernel alone. Takes no memory.
-    pub fn into_kernel(self) -> Kern
+    pub fn into_kernel(self) -> Q
         ensures { result ≡ self.kernel }
     {
         self.kern
     }
 
-    /// The call that a controller makes next.
-    #[tactic(auto, unfolding(crate::specs::Worlds::call_by))]
-    pub(crate) fn call_by(&self, controller: u32) -> Result<Option<Call>, NoMemory>
-        ensures { IfOk result (λ call. call ≡ call_by self.now.scripts controller) }
+    /// What a controller prints.
+    pub fn print(&self, controller: u32, programs: &[Program]) -> Result<Bytes, NoMemory>
+        requires { controller < length self.now.controllers }
+        ensures { IfOk result (λ text. ForSome (slice_get self.now.controllers controller) (λ core. text ≡ printed core programs.now)) }
     {
-        match self.scripts.as_slice().get(controller as usize) {
-            Some(script) => script.next_call(self.alloc),
-            None => Ok(None),
-        }
+        self.callers[controller as usize]
+            .controller()
+            .print(self.alloc, programs)
     }
 }

@@ -1,5 +1,5 @@
-use Rattle.pr_world.proofs.RunLemmas.{moves-came}
+use Rattle.pr_world.proofs.RunLemmas.{run-came}
 use Rattle.pr_world.proofs.laws.a_run_is_legal_and_follows_the_protocol.Goals as goal
 
 pub returns : goal.returns
-returns c = moves-came
+returns c = λ first w n. run-came n first w

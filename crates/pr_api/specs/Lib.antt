@@ -1,0 +1,9 @@
+pub mod Entries
+pub mod MachineLaws
+pub mod Rooms
+pub mod Shapes
+pub mod Sleepers
+pub mod Steps
+pub mod TableKernels
+pub mod TableLaws
+pub mod Views

@@ -1,0 +1,25 @@
+use Rattle.std.specs.Prelude.{◌≡◌, ◌-◌, ℕ, Bool, true, false, None, length}
+use Rattle.pr_world.specs.Runs.{RunsFor, Steps, after_moves}
+use Rattle.pr_world.specs.Worlds.{WorldState, next_pick}
+
+-- A run on one thread: at each step the actor that is picked moves.
+
+-- A step was made, or nobody can move and the world is as it was.
+abbrev pub Advanced : Bool → WorldState → WorldState → Type 0
+Advanced true w v = Steps w v
+Advanced false w v = (v ≡ w) × (next_pick w ≡ None)
+
+-- Kernel and controllers of a world are those of another.
+pub record StandsAs (w v : WorldState) : Type 0 where
+  pub kernel : v.kernel ≡ w.kernel
+  pub controllers : v.controllers ≡ w.controllers
+
+-- One world led to another by a run of some steps.
+pub record LedTo (first last : WorldState) : Type 0 where
+  pub steps : ℕ
+  pub runs : RunsFor steps first last
+
+-- the world at the end of a run, where its machine is told: as many moves were made as there are places left, or until
+-- nobody could move
+abbrev pub end_of_run : WorldState → WorldState
+end_of_run first = after_moves (first.kernel.places - length first.kernel.history) first

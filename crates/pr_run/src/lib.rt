@@ -1,0 +1,9 @@
+//! Runs of a world on one thread.
+#![tactic(auto)]
+
+mod one;
+
+pub use one::run_one;
+
+#[cfg(test)]
+mod tests;

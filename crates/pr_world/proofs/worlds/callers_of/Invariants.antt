@@ -1,0 +1,6 @@
+use Rattle.std.proofs.Common.{◌≡◌}
+use Rattle.pr_world.proofs.worlds.callers_of.Given as goal
+
+-- the controllers so far
+abbrev pub invariant-loop-controller : goal.invariant-loop-controller
+invariant-loop-controller l = l.callers.items ≡ l.yielded

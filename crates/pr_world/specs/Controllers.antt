@@ -1,0 +1,60 @@
+use Rattle.std.specs.Prelude.{◌&&◌, ◌||◌, ℕ, Bool, false, List, [], Option, Some, None, is_none, nat_lt, option_and_then, slice_get, slice_set}
+use Rattle.std.specs.List.{list_any}
+use Rattle.pr_num.specs.Programs.{Program}
+use Rattle.pr_model.specs.Legal.{clock_limit}
+use Rattle.pr_model.specs.declared.calls.Call.{Call}
+use Rattle.pr_model.specs.declared.calls.Call.TheVariants as call
+use Rattle.pr_model.specs.declared.calls.Reply.{Reply}
+use Rattle.pr_scen.specs.Scripts.{next_call_of, fed}
+use Rattle.pr_world.specs.declared.controllers.Controller.{Controller as Core}
+use Rattle.pr_world.specs.declared.controllers.Controller.TheVariants.{Script}
+
+-- The controllers of a world. Each is a core that knows the machine by replies alone: it says which call it makes next,
+-- and is fed the reply.
+
+-- the call that a core makes next; none where it has finished
+unfoldable pub next_call : Core → Option Call
+next_call (Script s) = next_call_of s
+
+-- a core that was fed the reply to its call
+unfoldable pub after_reply : Core → Reply → Core
+after_reply (Script s) r = Script (fed s r)
+
+-- what a core prints at the end of a run; a script prints nothing
+unfoldable pub printed : Core → List Program → List ℕ
+printed (Script s) programs = []
+
+unfoldable pub has_finished : Core → Bool
+has_finished c = is_none (next_call c)
+
+-- the call that the controller of a number makes next; none where there is no such controller, or it has finished
+unfoldable pub call_by : List Core → ℕ → Option Call
+call_by controllers k = option_and_then next_call (slice_get controllers k)
+
+-- the controller of a number gets a reply
+abbrev pub feed_at : ℕ → Reply → List Core → Option Core → List Core
+feed_at k reply controllers None = controllers
+feed_at k reply controllers (Some c) = slice_set controllers k (after_reply c reply)
+
+unfoldable pub with_fed : ℕ → Reply → List Core → List Core
+with_fed k reply controllers = feed_at k reply controllers (slice_get controllers k)
+
+-- ---- who waits for the clock
+
+-- the moment at which the wait of a call ends in any case, 0 for none
+abbrev pub wait_end_of : Call → ℕ
+wait_end_of (call.CtlWait handle until bytes) = until
+wait_end_of (call.Until moment) = moment
+wait_end_of _ = 0
+
+abbrev pub awaits_after : ℕ → Option Call → Bool
+awaits_after clock None = false
+awaits_after clock (Some c) = nat_lt clock (wait_end_of c)
+
+-- whether a controller waits for a moment that is still to come, whether its wait is over for another reason or not
+unfoldable pub awaits_clock : ℕ → Core → Bool
+awaits_clock clock c = awaits_after clock (next_call c)
+
+-- The clock can move where somebody waits for it: an lwp in the call sleep, or a controller.
+unfoldable pub is_clock_awaited : ℕ → Bool → List Core → Bool
+is_clock_awaited clock sleeper controllers = nat_lt clock clock_limit && (sleeper || list_any (awaits_clock clock) controllers)

@@ -1,0 +1,140 @@
+//! A controller, and the call that it makes next, which is made once after each reply.
+ghost use Rattle.std.specs.Prelude.{◌≡◌, true, IfOk, OnErr};
+ghost use Rattle.pr_world.specs.Controllers.{after_reply, awaits_clock, has_finished, next_call, wait_end_of};
+ghost use Rattle.pr_world.specs.Worlds.{is_answered};
+
+use crate::Controller;
+use pr_api::Kernel;
+use pr_asm::Program;
+use pr_model::{Call, Reply};
+use pr_num::{Bytes, NoMemory};
+use std::alloc::Global;
+use std::marker::Model;
+
+/// A controller, seen by contracts alone. Beside it stands its next call, once that was made: what is asked of a
+/// controller is asked of that call, and takes no memory then.
+#[derive(Drop)]
+pub struct Caller {
+    controller: Controller,
+    /// `None`: not made since the last reply.
+    next: Option<Option<Call>>,
+}
+
+impl Model for Caller {
+    ghost use Rattle.std.specs.Prelude.{◌≡◌, IfSome};
+    ghost use Rattle.pr_world.specs.Controllers.{next_call};
+    ghost use Rattle.pr_world.specs.declared.controllers.Controller.{Controller};
+
+    ghost Value = { Controller };
+
+    ghost view = { λ a. a.controller };
+
+    ghost invariant = { λ a. IfSome a.next (λ call. call ≡ next_call a.controller) };
+}
+
+/// The moment at which the wait of a call ends in any case; 0 sets no end.
+fn wait_end_of(call: &Call) -> u64
+    ensures { result ≡ wait_end_of call.now }
+{
+    match call {
+        Call::CtlWait { until, .. } => *until,
+        Call::Until { moment } => *moment,
+        _ => 0,
+    }
+}
+
+impl Caller {
+    pub fn new(controller: Controller) -> Caller
+        ensures { result ≡ controller }
+    {
+        Caller {
+            controller,
+            next: None,
+        }
+    }
+
+    /// The call that the controller makes next, which is handed out: `keep` puts it back.
+    pub fn take_call(&mut self, alloc: Global) -> Result<Option<Call>, NoMemory>
+        ensures value { IfOk result (λ call. call ≡ next_call self.old) }
+        ensures same { self.new ≡ self.old }
+    {
+        match self.next.take() {
+            Some(call) => Ok(call),
+            None => self.controller.next_call(alloc),
+        }
+    }
+
+    fn keep(&mut self, call: Option<Call>)
+        requires { call ≡ next_call self.old }
+        ensures { self.new ≡ self.old }
+    {
+        self.next = Some(call);
+    }
+
+    /// Whether the controller makes a call that a kernel would answer now.
+    pub fn is_answered<Q: Kernel>(
+        &mut self,
+        alloc: Global,
+        kern: &Q,
+        by: u32,
+    ) -> Result<bool, NoMemory>
+        ensures value { IfOk result (λ answered. answered ≡ is_answered (Q.view kern.now) by (next_call self.old)) }
+        ensures same { self.new ≡ self.old }
+    {
+        let call = self.take_call(alloc)?;
+        let answered = match &call {
+            Some(call) => kern.ready(by, call),
+            None => false,
+        };
+        self.keep(call);
+        Ok(answered)
+    }
+
+    /// Whether the controller waits for a moment that is still to come.
+    #[tactic(auto, unfolding(crate::specs::Controllers::awaits_clock))]
+    pub fn awaits_clock(&mut self, alloc: Global, clock: u64) -> Result<bool, NoMemory>
+        ensures value { IfOk result (λ awaits. awaits ≡ awaits_clock clock self.old) }
+        ensures same { self.new ≡ self.old }
+    {
+        let call = self.take_call(alloc)?;
+        let awaits = match &call {
+            Some(call) => clock < wait_end_of(call),
+            None => false,
+        };
+        self.keep(call);
+        Ok(awaits)
+    }
+
+    /// Whether the controller has finished: it has no next call.
+    #[tactic(auto, unfolding(crate::specs::Controllers::has_finished))]
+    pub fn has_finished(&mut self, alloc: Global) -> Result<bool, NoMemory>
+        ensures value { IfOk result (λ finished. finished ≡ has_finished self.old) }
+        ensures same { self.new ≡ self.old }
+    {
+        let call = self.take_call(alloc)?;
+        let finished = call.is_none();
+        self.keep(call);
+        Ok(finished)
+    }
+
+    /// Makes one `feed` possible without memory.
+    pub fn prepare(&mut self) -> Result<(), NoMemory>
+        ensures { self.new ≡ self.old }
+    {
+        self.controller.prepare()
+    }
+
+    /// Takes the reply to the call that was handed out. Takes no memory.
+    pub fn feed(&mut self, reply: &Reply)
+        ensures { self.new ≡ after_reply self.old reply.now }
+    {
+        self.next = None;
+        self.controller.feed(reply);
+    }
+
+    pub fn controller(&self) -> &Controller
+        ensures { result.now ≡ self.now }
+    {
+        &self.controller
+    }
+}
