@@ -6,7 +6,7 @@ pub record ReadsAll (old new : Option (List ℕ)) (bytes : List ℕ) : Type 0 wh
   pub all : IfSome old (λ left. bytes ≡ left)
   pub end : IfSome old (λ _. new ≡ Some [])
 
--- Some bytes came: they stood at the front of what was left, and the others are left still.
+-- Some bytes came: what was left began with them, and the others are left still.
 pub record Came (old new : Option (List ℕ)) : Type 0 where
   pub bytes : List ℕ
   pub front : old ≡ with_front bytes new

@@ -1,7 +1,7 @@
 use Rattle.std.specs.Prelude.{◌≡◌, ℕ, ◌<◌, List, length, take, Option}
 use Rattle.pr_io.specs.Known.{with_end}
 
--- A front of the part was appended, and not all of it.
+-- A prefix of the part was appended, and not all of it.
 pub record AppendsFront (old new : Option (List ℕ)) (part : List ℕ) : Type 0 where
   pub count : ℕ
   pub short : count < length part

@@ -8,8 +8,6 @@ mod memory;
 mod sinks;
 mod sources;
 mod standard;
-#[cfg(test)]
-mod tests;
 
 pub use failures::Failed;
 pub use gates::{Gate, OpenGate};

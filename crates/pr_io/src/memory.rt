@@ -4,6 +4,7 @@ ghost use Rattle.pr_io.specs.InMemory.{free_room, after_read, after_failed_read,
 use crate::failures::raised;
 use crate::{Failed, Sink, Source};
 use pr_num::{Bytes, NoMemory};
+use std::alloc::Global;
 use std::marker::Model;
 
 /// A source whose bytes lie in memory. Its calls are counted from 0, and those whose numbers are
@@ -144,7 +145,7 @@ impl Model for MemSink {
 
 impl MemSink {
     /// An empty sink with room for `room` bytes, which is all the memory that it ever takes.
-    pub fn new(room: usize, fails: Vec<u64>) -> Result<MemSink, NoMemory>
+    pub fn new(alloc: Global, room: usize, fails: Vec<u64>) -> Result<MemSink, NoMemory>
         ensures { IfOk result (λ sink. sink ≡ record {
           written = [];
           room = room;
@@ -154,7 +155,7 @@ impl MemSink {
         }) }
     {
         Ok(MemSink {
-            bytes: Vec::with_capacity(*fails.allocator(), room)?,
+            bytes: Vec::with_capacity(alloc, room)?,
             room,
             fails,
             calls: 0,

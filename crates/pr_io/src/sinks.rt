@@ -14,7 +14,7 @@ pub trait Sink {
     ghost faults: { Self → ℕ };
 
     /// Appends the first bytes of `part`, at least one, and answers how many.
-    /// A write that fails appends nothing.
+    /// A write that fails appends nothing, and it alone raises the count.
     fn write(&mut self, part: &[u8]) -> Result<usize, Failed>
         requires { 0 < length part.now }
         ensures some { IfOk result (λ n. (1 ≤ n) × (n ≤ length part.now)) }
@@ -22,16 +22,18 @@ pub trait Sink {
             (λ n. written self.new ≡ with_end (written self.old) (take n part.now)) }
         ensures kept { OnErr result (written self.new ≡ written self.old) }
         ensures failed { OnErr result (Rose (faults self.old) (faults self.new)) }
+        ensures no_fault { OnOk result (faults self.new ≡ faults self.old) }
         ensures never_falls { faults self.old ≤ faults self.new };
 }
 
-/// Appends all of `part`, in as many writes as it takes, or fails and has appended a front of it
+/// Appends all of `part`, in as many writes as it takes, or fails and has appended a prefix of it
 /// that lacks some bytes. It takes no memory.
 #[tactic(auto, using(crate::proofs::Counts::counts, crate::proofs::Known::known, crate::proofs::Known::parts))]
 pub fn write_all<K: Sink>(sink: &mut K, part: &[u8]) -> Result<(), Failed>
     ensures all { OnOk result (K.written sink.new ≡ with_end (K.written sink.old) part.now) }
     ensures front { OnErr result (AppendsFront (K.written sink.old) (K.written sink.new) part.now) }
     ensures failed { OnErr result (Rose (K.faults sink.old) (K.faults sink.new)) }
+    ensures no_fault { OnOk result (K.faults sink.new ≡ K.faults sink.old) }
     ensures never_falls { K.faults sink.old ≤ K.faults sink.new }
 
     // Of nothing no write is made.

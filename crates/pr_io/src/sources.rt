@@ -1,4 +1,4 @@
-ghost use Rattle.std.specs.Prelude.{◌≡◌, ℕ, ◌+◌, ◌++◌, ◌<◌, ◌≤◌, List, [], length, take, Option, OnOk, IfOk, OnErr, IsErrOf};
+ghost use Rattle.std.specs.Prelude.{◌≡◌, ◌≢◌, ℕ, ◌+◌, ◌++◌, ◌<◌, ◌≤◌, List, [], length, take, Option, OnOk, IfOk, OnErr, IsErrOf, Err};
 ghost use Rattle.std.specs.Io.KnownBytes.{IsAtEnd};
 ghost use Rattle.pr_io.specs.Known.{with_front};
 ghost use Rattle.pr_io.specs.Faults.{Rose};
@@ -22,8 +22,8 @@ pub trait Source {
     ghost reads: { Self → ℕ } = { λ _. 0 };
 
     /// Moves the next bytes to the front of `buf`, and answers how many: 0 only at the end.
-    /// A read that fails leaves what is to come as it was. What stands in `buf` then, and
-    /// behind the bytes that came, is not said.
+    /// A read that fails leaves what is to come as it was, and it alone raises the count. What
+    /// stands in `buf` then, and after the bytes that came, is not said.
     fn read(&mut self, buf: &mut [u8]) -> Result<usize, Failed>
         requires { 0 < length buf.old }
         ensures fits { IfOk result (λ n. n ≤ length buf.new) }
@@ -32,6 +32,7 @@ pub trait Source {
         ensures end { IfOk result (λ n. n ≡ 0 → IsAtEnd (left self.new)) }
         ensures kept { OnErr result (left self.new ≡ left self.old) }
         ensures failed { OnErr result (Rose (faults self.old) (faults self.new)) }
+        ensures no_fault { OnOk result (faults self.new ≡ faults self.old) }
         ensures never_falls { faults self.old ≤ faults self.new }
         ensures counted { reads self.new ≤ reads self.old + 1 };
 }
@@ -95,6 +96,8 @@ pub fn read_all<S: Source>(alloc: Global, source: &mut S, limit: usize) -> Resul
     ensures out_of_memory { IsErrOf result ReadEnd.NoMemory
         → Came (S.left source.old) (S.left source.new) }
 
+    // No other end raises the count.
+    ensures no_fault { result ≢ Err ReadEnd.Failed → S.faults source.new ≡ S.faults source.old }
     ensures never_falls { S.faults source.old ≤ S.faults source.new }
     ensures counted { S.reads source.new ≤ S.reads source.old + (limit + 1) }
 {

@@ -11,6 +11,3 @@ mod views;
 pub use logged::Logged;
 pub use refusals::NewNo;
 pub use seats::{Seat, Shared};
-
-#[cfg(test)]
-mod tests;

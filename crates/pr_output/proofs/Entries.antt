@@ -32,13 +32,15 @@ take-at i h e is = take-add i 1 h ∙ ap (λ xs. take i h ++ take 1 xs) (drop-at
 length-before : (i : ℕ) (h : List Entry) (e : Entry) → slice_get h i ≡ Some e → 0 + length (take i h) ≡ i
 length-before i h e is = omega (arith, length-take-le i h (omega (arith, slice_get_within h i e is)))
 
--- the lines before the entry at a place, its own, and those behind it
-pub entries_text-at : (i : ℕ) (h : List Entry) (e : Entry) → slice_get h i ≡ Some e → entries_text 0 h ≡ entries_text 0 (take i h) ++ (entry_text i e ++ entries_text (i + 1) (drop (i + 1) h))
-unfolding entries_text
-entries_text-at i h e is =
-    ap (entries_text 0) (sym (take-append-drop i h) ∙ ap (λ xs. take i h ++ xs) (drop-at i h e is))
-    ∙ entries_text-append 0 (take i h) (e ∷ drop (i + 1) h)
-    ∙ ap (λ k. entries_text 0 (take i h) ++ entries_text k (e ∷ drop (i + 1) h)) (length-before i h e is)
+-- the lines before a place, and those from there on
+pub entries_text-parts : (i : ℕ) (h : List Entry) → entries_text 0 h ≡ entries_text 0 (take i h) ++ entries_text (0 + length (take i h)) (drop i h)
+entries_text-parts i h = ap (entries_text 0) (sym (take-append-drop i h)) ∙ entries_text-append 0 (take i h) (drop i h)
+
+-- the same, where a block of lines stands between
+pub entries_text-block : (from to : ℕ) (h : List Entry) (block : List ℕ) → entries_text 0 (take to h) ≡ entries_text 0 (take from h) ++ block → entries_text 0 h ≡ entries_text 0 (take from h) ++ (block ++ entries_text (0 + length (take to h)) (drop to h))
+entries_text-block from to h block is =
+    entries_text-parts to h ∙ ap (λ text. text ++ entries_text (0 + length (take to h)) (drop to h)) is
+    ∙ append_assoc (entries_text 0 (take from h)) block (entries_text (0 + length (take to h)) (drop to h))
 
 -- the lines up to and with the entry at a place
 pub entries_text-next : (i : ℕ) (h : List Entry) (e : Entry) → slice_get h i ≡ Some e → entries_text 0 (take (i + 1) h) ≡ entries_text 0 (take i h) ++ entry_text i e
@@ -46,6 +48,12 @@ unfolding entries_text
 entries_text-next i h e is =
     ap (entries_text 0) (take-at i h e is) ∙ entries_text-end 0 (take i h) e
     ∙ ap (λ k. entries_text 0 (take i h) ++ entry_text k e) (length-before i h e is)
+
+-- a line more in a block
+pub block-more : (at from : ℕ) (h : List Entry) (e : Entry) (block new : List ℕ) → slice_get h at ≡ Some e → entries_text 0 (take at h) ≡ entries_text 0 (take from h) ++ block → new ≡ block ++ entry_text at e → entries_text 0 (take (at + 1) h) ≡ entries_text 0 (take from h) ++ new
+block-more at from h e block new here is grown =
+    entries_text-next at h e here ∙ ap (λ text. text ++ entry_text at e) is
+    ∙ append_assoc (entries_text 0 (take from h)) block (entry_text at e) ∙ ap (λ text. entries_text 0 (take from h) ++ text) (sym grown)
 
 -- within a history there is an entry at each place
 pub found : (at : Option (Bor Entry)) (h : List Entry) (i : ℕ) → option_copied at ≡ slice_get h i → i < length h → IsSome at

@@ -1,16 +1,14 @@
 -- Texts put one behind the other.
-use Rattle.std.proofs.Common.{◌≡◌, ℕ, ◌+◌, ◌≤◌, List, ◌++◌, Option, Result, Ok, Err, OnOk, length, take, min, refl, sym, ap, subst, ◌∙◌, arith}
+use Rattle.std.proofs.Common.{◌≡◌, ℕ, ◌+◌, ◌≤◌, List, [], ◌++◌, Option, Result, Ok, Err, OnOk, length, take, min, refl, sym, ap, subst, ◌∙◌, arith}
 use Rattle.std.proofs.Math.Seq.{take-append-add}
 use Rattle.std.proofs.lemmas.List.{take_min, take-append-le}
 use Rattle.pr_io.specs.Known.{with_end}
 use Rattle.pr_io.proofs.Counts.{Rose-after}
 use Rattle.pr_io.proofs.Fronts.{AppendsFront-first, AppendsFront-second}
 use Rattle.pr_io.proofs.Known.{with_end-nil, with_end-with_end}
-use Rattle.pr_model.specs.declared.events.Entry.{Entry}
-use Rattle.pr_plain.specs.HistoryText.{heading_text, entries_text, status_text}
 use Rattle.pr_output.specs.declared.cuts.Cut.{Cut}
 use Rattle.pr_output.specs.declared.cuts.Cut.TheVariants.{NoMemory}
-use Rattle.pr_output.specs.Output.{AppendsSome, run_text}
+use Rattle.pr_output.specs.Output.{AppendsSome}
 use Rattle.pr_output.specs.Puts.{Puts}
 
 -- nothing is a front of every text
@@ -44,13 +42,14 @@ OnOk-second (Ok u) old mid new a b whole h = with_end-second old mid new a b who
 OnOk-second (Err e) old mid new a b whole h = tt
 
 -- what is put behind a text that is there whole
-pub Puts-second : (r : Result Unit Cut) (old mid new : Option (List ℕ)) (before between after : ℕ) (a b : List ℕ) → mid ≡ with_end old a → before ≤ between → Puts r mid new between after b → Puts r old new before after (a ++ b)
-Puts-second r old mid new before between after a b whole p h = record {
+pub Puts-second : (r : Result Unit Cut) (old mid new : Option (List ℕ)) (before between after : ℕ) (a b : List ℕ) → mid ≡ with_end old a → between ≡ before → Puts r mid new between after b → Puts r old new before after (a ++ b)
+Puts-second r old mid new before between after a b whole same h = record {
   all = OnOk-second r old mid new a b whole h.all;
   failed = λ is. AppendsFront-second old mid new a b whole (h.failed is);
-  rose = λ is. Rose-after before between after p (h.rose is);
+  rose = λ is. Rose-after before between after (omega (arith, same)) (h.rose is);
   memory = λ is. AppendsSome-second old mid new a b whole (h.memory is);
-  never_falls = omega (arith, p, h.never_falls);
+  no_fault = λ is. h.no_fault is ∙ same;
+  never_falls = omega (arith, same, h.never_falls);
 }
 
 -- what was cut stays cut when more is to follow
@@ -60,6 +59,7 @@ Puts-cut r e old new before after a b is h = subst (λ r. Puts r old new before 
   failed = λ is. AppendsFront-first old new a b (h.failed is);
   rose = h.rose;
   memory = λ is. AppendsSome-first old new a b (h.memory is);
+  no_fault = h.no_fault;
   never_falls = h.never_falls;
 })
 
@@ -70,10 +70,17 @@ Puts-nothing r known faults text is = subst (λ r. Puts r known known faults fau
   failed = λ is. cc;
   rose = λ is. cc;
   memory = λ is. AppendsSome-nothing known text;
+  no_fault = λ is. refl;
   never_falls = omega arith;
 })
 
--- the parts of the text of a run
-pub run_text-parts : (h : List Entry) (status : ℕ) → run_text h status ≡ heading_text (length h) ++ (entries_text 0 h ++ status_text status)
-unfolding run_text
-run_text-parts h status = refl
+-- where there is nothing to put, all is there
+pub Puts-none : (known : Option (List ℕ)) (faults : ℕ) → Puts (Ok tt) known known faults faults []
+Puts-none known faults = record {
+  all = sym (with_end-nil known);
+  failed = λ is. cc;
+  rose = λ is. cc;
+  memory = λ is. cc;
+  no_fault = λ is. refl;
+  never_falls = omega arith;
+}

@@ -1,19 +1,24 @@
-use Rattle.std.specs.Prelude.{◌≡◌, ℕ, List, ◌++◌, Option, codes, decimal, length, take}
+use Rattle.std.specs.Prelude.{◌≡◌, ℕ, Bool, true, false, List, [], ◌++◌, Option, codes, decimal, length, take}
 use Rattle.pr_io.specs.Known.{with_end}
 use Rattle.pr_model.specs.declared.events.Entry.{Entry}
 use Rattle.pr_plain.specs.HistoryText.{heading_text, entries_text, status_text}
 
 -- What the program writes.
 
--- a run: its history, an entry a line below a heading, and the status with which the program ends
-unfoldable pub run_text : List Entry → ℕ → List ℕ
-run_text h status = heading_text (length h) ++ (entries_text 0 h ++ status_text status)
+-- a history: a heading, and below it a line for each entry; nothing where the history is left out
+unfoldable pub history_text : Bool → List Entry → List ℕ
+history_text true h = []
+history_text false h = heading_text (length h) ++ entries_text 0 h
+
+-- a run: its history, or not where that is left out, and the status with which the program ends
+unfoldable pub run_text : Bool → List Entry → ℕ → List ℕ
+run_text quiet h status = history_text quiet h ++ status_text status
 
 -- an input that is refused: the first line at fault, and why
 unfoldable pub refusal_text : ℕ → List ℕ → List ℕ
 refusal_text line kind = codes "line " ++ (decimal line ++ (codes ": " ++ (kind ++ codes "\n")))
 
--- A front of a text was appended, or all of it.
+-- A prefix of a text was appended, or all of it.
 pub record AppendsSome (old new : Option (List ℕ)) (text : List ℕ) : Type 0 where
   pub count : ℕ
   pub appended : new ≡ with_end old (take count text)

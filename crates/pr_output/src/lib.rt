@@ -9,6 +9,3 @@ mod runs;
 pub use cuts::Cut;
 pub use refusals::write_refusal;
 pub use runs::write_run;
-
-#[cfg(test)]
-mod tests;

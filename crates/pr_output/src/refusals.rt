@@ -1,10 +1,6 @@
-ghost use Rattle.std.specs.Prelude.{◌≡◌, ◌≤◌, ◌++◌, OnOk, IsErrOf};
-ghost use Rattle.pr_io.specs.Faults.{Rose};
-ghost use Rattle.pr_io.specs.Known.{with_end};
-ghost use Rattle.pr_io.specs.Writing.{AppendsFront};
-ghost use Rattle.pr_output.specs.Output.{AppendsSome, refusal_text};
+ghost use Rattle.std.specs.Prelude.{◌≡◌, ◌++◌, OnOk};
+ghost use Rattle.pr_output.specs.Output.{refusal_text};
 ghost use Rattle.pr_output.specs.Puts.{Puts};
-ghost use Rattle.pr_output.specs.declared.cuts.Cut.TheVariants as variants;
 
 use crate::Cut;
 use crate::lines::put;
@@ -24,32 +20,19 @@ fn write_line(out: &mut Vec<u8>, line: u32, kind: &[u8]) -> Result<(), NoMemory>
     Ok(out.extend_from_slice(b"\n")?)
 }
 
-// Puts the text of a refusal.
-fn put_refusal<K: Sink>(alloc: Global, sink: &mut K, line: u32, kind: &[u8]) -> Result<(), Cut>
-    ensures { Puts result (K.written sink.old) (K.written sink.new) (K.faults sink.old) (K.faults sink.new)
-        (refusal_text line kind.now) }
-{
-    let mut text = Vec::new(alloc);
-    write_line(&mut text, line, kind)?;
-    put(sink, &text)
-}
-
 /// Writes to a sink why an input is refused: the first line at fault, which counts from 1, and what is wrong with it.
 ///
-/// Where a write fails, the sink has a front of the text that lacks some bytes; where memory runs out, a front of it.
+/// Where a write fails, the sink has a prefix of the text that lacks some bytes; where memory runs out, a prefix of it.
 pub fn write_refusal<K: Sink>(
     alloc: Global,
     sink: &mut K,
     line: u32,
     kind: &[u8],
 ) -> Result<(), Cut>
-    ensures ok { OnOk result (K.written sink.new ≡ with_end (K.written sink.old) (refusal_text line kind.now)) }
-    ensures failed { IsErrOf result variants.WriteFailed
-        → AppendsFront (K.written sink.old) (K.written sink.new) (refusal_text line kind.now) }
-    ensures rose { IsErrOf result variants.WriteFailed → Rose (K.faults sink.old) (K.faults sink.new) }
-    ensures memory { IsErrOf result variants.NoMemory
-        → AppendsSome (K.written sink.old) (K.written sink.new) (refusal_text line kind.now) }
-    ensures never_falls { K.faults sink.old ≤ K.faults sink.new }
+    ensures { Puts result (K.written sink.old) (K.written sink.new) (K.faults sink.old) (K.faults sink.new)
+        (refusal_text line kind.now) }
 {
-    put_refusal(alloc, sink, line, kind)
+    let mut text = Vec::new(alloc);
+    write_line(&mut text, line, kind)?;
+    put(sink, &text)
 }

@@ -1,3 +1,5 @@
+pub mod BufferLemmas
+pub mod DigitLemmas
 pub mod FormLemmas
 pub mod HexLemmas
 pub mod LineLemmas

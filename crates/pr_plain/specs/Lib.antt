@@ -1,3 +1,4 @@
+pub mod Buffers
 pub mod FileNames
 pub mod Forms
 pub mod HexWords

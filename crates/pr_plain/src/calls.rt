@@ -1,5 +1,6 @@
 //! Calls of controllers, and what the kernel answers.
 ghost use Rattle.std.specs.Prelude.{◌≡◌, ◌++◌, [], ◌∷◌, decimal, OnOk};
+ghost use Rattle.pr_plain.specs.Buffers.{StartsWith};
 ghost use Rattle.pr_plain.specs.HistoryText.{spaced, target_text, held_words, call_words, reply_words};
 ghost use Rattle.pr_plain.specs.HexWords.{hex_word};
 
@@ -10,17 +11,30 @@ use pr_num::Name;
 use std::alloc::AllocError;
 
 /// Writes a word and a number.
+#[tactic(auto, using(crate::proofs::BufferLemmas::kept))]
 fn write_numbered(out: &mut Vec<u8>, word: &[u8], n: u64) -> Result<(), AllocError>
-    ensures { OnOk result (out.new.items ≡ out.old.items ++ spaced (word.now ∷ decimal n ∷ [])) }
+    ensures all { OnOk result (out.new.items ≡ out.old.items ++ spaced (word.now ∷ decimal n ∷ [])) }
+    ensures kept { StartsWith out.new.items out.old.items }
 {
     write_word(out, word)?;
     write_number(out, n)
 }
 
+/// Writes a word and two numbers.
+#[tactic(auto, using(crate::proofs::BufferLemmas::kept))]
+fn write_twice_numbered(out: &mut Vec<u8>, word: &[u8], n: u64, m: u64) -> Result<(), AllocError>
+    ensures all { OnOk result (out.new.items ≡ out.old.items ++ spaced (word.now ∷ decimal n ∷ decimal m ∷ [])) }
+    ensures kept { StartsWith out.new.items out.old.items }
+{
+    write_numbered(out, word, n)?;
+    write_number(out, m)
+}
+
 /// Writes the program of a process that is made, and `held` where it is directed to stop.
-#[tactic(auto, unfolding(crate::specs::HistoryText::held_words))]
+#[tactic(auto, using(crate::proofs::BufferLemmas::kept), unfolding(crate::specs::HistoryText::held_words))]
 fn write_spawn(out: &mut Vec<u8>, program: Name, held: bool) -> Result<(), AllocError>
-    ensures { OnOk result (out.new.items ≡ out.old.items ++ spaced (program ∷ held_words held)) }
+    ensures all { OnOk result (out.new.items ≡ out.old.items ++ spaced (program ∷ held_words held)) }
+    ensures kept { StartsWith out.new.items out.old.items }
 {
     write_word(out, program.as_slice())?;
     if held {
@@ -30,9 +44,10 @@ fn write_spawn(out: &mut Vec<u8>, program: Name, held: bool) -> Result<(), Alloc
 }
 
 /// Writes a call.
-#[tactic(auto, unfolding(crate::specs::HistoryText::call_words))]
+#[tactic(auto, using(crate::proofs::BufferLemmas::kept), unfolding(crate::specs::HistoryText::call_words))]
 pub fn write_call(out: &mut Vec<u8>, call: &Call) -> Result<(), AllocError>
-    ensures { OnOk result (out.new.items ≡ out.old.items ++ spaced (call_words call.now)) }
+    ensures all { OnOk result (out.new.items ≡ out.old.items ++ spaced (call_words call.now)) }
+    ensures kept { StartsWith out.new.items out.old.items }
 {
     match call {
         Call::Open {
@@ -56,13 +71,11 @@ pub fn write_call(out: &mut Vec<u8>, call: &Call) -> Result<(), AllocError>
             until,
             bytes,
         } => {
-            write_numbered(out, b"ctlwait", *handle as u64)?;
-            write_number(out, *until)?;
+            write_twice_numbered(out, b"ctlwait", *handle as u64, *until)?;
             write_hex(out, bytes.as_slice())
         }
         Call::Read { handle, at, len } => {
-            write_numbered(out, b"read", *handle as u64)?;
-            write_number(out, *at)?;
+            write_twice_numbered(out, b"read", *handle as u64, *at)?;
             write_number(out, *len)
         }
         Call::Poll { handles } => {
@@ -84,9 +97,10 @@ pub fn write_call(out: &mut Vec<u8>, call: &Call) -> Result<(), AllocError>
 }
 
 /// Writes what the kernel answered to a call.
-#[tactic(auto, unfolding(crate::specs::HistoryText::reply_words))]
+#[tactic(auto, using(crate::proofs::BufferLemmas::kept), unfolding(crate::specs::HistoryText::reply_words))]
 pub fn write_reply(out: &mut Vec<u8>, reply: &Reply) -> Result<(), AllocError>
-    ensures { OnOk result (out.new.items ≡ out.old.items ++ spaced (reply_words reply.now)) }
+    ensures all { OnOk result (out.new.items ≡ out.old.items ++ spaced (reply_words reply.now)) }
+    ensures kept { StartsWith out.new.items out.old.items }
 {
     match reply {
         Reply::Handle(handle) => write_numbered(out, b"handle", *handle as u64),

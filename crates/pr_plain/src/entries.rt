@@ -1,18 +1,20 @@
-ghost use Rattle.std.specs.Prelude.{◌≡◌, ◌++◌, OnOk};
-ghost use Rattle.pr_plain.specs.HistoryText.{spaced, act_words, entry_text, heading_text, status_text};
+ghost use Rattle.std.specs.Prelude.{◌≡◌, ◌++◌, [], ◌∷◌, decimal, take, IsOk, IsErr, OnOk, OnErr};
+ghost use Rattle.pr_plain.specs.Buffers.{StartsWith};
+ghost use Rattle.pr_plain.specs.HistoryText.{joined, newline, spaced, act_words, entry_text, heading_text, status_text};
 
 use crate::actors::write_actor;
 use crate::calls::{write_call, write_reply};
 use crate::turns::write_turn;
-use crate::words::{write_digits, write_number, write_word};
+use crate::words::{append, write_digits, write_number, write_word};
 use pr_model::{Act, Entry};
 use pr_num::NoMemory;
 use std::alloc::AllocError;
 
 /// Writes what was done.
-#[tactic(auto, unfolding(crate::specs::HistoryText::act_words))]
+#[tactic(auto, using(crate::proofs::BufferLemmas::kept), unfolding(crate::specs::HistoryText::act_words))]
 fn write_act(out: &mut Vec<u8>, act: &Act) -> Result<(), AllocError>
-    ensures { OnOk result (out.new.items ≡ out.old.items ++ spaced (act_words act.now)) }
+    ensures all { OnOk result (out.new.items ≡ out.old.items ++ spaced (act_words act.now)) }
+    ensures kept { StartsWith out.new.items out.old.items }
 {
     match act {
         Act::Call(call, reply) => {
@@ -25,36 +27,77 @@ fn write_act(out: &mut Vec<u8>, act: &Act) -> Result<(), AllocError>
     }
 }
 
-/// Writes the line of an entry of a history, with the newline that ends it. `number` is the entry's place, which counts
-/// from 0.
-///
-/// Any entry is written, also one that no machine makes. Where memory ran out, a front of the line may be there.
-#[tactic(auto, unfolding(crate::specs::HistoryText::joined, crate::specs::HistoryText::entry_words, crate::specs::HistoryText::entry_line, crate::specs::HistoryText::entry_text))]
-pub fn write_entry(out: &mut Vec<u8>, number: usize, entry: &Entry) -> Result<(), NoMemory>
-    ensures { OnOk result (out.new.items ≡ out.old.items ++ entry_text number entry.now) }
+// The line of an entry, or a part of it.
+#[tactic(auto, using(crate::proofs::BufferLemmas::kept), unfolding(crate::specs::HistoryText::joined, crate::specs::HistoryText::entry_words, crate::specs::HistoryText::entry_line, crate::specs::HistoryText::entry_text))]
+fn append_entry(out: &mut Vec<u8>, number: usize, entry: &Entry) -> Result<(), AllocError>
+    ensures all { OnOk result (out.new.items ≡ out.old.items ++ entry_text number entry.now) }
+    ensures kept { StartsWith out.new.items out.old.items }
 {
     write_digits(out, number as u64)?;
     write_actor(out, entry.actor)?;
     write_act(out, &entry.act)?;
-    Ok(out.extend_from_slice(b"\n")?)
+    append(out, b"\n")
 }
 
-/// Writes the line above the entries of a history, of which there are so many.
-#[tactic(auto, unfolding(crate::specs::HistoryText::joined, crate::specs::HistoryText::heading_text))]
+// A line of a word and a number, or a part of it.
+#[tactic(auto, using(crate::proofs::BufferLemmas::kept), unfolding(crate::specs::HistoryText::joined))]
+fn append_pair(out: &mut Vec<u8>, word: &[u8], number: u64) -> Result<(), AllocError>
+    ensures all { OnOk result (out.new.items ≡ out.old.items ++ (joined (word.now ∷ decimal number ∷ []) ++ newline ∷ [])) }
+    ensures kept { StartsWith out.new.items out.old.items }
+{
+    append(out, word)?;
+    write_number(out, number)?;
+    append(out, b"\n")
+}
+
+// Leaves a buffer as it was at this length, where what was to be written after that was not.
+fn whole_or_nothing(
+    out: &mut Vec<u8>,
+    before: usize,
+    written: Result<(), AllocError>,
+) -> Result<(), NoMemory>
+    ensures whole { OnOk written (IsOk result × (out.new.items ≡ out.old.items)) }
+    ensures nothing { OnErr written (IsErr result × (out.new.items ≡ take before out.old.items)) }
+{
+    if written.is_err() {
+        out.truncate(before);
+    }
+    Ok(written?)
+}
+
+/// Writes the line of an entry of a history, with the newline that ends it. `number` is the entry's place, which counts
+/// from 0.
+///
+/// Any entry is written, also one that no machine makes. Where memory runs out the buffer is as it was.
+#[tactic(auto, using(crate::proofs::BufferLemmas::cut))]
+pub fn write_entry(out: &mut Vec<u8>, number: usize, entry: &Entry) -> Result<(), NoMemory>
+    ensures written { OnOk result (out.new.items ≡ out.old.items ++ entry_text number entry.now) }
+    ensures unchanged { OnErr result (out.new.items ≡ out.old.items) }
+{
+    let before = out.len();
+    let written = append_entry(out, number, entry);
+    whole_or_nothing(out, before, written)
+}
+
+/// Writes the line above the entries of a history, of which there are so many. Where memory runs out the buffer is as
+/// it was.
+#[tactic(auto, unfolding(crate::specs::HistoryText::heading_text), using(crate::proofs::BufferLemmas::cut))]
 pub fn write_heading(out: &mut Vec<u8>, entries: usize) -> Result<(), NoMemory>
-    ensures { OnOk result (out.new.items ≡ out.old.items ++ heading_text entries) }
+    ensures written { OnOk result (out.new.items ≡ out.old.items ++ heading_text entries) }
+    ensures unchanged { OnErr result (out.new.items ≡ out.old.items) }
 {
-    out.extend_from_slice(b"history")?;
-    write_number(out, entries as u64)?;
-    Ok(out.extend_from_slice(b"\n")?)
+    let before = out.len();
+    let written = append_pair(out, b"history", entries as u64);
+    whole_or_nothing(out, before, written)
 }
 
-/// Writes the line that tells a status.
-#[tactic(auto, unfolding(crate::specs::HistoryText::joined, crate::specs::HistoryText::status_text))]
+/// Writes the line that tells a status. Where memory runs out the buffer is as it was.
+#[tactic(auto, unfolding(crate::specs::HistoryText::status_text), using(crate::proofs::BufferLemmas::cut))]
 pub fn write_status(out: &mut Vec<u8>, status: u8) -> Result<(), NoMemory>
-    ensures { OnOk result (out.new.items ≡ out.old.items ++ status_text status) }
+    ensures written { OnOk result (out.new.items ≡ out.old.items ++ status_text status) }
+    ensures unchanged { OnErr result (out.new.items ≡ out.old.items) }
 {
-    out.extend_from_slice(b"status")?;
-    write_number(out, status as u64)?;
-    Ok(out.extend_from_slice(b"\n")?)
+    let before = out.len();
+    let written = append_pair(out, b"status", status as u64);
+    whole_or_nothing(out, before, written)
 }

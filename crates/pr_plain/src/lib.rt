@@ -15,6 +15,3 @@ pub use laws::{
     file_names, forms_are_told_by_their_first_word, mode_names,
 };
 pub use names::{file_name, mode_name};
-
-#[cfg(test)]
-mod tests;

@@ -1,5 +1,6 @@
 //! Turns of lwps.
 ghost use Rattle.std.specs.Prelude.{◌≡◌, ◌++◌, [], ◌∷◌, OnOk};
+ghost use Rattle.pr_plain.specs.Buffers.{StartsWith};
 ghost use Rattle.pr_plain.specs.HistoryText.{spaced, result_words, did_words, stop_words, turn_words};
 
 use crate::names::how_name;
@@ -8,9 +9,10 @@ use pr_model::{Did, Res, Turned};
 use std::alloc::AllocError;
 
 /// Writes what a system call gave.
-#[tactic(auto, unfolding(crate::specs::HistoryText::result_words))]
+#[tactic(auto, using(crate::proofs::BufferLemmas::kept), unfolding(crate::specs::HistoryText::result_words))]
 fn write_result(out: &mut Vec<u8>, res: Res) -> Result<(), AllocError>
-    ensures { OnOk result (out.new.items ≡ out.old.items ++ spaced (result_words res)) }
+    ensures all { OnOk result (out.new.items ≡ out.old.items ++ spaced (result_words res)) }
+    ensures kept { StartsWith out.new.items out.old.items }
 {
     match res {
         Res::Value(n) => {
@@ -23,17 +25,20 @@ fn write_result(out: &mut Vec<u8>, res: Res) -> Result<(), AllocError>
 }
 
 /// Writes two words.
+#[tactic(auto, using(crate::proofs::BufferLemmas::kept))]
 fn write_two(out: &mut Vec<u8>, first: &[u8], second: &[u8]) -> Result<(), AllocError>
-    ensures { OnOk result (out.new.items ≡ out.old.items ++ spaced (first.now ∷ second.now ∷ [])) }
+    ensures all { OnOk result (out.new.items ≡ out.old.items ++ spaced (first.now ∷ second.now ∷ [])) }
+    ensures kept { StartsWith out.new.items out.old.items }
 {
     write_word(out, first)?;
     write_word(out, second)
 }
 
 /// Writes what an lwp did.
-#[tactic(auto, unfolding(crate::specs::HistoryText::did_words))]
+#[tactic(auto, using(crate::proofs::BufferLemmas::kept), unfolding(crate::specs::HistoryText::did_words))]
 fn write_did(out: &mut Vec<u8>, did: Did) -> Result<(), AllocError>
-    ensures { OnOk result (out.new.items ≡ out.old.items ++ spaced (did_words did)) }
+    ensures all { OnOk result (out.new.items ≡ out.old.items ++ spaced (did_words did)) }
+    ensures kept { StartsWith out.new.items out.old.items }
 {
     match did {
         Did::Stopped => write_two(out, b"stopped", b"requested"),
@@ -63,9 +68,10 @@ fn write_did(out: &mut Vec<u8>, did: Did) -> Result<(), AllocError>
 }
 
 /// Writes a turn, and `stop` behind it where the lwp stopped on what it met.
-#[tactic(auto, unfolding(crate::specs::HistoryText::turn_words, crate::specs::HistoryText::stop_words))]
+#[tactic(auto, using(crate::proofs::BufferLemmas::kept), unfolding(crate::specs::HistoryText::turn_words, crate::specs::HistoryText::stop_words))]
 pub fn write_turn(out: &mut Vec<u8>, turned: Turned) -> Result<(), AllocError>
-    ensures { OnOk result (out.new.items ≡ out.old.items ++ spaced (turn_words turned)) }
+    ensures all { OnOk result (out.new.items ≡ out.old.items ++ spaced (turn_words turned)) }
+    ensures kept { StartsWith out.new.items out.old.items }
 {
     write_did(out, turned.did)?;
     if turned.stop {

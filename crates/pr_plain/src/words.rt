@@ -1,50 +1,67 @@
 //! Words on a line, each with a blank before it.
-ghost use Rattle.std.specs.Prelude.{◌≡◌, ◌<◌, ◌++◌, [], ◌∷◌, false, decimal, map, OnOk};
+ghost use Rattle.std.specs.Prelude.{◌≡◌, ◌*◌, ◌<◌, ◌≤◌, ◌++◌, [], ◌∷◌, false, decimal, map, length, take, OnOk};
 ghost use Rattle.std.specs.Fmt.{digit_glyph};
 ghost use Rattle.pr_plain.specs.HistoryText.{spaced, lwp_text, target_text};
-ghost use Rattle.pr_plain.specs.HexWords.{byte_digits, digits_of_bytes, hex_word};
+ghost use Rattle.pr_plain.specs.HexWords.{digits_of_bytes, hex_word};
+ghost use Rattle.pr_plain.specs.Buffers.{StartsWith};
 
 use std::alloc::AllocError;
 
-/// Writes a word.
-#[tactic(auto, unfolding(crate::specs::HistoryText::behind_blank))]
-pub fn write_word(out: &mut Vec<u8>, word: &[u8]) -> Result<(), AllocError>
-    ensures { OnOk result (out.new.items ≡ out.old.items ++ spaced (word.now ∷ [])) }
+/// Appends bytes. All that is written is appended by this.
+#[tactic(auto, using(crate::proofs::BufferLemmas::grown))]
+pub fn append(out: &mut Vec<u8>, bytes: &[u8]) -> Result<(), AllocError>
+    ensures all { OnOk result (out.new.items ≡ out.old.items ++ bytes.now) }
+    ensures kept { StartsWith out.new.items out.old.items }
 {
-    out.extend_from_slice(b" ")?;
-    out.extend_from_slice(word)
+    out.extend_from_slice(bytes)
+}
+
+/// Writes a word.
+#[tactic(auto, using(crate::proofs::BufferLemmas::kept), unfolding(crate::specs::HistoryText::behind_blank))]
+pub fn write_word(out: &mut Vec<u8>, word: &[u8]) -> Result<(), AllocError>
+    ensures all { OnOk result (out.new.items ≡ out.old.items ++ spaced (word.now ∷ [])) }
+    ensures kept { StartsWith out.new.items out.old.items }
+{
+    append(out, b" ")?;
+    append(out, word)
 }
 
 /// Writes a number in decimal.
+#[tactic(auto, using(crate::proofs::BufferLemmas::kept))]
 pub fn write_number(out: &mut Vec<u8>, n: u64) -> Result<(), AllocError>
-    ensures { OnOk result (out.new.items ≡ out.old.items ++ spaced (decimal n ∷ [])) }
+    ensures all { OnOk result (out.new.items ≡ out.old.items ++ spaced (decimal n ∷ [])) }
+    ensures kept { StartsWith out.new.items out.old.items }
 {
     write_word(out, itoa::Buffer::new().format(n).as_bytes())
 }
 
 /// Writes the digits of a number in decimal, with no blank before them.
+#[tactic(auto, using(crate::proofs::BufferLemmas::kept))]
 pub fn write_digits(out: &mut Vec<u8>, n: u64) -> Result<(), AllocError>
-    ensures { OnOk result (out.new.items ≡ out.old.items ++ decimal n) }
+    ensures all { OnOk result (out.new.items ≡ out.old.items ++ decimal n) }
+    ensures kept { StartsWith out.new.items out.old.items }
 {
-    out.extend_from_slice(itoa::Buffer::new().format(n).as_bytes())
+    append(out, itoa::Buffer::new().format(n).as_bytes())
 }
 
 /// Writes an lwp as its process, a slash and its own id, with no blank before them.
-#[tactic(auto, unfolding(crate::specs::HistoryText::lwp_text))]
+#[tactic(auto, using(crate::proofs::BufferLemmas::kept), unfolding(crate::specs::HistoryText::lwp_text))]
 pub fn write_lwp(out: &mut Vec<u8>, pid: u32, lwp: u32) -> Result<(), AllocError>
-    ensures { OnOk result (out.new.items ≡ out.old.items ++ lwp_text pid lwp) }
+    ensures all { OnOk result (out.new.items ≡ out.old.items ++ lwp_text pid lwp) }
+    ensures kept { StartsWith out.new.items out.old.items }
 {
     write_digits(out, pid as u64)?;
-    out.extend_from_slice(b"/")?;
+    append(out, b"/")?;
     write_digits(out, lwp as u64)
 }
 
 /// Writes whose file is opened as a word: a process, or its lwp where that is not 0.
-#[tactic(auto, unfolding(crate::specs::HistoryText::behind_blank, crate::specs::HistoryText::target_text))]
+#[tactic(auto, using(crate::proofs::BufferLemmas::kept), unfolding(crate::specs::HistoryText::behind_blank, crate::specs::HistoryText::target_text))]
 pub fn write_target(out: &mut Vec<u8>, pid: u32, lwp: u32) -> Result<(), AllocError>
-    ensures { OnOk result (out.new.items ≡ out.old.items ++ spaced (target_text pid lwp ∷ [])) }
+    ensures all { OnOk result (out.new.items ≡ out.old.items ++ spaced (target_text pid lwp ∷ [])) }
+    ensures kept { StartsWith out.new.items out.old.items }
 {
-    out.extend_from_slice(b" ")?;
+    append(out, b" ")?;
     if lwp == 0 {
         write_digits(out, pid as u64)
     } else {
@@ -60,39 +77,55 @@ fn hex_digit(d: u8) -> u8
     if d < 10 { b'0' + d } else { b'a' + (d - 10) }
 }
 
-/// A byte as two hex digits.
-#[tactic(auto, unfolding(crate::specs::HexWords::byte_digits))]
-fn byte_digits(b: u8) -> [u8; 2]
-    ensures { result ≡ byte_digits b }
+/// How many bytes become digits at a time.
+const PIECE: usize = 256;
+
+/// Puts the digits of bytes at the front of a piece.
+fn put_digits(piece: &mut [u8], bytes: &[u8])
+    requires { 2 * length bytes.now ≤ length piece.old }
+    ensures { take (2 * length bytes.now) piece.new ≡ digits_of_bytes bytes.now }
 {
-    [hex_digit(b / 16), hex_digit(b % 16)]
+    for (i, b) in bytes.iter().enumerate() {
+        piece[2 * i] = hex_digit(*b / 16);
+        piece[2 * i + 1] = hex_digit(*b % 16);
+    }
 }
 
 /// Writes bytes in hex, with no blank before them.
+#[tactic(auto, using(crate::proofs::BufferLemmas::kept))]
 fn write_bytes(out: &mut Vec<u8>, bytes: &[u8]) -> Result<(), AllocError>
-    ensures { OnOk result (out.new.items ≡ out.old.items ++ digits_of_bytes bytes.now) }
+    ensures all { OnOk result (out.new.items ≡ out.old.items ++ digits_of_bytes bytes.now) }
+    ensures kept { StartsWith out.new.items out.old.items }
 {
-    for b in bytes {
-        out.extend_from_slice(&byte_digits(*b))?;
+    let mut digits = [0; 2 * PIECE];
+    let mut rest = bytes;
+    while !rest.is_empty() {
+        let (some, others) = rest.split_at(rest.len().min(PIECE));
+        put_digits(&mut digits, some);
+        append(out, &digits[..2 * some.len()])?;
+        rest = others;
     }
     Ok(())
 }
 
 /// Writes bytes as a word of hex digits; no bytes are a dash.
-#[tactic(auto, unfolding(crate::specs::HistoryText::behind_blank, crate::specs::HexWords::hex_word))]
+#[tactic(auto, using(crate::proofs::BufferLemmas::kept), unfolding(crate::specs::HistoryText::behind_blank, crate::specs::HexWords::hex_word))]
 pub fn write_hex(out: &mut Vec<u8>, bytes: &[u8]) -> Result<(), AllocError>
-    ensures { OnOk result (out.new.items ≡ out.old.items ++ spaced (hex_word bytes.now ∷ [])) }
+    ensures all { OnOk result (out.new.items ≡ out.old.items ++ spaced (hex_word bytes.now ∷ [])) }
+    ensures kept { StartsWith out.new.items out.old.items }
 {
     if bytes.is_empty() {
         return write_word(out, b"-");
     }
-    out.extend_from_slice(b" ")?;
+    append(out, b" ")?;
     write_bytes(out, bytes)
 }
 
 /// Writes numbers in decimal.
+#[tactic(auto, using(crate::proofs::BufferLemmas::kept))]
 pub fn write_numbers(out: &mut Vec<u8>, numbers: &[u32]) -> Result<(), AllocError>
-    ensures { OnOk result (out.new.items ≡ out.old.items ++ spaced (map decimal numbers.now)) }
+    ensures all { OnOk result (out.new.items ≡ out.old.items ++ spaced (map decimal numbers.now)) }
+    ensures kept { StartsWith out.new.items out.old.items }
 {
     for n in numbers {
         write_number(out, *n as u64)?;

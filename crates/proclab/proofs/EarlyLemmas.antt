@@ -1,11 +1,11 @@
-use Rattle.std.proofs.Common.{◌≡◌, ◌≤◌, ◌⊎◌, inl, inr, ℕ, List, [], Option, Some, None, Result, Ok, Err, refl, sym, ◌∙◌, ap, subst}
+use Rattle.std.proofs.Common.{◌≡◌, ◌≤◌, ◌⊎◌, inl, inr, ℕ, true, List, [], Option, Some, None, Result, Ok, Err, refl, sym, ◌∙◌, ap, subst}
 use Rattle.pr_model.specs.declared.events.Entry.{Entry}
 use Rattle.pr_run_laws.specs.Fronts.{IsFront}
 use Rattle.pr_run_laws.specs.ScenarioRuns.{first_world, history_after}
 use Rattle.pr_run_laws.proofs.GrowthLemmas.{run-grows}
 use Rattle.pr_scen.specs.Reading.{scenario_of}
 use Rattle.pr_scen.specs.declared.scenarios.Scenario.{Scenario}
-use Rattle.proclab.specs.Answers.{IsAfterMoves, IsOnTheWay, RanOutEarly}
+use Rattle.proclab.specs.Histories.{IsAfterMoves, IsOnTheWay, RanOutEarly}
 use Rattle.proclab.specs.Made.{IsBroughtSoFar, IsWorldsWay, StoppedRun}
 use Rattle.proclab.proofs.RunLemmas.{first_world-places}
 
@@ -17,11 +17,13 @@ on_the_way input s h spelt (inr way) =
     let front : IsFront h (history_after s.turns s) = subst (λ (x : List Entry). IsFront x (history_after s.turns s)) (sym way.is) (run-grows s way.moves s.turns within) in
     inr (record { scenario = s; spelt = spelt; moves = way.moves; within = within; is = way.is; front = front })
 
-pub stopped-early : (input : List ℕ) (s : Scenario) (h : List Entry) (old new : Option (List ℕ)) → scenario_of input ≡ Ok s → StoppedRun s h old new → RanOutEarly (Some input) h old new
-stopped-early input s h old new spelt stopped = record { unwritten = stopped.unwritten; on_the_way = on_the_way input s h spelt stopped.so_far }
+pub stopped-early : (input : List ℕ) (s : Scenario) (h : List Entry) (old new : Option (List ℕ)) → scenario_of input ≡ Ok s → StoppedRun s h old new → RanOutEarly true (Some input) h old new
+stopped-early input s h old new spelt stopped = record { unwritten = stopped.unwritten; left = on_the_way input s h spelt stopped.so_far }
 
 -- Where nothing was made of it, too.
-pub lost-early : (input : List ℕ) (h : List Entry) (old new : Option (List ℕ)) → h ≡ [] → new ≡ old → RanOutEarly (Some input) h old new
-lost-early input h old new none same = record { unwritten = same; on_the_way = inl none }
+pub lost-early : (input : List ℕ) (h : List Entry) (old new : Option (List ℕ)) → h ≡ [] → new ≡ old → RanOutEarly true (Some input) h old new
+lost-early input h old new none same = record { unwritten = same; left = inl none }
 
-pub ruleset early = (stopped-early, lost-early)
+-- the same of an equal input
+pub early-same : (a b : Option (List ℕ)) (h : List Entry) (old new : Option (List ℕ)) → a ≡ b → RanOutEarly true a h old new → RanOutEarly true b h old new
+early-same a b h old new same early = subst (λ (x : Option (List ℕ)). RanOutEarly true x h old new) same early

@@ -1,3 +1,5 @@
 pub mod EarlyLemmas
+pub mod GivingLemmas
+pub mod ReadingLemmas
+pub mod RunEndLemmas
 pub mod RunLemmas
-pub mod ServingLemmas

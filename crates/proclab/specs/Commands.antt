@@ -3,6 +3,8 @@ use Rattle.std.specs.List.{range_with_len}
 use Rattle.std.specs.Str.{bytes_eq}
 use Rattle.proclab.specs.declared.commands.Command.{Command}
 use Rattle.proclab.specs.declared.commands.Command.TheVariants.{Run, Check, Plain, Generate}
+use Rattle.proclab.specs.declared.commands.Work.{Work}
+use Rattle.proclab.specs.declared.commands.Work.TheVariants.{Explains, Runs}
 
 -- What the words after the program's name ask for. The shapes are run, run -q, run -j N, run -q -j N, run -j N -q,
 -- check, plain and gen N; words of no other shape ask for anything.
@@ -50,10 +52,8 @@ command_of (a ∷ b ∷ c ∷ []) = of_three_words a b c
 command_of (a ∷ b ∷ c ∷ d ∷ []) = of_four_words a b c d
 command_of _ = None
 
--- whether words ask for a run on one thread whose history is written: the one command that is built
-abbrev pub is_plain_run : Option Command → Bool
-is_plain_run (Some (Run false None)) = true
-is_plain_run _ = false
-
-unfoldable pub asks_for_run : List (List ℕ) → Bool
-asks_for_run words = is_plain_run (command_of words)
+-- What is done for words: the run of a scenario on one thread, whose history is left out where it is to be quiet; or
+-- they get the usage line, as all words whose command is not built.
+unfoldable pub work_of : Option Command → Work
+work_of (Some (Run quiet None)) = Runs quiet
+work_of _ = Explains

@@ -1,6 +1,10 @@
 pub mod Answers
 pub mod Commands
 pub mod Ends
+pub mod Giving
+pub mod Histories
+pub mod Inputs
 pub mod Made
-pub mod Serving
+pub mod Rows
+pub mod Statuses
 pub mod Usage

@@ -1,5 +1,5 @@
 ghost use Rattle.std.specs.Prelude.{◌≡◌, ◌<◌, ◌-◌, ◌^◌, map, string_bytes};
-ghost use Rattle.proclab.specs.Commands.{asks_for_run, is_plain_run, command_of, number_up_to, shared_run, generation, of_one_word, of_two_words, of_three_words, of_four_words};
+ghost use Rattle.proclab.specs.Commands.{work_of, command_of, number_up_to, shared_run, generation, of_one_word, of_two_words, of_three_words, of_four_words};
 
 use itoa::Buffer;
 
@@ -120,24 +120,27 @@ fn number_up_to(most: u32, word: &str) -> Option<u32>
     (1..most + 1).find(|n| Buffer::new().format(*n) == word)
 }
 
-/// Whether words ask for a run on one thread whose history is written: the one command that is built.
-#[tactic(auto, unfolding(crate::specs::Commands::asks_for_run))]
-pub fn asks_for_run(words: &[String]) -> bool
-    ensures { result ≡ asks_for_run (map string_bytes words.now) }
-{
-    is_plain_run(command_of(words))
+/// What is done for words.
+#[derive(Clone, Copy, Debug, PartialEq, Eq)]
+pub enum Work {
+    /// They get the usage line.
+    Explains,
+    /// The run of the scenario of the input is made on one thread. `quiet`: its history is not written.
+    Runs { quiet: bool },
 }
 
-fn is_plain_run(command: Option<Command>) -> bool
-    ensures { result ≡ is_plain_run command }
+/// What is done for words that ask for this: words whose command is not built get the usage line.
+#[tactic(auto, unfolding(crate::specs::Commands::work_of))]
+pub fn work_of(command: Option<Command>) -> Work
+    ensures { result ≡ work_of command }
 {
     match command {
         Some(
             Command::Run {
-                quiet: false,
+                quiet,
                 workers: None,
             },
-        ) => true,
-        _ => false,
+        ) => Work::Runs { quiet },
+        _ => Work::Explains,
     }
 }

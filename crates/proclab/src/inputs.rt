@@ -1,7 +1,7 @@
 //! The reading of an input.
-ghost use Rattle.std.specs.Prelude.{◌≡◌, ◌≤◌, length, IfOk, IfSome, IsErrOf, Err};
+ghost use Rattle.std.specs.Prelude.{◌≡◌, ◌≢◌, ◌≤◌, length, IfOk, IfSome, Err};
 ghost use Rattle.pr_io.specs.Faults.{Rose};
-ghost use Rattle.proclab.specs.Answers.{Took, input_limit};
+ghost use Rattle.proclab.specs.Inputs.{Took};
 
 use pr_io::{ReadEnd, Source, read_all};
 use pr_num::Bytes;
@@ -15,17 +15,18 @@ pub enum Unread {
     NoMemory,
 }
 
-/// The most bytes that a scenario may have.
-const INPUT_LIMIT: usize = 1_048_576;
-
-/// Reads an input to its end; `None` where it has more bytes than it may have.
-pub fn take_input<S: Source>(alloc: Global, source: &mut S) -> Result<Option<Bytes>, Unread>
-    ensures took { IfOk result (λ input. Took (S.left source.old) (S.left source.new) input) }
-    ensures small { IfOk result (λ input. IfSome input (λ bytes. length bytes ≤ input_limit)) }
+/// Reads an input to its end; `None` where it has more bytes than the limit.
+pub fn take_input<S: Source>(
+    alloc: Global,
+    source: &mut S,
+    limit: usize,
+) -> Result<Option<Bytes>, Unread>
+    ensures took { IfOk result (λ input. Took limit (S.left source.old) (S.left source.new) input) }
+    ensures small { IfOk result (λ input. IfSome input (λ bytes. length bytes ≤ limit)) }
     ensures failed { result ≡ Err Unread.Failed → Rose (S.faults source.old) (S.faults source.new) }
-    ensures never_falls { S.faults source.old ≤ S.faults source.new }
+    ensures no_fault { result ≢ Err Unread.Failed → S.faults source.new ≡ S.faults source.old }
 {
-    match read_all(alloc, source, INPUT_LIMIT) {
+    match read_all(alloc, source, limit) {
         Ok(bytes) => Ok(Some(bytes)),
         Err(ReadEnd::TooLong) => Ok(None),
         Err(ReadEnd::Failed) => Err(Unread::Failed),

@@ -1,7 +1,7 @@
 //! The program `proclab`: its words say what is done, and its status how that ended.
 #![tactic(auto)]
 
-ghost use Rattle.std.specs.Prelude.{◌≡◌, ◌≢◌, [], drop, IfOk, IfErr};
+ghost use Rattle.std.specs.Prelude.{◌≡◌, ◌≢◌, [], drop, IfOk, IfErr, IsErr};
 ghost use Rattle.std.specs.IoError.{error_kind};
 ghost use Rattle.std.specs.Vec.Iter.{into_iter_items};
 ghost use Rattle.std.specs.declared.io.ErrorKind.TheVariants.{OutOfMemory};
@@ -14,10 +14,8 @@ mod responses;
 mod running;
 mod runs;
 mod serving;
-#[cfg(test)]
-mod tests;
 
-use crate::outcomes::Status;
+use crate::outcomes::{Status, number};
 use crate::serving::serve;
 use pr_io::{OpenGate, StdSink, StdSource};
 use std::alloc::{AllocError, Global};
@@ -38,6 +36,7 @@ fn words_behind_name(alloc: Global, arguments: Args) -> Result<Vec<String>, Allo
 fn words_of(alloc: Global, given: io::Result<Args>) -> io::Result<Vec<String>>
     ensures words { IfOk given (λ arguments. IfOk result (λ words. words.items ≡ drop 1 (into_iter_items arguments))) }
     ensures no_text { IfErr given (λ error. error_kind error ≢ OutOfMemory → IfOk result (λ words. words.items ≡ [])) }
+    ensures ran_out { IfErr given (λ error. error_kind error ≡ OutOfMemory → IsErr result) }
     ensures memory { IfErr result (λ error. error_kind error ≡ OutOfMemory) }
 {
     match given {
@@ -49,7 +48,7 @@ fn words_of(alloc: Global, given: io::Result<Args>) -> io::Result<Vec<String>>
 
 fn main(rt: HostRuntime) -> ExitCode {
     let Ok(words) = words_of(rt.alloc(), env::args(&rt)) else {
-        return ExitCode::from(Status::OutOfMemory as u8);
+        return ExitCode::from(number(Status::OutOfMemory));
     };
     let mut source = StdSource::new(rt.stdin());
     let mut sink = StdSink::new(rt.stdout());

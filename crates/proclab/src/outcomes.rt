@@ -1,5 +1,7 @@
-ghost use Rattle.std.specs.Prelude.{◌≡◌, ◌⊎◌, []};
+ghost use Rattle.std.specs.Prelude.{◌≡◌, []};
 ghost use Rattle.proclab.specs.Answers.{end_status};
+ghost use Rattle.proclab.specs.Statuses.{number};
+ghost use Rattle.proclab.specs.declared.outcomes.Status.TheVariants.{OutOfMemory};
 
 use pr_model::History;
 use pr_num::NoMemory;
@@ -27,6 +29,21 @@ pub enum Status {
     OutOfMemory = 7,
 }
 
+/// The number of a status.
+#[tactic(auto, unfolding(crate::specs::Statuses::number))]
+pub fn number(status: Status) -> u8
+    ensures { result ≡ number status }
+{
+    status as u8
+}
+
+/// How a call of the program ended, and the history of its run; that is empty where none was made.
+#[derive(Drop)]
+pub struct Ending {
+    pub status: Status,
+    pub history: History,
+}
+
 /// What a call of the program leaves behind besides what it wrote.
 #[derive(Drop)]
 pub struct Outcome {
@@ -37,36 +54,35 @@ pub struct Outcome {
 }
 
 /// An end that leaves no history.
-pub fn without_history(alloc: Global, status: u8) -> Outcome
+pub fn without_history(alloc: Global, status: Status) -> Ending
     ensures status { result.status ≡ status }
     ensures history { result.history.entries ≡ [] }
 {
-    Outcome {
+    Ending {
         status,
         history: History::new(alloc),
     }
 }
 
-/// An end for want of memory, with the history as far as it was made.
-pub fn out_of_memory(_error: NoMemory, history: History) -> Outcome
-    ensures status { result.status ≡ 7 }
+/// An end where memory ran out, with the history as far as it was made.
+pub fn out_of_memory(_error: NoMemory, history: History) -> Ending
+    ensures status { result.status ≡ OutOfMemory }
     ensures history { result.history.entries ≡ history.entries }
 {
-    Outcome {
-        status: Status::OutOfMemory as u8,
+    Ending {
+        status: Status::OutOfMemory,
         history,
     }
 }
 
 /// The status of a run that ended so.
 #[tactic(auto, unfolding(crate::specs::Answers::end_status))]
-pub fn end_status(end: End) -> u8
-    ensures value { result ≡ end_status end }
-    ensures range { (result ≡ 0) ⊎ ((result ≡ 3) ⊎ (result ≡ 4)) }
+pub fn end_status(end: End) -> Status
+    ensures { result ≡ end_status end }
 {
     match end {
-        End::Quiet => Status::Done as u8,
-        End::Spent => Status::Spent as u8,
-        End::Stuck => Status::Stuck as u8,
+        End::Quiet => Status::Done,
+        End::Spent => Status::Spent,
+        End::Stuck => Status::Stuck,
     }
 }

@@ -1,58 +1,63 @@
-//! The command `run`, from a source to a sink. Nothing here waits.
-ghost use Rattle.std.specs.Prelude.{◌≡◌, ◌≢◌, ◌≤◌, ◌⊎◌, []};
-ghost use Rattle.pr_io.specs.Faults.{Rose};
-ghost use Rattle.proclab.specs.Serving.{Answered, AnswersInput, CutShort, HistoryIsKept, LeftNothing, RanOut, RunsScenario};
+//! Commands from a source to a sink. Nothing here waits.
+ghost use Rattle.std.specs.Prelude.{◌≡◌, true};
+ghost use Rattle.proclab.specs.Answers.{answer_to, explained, input_limit};
+ghost use Rattle.proclab.specs.Histories.{HistoryIsKept};
+ghost use Rattle.proclab.specs.Rows.{Ends, EndsBy, Reads, RunsScenario, Says, row_of};
+ghost use Rattle.proclab.specs.declared.commands.Work.TheVariants.{Explains, Runs};
 
+use crate::answers::explain;
+use crate::commands::Work;
 use crate::inputs::{Unread, take_input};
-use crate::outcomes::{Outcome, Status, without_history};
+use crate::outcomes::{Ending, Status, without_history};
 use crate::responses::respond;
 use pr_io::{Sink, Source};
 use std::alloc::Global;
 
 /// The status of an input that was not read.
-fn status_of(unread: Unread) -> u8
-    ensures failed { unread ≡ Unread.Failed → result ≡ 5 }
-    ensures memory { unread ≡ Unread.NoMemory → result ≡ 7 }
+fn status_of(unread: Unread) -> Status
+    ensures failed { unread ≡ Unread.Failed → result ≡ Status.ReadFailed }
+    ensures memory { unread ≡ Unread.NoMemory → result ≡ Status.OutOfMemory }
 {
     match unread {
-        Unread::Failed => Status::ReadFailed as u8,
-        Unread::NoMemory => Status::OutOfMemory as u8,
+        Unread::Failed => Status::ReadFailed,
+        Unread::NoMemory => Status::OutOfMemory,
     }
 }
 
-/// Reads an input and answers it.
-fn answer_source<S: Source, K: Sink>(alloc: Global, source: &mut S, sink: &mut K) -> Outcome
-    ensures range { result.status ≤ 7 }
-    ensures never { result.status ≢ 1 }
-    ensures answered { result.status ≤ 4 → Answered (S.left source.old) (S.left source.new) result.status result.history.entries (K.written sink.old) (K.written sink.new) }
-    ensures cut { result.status ≡ 6 → CutShort (S.left source.old) (S.left source.new) result.history.entries (K.written sink.old) (K.written sink.new) }
-    ensures write_failed { result.status ≡ 6 → Rose (K.faults sink.old) (K.faults sink.new) }
-    ensures unread { result.status ≡ 5 → LeftNothing result.history.entries (K.written sink.old) (K.written sink.new) }
-    ensures read_failed { result.status ≡ 5 → Rose (S.faults source.old) (S.faults source.new) }
-    ensures memory { result.status ≡ 7 → RanOut (S.left source.old) (S.left source.new) result.history.entries (K.written sink.old) (K.written sink.new) }
-    ensures source_never_falls { S.faults source.old ≤ S.faults source.new }
-    ensures sink_never_falls { K.faults sink.old ≤ K.faults sink.new }
+/// The most bytes that a scenario may have.
+const INPUT_LIMIT: usize = 1_048_576;
+
+/// Reads a scenario, makes its run on one thread, and writes the history, but where the run is quiet; or writes why the
+/// input is refused.
+fn run<S: Source, K: Sink>(alloc: Global, quiet: bool, source: &mut S, sink: &mut K) -> Ending
+    ensures { Reads input_limit (answer_to quiet) true
+        (record { left = S.left source.old; read_faults = S.faults source.old; written = K.written sink.old; write_faults = K.faults sink.old })
+        (record { left = S.left source.new; read_faults = S.faults source.new; written = K.written sink.new; write_faults = K.faults sink.new })
+        result.status result.history.entries }
 {
-    match take_input(alloc, source) {
-        Ok(input) => respond(alloc, &input, sink),
+    match take_input(alloc, source, INPUT_LIMIT) {
+        Ok(input) => respond(alloc, quiet, &input, sink),
         Err(unread) => without_history(alloc, status_of(unread)),
     }
 }
 
-/// Reads a scenario, makes its run on one thread, and writes the history; or writes why the input is refused.
-pub fn run<S: Source, K: Sink>(alloc: Global, source: &mut S, sink: &mut K) -> Outcome
-    ensures range { (result.status ≤ 7) × (result.status ≢ 1) }
-    ensures answered { result.status ≤ 4 → Answered (S.left source.old) (S.left source.new) result.status result.history.entries (K.written sink.old) (K.written sink.new) }
-    ensures answers_input { result.status ≤ 4 → AnswersInput (S.left source.old) result.status result.history.entries (K.written sink.old) (K.written sink.new) }
-    ensures runs_scenario { RunsScenario (S.left source.old) result.status }
-    ensures cut { result.status ≡ 6 → CutShort (S.left source.old) (S.left source.new) result.history.entries (K.written sink.old) (K.written sink.new) }
-    ensures write_failed { result.status ≡ 6 → Rose (K.faults sink.old) (K.faults sink.new) }
-    ensures unread { result.status ≡ 5 → LeftNothing result.history.entries (K.written sink.old) (K.written sink.new) }
-    ensures read_failed { result.status ≡ 5 → Rose (S.faults source.old) (S.faults source.new) }
-    ensures memory { result.status ≡ 7 → RanOut (S.left source.old) (S.left source.new) result.history.entries (K.written sink.old) (K.written sink.new) }
+/// Does a piece of work: how it ends is said by its row.
+pub fn carry_out<S: Source, K: Sink>(
+    alloc: Global,
+    work: Work,
+    source: &mut S,
+    sink: &mut K,
+) -> Ending
+    ensures ends { EndsBy (row_of work)
+        (record { left = S.left source.old; read_faults = S.faults source.old; written = K.written sink.old; write_faults = K.faults sink.old })
+        (record { left = S.left source.new; read_faults = S.faults source.new; written = K.written sink.new; write_faults = K.faults sink.new })
+        result.status result.history.entries }
+    ensures unread { work ≡ Explains → source.new ≡ source.old }
+    ensures runs_scenario { RunsScenario work (S.left source.old) result.status }
     ensures kept { HistoryIsKept (S.left source.old) (S.left source.new) result.history.entries }
-    ensures source_never_falls { S.faults source.old ≤ S.faults source.new }
-    ensures sink_never_falls { K.faults sink.old ≤ K.faults sink.new }
 {
-    answer_source(alloc, source, sink)
+    match work {
+        Work::Explains => explain(alloc, sink),
+        Work::Runs { quiet } => run(alloc, quiet, source, sink),
+    }
 }

@@ -6,7 +6,7 @@ abbrev pub invariant-loop-at : goal.invariant-loop-at
 invariant-loop-at g l = record {
   within : l.at ≤ length l.part;
   front : g.K.Sink.written l.sink ≡ with_end (g.K.Sink.written l.fn.sink) (take l.at l.part);
-  faults : g.K.Sink.faults l.fn.sink ≤ g.K.Sink.faults l.sink;
+  faults : g.K.Sink.faults l.sink ≡ g.K.Sink.faults l.fn.sink;
   nothing : l.at ≡ 0 → l.sink ≡ l.fn.sink;
 }
 

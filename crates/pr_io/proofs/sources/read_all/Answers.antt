@@ -11,7 +11,7 @@ returns-then-n-eq0-clause-all g c =
 pub loop-piece-preserved : goal.loop-piece-preserved
 loop-piece-preserved g c = record {
   front = grind (arith, with_front-with_front);
-  faults = omega arith;
+  faults = grind (arith, common_steps);
   reads = grind (arith, common_steps);
   bounded = omega arith;
 }

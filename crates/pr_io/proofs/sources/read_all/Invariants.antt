@@ -6,7 +6,7 @@ use Rattle.pr_io.proofs.sources.read_all.Given as goal
 abbrev pub invariant-loop-piece : goal.invariant-loop-piece
 invariant-loop-piece g l = record {
   front : g.S.Source.left l.fn.source ≡ with_front l.bytes.items (g.S.Source.left l.source);
-  faults : g.S.Source.faults l.fn.source ≤ g.S.Source.faults l.source;
+  faults : g.S.Source.faults l.source ≡ g.S.Source.faults l.fn.source;
   reads : g.S.Source.reads l.source ≤ g.S.Source.reads l.fn.source + length l.bytes.items;
   bounded : g.S.Source.reads l.source ≤ g.S.Source.reads l.fn.source + (l.limit + 1);
 }

@@ -1,31 +1,33 @@
-use Rattle.std.proofs.Common.{rules, arith, ◌≡◌, Some}
-use Rattle.std.specs.List.{slice_get}
+use Rattle.std.proofs.Common.{rules, arith, ◌≡◌, sym, ap, ◌∙◌, length}
 use Rattle.pr_io.proofs.Known.{with_end-nil}
 use Rattle.pr_plain.proofs.LineLemmas.{entries_text-none}
-use Rattle.pr_output.proofs.Entries.{found, found-value, entries_text-at, entries_text-next}
-use Rattle.pr_output.proofs.Joined.{with_end-second, Puts-second, Puts-cut}
+use Rattle.pr_output.proofs.Entries.{entries_text-parts, entries_text-block}
+use Rattle.pr_output.proofs.Joined.{with_end-second, Puts-second, Puts-cut, Puts-nothing}
 use Rattle.pr_output.proofs.lines.put_entries.Goals as goal
 
-pub loop-i-init : goal.loop-i-init
-loop-i-init g c = record {
+pub loop-at-init : goal.loop-at-init
+loop-at-init g c = record {
+  within = omega arith;
   lines = grind (arith, with_end-nil, entries_text-none);
-  faults = omega arith;
-  end = search rules;
+  faults = search rules;
 }
 
-pub unwrap-entry-requires : goal.unwrap-entry-requires
-unwrap-entry-requires g c = found c.get.result c.args.history.now.entries c.loop-i.i c.get.ensures (omega (arith, c.loop-i-test.true, c.loop-i.invariant.end))
-
-pub loop-i-preserved : goal.loop-i-preserved
-loop-i-preserved g c =
-    let here : slice_get c.args.history.now.entries c.loop-i.i ≡ Some c.unwrap-entry.result.now = found-value c.get.result c.args.history.now.entries c.loop-i.i c.unwrap-entry.result (search rules) c.get.ensures in
+pub loop-at-preserved : goal.loop-at-preserved
+loop-at-preserved g c =
+    let block = c.in_ok-next.ensures in
+    let put = rw c.deref.ensures.value at c.in_ok-put.ensures in
     record {
-      lines = rw (entries_text-next c.loop-i.i c.args.history.now.entries c.unwrap-entry.result.now here) (with_end-second _ _ _ _ _ c.loop-i.invariant.lines c.in_ok-put_entry.ensures.all);
-      faults = omega (arith, c.loop-i.invariant.faults, c.put_entry.ensures.never_falls);
-      end = c.loop-i.invariant.end;
+      within = block.within;
+      lines = rw block.lines (with_end-second _ _ _ _ _ c.loop-at.invariant.lines put.all);
+      faults = put.no_fault (λ is. cc) ∙ c.loop-at.invariant.faults;
     }
 
-pub returns-in_err-put_entry : goal.returns-in_err-put_entry
-returns-in_err-put_entry g c =
-    let here : slice_get c.args.history.now.entries c.loop-i.i ≡ Some c.unwrap-entry.result.now = found-value c.get.result c.args.history.now.entries c.loop-i.i c.unwrap-entry.result (search rules) c.get.ensures in
-    rw (entries_text-at c.loop-i.i c.args.history.now.entries c.unwrap-entry.result.now here) (Puts-second _ _ _ _ _ _ _ _ _ c.loop-i.invariant.lines c.loop-i.invariant.faults (Puts-cut _ _ _ _ _ _ _ _ (search rules) c.in_err-put_entry.ensures))
+pub returns-in_err-next : goal.returns-in_err-next
+returns-in_err-next g c =
+    rw (entries_text-parts c.loop-at.at c.args.history.now.entries) (Puts-second _ _ _ _ _ _ _ _ _ c.loop-at.invariant.lines c.loop-at.invariant.faults (Puts-nothing _ _ _ _ (search rules)))
+
+pub returns-in_err-put : goal.returns-in_err-put
+returns-in_err-put g c =
+    let block = c.in_ok-next.ensures in
+    let put = rw c.deref.ensures.value at c.in_err-put.ensures in
+    rw (entries_text-block c.loop-at.at c.in_ok-next.next c.args.history.now.entries c.fill_block.new.block.items block.lines) (Puts-second _ _ _ _ _ _ _ _ _ c.loop-at.invariant.lines c.loop-at.invariant.faults (Puts-cut _ _ _ _ _ _ _ _ (search rules) put))

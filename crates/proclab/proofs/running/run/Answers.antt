@@ -1,12 +1,8 @@
-use Rattle.proclab.proofs.ServingLemmas.{answers-input, history-kept, runs-scenario}
+use Rattle.std.proofs.Common.{true}
+use Rattle.proclab.specs.Answers.{answer_to, input_limit}
+use Rattle.proclab.proofs.ReadingLemmas.{reads-answered}
 use Rattle.proclab.proofs.running.run.Goals as goal
 
-pub returns-clause-answers_input : goal.returns-clause-answers_input
-returns-clause-answers_input g c = λ four. answers-input _ _ _ _ _ _ (c.answer_source.ensures.answered four)
-
-pub returns-clause-runs_scenario : goal.returns-clause-runs_scenario
-returns-clause-runs_scenario g c = runs-scenario _ _ _ _ _ _ c.answer_source.ensures.answered
-
-pub returns-clause-kept : goal.returns-clause-kept
-returns-clause-kept g c =
-    history-kept _ _ _ _ _ _ c.answer_source.ensures.range c.answer_source.ensures.answered c.answer_source.ensures.cut c.answer_source.ensures.unread c.answer_source.ensures.memory
+pub returns-in-Ok : goal.returns-in-Ok
+returns-in-Ok g c =
+    reads-answered input_limit (answer_to c.args.quiet) true _ _ _ _ c.in-Ok.input c.in-Ok.ensures.took (c.in-Ok.ensures.no_fault (λ is. cc)) c.respond.ensures

@@ -10,5 +10,6 @@ write-tells c = record {
   appended = grind (arith, with_end-Some);
   kept = grind arith;
   failed = grind (arith, counts);
+  no_fault = grind (arith, common_steps);
   never_falls = grind (arith, counts);
 }

@@ -10,5 +10,6 @@ write-tells g c = record {
   appended = search rules;
   kept = search rules;
   failed = grind (arith, counts);
+  no_fault = c.ensures.ok;
   never_falls = grind (arith, counts);
 }

@@ -1,0 +1,92 @@
+-- How a command that reads an input ends.
+use Rattle.std.proofs.Common.{◌≡◌, ◌≢◌, ◌≤◌, ◌<◌, ◌+◌, ◌⊎◌, inl, inr, ⊎_elim, ℕ, Bool, true, false, List, [], ◌++◌, Option, Some, None, is_some, Result, Ok, Err, length, nat_le, cond, IfOk, IfSome, refl, sym, ◌∙◌, ap, subst, arith, length-append}
+use Rattle.std.proofs.lemmas.Bool.Decides.{nat_tests}
+use Rattle.std.proofs.lemmas.Option.{same_Some}
+use Rattle.pr_io.specs.Faults.{Rose}
+use Rattle.pr_io.specs.Known.{with_front}
+use Rattle.pr_model.specs.declared.events.Entry.{Entry}
+use Rattle.proclab.specs.Answers.{Answer}
+use Rattle.proclab.specs.Giving.{IsGiven, Responds}
+use Rattle.proclab.specs.Histories.{RanOutEarly}
+use Rattle.proclab.specs.Inputs.{Took, TookAll, taken_of}
+use Rattle.proclab.specs.Rows.{Ends, Reads, LeftNothing}
+use Rattle.proclab.specs.Statuses.{IsWhole}
+use Rattle.proclab.specs.declared.inputs.Unread.{Unread}
+use Rattle.proclab.specs.declared.inputs.Unread.TheVariants as unread
+use Rattle.proclab.specs.declared.outcomes.Status.{Status}
+use Rattle.proclab.specs.declared.outcomes.Status.TheVariants.{ReadFailed, WriteFailed, OutOfMemory}
+
+-- ---- the answer is a function of the input
+
+pub taken : (limit : ℕ) (new : Option (List ℕ)) (left : List ℕ) (input : Option (List ℕ)) → Took limit (Some left) new input → input ≡ taken_of limit left
+unfolding with_front
+taken limit new left None above = by new above.front
+  where
+    by : (new : Option (List ℕ)) → Some left ≡ with_front above.bytes new → None ≡ taken_of limit left
+    by None e = cc
+    by (Some rest) e =
+        let all : left ≡ above.bytes ++ rest = same_Some left (above.bytes ++ rest) e in
+        let long : limit < length left = rw all (omega (arith, length-append above.bytes rest, above.above)) in
+        sym (ap (λ (b : Bool). cond b (Some left) None) (not_within (length left) long))
+      where
+        not_within : (n : ℕ) → limit < n → nat_le n limit ≡ false
+        not_within n h = grind (arith, nat_tests)
+taken limit new left (Some input) took =
+    let same : input ≡ left = took.read.all in
+    let within : length left ≤ limit = subst (λ (x : List ℕ). length x ≤ limit) same took.within in
+    ap (λ (x : List ℕ). Some x) same ∙ sym (ap (λ (b : Bool). cond b (Some left) None) (is_within (length left) within))
+  where
+    is_within : (n : ℕ) → n ≤ limit → nat_le n limit ≡ true
+    is_within n h = grind (arith, nat_tests)
+
+answers-input : (limit : ℕ) (answer : Option (List ℕ) → Answer) (old new input : Option (List ℕ)) (status : Status) (h : List Entry) (w v : Option (List ℕ)) → Took limit old new input → IsGiven (answer input) status h w v → IfSome old (λ left. IsGiven (answer (taken_of limit left)) status h w v)
+answers-input limit answer None new input status h w v took given = tt
+answers-input limit answer (Some left) new input status h w v took given =
+    subst (λ (i : Option (List ℕ)). IsGiven (answer i) status h w v) (taken limit new left input took) given
+
+-- ---- the end
+
+-- The input was read, and answered.
+pub reads-answered : (limit : ℕ) (answer : Option (List ℕ) → Answer) (runs : Bool) (old new : Ends) (status : Status) (h : List Entry) (input : Option (List ℕ)) → Took limit old.left new.left input → new.read_faults ≡ old.read_faults
+    → Responds (answer input) (RanOutEarly runs input h old.written new.written) status h old.written new.written old.write_faults new.write_faults → Reads limit answer runs old new status h
+reads-answered limit answer runs old new status h input took same r = record {
+  answered = λ w. record { input = input; took = took; given = r.whole w.wrote w.had_memory };
+  answers = λ w. answers-input limit answer old.left new.left input status h old.written new.written took (r.whole w.wrote w.had_memory);
+  unread = λ s. absurd (r.read s);
+  read_failed = λ s. absurd (r.read s);
+  cut = λ s. record { input = input; took = took; cut = r.cut s };
+  write_failed = r.rose;
+  memory = λ s. inr (record { input = input; took = took; ran_out = r.memory s });
+  no_read_fault = λ s. same;
+  no_write_fault = r.no_fault;
+}
+
+-- The input was not read.
+pub reads-nothing : (limit : ℕ) (answer : Option (List ℕ) → Answer) (runs : Bool) (old new : Ends) (status : Status) (h : List Entry) (why : Unread) → (why ≡ unread.Failed → status ≡ ReadFailed) → (why ≡ unread.NoMemory → status ≡ OutOfMemory)
+    → (why ≡ unread.Failed → Rose old.read_faults new.read_faults) → (why ≢ unread.Failed → new.read_faults ≡ old.read_faults) → h ≡ [] → new.written ≡ old.written → new.write_faults ≡ old.write_faults → Reads limit answer runs old new status h
+reads-nothing limit answer runs old new status h unread.Failed failed memory rose same none unwritten calm =
+    let is : status ≡ ReadFailed = failed refl in
+    record {
+      answered = λ w. absurd (w.read is);
+      answers = λ w. absurd (w.read is);
+      unread = λ s. record { no_history = none; unwritten = unwritten };
+      read_failed = λ s. rose refl;
+      cut = λ s. let no : ⊥ = cc in absurd no;
+      write_failed = λ s. let no : ⊥ = cc in absurd no;
+      memory = λ s. let no : ⊥ = cc in absurd no;
+      no_read_fault = λ s. absurd (s is);
+      no_write_fault = λ s. calm;
+    }
+reads-nothing limit answer runs old new status h unread.NoMemory failed memory rose same none unwritten calm =
+    let is : status ≡ OutOfMemory = memory refl in
+    record {
+      answered = λ w. absurd (w.had_memory is);
+      answers = λ w. absurd (w.had_memory is);
+      unread = λ s. let no : ⊥ = cc in absurd no;
+      read_failed = λ s. let no : ⊥ = cc in absurd no;
+      cut = λ s. let no : ⊥ = cc in absurd no;
+      write_failed = λ s. let no : ⊥ = cc in absurd no;
+      memory = λ s. inl (record { no_history = none; unwritten = unwritten });
+      no_read_fault = λ s. same (λ e. cc);
+      no_write_fault = λ s. calm;
+    }

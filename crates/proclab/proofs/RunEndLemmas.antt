@@ -1,0 +1,113 @@
+-- What is kept of a run, and how its status is caused.
+use Rattle.std.proofs.Common.{◌≡◌, ◌≢◌, ◌⊎◌, inl, inr, ⊎_elim, ℕ, Bool, true, false, List, [], Option, Some, None, is_some, Result, Ok, Err, IfOk, IfSome, refl, sym, ◌∙◌, ap, subst, arith}
+use Rattle.std.proofs.lemmas.List.{append-nil}
+use Rattle.pr_model.specs.declared.events.Actor.{Actor}
+use Rattle.pr_model.specs.declared.events.Entry.{Entry}
+use Rattle.pr_run_laws.specs.Fronts.{IsFront}
+use Rattle.pr_run_laws.specs.ScenarioRuns.{IsKept, first_world, run_of}
+use Rattle.pr_run_laws.proofs.KeptLemmas.{run-kept}
+use Rattle.pr_scen.specs.Reading.{scenario_of}
+use Rattle.pr_scen.specs.declared.refusals.ScenFault.{ScenFault}
+use Rattle.pr_scen.specs.declared.scenarios.Scenario.{Scenario}
+use Rattle.pr_world.specs.Runs.{IsFresh}
+use Rattle.pr_world.specs.Worlds.{WorldState, after_moves, all_finished, end_of, end_with, next_actor, quiet_end}
+use Rattle.pr_world.proofs.NextLemmas.{moves-counted}
+use Rattle.pr_world.proofs.RestLemmas.{all-rest, next-can}
+use Rattle.proclab.specs.Answers.{Answer, answer_of, answer_to, end_status, input_limit, ran, ran_so, refused_at}
+use Rattle.proclab.specs.Ends.{EndsAs}
+use Rattle.proclab.specs.Giving.{IsGiven, RanOutLate}
+use Rattle.proclab.specs.Histories.{HistoryIsKept, IsAfterMoves, RanOutEarly}
+use Rattle.proclab.specs.Inputs.{Took, TookAll, taken_of}
+use Rattle.proclab.specs.Rows.{Ends, Reads, LeftNothing, RanOutAfter, Says}
+use Rattle.proclab.specs.Statuses.{IsWhole}
+use Rattle.proclab.specs.declared.outcomes.Status.{Status}
+use Rattle.proclab.specs.declared.outcomes.Status.TheVariants.{Done, Usage, Refused, Spent, Stuck, ReadFailed, WriteFailed, OutOfMemory}
+use Rattle.proclab.proofs.RunLemmas.{first_world-fresh}
+
+-- ---- the history is kept
+
+of_scenario : (quiet : Bool) (old new : Option (List ℕ)) (input : List ℕ) (s : Result Scenario ScenFault) → scenario_of input ≡ s → TookAll input_limit old new input → (h : List Entry) → h ≡ (answer_of quiet s).history → HistoryIsKept old new h
+unfolding answer_of refused_at ran ran_so
+of_scenario quiet old new input (Err fault) spelt took h is = inl is
+of_scenario quiet old new input (Ok s) spelt took h is =
+    let front : IsFront h (run_of s).kernel.history = record { more = []; is = sym is ∙ sym (append-nil h) } in
+    let run : IsAfterMoves input h = record { scenario = s; spelt = spelt; moves = s.turns; within = omega arith; is = is; front = front } in
+    inr (record { input = input; took = took; run = run; kept = subst (λ (x : List Entry). IsKept s x) (sym is) (run-kept input s s.turns spelt) })
+
+of_answer : (quiet : Bool) (old new : Option (List ℕ)) (input : Option (List ℕ)) (h : List Entry) → Took input_limit old new input → h ≡ (answer_to quiet input).history → HistoryIsKept old new h
+unfolding answer_to refused_at
+of_answer quiet old new None h took is = inl is
+of_answer quiet old new (Some input) h took is = of_scenario quiet old new input (scenario_of input) refl took h is
+
+of_way : (old new : Option (List ℕ)) (input : List ℕ) (h : List Entry) → TookAll input_limit old new input → (h ≡ []) ⊎ IsAfterMoves input h → HistoryIsKept old new h
+of_way old new input h took (inl none) = inl none
+of_way old new input h took (inr run) =
+    inr (record { input = input; took = took; run = run; kept = subst (λ (x : List Entry). IsKept run.scenario x) (sym run.is) (run-kept input run.scenario run.moves run.spelt) })
+
+of_early : (old new : Option (List ℕ)) (input : Option (List ℕ)) (h : List Entry) (w v : Option (List ℕ)) → Took input_limit old new input → RanOutEarly true input h w v → HistoryIsKept old new h
+of_early old new None h w v took early = inl early.left
+of_early old new (Some input) h w v took early = of_way old new input h took early.left
+
+of_memory : (quiet : Bool) (old new : Ends) (h : List Entry) → LeftNothing old new h ⊎ RanOutAfter input_limit (answer_to quiet) true old new h → HistoryIsKept old.left new.left h
+of_memory quiet old new h (inl nothing) = inl nothing.no_history
+of_memory quiet old new h (inr after) =
+    ⊎_elim
+    (λ (early : RanOutEarly true after.input h old.written new.written). of_early old.left new.left after.input h old.written new.written after.took early)
+    (λ (late : RanOutLate (answer_to quiet after.input) h old.written new.written). of_answer quiet old.left new.left after.input h after.took late.history_is)
+    after.ran_out
+
+-- Nothing failed, or one thing did.
+status_cases : (s : Status) → IsWhole s ⊎ ((s ≡ ReadFailed) ⊎ ((s ≡ WriteFailed) ⊎ (s ≡ OutOfMemory)))
+status_cases Done = inl (record { read = λ is. cc; wrote = λ is. cc; had_memory = λ is. cc })
+status_cases Usage = inl (record { read = λ is. cc; wrote = λ is. cc; had_memory = λ is. cc })
+status_cases Refused = inl (record { read = λ is. cc; wrote = λ is. cc; had_memory = λ is. cc })
+status_cases Spent = inl (record { read = λ is. cc; wrote = λ is. cc; had_memory = λ is. cc })
+status_cases Stuck = inl (record { read = λ is. cc; wrote = λ is. cc; had_memory = λ is. cc })
+status_cases ReadFailed = inr (inl refl)
+status_cases WriteFailed = inr (inr (inl refl))
+status_cases OutOfMemory = inr (inr (inr refl))
+
+-- Whatever the status is, the history is kept.
+pub history-kept : (quiet : Bool) (old new : Ends) (status : Status) (h : List Entry) → Reads input_limit (answer_to quiet) true old new status h → HistoryIsKept old.left new.left h
+history-kept quiet old new status h r = by (status_cases status)
+  where
+    by : IsWhole status ⊎ ((status ≡ ReadFailed) ⊎ ((status ≡ WriteFailed) ⊎ (status ≡ OutOfMemory))) → HistoryIsKept old.left new.left h
+    by (inl s) = let a = r.answered s in of_answer quiet old.left new.left a.input h a.took a.given.history_is
+    by (inr (inl s)) = inl (r.unread s).no_history
+    by (inr (inr (inl s))) = let c = r.cut s in of_answer quiet old.left new.left c.input h c.took c.cut.history_is
+    by (inr (inr (inr s))) = of_memory quiet old new h (r.memory s)
+
+-- ---- a scenario is run
+
+ended : (first : WorldState) (n : ℕ) → IsFresh first → (next : Option Actor) → next_actor (after_moves n first) ≡ next → EndsAs n (after_moves n first) (end_status (end_with (after_moves n first) next))
+unfolding end_status
+ended first n fresh None rest = by (all_finished (after_moves n first)) refl
+  where
+    by : (b : Bool) → all_finished (after_moves n first) ≡ b → EndsAs n (after_moves n first) (end_status (quiet_end b))
+    by true finished = inl (refl, record { rest = λ actor. all-rest (after_moves n first) actor rest; finished = finished })
+    by false unfinished = inr (inr (refl, record { rest = λ actor. all-rest (after_moves n first) actor rest; unfinished = unfinished }))
+ended first n fresh (Some actor) next =
+    inr (inl (refl, record { mover = actor; can_move = next-can (after_moves n first) actor next; full = moves-counted first n fresh (ap is_some next) }))
+
+run_ended : (s : Scenario) → EndsAs s.turns (run_of s) (end_status (end_of (run_of s)))
+unfolding end_of
+run_ended s = ended (first_world s) s.turns (first_world-fresh s) (next_actor (run_of s)) refl
+
+run_given : (quiet : Bool) (s : Result Scenario ScenFault) (status : Status) → (IsWhole status → status ≡ (answer_of quiet s).status) → IfOk s (λ scenario. IsWhole status → EndsAs scenario.turns (run_of scenario) status)
+unfolding answer_of ran ran_so
+run_given quiet (Err fault) status is = tt
+run_given quiet (Ok s) status is = λ whole. subst (EndsAs s.turns (run_of s)) (sym (is whole)) (run_ended s)
+
+run_taken : (quiet : Bool) (input : Option (List ℕ)) (status : Status) → (IsWhole status → status ≡ (answer_to quiet input).status) → IfSome input (λ text. IfOk (scenario_of text) (λ scenario. IsWhole status → EndsAs scenario.turns (run_of scenario) status))
+unfolding answer_to
+run_taken quiet None status is = tt
+run_taken quiet (Some text) status is = run_given quiet (scenario_of text) status is
+
+runs-told : (quiet : Bool) (left : Option (List ℕ)) (status : Status) (h : List Entry) (w v : Option (List ℕ)) → (IsWhole status → IfSome left (λ input. IsGiven (answer_to quiet (taken_of input_limit input)) status h w v))
+    → IfSome left (λ input. IfSome (taken_of input_limit input) (λ text. IfOk (scenario_of text) (λ scenario. IsWhole status → EndsAs scenario.turns (run_of scenario) status)))
+runs-told quiet None status h w v answers = tt
+runs-told quiet (Some left) status h w v answers = run_taken quiet (taken_of input_limit left) status (λ whole. let given = answers whole in given.status_is)
+
+pub runs-scenario : (quiet : Bool) (old new : Ends) (status : Status) (h : List Entry) → Reads input_limit (answer_to quiet) true old new status h
+    → IfSome old.left (λ input. IfSome (taken_of input_limit input) (λ text. IfOk (scenario_of text) (λ scenario. IsWhole status → EndsAs scenario.turns (run_of scenario) status)))
+runs-scenario quiet old new status h r = runs-told quiet old.left status h old.written new.written r.answers

@@ -1,0 +1,18 @@
+use Rattle.std.proofs.Common.{◌≡◌, ◌∙◌, List, ap}
+use Rattle.pr_model.specs.declared.events.Entry.{Entry}
+use Rattle.pr_run_laws.specs.ScenarioRuns.{run_of}
+use Rattle.pr_world.specs.Worlds.{end_of}
+use Rattle.pr_world.specs.declared.ends.End.{End}
+use Rattle.proclab.specs.Answers.{ran, ran_so}
+use Rattle.proclab.proofs.GivingLemmas.{gives-else}
+use Rattle.proclab.proofs.responses.run_scenario.Goals as goal
+
+pub returns-in-Ok : goal.returns-in-Ok
+unfolding ran
+returns-in-Ok g c =
+    let made = c.make_run-made in
+    let run = run_of c.args.scenario in
+    let ended : c.in-Ok.end ≡ end_of run = rw c.in-Ok.is at made.ensures.ended in
+    let history : made.result.history.entries ≡ run.kernel.history = rw c.in-Ok.is at made.ensures.history in
+    let same = ap (λ (e : End). ran_so c.args.quiet e made.result.history.entries) ended ∙ ap (λ (h : List Entry). ran_so c.args.quiet (end_of run) h) history in
+    gives-else (ran_so c.args.quiet c.in-Ok.end made.result.history.entries) (ran c.args.quiet run) ⊥ _ _ _ _ _ _ _ same (λ never. absurd never) c.report.ensures

@@ -1,0 +1,105 @@
+use Rattle.std.specs.Prelude.{◌≡◌, ◌≢◌, ◌⊎◌, ℕ, Bool, true, List, [], Option, IfSome, IfOk}
+use Rattle.pr_io.specs.Faults.{Rose}
+use Rattle.pr_model.specs.declared.events.Entry.{Entry}
+use Rattle.pr_run_laws.specs.ScenarioRuns.{run_of}
+use Rattle.pr_scen.specs.Reading.{scenario_of}
+use Rattle.proclab.specs.Answers.{Answer, answer_to, explained, input_limit}
+use Rattle.proclab.specs.Ends.{EndsAs}
+use Rattle.proclab.specs.Giving.{IsGiven, IsCutShort, RanOutLate, Responds}
+use Rattle.proclab.specs.Histories.{RanOutEarly}
+use Rattle.proclab.specs.Inputs.{Took, taken_of}
+use Rattle.proclab.specs.Statuses.{IsWhole, number}
+use Rattle.proclab.specs.declared.commands.Work.{Work}
+use Rattle.proclab.specs.declared.commands.Work.TheVariants.{Explains, Runs}
+use Rattle.proclab.specs.declared.outcomes.Status.{Status}
+use Rattle.proclab.specs.declared.outcomes.Status.TheVariants.{ReadFailed, WriteFailed, OutOfMemory}
+
+-- What each command does, a row for each, and how a call of it ends.
+
+-- A command says the same whatever the input is: it reads nothing and takes no memory. Or it reads an input, up to a
+-- limit, and answers it; where it makes a run, that is left as far as it was made where memory ran out.
+pub data Row : Type 0 where
+  says : Answer → Row
+  reads : ℕ → (Option (List ℕ) → Answer) → Bool → Row
+
+unfoldable pub row_of : Work → Row
+row_of Explains = says explained
+row_of (Runs quiet) = reads input_limit (answer_to quiet) true
+
+-- What the source and the sink tell at one moment: the bytes that are left and those that were written, where they are
+-- told, and the faults.
+pub record Ends : Type 0 where
+  pub left : Option (List ℕ)
+  pub read_faults : ℕ
+  pub written : Option (List ℕ)
+  pub write_faults : ℕ
+
+-- ---- a command that reads nothing
+
+pub record Says (answer : Answer) (old new : Ends) (status : Status) (history : List Entry) : Type 0 where
+  pub responds : Responds answer ⊥ status history old.written new.written old.write_faults new.write_faults
+  pub had_memory : status ≢ OutOfMemory
+  pub no_history : history ≡ []
+  pub unread : new.left ≡ old.left
+  pub no_read_fault : new.read_faults ≡ old.read_faults
+
+-- ---- a command that reads an input
+
+-- Where nothing failed: the answer to what was read was given whole.
+pub record Answered (limit : ℕ) (answer : Option (List ℕ) → Answer) (old new : Ends) (status : Status) (history : List Entry) : Type 0 where
+  pub input : Option (List ℕ)
+  pub took : Took limit old.left new.left input
+  pub given : IsGiven (answer input) status history old.written new.written
+
+-- Where a write failed.
+pub record CutShort (limit : ℕ) (answer : Option (List ℕ) → Answer) (old new : Ends) (history : List Entry) : Type 0 where
+  pub input : Option (List ℕ)
+  pub took : Took limit old.left new.left input
+  pub cut : IsCutShort (answer input) history old.written new.written
+
+-- Nothing was written, and there is no history.
+pub record LeftNothing (old new : Ends) (history : List Entry) : Type 0 where
+  pub no_history : history ≡ []
+  pub unwritten : new.written ≡ old.written
+
+-- Where memory ran out after the reading: before the text was begun, or while it was written.
+pub record RanOutAfter (limit : ℕ) (answer : Option (List ℕ) → Answer) (runs : Bool) (old new : Ends) (history : List Entry) : Type 0 where
+  pub input : Option (List ℕ)
+  pub took : Took limit old.left new.left input
+  pub ran_out : RanOutEarly runs input history old.written new.written ⊎ RanOutLate (answer input) history old.written new.written
+
+-- How it ends. Where nothing failed, the answer to what was read was given; and where the bytes that were left are
+-- known, status, history and text are a function of them. A read failed: nothing was written, and there is no history.
+-- A write failed: the history is that of the answer, and a prefix of its text was written. Memory ran out in the reading,
+-- or after it. Only a read that failed raises the count of the source, and only a write that failed that of the sink.
+pub record Reads (limit : ℕ) (answer : Option (List ℕ) → Answer) (runs : Bool) (old new : Ends) (status : Status) (history : List Entry) : Type 0 where
+  pub answered : IsWhole status → Answered limit answer old new status history
+  pub answers : IsWhole status → IfSome old.left (λ left. IsGiven (answer (taken_of limit left)) status history old.written new.written)
+  pub unread : status ≡ ReadFailed → LeftNothing old new history
+  pub read_failed : status ≡ ReadFailed → Rose old.read_faults new.read_faults
+  pub cut : status ≡ WriteFailed → CutShort limit answer old new history
+  pub write_failed : status ≡ WriteFailed → Rose old.write_faults new.write_faults
+  pub memory : status ≡ OutOfMemory → LeftNothing old new history ⊎ RanOutAfter limit answer runs old new history
+  pub no_read_fault : status ≢ ReadFailed → new.read_faults ≡ old.read_faults
+  pub no_write_fault : status ≢ WriteFailed → new.write_faults ≡ old.write_faults
+
+-- ---- each command
+
+-- How a call ends whose command has this row.
+abbrev pub EndsBy : Row → Ends → Ends → Status → List Entry → Type 0
+EndsBy (says answer) old new status history = Says answer old new status history
+EndsBy (reads limit answer runs) old new status history = Reads limit answer runs old new status history
+
+-- Completeness: an input that is a scenario is run, unless a read or a write failed or memory ran out; and where it was
+-- run, the status says how it ended.
+abbrev pub RunsScenario : Work → Option (List ℕ) → Status → Type 0
+RunsScenario Explains left status = Unit {0}
+RunsScenario (Runs quiet) left status =
+    IfSome left (λ input. IfSome (taken_of input_limit input) (λ text. IfOk (scenario_of text) (λ scenario. IsWhole status → EndsAs scenario.turns (run_of scenario) status)))
+
+-- How a call ends that does this work, by the number with which the process ends.
+pub record EndsWith (work : Work) (old new : Ends) (code : ℕ) (history : List Entry) : Type 0 where
+  pub status : Status
+  pub code_is : code ≡ number status
+  pub ends : EndsBy (row_of work) old new status history
+  pub runs_scenario : RunsScenario work old.left status
