@@ -29,9 +29,10 @@ use Rattle.pr_asm.specs.declared.statements.Statement.{Statement}
 use Rattle.pr_asm.specs.declared.statements.Statement.TheVariants.{Blank, Label, Data, Code}
 use Rattle.pr_num.specs.declared.instructions.Instruction.{Instruction}
 use Rattle.pr_num.specs.declared.instructions.Instruction.TheVariants.{Bpt, Nop, Set, Mov, Add, Sub, Mul, Div, Ld, St, Ldb, Stb, Jmp, Jz, Jnz, Jlt, Call, Ret, Sys}
-use Rattle.pr_asm.specs.Names.{is_letter, is_name_byte, is_name, name_of, label_of}
-use Rattle.pr_asm.specs.Numerals.{digit_of, with_digit, number_from, number_after_zero, number_of}
-use Rattle.pr_asm.specs.Quotes.{before, bytes_between, escaped_bytes, hex_bytes, quoted_bytes}
+use Rattle.pr_asm.specs.Names.{label_of}
+use Rattle.pr_text.specs.Names.{is_letter, is_name_byte, is_name, name_of}
+use Rattle.pr_text.specs.NumberWords.{digit_of, with_digit, number_from, number_after_zero, number_of}
+use Rattle.pr_text.specs.QuotedWords.{before, bytes_between, escaped_bytes, hex_bytes, quoted_bytes}
 use Rattle.pr_asm.specs.Spelling.{register_text, immediate_text, code_words, escaped, quoted, statement_words, spaced, spelled, text_of_statements, IsImmediate, IsCode, IsStatement}
 
 -- ---- words with a blank before each

@@ -1,5 +1,7 @@
 pub mod DigitLemmas
-pub mod QuoteLemmas
-pub mod WordSteps
 pub mod DivisionLemmas
+pub mod QuoteLemmas
+pub mod QuotedLemmas
 pub mod TextLemmas
+pub mod TokenLemmas
+pub mod WordSteps

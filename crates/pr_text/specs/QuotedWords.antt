@@ -1,6 +1,6 @@
 -- Texts in quotes.
 use Rattle.std.specs.Prelude.{◌==◌, ◌&&◌, ◌+◌, ◌-◌, ◌*◌, not, ℕ, Option, Some, None, List, [], ◌∷◌, ◌++◌, length, take, drop, slice_index, nat_le, option_map, option_and_then, if◌then◌else◌}
-use Rattle.pr_asm.specs.Numerals.{digit_of}
+use Rattle.pr_text.specs.NumberWords.{digit_of}
 
 -- a byte before others, if there are others
 abbrev pub before : ℕ → Option (List ℕ) → Option (List ℕ)

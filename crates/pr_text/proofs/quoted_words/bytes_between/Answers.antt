@@ -1,6 +1,6 @@
 use Rattle.std.proofs.Common.{◌∙◌, sym, ap}
-use Rattle.pr_asm.proofs.QuoteLemmas.{between-step, between-stop, between-end}
-use Rattle.pr_asm.proofs.quotes.bytes_between.Goals as goal
+use Rattle.pr_text.proofs.QuotedLemmas.{between-step, between-stop, between-end}
+use Rattle.pr_text.proofs.quoted_words.bytes_between.Goals as goal
 use Rattle.std.proofs.Common.{Some}
 
 pub returns-in_default : goal.returns-in_default

@@ -1,13 +1,13 @@
 //! Texts in quotes.
 ghost use Rattle.std.specs.Prelude.{◌≡◌, ◌<◌, ◌≤◌, length, IfOk, IfSome, option_map};
-ghost use Rattle.pr_asm.specs.Quotes.{bytes_between, quoted_bytes, first_byte, escaped_byte, hex_byte};
+ghost use Rattle.pr_text.specs.QuotedWords.{bytes_between, quoted_bytes, first_byte, escaped_byte, hex_byte};
 
-use crate::numerals::digit_of;
+use crate::number_words::digit_of;
 use pr_num::{Bytes, NoMemory};
 use std::alloc::Global;
 
 /// The byte that stands first between quotes, and what stands behind it. An escape spells one byte.
-#[tactic(auto, unfolding(crate::specs::Quotes::first_byte))]
+#[tactic(auto, unfolding(crate::specs::QuotedWords::first_byte))]
 fn first_byte(text: &[u8]) -> Option<(u8, &[u8])>
     ensures value { option_map (λ x. (x.0, x.1.now)) result ≡ first_byte text.now }
     ensures shorter { IfSome result (λ x. length x.1.now < length text.now) }
@@ -21,7 +21,7 @@ fn first_byte(text: &[u8]) -> Option<(u8, &[u8])>
 }
 
 /// The byte of an escape, behind its backslash.
-#[tactic(auto, unfolding(crate::specs::Quotes::escaped_byte))]
+#[tactic(auto, unfolding(crate::specs::QuotedWords::escaped_byte))]
 fn escaped_byte(text: &[u8]) -> Option<(u8, &[u8])>
     ensures value { option_map (λ x. (x.0, x.1.now)) result ≡ escaped_byte text.now }
     ensures shorter { IfSome result (λ x. length x.1.now < length text.now) }
@@ -36,7 +36,7 @@ fn escaped_byte(text: &[u8]) -> Option<(u8, &[u8])>
     }
 }
 
-#[tactic(auto, unfolding(crate::specs::Quotes::hex_byte))]
+#[tactic(auto, unfolding(crate::specs::QuotedWords::hex_byte))]
 fn hex_byte(text: &[u8]) -> Option<(u8, &[u8])>
     ensures value { option_map (λ x. (x.0, x.1.now)) result ≡ hex_byte text.now }
     ensures shorter { IfSome result (λ x. length x.1.now < length text.now) }
@@ -64,7 +64,7 @@ fn bytes_between(alloc: Global, text: &[u8]) -> Result<Option<Bytes>, NoMemory>
 
 /// The bytes of a text in quotes, if the word is one. The last byte of the word is the quote that closes it, which has
 /// no backslash before it.
-#[tactic(auto, unfolding(crate::specs::Quotes::quoted_bytes))]
+#[tactic(auto, unfolding(crate::specs::QuotedWords::quoted_bytes))]
 pub fn quoted_bytes(alloc: Global, word: &[u8]) -> Result<Option<Bytes>, NoMemory>
     ensures { IfOk result (λ bytes. bytes ≡ quoted_bytes word.now) }
 {

@@ -1,9 +1,9 @@
-//! Numbers as they stand in a program.
+//! Numbers as they stand in a line.
 ghost use Rattle.std.specs.Prelude.{◌≡◌, ◌<◌, ◌≤◌, Some, IfSome};
-ghost use Rattle.pr_asm.specs.Numerals.{digit_of, with_digit, number_from, number_after_zero, number_of};
+ghost use Rattle.pr_text.specs.NumberWords.{digit_of, with_digit, number_from, number_after_zero, number_of};
 
 /// The value of a hex digit of either case.
-#[tactic(auto, unfolding(crate::specs::Numerals::digit_of))]
+#[tactic(auto, unfolding(crate::specs::NumberWords::digit_of))]
 pub fn digit_of(b: u8) -> Option<u8>
     ensures value { result ≡ digit_of b }
     ensures range { IfSome result (λ d. d < 16) }
@@ -17,7 +17,7 @@ pub fn digit_of(b: u8) -> Option<u8>
 }
 
 /// A number with one more digit of its base behind it.
-#[tactic(auto, unfolding(crate::specs::Numerals::with_digit))]
+#[tactic(auto, unfolding(crate::specs::NumberWords::with_digit))]
 fn with_digit(base: u64, value: u64, b: u8) -> Option<u64>
     ensures { result ≡ with_digit base value b }
 {
@@ -29,7 +29,7 @@ fn with_digit(base: u64, value: u64, b: u8) -> Option<u64>
 }
 
 /// The number that digits of a base make.
-#[tactic(auto, unfolding(crate::specs::Numerals::number_from))]
+#[tactic(auto, unfolding(crate::specs::NumberWords::number_from))]
 fn number_from(base: u64, digits: &[u8]) -> Option<u64>
     ensures { result ≡ number_from base 0 digits.now }
 {
@@ -42,7 +42,7 @@ fn number_from(base: u64, digits: &[u8]) -> Option<u64>
 
 /// The number that a word is, if it is one: decimal digits without a leading zero, or `0x` and hex digits of either
 /// case, below 2^64.
-#[tactic(auto, unfolding(crate::specs::Numerals::number_of))]
+#[tactic(auto, unfolding(crate::specs::NumberWords::number_of))]
 pub fn number_of(word: &[u8]) -> Option<u64>
     ensures { result ≡ number_of word.now }
 {
@@ -54,7 +54,7 @@ pub fn number_of(word: &[u8]) -> Option<u64>
     }
 }
 
-#[tactic(auto, unfolding(crate::specs::Numerals::number_after_zero))]
+#[tactic(auto, unfolding(crate::specs::NumberWords::number_after_zero))]
 fn number_after_zero(rest: &[u8]) -> Option<u64>
     ensures { result ≡ number_after_zero rest.now }
 {

@@ -2,7 +2,7 @@
 ghost use Rattle.std.specs.Prelude.{◌≡◌, [], ◌∷◌, MatchOption};
 ghost use Rattle.pr_text.specs.Words.{texts_of};
 
-use pr_text::{Words, words};
+use crate::{Words, words};
 use std::marker::Model;
 
 /// The words of a line that are still to come, seen by contracts as the list of their bytes.
@@ -26,7 +26,7 @@ impl<'a> Model for Tokens<'a> {
 
 impl<'a> Tokens<'a> {
     /// The words of a line.
-    #[tactic(auto, using(pr_text::proofs::DivisionLemmas::word_laws))]
+    #[tactic(auto, using(crate::proofs::DivisionLemmas::word_laws))]
     pub fn of(line: &'a [u8]) -> Tokens<'a>
         ensures { result ≡ texts_of line.now }
     {

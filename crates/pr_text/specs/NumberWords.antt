@@ -1,4 +1,4 @@
--- Numbers as they stand in a program.
+-- Numbers as they stand in a line.
 use Rattle.std.specs.Prelude.{◌==◌, ◌&&◌, ◌+◌, ◌-◌, ◌*◌, ◌^◌, ℕ, Option, Some, None, List, [], ◌∷◌, nat_le, nat_lt, option_and_then, if◌then◌else◌}
 
 -- the value of a hex digit of either case

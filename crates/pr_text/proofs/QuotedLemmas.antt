@@ -3,8 +3,8 @@ use Rattle.std.proofs.Common.{◌≡◌, ℕ, ◌+◌, ◌*◌, Bool, true, fals
 use Rattle.std.specs.Option.{option_map, option_and_then}
 use Rattle.std.proofs.Math.Dec.{eqb-suc-zero}
 use Rattle.std.proofs.lemmas.List.{append_assoc, append-nil}
-use Rattle.pr_asm.specs.Numerals.{digit_of}
-use Rattle.pr_asm.specs.Quotes.{before, in_front, bytes_between, escaped_bytes, hex_bytes, first_byte, escaped_byte, hex_byte}
+use Rattle.pr_text.specs.NumberWords.{digit_of}
+use Rattle.pr_text.specs.QuotedWords.{before, in_front, bytes_between, escaped_bytes, hex_bytes, first_byte, escaped_byte, hex_byte}
 
 -- the first byte, and the bytes behind it
 abbrev pub then_between : Option (ℕ × List ℕ) → Option (List ℕ)
