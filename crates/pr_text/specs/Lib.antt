@@ -1,5 +1,6 @@
 pub mod Bytes
 pub mod Division
+pub mod Lists
 pub mod Names
 pub mod NumberWords
 pub mod Numerals

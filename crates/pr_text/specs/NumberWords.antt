@@ -30,3 +30,7 @@ number_after_zero (x ∷ digit ∷ digits) = if x == 120 then number_from 16 0 (
 unfoldable pub number_of : List ℕ → Option ℕ
 number_of [] = None
 number_of (b ∷ bs) = if b == 48 then number_after_zero bs else number_from 10 0 (b ∷ bs)
+
+-- The id that a word is, of a process, an lwp, a controller or a handle: a number below 2^32.
+unfoldable pub id_of : List ℕ → Option ℕ
+id_of word = option_and_then (λ n. if nat_lt n (2 ^ 32) then Some n else None) (number_of word)

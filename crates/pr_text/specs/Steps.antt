@@ -1,5 +1,5 @@
 -- Steps that may be refused, and operands of the right number. Each is for any kind of refusal.
-use Rattle.std.specs.Prelude.{ℕ, List, [], ◌∷◌, Result, Ok, Err, Option, None, Some}
+use Rattle.std.specs.Prelude.{◌+◌, ℕ, List, [], ◌∷◌, Result, Ok, Err, Option, None, Some}
 
 -- what follows a step that may be refused
 infixl 10 ◌>>=◌
@@ -37,3 +37,8 @@ four e _ = Err e
 abbrev pub some : {E : Type 0} → E → List (List ℕ) → Result (List ℕ × List (List ℕ)) E
 some e [] = Err e
 some e (a ∷ others) = Ok (a, others)
+
+-- What a list makes of a start, an element after another, each with its number, or the first refusal.
+unfoldable pub folded : {D L E : Type 0} → (ℕ → D → L → Result D E) → ℕ → D → List L → Result D E
+folded step n d [] = Ok d
+folded step n d (x ∷ xs) = step n d x >>= λ e. folded step (n + 1) e xs

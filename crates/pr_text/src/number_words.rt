@@ -1,6 +1,6 @@
 //! Numbers as they stand in a line.
 ghost use Rattle.std.specs.Prelude.{◌≡◌, ◌<◌, ◌≤◌, Some, IfSome};
-ghost use Rattle.pr_text.specs.NumberWords.{digit_of, with_digit, number_from, number_after_zero, number_of};
+ghost use Rattle.pr_text.specs.NumberWords.{digit_of, with_digit, number_from, number_after_zero, number_of, id_of};
 
 /// The value of a hex digit of either case.
 #[tactic(auto, unfolding(crate::specs::NumberWords::digit_of))]
@@ -65,4 +65,17 @@ fn number_after_zero(rest: &[u8]) -> Option<u64>
         return None;
     }
     number_from(16, digits)
+}
+
+/// The id that a word is, if it is one, of a process, an lwp, a controller or a handle: a number below 2^32.
+#[tactic(auto, unfolding(crate::specs::NumberWords::id_of))]
+pub fn id_of(word: &[u8]) -> Option<u32>
+    ensures { result ≡ id_of word.now }
+{
+    let n = number_of(word)?;
+    if n <= u32::MAX as u64 {
+        Some(n as u32)
+    } else {
+        None
+    }
 }
