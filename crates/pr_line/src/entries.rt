@@ -32,6 +32,10 @@ pub trait Entries: Copy {
     fn with_numbered(self, n: u64) -> Option<Self>
         ensures { option_map word result ≡ option_map (with_number (word self)) (numbered n) };
 
+    /// The word of the set.
+    fn bits(self) -> u64
+        ensures { result ≡ word self };
+
     /// This set without the entries of another.
     fn without_all(self, others: Self) -> Self
         ensures { word result ≡ minus_word (word self) (word others) };

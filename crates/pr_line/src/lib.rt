@@ -9,6 +9,6 @@ mod reading;
 mod sets;
 
 pub use entries::{Entries, named_entries};
-pub use faults::OptFault;
+pub use faults::{OptFault, WordFault};
 pub use options::Options;
-pub use reading::{has_bad_option, read_options};
+pub use reading::{has_bad_option, read_options, read_words};

@@ -228,6 +228,16 @@ fn read_in(alloc: Global, lenient: bool, words: &[Bytes]) -> Result<Options, Ref
     draft.finish(words.len())
 }
 
+/// The options that the words behind `truss` stand for (truss(1)), or the first word at fault; out of memory apart.
+///
+/// Takes time linear in the words.
+pub fn read_words(alloc: Global, words: &[Bytes]) -> Result<Options, Refused<WordFault>>
+    requires { length words.now < 2 ^ 32 }
+    ensures { Gives (λ o. o) result (options_of words.now) }
+{
+    read_in(alloc, false, words)
+}
+
 /// The options that the words behind `truss` stand for (truss(1)), or the first word at fault.
 ///
 /// Takes time linear in the words.
@@ -235,7 +245,7 @@ pub fn read_options(alloc: Global, words: &[Bytes]) -> Result<Options, OptFault>
     requires { length words.now < 2 ^ 32 }
     ensures { Reads result (options_of words.now) }
 {
-    match read_in(alloc, false, words) {
+    match read_words(alloc, words) {
         Ok(options) => Ok(options),
         Err(Refused::Kind(WordFault::BadOption { word })) => Err(OptFault::BadOption { word }),
         Err(Refused::Kind(WordFault::BadName { word })) => Err(OptFault::BadName { word }),

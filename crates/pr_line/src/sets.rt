@@ -28,6 +28,10 @@ impl Entries for SigSet {
         Some(self.with(signal))
     }
 
+    fn bits(self) -> u64 {
+        self.word()
+    }
+
     fn without_all(self, others: SigSet) -> SigSet {
         self.minus(others)
     }
@@ -57,6 +61,10 @@ impl Entries for FltSet {
         Some(self.with(fault))
     }
 
+    fn bits(self) -> u64 {
+        self.word()
+    }
+
     fn without_all(self, others: FltSet) -> FltSet {
         self.minus(others)
     }
@@ -84,6 +92,10 @@ impl Entries for SysSet {
     fn with_numbered(self, n: u64) -> Option<SysSet> {
         let call = Sysno::from_number(n)?;
         Some(self.with(call))
+    }
+
+    fn bits(self) -> u64 {
+        self.word()
     }
 
     fn without_all(self, others: SysSet) -> SysSet {

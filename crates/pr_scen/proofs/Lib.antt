@@ -1,9 +1,1 @@
-pub mod BuiltLemmas
-pub mod ConverseLemmas
-pub mod FaultLemmas
-pub mod GrammarLemmas
-pub mod LimitLemmas
-pub mod LineLemmas
-pub mod PlainLemmas
-pub mod ReadLemmas
-pub mod SaidLemmas
+pub mod SizeLemmas
