@@ -1,5 +1,5 @@
 -- What was read of a scenario so far, and what one line or block more makes of it.
-use Rattle.std.specs.Prelude.{◌&&◌, ◌||◌, ◌+◌, ℕ, Bool, true, Some, None, Option, is_some, List, [], ◌∷◌, ◌++◌, length, slice_get, nat_lt, nat_le, unwrap_or, Result, Ok, Err, if◌then◌else◌}
+use Rattle.std.specs.Prelude.{◌&&◌, ◌||◌, ◌+◌, ℕ, Bool, true, Some, None, Option, is_some, List, [], ◌∷◌, ◌++◌, length, option_map, slice_get, nat_lt, nat_le, unwrap_or, Result, Ok, Err, if◌then◌else◌}
 use Rattle.pr_num.specs.Programs.{Program}
 use Rattle.pr_num.specs.Spaces.{first_space, mapped_size}
 use Rattle.pr_line.specs.declared.options.Options.{Options}
@@ -46,7 +46,7 @@ with_turns d n =
 unfoldable pub with_file : Draft → List ℕ → List ℕ → Result Draft ScenKind
 with_file d name bytes =
     if is_some (place_of d.file_names name) then Err Double
-    else (if nat_lt (length d.files) most_files
+    else (if nat_lt (length d.file_names) most_files
     then Ok (record d { file_names = d.file_names ++ name ∷ []; files = d.files ++ (name, bytes) ∷ [] })
     else Err TooMany)
 
@@ -61,14 +61,12 @@ with_process d place size =
     then (if nat_le (d.mapped + size) most_mapped then Ok (record d { spawns = d.spawns ++ place ∷ []; mapped = d.mapped + size }) else Err TooBig)
     else Err TooMany
 
-abbrev pub with_process_of : Draft → ℕ → Option Program → Result Draft ScenKind
-with_process_of d place None = Err UnknownName
-with_process_of d place (Some program) = with_process d place (space_size program)
-
 -- spawn NAME: a process of a program whose block has ended above
 unfoldable pub with_spawn : Draft → List ℕ → Result Draft ScenKind
-with_spawn d name =
-    ok_or UnknownName (place_of d.program_names name) >>= λ place. with_process_of d place (slice_get d.programs place)
+with_spawn d name = do
+  place ← ok_or UnknownName (place_of d.program_names name)
+  size ← ok_or UnknownName (option_map space_size (slice_get d.programs place))
+  with_process d place size
 
 -- one controller more
 unfoldable pub with_controller : Draft → Plan → Result Draft ScenKind
@@ -116,7 +114,7 @@ item_added n d i = with_item d i >>= λ e. Ok (noting n (is_built_item (length d
 -- A line that begins a block can: a program has a name of its own, and a script is within the limit.
 unfoldable pub may_begin : Draft → Item → Result (Unit {0}) ScenKind
 may_begin d (item.Program name) =
-    if has_program d name then Err Double else (if nat_lt (length d.programs) most_programs then Ok tt else Err TooMany)
+    if has_program d name then Err Double else (if nat_lt (length d.program_names) most_programs then Ok tt else Err TooMany)
 may_begin d item.Script = if nat_lt (length d.controllers) most_controllers then Ok tt else Err TooMany
 may_begin d _ = Ok tt
 

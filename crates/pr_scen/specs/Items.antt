@@ -64,9 +64,9 @@ truss_of words = truss_read words (options_of words)
 unfoldable pub tool_line_of : List (List ℕ) → Result Item ScenKind
 tool_line_of (word ∷ []) = if bytes_eq word (codes "ptree") then Ok (item.Tool Ptree 0) else Err BadOperand
 tool_line_of (word ∷ id ∷ []) = do
-  name ← ok_or BadOperand (name_of word)
+  _ ← ok_or BadOperand (name_of word)
   pid ← ok_or BadOperand (id_of id)
-  if bytes_eq name (codes "ptree") then Err BadOperand else (ok_or UnknownName (tool_of name) >>= λ kind. Ok (item.Tool kind pid))
+  if bytes_eq word (codes "ptree") then Err BadOperand else (ok_or UnknownName (tool_of word) >>= λ kind. Ok (item.Tool kind pid))
 tool_line_of _ = Err BadOperand
 
 abbrev pub unless_none : List Turns → Result Item ScenKind

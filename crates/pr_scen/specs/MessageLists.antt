@@ -18,12 +18,15 @@ use Rattle.pr_scen.specs.declared.refusals.ScenKind.TheVariants.{BadOperand, Unk
 unfoldable pub low_digit : ℕ → Option ℕ
 low_digit b = if nat_le 65 b && nat_le b 70 then None else digit_of b
 
+-- the byte of two digits
+unfoldable pub byte_of : ℕ → ℕ → Option ℕ
+byte_of h l = option_and_then (λ high. option_map (λ low. high * 16 + low) (low_digit l)) (low_digit h)
+
 -- bytes with those that pairs of digits spell
 unfoldable pub hex_from : List ℕ → List ℕ → Option (List ℕ)
 hex_from bytes [] = Some bytes
 hex_from bytes (h ∷ []) = None
-hex_from bytes (h ∷ l ∷ rest) =
-    option_and_then (λ high. option_and_then (λ low. hex_from (bytes ++ (high * 16 + low) ∷ []) rest) (low_digit l)) (low_digit h)
+hex_from bytes (h ∷ l ∷ rest) = option_and_then (λ b. hex_from (bytes ++ b ∷ []) rest) (byte_of h l)
 
 -- The bytes of a word in hex: two digits in lower case each.
 unfoldable pub hex_of : List ℕ → Option (List ℕ)

@@ -40,7 +40,8 @@ open_of operands = do
   name ← ok_or BadOperand (name_of words.0)
   place ← ok_or BadOperand (place_of_word words.1)
   mode ← ok_or BadOperand (mode_of words.3)
-  file ← ok_or BadOperand (name_of words.2) >>= λ word. ok_or UnknownName (file_of word)
+  _ ← ok_or BadOperand (name_of words.2)
+  file ← ok_or UnknownName (file_of words.2)
   Ok (line.Open name place.0 place.1 file mode)
 
 -- close V

@@ -6,6 +6,7 @@ ghost use Rattle.pr_scen.specs.Built.{is_built_call, is_built_instruction, is_bu
 
 use crate::ScriptLine;
 use crate::items::Item;
+use crate::scripts::bytes_from;
 use pr_asm::{Statement, statement_of};
 use pr_model::{File, Mode};
 use pr_msg::{Message, decode_one};
@@ -132,14 +133,14 @@ fn are_built_messages(bytes: &[u8]) -> bool
     ensures { result ≡ are_built_messages (length bytes.now) bytes.now }
 {
     let mut rest = bytes;
-    for _ in 0..bytes.len() {
+    for _message in 0..bytes.len() {
         let Ok((message, used)) = decode_one(rest) else {
             return true;
         };
         if !is_built_message(&message) {
             return false;
         }
-        rest = &rest[used..];
+        rest = bytes_from(rest, used);
     }
     true
 }

@@ -1,5 +1,5 @@
 //! What was read of a scenario so far, and what one line or block more makes of it.
-ghost use Rattle.std.specs.Prelude.{◌≡◌, ◌≤◌, ◌<◌, ◌++◌, ◌^◌, None, OnOk, nat_le, replicate};
+ghost use Rattle.std.specs.Prelude.{◌≡◌, ◌≤◌, ◌<◌, ◌++◌, ◌^◌, None, length, option_map, slice_get, IfSome, OnOk, nat_le, replicate};
 ghost use Rattle.pr_text.specs.Reads.{Gives};
 ghost use Rattle.pr_scen.specs.Drafts.{nothing, noting, with_turns, with_file, space_size, with_process, with_spawn, with_controller, has_program, knows_program, with_truss, with_schedule, with_item, item_added, may_begin, with_program, with_line, call_added, script_line_added, with_script, made};
 ghost use Rattle.pr_scen.specs.Names.{place_of};
@@ -8,7 +8,7 @@ ghost use Rattle.pr_scen.specs.Schedules.{turn_count, actors_of};
 use crate::built::{is_built_item, is_built_line};
 use crate::items::Item;
 use crate::limits::{DEFAULT_TURNS, MOST_CONTROLLERS, MOST_FILES, MOST_LISTS, MOST_MAPPED, MOST_PROGRAMS, MOST_SCHEDULED, MOST_SPAWNS, MOST_TURNS};
-use crate::name_indexes::Names;
+use crate::few_names::FewNames;
 use crate::schedules::Turns;
 use crate::script_blocks::InScript;
 use crate::script_lines::Lines;
@@ -27,9 +27,9 @@ pub struct Draft {
     /// How many entries the history may have, where a line said so.
     pub turns: Option<u32>,
     /// The programs whose blocks have ended, and their names.
-    pub program_names: Names,
+    pub program_names: FewNames,
     pub programs: Table<Program>,
-    pub file_names: Names,
+    pub file_names: FewNames,
     pub files: Table<(Name, Bytes)>,
     pub spawns: Table<u32>,
     /// How many bytes the spawned processes have mapped when they begin.
@@ -46,7 +46,7 @@ pub struct Draft {
 
 /// How many bytes a process of a program has mapped when it begins: its text and its data, each a multiple of 4,096, and
 /// its stack.
-#[tactic(auto, using(crate::proofs::SizeLemmas::sizes))]
+#[tactic(auto, using(crate::proofs::SizeLemmas::size_at_first), unfolding(crate::specs::Drafts::space_size))]
 fn space_size(program: &Program) -> u64
     ensures value { result ≡ space_size program.now }
     ensures small { result ≤ 1048576 }
@@ -63,9 +63,9 @@ impl Draft {
     {
         Draft {
             turns: None,
-            program_names: Names::new(alloc),
+            program_names: FewNames::new(alloc),
             programs: Table::new(alloc),
-            file_names: Names::new(alloc),
+            file_names: FewNames::new(alloc),
             files: Table::new(alloc),
             spawns: Table::new(alloc),
             mapped: 0,
@@ -108,7 +108,7 @@ impl Draft {
         if self.file_names.place_of(name).is_some() {
             return Err(Refused::Kind(ScenKind::Double));
         }
-        if self.files.len() >= MOST_FILES {
+        if self.file_names.len() >= MOST_FILES {
             return Err(Refused::Kind(ScenKind::TooMany));
         }
         self.file_names.add(name)?;
@@ -133,6 +133,15 @@ impl Draft {
         Ok(())
     }
 
+    /// How many bytes a process of the program at a place has mapped when it begins.
+    fn size_at(&self, place: usize) -> Option<u64>
+        ensures value { result ≡ option_map space_size (slice_get self.now.programs place) }
+        ensures small { IfSome result (λ size. size ≤ 1048576) }
+    {
+        let program = self.programs.as_slice().get(place)?;
+        Some(space_size(program))
+    }
+
     #[tactic(auto, unfolding(crate::specs::Drafts::with_spawn))]
     fn add_spawn(&mut self, name: Name) -> Result<(), Refused<ScenKind>>
         ensures { Gives (λ _. self.new) result (with_spawn self.old name) }
@@ -141,12 +150,7 @@ impl Draft {
             .program_names
             .place_of(name)
             .ok_or(ScenKind::UnknownName)?;
-        let program = self
-            .programs
-            .as_slice()
-            .get(place)
-            .ok_or(ScenKind::UnknownName)?;
-        let size = space_size(program);
+        let size = self.size_at(place).ok_or(ScenKind::UnknownName)?;
         self.add_process(place, size)
     }
 
@@ -246,7 +250,7 @@ impl Draft {
         if self.has_program(name) {
             return Err(ScenKind::Double);
         }
-        if self.programs.len() >= MOST_PROGRAMS {
+        if self.program_names.len() >= MOST_PROGRAMS {
             return Err(ScenKind::TooMany);
         }
         Ok(())
@@ -265,7 +269,8 @@ impl Draft {
     /// Adds a program, whose name is its own.
     #[tactic(auto, unfolding(crate::specs::Drafts::with_program))]
     pub fn add_program(&mut self, name: Name, program: Program) -> Result<(), NoMemory>
-        requires { place_of self.old.program_names name ≡ None }
+        requires fresh { place_of self.old.program_names name ≡ None }
+        requires few { length self.old.program_names < 256 }
         ensures { OnOk result (self.new ≡ with_program self.old name program) }
     {
         self.program_names.add(name)?;
@@ -367,7 +372,7 @@ fn are_within(turns: &[Turns], most: u64) -> bool
 fn put_times(schedule: &mut Table<Actor>, actor: Actor, times: u64) -> Result<(), NoMemory>
     ensures { OnOk result (schedule.new ≡ schedule.old ++ replicate times actor) }
 {
-    for _ in 0..times {
+    for _turn in 0..times {
         schedule.push(actor)?;
     }
     Ok(())

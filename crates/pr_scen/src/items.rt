@@ -137,6 +137,7 @@ fn tool_line_of(mut operands: Tokens) -> Result<Item, ScenKind>
 }
 
 /// A tool that has no process.
+#[tactic(auto, unfolding(crate::specs::Items::tool_line_of))]
 fn ptree_line(word: &[u8]) -> Result<Item, ScenKind>
     ensures { result ≡ tool_line_of (word.now ∷ []) }
 {
@@ -148,6 +149,7 @@ fn ptree_line(word: &[u8]) -> Result<Item, ScenKind>
 }
 
 /// A tool of a process.
+#[tactic(auto, unfolding(crate::specs::Items::tool_line_of))]
 fn process_tool(word: &[u8], id: &[u8]) -> Result<Item, ScenKind>
     ensures { result ≡ tool_line_of (word.now ∷ id.now ∷ []) }
 {

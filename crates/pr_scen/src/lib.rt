@@ -6,6 +6,7 @@ mod bindings;
 mod blocks;
 mod built;
 mod drafts;
+mod few_names;
 mod files;
 mod items;
 mod limits;

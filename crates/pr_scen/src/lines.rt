@@ -1,5 +1,5 @@
 //! Lines before their words are looked at, and the lines that begin and end blocks.
-ghost use Rattle.std.specs.Prelude.{◌≡◌, ◌≤◌, codes};
+ghost use Rattle.std.specs.Prelude.{◌≡◌, ◌≤◌, length, OnOk};
 ghost use Rattle.pr_text.specs.Words.{texts_of};
 ghost use Rattle.pr_scen.specs.Lines.{is_ascii, readable, begins_comment, first_is, is_end};
 ghost use Rattle.pr_scen.specs.Parts.{begins_block};
@@ -18,7 +18,8 @@ fn is_ascii(line: &[u8]) -> bool
 /// Whether a line can be read: it has at most 4,096 bytes, each of ASCII.
 #[tactic(auto, unfolding(crate::specs::Lines::readable))]
 pub fn readable(line: &[u8]) -> Result<(), ScenKind>
-    ensures { result ≡ readable line.now }
+    ensures value { result ≡ readable line.now }
+    ensures short { OnOk result (length line.now ≤ 4096) }
 {
     if line.len() > MOST_LINE {
         return Err(ScenKind::TooLong);

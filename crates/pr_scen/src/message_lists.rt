@@ -1,9 +1,9 @@
 //! Operands of messages: bytes in hex, sets, modes and run flags.
-ghost use Rattle.std.specs.Prelude.{◌≡◌, ◌<◌, ◌+◌, ◌*◌, map, option_map, option_and_then, IfOk, IfSome};
+ghost use Rattle.std.specs.Prelude.{◌≡◌, ◌<◌, ◌≤◌, ◌∷◌, length, map, option_map, IfOk, IfSome, MatchOption};
 ghost use Rattle.std.specs.List.{list_all};
 ghost use Rattle.std.specs.Result.{result_map_both};
 ghost use Rattle.pr_text.specs.Names.{is_name};
-ghost use Rattle.pr_scen.specs.MessageLists.{low_digit, hex_from, hex_of, named_set, set_of, mode_word, with_modes, modes_of, flag_of};
+ghost use Rattle.pr_scen.specs.MessageLists.{low_digit, byte_of, hex_of, named_set, set_of, mode_word, with_modes, modes_of, flag_of};
 
 use crate::ScenKind;
 use pr_line::{Entries, named_entries};
@@ -25,10 +25,20 @@ fn low_digit(b: u8) -> Option<u8>
 }
 
 /// The byte of two hex digits.
+#[tactic(auto, unfolding(crate::specs::MessageLists::byte_of))]
 fn byte_of(high: u8, low: u8) -> Option<u8>
-    ensures { result ≡ option_and_then (λ h. option_map (λ l. h * 16 + l) (low_digit low)) (low_digit high) }
+    ensures { result ≡ byte_of high low }
 {
     Some(low_digit(high)? * 16 + low_digit(low)?)
+}
+
+/// The first two bytes of a text, and those behind them.
+fn two_digits(text: &[u8]) -> Option<(u8, u8, &[u8])>
+    ensures { MatchOption result (length text.now ≤ 1) (λ x. text.now ≡ x.0 ∷ x.1 ∷ x.2.now) }
+{
+    let (high, rest) = text.split_first()?;
+    let (low, rest) = rest.split_first()?;
+    Some((*high, *low, rest))
 }
 
 /// The bytes of a word in hex, two digits in lower case each.
@@ -38,8 +48,8 @@ pub fn hex_of(alloc: Global, word: &[u8]) -> Result<Option<Vec<u8>>, NoMemory>
 {
     let mut bytes = Vec::new(alloc);
     let mut rest = word;
-    while let [high, low, after @ ..] = rest {
-        let Some(byte) = byte_of(*high, *low) else {
+    while let Some((high, low, after)) = two_digits(rest) {
+        let Some(byte) = byte_of(high, low) else {
             return Ok(None);
         };
         bytes.push(byte)?;
@@ -52,7 +62,12 @@ pub fn hex_of(alloc: Global, word: &[u8]) -> Result<Option<Vec<u8>>, NoMemory>
 fn are_names(words: &[&[u8]]) -> bool
     ensures { result ≡ list_all is_name (map (λ word. word.now) words.now) }
 {
-    words.iter().all(|word| name_of(word).is_some())
+    for word in words {
+        if name_of(word).is_none() {
+            return false;
+        }
+    }
+    true
 }
 
 /// The set of names that are joined.

@@ -1,5 +1,5 @@
 //! Names in the order in which they were given, each of which is found without a walk.
-ghost use Rattle.std.specs.Prelude.{◌≡◌, ◌++◌, [], ◌∷◌, None, OnOk, length};
+ghost use Rattle.std.specs.Prelude.{◌≡◌, ◌≤◌, ◌<◌, ◌+◌, ◌++◌, [], ◌∷◌, None, OnOk, IfSome, length};
 ghost use Rattle.pr_scen.specs.Names.{place_of};
 
 use pr_num::{Name, NoMemory};
@@ -38,8 +38,10 @@ impl Names {
     }
 
     /// The place of a name, counted from 0, if it is one of them.
+    #[tactic(auto, using(crate::proofs::NameLemmas::place_inside))]
     pub fn place_of(&self, name: Name) -> Option<usize>
-        ensures { result ≡ place_of self.now name }
+        ensures value { result ≡ place_of self.now name }
+        ensures within { IfSome result (λ place. place < length self.now) }
     {
         self.places.get(&Key { name }).copied()
     }
@@ -53,10 +55,12 @@ impl Names {
     /// Adds a name that is not one of them yet.
     pub fn add(&mut self, name: Name) -> Result<(), NoMemory>
         requires { place_of self.old name ≡ None }
-        ensures { OnOk result (self.new ≡ self.old ++ name ∷ []) }
+        ensures ok { OnOk result (self.new ≡ self.old ++ name ∷ []) }
+        ensures len { length self.new ≤ length self.old + 1 }
     {
+        let place = self.len();
         self.items.reserve(1)?;
-        self.places.insert(Key { name }, self.items.len())?;
+        self.places.insert(Key { name }, place)?;
         match self.items.push(name) {
             Ok(()) => Ok(()),
             Err(_) => unreachable!(),

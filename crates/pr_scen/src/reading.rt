@@ -1,5 +1,6 @@
 //! Scenarios as text.
-ghost use Rattle.std.specs.Prelude.{◌≡◌, ◌+◌, ◌<◌, ◌^◌, ◌∷◌, true, length, map, position, IfOk};
+ghost use Rattle.std.specs.Prelude.{◌≡◌, ◌+◌, ◌<◌, ◌^◌, ◌∷◌, true, length, map, IfOk, IfSome};
+ghost use Rattle.std.specs.List.{position_from};
 ghost use Rattle.pr_scen.specs.Lines.{is_end};
 ghost use Rattle.pr_scen.specs.Parts.{begins_block};
 ghost use Rattle.pr_scen.specs.Reading.{lines_of, draft_in, finished, scenario_in, scenario_of};
@@ -29,9 +30,15 @@ fn split_lines(alloc: Global, text: &[u8]) -> Result<Vec<&[u8]>, NoMemory>
 
 /// Which of these lines ends a block first.
 fn end_of(lines: &[&[u8]]) -> Option<usize>
-    ensures { result ≡ position is_end (map (λ line. line.now) lines.now) }
+    ensures value { result ≡ position_from is_end 0 (map (λ line. line.now) lines.now) }
+    ensures within { IfSome result (λ k. k < length lines.now) }
 {
-    lines.iter().position(|line| is_end(line))
+    for (i, line) in lines.iter().enumerate() {
+        if is_end(line) {
+            return Some(i);
+        }
+    }
+    None
 }
 
 impl Draft {

@@ -49,7 +49,7 @@ enum Present {
 }
 
 /// The bytes from a place on, none where the place is behind them.
-fn bytes_from(bytes: &[u8], place: usize) -> &[u8]
+pub fn bytes_from(bytes: &[u8], place: usize) -> &[u8]
     ensures { result.now ≡ drop place bytes.now }
 {
     if place < bytes.len() {

@@ -1,3 +1,4 @@
+pub mod CountLemmas
 pub mod DigitLemmas
 pub mod DivisionLemmas
 pub mod QuoteLemmas
