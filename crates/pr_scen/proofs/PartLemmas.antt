@@ -1,14 +1,16 @@
 -- The parts of lines, and what they make.
-use Rattle.std.proofs.Common.{◌≡◌, ℕ, suc, ◌+◌, ◌<◌, ◌≤◌, Bool, not, true, false, cond, nat_lt, Option, Some, None, List, [], ◌∷◌, ◌++◌, length, take, drop, get_or, Result, Ok, Err, refl, sym, ◌∙◌, ap, arith}
+use Rattle.std.proofs.Common.{◌≡◌, ℕ, suc, ◌+◌, ◌<◌, ◌≤◌, Bool, not, true, false, cond, nat_lt, Option, Some, None, List, [], ◌∷◌, ◌++◌, length, take, drop, get_or, map, Bor, Result, Ok, Err, refl, sym, ◌∙◌, ap, arith}
 use Rattle.std.specs.List.{position, position_from, position_or_len}
 use Rattle.std.proofs.lemmas.Iterator.Adapters.{position_from-zero}
-use Rattle.std.proofs.lemmas.List.{append_assoc, append-nil, length-append}
+use Rattle.std.proofs.lemmas.List.{append_assoc, append-nil, length-append, drop-map}
 use borrow.Author.Tests.{ltb-true, ltb-false}
 use Rattle.pr_text.specs.Steps.{◌>>=◌}
 use Rattle.pr_scen.specs.Blocks.{part_added, parts_added}
 use Rattle.pr_scen.specs.Lines.{is_end}
 use Rattle.pr_scen.specs.Parts.{Part, line, block, endless, begins_block, parts_from, block_from}
+use Rattle.pr_scen.proofs.LineLemmas.{bytes_of}
 use Rattle.pr_scen.specs.Reads.{Stops}
+use Rattle.pr_scen.specs.Taken.{TakesPart}
 use Rattle.pr_scen.specs.declared.drafts.Draft.{Draft}
 use Rattle.pr_scen.specs.declared.refusals.ScenFault.{ScenFault}
 use Rattle.pr_scen.specs.declared.refusals.ScenRefusal.{ScenRefusal}
@@ -46,6 +48,9 @@ ended_at n first body k below =
 
 one_more : (j : ℕ) → suc (j + 1) ≡ suc j + 1
 one_more j = omega arith
+
+two_more : (k : ℕ) → suc (k + 1) ≡ k + 2
+two_more k = omega arith
 
 module _ (n : ℕ) (first this : List ℕ) (rest body : List (List ℕ)) where
   -- the block ends here
@@ -123,3 +128,51 @@ part-stop d part parts all fault is stopped = ap (parts_added d) is ∙ ap (λ r
 pub stops_whole : {X Y : Type 0} (e : ScenRefusal) (part : Result X ScenFault) (whole : Result Y ScenFault) → Stops e part → ((fault : ScenFault) → part ≡ Err fault → whole ≡ Err fault) → Stops e whole
 stops_whole NoMemory part whole stopped on = tt
 stops_whole (Fault fault) part whole stopped on = on fault stopped
+
+-- ---- what the first part of lines makes
+
+pub endless_stops : (e : ScenRefusal) (d : Draft) (n : ℕ) (first : List ℕ) (below : List (List ℕ)) → begins_block first ≡ true → position_from is_end 0 below ≡ None → Stops e (part_added d (endless n first)) → Stops e (parts_added d (parts_from n (first ∷ below)))
+endless_stops e d n first below begins none stopped =
+    stops_whole e (part_added d (endless n first)) _ stopped (λ fault at. part-stop d (endless n first) [] _ fault (part-endless n first below begins none) at)
+
+module _ (d : Draft) (n : ℕ) (first : List ℕ) (below : List (List ℕ)) where
+  pub line_stops : (e : ScenRefusal) → begins_block first ≡ false → Stops e (part_added d (line n first)) → Stops e (parts_added d (parts_from n (first ∷ below)))
+  line_stops e outside stopped =
+      stops_whole e (part_added d (line n first)) _ stopped (λ fault at. part-stop d (line n first) (parts_from (n + 1) below) _ fault (part-line n first below outside) at)
+
+  pub line_takes : (e : Draft) → begins_block first ≡ false → part_added d (line n first) ≡ Ok e → TakesPart n d e (first ∷ below) 1
+  line_takes e outside ok = record {
+    some = omega arith;
+    inside = omega arith;
+    rest = part-more d e (line n first) (parts_from (n + 1) below) _ (part-line n first below outside) ok;
+  }
+
+  module _ (k : ℕ) (body : List (List ℕ)) (last : List ℕ) (begins : begins_block first ≡ true) (found : position_from is_end 0 below ≡ Some k) (taken : body ≡ take k below) (is : last ≡ get_or below k []) where
+    whole_block : parts_from n (first ∷ below) ≡ block n first body last ∷ parts_from (n + (k + 2)) (drop (k + 1) below)
+    whole_block = part-block n k first last below begins found is ∙ ap (λ xs. block n first xs last ∷ parts_from (n + (k + 2)) (drop (k + 1) below)) (sym taken)
+
+    pub block_stops : (e : ScenRefusal) → Stops e (part_added d (block n first body last)) → Stops e (parts_added d (parts_from n (first ∷ below)))
+    block_stops e stopped =
+        stops_whole e (part_added d (block n first body last)) _ stopped (λ fault at. part-stop d (block n first body last) (parts_from (n + (k + 2)) (drop (k + 1) below)) _ fault whole_block at)
+
+    pub block_takes : (e : Draft) → k < length below → part_added d (block n first body last) ≡ Ok e → TakesPart n d e (first ∷ below) (k + 2)
+    block_takes e within ok = record {
+      some = omega arith;
+      inside = omega arith;
+      rest = part-more d e (block n first body last) (parts_from (n + (k + 2)) (drop (k + 1) below)) _ whole_block ok ∙ ap (λ m. parts_added e (parts_from (n + (k + 2)) (drop m (first ∷ below)))) (two_more k);
+    }
+
+-- the lines that are left make of the new draft what all of them made of the old one
+pub next_part : (draft new : Draft) (n k : ℕ) (first : Bor (List ℕ)) (rest below : List (Bor (List ℕ))) (whole : Result Draft ScenFault) → rest ≡ first ∷ below → TakesPart n draft new (first.now ∷ map bytes_of below) k → parts_added draft (parts_from n (map bytes_of rest)) ≡ whole → parts_added new (parts_from (n + k) (map bytes_of (drop k rest))) ≡ whole
+next_part draft new n k first rest below whole e takes kept =
+    ap (λ xs. parts_added new (parts_from (n + k) xs)) (sym (drop-map bytes_of k rest))
+    ∙ ap (λ xs. parts_added new (parts_from (n + k) (drop k (map bytes_of xs)))) e
+    ∙ sym takes.rest
+    ∙ ap (λ xs. parts_added draft (parts_from n (map bytes_of xs))) (sym e)
+    ∙ kept
+
+-- no line is left
+pub no_part : (draft : Draft) (n : ℕ) (rest : List (Bor (List ℕ))) (whole : Result Draft ScenFault) → length rest ≡ 0 → parts_added draft (parts_from n (map bytes_of rest)) ≡ whole → whole ≡ Ok draft
+unfolding parts_added parts_from
+no_part draft n [] whole none kept = sym kept
+no_part draft n (first ∷ below) whole none kept = absurd (omega arith)

@@ -1,10 +1,11 @@
 //! The lines and blocks of a text, one behind the other.
-ghost use Rattle.std.specs.Prelude.{◌≡◌, ◌≤◌, ◌<◌, ◌+◌, ◌^◌, length, map, None, Err};
+ghost use Rattle.std.specs.Prelude.{◌≡◌, ◌≤◌, ◌<◌, ◌+◌, ◌^◌, length, map, None, Ok, Err, IfOk};
 ghost use Rattle.pr_text.specs.Reads.{Gives};
 ghost use Rattle.pr_text.specs.Steps.{folded};
-ghost use Rattle.pr_scen.specs.Blocks.{numbered, item_in, line_added, begun, ended, kind_of, all_readable, first_of_both, program_read, last_unbuilt, noting_at, program_added, script_words_added, script_line_read, script_added, endless_kind, part_added};
+ghost use Rattle.pr_scen.specs.Blocks.{numbered, item_in, line_added, begun, ended, kind_of, all_readable, first_of_both, program_read, last_unbuilt, noting_at, program_added, script_words_added, script_line_read, script_added, part_added};
+ghost use Rattle.pr_scen.specs.Drafts.{may_begin};
 ghost use Rattle.pr_scen.specs.Parts.{line, block, endless};
-ghost use Rattle.pr_scen.specs.Reads.{Answers, LineGave};
+ghost use Rattle.pr_scen.specs.Reads.{Answers, LineGave, Stops};
 ghost use Rattle.pr_scen.specs.Names.{place_of};
 
 use crate::built::{ends_in_exit, first_unbuilt};
@@ -160,28 +161,39 @@ impl Draft {
     /// What a line that begins a block says, where it may.
     #[tactic(auto, unfolding(crate::specs::Blocks::begun))]
     fn begin(&self, alloc: Global, first: &[u8]) -> Result<Item, Refused<ScenKind>>
-        ensures { Gives (λ item. item) result (begun self.now first.now) }
+        ensures value { Gives (λ item. item) result (begun self.now first.now) }
+        ensures may { IfOk result (λ item. may_begin self.now item ≡ Ok tt) }
     {
         let item = item_in(alloc, first)?;
         self.may_begin(&item)?;
         Ok(item)
     }
 
-    /// Refuses a block that has no end.
-    fn refuse_endless(&self, alloc: Global, first: &[u8]) -> Result<(), Refused<ScenKind>>
-        ensures { Gives (λ _. self.now) result (endless_kind self.now first.now) }
+    /// The same, with the number of the line where it is refused.
+    fn begin_at(&self, alloc: Global, number: u32, first: &[u8]) -> Result<Item, ScenRefusal>
+        ensures value { Answers (λ item. item) result (numbered number (begun self.now first.now)) }
+        ensures may { IfOk result (λ item. may_begin self.now item ≡ Ok tt) }
     {
-        self.begin(alloc, first)?;
-        Err(Refused::Kind(ScenKind::NoEnd))
+        match self.begin(alloc, first) {
+            Ok(item) => Ok(item),
+            Err(Refused::Kind(kind)) => Err(ScenRefusal::Fault(ScenFault { line: number, kind })),
+            Err(Refused::NoMemory(error)) => Err(ScenRefusal::from(error)),
+        }
     }
 
-    /// Refuses a block that has no end, or its first line for a kind that comes before.
+    /// Why a line is refused that begins a block without end: for that, or for a kind that comes before.
     #[tactic(auto, unfolding(crate::specs::Blocks::part_added))]
-    pub fn add_endless(&self, alloc: Global, number: u32, first: &[u8]) -> Result<(), ScenRefusal>
-        ensures { Answers (λ _. self.now) result (part_added self.now (endless number first.now)) }
+    pub fn refuse_endless(&self, alloc: Global, number: u32, first: &[u8]) -> ScenRefusal
+        ensures { Stops result (part_added self.now (endless number first.now)) }
     {
-        let refused = self.refuse_endless(alloc, first);
-        at_line(number, refused)
+        match self.begin(alloc, first) {
+            Ok(_) => ScenRefusal::Fault(ScenFault {
+                line: number,
+                kind: ScenKind::NoEnd,
+            }),
+            Err(Refused::Kind(kind)) => ScenRefusal::Fault(ScenFault { line: number, kind }),
+            Err(Refused::NoMemory(error)) => ScenRefusal::from(error),
+        }
     }
 
     /// Remembers a line that is not built, if there is one.
@@ -266,7 +278,7 @@ impl Draft {
     }
 
     /// Adds a block, whose first line has this number.
-    #[tactic(auto, unfolding(crate::specs::Blocks::part_added, crate::specs::Blocks::block_added))]
+    #[tactic(auto, using(crate::proofs::DraftLemmas::may_laws), unfolding(crate::specs::Blocks::part_added, crate::specs::Blocks::block_added))]
     pub fn add_block(
         &mut self,
         alloc: Global,
@@ -278,7 +290,7 @@ impl Draft {
         requires { number + length body.now + 1 < 2 ^ 32 }
         ensures { Answers (λ _. self.new) result (part_added self.old (block number first.now (map (λ line. line.now) body.now) last.now)) }
     {
-        match at_line(number, self.begin(alloc, first))? {
+        match self.begin_at(alloc, number, first)? {
             Item::Program(name) => self.add_program_block(alloc, number, name, body, last),
             Item::Script => self.add_script_block(alloc, number, body, last),
             _ => Ok(()),

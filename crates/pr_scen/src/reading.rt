@@ -1,5 +1,5 @@
 //! Scenarios as text.
-ghost use Rattle.std.specs.Prelude.{◌≡◌, ◌+◌, ◌<◌, ◌^◌, ◌∷◌, true, length, map, IfOk, IfSome};
+ghost use Rattle.std.specs.Prelude.{◌≡◌, ◌+◌, ◌<◌, ◌≤◌, ◌^◌, ◌∷◌, true, drop, length, map, IfOk, IfSome};
 ghost use Rattle.std.specs.List.{position_from};
 ghost use Rattle.pr_scen.specs.Lines.{is_end};
 ghost use Rattle.pr_scen.specs.Parts.{begins_block};
@@ -56,8 +56,7 @@ impl Draft {
         ensures { PartTaken number self.old self.new (first.now ∷ map (λ line. line.now) below.now) result }
     {
         let Some(end) = end_of(below) else {
-            self.add_endless(alloc, number, first)?;
-            return Ok(below.len() + 1);
+            return Err(self.refuse_endless(alloc, number, first));
         };
         self.add_block(alloc, number, first, &below[..end], below[end])?;
         Ok(end + 2)
@@ -95,6 +94,14 @@ impl Draft {
     }
 }
 
+/// The lines from a place on.
+fn lines_from<'a, 'b>(lines: &'a [&'b [u8]], place: usize) -> &'a [&'b [u8]]
+    requires { place ≤ length lines.now }
+    ensures { result.now ≡ drop place lines.now }
+{
+    &lines[place..]
+}
+
 /// What lines make, one part after another.
 fn read_parts(alloc: Global, lines: &[&[u8]]) -> Result<Draft, ScenRefusal>
     requires { length lines.now + 1 < 2 ^ 32 }
@@ -106,7 +113,7 @@ fn read_parts(alloc: Global, lines: &[&[u8]]) -> Result<Draft, ScenRefusal>
     while let Some((first, below)) = rest.split_first() {
         let taken = draft.take_part(alloc, number, first, below)?;
         number += taken as u32;
-        rest = &rest[taken..];
+        rest = lines_from(rest, taken);
     }
     Ok(draft)
 }
