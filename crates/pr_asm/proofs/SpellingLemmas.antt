@@ -197,12 +197,9 @@ read_quoted bytes =
     let enough : leb 2 (length (quoted bytes)) ≡ true = le-leb 2 (length (quoted bytes)) (omega arith) in
     let last : get_or (quoted bytes) (length (quoted bytes) - 1) 0 ≡ 34 =
     ap (λ n. get_or (quoted bytes) n 0) last_place ∙ get_or-append_seam (34 ∷ body) 34 [] 0 in
-    let ahead : eqb (get_or (quoted bytes) (length (quoted bytes) - 2) 0) 92 ≡ false =
-    ap (λ n. eqb (get_or (quoted bytes) n 0) 92) next_place ∙ ap (λ n. eqb n 92) (get_or_append_left (34 ∷ body) (34 ∷ []) 0 (length body) (omega arith)) ∙ last_plain bytes 34 refl in
     let inside : take (length (quoted bytes) - 2) (body ++ 34 ∷ []) ≡ body = take_at body (34 ∷ []) (length (quoted bytes) - 2) (sym next_place) in
-    ap (λ v. cond (v && true && eqb (get_or (quoted bytes) (length (quoted bytes) - 1) 0) 34 && not (eqb (get_or (quoted bytes) (length (quoted bytes) - 2) 0) 92)) (bytes_between (take (length (quoted bytes) - 2) (body ++ 34 ∷ []))) None) enough
-    ∙ ap (λ n. cond (eqb n 34 && not (eqb (get_or (quoted bytes) (length (quoted bytes) - 2) 0) 92)) (bytes_between (take (length (quoted bytes) - 2) (body ++ 34 ∷ []))) None) last
-    ∙ ap (λ v. cond (not v) (bytes_between (take (length (quoted bytes) - 2) (body ++ 34 ∷ []))) None) ahead
+    ap (λ v. cond (v && true && eqb (get_or (quoted bytes) (length (quoted bytes) - 1) 0) 34) (bytes_between (take (length (quoted bytes) - 2) (body ++ 34 ∷ []))) None) enough
+    ∙ ap (λ n. cond (eqb n 34) (bytes_between (take (length (quoted bytes) - 2) (body ++ 34 ∷ []))) None) last
     ∙ ap bytes_between inside ∙ between_escaped bytes
 
 -- ---- numbers

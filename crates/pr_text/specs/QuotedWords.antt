@@ -1,5 +1,5 @@
 -- Texts in quotes.
-use Rattle.std.specs.Prelude.{◌==◌, ◌&&◌, ◌+◌, ◌-◌, ◌*◌, not, ℕ, Option, Some, None, List, [], ◌∷◌, ◌++◌, length, take, drop, slice_index, nat_le, option_map, option_and_then, if◌then◌else◌}
+use Rattle.std.specs.Prelude.{◌==◌, ◌&&◌, ◌+◌, ◌-◌, ◌*◌, ℕ, Option, Some, None, List, [], ◌∷◌, ◌++◌, length, take, drop, slice_index, nat_le, option_map, option_and_then, if◌then◌else◌}
 use Rattle.pr_text.specs.NumberWords.{digit_of}
 
 -- a byte before others, if there are others
@@ -32,11 +32,10 @@ unfoldable mutual
   hex_bytes (h ∷ l ∷ bs) =
       option_and_then (λ high. option_and_then (λ low. before (high * 16 + low) (bytes_between bs)) (digit_of l)) (digit_of h)
 
--- The bytes of a text in quotes. The last byte of the word is the quote that closes it, which has no backslash before
--- it.
+-- The bytes of a text in quotes. The last byte of the word is the quote that closes it, and belongs to no escape.
 unfoldable pub quoted_bytes : List ℕ → Option (List ℕ)
 quoted_bytes word =
-    if nat_le 2 (length word) && (slice_index word 0 == 34) && (slice_index word (length word - 1) == 34) && not (slice_index word (length word - 2) == 92)
+    if nat_le 2 (length word) && (slice_index word 0 == 34) && (slice_index word (length word - 1) == 34)
     then bytes_between (take (length word - 2) (drop 1 word))
     else None
 

@@ -62,14 +62,14 @@ fn bytes_between(alloc: Global, text: &[u8]) -> Result<Option<Bytes>, NoMemory>
     Ok(Some(Bytes::from_vec(bytes)))
 }
 
-/// The bytes of a text in quotes, if the word is one. The last byte of the word is the quote that closes it, which has
-/// no backslash before it.
+/// The bytes of a text in quotes, if the word is one. The last byte of the word is the quote that closes it, and belongs
+/// to no escape.
 #[tactic(auto, unfolding(crate::specs::QuotedWords::quoted_bytes))]
 pub fn quoted_bytes(alloc: Global, word: &[u8]) -> Result<Option<Bytes>, NoMemory>
     ensures { IfOk result (λ bytes. bytes ≡ quoted_bytes word.now) }
 {
     let len = word.len();
-    if len < 2 || word[0] != b'"' || word[len - 1] != b'"' || word[len - 2] == b'\\' {
+    if len < 2 || word[0] != b'"' || word[len - 1] != b'"' {
         return Ok(None);
     }
     bytes_between(alloc, &word[1..len - 1])
