@@ -154,7 +154,12 @@ impl Program {
 
     /// Adds a label, where its name is placed first.
     #[tactic(auto, unfolding(crate::specs::Assembly::label_added))]
-    fn place_label(&mut self, places: &Places, line: u32, name: Name) -> Result<(), Refused<AsmKind>>
+    fn place_label(
+        &mut self,
+        places: &Places,
+        line: u32,
+        name: Name,
+    ) -> Result<(), Refused<AsmKind>>
         ensures { Gives (λ _. self.new) result (label_added (found places.now) line self.old name) }
     {
         if !is_first(places, line, name) {
@@ -206,7 +211,12 @@ impl Program {
 
     /// Adds the statement of a line.
     #[tactic(auto, unfolding(crate::specs::Assembly::with_statement))]
-    fn add(&mut self, places: &Places, line: u32, statement: &Statement) -> Result<(), Refused<AsmKind>>
+    fn add(
+        &mut self,
+        places: &Places,
+        line: u32,
+        statement: &Statement,
+    ) -> Result<(), Refused<AsmKind>>
         ensures { Gives (λ _. self.new) result (with_statement (found places.now) line self.old statement.now) }
     {
         match statement {

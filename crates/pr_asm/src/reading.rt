@@ -30,10 +30,7 @@ fn lines_of(alloc: Global, text: &[u8]) -> Result<Vec<&[u8]>, AllocError>
 }
 
 /// What each of these lines says on its own.
-fn reads_of(
-    alloc: Global,
-    lines: &[&[u8]],
-) -> Result<Vec<Result<Statement, AsmKind>>, NoMemory>
+fn reads_of(alloc: Global, lines: &[&[u8]]) -> Result<Vec<Result<Statement, AsmKind>>, NoMemory>
     ensures { IfOk result (λ reads. reads.items ≡ map statement_of (map (λ line. line.now) lines.now)) }
 {
     let mut reads = Vec::new(alloc);

@@ -120,7 +120,11 @@ fn space_of(alloc: Global, operands: Tokens) -> Result<Statement, AsmKind>
 
 /// A line that is not a label: data or an instruction.
 #[tactic(auto, unfolding(crate::specs::Statements::statement_with, crate::specs::Statements::instruction_of))]
-fn statement_with(alloc: Global, first: &[u8], operands: Tokens) -> Result<Statement, Refused<AsmKind>>
+fn statement_with(
+    alloc: Global,
+    first: &[u8],
+    operands: Tokens,
+) -> Result<Statement, Refused<AsmKind>>
     ensures { Gives (λ s. s) result (statement_with first.now operands.entry) }
 {
     if first == b"text".as_slice() {

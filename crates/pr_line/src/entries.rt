@@ -14,6 +14,7 @@ pub trait Entries: Copy {
     ghost every: { ℕ };
     /// The number of the entry of a name, and that of the entry of a number.
     ghost named: { List ℕ → Option ℕ };
+
     ghost numbered: { ℕ → Option ℕ };
 
     /// The empty set.

@@ -7,8 +7,8 @@ ghost use Rattle.pr_text.specs.Names.{name_of};
 ghost use Rattle.pr_text.specs.Reads.{Gives};
 
 use crate::entries::list_of;
-use crate::pids::pids_of;
 use crate::faults::WordFault;
+use crate::pids::pids_of;
 use crate::{OptFault, Options};
 use pr_num::{Bytes, FltSet, Handles, NoMemory, SigSet, SysSet};
 use pr_text::{Refused, name_of};
@@ -71,7 +71,13 @@ impl Draft {
     }
 
     #[tactic(auto, unfolding(crate::specs::Options::list_taken))]
-    fn take_calls(&mut self, alloc: Global, lenient: bool, number: u32, word: &[u8]) -> Result<(), Refused<WordFault>>
+    fn take_calls(
+        &mut self,
+        alloc: Global,
+        lenient: bool,
+        number: u32,
+        word: &[u8],
+    ) -> Result<(), Refused<WordFault>>
         ensures { Gives (λ _. self.new) result (list_taken lenient number self.old word.now ListOption.Calls) }
     {
         match list_of::<SysSet>(alloc, word)? {
@@ -83,7 +89,13 @@ impl Draft {
     }
 
     #[tactic(auto, unfolding(crate::specs::Options::list_taken))]
-    fn take_signals(&mut self, alloc: Global, lenient: bool, number: u32, word: &[u8]) -> Result<(), Refused<WordFault>>
+    fn take_signals(
+        &mut self,
+        alloc: Global,
+        lenient: bool,
+        number: u32,
+        word: &[u8],
+    ) -> Result<(), Refused<WordFault>>
         ensures { Gives (λ _. self.new) result (list_taken lenient number self.old word.now ListOption.Signals) }
     {
         match list_of::<SigSet>(alloc, word)? {
@@ -95,7 +107,13 @@ impl Draft {
     }
 
     #[tactic(auto, unfolding(crate::specs::Options::list_taken))]
-    fn take_faults(&mut self, alloc: Global, lenient: bool, number: u32, word: &[u8]) -> Result<(), Refused<WordFault>>
+    fn take_faults(
+        &mut self,
+        alloc: Global,
+        lenient: bool,
+        number: u32,
+        word: &[u8],
+    ) -> Result<(), Refused<WordFault>>
         ensures { Gives (λ _. self.new) result (list_taken lenient number self.old word.now ListOption.Faults) }
     {
         match list_of::<FltSet>(alloc, word)? {
@@ -107,7 +125,12 @@ impl Draft {
     }
 
     #[tactic(auto, unfolding(crate::specs::Options::list_taken))]
-    fn take_pids(&mut self, alloc: Global, number: u32, word: &[u8]) -> Result<(), Refused<WordFault>>
+    fn take_pids(
+        &mut self,
+        alloc: Global,
+        number: u32,
+        word: &[u8],
+    ) -> Result<(), Refused<WordFault>>
         ensures { Gives (λ _. self.new) result (list_taken false number self.old word.now ListOption.Processes) }
     {
         match pids_of(alloc, word)? {
@@ -159,7 +182,13 @@ impl Draft {
 
     /// Takes one word more.
     #[tactic(auto, unfolding(crate::specs::Options::word_taken))]
-    fn take(&mut self, alloc: Global, lenient: bool, number: u32, word: &[u8]) -> Result<(), Refused<WordFault>>
+    fn take(
+        &mut self,
+        alloc: Global,
+        lenient: bool,
+        number: u32,
+        word: &[u8],
+    ) -> Result<(), Refused<WordFault>>
         ensures { Gives (λ _. self.new) result (word_taken lenient number self.old word.now) }
     {
         if self.options.program.is_some() {

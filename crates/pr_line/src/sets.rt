@@ -6,8 +6,11 @@ use pr_num::{Flt, FltSet, Sig, SigSet, SysSet, Sysno};
 
 impl Entries for SigSet {
     ghost word = { λ set. set };
+
     ghost every = { all_signals };
+
     ghost named = { signal_named };
+
     ghost numbered = { signal_numbered };
 
     fn nothing() -> SigSet {
@@ -39,8 +42,11 @@ impl Entries for SigSet {
 
 impl Entries for FltSet {
     ghost word = { λ set. set };
+
     ghost every = { all_faults };
+
     ghost named = { fault_named };
+
     ghost numbered = { fault_numbered };
 
     fn nothing() -> FltSet {
@@ -72,8 +78,11 @@ impl Entries for FltSet {
 
 impl Entries for SysSet {
     ghost word = { λ set. set };
+
     ghost every = { all_calls };
+
     ghost named = { call_named };
+
     ghost numbered = { call_numbered };
 
     fn nothing() -> SysSet {

@@ -26,8 +26,18 @@ use Rattle.pr_scen.specs.declared.script_lines.ScriptLine.TheVariants as line
 -- before the first line
 abbrev pub nothing : Draft
 nothing = record {
-  turns = None; program_names = []; programs = []; file_names = []; files = []; spawns = []; mapped = 0; controllers = [];
-  lists = 0; schedule = []; lines = []; unbuilt = None
+  turns = None;
+  program_names = [];
+  programs = [];
+  file_names = [];
+  files = [];
+  spawns = [];
+  mapped = 0;
+  controllers = [];
+  lists = 0;
+  schedule = [];
+  lines = [];
+  unbuilt = None;
 }
 
 -- the first line of a form that is not built is remembered
@@ -146,6 +156,10 @@ with_script d = record d { controllers = d.controllers ++ Script (first_script d
 -- what was read, as a scenario
 unfoldable pub made : Draft → Scenario
 made d = record {
-  turns = unwrap_or d.turns default_turns; programs = d.programs; files = d.files; spawns = d.spawns;
-  controllers = d.controllers; schedule = d.schedule
+  turns = unwrap_or d.turns default_turns;
+  programs = d.programs;
+  files = d.files;
+  spawns = d.spawns;
+  controllers = d.controllers;
+  schedule = d.schedule;
 }

@@ -142,7 +142,12 @@ fn last_unbuilt(statement: Option<u32>, program: &Program, last: u32) -> Option<
 impl Draft {
     /// Adds a line outside blocks.
     #[tactic(auto, unfolding(crate::specs::Blocks::line_added))]
-    fn add_words(&mut self, alloc: Global, number: u32, line: &[u8]) -> Result<(), Refused<ScenKind>>
+    fn add_words(
+        &mut self,
+        alloc: Global,
+        number: u32,
+        line: &[u8],
+    ) -> Result<(), Refused<ScenKind>>
         ensures { Gives (λ _. self.new) result (line_added number self.old line.now) }
     {
         let item = item_in(alloc, line)?;
@@ -151,7 +156,12 @@ impl Draft {
 
     /// Adds a line outside blocks, or names it as refused.
     #[tactic(auto, unfolding(crate::specs::Blocks::part_added))]
-    pub fn add_outer_line(&mut self, alloc: Global, number: u32, this: &[u8]) -> Result<(), ScenRefusal>
+    pub fn add_outer_line(
+        &mut self,
+        alloc: Global,
+        number: u32,
+        this: &[u8],
+    ) -> Result<(), ScenRefusal>
         ensures { Answers (λ _. self.new) result (part_added self.old (line number this.now)) }
     {
         let added = self.add_words(alloc, number, this);
@@ -231,7 +241,12 @@ impl Draft {
     }
 
     /// Adds a line of a script block.
-    fn add_script_words(&mut self, alloc: Global, number: u32, line: &[u8]) -> Result<(), Refused<ScenKind>>
+    fn add_script_words(
+        &mut self,
+        alloc: Global,
+        number: u32,
+        line: &[u8],
+    ) -> Result<(), Refused<ScenKind>>
         ensures { Gives (λ _. self.new) result (script_words_added number self.old line.now) }
     {
         readable(line)?;
@@ -249,7 +264,12 @@ impl Draft {
     }
 
     /// Adds the lines of a script block, which count from `first`.
-    fn add_script_lines(&mut self, alloc: Global, first: u32, lines: &[&[u8]]) -> Result<(), ScenRefusal>
+    fn add_script_lines(
+        &mut self,
+        alloc: Global,
+        first: u32,
+        lines: &[&[u8]],
+    ) -> Result<(), ScenRefusal>
         requires { first + length lines.now ≤ 2 ^ 32 }
         ensures { Answers (λ _. self.new) result (folded script_line_read first self.old (map (λ line. line.now) lines.now)) }
     {

@@ -6,9 +6,12 @@ ghost use Rattle.pr_scen.specs.Names.{place_of};
 ghost use Rattle.pr_scen.specs.Schedules.{turn_count, actors_of};
 
 use crate::built::{is_built_item, is_built_line};
-use crate::items::Item;
-use crate::limits::{DEFAULT_TURNS, MOST_CONTROLLERS, MOST_FILES, MOST_LISTS, MOST_MAPPED, MOST_PROGRAMS, MOST_SCHEDULED, MOST_SPAWNS, MOST_TURNS};
 use crate::few_names::FewNames;
+use crate::items::Item;
+use crate::limits::{
+    DEFAULT_TURNS, MOST_CONTROLLERS, MOST_FILES, MOST_LISTS, MOST_MAPPED, MOST_PROGRAMS,
+    MOST_SCHEDULED, MOST_SPAWNS, MOST_TURNS,
+};
 use crate::schedules::Turns;
 use crate::script_blocks::InScript;
 use crate::script_lines::Lines;

@@ -58,10 +58,7 @@ fn file_name(file: File) -> &'static [u8]
 pub fn file_of(word: &[u8]) -> Option<File>
     ensures { result ≡ file_of word.now }
 {
-    FILES
-        .iter()
-        .copied()
-        .find(|file| word == file_name(*file))
+    FILES.iter().copied().find(|file| word == file_name(*file))
 }
 
 #[tactic(auto, unfolding(crate::specs::Files::mode_name))]
@@ -80,10 +77,7 @@ fn mode_name(mode: Mode) -> &'static [u8]
 pub fn mode_of(word: &[u8]) -> Option<Mode>
     ensures { result ≡ mode_of word.now }
 {
-    MODES
-        .iter()
-        .copied()
-        .find(|mode| word == mode_name(*mode))
+    MODES.iter().copied().find(|mode| word == mode_name(*mode))
 }
 
 #[tactic(auto, unfolding(crate::specs::Files::tool_name))]
@@ -108,8 +102,5 @@ fn tool_name(tool: ToolKind) -> &'static [u8]
 pub fn tool_of(word: &[u8]) -> Option<ToolKind>
     ensures { result ≡ tool_of word.now }
 {
-    TOOLS
-        .iter()
-        .copied()
-        .find(|tool| word == tool_name(*tool))
+    TOOLS.iter().copied().find(|tool| word == tool_name(*tool))
 }

@@ -5,6 +5,7 @@ pub const MOST_LINE: usize = 4096;
 
 /// The most entries that a history may have, and how many it may have where no line says so.
 pub const MOST_TURNS: u64 = 100_000;
+
 pub const DEFAULT_TURNS: u32 = 10_000;
 
 pub const MOST_PROGRAMS: usize = 256;

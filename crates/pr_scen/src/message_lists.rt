@@ -55,7 +55,11 @@ pub fn hex_of(alloc: Global, word: &[u8]) -> Result<Option<Vec<u8>>, NoMemory>
         bytes.push(byte)?;
         rest = after;
     }
-    if rest.is_empty() { Ok(Some(bytes)) } else { Ok(None) }
+    if rest.is_empty() {
+        Ok(Some(bytes))
+    } else {
+        Ok(None)
+    }
 }
 
 /// Whether each of these words has the form of a name.

@@ -185,7 +185,10 @@ fn message_of(word: MessageWord, n: &[u64; 11]) -> Option<Message>
             flags: n[2],
         }),
         MessageWord::Agent => Some(Message::Agent { regs: *n }),
-        MessageWord::Read => Some(Message::Read { at: n[0], len: n[1] }),
+        MessageWord::Read => Some(Message::Read {
+            at: n[0],
+            len: n[1],
+        }),
         MessageWord::Write | MessageWord::Raw => None,
     }
 }

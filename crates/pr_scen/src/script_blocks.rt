@@ -187,11 +187,7 @@ fn list_of(operands: Tokens) -> Result<ScriptLine, ScenKind>
 
 /// A line of a script by its first word.
 #[tactic(auto, unfolding(crate::specs::ScriptLines::call_with))]
-fn call_with(
-    alloc: Global,
-    first: &[u8],
-    operands: Tokens,
-) -> Result<ScriptLine, Refused<ScenKind>>
+fn call_with(alloc: Global, first: &[u8], operands: Tokens) -> Result<ScriptLine, Refused<ScenKind>>
     ensures { Gives (λ line. line) result (call_with first.now operands.entry) }
 {
     if first == b"open".as_slice() {

@@ -183,7 +183,12 @@ impl Writing {
     }
 
     /// Takes a word behind `run` with these flags: a flag more, or what begins the next message.
-    fn take_flag(&mut self, alloc: Global, text: &[u8], flags: RunFlags) -> Result<(), Refused<ScenKind>>
+    fn take_flag(
+        &mut self,
+        alloc: Global,
+        text: &[u8],
+        flags: RunFlags,
+    ) -> Result<(), Refused<ScenKind>>
         ensures { Gives (λ _. self.new) result (flag_or_word self.old text.now flags (flag_of text.now)) }
     {
         match flag_of(text) {
@@ -196,7 +201,12 @@ impl Writing {
     }
 
     /// Takes an operand of a message that has begun.
-    fn take_next(&mut self, alloc: Global, text: &[u8], word: MessageWord) -> Result<(), Refused<ScenKind>>
+    fn take_next(
+        &mut self,
+        alloc: Global,
+        text: &[u8],
+        word: MessageWord,
+    ) -> Result<(), Refused<ScenKind>>
         ensures { Gives (λ _. self.new) result (in_message self.old text.now word (slice_get (operands_of word) self.old.count)) }
     {
         match operands_of(word).get(self.count) {

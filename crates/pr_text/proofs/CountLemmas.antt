@@ -10,6 +10,7 @@ either false xs ys n h k = k
 
 mutual
   unfolding words_from plain_word quoted_word
+
   few_from : (at : ℕ) (bs : List ℕ) → length (words_from at bs) ≤ length bs
   few_from at [] = omega arith
   few_from at (b ∷ bs) =

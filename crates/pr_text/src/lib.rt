@@ -17,8 +17,8 @@ mod spans;
 mod splitting;
 mod tokens;
 
-pub use laws::{a_line_is_its_words, numbers_are_their_digits, quoted_text_tells_its_bytes};
 pub use keys::Key;
+pub use laws::{a_line_is_its_words, numbers_are_their_digits, quoted_text_tells_its_bytes};
 pub use lines::{LINE_LIMIT, Line, TooLong};
 pub use lists::parts_of;
 pub use names::name_of;

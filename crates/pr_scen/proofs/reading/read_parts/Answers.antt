@@ -17,9 +17,10 @@ loop-first-preserved c =
     let rest = c.loop-first.rest.now in
     let below = c.in-Some.below.now in
     let takes = c.in_ok-taken.ensures in
-    let inside = takes.inside in
-    (ap (λ xs. parts_added c.take_part.new.self (parts_from (c.loop-first.number + k) (map bytes_of xs))) c.lines_from-rest.ensures ∙ next_part c.loop-first.draft c.take_part.new.self c.loop-first.number k c.in-Some.first.now rest below _ c.in-Some.ensures.cases.0 takes c.loop-first.invariant.0,
-        omega (arith, ap length c.lines_from-rest.ensures, length-drop k rest, c.in-Some.ensures.cases.1, length-map below bytes_of, c.loop-first.invariant.1))
+    let inside = takes.inside in (
+      ap (λ xs. parts_added c.take_part.new.self (parts_from (c.loop-first.number + k) (map bytes_of xs))) c.lines_from-rest.ensures ∙ next_part c.loop-first.draft c.take_part.new.self c.loop-first.number k c.in-Some.first.now rest below _ c.in-Some.ensures.cases.0 takes c.loop-first.invariant.0,
+      omega (arith, ap length c.lines_from-rest.ensures, length-drop k rest, c.in-Some.ensures.cases.1, length-map below bytes_of, c.loop-first.invariant.1),
+    )
 
 pub returns : goal.returns
 returns c = no_part c.loop-first.draft c.loop-first.number c.loop-first.rest.now _ c.in_default.ensures.cases c.loop-first.invariant.0
