@@ -6,7 +6,7 @@ use Rattle.std.specs.declared.cmp.Ordering.{Ordering}
 use Rattle.std.specs.Cmp.Lexicographic.{slice_cmp}
 use Rattle.std.specs.Map.{lookup}
 use Rattle.std.specs.BTreeMap.{get}
-use Rattle.pr_asm.specs.declared.keys.Key.{Key}
+use Rattle.pr_text.specs.declared.keys.Key.{Key}
 use Rattle.pr_asm.specs.declared.places.Place.{Place}
 use Rattle.pr_asm.specs.declared.places.Places.{Places}
 use Rattle.pr_asm.specs.declared.layouts.Layout.{Layout}

@@ -8,7 +8,7 @@ use Rattle.pr_num.specs.declared.instructions.Instruction.TheVariants.{Bpt, Nop,
 use Rattle.pr_num.specs.declared.instructions.Reg.{Reg}
 use Rattle.pr_asm.specs.declared.statements.Statement.{Statement}
 use Rattle.pr_asm.specs.declared.statements.Statement.TheVariants.{Blank, Label, Data, Code}
-use Rattle.pr_asm.specs.Names.{is_name}
+use Rattle.pr_text.specs.Names.{is_name}
 
 -- a register is r and its digit
 abbrev pub register_text : Reg → List ℕ

@@ -1,9 +1,6 @@
 pub mod BuiltLemmas
-pub mod ConverseLemmas
-pub mod FaultLemmas
-pub mod GrammarLemmas
-pub mod LimitLemmas
+pub mod DraftLemmas
 pub mod LineLemmas
-pub mod PlainLemmas
-pub mod ReadLemmas
-pub mod SaidLemmas
+pub mod NameLemmas
+pub mod PartLemmas
+pub mod SizeLemmas

@@ -1,5 +1,9 @@
-use Rattle.pr_scen.proofs.LimitLemmas.{answer_within}
+use Rattle.std.proofs.Common.{arith, ap, length}
+use Rattle.std.proofs.lemmas.List.{length-map}
+use Rattle.pr_asm.proofs.ReadingLemmas.{few_lines}
+use Rattle.pr_scen.proofs.LineLemmas.{bytes_of}
 use Rattle.pr_scen.proofs.reading.read_scenario.Goals as goal
 
-pub returns-clause-limits : goal.returns-clause-limits
-returns-clause-limits c = answer_within c.args.text.now c.read_text.result c.read_text.ensures
+pub read_lines-requires : goal.read_lines-requires
+read_lines-requires c =
+    omega (arith, ap length c.deref.ensures.value, length-map c.in_ok-lines.lines.items bytes_of, ap length c.in_ok-lines.ensures, few_lines c.args.text.now)
