@@ -107,7 +107,7 @@ module _ {C H K : Type 0} (m : Machine C H K) (pid : ℕ) (p : ProcessOf C H K) 
   changed (disposition_is g disposition) s = with_process pid (with_disposition_of g disposition) s
   changed (held_is held) s = with_process pid (with_lwp id (with_held held)) s
   changed (resumes frame frames) s = with_process pid (with_lwp id (resumed frame frames)) s
-  changed (forks args) s = with_child m pid p l args s
+  changed (forks args) s = if s.made == pid then s else with_child m pid p l args s
   changed (reaps child) s = if child == pid then s else with_reaped child s
   changed (becomes program) s = with_process pid (with_program m id l program) s
   changed (makes_lwp new regs held) s = with_process pid (with_new_lwp m new regs held) s

@@ -1,2 +1,0 @@
-pub mod Transparency
-pub mod Untouched
