@@ -6,7 +6,7 @@ use Rattle.pr_num.specs.declared.errnos.Errno.{Errno}
 use Rattle.pr_num.specs.declared.signals.Sig.{Sig}
 use Rattle.pr_model.specs.Lives.{with_child, with_program, with_new_lwp, with_reaped, with_this_ended, with_lwp_ended}
 use Rattle.pr_model.specs.Machines.{Machine}
-use Rattle.pr_model.specs.PendingSignals.{taken}
+use Rattle.pr_parts.specs.PendingSignals.{without_one}
 use Rattle.pr_model.specs.Signals.{generated, is_kill, with_disposition}
 use Rattle.pr_model.specs.State.{LwpOf, ProcessOf, SystemOf, with_process, with_lwp}
 use Rattle.pr_model.specs.declared.events.Res.{Res}
@@ -76,7 +76,7 @@ module _ {C H K : Type 0} where
   with_space space p = record p { space = space }
 
   unfoldable pub with_shared_taken : Sig → ProcessOf C H K → ProcessOf C H K
-  with_shared_taken s p = record p { pending = taken s p.pending }
+  with_shared_taken s p = record p { pending = without_one s p.pending }
 
   unfoldable pub with_job_stop : Sig → ProcessOf C H K → ProcessOf C H K
   with_job_stop s p = record p { job_stop = Some s }

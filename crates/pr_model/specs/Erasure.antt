@@ -1,7 +1,7 @@
 use Rattle.pr_num.specs.Faults.{fault_signal}
 use Rattle.pr_num.specs.ById.{map_each}
 use Rattle.pr_model.specs.Machines.{Place, in_program, at_call, sleeping, UntracedLwp, UntracedProcess, UntracedSystem}
-use Rattle.pr_model.specs.PendingSignals.{Pending, added}
+use Rattle.pr_parts.specs.PendingSignals.{Pending, added}
 use Rattle.pr_num.specs.Infos.{of_fault}
 use Rattle.pr_model.specs.State.{TracedState, TracedSystem, TracedProcess, TracedLwp}
 use Rattle.pr_model.specs.declared.lwps.Phase.{Phase}

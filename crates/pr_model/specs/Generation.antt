@@ -3,7 +3,7 @@ use Rattle.pr_num.specs.declared.signals.Sig.{Sig}
 use Rattle.pr_num.specs.declared.signals.Sig.TheVariants.{Cont}
 use Rattle.pr_parts.specs.SignalRules.{deleted_by}
 use Rattle.pr_num.specs.ById.{change_under, map_each}
-use Rattle.pr_model.specs.PendingSignals.{added, without_signals}
+use Rattle.pr_parts.specs.PendingSignals.{added, without_signals}
 use Rattle.pr_model.specs.State.{LwpOf, ProcessOf}
 use Rattle.pr_num.specs.declared.infos.Info.{Info}
 

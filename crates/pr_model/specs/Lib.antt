@@ -23,7 +23,6 @@ pub mod Moves
 pub mod Order
 pub mod Others
 pub mod Passive
-pub mod PendingSignals
 pub mod Points
 pub mod ProcessCalls
 pub mod Readers

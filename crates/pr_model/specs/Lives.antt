@@ -8,7 +8,7 @@ use Rattle.pr_parts.specs.FileCalls.{with_all_shared}
 use Rattle.pr_num.specs.ById.{change_under, inserted, map_each, without_id}
 use Rattle.pr_model.specs.Generation.{told}
 use Rattle.pr_model.specs.Machines.{Machine}
-use Rattle.pr_model.specs.PendingSignals.{nothing_pending}
+use Rattle.pr_parts.specs.PendingSignals.{nothing_pending}
 use Rattle.pr_model.specs.Registers.{with_result}
 use Rattle.pr_num.specs.Infos.{of_child}
 use Rattle.pr_num.specs.Limits.{signal_count, register_count}

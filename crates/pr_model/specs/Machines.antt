@@ -6,7 +6,7 @@ use Rattle.pr_num.specs.Syscalls.{syscall_number}
 use Rattle.pr_num.specs.declared.faults.Flt.{Flt}
 use Rattle.pr_num.specs.declared.syscalls.Sysno.{Sysno}
 use Rattle.pr_num.specs.declared.syscalls.Sysno.TheVariants.{Fork}
-use Rattle.pr_model.specs.PendingSignals.{added}
+use Rattle.pr_parts.specs.PendingSignals.{added}
 use Rattle.pr_num.specs.Infos.{of_fault}
 use Rattle.pr_model.specs.State.{LwpOf, ProcessOf, SystemOf, TracedControl, TracedLwp}
 use Rattle.pr_model.specs.declared.events.Res.{Res}

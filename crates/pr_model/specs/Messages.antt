@@ -18,7 +18,7 @@ use Rattle.pr_parts.specs.WatchedAreas.{is_taken, with_area, without_area}
 use Rattle.pr_model.specs.Changes.{with_space}
 use Rattle.pr_model.specs.Lives.{with_this_ended, new_lwp}
 use Rattle.pr_model.specs.Machines.{traced, no_marks}
-use Rattle.pr_model.specs.PendingSignals.{Pending, has_room, without_one}
+use Rattle.pr_parts.specs.PendingSignals.{Pending, has_room, without_one}
 use Rattle.pr_model.specs.Registers.{with_pc}
 use Rattle.pr_model.specs.Running.{without_current, without_fault, run_lwp, lwp_run_refused, run_refused, with_run}
 use Rattle.pr_num.specs.Infos.{by_controller}

@@ -2,7 +2,7 @@ use Rattle.std.specs.Prelude.{ℕ, Bool, List, Some, None, if◌then◌else◌}
 use Rattle.pr_num.specs.declared.faults.Flt.{Flt}
 use Rattle.pr_num.specs.declared.syscalls.Sysno.{Sysno}
 use Rattle.pr_model.specs.Machines.{Machine}
-use Rattle.pr_model.specs.PendingSignals.{taken}
+use Rattle.pr_parts.specs.PendingSignals.{without_one}
 use Rattle.pr_model.specs.Registers.{stored}
 use Rattle.pr_model.specs.State.{LwpOf}
 use Rattle.pr_model.specs.declared.events.Res.{Res}
@@ -50,7 +50,7 @@ module _ {C H K : Type 0} (m : Machine C H K) where
       record l { regs = stored call result l.regs; phase = m.exiting call args result; control = m.over l.control }
   moved (sleeps call args since) l = record l { phase = m.asleep call args since }
   moved (takes c own) l =
-      record l { current = Some c; pending = if own then taken c.signal l.pending else l.pending }
+      record l { current = Some c; pending = if own then without_one c.signal l.pending else l.pending }
   moved drops l = record l { current = None }
   moved (catches frames regs held) l =
       record l { frames = frames; regs = regs; held = held; current = None; phase = m.in_user }

@@ -1,7 +1,7 @@
 use Rattle.std.specs.Prelude.{◌==◌, ◌+◌, ℕ, Bool, List, [], ◌∷◌, Option, Some, None, nat_le, if◌then◌else◌}
 use Rattle.pr_num.specs.Limits.{all_mappings_limit}
 use Rattle.pr_num.specs.Spaces.{mapped_size}
-use Rattle.pr_model.specs.PendingSignals.{Pending}
+use Rattle.pr_parts.specs.PendingSignals.{Pending}
 use Rattle.pr_model.specs.State.{ProcessOf, SystemOf, process_of}
 
 -- What a system call reads of the rest of the system. None of it is set by controllers.

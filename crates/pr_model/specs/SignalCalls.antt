@@ -6,7 +6,7 @@ use Rattle.pr_num.specs.declared.signals.Sig.{Sig}
 use Rattle.pr_num.specs.declared.signals.Sig.TheVariants.{Kill, Stop}
 use Rattle.pr_model.specs.Changes.{Effect, gives, fails, ends, ends_process, signals, disposition_is, held_is, resumes}
 use Rattle.pr_model.specs.Machines.{Machine}
-use Rattle.pr_model.specs.PendingSignals.{Pending, has_room}
+use Rattle.pr_parts.specs.PendingSignals.{Pending, has_room}
 use Rattle.pr_model.specs.Readers.{Life, gone, a_zombie, live}
 use Rattle.pr_model.specs.Signals.{generated, is_kill, disposition_of}
 use Rattle.pr_model.specs.State.{SystemOf}

@@ -1,4 +1,4 @@
-use Rattle.std.specs.Prelude.{◌-◌, ℕ, Bool, true, false, List, ◌∷◌, [], ◌++◌, Option, is_some, slice_index, slice_set, if◌then◌else◌}
+use Rattle.std.specs.Prelude.{◌-◌, ℕ, Bool, true, false, List, ◌∷◌, [], ◌++◌, Option, is_some, slice_index, slice_set, unwrap_or, if◌then◌else◌}
 use Rattle.pr_num.specs.Sets.{minus_word, with_number}
 use Rattle.pr_num.specs.Signals.{signal_number, least_signal}
 use Rattle.pr_num.specs.declared.signals.Sig.{Sig}
@@ -8,11 +8,12 @@ use Rattle.pr_parts.specs.declared.actions.Action.{Action}
 use Rattle.pr_model.specs.Generation.{told}
 use Rattle.pr_model.specs.Lives.{with_ended}
 use Rattle.pr_model.specs.Machines.{Machine}
-use Rattle.pr_model.specs.PendingSignals.{Pending, pending_set, info_of}
+use Rattle.pr_parts.specs.PendingSignals.{Pending, pending_set, info_of}
 use Rattle.pr_model.specs.Registers.{with_pc}
 use Rattle.pr_model.specs.State.{LwpOf, ProcessOf, SystemOf, with_process}
 use Rattle.pr_model.specs.declared.frames.Frame.{Frame}
 use Rattle.pr_num.specs.declared.infos.Info.{Info}
+use Rattle.pr_num.specs.Infos.{no_info}
 use Rattle.pr_model.specs.declared.lwps.Current.{Current}
 
 -- Signals (signal.h(3HEAD), sigaction(2)): how one is generated, which one an lwp takes, and what is done with it.
@@ -53,7 +54,7 @@ module _ {C H K : Type 0} where
 
 -- a signal that is taken becomes the current one, with its information
 abbrev pub current_of : Sig → Pending → Current
-current_of s pending = record { signal = s; info = info_of s pending }
+current_of s pending = record { signal = s; info = unwrap_or (info_of s pending) no_info }
 
 -- ---- acting
 

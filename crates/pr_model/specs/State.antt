@@ -6,7 +6,7 @@ use Rattle.pr_num.specs.Spaces.{Space}
 use Rattle.pr_num.specs.declared.mappings.Area.{Area}
 use Rattle.pr_num.specs.ById.{under, change_under}
 use Rattle.pr_num.specs.Limits.{handle_limit}
-use Rattle.pr_model.specs.PendingSignals.{Pending}
+use Rattle.pr_parts.specs.PendingSignals.{Pending}
 use Rattle.pr_model.specs.declared.handles.Held.{Held}
 use Rattle.pr_model.specs.declared.lwps.LwpControl.{LwpControl}
 use Rattle.pr_model.specs.declared.lwps.LwpOf as lwp

@@ -19,7 +19,7 @@ use Rattle.pr_rec.specs.declared.lwps.Disposition.{Disposition}
 use Rattle.pr_rec.specs.declared.lwps.Disposition.TheVariants as disposition
 use Rattle.pr_rec.specs.declared.lwps.LwpStatus.{LwpStatus}
 use Rattle.pr_rec.specs.declared.statuses.Status.{Status}
-use Rattle.pr_model.specs.PendingSignals.{pending_set}
+use Rattle.pr_parts.specs.PendingSignals.{pending_set}
 use Rattle.pr_model.specs.Registers.{arguments}
 use Rattle.pr_model.specs.Running.{is_asleep}
 use Rattle.pr_model.specs.Signals.{disposition_of}

@@ -1,10 +1,10 @@
-use Rattle.std.proofs.Common.{◌≡◌, ◌≢◌, ℕ, zero, suc, ◌+◌, ◌<◌, true, false, eqb, ltb, cond, Some, None, List, [], ◌∷◌, ◌++◌, length, take, drop, refl, sym, ◌∙◌, ap, add-one, arith, inl, inr}
+use Rattle.std.proofs.Common.{◌≡◌, ◌≢◌, ℕ, zero, suc, ◌+◌, ◌<◌, ◌≤◌, true, false, eqb, ltb, cond, Option, Some, None, List, [], ◌∷◌, ◌++◌, length, take, drop, refl, sym, ◌∙◌, ap, add-one, arith, inl, inr}
 use Rattle.std.specs.List.{All}
 use Rattle.std.specs.Option.{option_map}
 use Rattle.std.proofs.lemmas.List.Elements.{All-nil, All-cons, All-head, All-tail}
 use Rattle.std.proofs.lemmas.Bool.{eqb-true, ltb-true, ne_eqb, eq-eqb, cases_Bool}
-use Rattle.std.proofs.lemmas.Option.{same_Some}
-use Rattle.pr_num.specs.ById.{rises_from, under, change_under, put_under, put_at, map_each, inserted, without_id, thing_at}
+use Rattle.std.proofs.lemmas.Option.{same_Some, slice_get_past}
+use Rattle.pr_num.specs.ById.{rises_from, under, change_under, put_under, put_at, map_each, inserted, without_id, thing_at, place_from, first_from, place_after, next_after}
 use Rattle.pr_num.proofs.ByIdLemmas.{rises_from-head, rises_from-tail, rises_from-change_under, rises_from-map_each, rises_from-without_id, rises_from-inserted, rises_from-put_under, rises_from-put_at, under-below, slice_get-place_after, slice_get-place_from}
 
 -- Laws of things under ids: what a step of the program is in the words of the lists, and what is found afterwards.
@@ -52,6 +52,16 @@ pub length-map_each : {X Y : Type 0} (f : X → Y) (es : List (ℕ × X)) → le
 length-map_each f [] = refl
 length-map_each f (e ∷ es) = ap suc (length-map_each f es)
 
+pub length-put_at : {X : Type 0} (i : ℕ) (w : X) (es : List (ℕ × X)) → length (put_at i w es) ≡ length es
+length-put_at i w [] = refl
+length-put_at zero w (e ∷ es) = refl
+length-put_at (suc i) w (e ∷ es) = ap suc (length-put_at i w es)
+
+pub length-put_under : {X : Type 0} (id : ℕ) (w : X) (es : List (ℕ × X)) → length (put_under id w es) ≡ length es
+length-put_under id w [] = refl
+length-put_under id w (e ∷ es) =
+    elim (eqb e.0 id) as (λ b. length (cond b ((e.0, w) ∷ es) (e ∷ put_under id w es)) ≡ suc (length es)) [ true ↦ refl | false ↦ ap suc (length-put_under id w es) ]
+
 one_more : {X : Type 0} (f : X → X) (x : X) (es : List (ℕ × X)) (i : ℕ) → thing_at i (map_each f (take i es) ++ drop i es) ≡ Some x → put_at i (f x) (map_each f (take i es) ++ drop i es) ≡ map_each f (take (suc i) es) ++ drop (suc i) es
 one_more f x [] zero here = refl
 one_more f x [] (suc i) here = refl
@@ -62,7 +72,14 @@ pub map_each_step : {X : Type 0} (f : X → X) (es ds : List (ℕ × X)) (i : �
 map_each_step f es ds i x so_far here =
     ap (put_at i (f x)) so_far ∙ one_more f x es i (ap (thing_at i) (sym so_far) ∙ here) ∙ rw (add-one i) refl
 
-pub ruleset by_id_laws = (put_under-found, put_under-same, put_at-same, change_under-none, without_id-none, slice_get-place_after, slice_get-place_from, map_each_step)
+-- no id is left from one on, or above one, where the search for it ended behind the last
+pub first_from-past : {X : Type 0} (low : ℕ) (es : List (ℕ × X)) → length es ≤ place_from low es → first_from low es ≡ None
+first_from-past low es past = sym (slice_get-place_from low es) ∙ slice_get_past es _ past
+
+pub next_after-past : {X : Type 0} (id : Option ℕ) (es : List (ℕ × X)) → length es ≤ place_after id es → next_after id es ≡ None
+next_after-past id es past = sym (slice_get-place_after id es) ∙ slice_get_past es _ past
+
+pub ruleset by_id_laws = (put_under-found, put_under-same, put_at-same, change_under-none, without_id-none, slice_get-place_after, slice_get-place_from, first_from-past, next_after-past, map_each_step, length-put_at, length-put_under)
 
 -- ---- what stands under an id afterwards
 

@@ -1,3 +1,4 @@
+pub mod BoolLemmas
 pub mod ByIdLaws
 pub mod ByIdLemmas
 pub mod EntryLemmas

@@ -1,17 +1,21 @@
-use Rattle.std.proofs.Common.{◌≡◌, ◌↔◌, ◌⊎◌, ℕ, zero, suc, ◌+◌, ◌-◌, ◌^◌, ◌<◌, ◌≤◌, Bool, true, false, ◌&&◌, eqb, cond, Option, Some, None, IsNone, IsSome, is_some, List, [], ◌∷◌, length, refl, sym, ◌∙◌, ap, arith, inl, inr}
+use Rattle.std.proofs.Common.{◌≡◌, ◌↔◌, ◌⊎◌, ℕ, zero, suc, ◌+◌, ◌-◌, ◌^◌, ◌<◌, ◌≤◌, Bool, true, false, ◌&&◌, ◌||◌, eqb, cond, Option, Some, None, IsNone, IsSome, is_some, List, [], ◌∷◌, length, lit≤, refl, sym, ◌∙◌, ap, arith, inl, inr}
 use Rattle.std.specs.List.{slice_get}
 use Rattle.std.proofs.lemmas.Option.{slice_get_past, same_Some}
-use Rattle.std.proofs.lemmas.Bool.{and_parts, eqb-true, cases_eq, cases_lt, cond-false, ne_eqb, false≢true}
+use Rattle.std.proofs.lemmas.Nat.{pow_pos}
+use Rattle.std.proofs.lemmas.Bool.{and_parts, or_from, or_right, eqb-true, eq-eqb, cases_eq, cases_lt, cond-false, ne_eqb, false≢true}
 use Rattle.pr_num.specs.declared.signals.Sig.{Sig}
+use Rattle.pr_num.specs.declared.signals.Sig.TheVariants.{Hup}
 use Rattle.pr_num.specs.declared.faults.Flt.{Flt}
 use Rattle.pr_num.specs.declared.syscalls.Sysno.{Sysno}
-use Rattle.pr_num.specs.Sets.{has_number, least_entry}
+use Rattle.pr_num.specs.Sets.{has_number, with_number, least_entry, set_of}
 use Rattle.pr_num.specs.Limits.{signal_count, syscall_count}
 use Rattle.pr_num.specs.Tables.{entry_at}
 use Rattle.pr_num.specs.Signals.{signals, signal_number, least_signal}
 use Rattle.pr_num.specs.Faults.{faults, fault_number, least_fault}
 use Rattle.pr_num.specs.Syscalls.{syscalls, syscall_number, least_syscall}
-use Rattle.pr_num.proofs.SetLemmas.{has_number-zero, same_set}
+use Rattle.pr_num.proofs.BoolLemmas.{or_false}
+use Rattle.pr_num.proofs.SetBounds.{with_number-lt}
+use Rattle.pr_num.proofs.SetLemmas.{has_number-zero, has_number-with, same_set}
 
 -- ---- tables whose entries are numbered in their order
 
@@ -100,6 +104,47 @@ least_entry-least number w n (y ∷ ys) x ok found m least below =
     let rest : counts_from number (suc n) ys ≡ true = (and_parts (eqb (number y) n) _ ok).1 in
     elim (has_number w (number y)) as (λ b. has_number w (number y) ≡ b → cond b (Some y) (least_entry number ys w) ≡ Some x → has_number w m ≡ false) [ true ↦ λ _ e. (let same : number y ≡ number x = ap number (same_Some y x e) in absurd (omega arith)) | false ↦ λ not_here e. (elim (cases_eq m n) [ inl at ↦ ap (has_number w) (at ∙ sym here) ∙ not_here | inr ne ↦ least_entry-least number w (suc n) ys x rest e m (omega arith) below ]) ] refl found
 
+-- ---- the set of the entries that pass a test
+
+from_counted : {T : Type 0} (number : T → ℕ) (k : ℕ) (x : T) (xs : List T) → counts_from number k (x ∷ xs) ≡ true → (number x ≡ k) × (counts_from number (suc k) xs ≡ true)
+from_counted number k x xs ok =
+    let parts = and_parts (eqb (number x) k) (counts_from number (suc k) xs) ok in
+    (eqb-true (number x) k parts.0, parts.1)
+
+-- it has no number before the table's first
+has_number-set_of_before : {T : Type 0} (number : T → ℕ) (test : T → Bool) (k : ℕ) (xs : List T) → counts_from number k xs ≡ true → (n : ℕ) → 1 ≤ n → n < k → has_number (set_of number test xs) n ≡ false
+has_number-set_of_before number test k [] ok n least below = has_number-zero n
+has_number-set_of_before number test k (x ∷ xs) ok n least below =
+    let here = from_counted number k x xs ok in
+    let rest = has_number-set_of_before number test (suc k) xs here.1 n least (omega arith) in
+    let other : eqb n (number x) ≡ false = ne_eqb n (number x) (λ e. absurd (omega arith)) in
+    elim (test x) as (λ b. has_number (cond b (with_number (set_of number test xs) (number x)) (set_of number test xs)) n ≡ false) [ true ↦ has_number-with (set_of number test xs) (number x) n (omega arith) least ∙ or_from _ _ rest other | false ↦ rest ]
+
+pub has_number-set_of : {T : Type 0} (number : T → ℕ) (test : T → Bool) (k : ℕ) (xs : List T) → counts_from number k xs ≡ true → 1 ≤ k → (i : ℕ) (x : T) → slice_get xs i ≡ Some x → has_number (set_of number test xs) (number x) ≡ test x
+has_number-set_of number test k [] ok least i x there = cc
+has_number-set_of number test k (y ∷ ys) ok least zero x there =
+    let here = from_counted number k y ys ok in
+    let same : y ≡ x = same_Some y x there in
+    let rest = has_number-set_of_before number test (suc k) ys here.1 (number y) (omega arith) (omega arith) in
+    rw (← same) (at_first (test y) rest) where
+  at_first : (b : Bool) → has_number (set_of number test ys) (number y) ≡ false → has_number (cond b (with_number (set_of number test ys) (number y)) (set_of number test ys)) (number y) ≡ b
+  at_first true rest =
+      has_number-with (set_of number test ys) (number y) (number y) (omega (arith, (from_counted number k y ys ok).0)) (omega (arith, (from_counted number k y ys ok).0)) ∙ or_right _ _ (eq-eqb (number y) (number y) refl)
+  at_first false rest = rest
+has_number-set_of number test k (y ∷ ys) ok least (suc i) x there =
+    let here = from_counted number k y ys ok in
+    let later : number x ≡ suc k + i = number-slice_get number (suc k) ys here.1 i x there in
+    let rest = has_number-set_of number test (suc k) ys here.1 (omega arith) i x there in
+    let other : eqb (number x) (number y) ≡ false = ne_eqb (number x) (number y) (λ e. absurd (omega arith)) in
+    elim (test y) as (λ b. has_number (cond b (with_number (set_of number test ys) (number y)) (set_of number test ys)) (number x) ≡ test x) [ true ↦ has_number-with (set_of number test ys) (number y) (number x) (omega arith) (omega arith) ∙ ap (λ b. has_number (set_of number test ys) (number x) || b) other ∙ or_false _ ∙ rest | false ↦ rest ]
+
+pub set_of-lt : {T : Type 0} (number : T → ℕ) (test : T → Bool) (k m : ℕ) (xs : List T) → counts_from number k xs ≡ true → 1 ≤ k → k + length xs ≤ m + 1 → set_of number test xs < 2 ^ m
+set_of-lt number test k m [] ok least most = pow_pos m
+set_of-lt number test k m (x ∷ xs) ok least most =
+    let here = from_counted number k x xs ok in
+    let rest = set_of-lt number test (suc k) m xs here.1 (omega arith) (omega arith) in
+    elim (test x) as (λ b. cond b (with_number (set_of number test xs) (number x)) (set_of number test xs) < 2 ^ m) [ true ↦ with_number-lt m _ (number x) rest (omega arith) (omega arith) | false ↦ rest ]
+
 -- ---- the three tables
 
 pub signals_counted : counts_from signal_number 1 signals ≡ true
@@ -170,3 +215,36 @@ least_syscall-least w least found n from below =
     least_entry-least syscall_number w 1 syscalls least syscalls_counted found n from below
 
 pub ruleset none_where_empty = (least_signal-zero, zero-least_signal, least_fault-zero, zero-least_fault, least_syscall-zero, zero-least_syscall)
+
+-- ---- sets of signals
+
+signal-entry_at : (s : Sig) → entry_at signals (signal_number s) ≡ Some s
+unfolding signal_number entry_at
+signal-entry_at Hup = refl
+signal-entry_at _ = refl
+
+-- the number of a signal, and the place of the signal in its table
+pub signal_number-range : (s : Sig) → (1 ≤ signal_number s) × (signal_number s ≤ signal_count)
+signal_number-range s = (IsSome-entry_at signals (signal_number s)).0 (ap is_some (signal-entry_at s))
+
+pub signals-at : (s : Sig) → slice_get signals (signal_number s - 1) ≡ Some s
+unfolding signal_number
+signals-at Hup = refl
+signals-at _ = refl
+
+-- the set of the signals that pass a test has those
+pub has_signal-set_of : (test : Sig → Bool) (s : Sig) → has_number (set_of signal_number test signals) (signal_number s) ≡ test s
+has_signal-set_of test s = has_number-set_of signal_number test 1 signals signals_counted (lit≤ tt) (signal_number s - 1) s (signals-at s)
+
+pub set_of_signals-lt : (test : Sig → Bool) → set_of signal_number test signals < 2 ^ signal_count
+set_of_signals-lt test = set_of-lt signal_number test 1 signal_count signals signals_counted (lit≤ tt) (lit≤ tt)
+
+-- sets that have the same signals are one
+pub same_signals : (a b : ℕ) → a < 2 ^ signal_count → b < 2 ^ signal_count → ((s : Sig) → has_number a (signal_number s) ≡ has_number b (signal_number s)) → a ≡ b
+same_signals a b p q same =
+    same_set signal_count a b p q (λ n least most. found n (entry_at signals n) refl ((IsSome-entry_at signals n).1 (least, most))) where
+  found : (n : ℕ) (o : Option Sig) → entry_at signals n ≡ o → IsSome o → has_number a n ≡ has_number b n
+  found n None e some = cc
+  found n (Some s) e some =
+      let number : signal_number s ≡ n = number-entry_at signal_number signals signals_counted n s e in
+      rw (← number) (same s)

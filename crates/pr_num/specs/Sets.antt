@@ -1,4 +1,4 @@
-use Rattle.std.specs.Prelude.{◌==◌, ℕ, ◌-◌, ◌^◌, Bool, Option, Some, None, List, find, nat_lt, if◌then◌else◌}
+use Rattle.std.specs.Prelude.{◌==◌, ℕ, ◌-◌, ◌^◌, Bool, Option, Some, None, List, [], ◌∷◌, find, nat_lt, if◌then◌else◌}
 use Rattle.std.specs.Int.{bit_at}
 use Rattle.std.specs.Int.RustNames.{bit_and, bit_or}
 
@@ -40,3 +40,8 @@ has_entry number w entry = has_number w (number entry)
 -- the entry of least number, where the table is in the order of its numbers
 abbrev pub least_entry : {T : Type 0} → (T → ℕ) → List T → ℕ → Option T
 least_entry number table w = find (has_entry number w) table
+
+-- the set of those entries of a table that pass a test
+abbrev pub set_of : {T : Type 0} → (T → ℕ) → (T → Bool) → List T → ℕ
+set_of number test [] = 0
+set_of number test (x ∷ xs) = if test x then with_number (set_of number test xs) (number x) else set_of number test xs

@@ -4,6 +4,8 @@
 
 mod actions;
 mod files;
+mod signals;
 
 pub use actions::Action;
 pub use files::{FileNo, Stat};
+pub use signals::Queued;

@@ -10,15 +10,11 @@ use Rattle.pr_num.specs.declared.signals.Sig.TheVariants.{Stop, Tstp, Cont, Ttin
 use Rattle.pr_num.specs.Faults.{fault_signal}
 use Rattle.pr_num.specs.Sets.{has_number, minus_word, with_number, union_word}
 use Rattle.pr_num.specs.Signals.{signal_number, default_action, least_signal}
-use Rattle.pr_num.proofs.EntryLemmas.{signal_of_number-number, signal_numbers-range}
-use Rattle.pr_num.proofs.NumberedLemmas.{has_number-least_signal}
+use Rattle.pr_num.proofs.NumberedLemmas.{has_number-least_signal, signal_number-range}
 use Rattle.pr_num.proofs.SetLemmas.{has_number-minus, has_number-zero}
 use Rattle.pr_parts.specs.SignalRules.{takeable_signal, stop_signals, continue_signal, deleted_by}
 
 -- ---- what is taken
-
-number_range : (s : Sig) → (1 ≤ signal_number s) × (signal_number s ≤ 31)
-number_range s = (signal_numbers-range (signal_number s)).0 (ap is_some (signal_of_number-number s))
 
 one_of : {T : Type 0} (a b : Option T) (x : T) → option_or a b ≡ Some x → (a ≡ Some x) ⊎ (b ≡ Some x)
 one_of None b x e = inr e
@@ -27,7 +23,7 @@ one_of (Some y) b x e = inl e
 -- the least signal of what one set has and another has not is in the first and not in the second
 first_of_difference : (w held : ℕ) (s : Sig) → held < 2 ^ 64 → least_signal (minus_word w held) ≡ Some s → (has_number w (signal_number s) ≡ true) × (not (has_number held (signal_number s)) ≡ true)
 first_of_difference w held s small found =
-    let range = number_range s in
+    let range = signal_number-range s in
     let both = sym (has_number-minus w held (signal_number s) small (omega arith) (omega arith)) ∙ has_number-least_signal _ s found in
     and_parts (has_number w (signal_number s)) _ both
 
