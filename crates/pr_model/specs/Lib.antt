@@ -21,7 +21,6 @@ pub mod MemoryCalls
 pub mod Messages
 pub mod Moves
 pub mod Order
-pub mod Others
 pub mod Passive
 pub mod Points
 pub mod ProcessCalls

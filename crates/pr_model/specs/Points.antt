@@ -4,9 +4,8 @@ use Rattle.pr_num.specs.Faults.{fault_number}
 use Rattle.pr_num.specs.Sets.{has_number}
 use Rattle.pr_num.specs.Signals.{signal_number}
 use Rattle.pr_num.specs.Syscalls.{syscall_number}
-use Rattle.pr_model.specs.Others.{change_others}
 use Rattle.pr_model.specs.State.{TracedControl, TracedProcess, TracedLwp, with_lwp}
-use Rattle.pr_model.specs.Stops.{directed}
+use Rattle.pr_model.specs.Stops.{with_all_directed}
 use Rattle.pr_model.specs.declared.stops.Point.{Point}
 use Rattle.pr_model.specs.declared.stops.Point.TheVariants.{Signal, Fault, Entry, Exit}
 use Rattle.pr_model.specs.declared.stops.Stop.{Stop}
@@ -38,15 +37,14 @@ meets c (Some point) = is_traced c point
 unfoldable pub stopped_at : Point → TracedLwp → TracedLwp
 stopped_at point l = record l { control = record l.control { stop = Some (stop_at point) } }
 
--- Every other lwp of a process is directed to stop, as a stop of one on an event of interest does, unless PR_ASYNC is
--- set.
-unfoldable pub with_others_directed : ℕ → TracedProcess → TracedProcess
-with_others_directed id p =
-    if has_flags p.control.modes async_mode then p else record p { lwps = change_others id directed p.lwps }
+-- A stop on an event of interest directs every other lwp of the process to stop, unless PR_ASYNC is set. The lwp that
+-- stopped stands on an event, and so is not directed itself.
+unfoldable pub with_others_directed : TracedProcess → TracedProcess
+with_others_directed p = if has_flags p.control.modes async_mode then p else with_all_directed p
 
 -- a process of which an lwp stops at a point
 unfoldable pub with_stop_at : Point → ℕ → TracedProcess → TracedProcess
-with_stop_at point id p = with_others_directed id (with_lwp id (stopped_at point) p)
+with_stop_at point id p = with_others_directed (with_lwp id (stopped_at point) p)
 
 -- a process of which an lwp met a point, or none: it stops where that is traced
 unfoldable pub after_meeting : Option Point → ℕ → TracedProcess → TracedProcess

@@ -1,4 +1,5 @@
-use Rattle.std.specs.Prelude.{◌==◌, ℕ, Bool, true, false, List, Option, Some, None, find, is_some, option_map, if◌then◌else◌}
+use Rattle.std.specs.Prelude.{◌≡◌, ◌≤◌, ◌==◌, ℕ, Bool, true, false, List, Option, Some, None, find, is_some, option_map, if◌then◌else◌}
+use Rattle.std.specs.List.{All}
 use Rattle.std.specs.Option.{option_or}
 use Rattle.pr_num.specs.Agents.{agent_id}
 use Rattle.pr_num.specs.declared.signals.Sig.{Sig}
@@ -84,6 +85,16 @@ representative p =
     (first_in_class p.job_stop 3 p.lwps))
     (first_in_class p.job_stop 4 p.lwps))
     (first_in_class p.job_stop 5 p.lwps)
+
+-- What the representative of a process without an agent is: an lwp of it, such that none is of a lesser class, and none
+-- of its class has a lesser id.
+pub record IsBefore (job : Option Sig) (e : ℕ × TracedLwp) (other : ℕ × TracedLwp) : Type 0 where
+  pub class : class_of job e.1 ≤ class_of job other.1
+  pub id : class_of job e.1 ≡ class_of job other.1 → e.0 ≤ other.0
+
+pub record IsFirstOfClasses (p : TracedProcess) (e : ℕ × TracedLwp) : Type 0 where
+  pub stands : lwp_of p e.0 ≡ Some e.1
+  pub first : All (IsBefore p.job_stop e) p.lwps
 
 -- whether an lwp, if there is one, stands on an event of interest
 abbrev pub stands_on_event : Option TracedLwp → Bool
