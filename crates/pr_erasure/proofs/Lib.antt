@@ -1,6 +1,9 @@
 pub mod ChangeLemmas
+pub mod DecisionLemmas
 pub mod LifeLemmas
 pub mod MoveLemmas
+pub mod PointLemmas
 pub mod SignalLemmas
 pub mod StandingLemmas
 pub mod StateLemmas
+pub mod TransitionLemmas

@@ -4,7 +4,7 @@ use Rattle.pr_num.specs.Infos.{of_fault}
 use Rattle.pr_model.specs.Erasure.{erased_lwp, erased_pending, erased_phase}
 use Rattle.pr_model.specs.Machines.{UntracedLwp, in_program, at_call, sleeping, fault_incurred, fault_posted, fault_pending, unchanged, traced, untraced}
 use Rattle.pr_model.specs.Moves.{Move, stays, stops, posts, returns, runs, enters, incurs, traps, leaves, sleeps, takes, drops, catches, moved}
-use Rattle.pr_model.specs.PendingSignals.{Pending, added, taken}
+use Rattle.pr_parts.specs.PendingSignals.{Pending, added, without_one}
 use Rattle.pr_model.specs.Registers.{stored}
 use Rattle.pr_model.specs.State.{TracedLwp}
 use Rattle.pr_model.specs.declared.lwps.Phase.{Phase}
@@ -60,7 +60,7 @@ moved-erased (traps f address regs) l fits =
 moved-erased (leaves call args result) l fits = ap (λ w. record (erased_lwp l) { regs = stored call result l.regs; pending = w; phase = in_program }) (sym (fits l.pending))
 moved-erased (sleeps call args since) l fits = ap (λ w. record (erased_lwp l) { pending = w; phase = sleeping call args since }) (sym (fits l.pending))
 moved-erased (takes c true) l fits =
-    ap (λ w. record (erased_lwp l) { current = Some c; pending = w }) (fits (taken c.signal l.pending) ∙ ap (taken c.signal) (sym (fits l.pending)))
+    ap (λ w. record (erased_lwp l) { current = Some c; pending = w }) (fits (without_one c.signal l.pending) ∙ ap (without_one c.signal) (sym (fits l.pending)))
 moved-erased (takes c false) l fits = refl
 moved-erased drops l fits = refl
 moved-erased (catches frames regs held) l fits =

@@ -1,6 +1,10 @@
-use Rattle.std.proofs.Common.{◌≡◌, ℕ, Bool, true, false, is_none, eqb, Option, Some, None, List, [], ◌∷◌, cond, refl, sym, ◌∙◌, ap}
+use Rattle.std.proofs.Common.{◌≡◌, ◌-◌, ℕ, zero, suc, Bool, true, false, is_none, eqb, Option, Some, None, List, [], ◌∷◌, cond, refl, sym, ◌∙◌, ap, inl, inr}
+use Rattle.std.proofs.lemmas.Bool.{cases_Bool}
+use Rattle.std.specs.List.{slice_set, slice_index_or}
 use Rattle.pr_num.specs.Faults.{fault_signal}
+use Rattle.pr_num.specs.Signals.{signal_number}
 use Rattle.pr_num.specs.declared.faults.Flt.{Flt}
+use Rattle.pr_num.specs.declared.faults.Flt.TheVariants.{Ill, Bpt, Trace, Watch, Access, Bounds, Stack, Izdiv}
 use Rattle.pr_num.specs.declared.infos.Info.{Info}
 use Rattle.pr_num.specs.declared.signals.Sig.{Sig}
 use Rattle.pr_num.specs.ById.{map_each, change_under}
@@ -9,8 +13,9 @@ use Rattle.pr_parts.specs.SignalRules.{deleted_by}
 use Rattle.pr_model.specs.Erasure.{erased_lwp, erased_pending, erased_phase, erased_process, erased_system}
 use Rattle.pr_model.specs.Generation.{ends_job_stop, lwp_without_pending, lwp_with_pending, without_pending, without_job_stop, with_deletions, with_pending, told}
 use Rattle.pr_model.specs.Machines.{UntracedLwp, UntracedProcess, UntracedSystem}
-use Rattle.pr_model.specs.PendingSignals.{Pending, added, without_signals}
-use Rattle.pr_num.specs.Infos.{of_fault as from_fault}
+use Rattle.pr_parts.specs.PendingSignals.{Pending, is_standard, kept_info, with_standard, with_queued, added, without_signals}
+use Rattle.pr_parts.proofs.PendingLemmas.{added-standard, added-queued, early_signal-stays}
+use Rattle.pr_num.specs.Infos.{of_fault}
 use Rattle.pr_model.specs.State.{TracedLwp, TracedProcess, TracedSystem}
 use Rattle.pr_model.specs.declared.lwps.Phase.{Phase}
 use Rattle.pr_model.specs.declared.lwps.Phase.TheVariants.{User, Entered, Asleep, Exiting, Faulted}
@@ -24,13 +29,51 @@ pub record IsSent (info : Info) : Type 0 where
 
 -- The signal of a fault that was incurred counts early. It is there whether another signal comes before or after it, and
 -- no other signal deletes it.
-added-early : (s : Sig) (info : Info) → IsSent info → (f : Flt) (address : ℕ) (p : Pending) → added s info (added (fault_signal f) (from_fault address) p) ≡ added (fault_signal f) (from_fault address) (added s info p)
-added-early s info sent f address p = ?
+kept-early : (xs : List (Option Info)) (i j : ℕ) (info : Info) (address : ℕ) → IsSent info
+    → slice_set (slice_set xs j (Some (kept_info (slice_index_or xs j None) (of_fault address)))) i (Some (kept_info (slice_index_or (slice_set xs j (Some (kept_info (slice_index_or xs j None) (of_fault address)))) i None) info))
+    ≡ slice_set (slice_set xs i (Some (kept_info (slice_index_or xs i None) info))) j (Some (kept_info (slice_index_or (slice_set xs i (Some (kept_info (slice_index_or xs i None) info))) j None) (of_fault address)))
+kept-early [] i j info address sent = refl
+kept-early (x ∷ xs) zero zero info address sent = ap (λ it. Some it ∷ xs) (early x info address sent)
+  where
+    early : (x : Option Info) (info : Info) (address : ℕ) → IsSent info → kept_info (Some (kept_info x (of_fault address))) info ≡ kept_info (Some (kept_info x info)) (of_fault address)
+    early None info address sent = rw (sent.no_fault) refl
+    early (Some standing) info address sent = rw (sent.no_fault) refl
+kept-early (x ∷ xs) zero (suc j) info address sent = refl
+kept-early (x ∷ xs) (suc i) zero info address sent = refl
+kept-early (x ∷ xs) (suc i) (suc j) info address sent = ap (λ ys. x ∷ ys) (kept-early xs i j info address sent)
 
-without_signals-early : (s : Sig) (f : Flt) (address : ℕ) (p : Pending) → without_signals (deleted_by s) (added (fault_signal f) (from_fault address) p) ≡ added (fault_signal f) (from_fault address) (without_signals (deleted_by s) p)
-without_signals-early s f address p = ?
+fault-standard : (f : Flt) → is_standard (fault_signal f) ≡ true
+unfolding fault_signal signal_number
+fault-standard Ill = refl
+fault-standard Bpt = refl
+fault-standard Trace = refl
+fault-standard Watch = refl
+fault-standard Access = refl
+fault-standard Bounds = refl
+fault-standard Stack = refl
+fault-standard Izdiv = refl
 
-pending-early : (phase : Phase) (g : Pending → Pending) → ((f : Flt) (address : ℕ) (p : Pending) → g (added (fault_signal f) (from_fault address) p) ≡ added (fault_signal f) (from_fault address) (g p)) → (p : Pending) → erased_pending phase (g p) ≡ g (erased_pending phase p)
+added-early : (s : Sig) (info : Info) → IsSent info → (f : Flt) (address : ℕ) (p : Pending) → added s info (added (fault_signal f) (of_fault address) p) ≡ added (fault_signal f) (of_fault address) (added s info p)
+added-early s info sent f address p =
+    let g = fault_signal f in
+    let came = of_fault address in
+    let i = signal_number s - 1 in
+    let j = signal_number g - 1 in
+    let kind = fault-standard f in
+    elim (cases_Bool (is_standard s)) [
+      | inl stands ↦
+          ap (added s info) (added-standard g came p kind) ∙ added-standard s info (with_standard j came p) stands
+          ∙ ap (λ ys. record p { standard = ys }) (kept-early p.standard i j info address sent)
+          ∙ sym (ap (added g came) (added-standard s info p stands) ∙ added-standard g came (with_standard i info p) kind)
+      | inr queues ↦
+          ap (added s info) (added-standard g came p kind) ∙ added-queued s info (with_standard j came p) queues
+          ∙ sym (ap (added g came) (added-queued s info p queues) ∙ added-standard g came (with_queued s info p) kind)
+    ]
+
+without_signals-early : (s : Sig) (f : Flt) (address : ℕ) (p : Pending) → without_signals (deleted_by s) (added (fault_signal f) (of_fault address) p) ≡ added (fault_signal f) (of_fault address) (without_signals (deleted_by s) p)
+without_signals-early s f address p = early_signal-stays s f (of_fault address) p
+
+pending-early : (phase : Phase) (g : Pending → Pending) → ((f : Flt) (address : ℕ) (p : Pending) → g (added (fault_signal f) (of_fault address) p) ≡ added (fault_signal f) (of_fault address) (g p)) → (p : Pending) → erased_pending phase (g p) ≡ g (erased_pending phase p)
 unfolding erased_pending
 pending-early User g early p = refl
 pending-early (Entered call) g early p = refl
@@ -38,7 +81,7 @@ pending-early (Asleep call args since) g early p = refl
 pending-early (Exiting call args result) g early p = refl
 pending-early (Faulted f address) g early p = sym (early f address p)
 
-lwp-early : (l : TracedLwp) (g : Pending → Pending) → ((f : Flt) (address : ℕ) (p : Pending) → g (added (fault_signal f) (from_fault address) p) ≡ added (fault_signal f) (from_fault address) (g p)) → erased_lwp (record l { pending = g l.pending }) ≡ record (erased_lwp l) { pending = g (erased_lwp l).pending }
+lwp-early : (l : TracedLwp) (g : Pending → Pending) → ((f : Flt) (address : ℕ) (p : Pending) → g (added (fault_signal f) (of_fault address) p) ≡ added (fault_signal f) (of_fault address) (g p)) → erased_lwp (record l { pending = g l.pending }) ≡ record (erased_lwp l) { pending = g (erased_lwp l).pending }
 unfolding erased_lwp
 lwp-early l g early = ap (λ w. record (erased_lwp l) { pending = w }) (pending-early l.phase g early l.pending)
 
