@@ -1,9 +1,13 @@
 pub mod ChangeLemmas
 pub mod DecisionLemmas
+pub mod FaultLemmas
 pub mod LifeLemmas
 pub mod MoveLemmas
 pub mod PointLemmas
+pub mod RowLemmas
+pub mod SentLemmas
 pub mod SignalLemmas
 pub mod StandingLemmas
 pub mod StateLemmas
 pub mod TransitionLemmas
+pub mod TurnLemmas
