@@ -1,4 +1,5 @@
 use Rattle.std.proofs.Common.{◌≡◌, ℕ, Bool, true, false, ◌&&◌, eqb, Option, Some, None, List, [], ◌∷◌, cond, refl, sym, ◌∙◌, ap}
+use Rattle.pr_num.specs.Agents.{agent_id}
 use Rattle.pr_num.specs.Signals.{signal_number}
 use Rattle.pr_num.specs.declared.infos.Info.{Info}
 use Rattle.pr_num.specs.declared.signals.Sig.{Sig}
@@ -15,15 +16,16 @@ use Rattle.pr_erasure.proofs.StateLemmas.{with_process-erased, with_lwp-erased}
 
 -- What a turn changes of the system, as programs see it: a line a kind of change.
 
--- whether what comes with the signals that a change sends is not of a fault
-abbrev pub IsSentBy : Change → Type 0
-IsSentBy (signals target g info) = IsSent info
-IsSentBy (signals_itself g info) = IsSent info
-IsSentBy _ = Unit {0}
+-- whether what comes with the signals that a change sends is not of a fault, and the lwp that it makes is no agent
+abbrev pub IsProper : Change → Type 0
+IsProper (signals target g info) = IsSent info
+IsProper (signals_itself g info) = IsSent info
+IsProper (makes_lwp new regs held) = eqb new agent_id ≡ false
+IsProper _ = Unit {0}
 
-abbrev pub AreSent : List Change → Type 0
-AreSent [] = Unit {0}
-AreSent (c ∷ cs) = IsSentBy c × AreSent cs
+abbrev pub AreProper : List Change → Type 0
+AreProper [] = Unit {0}
+AreProper (c ∷ cs) = IsProper c × AreProper cs
 
 -- a signal is generated
 pub generated-erased : (pid : ℕ) (target : Option ℕ) (g : Sig) (info : Info) → IsSent info → (s : TracedSystem) → erased_system (generated traced pid target g info s) ≡ generated untraced pid target g info (erased_system s)
@@ -40,7 +42,7 @@ module _ (pid : ℕ) (p : TracedProcess) (id : ℕ) (l : TracedLwp) where
   own_lwp : (s : TracedSystem) (other : ℕ) (f : TracedLwp → TracedLwp) (g : _ → _) → ((x : TracedLwp) → erased_lwp (f x) ≡ g (erased_lwp x)) → erased_system (with_process pid (with_lwp other f) s) ≡ with_process pid (with_lwp other g) (erased_system s)
   own_lwp s other f g agree = with_process-erased s pid (with_lwp other f) (with_lwp other g) (λ x found. with_lwp-erased x other f g (λ y there. agree y))
 
-  pub changed-erased : (c : Change) → IsSentBy c → (s : TracedSystem) → erased_system (changed traced pid p id l c s) ≡ changed untraced pid (erased_process p) id (erased_lwp l) c (erased_system s)
+  pub changed-erased : (c : Change) → IsProper c → (s : TracedSystem) → erased_system (changed traced pid p id l c s) ≡ changed untraced pid (erased_process p) id (erased_lwp l) c (erased_system s)
   unfolding changed erased_system erased_process erased_lwp with_fds with_space with_shared_taken with_job_stop with_disposition_of with_held resumed with_suspended
   changed-erased (files_are files fds) sent s = with_process-erased (record s { files = files }) pid (with_fds fds) (with_fds fds) (λ x found. refl)
   changed-erased (space_is space) sent s = with_process-erased s pid (with_space space) (with_space space) (λ x found. refl)
@@ -57,7 +59,7 @@ module _ (pid : ℕ) (p : TracedProcess) (id : ℕ) (l : TracedLwp) where
   changed-erased (makes_lwp new regs held) sent s = with_process-erased s pid (with_new_lwp traced new regs held) (with_new_lwp untraced new regs held) (λ x found. with_new_lwp-erased new regs held x)
   changed-erased (suspends other it) sent s = own_lwp s other (with_suspended it) (with_suspended it) (λ x. refl)
 
-  pub all_changed-erased : (cs : List Change) → AreSent cs → (s : TracedSystem) → erased_system (all_changed traced pid p id l cs s) ≡ all_changed untraced pid (erased_process p) id (erased_lwp l) cs (erased_system s)
+  pub all_changed-erased : (cs : List Change) → AreProper cs → (s : TracedSystem) → erased_system (all_changed traced pid p id l cs s) ≡ all_changed untraced pid (erased_process p) id (erased_lwp l) cs (erased_system s)
   unfolding all_changed
   all_changed-erased [] sent s = refl
   all_changed-erased (c ∷ cs) sent s =

@@ -4,10 +4,11 @@ pub mod FaultLemmas
 pub mod LifeLemmas
 pub mod MoveLemmas
 pub mod PointLemmas
+pub mod ProperLemmas
 pub mod RowLemmas
-pub mod SentLemmas
 pub mod SignalLemmas
 pub mod StandingLemmas
 pub mod StateLemmas
 pub mod TransitionLemmas
 pub mod TurnLemmas
+pub mod UntouchedLemmas

@@ -25,7 +25,7 @@ use Rattle.pr_model.specs.CallEffects.{call_effect}
 use Rattle.pr_model.specs.Registers.{arguments}
 use Rattle.pr_model.specs.declared.lwps.Current.{Current}
 use Rattle.pr_erasure.proofs.DecisionLemmas.{decided}
-use Rattle.pr_erasure.proofs.SentLemmas.{IsSentEffect}
+use Rattle.pr_erasure.proofs.ProperLemmas.{IsProperEffect}
 use Rattle.pr_model.specs.Signals.{action_for, with_frame, handler_registers, handler_held, own_takeable, shared_takeable, takeable, current_of}
 use Rattle.pr_num.specs.Sets.{minus_word}
 use Rattle.pr_num.specs.declared.signals.Sig.TheVariants.{Segv}
@@ -41,7 +41,7 @@ use Rattle.pr_model.specs.declared.lwps.Phase.{Phase}
 use Rattle.pr_model.specs.declared.lwps.Phase.TheVariants.{User, Entered, Asleep, Exiting, Faulted}
 use Rattle.pr_model.specs.declared.steps.Step.{Step}
 use Rattle.pr_model.specs.declared.steps.Step.TheVariants.{Exec, Fault, Act as ActOn}
-use Rattle.pr_erasure.proofs.ChangeLemmas.{AreSent}
+use Rattle.pr_erasure.proofs.ChangeLemmas.{AreProper}
 use Rattle.pr_erasure.proofs.FaultLemmas.{IsPlain, plain}
 use Rattle.pr_erasure.proofs.MoveLemmas.{Fits, HasNoFault}
 use Rattle.pr_erasure.proofs.StateLemmas.{process-erased, lwp-erased, live-erased}
@@ -165,7 +165,7 @@ module _ (s : TracedSystem) (pid : ℕ) (p : TracedProcess) (id : ℕ) (l : Trac
   unfolding ran_row
   ran_is regs store = rw (h.no_step) refl
 
-  sent_store : (store : Option Store) → AreSent (stored_in p.space store)
+  sent_store : (store : Option Store) → AreProper (stored_in p.space store)
   unfolding stored_in
   sent_store None = tt
   sent_store (Some store) = (tt, tt)
@@ -332,7 +332,7 @@ module _ (s : TracedSystem) (pid : ℕ) (p : TracedProcess) (id : ℕ) (l : Trac
   not_caught : l.current ≡ None → is_caught p.dispositions l.current ≡ false
   not_caught current = ap (is_caught p.dispositions) current
 
-  pub call-runs : (call : Sysno) (effect : Effect) → call_effect s pid p id l s.clock call (arguments l.regs) ≡ effect → IsSentEffect effect → l.phase ≡ Entered call → l.current ≡ None → HasNoFault l.phase → RowRuns s pid p id l (performed_row false call (arguments l.regs) s.clock effect)
+  pub call-runs : (call : Sysno) (effect : Effect) → call_effect s pid p id l s.clock call (arguments l.regs) ≡ effect → IsProperEffect effect → l.phase ≡ Entered call → l.current ≡ None → HasNoFault l.phase → RowRuns s pid p id l (performed_row false call (arguments l.regs) s.clock effect)
   unfolding performed_row performed erased_lwp erased_process erased_system erased_phase
   call-runs call (change.does result changes) is sent at current no_fault returning =
       step_by (makes_call (record {

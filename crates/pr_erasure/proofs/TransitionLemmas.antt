@@ -10,7 +10,7 @@ use Rattle.pr_model.specs.Rows.{Row}
 use Rattle.pr_model.specs.State.{TracedLwp, TracedProcess, TracedSystem, process_of, lwp_of, with_process, with_lwp, with_lwp_of}
 use Rattle.pr_model.specs.Transitions.{Transition, ended_if, after_transition}
 use Rattle.pr_model.specs.declared.lwps.Phase.{Phase}
-use Rattle.pr_erasure.proofs.ChangeLemmas.{AreSent, all_changed-erased, ended-erased}
+use Rattle.pr_erasure.proofs.ChangeLemmas.{AreProper, all_changed-erased, ended-erased}
 use Rattle.pr_erasure.proofs.MoveLemmas.{Fits, moved-erased}
 use Rattle.pr_erasure.proofs.PointLemmas.{after_meeting-hidden, with_counted-hidden}
 use Rattle.pr_erasure.proofs.StandingLemmas.{Stands, stands-all}
@@ -21,7 +21,7 @@ use Rattle.pr_erasure.proofs.StateLemmas.{with_process-erased, with_process-hidd
 -- a transition whose move fits the phase of its lwp, and that sends no signal as a fault's
 pub record Suits (t : Transition) (phase : Phase) : Type 0 where
   pub fits : Fits t.move phase
-  pub sent : AreSent t.changes
+  pub sent : AreProper t.changes
 
 -- the lwp of an id stands in the process of an id
 pub record IsThere (s : TracedSystem) (pid : ℕ) (p : TracedProcess) (id : ℕ) (l : TracedLwp) : Type 0 where

@@ -1,1 +1,132 @@
-use Rattle.std.proofs.Common.{◌≡◌, refl}
+use Rattle.std.proofs.Common.{◌≡◌, ℕ, Bool, true, false, not, ◌||◌, ◌&&◌, is_some, Option, Some, None, List, [], ◌∷◌, cond, refl, sym, subst, ◌∙◌, ap}
+use Rattle.std.proofs.lemmas.Option.{same_Some}
+use Rattle.pr_num.specs.declared.faults.Flt.{Flt}
+use Rattle.pr_num.specs.declared.signals.Sig.{Sig}
+use Rattle.pr_num.specs.declared.syscalls.Sysno.{Sysno}
+use Rattle.pr_model.specs.Built.{is_built_turn, is_built_in, is_built_syscall, meets_signals}
+use Rattle.pr_model.specs.CallEffects.{call_effect}
+use Rattle.pr_model.specs.Erasure.{erased_lwp, erased_phase, erased_pending, erased_process, erased_system}
+use Rattle.pr_model.specs.LwpTurns.{LwpTurn, is_held_back, may_go_on, may_turn, settled, turn_in, turn_of_lwp, turn_of_process, turn_of}
+use Rattle.pr_model.specs.Registers.{arguments}
+use Rattle.pr_model.specs.Rows.{Row, requested_row, performed_row, interrupted_row, call_row, row_in, taken_or, signal_row_or, current_row_or, posted_row_or, row_for}
+use Rattle.pr_model.specs.Signals.{own_takeable, shared_takeable, has_takeable}
+use Rattle.pr_model.specs.State.{TracedLwp, TracedProcess, TracedSystem, live_process, lwp_of}
+use Rattle.pr_model.specs.UntracedMachine.{UntracedRun, takes_in}
+use Rattle.pr_model.specs.UntracedSteps.{steps_of_turn}
+use Rattle.pr_model.specs.declared.lwps.Current.{Current}
+use Rattle.pr_model.specs.declared.lwps.Phase.{Phase}
+use Rattle.pr_model.specs.declared.lwps.Phase.TheVariants.{User, Entered, Asleep, Exiting, Faulted}
+use Rattle.pr_erasure.proofs.MoveLemmas.{HasNoFault}
+use Rattle.pr_erasure.proofs.RowLemmas.{HasTurn, RowRuns, requested-runs, posted-runs, returned-runs, program-runs, unsignalled, own_taken-runs, shared_taken-runs, acted-runs, call-runs}
+use Rattle.pr_erasure.proofs.ProperLemmas.{call-proper}
+
+-- Every turn, as programs see it.
+
+clash : {X : Type 0} (b : Bool) → b ≡ true → b ≡ false → X
+clash true h e = absurd (no e)
+  where
+    no : true ≡ false → ⊥
+    no e = cc
+clash false h e = absurd (no h)
+  where
+    no : false ≡ true → ⊥
+    no e = cc
+
+and_left : (a b : Bool) → (a && b) ≡ true → a ≡ true
+and_left true b e = refl
+and_left false b e = cc
+
+and_right : (a b : Bool) → (a && b) ≡ true → b ≡ true
+and_right true b e = e
+and_right false b e = cc
+
+or_right : (a b : Bool) → (a || b) ≡ true → a ≡ false → b ≡ true
+or_right true b e other = clash true refl other
+or_right false b e other = e
+
+not_true : (b : Bool) → not b ≡ true → b ≡ false
+not_true true e = cc
+not_true false e = refl
+
+module _ (s : TracedSystem) (pid : ℕ) (p : TracedProcess) (id : ℕ) (l : TracedLwp) (h : HasTurn s pid p id l) where
+  current-runs : (o : Option Current) → l.current ≡ o → HasNoFault l.phase → (rest : Row) → (l.current ≡ None → RowRuns s pid p id l rest) → RowRuns s pid p id l (current_row_or s pid p id l o rest)
+  current-runs (Some c) is no_fault rest runs = acted-runs s pid p id l h c is no_fault
+  current-runs None is no_fault rest runs = runs is
+
+  taken-runs : (a b : Option Sig) → own_takeable l ≡ a → shared_takeable p l ≡ b → HasNoFault l.phase → takes_in (erased_phase l.phase) ≡ true → l.current ≡ None → (rest : Row) → (own_takeable l ≡ None → shared_takeable p l ≡ None → RowRuns s pid p id l rest) → RowRuns s pid p id l (taken_or s pid p id l a b rest)
+  taken-runs (Some g) b own shared no_fault place current rest runs = own_taken-runs s pid p id l h g no_fault place current own
+  taken-runs None (Some g) own shared no_fault place current rest runs = shared_taken-runs s pid p id l h g no_fault place current own shared
+  taken-runs None None own shared no_fault place current rest runs = runs own shared
+
+  phase-runs : (phase : Phase) → l.phase ≡ phase → is_built_in p l l.phase ≡ true → RowRuns s pid p id l (posted_row_or s pid p id l phase (current_row_or s pid p id l l.current (signal_row_or s pid p id l phase (row_in s pid p id l phase))))
+  unfolding erased_pending erased_phase signal_row_or row_in call_row
+  phase-runs User is built =
+      let no_fault : HasNoFault l.phase = subst HasNoFault (sym is) (λ w. refl) in
+      current-runs l.current refl no_fault _ (λ current.
+      taken-runs (own_takeable l) (shared_takeable p l) refl refl no_fault (ap (λ ph. takes_in (erased_phase ph)) is) current _ (λ own shared.
+      program-runs s pid p id l h is no_fault (unsignalled s pid p id l h no_fault current own shared)))
+  phase-runs (Entered call) is built =
+      let no_fault : HasNoFault l.phase = subst HasNoFault (sym is) (λ w. refl) in
+      let known : is_built_syscall call ≡ true = or_right l.control.abort (is_built_syscall call) (subst (λ ph. is_built_in p l ph ≡ true) is built) h.no_abort in
+      current-runs l.current refl no_fault _ (λ current.
+      subst (λ b. RowRuns s pid p id l (cond b (interrupted_row false call (arguments l.regs)) (performed_row false call (arguments l.regs) s.clock (call_effect s pid p id l s.clock call (arguments l.regs))))) (sym h.no_abort)
+      (call-runs s pid p id l h call _ refl (call-proper s pid p id l s.clock call (arguments l.regs) known) is current no_fault))
+  phase-runs (Asleep call args since) is built = clash false (subst (λ ph. is_built_in p l ph ≡ true) is built) refl
+  phase-runs (Exiting call args result) is built =
+      let no_fault : HasNoFault l.phase = subst HasNoFault (sym is) (λ w. refl) in
+      current-runs l.current refl no_fault _ (λ current.
+      taken-runs (own_takeable l) (shared_takeable p l) refl refl no_fault (ap (λ ph. takes_in (erased_phase ph)) is) current _ (λ own shared.
+      returned-runs s pid p id l h call args result is no_fault))
+  phase-runs (Faulted f address) is built = posted-runs s pid p id l h f address is
+
+  -- whatever row is the first that fits
+  pub row-runs : is_built_turn p l ≡ true → RowRuns s pid p id l (row_for s pid p id l)
+  unfolding row_for is_built_turn
+  row-runs built = by l.control.directed refl
+    where
+      by : (b : Bool) → l.control.directed ≡ b → RowRuns s pid p id l (cond b requested_row (posted_row_or s pid p id l l.phase (current_row_or s pid p id l l.current (signal_row_or s pid p id l l.phase (row_in s pid p id l l.phase)))))
+      by true is = requested-runs s pid p id l h
+      by false is = phase-runs l.phase refl (and_right _ (is_built_in p l l.phase) (or_right l.control.directed _ built is))
+
+-- what a turn that an lwp takes is made of
+pub record TakesTurn (s : TracedSystem) (pid id : ℕ) (t : LwpTurn) : Type 0 where
+  pub process : TracedProcess
+  pub lwp : TracedLwp
+  pub live : live_process s pid ≡ Some process
+  pub there : lwp_of process id ≡ Some lwp
+  pub free : is_held_back process id lwp ≡ false
+  pub built : is_built_turn process lwp ≡ true
+  pub is : t ≡ settled s pid process id lwp (row_for s pid process id lwp)
+
+pub turn-taken : (s : TracedSystem) (pid id : ℕ) (t : LwpTurn) → turn_of s pid id ≡ Some t → TakesTurn s pid id t
+unfolding turn_of may_turn
+turn-taken s pid id t turn = by_process (live_process s pid) refl turn
+  where
+    by_test : (p : TracedProcess) (l : TracedLwp) → live_process s pid ≡ Some p → lwp_of p id ≡ Some l → (b : Bool) → may_turn s pid p id l ≡ b → cond b (Some (settled s pid p id l (row_for s pid p id l))) None ≡ Some t → TakesTurn s pid id t
+    by_test p l live there true may is = record {
+      process = p;
+      lwp = l;
+      live = live;
+      there = there;
+      free = not_true _ (and_left _ _ may);
+      built = and_right _ _ (and_right _ _ may);
+      is = sym (same_Some _ _ is);
+    }
+    by_test p l live there false may is = absurd (none is)
+      where
+        none : None ≡ Some t → ⊥
+        none e = cc
+
+    by_lwp : (p : TracedProcess) → live_process s pid ≡ Some p → (o : Option TracedLwp) → lwp_of p id ≡ o → turn_of_lwp s pid id p o ≡ Some t → TakesTurn s pid id t
+    by_lwp p live None there is = absurd (none is)
+      where
+        none : None ≡ Some t → ⊥
+        none e = cc
+    by_lwp p live (Some l) there is = by_test p l live there (may_turn s pid p id l) refl is
+
+    by_process : (o : Option TracedProcess) → live_process s pid ≡ o → turn_of_process s pid id o ≡ Some t → TakesTurn s pid id t
+    by_process None live is = absurd (none is)
+      where
+        none : None ≡ Some t → ⊥
+        none e = cc
+    by_process (Some p) live is = by_lwp p live (lwp_of p id) refl is
