@@ -17,7 +17,7 @@ use Rattle.pr_num.specs.declared.instructions.Reg.{Reg}
 use Rattle.pr_num.specs.declared.instructions.Reg.TheVariants.{R0, R1, R2, R3, R4, R5, R6, R7}
 use Rattle.pr_num.specs.Syscalls.{syscall_name, syscall_of_name}
 use Rattle.pr_num.specs.declared.syscalls.Sysno.{Sysno}
-use Rattle.pr_num.specs.declared.syscalls.Sysno.TheVariants.{Exit, Fork, Read, Write, Open, Close, Wait, Getpid, Getppid, Exec, Pipe, Dup, Lseek, Kill, Sigaction, Sigmask, Pause, Sigreturn, Brk, Mmap, Munmap, Mprotect, Time, Sleep, LwpCreate, LwpExit, LwpSuspend, LwpContinue, Fstat}
+use Rattle.pr_num.specs.declared.syscalls.Sysno.TheVariants.{Exit, Fork, Read, Write, Open, Close, Wait, Getpid, Getppid, Exec, Pipe, Dup, Lseek, Kill, Sigaction, Sigmask, Pause, Sigreturn, Brk, Mmap, Munmap, Mprotect, Time, Sleep, LwpCreate, LwpExit, LwpSuspend, LwpContinue, Fstat, Sigqueue}
 use Rattle.pr_asm.specs.declared.operands.Immediate.{Immediate}
 use Rattle.pr_asm.specs.declared.refusals.AsmKind.TheVariants.{BadOperand}
 use Rattle.pr_asm.specs.Operands.{register, immediate_of, immediate, call, two_registers, register_and_immediate, registers_and_immediate, one_immediate, one_call}
@@ -454,6 +454,7 @@ read_call LwpExit = refl
 read_call LwpSuspend = refl
 read_call LwpContinue = refl
 read_call Fstat = refl
+read_call Sigqueue = refl
 
 pub call_token : (c : Sysno) → IsToken (syscall_name c)
 unfolding syscall_name
@@ -486,6 +487,7 @@ call_token LwpExit = plain_token (codes "lwp_exit") (omega arith) refl
 call_token LwpSuspend = plain_token (codes "lwp_suspend") (omega arith) refl
 call_token LwpContinue = plain_token (codes "lwp_continue") (omega arith) refl
 call_token Fstat = plain_token (codes "fstat") (omega arith) refl
+call_token Sigqueue = plain_token (codes "sigqueue") (omega arith) refl
 
 -- ---- statements
 

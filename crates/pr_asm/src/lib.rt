@@ -33,5 +33,3 @@ pub use tokens::Tokens;
 
 #[cfg(test)]
 mod tests;
-#[cfg(test)]
-mod tests_programs;

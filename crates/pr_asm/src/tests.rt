@@ -118,7 +118,7 @@ fn places_names(rt: HostRuntime) {
 
 #[test]
 fn names_the_first_fault(rt: HostRuntime) {
-    let rows: [(&[u8], u32, AsmKind); 41] = [
+    let rows: [(&[u8], u32, AsmKind); 42] = [
         (b"nap", 1, AsmKind::UnknownWord),
         (b"9a:", 1, AsmKind::UnknownWord),
         (b":", 1, AsmKind::UnknownWord),
@@ -144,6 +144,7 @@ fn names_the_first_fault(rt: HostRuntime) {
         (b"sys 2", 1, AsmKind::BadOperand),
         (b"sys", 1, AsmKind::BadOperand),
         (b"sys getpit", 1, AsmKind::UnknownName),
+        (b"sys sigqueue\nsys 30", 2, AsmKind::BadOperand),
         (b"nop\nsys fork fork", 2, AsmKind::BadOperand),
         (b"jmp a\na: nop", 1, AsmKind::UnknownName),
         (b"jmp a\nb:\nb:", 1, AsmKind::UnknownName),

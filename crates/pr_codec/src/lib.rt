@@ -6,6 +6,3 @@ mod words;
 
 pub use laws::{a_word_is_its_bytes, words_are_their_bytes};
 pub use words::{Short, WORD, push_word, put, put_words, read_words, word};
-
-#[cfg(test)]
-mod tests;

@@ -7,6 +7,7 @@ mod transfers;
 
 use crate::fds::Fds;
 use crate::tables::{Tables, pipe_of};
+use pr_num::limits::{FILE_LIMIT, FILE_SIZE_LIMIT, PIPE_LIMIT};
 use pr_num::{Access, Bytes, Name, NoMemory, OpenFile};
 use pr_parts::{FileNo, Stat};
 use std::alloc::Global;
@@ -14,15 +15,6 @@ use std::marker::Model;
 
 /// The flag of an opening that makes the file where there is none.
 const CREATE: u64 = 256;
-
-/// How many files there can be.
-const MOST_FILES: usize = 256;
-
-/// How many pipes can stand.
-const MOST_PIPES: usize = 256;
-
-/// How many bytes a file can have.
-const MOST_BYTES: u64 = 65_536;
 
 /// The files of a system, its pipes, and the open files for which descriptors of processes stand.
 #[derive(Drop)]
@@ -76,7 +68,7 @@ impl Files {
 
     /// Whether a file has this name.
     pub fn has_file(&self, name: &Name) -> bool
-        ensures { IsTrue result ↔ (file_named self.now name.now ≢ None) }
+        ensures { result ≡ is_some (file_named self.now name.now) }
     {
         self.tables.file_named(name).is_some()
     }
@@ -88,8 +80,9 @@ impl Files {
         self.tables.has_room(more)
     }
 
-    /// Adds a file, whose name no file has yet.
-    pub fn add(&mut self, name: Name, bytes: Bytes) -> Result<(), NoMemory>
+    /// Adds a file, whose name no file has yet. As every call that takes memory it is passed an allocator, though the
+    /// list of files has its own.
+    pub fn add(&mut self, _alloc: Global, name: Name, bytes: Bytes) -> Result<(), NoMemory>
         requires few { length self.old.files < 256 }
         requires short { length bytes ≤ 65536 }
         requires new_name { file_named self.old name ≡ None }
@@ -184,7 +177,7 @@ impl Files {
         requires new_name { file_named self.old name ≡ None }
         ensures { (record { files = self.new; fds = fds.new; answer = result }) ≡ unless_no_memory self.old fds.old result (created_file self.old fds.old fd name flags) }
     {
-        if self.tables.file_count() >= MOST_FILES {
+        if self.tables.file_count() >= FILE_LIMIT {
             return Err(FileNo::TableFull);
         }
         let place = self.tables.create_file(alloc, name, access_of(flags))?;
@@ -233,7 +226,7 @@ impl Files {
         let Some(writer) = fds.free_behind(reader) else {
             return Err(FileNo::NoPlace);
         };
-        if self.tables.pipe_count() >= MOST_PIPES {
+        if self.tables.pipe_count() >= PIPE_LIMIT {
             return Err(FileNo::TableFull);
         }
         let (read_end, write_end) = self.tables.open_pipe(alloc)?;
@@ -255,7 +248,7 @@ impl Files {
         if pipe_of(file.target).is_some() {
             return Err(FileNo::NotSeekable);
         }
-        if offset > MOST_BYTES {
+        if offset > FILE_SIZE_LIMIT {
             return Err(FileNo::BadOffset);
         }
         self.tables.set_open(place, OpenFile { offset, ..file });

@@ -177,7 +177,7 @@ impl Tables {
         self.pipes.iter().filter(|pipe| pipe.is_some()).count()
     }
 
-    /// Adds a file behind the others.
+    /// Adds a file after the others.
     #[tactic(auto, unfolding(pr_parts::specs::FileCalls::with_file))]
     pub(crate) fn add_file(&mut self, name: Name, bytes: Bytes) -> Result<(), NoMemory>
         ensures ok { OnOk result (self.new ≡ with_file self.old name bytes) }
@@ -198,7 +198,7 @@ impl Tables {
         Ok(places::put(&mut self.opens, first_open(Target::File(file), access)))
     }
 
-    /// Makes a file without bytes behind the others and opens it, and answers the place of the open file.
+    /// Makes a file without bytes after the others and opens it, and answers the place of the open file.
     #[tactic(auto, unfolding(pr_parts::specs::FileCalls::with_open, pr_parts::specs::FileCalls::with_file))]
     pub(crate) fn create_file(
         &mut self,

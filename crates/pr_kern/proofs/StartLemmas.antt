@@ -2,7 +2,7 @@ use Rattle.std.proofs.Common.{◌≡◌, ℕ, ◌≤◌, ◌++◌, Bool, false, 
 use Rattle.std.specs.List.{All, slice_get}
 use Rattle.std.proofs.lemmas.List.Elements.{All-nil, All-cons, All-push}
 use Rattle.pr_num.specs.Programs.{Program, text_of}
-use Rattle.pr_num.specs.Spaces.{heap_size, mapping_limit, unless_empty, first_space, read_execute, read_write}
+use Rattle.pr_num.specs.Spaces.{heap_size, mapping_limit, unless_empty, first_mappings, first_space, read_execute, read_write}
 use Rattle.pr_num.specs.declared.files.StoredFile.{StoredFile}
 use Rattle.pr_num.specs.declared.mappings.MappingKind.TheVariants.{Text, Data, Stack}
 use Rattle.pr_model.specs.FirstState.{bare_system, spawned_at, system_process, with_spawns, first_system}
@@ -22,7 +22,7 @@ no_heap (t ∷ text) (d ∷ bytes) stack = refl
 
 -- a program begins without a heap
 first_space-heap : (program : Program) → heap_size (first_space program) ≡ 0
-unfolding first_space
+unfolding first_space first_mappings
 first_space-heap program = no_heap (text_of program) program.bytes (replicate 4096 0)
 
 new_process-small : (pid : ℕ) (program : Program) (clock : ℕ) (held : Bool) → HasSmallHeap (new_process pid program clock held)

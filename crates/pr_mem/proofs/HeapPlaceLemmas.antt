@@ -4,15 +4,15 @@ use Rattle.std.proofs.lemmas.Bool.{le-leb, or_left, or_right}
 use Rattle.std.proofs.lemmas.List.{length-append, length-replicate}
 use Rattle.std.proofs.lemmas.List.Elements.{All-append, All-cons, All-map, All-nil, All-weaker}
 use Rattle.pr_num.specs.Programs.{rounded, whole_pages}
-use Rattle.pr_num.specs.Spaces.{Space, read_execute, read_write, unless_empty}
+use Rattle.pr_num.specs.Spaces.{Space, read_execute, read_write, unless_empty, first_mappings}
 use Rattle.pr_num.specs.declared.mappings.Mapping.{Mapping}
 use Rattle.pr_num.specs.declared.mappings.MappingKind.{MappingKind}
 use Rattle.pr_num.specs.declared.mappings.MappingKind.TheVariants.{Text, Data, Stack}
-use Rattle.pr_parts.specs.AddressSpaces.{LeavesHeapPlace, address_of, break_limit, first_mappings, heap_base, is_break_heap, is_range, with_bytes, with_mapping, with_prot, with_protected, with_written, without_range, zeros_at}
+use Rattle.pr_parts.specs.AddressSpaces.{LeavesHeapPlace, address_of, break_limit, heap_base, is_break_heap, is_range, with_bytes, with_mapping, with_prot, with_protected, with_written, without_range, zeros_at}
 use Rattle.pr_parts.proofs.AccessLemmas.{length-written_bytes}
-use Rattle.pr_parts.proofs.ByAddressLemmas.{All-placed, All-without_first}
-use Rattle.pr_parts.proofs.HeapLemmas.{All-changed}
+use Rattle.pr_parts.proofs.ByAddressLemmas.{All-placed}
 use Rattle.pr_mem.specs.Answers.{is_outside_heap_place}
+use Rattle.pr_num.proofs.TableLaws.{All-change_first, All-without_first}
 
 -- Calls leave the heap its place.
 
@@ -33,7 +33,7 @@ LeavesHeapPlace-without_range at size space leaves = All-without_first LeavesHea
 pub LeavesHeapPlace-with_protected : (at size prot : ℕ) (space : Space) → All LeavesHeapPlace space → All LeavesHeapPlace (with_protected at size prot space)
 unfolding with_protected with_prot
 LeavesHeapPlace-with_protected at size prot space leaves =
-    All-changed LeavesHeapPlace (is_range at size) (with_prot prot) space (λ m found here. here) leaves
+    All-change_first LeavesHeapPlace (is_range at size) (with_prot prot) (λ m found here. here) space leaves
 
 written_leaves : (at : ℕ) (bytes : List ℕ) (m : Mapping) → LeavesHeapPlace m → LeavesHeapPlace (with_written at bytes m)
 unfolding with_written

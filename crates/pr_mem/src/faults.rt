@@ -1,6 +1,4 @@
-ghost use Rattle.std.specs.Prelude.{◌≡◌, ◌≤◌, ◌<◌};
-
-use pr_num::{BadByte, MappingKind, NoMemory, Prot};
+use pr_num::{BadByte, NoMemory};
 use thiserror::Error;
 
 /// A mapping that is asked for.
@@ -10,9 +8,10 @@ pub struct Map {
     pub at: u64,
     /// How many bytes it has.
     pub size: u64,
-    /// What may be done with them.
-    pub prot: Prot,
-    pub kind: MappingKind,
+    /// What may be done with them: 4 to read, 2 to write, 1 to run, or a sum of these.
+    pub prot: u8,
+    /// What it is for: 1 text, 2 data, 3 heap, 4 stack, 5 what mmap(2) made.
+    pub kind: u8,
 }
 
 /// Why a call on an address space is refused.

@@ -1,8 +1,8 @@
 ghost use Rattle.std.specs.Prelude.{◌≡◌, ◌≤◌, ◌<◌, ◌^◌, ◌++◌, ◌∷◌, length, [], insert, slice_get, slice_set, Some, IfOk, OnOk, OnErr};
 ghost use Rattle.pr_num.specs.Programs.{whole_pages};
-ghost use Rattle.pr_num.specs.Spaces.{unless_empty};
+ghost use Rattle.pr_num.specs.Spaces.{unless_empty, first_mappings};
 ghost use Rattle.pr_num.specs.declared.mappings.Mapping.{Mapping};
-ghost use Rattle.pr_parts.specs.AddressSpaces.{first_mappings, resized, with_prot, zeros_at};
+ghost use Rattle.pr_parts.specs.AddressSpaces.{resized, with_prot, zeros_at};
 
 use pr_num::{Bytes, Mapping, MappingKind, NoMemory, Prot};
 use std::alloc::Global;

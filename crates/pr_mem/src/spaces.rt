@@ -1,7 +1,7 @@
-ghost use Rattle.std.specs.Prelude.{◌≡◌, ◌≤◌, ◌<◌, ◌+◌, ◌^◌, [], All, length, position, remove, true, Some, None, Ok, Err, OnOk, OnErr, IfOk, IfSome, IsOkUnless, IsTrue};
+ghost use Rattle.std.specs.Prelude.{◌≡◌, ◌≤◌, ◌<◌, ◌+◌, ◌^◌, [], All, length, position, remove, true, Some, None, Ok, Err, OnOk, OnErr, IfOk, IfSome, IsSome, IsOkUnless, IsTrue};
 ghost use Rattle.pr_num.specs.Programs.{rounded};
-ghost use Rattle.pr_num.specs.Spaces.{mapped_size, mapping_limit, bytes_for};
-ghost use Rattle.pr_parts.specs.AddressSpaces.{LeavesHeapPlace, break_limit, first_mappings, gap_in, heap_base, is_break_heap, is_free, text_at, with_break, with_bytes, with_heap, with_mapping, with_protected, without_range, zeros_at};
+ghost use Rattle.pr_num.specs.Spaces.{mapped_size, mapping_limit, bytes_for, first_mappings, kind_of_number};
+ghost use Rattle.pr_parts.specs.AddressSpaces.{LeavesHeapPlace, break_limit, gap_in, heap_base, is_break_heap, is_free, text_at, with_break, with_bytes, with_heap, with_mapping, with_protected, without_range, zeros_at};
 ghost use Rattle.pr_mem.specs.Answers.{access_answer, break_refusal, done_unless, has_heap_room, is_outside_heap_place, map_refusal, range_refusal, text_answer, with_text};
 
 use crate::{Map, MemFault, accesses, gaps, mappings, ranges, texts, writes};
@@ -119,24 +119,47 @@ impl Space {
     /// Maps zero bytes. Where a mapping stands there, where more than 1 MiB would be mapped, or where memory runs out,
     /// the space stays as it is. A mapping that has no byte where the heap can be leaves the heap its place, as the
     /// other calls do.
+    pub fn map_as(
+        &mut self,
+        alloc: Global,
+        at: u64,
+        size: u64,
+        prot: Prot,
+        kind: MappingKind,
+    ) -> Result<(), MemFault>
+        requires size { 0 < size }
+        requires end { at + size < 2 ^ 64 }
+        ensures refused { IfSome (map_refusal at size self.old) (λ fault. result ≡ Err fault) }
+        ensures granted { map_refusal at size self.old ≡ None → IsOkUnless result MemFault.NoMemory }
+        ensures ok { OnOk result (self.new ≡ with_mapping (zeros_at at size prot kind) self.old) }
+        ensures err { OnErr result (self.new ≡ self.old) }
+        ensures heap_place { IsTrue (is_outside_heap_place at size) → All LeavesHeapPlace self.old → All LeavesHeapPlace self.new }
+    {
+        if !ranges::is_free(&self.mappings, at, size) {
+            return Err(MemFault::Overlap);
+        }
+        if size > Space::LIMIT - self.mapped {
+            return Err(MemFault::TooBig);
+        }
+        let mapping = mappings::zeros_at(alloc, at, size as usize, prot, kind)?;
+        self.add(mapping)?;
+        Ok(())
+    }
+
+    /// The same, where protections and kind are given by their numbers.
     pub fn map(&mut self, alloc: Global, m: Map) -> Result<(), MemFault>
         requires size { 0 < m.size }
         requires end { m.at + m.size < 2 ^ 64 }
+        requires prot { m.prot < 8 }
+        requires kind { IsSome (kind_of_number m.kind) }
         ensures refused { IfSome (map_refusal m.at m.size self.old) (λ fault. result ≡ Err fault) }
         ensures granted { map_refusal m.at m.size self.old ≡ None → IsOkUnless result MemFault.NoMemory }
-        ensures ok { OnOk result (self.new ≡ with_mapping (zeros_at m.at m.size m.prot m.kind) self.old) }
+        ensures ok { OnOk result (IfSome (kind_of_number m.kind) (λ kind. self.new ≡ with_mapping (zeros_at m.at m.size m.prot kind) self.old)) }
         ensures err { OnErr result (self.new ≡ self.old) }
         ensures heap_place { IsTrue (is_outside_heap_place m.at m.size) → All LeavesHeapPlace self.old → All LeavesHeapPlace self.new }
     {
-        if !ranges::is_free(&self.mappings, m.at, m.size) {
-            return Err(MemFault::Overlap);
-        }
-        if m.size > Space::LIMIT - self.mapped {
-            return Err(MemFault::TooBig);
-        }
-        let mapping = mappings::zeros_at(alloc, m.at, m.size as usize, m.prot, m.kind)?;
-        self.add(mapping)?;
-        Ok(())
+        let kind = MappingKind::from_number(u64::from(m.kind)).unwrap();
+        self.map_as(alloc, m.at, m.size, mappings::prot_of(m.prot), kind)
     }
 
     /// Takes away the mapping that is this range; where none is, the space stays as it is.
@@ -156,7 +179,7 @@ impl Space {
 
     /// Lets the mapping that is this range allow something else; where none is, the space stays as it is.
     #[tactic(auto, using(pr_parts::proofs::SpaceLemmas::ranges))]
-    pub fn protect(&mut self, at: u64, size: u64, prot: Prot) -> Result<(), MemFault>
+    pub fn protect_as(&mut self, at: u64, size: u64, prot: Prot) -> Result<(), MemFault>
         ensures answer { result ≡ done_unless (range_refusal at size self.old) }
         ensures ok { OnOk result (self.new ≡ with_protected at size prot self.old) }
         ensures err { OnErr result (self.new ≡ self.old) }
@@ -167,6 +190,17 @@ impl Space {
         };
         mappings::set_prot(&mut self.mappings[place], prot);
         Ok(())
+    }
+
+    /// The same, where the protections are given by their number.
+    pub fn protect(&mut self, at: u64, size: u64, prot: u8) -> Result<(), MemFault>
+        requires { prot < 8 }
+        ensures answer { result ≡ done_unless (range_refusal at size self.old) }
+        ensures ok { OnOk result (self.new ≡ with_protected at size prot self.old) }
+        ensures err { OnErr result (self.new ≡ self.old) }
+        ensures heap_place { All LeavesHeapPlace self.old → All LeavesHeapPlace self.new }
+    {
+        self.protect_as(at, size, mappings::prot_of(prot))
     }
 
     /// Moves the break, which ends the heap: the heap is as many bytes as lie below the break, rounded up to a multiple

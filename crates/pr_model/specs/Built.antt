@@ -1,19 +1,25 @@
 use Rattle.std.specs.Prelude.{◌==◌, ◌||◌, ◌&&◌, ℕ, Bool, true, false, not, List, Option, Some, None, Result, Ok, Err, is_some}
 use Rattle.pr_num.specs.Control.{prot_exec}
 use Rattle.pr_num.specs.Instructions.{instruction_in}
+use Rattle.pr_num.specs.Messages.{first_message}
 use Rattle.pr_num.specs.Spaces.{bytes_for}
 use Rattle.pr_num.specs.declared.instructions.Instruction.{Instruction}
 use Rattle.pr_num.specs.declared.instructions.Instruction.TheVariants.{Set, Sys}
 use Rattle.pr_num.specs.declared.mappings.BadByte.{BadByte}
 use Rattle.pr_num.specs.declared.messages.Message.{Message}
 use Rattle.pr_num.specs.declared.messages.Message.TheVariants.{Stop, Dstop, Wstop, Twstop, Run}
+use Rattle.pr_num.specs.declared.messages.MsgFault.{MsgFault}
 use Rattle.pr_num.specs.declared.syscalls.Sysno.{Sysno}
 use Rattle.pr_num.specs.declared.syscalls.Sysno.TheVariants.{Exit, Getpid}
+use Rattle.pr_model.specs.Handles.{is_control, is_of_lwp, handle_of}
 use Rattle.pr_model.specs.Registers.{pc_of}
 use Rattle.pr_model.specs.Signals.{has_takeable}
-use Rattle.pr_model.specs.State.{TracedProcess, TracedLwp}
+use Rattle.pr_model.specs.State.{TracedState, TracedProcess, TracedLwp}
+use Rattle.pr_model.specs.declared.calls.Call.{Call}
+use Rattle.pr_model.specs.declared.calls.Call.TheVariants.{Open, Close, Ctl, CtlWait, Read, Poll, Interrupt, Spawn, Kill, Until, List as ListProcesses}
 use Rattle.pr_model.specs.declared.calls.File.{File}
 use Rattle.pr_model.specs.declared.calls.File.TheVariants.{Status}
+use Rattle.pr_model.specs.declared.handles.Held.{Held}
 use Rattle.pr_model.specs.declared.lwps.Phase.{Phase}
 use Rattle.pr_model.specs.declared.lwps.Phase.TheVariants.{User, Entered, Asleep, Exiting, Faulted}
 
@@ -79,3 +85,30 @@ is_built_message of_lwp _ = false
 abbrev pub is_built_read : File → Bool
 is_built_read Status = true
 is_built_read _ = false
+
+-- whether what a handle stands for takes the message with which bytes begin
+abbrev pub is_built_write : Held → Result (Message × ℕ) MsgFault → Bool
+is_built_write h (Err fault) = true
+is_built_write h (Ok (m, len)) = is_built_message (is_of_lwp h.file) m
+
+abbrev pub is_built_ctl : Option Held → List ℕ → Bool
+is_built_ctl None bytes = true
+is_built_ctl (Some h) bytes = is_built_write h (first_message bytes)
+
+abbrev pub is_built_read_of : Option Held → Bool
+is_built_read_of None = true
+is_built_read_of (Some h) = is_control h.file || is_built_read h.file
+
+-- whether a call is built, a row a call
+unfoldable pub is_built_call : TracedState → ℕ → Call → Bool
+is_built_call s by (Open pid id file mode) = true
+is_built_call s by (Close handle) = true
+is_built_call s by (Ctl handle bytes) = is_built_ctl (handle_of s.opens by handle) bytes
+is_built_call s by (CtlWait handle until bytes) = true
+is_built_call s by (Read handle from len) = is_built_read_of (handle_of s.opens by handle)
+is_built_call s by (Poll handles) = false
+is_built_call s by (Interrupt controller) = false
+is_built_call s by (Spawn program held) = false
+is_built_call s by (Kill pid sig) = false
+is_built_call s by (Until moment) = false
+is_built_call s by ListProcesses = false

@@ -1,19 +1,16 @@
-use Rattle.std.specs.Prelude.{◌==◌, ◌||◌, ◌+◌, ◌-◌, ◌^◌, ℕ, Bool, true, false, not, List, Option, Some, None, Result, Ok, Err, find, is_none, is_some, length, option_map, position, nat_lt, nat_le, if◌then◌else◌}
+use Rattle.std.specs.Prelude.{◌==◌, ◌||◌, ◌+◌, ◌-◌, ◌^◌, ℕ, Bool, true, false, not, List, Option, Some, None, find, is_none, is_some, length, option_map, position, nat_lt, nat_le, if◌then◌else◌}
 use Rattle.std.specs.Int.{bit_at}
 use Rattle.std.specs.List.{list_all}
 use Rattle.pr_num.specs.Infos.{killed_by}
 use Rattle.pr_num.specs.Limits.{controller_limit, handle_limit}
-use Rattle.pr_num.specs.Messages.{first_message}
 use Rattle.pr_num.specs.Programs.{Program}
 use Rattle.pr_num.specs.Sets.{with_number}
 use Rattle.pr_num.specs.declared.errnos.Errno.{Errno}
 use Rattle.pr_num.specs.declared.errnos.Errno.TheVariants.{Inval, Noent, Badf, Mfile, Intr}
-use Rattle.pr_num.specs.declared.messages.Message.{Message}
-use Rattle.pr_num.specs.declared.messages.MsgFault.{MsgFault}
 use Rattle.pr_rec.specs.RecordBytes.{list_bytes}
-use Rattle.pr_model.specs.Built.{is_built_message, is_built_read}
+use Rattle.pr_model.specs.Built.{is_built_call}
 use Rattle.pr_model.specs.ControlMessages.{control_answer, wait_reply, target_of, target_stopped}
-use Rattle.pr_model.specs.Handles.{is_control, is_of_lwp, handle_of, open_refusal, with_opened, with_closed}
+use Rattle.pr_model.specs.Handles.{is_control, handle_of, open_refusal, with_opened, with_closed}
 use Rattle.pr_model.specs.Lives.{with_spawned}
 use Rattle.pr_model.specs.Machines.{traced}
 use Rattle.pr_model.specs.Messages.{Controlled}
@@ -172,8 +169,8 @@ kill_answer s pid number = record {
 
 -- ---- the calls
 
--- What the machine answers to a call of a controller, a row a call. None: the call is not ready, which CtlWait, Poll and
--- Until alone can be.
+-- What the machine answers to a call of a controller, a row a call. None: the call is not ready, which CtlWait, Poll
+-- and Until alone can be.
 unfoldable pub whole_answer : TracedState → ℕ → Call → Option Answer
 whole_answer s by (Open pid id file mode) = Some (open_answer s by pid id file mode)
 whole_answer s by (Close handle) = Some (close_answer s by handle)
@@ -187,35 +184,6 @@ whole_answer s by (Spawn program held) = Some (spawn_answer s program held)
 whole_answer s by (Kill pid sig) = Some (kill_answer s pid sig)
 whole_answer s by (Until moment) = until_answer s by moment
 whole_answer s by ListProcesses = Some (answered s (Bytes (list_bytes (list_of s.system))))
-
--- ---- what is built
-
--- whether what a handle stands for takes the message with which bytes begin
-abbrev pub is_built_decoded : Held → Result (Message × ℕ) MsgFault → Bool
-is_built_decoded h (Err fault) = true
-is_built_decoded h (Ok (m, len)) = is_built_message (is_of_lwp h.file) m
-
-abbrev pub is_built_ctl : Option Held → List ℕ → Bool
-is_built_ctl None bytes = true
-is_built_ctl (Some h) bytes = is_built_decoded h (first_message bytes)
-
-abbrev pub is_built_read_of : Option Held → Bool
-is_built_read_of None = true
-is_built_read_of (Some h) = is_control h.file || is_built_read h.file
-
--- whether a call is built, a row a call
-unfoldable pub is_built_call : TracedState → ℕ → Call → Bool
-is_built_call s by (Open pid id file mode) = true
-is_built_call s by (Close handle) = true
-is_built_call s by (Ctl handle bytes) = is_built_ctl (handle_of s.opens by handle) bytes
-is_built_call s by (CtlWait handle until bytes) = true
-is_built_call s by (Read handle from len) = is_built_read_of (handle_of s.opens by handle)
-is_built_call s by (Poll handles) = false
-is_built_call s by (Interrupt controller) = false
-is_built_call s by (Spawn program held) = false
-is_built_call s by (Kill pid sig) = false
-is_built_call s by (Until moment) = false
-is_built_call s by ListProcesses = false
 
 -- The answer to a call of a controller. None: the call is not ready.
 unfoldable pub answer_to : TracedState → ℕ → Call → Option Answer

@@ -95,7 +95,7 @@ module _ {H K : Type 0} where
   with_suspended suspended l = record l { suspended = suspended }
 
 -- What a change makes of the system, in the turn of the lwp of an id, which with its process was as is said here when
--- the turn began. A turn never sends SIGKILL to its own process, nor reaps it, by a change.
+-- the turn began. By a change a turn never sends SIGKILL to its own process, nor reaps it, nor makes it anew.
 module _ {C H K : Type 0} (m : Machine C H K) (pid : ℕ) (p : ProcessOf C H K) (id : ℕ) (l : LwpOf H K) where
   unfoldable pub changed : Change → SystemOf C H K → SystemOf C H K
   changed (files_are files fds) s = with_process pid (with_fds fds) (record s { files = files })

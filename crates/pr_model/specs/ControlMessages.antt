@@ -47,7 +47,7 @@ system_refusal (Set modes) = Inval
 system_refusal (Unset modes) = Inval
 system_refusal _ = Busy
 
--- the bytes that stand behind the operands of the message with which bytes begin
+-- the bytes that stand after the operands of the message with which bytes begin
 abbrev pub tail_of : Message → List ℕ → List ℕ
 tail_of m bytes = slice_range bytes (unpadded_length m - tail_length m) (unpadded_length m)
 

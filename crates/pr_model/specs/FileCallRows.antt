@@ -34,8 +34,8 @@ file_errno NoReader = Pipe
 file_errno Sleep = Intr
 file_errno NoMemory = Nomem
 
--- A refusal of files as an effect: a call that has to wait sleeps, and where nothing reads a pipe any more its writer is
--- sent SIGPIPE.
+-- A refusal of files as an effect: a call that has to wait sleeps, and where nothing reads a pipe any more its writer
+-- is sent SIGPIPE.
 abbrev pub refusal_effect : FileNo → Effect
 refusal_effect Sleep = sleeps
 refusal_effect NoReader = does (Error Pipe) (signals_itself SigPipe of_broken_pipe ∷ [])
@@ -58,8 +58,8 @@ abbrev pub word_size : ℕ
 word_size = 8
 
 module _ (t : FileTable) (fds : Descriptors) (space : Space) where
-  -- read(2): gives how many bytes were read. EBADF: not open for reading; EINVAL: more than 4,096 bytes; EFAULT: not all
-  -- of the buffer can be written.
+  -- read(2): gives how many bytes were read. EBADF: not open for reading; EINVAL: more than 4,096 bytes; EFAULT: not
+  -- all of the buffer can be written.
   unfoldable pub read_effect : ℕ → ℕ → ℕ → Effect
   read_effect fd at size =
       if is_none (open_for_reading t fds fd) then fails Badf
@@ -74,8 +74,8 @@ module _ (t : FileTable) (fds : Descriptors) (space : Space) where
       of : ReadEffect → Effect
       of e = given e.files e.bytes
 
-  -- write(2): gives how many bytes were written. EBADF: not open for writing; EINVAL: more than 4,096 bytes; EFAULT: not
-  -- all of the buffer can be read; then what the file or pipe refuses.
+  -- write(2): gives how many bytes were written. EBADF: not open for writing; EINVAL: more than 4,096 bytes; EFAULT:
+  -- not all of the buffer can be read; then what the file or pipe refuses.
   unfoldable pub write_effect : ℕ → ℕ → ℕ → Effect
   write_effect fd at size =
       if is_none (open_for_writing t fds fd) then fails Badf

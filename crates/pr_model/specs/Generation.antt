@@ -7,7 +7,8 @@ use Rattle.pr_parts.specs.PendingSignals.{added, without_signals}
 use Rattle.pr_model.specs.State.{LwpOf, ProcessOf}
 use Rattle.pr_num.specs.declared.infos.Info.{Info}
 
--- How a signal becomes pending, for a process or for one of its lwps (signal.h(3HEAD)). SIGKILL never does: see Signals.
+-- How a signal becomes pending, for a process or for one of its lwps (signal.h(3HEAD)). SIGKILL never does: see
+-- Signals.
 
 -- SIGCONT ends a job stop
 abbrev pub ends_job_stop : Sig → Bool

@@ -16,8 +16,8 @@ use Rattle.pr_parts.specs.WatchedAreas.{hit_in}
 use Rattle.pr_model.specs.Registers.{pc_of, with_pc, sp_of, with_sp, fp_of, with_fp, address_at, moved_on}
 
 -- What an instruction does to registers and memory. It is tried in this order: its fetch, areas watched for execution,
--- its decoding, its own faults, areas watched for the data that it reads or writes, and its effect. The untraced machine
--- has no watched areas.
+-- its decoding, its own faults, areas watched for the data that it reads or writes, and its effect. The untraced
+-- machine has no watched areas.
 
 -- bytes that an instruction stores from an address on
 pub record Store : Type 0 where
@@ -69,11 +69,11 @@ call_sp regs = address_at (sp_of regs) (2 ^ 64 - 16)
 abbrev pub after_call : ℕ → List ℕ → List ℕ
 after_call target regs = with_pc target (with_fp (call_sp regs) (with_sp (call_sp regs) regs))
 
--- the two words that a call stores: fp, and the pc behind it
+-- the two words that a call stores: fp, and the pc after it
 abbrev pub call_frame : List ℕ → List ℕ
 call_frame regs = word_bytes (fp_of regs) ++ word_bytes (address_at (pc_of regs) 16)
 
--- the return from a subroutine: fp and pc are the two words at fp, and sp stands behind them
+-- the return from a subroutine: fp and pc are the two words at fp, and sp stands after them
 abbrev pub after_return : List ℕ → List ℕ → List ℕ
 after_return regs bytes =
     with_pc (word_of (drop 8 bytes)) (with_fp (word_of (take 8 bytes)) (with_sp (address_at (fp_of regs) 16) regs))
@@ -187,7 +187,7 @@ module _ (space : Space) (areas : List Area) where
   executed exec_hit regs (loads load at size) = load_effect exec_hit regs load at size
   executed exec_hit regs (stores stack new store) = store_effect exec_hit stack new store
 
-  -- 16 bytes that spell no instruction incur FLTILL
+  -- 16 bytes that encode no instruction incur FLTILL
   abbrev pub of_instruction : Option ℕ → List ℕ → Option Instruction → InstructionEffect
   of_instruction exec_hit regs None = faults Ill (pc_of regs)
   of_instruction exec_hit regs (Some i) = executed exec_hit regs (decoded i regs)

@@ -1,4 +1,4 @@
-use Rattle.std.specs.Prelude.{◌≡◌, ◌==◌, ◌≤◌, ◌<◌, ◌+◌, ◌⊎◌, ℕ, Bool, true, false, List, [], ◌∷◌, Option, Some, None, IsSome, is_none, length, count_by}
+use Rattle.std.specs.Prelude.{◌≡◌, ◌≤◌, ◌<◌, ◌+◌, ◌⊎◌, ℕ, true, false, List, [], ◌∷◌, Some, None, IsSome, length, count_by}
 use Rattle.std.specs.List.{All}
 use Rattle.pr_num.specs.Agents.{agent_id}
 use Rattle.pr_num.specs.ById.{IsRising}
@@ -6,7 +6,6 @@ use Rattle.pr_num.specs.Control.{has_flags, rlc_mode, klc_mode}
 use Rattle.pr_num.specs.Limits.{lwp_limit, process_limit, all_mappings_limit}
 use Rattle.pr_num.specs.Sets.{has_number}
 use Rattle.pr_num.specs.Signals.{holdable_word, signal_number}
-use Rattle.pr_num.specs.Files.{Descriptors}
 use Rattle.pr_num.specs.declared.signals.Sig.TheVariants.{Kill}
 use Rattle.pr_parts.specs.FileTables.{IsFileTable, PipesHaveEnds, count_at, users_at}
 use Rattle.pr_model.specs.Handles.{has_exclusive_writer, has_writer, is_writer}
@@ -34,8 +33,8 @@ pub record IsEmptyZombie (p : TracedProcess) : Type 0 where
   pub no_lwps : (status : ℕ) → p.ended ≡ Some status → p.lwps ≡ []
   pub no_memory : (status : ℕ) → p.ended ≡ Some status → p.space ≡ []
 
--- A process's id is one that was given out, its parent is live or process 0, its lwps stand under rising ids, at most 64
--- of them, and SIGKILL is not traced.
+-- A process's id is one that was given out, its parent is live or process 0, its lwps stand under rising ids, at most
+-- 64 of them, and SIGKILL is not traced.
 pub record IsLawfulProcess (s : TracedSystem) (e : ℕ × TracedProcess) : Type 0 where
   pub id : e.0 < s.made
   pub parent : (e.1.parent ≡ 0) ⊎ IsSome (live_process s e.1.parent)

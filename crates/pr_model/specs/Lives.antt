@@ -11,7 +11,7 @@ use Rattle.pr_model.specs.Machines.{Machine}
 use Rattle.pr_parts.specs.PendingSignals.{nothing_pending}
 use Rattle.pr_model.specs.Registers.{with_result}
 use Rattle.pr_num.specs.Infos.{of_child}
-use Rattle.pr_num.specs.Limits.{signal_count, register_count}
+use Rattle.pr_num.specs.Limits.{signal_count}
 use Rattle.pr_model.specs.State.{LwpOf, ProcessOf, SystemOf, live_process, lwp_of, with_process}
 use Rattle.pr_model.specs.declared.events.Res.TheVariants.{Value}
 

@@ -23,8 +23,8 @@ use Rattle.pr_model.specs.declared.processes.Usage.{Usage}
 
 -- ---- who may have a turn
 
--- Whether an lwp of an id is held back: it stands on an event of interest, or is suspended, or its process is stopped by
--- job control, which does not hold the agent.
+-- Whether an lwp of an id is held back: it stands on an event of interest, or is suspended, or its process is stopped
+-- by job control, which does not hold the agent.
 unfoldable pub is_held_back : TracedProcess → ℕ → TracedLwp → Bool
 is_held_back p id l = has_event_stop l || (l.suspended || (is_some p.job_stop && not (id == agent_id)))
 
@@ -39,8 +39,8 @@ module _ (s : TracedSystem) (pid : ℕ) (p : TracedProcess) (id : ℕ) (l : Trac
   is_ready since Sleep args = is_over (call_effect s pid p id l since Sleep args)
   is_ready since call args = true
 
-  -- An lwp that is asleep goes on where it is directed to stop, has a signal to act on or to take, or where its call was
-  -- aborted or is ready.
+  -- An lwp that is asleep goes on where it is directed to stop, has a signal to act on or to take, or where its call
+  -- was aborted or is ready.
   unfoldable pub may_wake : ℕ → Sysno → List ℕ → Bool
   may_wake since call args =
       l.control.directed || (is_some l.current || (has_takeable p l || (l.control.abort || is_ready since call args)))
@@ -104,7 +104,8 @@ pub record LwpTurn : Type 0 where
   pub system : TracedSystem
   pub turned : Turned
 
--- What a row makes of the system, in this order: its transition, the counts, and the stop at the point that it met. So an lwp that the turn made is directed by that stop too.
+-- What a row makes of the system, in this order: its transition, the counts, and the stop at the point that it met. So
+-- an lwp that the turn made is directed by that stop too.
 unfoldable pub settled : TracedSystem → ℕ → TracedProcess → ℕ → TracedLwp → Row → LwpTurn
 settled s pid p id l row = record {
   system =

@@ -100,8 +100,8 @@ with_areas areas c = record c { areas = areas }
 
 -- ---- the agent
 
--- whether an lwp lets an agent be made: it is stopped on an event of interest or suspended, or is stopped by job control
--- and directed to stop
+-- whether an lwp lets an agent be made: it is stopped on an event of interest or suspended, or is stopped by job
+-- control and directed to stop
 abbrev pub lets_agent_by : TracedLwp → Option Shown → Bool
 lets_agent_by l None = false
 lets_agent_by l (Some (Event stop)) = true
@@ -257,7 +257,7 @@ module _ (s : TracedSystem) (pid : ℕ) (p : TracedProcess) where
   abbrev pub wait_end : ℕ → ℕ
   wait_end ms = if ms == 0 then 0 else s.clock + ms
 
-  -- What a message does that was spelt in so many bytes, of which the written ones stand behind its operands. PCSTOP,
+  -- What a message does that is encoded in so many bytes, of which those to write stand after its operands. PCSTOP,
   -- PCWSTOP and PCTWSTOP go on with a wait.
   unfoldable pub message_answer : Aim → Message → List ℕ → ℕ → Controlled
   message_answer aim Stop tail len = record { system = with_aim_directed aim; reply = Half 0 }

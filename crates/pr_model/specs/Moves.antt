@@ -20,8 +20,8 @@ pub data Move : Type 0 where
   posts : Flt → ℕ → Move
   -- it goes back from a call to its program
   returns : Move
-  -- an instruction leaves these registers; comes to a system call with them; incurs a fault at an address and leaves the
-  -- registers as they were; leaves these registers and then incurs a fault, and a step mark is used up
+  -- an instruction leaves these registers; comes to a system call with them; incurs a fault at an address and leaves
+  -- the registers as they were; leaves these registers and then incurs a fault, and a step mark is used up
   runs : List ℕ → Move
   enters : Sysno → List ℕ → Move
   incurs : Flt → ℕ → Move

@@ -6,7 +6,8 @@ use Rattle.pr_model.specs.State.{ProcessOf, SystemOf, process_of}
 
 -- What a system call reads of the rest of the system. None of it is set by controllers.
 
--- a process that a signal is sent to: there is none, or it was reaped; it has ended; or it is live, with what pends for it
+-- a process that a signal is sent to: there is none, or it was reaped; it has ended; or it is live, with what pends for
+-- it
 pub data Life : Type 0 where
   gone : Life
   a_zombie : Life

@@ -1,7 +1,6 @@
 use Rattle.std.specs.Prelude.{◌==◌, ◌||◌, ◌+◌, ◌%◌, ◌^◌, ℕ, zero, suc, List, [], ◌∷◌, Option, Some, None, Result, Ok, Err, take, drop, nat_lt, if◌then◌else◌}
 use Rattle.pr_num.specs.Limits.{read_limit}
 use Rattle.pr_num.specs.Spaces.{Space, byte_for}
-use Rattle.pr_num.specs.declared.errnos.Errno.{Errno}
 use Rattle.pr_num.specs.declared.errnos.Errno.TheVariants.{Inval, Noent, Badf, Io}
 use Rattle.pr_num.specs.declared.mappings.BadByte.{BadByte}
 use Rattle.pr_rec.specs.RecordBytes.{status_bytes, lwpstatus_bytes, lstatus_bytes, psinfo_bytes, map_bytes, usage_bytes, sigact_bytes, watch_bytes, fds_bytes}

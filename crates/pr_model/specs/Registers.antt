@@ -43,7 +43,7 @@ fp_of regs = slice_index regs 9
 abbrev pub with_fp : ℕ → List ℕ → List ℕ
 with_fp fp regs = slice_set regs 9 fp
 
--- the address that stands so many bytes behind another; addresses wrap
+-- the address that stands so many bytes after another; addresses wrap
 abbrev pub address_at : ℕ → ℕ → ℕ
 address_at base offset = (base + offset) % 2 ^ 64
 

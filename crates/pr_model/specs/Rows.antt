@@ -107,8 +107,8 @@ acted_row p l c = by (action_for p.dispositions c.signal)
 
 -- ---- an lwp on its way out of a call, and one in its program
 
--- After an instruction, and on the way out of a call, a step mark is used up: FLTTRACE is incurred, and the turn is that
--- fault's.
+-- After an instruction, and on the way out of a call, a step mark is used up: FLTTRACE is incurred, and the turn is
+-- that fault's.
 unfoldable pub returned_row : TracedProcess → TracedLwp → Sysno → Row
 returned_row p l call =
     if l.control.step then point_row (Faulted Trace) (Fault Trace) (trapped Trace (pc_of l.regs) p.space l.regs None)
@@ -176,8 +176,8 @@ module _ (s : TracedSystem) (pid : ℕ) (p : TracedProcess) (id : ℕ) (l : Trac
   posted_row_or (phase.Faulted f address) otherwise = posted_row f address
   posted_row_or _ otherwise = otherwise
 
-  -- The first row that fits: a directed lwp stops; a fault's signal is posted; a current signal is acted on; a signal is
-  -- taken; and then the phase decides.
+  -- The first row that fits: a directed lwp stops; a fault's signal is posted; a current signal is acted on; a signal
+  -- is taken; and then the phase decides.
   unfoldable pub row_for : Row
   row_for =
       if l.control.directed then requested_row

@@ -16,15 +16,15 @@ use Rattle.pr_num.specs.Limits.{signal_count}
 
 -- The system calls on signals, a definition a call. Each tries its refusals in their order.
 
--- What comes of sending a signal of a number to a process, by a process, by a controller, or from outside: it is refused,
--- nothing is sent, or the signal is.
+-- What comes of sending a signal of a number to a process, by a process, by a controller, or from outside: it is
+-- refused, nothing is sent, or the signal is.
 pub data Sending : Type 0 where
   refuses : Errno → Sending
   sends_nothing : Sending
   sends : Sig → Sending
 
--- EINVAL: no such signal; EPERM: process 0; ESRCH: no such process; EAGAIN: no room in its queue. Signal 0 sends nothing,
--- and a zombie is sent nothing.
+-- EINVAL: no such signal; EPERM: process 0; ESRCH: no such process; EAGAIN: no room in its queue. Signal 0 sends
+-- nothing, and a zombie is sent nothing.
 unfoldable pub sending : ℕ → ℕ → Life → Sending
 sending target number life =
     if nat_lt signal_count number then refuses Inval else (if target == 0 then refuses Perm else of life)

@@ -69,7 +69,7 @@ action_for dispositions s = action_of s (disposition_of dispositions s)
 abbrev pub with_disposition : Sig → ℕ → List ℕ → List ℕ
 with_disposition s disposition dispositions = slice_set dispositions (signal_number s - 1) disposition
 
--- What a handler comes back to is saved in a frame, behind those that stand: the registers and the held set.
+-- What a handler comes back to is saved in a frame, after those that stand: the registers and the held set.
 abbrev pub with_frame : List ℕ → ℕ → List Frame → List Frame
 with_frame regs held frames = frames ++ record { regs = regs; held = held } ∷ []
 

@@ -26,7 +26,7 @@ use Rattle.pr_model.specs.declared.events.Res.TheVariants.{Value}
 use Rattle.pr_model.specs.declared.steps.Step.{Step}
 use Rattle.pr_model.specs.declared.steps.Step.TheVariants.{Exec, Call, Sleep, Finish, Fault, Take, Act as ActOn, Spawn, Kill, Tick}
 
--- The untraced steps of a history: what the untraced machine would have done of it. An entry is read behind those before
+-- The untraced steps of a history: what the untraced machine would have done of it. An entry is read after those before
 -- it, of which this is remembered: which lwps are on their way out of a system call, and which process each open handle
 -- names.
 pub record Memory : Type 0 where

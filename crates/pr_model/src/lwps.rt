@@ -38,7 +38,8 @@ pub struct Current {
 }
 
 /// A lightweight process, which stands in its process under its id: ids count from 1, and the agent's is 65,535. `P` is
-/// how pending signals are kept, `H` where it is between its program and the kernel, and `K` what controllers set on it.
+/// how pending signals are kept, `H` where it is between its program and the kernel, and `K` what controllers set on
+/// it.
 #[derive(Drop)]
 pub struct LwpOf<P, H, K> {
     /// r0 to r7, sp, fp and pc.

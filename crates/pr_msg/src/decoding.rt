@@ -6,24 +6,21 @@ ghost use Rattle.pr_num.specs.Messages.{nth_word, one_word, two_words, three_wor
 
 use crate::paddings::padding;
 use pr_codec::{WORD, word};
-use pr_num::{Message, MsgFault};
-
-/// The most milliseconds that a wait may ask for.
-const LONGEST_WAIT: u64 = 1_000_000_000;
-
-/// The most bytes that one message reads or writes.
-const MOST_BYTES: u64 = 4_096;
+use pr_num::limits::{FAULT_COUNT, MESSAGE_BYTES_LIMIT, SIGNAL_COUNT, SYSCALL_COUNT, WAIT_LIMIT};
+use pr_num::{Message, MsgFault, Sig};
 
 /// The greatest number of a signal.
-const LAST_SIGNAL: u64 = 39;
+const LAST_SIGNAL: u64 = SIGNAL_COUNT as u64;
 
 /// The signal that ends a process, whatever it does.
-const SIGKILL: u64 = 9;
+const SIGKILL: u64 = Sig::Kill as u64;
 
 /// The words of sets of signals, of faults and of system calls lie below these.
-const SIGNAL_SETS: u64 = 1 << 39;
-const FAULT_SETS: u64 = 1 << 8;
-const CALL_SETS: u64 = 1 << 30;
+const SIGNAL_SETS: u64 = 1 << SIGNAL_COUNT;
+
+const FAULT_SETS: u64 = 1 << FAULT_COUNT;
+
+const CALL_SETS: u64 = 1 << SYSCALL_COUNT;
 
 /// The word at a place, counted in words.
 #[tactic(auto, unfolding(pr_num::specs::Messages::nth_word))]
@@ -141,18 +138,24 @@ fn bad_operand(message: &Message) -> Option<u32>
     ensures { result ≡ bad_operand message.now }
 {
     match *message {
-        Message::Twstop { ms } => outside(ms <= LONGEST_WAIT, 1),
+        Message::Twstop { ms } => outside(ms <= WAIT_LIMIT, 1),
         Message::Run { flags } => outside(flags < 32, 1),
         Message::Ssig { signal } => outside(signal <= LAST_SIGNAL, 1),
         Message::Kill { signal } => outside(1 <= signal && signal <= LAST_SIGNAL, 1),
-        Message::Unkill { signal } => outside(1 <= signal && signal <= LAST_SIGNAL && signal != SIGKILL, 1),
-        Message::Shold { signals } | Message::Strace { signals } => outside(signals < SIGNAL_SETS, 1),
+        Message::Unkill { signal } => outside(
+            1 <= signal && signal <= LAST_SIGNAL && signal != SIGKILL,
+            1,
+        ),
+        Message::Shold { signals } | Message::Strace { signals } => outside(
+            signals < SIGNAL_SETS,
+            1,
+        ),
         Message::Sfault { faults } => outside(faults < FAULT_SETS, 1),
         Message::Sentry { calls } | Message::Sexit { calls } => outside(calls < CALL_SETS, 1),
         Message::Set { modes } | Message::Unset { modes } => outside(modes < 16, 1),
         Message::Watch { at, size, flags } => bad_area(at, size, flags),
         Message::Read { len, .. } | Message::Write { len, .. } => {
-            outside(1 <= len && len <= MOST_BYTES, 2)
+            outside(1 <= len && len <= MESSAGE_BYTES_LIMIT, 2)
         }
         Message::Stop
         | Message::Dstop

@@ -7,8 +7,8 @@ use std::test::Fail;
 /// The registers of a test, each another one.
 const REGS: [u64; 11] = [1, 2, 3, 4, 5, 6, 7, 8, 9, 10, u64::MAX];
 
-/// A message, the bytes behind its operands, and its spelling, a word a text.
-const SPELLINGS: [(Message, &[u8], &[&str]); 24] = [
+/// A message, the bytes after its operands, and its encoding, a word a text.
+const ENCODINGS: [(Message, &[u8], &[&str]); 24] = [
     (Message::Stop, b"", &["0100000000000000"]),
     (Message::Dstop, b"", &["0200000000000000"]),
     (Message::Wstop, b"", &["0300000000000000"]),
@@ -35,16 +35,16 @@ const SPELLINGS: [(Message, &[u8], &[&str]); 24] = [
         &["0900000000000000", "0900000000000000"],
     ),
     (
-        Message::Unkill { signal: 31 },
+        Message::Unkill { signal: 39 },
         b"",
-        &["0a00000000000000", "1f00000000000000"],
+        &["0a00000000000000", "2700000000000000"],
     ),
     (
         Message::Shold {
-            signals: 0x7fff_ffff,
+            signals: 0x7f_ffff_ffff,
         },
         b"",
-        &["0b00000000000000", "ffffff7f00000000"],
+        &["0b00000000000000", "ffffffff7f000000"],
     ),
     (
         Message::Strace { signals: 1 },
@@ -57,9 +57,9 @@ const SPELLINGS: [(Message, &[u8], &[&str]); 24] = [
         &["0d00000000000000", "ff00000000000000"],
     ),
     (
-        Message::Sentry { calls: 0x1fff_ffff },
+        Message::Sentry { calls: 0x3fff_ffff },
         b"",
-        &["0e00000000000000", "ffffff1f00000000"],
+        &["0e00000000000000", "ffffff3f00000000"],
     ),
     (
         Message::Sexit { calls: 2 },
@@ -175,7 +175,7 @@ const FAULTS: [(&[&str], MsgFault); 24] = [
     (&["1800000000000000"], MsgFault::UnknownOp),
     (&["0200000000000001"], MsgFault::UnknownOp),
     (&["0500000000000000"], MsgFault::Short),
-    // PCRUN 32, PCSET 16, PCTWSTOP 1,000,000,001, PCSSIG 32, PCKILL 0, PCUNKILL 9, PCSTRACE with bit 31
+    // PCRUN 32, PCSET 16, PCTWSTOP 1,000,000,001, PCSSIG 40, PCKILL 0, PCUNKILL 9, PCSTRACE with bit 39
     (
         &["0500000000000000", "2000000000000000"],
         MsgFault::BadOperand { word: 1 },
@@ -189,7 +189,7 @@ const FAULTS: [(&[&str], MsgFault); 24] = [
         MsgFault::BadOperand { word: 1 },
     ),
     (
-        &["0800000000000000", "2000000000000000"],
+        &["0800000000000000", "2800000000000000"],
         MsgFault::BadOperand { word: 1 },
     ),
     (
@@ -201,7 +201,7 @@ const FAULTS: [(&[&str], MsgFault); 24] = [
         MsgFault::BadOperand { word: 1 },
     ),
     (
-        &["0c00000000000000", "0000008000000000"],
+        &["0c00000000000000", "0000000080000000"],
         MsgFault::BadOperand { word: 1 },
     ),
     // PCWATCH of size 0 with flags 1, beyond 2^64, of size 0 with flags 16, with flags 8, with flags 16
@@ -297,8 +297,8 @@ fn bytes_of(alloc: Global, texts: &[&str]) -> Result<Vec<u8>, FromHexError> {
 }
 
 #[test]
-fn spells_and_reads_each_message(rt: HostRuntime) -> Result<(), Fail> {
-    for (message, tail, texts) in SPELLINGS {
+fn encodes_and_reads_each_message(rt: HostRuntime) -> Result<(), Fail> {
+    for (message, tail, texts) in ENCODINGS {
         let mut bytes = bytes_of(rt.alloc(), texts)?;
         assert!(rt; tail.len() as u64 == tail_length(&message));
         assert_eq!(rt;

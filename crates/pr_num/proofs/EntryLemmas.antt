@@ -21,20 +21,10 @@ use Rattle.pr_num.specs.Faults.{faults, fault_number, fault_name, fault_of_numbe
 use Rattle.pr_num.specs.Errnos.{errnos, errno_number, errno_name, errno_of_number, errno_of_name, is_numbered, is_named as is_errno_named}
 use Rattle.pr_num.specs.Syscalls.{syscalls, syscall_number, syscall_name, syscall_of_number, syscall_of_name, is_named as is_syscall_named}
 use Rattle.pr_num.specs.StopReasons.{stop_reasons, reason_number, reason_name, is_reason_named}
+use Rattle.pr_num.proofs.SearchLemmas.{find-passes, none-passes}
 use Rattle.pr_num.proofs.NumberedLemmas.{counts_from, number-entry_at, IsSome-entry_at, signals_counted, faults_counted, syscalls_counted}
 
--- ---- a search in a table
-
-find-passes : {T : Type 0} (p : T → Bool) (xs : List T) (x : T) → find p xs ≡ Some x → p x ≡ true
-find-passes p [] x found = cc
-find-passes p (y ∷ ys) x found =
-    elim (p y) as (λ b. p y ≡ b → cond b (Some y) (find p ys) ≡ Some x → p x ≡ true) [ true ↦ λ here e. ap p (sym (same_Some y x e)) ∙ here | false ↦ λ _ e. find-passes p ys x e ] refl found
-
--- what one search finds, no search that finds nothing passes
-none-passes : {T : Type 0} (p q : T → Bool) (xs : List T) (x : T) → find q xs ≡ Some x → find p xs ≡ None → p x ≡ false
-none-passes p q [] x there none = cc
-none-passes p q (y ∷ ys) x there none =
-    elim (p y) as (λ b. p y ≡ b → cond b (Some y) (find p ys) ≡ None → p x ≡ false) [ true ↦ λ _ e. absurd (none-some y (sym e)) | false ↦ λ not_here e. (elim (q y) as (λ b. cond b (Some y) (find q ys) ≡ Some x → p x ≡ false) [ true ↦ λ f. ap p (sym (same_Some y x f)) ∙ not_here | false ↦ λ f. none-passes p q ys x f e ]) there ] refl none
+-- ---- names
 
 -- bytes that are tested against a name
 same_bytes : (a b : List ℕ) → bytes_eq a b ≡ true → a ≡ b

@@ -6,6 +6,7 @@ pub mod FlagBounds
 pub mod InstructionLemmas
 pub mod NameLemmas
 pub mod NumberedLemmas
+pub mod SearchLemmas
 pub mod SetBounds
 pub mod SetLemmas
 pub mod TableLaws

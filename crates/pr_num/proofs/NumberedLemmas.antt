@@ -127,10 +127,10 @@ has_number-set_of number test k (y ∷ ys) ok least zero x there =
     let same : y ≡ x = same_Some y x there in
     let rest = has_number-set_of_before number test (suc k) ys here.1 (number y) (omega arith) (omega arith) in
     rw (← same) (at_first (test y) rest) where
-  at_first : (b : Bool) → has_number (set_of number test ys) (number y) ≡ false → has_number (cond b (with_number (set_of number test ys) (number y)) (set_of number test ys)) (number y) ≡ b
-  at_first true rest =
-      has_number-with (set_of number test ys) (number y) (number y) (omega (arith, (from_counted number k y ys ok).0)) (omega (arith, (from_counted number k y ys ok).0)) ∙ or_right _ _ (eq-eqb (number y) (number y) refl)
-  at_first false rest = rest
+      at_first : (b : Bool) → has_number (set_of number test ys) (number y) ≡ false → has_number (cond b (with_number (set_of number test ys) (number y)) (set_of number test ys)) (number y) ≡ b
+      at_first true rest =
+          has_number-with (set_of number test ys) (number y) (number y) (omega (arith, (from_counted number k y ys ok).0)) (omega (arith, (from_counted number k y ys ok).0)) ∙ or_right _ _ (eq-eqb (number y) (number y) refl)
+      at_first false rest = rest
 has_number-set_of number test k (y ∷ ys) ok least (suc i) x there =
     let here = from_counted number k y ys ok in
     let later : number x ≡ suc k + i = number-slice_get number (suc k) ys here.1 i x there in
@@ -243,8 +243,8 @@ set_of_signals-lt test = set_of-lt signal_number test 1 signal_count signals sig
 pub same_signals : (a b : ℕ) → a < 2 ^ signal_count → b < 2 ^ signal_count → ((s : Sig) → has_number a (signal_number s) ≡ has_number b (signal_number s)) → a ≡ b
 same_signals a b p q same =
     same_set signal_count a b p q (λ n least most. found n (entry_at signals n) refl ((IsSome-entry_at signals n).1 (least, most))) where
-  found : (n : ℕ) (o : Option Sig) → entry_at signals n ≡ o → IsSome o → has_number a n ≡ has_number b n
-  found n None e some = cc
-  found n (Some s) e some =
-      let number : signal_number s ≡ n = number-entry_at signal_number signals signals_counted n s e in
-      rw (← number) (same s)
+      found : (n : ℕ) (o : Option Sig) → entry_at signals n ≡ o → IsSome o → has_number a n ≡ has_number b n
+      found n None e some = cc
+      found n (Some s) e some =
+          let number : signal_number s ≡ n = number-entry_at signal_number signals signals_counted n s e in
+          rw (← number) (same s)

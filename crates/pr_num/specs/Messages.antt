@@ -1,5 +1,6 @@
 use Rattle.std.specs.Prelude.{◌≡◌, ◌==◌, ◌||◌, ◌&&◌, ◌+◌, ◌-◌, ◌*◌, ◌%◌, ◌^◌, ℕ, not, List, [], ◌∷◌, ◌++◌, length, replicate, take, drop, All, Option, Some, None, nat_lt, nat_le, if◌then◌else◌, Result, Ok, Err, ◌/◌, slice_range}
 use Rattle.std.specs.List.{list_all}
+use Rattle.pr_num.specs.Limits.{fault_count, message_bytes_limit, signal_count, syscall_count, wait_limit}
 use Rattle.pr_num.specs.Words.{word_of, words_bytes, IsWord, IsByte}
 use Rattle.pr_num.specs.declared.messages.Message.{Message}
 use Rattle.pr_num.specs.declared.messages.MsgFault.{MsgFault}
@@ -68,18 +69,18 @@ unfoldable pub bad_operand : Message → Option ℕ
 bad_operand Stop = None
 bad_operand Dstop = None
 bad_operand Wstop = None
-bad_operand (Twstop ms) = if nat_le ms 1000000000 then None else Some 1
+bad_operand (Twstop ms) = if nat_le ms wait_limit then None else Some 1
 bad_operand (Run flags) = if nat_lt flags 32 then None else Some 1
 bad_operand Csig = None
 bad_operand Cfault = None
-bad_operand (Ssig signal) = if nat_le signal 39 then None else Some 1
-bad_operand (Kill signal) = if nat_le 1 signal && nat_le signal 39 then None else Some 1
-bad_operand (Unkill signal) = if (nat_le 1 signal && nat_le signal 39) && not (signal == 9) then None else Some 1
-bad_operand (Shold signals) = if nat_lt signals (2 ^ 39) then None else Some 1
-bad_operand (Strace signals) = if nat_lt signals (2 ^ 39) then None else Some 1
-bad_operand (Sfault faults) = if nat_lt faults (2 ^ 8) then None else Some 1
-bad_operand (Sentry calls) = if nat_lt calls (2 ^ 30) then None else Some 1
-bad_operand (Sexit calls) = if nat_lt calls (2 ^ 30) then None else Some 1
+bad_operand (Ssig signal) = if nat_le signal signal_count then None else Some 1
+bad_operand (Kill signal) = if nat_le 1 signal && nat_le signal signal_count then None else Some 1
+bad_operand (Unkill signal) = if (nat_le 1 signal && nat_le signal signal_count) && not (signal == 9) then None else Some 1
+bad_operand (Shold signals) = if nat_lt signals (2 ^ signal_count) then None else Some 1
+bad_operand (Strace signals) = if nat_lt signals (2 ^ signal_count) then None else Some 1
+bad_operand (Sfault faults) = if nat_lt faults (2 ^ fault_count) then None else Some 1
+bad_operand (Sentry calls) = if nat_lt calls (2 ^ syscall_count) then None else Some 1
+bad_operand (Sexit calls) = if nat_lt calls (2 ^ syscall_count) then None else Some 1
 bad_operand (Set modes) = if nat_lt modes 16 then None else Some 1
 bad_operand (Unset modes) = if nat_lt modes 16 then None else Some 1
 bad_operand (Sreg regs) = None
@@ -89,8 +90,8 @@ bad_operand (Watch at size flags) =
     else (if (size == 0) || nat_lt (2 ^ 64) (at + size) then Some 2
     else (if nat_lt flags 16 && not (flags == 8) then None else Some 3))
 bad_operand (Agent regs) = None
-bad_operand (Read at len) = if nat_le 1 len && nat_le len 4096 then None else Some 2
-bad_operand (Write at len) = if nat_le 1 len && nat_le len 4096 then None else Some 2
+bad_operand (Read at len) = if nat_le 1 len && nat_le len message_bytes_limit then None else Some 2
+bad_operand (Write at len) = if nat_le 1 len && nat_le len message_bytes_limit then None else Some 2
 
 -- how many operand words a message has
 unfoldable pub operand_count : Message → ℕ

@@ -1,6 +1,7 @@
 use Rattle.std.specs.Prelude.{◌≡◌, ◌-◌, length, replicate, ◌==◌, ◌||◌, ◌&&◌, ◌+◌, ◌^◌, ℕ, Bool, List, [], ◌∷◌, ◌++◌, Option, Some, None, nat_lt, nat_le, if◌then◌else◌}
 use Rattle.std.specs.List.{flat_map, list_any}
 use Rattle.pr_num.specs.Errnos.{errnos, errno_number}
+use Rattle.pr_num.specs.Limits.{descriptor_limit, fault_count, signal_count, syscall_count}
 use Rattle.pr_num.specs.Words.{words_bytes}
 
 -- The records of the process file system (proc(4)), each a list of words. Here stands what each word may hold; the
@@ -28,33 +29,33 @@ an_id = below (2 ^ 32)
 
 -- a signal's number, or 0 for none
 abbrev pub a_signal : Range
-a_signal = below 40
+a_signal = below (signal_count + 1)
 
 -- a fault's number, or 0 for none
 abbrev pub a_fault : Range
-a_fault = below 9
+a_fault = below (fault_count + 1)
 
 -- a system call's number, or 0 for none
 abbrev pub a_call : Range
-a_call = below 31
+a_call = below (syscall_count + 1)
 
 -- a stop reason's number, or 0 for none
 abbrev pub a_reason : Range
 a_reason = below 8
 
--- what a stop is about: a signal's, a fault's or a call's number, or 0
+-- what a stop is about: a signal's, a fault's or a call's number, or 0; of these tables that of signals is the longest
 abbrev pub a_matter : Range
-a_matter = below 40
+a_matter = below (signal_count + 1)
 
 -- a set of signals, of faults, of system calls
 abbrev pub signal_set : Range
-signal_set = below (2 ^ 39)
+signal_set = below (2 ^ signal_count)
 
 abbrev pub fault_set : Range
-fault_set = below (2 ^ 8)
+fault_set = below (2 ^ fault_count)
 
 abbrev pub call_set : Range
-call_set = below (2 ^ 30)
+call_set = below (2 ^ syscall_count)
 
 -- the number of an errno, or 0 for none
 abbrev pub an_errno : Range
@@ -116,7 +117,7 @@ usage_ranges = an_id ∷ any_word ∷ any_word ∷ any_word ∷ any_word ∷ []
 -- The 39 words of a process's dispositions, of the signals 1 to 39: 0 default, 1 ignored, and else the address of a
 -- handler.
 abbrev pub sigact_ranges : List Range
-sigact_ranges = replicate 39 any_word
+sigact_ranges = replicate signal_count any_word
 
 -- The 3 words of a watched area: address, size, flags.
 abbrev pub watch_entry_ranges : List Range
@@ -124,7 +125,7 @@ watch_entry_ranges = any_word ∷ any_word ∷ below 16 ∷ []
 
 -- a descriptor's number
 abbrev pub a_descriptor : Range
-a_descriptor = below 64
+a_descriptor = below descriptor_limit
 
 -- what a descriptor stands for: a file, the read end of a pipe, its write end
 abbrev pub a_file_kind : Range

@@ -1,5 +1,6 @@
-use Rattle.std.specs.Prelude.{◌&&◌, ◌+◌, ◌-◌, ◌%◌, ◌^◌, ◌<◌, ◌≤◌, ℕ, zero, suc, Bool, true, false, List, [], ◌∷◌, ◌++◌, length, replicate, slice_index, find, sum_by, All, AllPairs, Option, Some, None, Result, Ok, Err, nat_lt, nat_le, if◌then◌else◌}
+use Rattle.std.specs.Prelude.{◌==◌, ◌&&◌, ◌+◌, ◌-◌, ◌%◌, ◌^◌, ◌<◌, ◌≤◌, ℕ, zero, suc, Bool, true, false, List, [], ◌∷◌, ◌++◌, length, replicate, slice_index, find, sum_by, All, AllPairs, Option, Some, None, Result, Ok, Err, nat_lt, nat_le, if◌then◌else◌}
 use Rattle.pr_num.specs.Control.{has_flags, prot_read, prot_write, prot_exec}
+pub use Rattle.pr_num.specs.Limits.{mapping_limit}
 use Rattle.pr_num.specs.Programs.{Program, text_of, whole_pages}
 use Rattle.pr_num.specs.declared.mappings.BadByte.{BadByte}
 use Rattle.pr_num.specs.declared.mappings.BadByte.TheVariants.{Hole, NotAllowed}
@@ -14,10 +15,6 @@ Space = List Mapping
 -- two mappings stand in the order of their addresses, apart from each other
 abbrev pub IsBefore : Mapping → Mapping → Type 0
 IsBefore m n = m.at + length m.bytes ≤ n.at
-
--- the most bytes that can be mapped
-abbrev pub mapping_limit : ℕ
-mapping_limit = 0x100000
 
 -- how many bytes are mapped
 abbrev pub mapped_size : Space → ℕ
@@ -38,6 +35,15 @@ kind_number Data = 2
 kind_number Heap = 3
 kind_number Stack = 4
 kind_number Mapped = 5
+
+-- the kind of mapping of a number, where it is one
+abbrev pub kind_of_number : ℕ → Option MappingKind
+kind_of_number n =
+    if n == 1 then Some Text
+    else (if n == 2 then Some Data
+    else (if n == 3 then Some Heap
+    else (if n == 4 then Some Stack
+    else (if n == 5 then Some Mapped else None))))
 
 -- whether a mapping has the byte at an address
 abbrev pub covers : ℕ → Mapping → Bool
@@ -84,12 +90,16 @@ read_execute = prot_read + prot_exec
 abbrev pub read_write : ℕ
 read_write = prot_read + prot_write
 
--- The space in which a program begins: its text, readable and executable, its data and a stack, both readable and
--- writable, each a multiple of 4,096 bytes.
-unfoldable pub first_space : Program → Space
-first_space p =
-    unless_empty 0x10000 read_execute Text (text_of p) ++ unless_empty 0x80000 read_write Data p.bytes
+-- The mappings with which a program of this text and these data begins: its text, readable and executable, its data and
+-- a stack, both readable and writable, each a multiple of 4,096 bytes.
+unfoldable pub first_mappings : List ℕ → List ℕ → Space
+first_mappings text bytes =
+    unless_empty 0x10000 read_execute Text text ++ unless_empty 0x80000 read_write Data bytes
     ++ record { at = 0x700000; prot = read_write; kind = Stack; bytes = replicate 4096 0 } ∷ []
+
+-- the space in which a program begins
+unfoldable pub first_space : Program → Space
+first_space p = first_mappings (text_of p) p.bytes
 
 -- the registers r0 to r7, sp, fp and pc with which a program begins: it begins at the first instruction, with an empty stack
 abbrev pub first_registers : List ℕ

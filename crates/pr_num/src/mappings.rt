@@ -1,3 +1,6 @@
+ghost use Rattle.std.specs.Prelude.{◌≡◌};
+ghost use Rattle.pr_num.specs.Spaces.{kind_number, kind_of_number};
+
 use crate::{Bytes, Prot, WatchFlags};
 
 /// What a mapping is for, with numbers of this project's own.
@@ -12,6 +15,30 @@ pub enum MappingKind {
     Stack = 4,
     /// What mmap(2) made.
     Mapped = 5,
+}
+
+impl MappingKind {
+    /// The kind of a number, `None` exactly where it is not 1 to 5.
+    pub fn from_number(n: u64) -> Option<MappingKind>
+        ensures { result ≡ kind_of_number n }
+    {
+        match n {
+            1 => Some(MappingKind::Text),
+            2 => Some(MappingKind::Data),
+            3 => Some(MappingKind::Heap),
+            4 => Some(MappingKind::Stack),
+            5 => Some(MappingKind::Mapped),
+            _ => None,
+        }
+    }
+
+    /// The kind's number, 1 to 5.
+    #[tactic(auto, unfolding(crate::specs::Spaces::kind_number))]
+    pub fn number(self) -> u64
+        ensures { result ≡ kind_number self }
+    {
+        self as u64
+    }
 }
 
 /// A mapping of an address space with its bytes, as many as it is long.

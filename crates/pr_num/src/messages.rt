@@ -1,3 +1,5 @@
+use thiserror::Error;
+
 /// A control message (proc(4), "CONTROL MESSAGES"): what one write to a `ctl` or `lwpctl` file asks for.
 ///
 /// The fields are the message's operand words as they were written. Some words are no operands of their message, as
@@ -53,12 +55,15 @@ pub enum Message {
 }
 
 /// Why bytes begin with no control message.
-#[derive(Clone, Copy, Debug, PartialEq, Eq)]
+#[derive(Clone, Copy, Debug, PartialEq, Eq, Error)]
 pub enum MsgFault {
     /// There are fewer bytes than the message has.
+    #[error("too few bytes for a control message")]
     Short,
     /// The first word is the code of no message.
+    #[error("no control message has this code")]
     UnknownOp,
     /// This word is the first that the message cannot have; its code is word 0.
+    #[error("bad operand: word {word} of the control message")]
     BadOperand { word: u32 },
 }

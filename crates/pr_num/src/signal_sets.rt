@@ -1,4 +1,4 @@
-ghost use Rattle.std.specs.Prelude.{◌≡◌, ◌==◌, ◌-◌, ◌^◌, ◌<◌, ◌↔◌, IsNone};
+ghost use Rattle.std.specs.Prelude.{◌≡◌, ◌==◌, ◌-◌, ◌^◌, ◌<◌, ◌≤◌, ◌↔◌, IsNone};
 ghost use Rattle.pr_num.specs.Signals.{signal_number, least_signal, holdable_word};
 ghost use Rattle.pr_num.specs.Sets.{has_number, union_word, common_word, minus_word, with_number, without_number, set_of_word};
 ghost use Rattle.pr_num.specs.Limits.{signal_count};
@@ -75,6 +75,15 @@ impl SigSet {
         ensures { result ≡ has_number self (signal_number signal) }
     {
         sets::has_bit(self.word, signal.number())
+    }
+
+    /// Whether the set has the signal of a number.
+    pub fn has_number(self, n: u64) -> bool
+        requires least { 1 ≤ n }
+        requires most { n ≤ signal_count }
+        ensures { result ≡ has_number self n }
+    {
+        sets::has_bit(self.word, n)
     }
 
     #[tactic(auto, using(crate::proofs::SetBounds::set_bounds))]

@@ -11,7 +11,8 @@ use Rattle.pr_num.specs.declared.mappings.BadByte.{BadByte}
 use Rattle.pr_num.specs.declared.mappings.BadByte.TheVariants.{Hole, NotAllowed}
 use Rattle.pr_num.specs.declared.mappings.Mapping.{Mapping}
 use Rattle.pr_parts.specs.AddressSpaces.{written_bytes}
-use Rattle.pr_parts.proofs.ByAddressLemmas.{AllPairs-head, AllPairs-tail, All-find, find-passes}
+use Rattle.pr_parts.proofs.ByAddressLemmas.{AllPairs-head, AllPairs-tail}
+use Rattle.pr_num.proofs.SearchLemmas.{All-find, find-passes}
 
 -- ---- the mapping that has a byte
 

@@ -5,7 +5,8 @@ use Rattle.pr_num.proofs.TableLemmas.{remove-without_first, without_first-no_pla
 use Rattle.pr_num.specs.declared.mappings.Area.{Area}
 use Rattle.pr_parts.specs.ByAddress.{is_behind}
 use Rattle.pr_parts.specs.WatchedAreas.{AreAreas, IsBelow, area_address, begins_at, is_taken, with_area, without_area}
-use Rattle.pr_parts.proofs.ByAddressLemmas.{All-placed, All-without_first, insert-placed, length-placed, length-without_first, pairs-placed, pairs-without_first}
+use Rattle.pr_parts.proofs.ByAddressLemmas.{All-placed, insert-placed, length-placed, length-without_first, pairs-placed, pairs-without_first}
+use Rattle.pr_num.proofs.TableLaws.{All-without_first}
 
 pub AreAreas-with_area : (a : Area) (areas : List Area) → AreAreas areas → 0 < a.size → a.at + a.size ≤ 2 ^ 64 → is_taken a.at a.size areas ≡ false → length areas < 64 → AreAreas (with_area a areas)
 unfolding with_area

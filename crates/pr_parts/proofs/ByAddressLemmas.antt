@@ -9,6 +9,7 @@ use Rattle.std.proofs.lemmas.List.Sums.{sum_by-cons}
 use Rattle.std.proofs.lemmas.List.Kept.{AllPairs-cons}
 use Rattle.pr_num.specs.KeyedTables.{change_first, without_first}
 use Rattle.pr_parts.specs.ByAddress.{ranges_meet, is_behind, with_placed}
+use Rattle.pr_num.proofs.TableLaws.{All-change_first, All-without_first}
 
 -- ---- pairs
 
@@ -82,11 +83,6 @@ pairs-placed at size x (y ∷ ys) some pairs free =
 
 -- ---- without the first that passes a test
 
-pub All-without_first : {X : Type 0} (P : X → Type 0) (p : X → Bool) (xs : List X) → All P xs → All P (without_first p xs)
-All-without_first P p [] all = all
-All-without_first P p (x ∷ xs) all =
-    elim (p x) as (λ b. All P (cond b xs (x ∷ without_first p xs))) [ true ↦ All-tail P x xs all | false ↦ All-cons P x (without_first p xs) (All-head P x xs all) (All-without_first P p xs (All-tail P x xs all)) ]
-
 pub pairs-without_first : {X : Type 0} (R : X → X → Type 0) (p : X → Bool) (xs : List X) → AllPairs R xs → AllPairs R (without_first p xs)
 pairs-without_first R p [] pairs = pairs
 pairs-without_first R p (x ∷ xs) pairs =
@@ -111,18 +107,13 @@ length-placed address_of x (y ∷ ys) =
 
 -- ---- the first that passes a test, changed
 
-pub All-change_first : {X : Type 0} (P : X → Type 0) (p : X → Bool) (f : X → X) (xs : List X) → ((x : X) → P x → P (f x)) → All P xs → All P (change_first p f xs)
-All-change_first P p f [] keeps all = all
-All-change_first P p f (x ∷ xs) keeps all =
-    elim (p x) as (λ b. All P (cond b (f x ∷ xs) (x ∷ change_first p f xs))) [ true ↦ All-cons P (f x) xs (keeps x (All-head P x xs all)) (All-tail P x xs all) | false ↦ All-cons P x (change_first p f xs) (All-head P x xs all) (All-change_first P p f xs keeps (All-tail P x xs all)) ]
-
 pub pairs-change_first : {X : Type 0} (R : X → X → Type 0) (p : X → Bool) (f : X → X) (xs : List X) → ((x y : X) → R x y → R (f x) y) → ((x y : X) → R x y → R x (f y)) → AllPairs R xs → AllPairs R (change_first p f xs)
 pairs-change_first R p f [] left right pairs = pairs
 pairs-change_first R p f (x ∷ xs) left right pairs =
     let behind = AllPairs-head R x xs pairs in
     let rest = AllPairs-tail R x xs pairs in
     let later = pairs-change_first R p f xs left right rest in
-    elim (p x) as (λ b. AllPairs R (cond b (f x ∷ xs) (x ∷ change_first p f xs))) [ true ↦ AllPairs-cons R (f x) xs (All-weaker (R x) (R (f x)) (left x) xs behind) rest | false ↦ AllPairs-cons R x (change_first p f xs) (All-change_first (R x) p f xs (right x) behind) later ]
+    elim (p x) as (λ b. AllPairs R (cond b (f x ∷ xs) (x ∷ change_first p f xs))) [ true ↦ AllPairs-cons R (f x) xs (All-weaker (R x) (R (f x)) (left x) xs behind) rest | false ↦ AllPairs-cons R x (change_first p f xs) (All-change_first (R x) p f (λ y _. right x y) xs behind) later ]
 
 -- a sum after a change of what was found
 pub sum_by-change_first : {X : Type 0} (g : X → ℕ) (p : X → Bool) (f : X → X) (xs : List X) (x : X) → find p xs ≡ Some x → sum_by g (change_first p f xs) + g x ≡ sum_by g xs + g (f x)
@@ -145,17 +136,6 @@ pairs-map R f (x ∷ xs) keeps pairs =
 pub sum_by-map_same : {X : Type 0} (g : X → ℕ) (f : X → X) (xs : List X) → ((x : X) → g (f x) ≡ g x) → sum_by g (map f xs) ≡ sum_by g xs
 sum_by-map_same g f [] same = refl
 sum_by-map_same g f (x ∷ xs) same = omega (arith, sum_by-cons g x xs, sum_by-cons g (f x) (map f xs), same x, sum_by-map_same g f xs same)
-
--- what is found passes whatever all pass
-pub All-find : {X : Type 0} (P : X → Type 0) (p : X → Bool) (xs : List X) (x : X) → All P xs → find p xs ≡ Some x → P x
-All-find P p [] x all found = absurd (cc)
-All-find P p (y ∷ ys) x all found =
-    elim (p y) as (λ b. cond b (Some y) (find p ys) ≡ Some x → P x) [ true ↦ λ e. subst P (same_Some y x e) (All-head P y ys all) | false ↦ λ e. All-find P p ys x (All-tail P y ys all) e ] found
-
-pub find-passes : {X : Type 0} (p : X → Bool) (xs : List X) (x : X) → find p xs ≡ Some x → p x ≡ true
-find-passes p [] x found = absurd (cc)
-find-passes p (y ∷ ys) x found =
-    elim (p y) as (λ b. p y ≡ b → cond b (Some y) (find p ys) ≡ Some x → p x ≡ true) [ true ↦ λ t e. ap p (sym (same_Some y x e)) ∙ t | false ↦ λ f e. find-passes p ys x e ] refl found
 
 -- ---- the place of the first that passes a test, or the end
 

@@ -6,11 +6,11 @@ use Rattle.std.proofs.lemmas.List.Elements.{All-nil, All-cons}
 use Rattle.std.proofs.lemmas.List.Kept.{AllPairs-cons}
 use Rattle.std.proofs.lemmas.List.Sums.{sum_by-append, sum_by-cons}
 use Rattle.pr_num.specs.Programs.{Program, rounded, text_of, whole_pages}
-use Rattle.pr_num.specs.Spaces.{Space, IsBefore, IsSpace, first_space, mapped_size, read_execute, read_write, unless_empty}
+use Rattle.pr_num.specs.Spaces.{Space, IsBefore, IsSpace, first_space, mapped_size, read_execute, read_write, unless_empty, first_mappings}
 use Rattle.pr_num.specs.declared.mappings.Mapping.{Mapping}
 use Rattle.pr_num.specs.declared.mappings.MappingKind.{MappingKind}
 use Rattle.pr_num.specs.declared.mappings.MappingKind.TheVariants.{Text, Data, Stack}
-use Rattle.pr_parts.specs.AddressSpaces.{first_mappings, zeros_at}
+use Rattle.pr_parts.specs.AddressSpaces.{zeros_at}
 use Rattle.pr_parts.proofs.ByAddressLemmas.{AllPairs-nil}
 use Rattle.pr_parts.proofs.SpaceLemmas.{EndsWithin, HasBytes, size_of}
 

@@ -12,8 +12,9 @@ use Rattle.pr_num.specs.Spaces.{Space, IsBefore, IsSpace, mapped_size, mapping_l
 use Rattle.pr_num.specs.declared.mappings.Mapping.{Mapping}
 use Rattle.pr_num.specs.declared.mappings.MappingKind.TheVariants.{Heap}
 use Rattle.pr_parts.specs.AddressSpaces.{LeavesHeapPlace, address_of, break_limit, heap_base, is_break_heap, is_free, meets, resized, with_heap, with_mapping, zeros_at}
-use Rattle.pr_parts.proofs.ByAddressLemmas.{All-placed, All-without_first, AllPairs-head, AllPairs-tail, All-change_first, sum_by-change_first, sum_by-without_first}
+use Rattle.pr_parts.proofs.ByAddressLemmas.{All-placed, AllPairs-head, AllPairs-tail, sum_by-change_first, sum_by-without_first}
 use Rattle.pr_parts.proofs.SpaceLemmas.{EndsWithin, HasBytes, mapped_size-with_mapping, size_of}
+use Rattle.pr_num.proofs.TableLaws.{All-change_first, All-without_first}
 
 -- ---- where the heap is
 
@@ -58,11 +59,6 @@ pub resized-size : (size : ℕ) (m : Mapping) → length (resized size m).bytes 
 unfolding resized
 resized-size size m = omega (arith, length-append (take size m.bytes) (replicate (size - length m.bytes) 0), length-take size m.bytes, length-replicate {A = ℕ} (size - length m.bytes) 0)
 
-pub All-changed : (P : Mapping → Type 0) (p : Mapping → Bool) (f : Mapping → Mapping) (xs : Space) → ((x : Mapping) → p x ≡ true → P x → P (f x)) → All P xs → All P (change_first p f xs)
-All-changed P p f [] keeps all = all
-All-changed P p f (x ∷ xs) keeps all =
-    elim (p x) as (λ b. p x ≡ b → All P (cond b (f x ∷ xs) (x ∷ change_first p f xs))) [ true ↦ λ t. All-cons P (f x) xs (keeps x t (All-head P x xs all)) (All-tail P x xs all) | false ↦ λ e. All-cons P x (change_first p f xs) (All-head P x xs all) (All-changed P p f xs keeps (All-tail P x xs all)) ] refl
-
 -- the heap ends before what stands behind it begins
 ends_before : (size : ℕ) (m : Mapping) (space : Space) → is_break_heap m ≡ true → 0 < length m.bytes → heap_base + size ≤ break_limit → All HasBytes space → All LeavesHeapPlace space → All (IsBefore m) space → All (IsBefore (resized size m)) space
 ends_before size m space heap some within bytes leaves behind k d inside =
@@ -87,13 +83,13 @@ pairs-resized size (m ∷ space) within bytes leaves pairs =
     let more = All-tail HasBytes m space bytes in
     let others = All-tail LeavesHeapPlace m space leaves in
     let later = pairs-resized size space within more others rest in
-    elim (is_break_heap m) as (λ b. is_break_heap m ≡ b → AllPairs IsBefore (cond b (resized size m ∷ space) (m ∷ change_first is_break_heap (resized size) space))) [ true ↦ λ t. AllPairs-cons IsBefore (resized size m) space (ends_before size m space t (All-head HasBytes m space bytes) within more others behind) rest | false ↦ λ f. AllPairs-cons IsBefore m (change_first is_break_heap (resized size) space) (All-change_first (IsBefore m) is_break_heap (resized size) space (λ n h. subst (λ (a : ℕ). m.at + length m.bytes ≤ a) (sym (resized-at size n)) h) behind) later ] refl
+    elim (is_break_heap m) as (λ b. is_break_heap m ≡ b → AllPairs IsBefore (cond b (resized size m ∷ space) (m ∷ change_first is_break_heap (resized size) space))) [ true ↦ λ t. AllPairs-cons IsBefore (resized size m) space (ends_before size m space t (All-head HasBytes m space bytes) within more others behind) rest | false ↦ λ f. AllPairs-cons IsBefore m (change_first is_break_heap (resized size) space) (All-change_first (IsBefore m) is_break_heap (resized size) (λ n _ h. subst (λ (a : ℕ). m.at + length m.bytes ≤ a) (sym (resized-at size n)) h) space behind) later ] refl
 
 pub IsSpace-resized : (size : ℕ) (space : Space) → IsSpace space → All LeavesHeapPlace space → 0 < size → heap_base + size ≤ break_limit → mapped_size (change_first is_break_heap (resized size) space) ≤ mapping_limit → IsSpace (change_first is_break_heap (resized size) space)
 IsSpace-resized size space old leaves some within room = record {
   apart = pairs-resized size space within old.not_empty leaves old.apart;
-  not_empty = All-change_first HasBytes is_break_heap (resized size) space (λ m h. omega (arith, resized-size size m)) old.not_empty;
-  within = All-changed EndsWithin is_break_heap (resized size) space (λ m t h. omega (arith, heap-at m t, resized-at size m, resized-size size m)) old.within;
+  not_empty = All-change_first HasBytes is_break_heap (resized size) (λ m _ h. omega (arith, resized-size size m)) space old.not_empty;
+  within = All-change_first EndsWithin is_break_heap (resized size) (λ m t h. omega (arith, heap-at m t, resized-at size m, resized-size size m)) space old.within;
   limit = room;
 }
 
@@ -164,4 +160,4 @@ LeavesHeapPlace-with_heap size space leaves = go size (find is_break_heap space)
     go zero None e = subst (All LeavesHeapPlace) (sym (with_heap-none space e)) leaves
     go (suc n) None e = subst (All LeavesHeapPlace) (sym (with_heap-made (suc n) space e (omega arith))) (with_made (suc n) space leaves)
     go zero (Some m) e = subst (All LeavesHeapPlace) (sym (without_heap space m e)) (All-without_first LeavesHeapPlace is_break_heap space leaves)
-    go (suc n) (Some m) e = subst (All LeavesHeapPlace) (sym (with_heap-resized (suc n) space m e (omega arith))) (All-changed LeavesHeapPlace is_break_heap (resized (suc n)) space (λ x t h. heap_leaves (resized (suc n) x) (resized-heap (suc n) x t)) leaves)
+    go (suc n) (Some m) e = subst (All LeavesHeapPlace) (sym (with_heap-resized (suc n) space m e (omega arith))) (All-change_first LeavesHeapPlace is_break_heap (resized (suc n)) (λ x t h. heap_leaves (resized (suc n) x) (resized-heap (suc n) x t)) space leaves)

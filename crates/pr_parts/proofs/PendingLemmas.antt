@@ -1,5 +1,5 @@
-use Rattle.std.proofs.Common.{◌≡◌, ◌≢◌, ℕ, zero, suc, ◌+◌, ◌-◌, ◌^◌, ◌<◌, ◌≤◌, Bool, true, false, not, ◌&&◌, ◌||◌, eqb, leb, ltb, cond, Option, Some, None, IsSome, IsNone, is_some, List, [], ◌∷◌, ◌++◌, length, set, get_or, refl, sym, ◌∙◌, ap, arith, lit≤, inl, inr, length-append, length-set}
-use Rattle.std.proofs.lemmas.Bool.{leb-true, leb-false, ltb-true, eqb-true, eq-eqb, ne_eqb, or_right, and_parts, cases_Bool, cases_eq}
+use Rattle.std.proofs.Common.{◌≡◌, ◌≢◌, ℕ, zero, suc, ◌+◌, ◌-◌, ◌^◌, ◌<◌, ◌≤◌, Bool, true, false, not, ◌&&◌, ◌||◌, eqb, leb, ltb, cond, Option, Some, None, IsSome, IsNone, is_some, List, [], ◌∷◌, ◌++◌, length, set, take, drop, replicate, get_or, refl, sym, ◌∙◌, ap, add-one, arith, lit≤, lit<, inl, inr, length-append, length-set}
+use Rattle.std.proofs.lemmas.Bool.{leb-true, leb-false, ltb-true, eqb-true, eq-eqb, ne_eqb, or_right, and_parts, cases_Bool, cases_eq, false≢true}
 use Rattle.std.proofs.lemmas.List.{get_or-set_same, get_or-set_other}
 use Rattle.std.proofs.lemmas.List.Elements.{filter-append}
 use Rattle.std.proofs.lemmas.List.Folds.{list_all-append}
@@ -17,7 +17,7 @@ use Rattle.pr_num.specs.Signals.{signal_number}
 use Rattle.pr_num.proofs.BoolLemmas.{and_false, and_true, cond-same, eqb_comm, or_false}
 use Rattle.pr_num.proofs.NumberedLemmas.{has_signal-set_of, set_of_signals-lt, same_signals, signal_number-range}
 use Rattle.pr_num.proofs.SetBounds.{minus_word-le, with_number-lt, without_number-le}
-use Rattle.pr_num.proofs.SetLemmas.{has_number-minus, has_number-with, has_number-without}
+use Rattle.pr_num.proofs.SetLemmas.{has_number-zero, has_number-minus, has_number-with, has_number-without}
 use Rattle.pr_num.proofs.TableLaws.{find-without_first_other}
 use Rattle.pr_parts.specs.SignalRules.{deleted_by}
 use Rattle.pr_parts.specs.PendingSignals.{Pending, IsPendings, is_standard, is_of, nothing_pending, info_of, pending_set, has_room, kept_info, with_standard, with_queued, added, without_one, without_infos, without_signals}
@@ -134,9 +134,9 @@ is_some-info_of_without_signals w t p =
     let numbered = signal_number-range t in
     let place : 1 + (signal_number t - 1) ≡ signal_number t = omega arith in
     elim (cases_Bool (is_standard t)) [ inl stands ↦ ap is_some (info_of-standard t (without_signals w p) stands ∙ get_or-without_infos w 1 p.standard (signal_number t - 1) ∙ ap (λ n. cond (has_number w n) None (get_or p.standard (signal_number t - 1) None)) place) ∙ kept (has_number w (signal_number t)) (get_or p.standard (signal_number t - 1) None) ∙ ap (λ o. is_some o && not (has_number w (signal_number t))) (sym (info_of-standard t p stands)) | inr queues ↦ ap is_some (info_of-queued t (without_signals w p) queues) ∙ waits-filter w (signal_number t) p.queued ∙ ap (λ o. is_some o && not (has_number w (signal_number t))) (sym (info_of-queued t p queues)) ] where
-  kept : (b : Bool) (o : Option Info) → is_some (cond b None o) ≡ (is_some o && not b)
-  kept true o = sym (and_false (is_some o))
-  kept false o = sym (and_true (is_some o))
+      kept : (b : Bool) (o : Option Info) → is_some (cond b None o) ≡ (is_some o && not b)
+      kept true o = sym (and_false (is_some o))
+      kept false o = sym (and_true (is_some o))
 
 pub is_some-info_of_without_standard : (s t : Sig) (p : Pending) → IsPendings p → is_standard s ≡ true → is_some (info_of t (without_one s p)) ≡ (is_some (info_of t p) && not (eqb (signal_number t) (signal_number s)))
 is_some-info_of_without_standard s t p fits s-stands =
@@ -177,21 +177,102 @@ waits-left n [] left = left
 waits-left n (q ∷ qs) left =
     elim (cases_Bool (eqb (signal_number q.signal) n)) [ inl here ↦ rw here refl | inr other ↦ rw other (waits-left n qs (rw (other, other) at left)) ]
 
-pub pending_set-without_first : (s : Sig) (p : Pending) → is_standard s ≡ false → waits (signal_number s) (without_first (is_of s) p.queued) ≡ true → pending_set (without_one s p) ≡ pending_set p
-pending_set-without_first s p kind left =
+pub pending_set-without_first : (s : Sig) (p : Pending) → is_standard s ≡ false → IsSome (info_of s (without_one s p)) → pending_set (without_one s p) ≡ pending_set p
+pending_set-without_first s p kind still =
     let gone : without_one s p ≡ record p { queued = without_first (is_of s) p.queued } = without_one-queued s p kind in
-    let still : is_some (info_of s (without_one s p)) ≡ true = waits-info s (without_one s p) kind ∙ ap (λ (r : Pending). waits (signal_number s) r.queued) gone ∙ left in
+    let left : waits (signal_number s) (without_first (is_of s) p.queued) ≡ true = ap (λ (r : Pending). waits (signal_number s) r.queued) (sym gone) ∙ sym (waits-info s (without_one s p) kind) ∙ still in
     let before : is_some (info_of s p) ≡ true = waits-info s p kind ∙ waits-left (signal_number s) p.queued left in
-    same_signals (pending_set (without_one s p)) (pending_set p) (pending_set-lt (without_one s p)) (pending_set-lt p) (λ t. pending-signal (without_one s p) t ∙ elim (cases_eq (signal_number t) (signal_number s)) [ inl same ↦ sym (pending-signal (without_one s p) t) ∙ ap (has_number (pending_set (without_one s p))) same ∙ pending-signal (without_one s p) s ∙ still ∙ sym before ∙ sym (pending-signal p s) ∙ ap (has_number (pending_set p)) (sym same) | inr apart ↦ ap is_some (info_of-without_queued s t p kind apart) ∙ sym (pending-signal p t) ])
+    same_signals (pending_set (without_one s p)) (pending_set p) (pending_set-lt (without_one s p)) (pending_set-lt p) (λ t. elim (cases_eq (signal_number t) (signal_number s)) [ inl same ↦ ap (has_number (pending_set (without_one s p))) same ∙ pending-signal (without_one s p) s ∙ still ∙ sym before ∙ sym (pending-signal p s) ∙ ap (has_number (pending_set p)) (sym same) | inr apart ↦ pending-signal (without_one s p) t ∙ ap is_some (info_of-without_queued s t p kind apart) ∙ sym (pending-signal p t) ])
 
-pub pending_set-without_last : (s : Sig) (p : Pending) → is_standard s ≡ false → waits (signal_number s) (without_first (is_of s) p.queued) ≡ false → pending_set (without_one s p) ≡ without_number (pending_set p) (signal_number s)
-pending_set-without_last s p kind left =
+pub pending_set-without_last : (s : Sig) (p : Pending) → is_standard s ≡ false → IsNone (info_of s (without_one s p)) → pending_set (without_one s p) ≡ without_number (pending_set p) (signal_number s)
+pending_set-without_last s p kind none =
     let less = without_number-le (pending_set p) (signal_number s) in
     let within = pending_set-lt p in
     let numbered = signal_number-range s in
-    let gone : without_one s p ≡ record p { queued = without_first (is_of s) p.queued } = without_one-queued s p kind in
-    let none : is_some (info_of s (without_one s p)) ≡ false = waits-info s (without_one s p) kind ∙ ap (λ (r : Pending). waits (signal_number s) r.queued) gone ∙ left in
     same_signals (pending_set (without_one s p)) (without_number (pending_set p) (signal_number s)) (pending_set-lt (without_one s p)) (omega arith) (λ t. (let other = signal_number-range t in elim (cases_eq (signal_number t) (signal_number s)) [ inl same ↦ ap (has_number (pending_set (without_one s p))) same ∙ pending-signal (without_one s p) s ∙ none ∙ sym (has_number-without (pending_set p) (signal_number s) (signal_number t) (omega arith) (omega arith) (omega arith) (omega arith) ∙ ap (λ b. has_number (pending_set p) (signal_number t) && not b) (eq-eqb (signal_number t) (signal_number s) same) ∙ and_false _) | inr apart ↦ pending-signal (without_one s p) t ∙ ap is_some (info_of-without_queued s t p kind apart) ∙ sym (pending-signal p t) ∙ sym (has_number-without (pending_set p) (signal_number s) (signal_number t) (omega arith) (omega arith) (omega arith) (omega arith) ∙ ap (λ b. has_number (pending_set p) (signal_number t) && not b) (ne_eqb (signal_number t) (signal_number s) apart) ∙ and_true _) ]))
+
+-- a standard signal that is taken is pending no longer
+pub info_of-without_standard : (s : Sig) (p : Pending) → IsPendings p → is_standard s ≡ true → IsNone (info_of s (without_one s p))
+info_of-without_standard s p fits kind =
+    is_some-info_of_without_standard s s p fits kind ∙ ap (λ b. is_some (info_of s p) && not b) (eq-eqb (signal_number s) (signal_number s) refl) ∙ and_false (is_some (info_of s p))
+
+-- whichever kind it is of: the set loses the signal exactly where none of it is left
+pub pending_set-without_gone : (s : Sig) (p : Pending) → IsPendings p → IsNone (info_of s (without_one s p)) → pending_set (without_one s p) ≡ without_number (pending_set p) (signal_number s)
+pending_set-without_gone s p fits none =
+    elim (cases_Bool (is_standard s)) [ inl stands ↦ pending_set-without_standard s p fits stands | inr queues ↦ pending_set-without_last s p queues none ]
+
+pub pending_set-without_left : (s : Sig) (p : Pending) → IsPendings p → IsSome (info_of s (without_one s p)) → pending_set (without_one s p) ≡ pending_set p
+pending_set-without_left s p fits still =
+    elim (cases_Bool (is_standard s)) [ inl stands ↦ absurd (false≢true (sym (info_of-without_standard s p fits stands) ∙ still)) | inr queues ↦ pending_set-without_first s p queues still ]
+
+empty : (n i : ℕ) → is_some (get_or {A = Option Info} (replicate n None) i None) ≡ false
+empty zero i = refl
+empty (suc n) zero = refl
+empty (suc n) (suc i) = empty n i
+
+pub pending_set-nothing : pending_set nothing_pending ≡ 0
+pending_set-nothing =
+    same_signals (pending_set nothing_pending) 0 (pending_set-lt nothing_pending) (lit< tt) (λ s. pending-signal nothing_pending s ∙ none s ∙ sym (has_number-zero (signal_number s))) where
+      none : (s : Sig) → is_some (info_of s nothing_pending) ≡ false
+      none s =
+          elim (cases_Bool (is_standard s)) [ inl stands ↦ ap is_some (info_of-standard s nothing_pending stands) ∙ empty 31 (signal_number s - 1) | inr queues ↦ ap is_some (info_of-queued s nothing_pending queues) ]
+
+-- ---- a loop that clears places
+
+pub cleared_place : (w k n : ℕ) (os ys : List (Option Info)) (i : ℕ) → i < length os → n ≡ k + i → has_number w n ≡ true → ys ≡ without_infos w k (take i os) ++ drop i os → set ys i None ≡ without_infos w k (take (i + 1) os) ++ drop (i + 1) os
+cleared_place w k n os ys i within numbered there so_far =
+    ap (λ zs. set zs i None) so_far ∙ step w k os i within (ap (has_number w) (sym numbered) ∙ there) ∙ rw (add-one i) refl where
+      step : (w k : ℕ) (os : List (Option Info)) (i : ℕ) → i < length os → has_number w (k + i) ≡ true → set (without_infos w k (take i os) ++ drop i os) i None ≡ without_infos w k (take (suc i) os) ++ drop (suc i) os
+      step w k [] i within there = absurd (omega arith)
+      step w k (o ∷ os) zero within there =
+          let here : has_number w k ≡ true = ap (has_number w) (let place : k ≡ k + 0 = omega arith in place) ∙ there in
+          ap (λ b. (cond b None o) ∷ os) (sym here)
+      step w k (o ∷ os) (suc i) within there =
+          let place : suc k + i ≡ k + suc i = omega arith in
+          ap (λ zs. (cond (has_number w k) None o) ∷ zs) (step w (suc k) os i (omega arith) (ap (has_number w) place ∙ there))
+
+pub kept_place : (w k n : ℕ) (os ys : List (Option Info)) (i : ℕ) → i < length os → n ≡ k + i → has_number w n ≡ false → ys ≡ without_infos w k (take i os) ++ drop i os → ys ≡ without_infos w k (take (i + 1) os) ++ drop (i + 1) os
+kept_place w k n os ys i within numbered there so_far =
+    so_far ∙ step w k os i within (ap (has_number w) (sym numbered) ∙ there) ∙ rw (add-one i) refl where
+      step : (w k : ℕ) (os : List (Option Info)) (i : ℕ) → i < length os → has_number w (k + i) ≡ false → without_infos w k (take i os) ++ drop i os ≡ without_infos w k (take (suc i) os) ++ drop (suc i) os
+      step w k [] i within there = absurd (omega arith)
+      step w k (o ∷ os) zero within there =
+          let here : has_number w k ≡ false = ap (has_number w) (let place : k ≡ k + 0 = omega arith in place) ∙ there in
+          ap (λ b. (cond b None o) ∷ os) (sym here)
+      step w k (o ∷ os) (suc i) within there =
+          let place : suc k + i ≡ k + suc i = omega arith in
+          ap (λ zs. (cond (has_number w k) None o) ∷ zs) (step w (suc k) os i (omega arith) (ap (has_number w) place ∙ there))
+
+-- ---- what came with a signal
+
+-- a fault's information replaces what stands
+pub info_of-added_fault : (s : Sig) (info : Info) (p : Pending) → IsPendings p → is_standard s ≡ true → info.code ≡ fault_code → info_of s (added s info p) ≡ Some info
+info_of-added_fault s info p fits stands sent =
+    ap (info_of s) (added-standard s info p stands) ∙ info_of-standard s (with_standard (signal_number s - 1) info p) stands ∙ get_or-set_same p.standard (signal_number s - 1) _ None (place-within s p fits stands) ∙ ap Some (replaced (get_or p.standard (signal_number s - 1) None)) where
+      replaced : (o : Option Info) → kept_info o info ≡ info
+      replaced None = refl
+      replaced (Some first) = ap (λ b. cond b info first) (eq-eqb info.code fault_code sent)
+
+found_first : (test : Queued → Bool) (qs rest : List Queued) (first : Info) → option_map (λ q. q.info) (find test qs) ≡ Some first → option_map (λ q. q.info) (find test (qs ++ rest)) ≡ Some first
+found_first test [] rest first found = cc
+found_first test (q ∷ qs) rest first found =
+    elim (test q) as (λ b. option_map (λ (r : Queued). r.info) (cond b (Some q) (find test qs)) ≡ Some first → option_map (λ (r : Queued). r.info) (cond b (Some q) (find test (qs ++ rest))) ≡ Some first) [ true ↦ λ h. h | false ↦ λ h. found_first test qs rest first h ] found
+
+-- whatever else comes, what came first stays
+pub info_of-added_standing : (s : Sig) (info first : Info) (p : Pending) → IsPendings p → eqb info.code fault_code ≡ false → info_of s p ≡ Some first → info_of s (added s info p) ≡ Some first
+info_of-added_standing s info first p fits other standing =
+    elim (cases_Bool (is_standard s)) [ inl stands ↦ ap (info_of s) (added-standard s info p stands) ∙ info_of-standard s (with_standard (signal_number s - 1) info p) stands ∙ get_or-set_same p.standard (signal_number s - 1) _ None (place-within s p fits stands) ∙ ap (λ o. Some (kept_info o info)) (sym (info_of-standard s p stands) ∙ standing) ∙ ap (λ b. Some (cond b info first)) other | inr queues ↦ ap (info_of s) (added-queued s info p queues) ∙ info_of-queued s (with_queued s info p) queues ∙ found_first (is_of s) p.queued (record { signal = s; info = info } ∷ []) first (sym (info_of-queued s p queues) ∙ standing) ]
+
+found_last : (s : Sig) (info : Info) (qs : List Queued) → option_map (λ q. q.info) (find (is_of s) qs) ≡ None → option_map (λ q. q.info) (find (is_of s) (qs ++ record { signal = s; info = info } ∷ [])) ≡ Some info
+found_last s info [] none =
+    ap (λ b. option_map (λ (r : Queued). r.info) (cond b (Some (record { signal = s; info = info })) None)) (eq-eqb (signal_number s) (signal_number s) refl)
+found_last s info (q ∷ qs) none =
+    elim (is_of s q) as (λ b. option_map (λ (r : Queued). r.info) (cond b (Some q) (find (is_of s) qs)) ≡ None → option_map (λ (r : Queued). r.info) (cond b (Some q) (find (is_of s) (qs ++ record { signal = s; info = info } ∷ []))) ≡ Some info) [ true ↦ λ h. cc | false ↦ λ h. found_last s info qs h ] none
+
+-- what comes alone stands
+pub info_of-added_alone : (s : Sig) (info : Info) (p : Pending) → IsPendings p → info_of s p ≡ None → info_of s (added s info p) ≡ Some info
+info_of-added_alone s info p fits none =
+    elim (cases_Bool (is_standard s)) [ inl stands ↦ ap (info_of s) (added-standard s info p stands) ∙ info_of-standard s (with_standard (signal_number s - 1) info p) stands ∙ get_or-set_same p.standard (signal_number s - 1) _ None (place-within s p fits stands) ∙ ap (λ o. Some (kept_info o info)) (sym (info_of-standard s p stands) ∙ none) | inr queues ↦ ap (info_of s) (added-queued s info p queues) ∙ info_of-queued s (with_queued s info p) queues ∙ found_last s info p.queued (sym (info_of-queued s p queues) ∙ none) ]
 
 -- ---- what a process and an lwp can have stays within its places
 
@@ -215,11 +296,19 @@ all-without_first test p (q ∷ qs) all =
     let parts = and_parts (test q) (list_all test qs) all in
     elim (p q) as (λ b. list_all test (cond b qs (q ∷ without_first p qs)) ≡ true) [ true ↦ parts.1 | false ↦ rw parts.0 (all-without_first test p qs parts.1) ]
 
-pub IsPendings-without_one : (s : Sig) (p : Pending) → IsPendings p → IsPendings (without_one s p)
-IsPendings-without_one s p fits =
+pub IsPendings-without_pair : (s : Sig) (p : Pending) → IsPendings p → IsPendings (record p { queued = without_first (is_of s) p.queued })
+IsPendings-without_pair s p fits =
     let limit = fits.limit in
     let less = shorter (is_of s) p.queued in
-    elim (cases_Bool (is_standard s)) [ inl stands ↦ rw (without_one-standard s p stands) (record { places = length-set p.standard (signal_number s - 1) None ∙ fits.places; limit = fits.limit; queues = fits.queues }) | inr queues ↦ rw (without_one-queued s p queues) (record { places = fits.places; limit = omega arith; queues = all-without_first (λ q. not (is_standard q.signal)) (is_of s) p.queued fits.queues }) ]
+    record {
+      places = fits.places;
+      limit = omega arith;
+      queues = all-without_first (λ q. not (is_standard q.signal)) (is_of s) p.queued fits.queues;
+    }
+
+pub IsPendings-without_one : (s : Sig) (p : Pending) → IsPendings p → IsPendings (without_one s p)
+IsPendings-without_one s p fits =
+    elim (cases_Bool (is_standard s)) [ inl stands ↦ rw (without_one-standard s p stands) (record { places = length-set p.standard (signal_number s - 1) None ∙ fits.places; limit = fits.limit; queues = fits.queues }) | inr queues ↦ rw (without_one-queued s p queues) (IsPendings-without_pair s p fits) ]
 
 pub length-without_infos : (w k : ℕ) (os : List (Option Info)) → length (without_infos w k os) ≡ length os
 length-without_infos w k [] = refl
@@ -267,17 +356,23 @@ without_signals-added w s info p stays =
     let place : 1 + (signal_number s - 1) ≡ signal_number s = omega arith in
     let stays_there : has_number w (1 + (signal_number s - 1)) ≡ false = ap (has_number w) place ∙ stays in
     elim (cases_Bool (is_standard s)) [ inl stands ↦ ap (without_signals w) (added-standard s info p stands) ∙ standard-kept (signal_number s - 1) stays_there ∙ sym (added-standard s info (without_signals w p) stands) | inr queues ↦ ap (without_signals w) (added-queued s info p queues) ∙ queued-kept ∙ sym (added-queued s info (without_signals w p) queues) ] where
-  standard-kept : (j : ℕ) → has_number w (1 + j) ≡ false → without_signals w (with_standard j info p) ≡ with_standard j info (without_signals w p)
-  standard-kept j there =
-      let read : get_or (without_infos w 1 p.standard) j None ≡ get_or p.standard j None = get_or-without_infos w 1 p.standard j ∙ ap (λ b. cond b None (get_or p.standard j None)) there in
-      ap (λ (os : List (Option Info)). record (without_signals w p) { standard = os }) (without_infos-set w 1 p.standard j (Some (kept_info (get_or p.standard j None) info)) there ∙ ap (λ o. set (without_infos w 1 p.standard) j (Some (kept_info o info))) (sym read))
+      standard-kept : (j : ℕ) → has_number w (1 + j) ≡ false → without_signals w (with_standard j info p) ≡ with_standard j info (without_signals w p)
+      standard-kept j there =
+          let read : get_or (without_infos w 1 p.standard) j None ≡ get_or p.standard j None = get_or-without_infos w 1 p.standard j ∙ ap (λ b. cond b None (get_or p.standard j None)) there in
+          ap (λ (os : List (Option Info)). record (without_signals w p) { standard = os }) (without_infos-set w 1 p.standard j (Some (kept_info (get_or p.standard j None) info)) there ∙ ap (λ o. set (without_infos w 1 p.standard) j (Some (kept_info o info))) (sym read))
 
-  queued-kept : without_signals w (with_queued s info p) ≡ with_queued s info (without_signals w p)
-  queued-kept =
-      let keeps : Queued → Bool = λ q. not (has_number w (signal_number q.signal)) in
-      ap (λ (qs : List Queued). record (without_signals w p) { queued = qs }) (filter-append keeps p.queued (record { signal = s; info = info } ∷ []) ∙ ap (λ b. filter keeps p.queued ++ cond (not b) (record { signal = s; info = info } ∷ []) []) stays)
+      queued-kept : without_signals w (with_queued s info p) ≡ with_queued s info (without_signals w p)
+      queued-kept =
+          let keeps : Queued → Bool = λ q. not (has_number w (signal_number q.signal)) in
+          ap (λ (qs : List Queued). record (without_signals w p) { queued = qs }) (filter-append keeps p.queued (record { signal = s; info = info } ∷ []) ∙ ap (λ b. filter keeps p.queued ++ cond (not b) (record { signal = s; info = info } ∷ []) []) stays)
 
 -- No deletion takes a fault's signal, so that a fault's signal may come early.
 pub early_signal-stays : (t : Sig) (f : Flt) (info : Info) (p : Pending) → without_signals (deleted_by t) (added (fault_signal f) info p) ≡ added (fault_signal f) info (without_signals (deleted_by t) p)
 early_signal-stays t f info p =
     without_signals-added (deleted_by t) (fault_signal f) info p (deleted_by-fault t f)
+
+pub ruleset kind_laws = (info_of-standard, info_of-queued, added-standard, added-queued, without_one-standard, without_one-queued)
+
+pub ruleset clearing_laws = (cleared_place, kept_place)
+
+pub ruleset pending_laws = (pending_set-nothing, pending_set-added, pending_set-without_signals, pending_set-without_gone, pending_set-without_left, IsPendings-added, IsPendings-without_one, IsPendings-without_signals)

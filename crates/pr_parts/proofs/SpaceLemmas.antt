@@ -16,7 +16,8 @@ use Rattle.pr_num.specs.declared.mappings.MappingKind.TheVariants.{Heap}
 use Rattle.pr_parts.specs.ByAddress.{is_behind}
 use Rattle.pr_parts.specs.AddressSpaces.{address_of, is_free, is_range, meets, with_bytes, with_mapping, with_prot, with_protected, with_written, without_range}
 use Rattle.pr_parts.proofs.AccessLemmas.{length-written_bytes}
-use Rattle.pr_parts.proofs.ByAddressLemmas.{All-placed, All-without_first, All-change_first, insert-placed, pairs-placed, pairs-without_first, pairs-change_first, pairs-map, sum_by-placed, sum_by-without_first, sum_by-change_first_same, sum_by-map_same}
+use Rattle.pr_parts.proofs.ByAddressLemmas.{All-placed, insert-placed, pairs-placed, pairs-without_first, pairs-change_first, pairs-map, sum_by-placed, sum_by-without_first, sum_by-change_first_same, sum_by-map_same}
+use Rattle.pr_num.proofs.TableLaws.{All-change_first, All-without_first}
 
 -- how many bytes a mapping has
 abbrev pub size_of : Mapping → ℕ
@@ -63,8 +64,8 @@ IsSpace-without_first p space m old found = record {
 pub IsSpace-change_first : (p : Mapping → Bool) (f : Mapping → Mapping) (space : Space) → ((m : Mapping) → (f m).at ≡ m.at) → ((m : Mapping) → length (f m).bytes ≡ length m.bytes) → IsSpace space → IsSpace (change_first p f space)
 IsSpace-change_first p f space at size old = record {
   apart = pairs-change_first IsBefore p f space (λ m n h. omega (arith, at m, size m)) (λ m n h. omega (arith, at n)) old.apart;
-  not_empty = All-change_first HasBytes p f space (λ m h. omega (arith, size m)) old.not_empty;
-  within = All-change_first EndsWithin p f space (λ m h. omega (arith, at m, size m)) old.within;
+  not_empty = All-change_first HasBytes p f (λ m _ h. omega (arith, size m)) space old.not_empty;
+  within = All-change_first EndsWithin p f (λ m _ h. omega (arith, at m, size m)) space old.within;
   limit = omega (arith, sum_by-change_first_same size_of p f space size, old.limit);
 }
 

@@ -5,11 +5,11 @@ use Rattle.std.specs.List.{list_any}
 use Rattle.pr_num.specs.Control.{prot_read}
 use Rattle.pr_num.specs.KeyedTables.{change_first, without_first}
 use Rattle.pr_num.specs.Programs.{rounded}
-use Rattle.pr_num.specs.Spaces.{Space, byte_for, is_heap, mapped_size, mapping_limit, read_execute, read_write, unless_empty}
+use Rattle.pr_num.specs.Spaces.{Space, byte_for, is_heap, mapped_size, mapping_limit, read_write}
 use Rattle.pr_num.specs.declared.mappings.BadByte.{BadByte}
 use Rattle.pr_num.specs.declared.mappings.Mapping.{Mapping}
 use Rattle.pr_num.specs.declared.mappings.MappingKind.{MappingKind}
-use Rattle.pr_num.specs.declared.mappings.MappingKind.TheVariants.{Text, Data, Heap, Stack}
+use Rattle.pr_num.specs.declared.mappings.MappingKind.TheVariants.{Heap}
 use Rattle.pr_parts.specs.ByAddress.{ranges_meet, with_placed}
 
 -- ---- mapping (mmap(2))
@@ -37,12 +37,6 @@ zeros_at at size prot kind = record { at = at; prot = prot; kind = kind; bytes =
 -- a space with one mapping more, which meets none that it has
 unfoldable pub with_mapping : Mapping → Space → Space
 with_mapping m space = with_placed address_of m space
-
--- the mappings with which a program of this text and these data begins, beside a stack
-unfoldable pub first_mappings : List ℕ → List ℕ → Space
-first_mappings text bytes =
-    unless_empty 0x10000 read_execute Text text ++ unless_empty 0x80000 read_write Data bytes
-    ++ zeros_at 0x700000 4096 read_write Stack ∷ []
 
 -- ---- where there is room for a mapping
 

@@ -5,10 +5,7 @@ use Rattle.pr_num.specs.Control.{has_flags, watch_trap_after}
 use Rattle.pr_num.specs.KeyedTables.{without_first}
 use Rattle.pr_num.specs.declared.mappings.Area.{Area}
 use Rattle.pr_parts.specs.ByAddress.{ranges_meet, with_placed}
-
--- how many areas a process can have
-abbrev pub area_limit : ℕ
-area_limit = 64
+pub use Rattle.pr_num.specs.Limits.{area_limit}
 
 -- two areas stand in the order of their addresses, apart from each other
 abbrev pub IsBelow : Area → Area → Type 0

@@ -1,27 +1,38 @@
 use pr_num::{Name, NoMemory};
+use thiserror::Error;
 
 /// Why a call on files gives no value, with the errno that it stands for (Intro(2)).
-#[derive(Clone, Copy, Debug, PartialEq, Eq)]
+#[derive(Clone, Copy, Debug, PartialEq, Eq, Error)]
 pub enum FileNo {
     /// The descriptor is not open, or not for that direction (`EBADF`).
+    #[error("the descriptor is not open for this")]
     BadFd,
     /// No file has that name (`ENOENT`).
+    #[error("no file has that name")]
     NoFile,
     /// Too few of the process's descriptors are free (`EMFILE`).
+    #[error("too few descriptors are free")]
     NoPlace,
     /// There are as many files, or as many pipes, as there can be (`ENFILE`).
+    #[error("there are as many files or pipes as there can be")]
     TableFull,
     /// The file would be longer than a file can be (`ENOSPC`).
+    #[error("the file would be too long")]
     NoSpace,
     /// A pipe has no offset (`ESPIPE`).
+    #[error("a pipe has no offset")]
     NotSeekable,
     /// The offset is beyond the longest file (`EINVAL`).
+    #[error("the offset is beyond the longest file")]
     BadOffset,
     /// Nothing can read the pipe any more (`EPIPE`).
+    #[error("nothing can read the pipe")]
     NoReader,
     /// The call has to wait: the pipe is empty, or has no room for all that is written.
+    #[error("the call has to wait")]
     Sleep,
     /// Memory ran out.
+    #[error("out of memory")]
     NoMemory,
 }
 

@@ -2,7 +2,7 @@ use Rattle.std.proofs.Common.{◌≡◌, ℕ, ◌-◌, ◌<◌, List, [], ◌∷
 use Rattle.std.proofs.lemmas.List.{take_all}
 use Rattle.std.specs.Int.{next_multiple_of}
 use Rattle.pr_num.specs.Programs.{Program, rounded, whole_pages, text_of}
-use Rattle.pr_num.specs.Spaces.{unless_empty, first_space, read_execute, read_write}
+use Rattle.pr_num.specs.Spaces.{unless_empty, first_mappings, first_space, read_execute, read_write}
 use Rattle.pr_num.specs.declared.mappings.MappingKind.{MappingKind}
 use Rattle.pr_num.specs.declared.mappings.MappingKind.TheVariants.{Text, Data, Stack}
 use Rattle.pr_proc.specs.Blanks.{zeros}
@@ -30,5 +30,5 @@ pub ruleset page_laws = (whole_pages-longer, unless_empty-none, unless_empty-som
 
 -- the parts of the space in which a program begins
 pub first_space_parts : (p : Program) → unless_empty 0x10000 read_execute Text (text_of p) ++ unless_empty 0x80000 read_write Data p.bytes ++ record { at = 0x700000; prot = read_write; kind = Stack; bytes = zeros 4096 } ∷ [] ≡ first_space p
-unfolding first_space zeros
+unfolding first_space first_mappings zeros
 first_space_parts p = refl

@@ -180,25 +180,15 @@ pub(crate) fn truth_of(word: u64) -> bool
 }
 
 #[tactic(auto, unfolding(pr_num::specs::Spaces::kind_number))]
-pub(crate) fn kind_word(kind: MappingKind) -> u64
-    ensures { result ≡ kind_number kind }
-{
-    kind as u64
-}
-
-#[tactic(auto, unfolding(pr_num::specs::Spaces::kind_number))]
 pub(crate) fn kind_of(word: u64) -> MappingKind
     requires from { 1 ≤ word }
     requires to { word ≤ 5 }
     ensures { kind_number result ≡ word }
 {
-    match word {
-        1 => MappingKind::Text,
-        2 => MappingKind::Data,
-        3 => MappingKind::Heap,
-        4 => MappingKind::Stack,
-        _ => MappingKind::Mapped,
-    }
+    let Some(kind) = MappingKind::from_number(word) else {
+        unreachable!()
+    };
+    kind
 }
 
 pub(crate) fn disposition_word(disposition: Disposition) -> u64

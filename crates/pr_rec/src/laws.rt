@@ -1,7 +1,15 @@
 //! Laws of the records. Each function does nothing: its clauses are what is proved.
-ghost use Rattle.std.specs.Prelude.{◌≡◌, ◌+◌, ◌*◌, ◌^◌, ◌<◌, ◌++◌, ℕ, List, Some, drop, length, replicate, slice_get, take};
-ghost use Rattle.pr_num.specs.Records.{Range, EncodesRecord, usage_ranges, psinfo_ranges, map_entry_ranges, lwpstatus_ranges, status_ranges, watch_entry_ranges, fd_entry_ranges, list_entry_ranges};
-ghost use Rattle.pr_num.specs.Words.{word_of};
+ghost use Rattle.std.specs.Prelude.{◌≡◌, ◌≤◌, ◌+◌, ◌*◌, ◌^◌, ◌<◌, ◌++◌, ℕ, Bool, List, Some, drop, length, replicate, slice_get, take};
+ghost use Rattle.std.specs.List.{All};
+ghost use Rattle.pr_num.specs.Faults.{fault_number};
+ghost use Rattle.pr_num.specs.Signals.{signal_number};
+ghost use Rattle.pr_num.specs.Syscalls.{syscall_number};
+ghost use Rattle.pr_num.specs.declared.faults.Flt.{Flt};
+ghost use Rattle.pr_num.specs.declared.signals.Sig.{Sig};
+ghost use Rattle.pr_num.specs.declared.syscalls.Sysno.{Sysno};
+ghost use Rattle.pr_num.specs.Records.{name_field, Range, EncodesRecord, usage_ranges, psinfo_ranges, map_entry_ranges, lwpstatus_ranges, status_ranges, watch_entry_ranges, fd_entry_ranges, list_entry_ranges};
+ghost use Rattle.pr_num.specs.Words.{IsByte, word_of};
+ghost use Rattle.pr_rec.specs.Fields.{lwp_flags_of, process_flags_of};
 ghost use Rattle.pr_rec.specs.InRange.{HasArraySizes, IsNameField, IsLwpStatus, IsStatus, IsPsinfo, IsUsage, IsMapEntry, IsWatchEntry, IsFdEntry, IsListEntry};
 ghost use Rattle.pr_rec.specs.NoLwp.{no_lwp};
 ghost use Rattle.pr_rec.specs.Reading.{BeginsWith};
@@ -10,6 +18,7 @@ ghost use Rattle.pr_rec.specs.RecordWords.{usage_words_of, psinfo_words_of, map_
 ghost use Rattle.pr_rec.specs.declared.entries.FdEntry.{FdEntry};
 ghost use Rattle.pr_rec.specs.declared.entries.ListEntry.{ListEntry};
 ghost use Rattle.pr_rec.specs.declared.entries.WatchEntry.{WatchEntry};
+ghost use Rattle.pr_rec.specs.declared.lwp_flags.LwpMarks.{LwpMarks};
 ghost use Rattle.pr_rec.specs.declared.lwps.LwpStatus.{LwpStatus};
 ghost use Rattle.pr_rec.specs.declared.mappings.MapEntry.{MapEntry};
 ghost use Rattle.pr_rec.specs.declared.processes.Psinfo.{Psinfo};
@@ -34,6 +43,18 @@ pub fn what_is_encoded_is_decoded()
     ensures psinfo { (p : Psinfo) (more : List ℕ) → IsPsinfo p → BeginsWith psinfo_ranges (psinfo_bytes p ++ more) (psinfo_words_of p) }
     ensures usage { (u : Usage) (more : List ℕ) → IsUsage u → BeginsWith usage_ranges (usage_bytes u ++ more) (usage_words_of u) }
     ensures no_lwp { lwpstatus_words_of no_lwp ≡ replicate 33 0 }
+{}
+
+/// What a record's fields are filled with is in their ranges: flags of marks and of modes, what a stop is about, names,
+/// and what stands for an lwp where there is none.
+pub fn what_fills_records_is_in_range()
+    ensures lwp_flags { (marks : LwpMarks) → lwp_flags_of marks < 2 ^ 6 }
+    ensures process_flags { (modes : ℕ) (system : Bool) → modes < 2 ^ 4 → process_flags_of modes system < 2 ^ 5 }
+    ensures signal { (s : Sig) → signal_number s < 40 }
+    ensures fault { (f : Flt) → fault_number f < 40 }
+    ensures call { (c : Sysno) → syscall_number c < 40 }
+    ensures name { (name : List ℕ) → length name ≤ 32 → All IsByte name → IsNameField (name_field name) }
+    ensures no_lwp { IsLwpStatus no_lwp }
 {}
 
 /// The entries of a record that is a list stand one after the other, each as the bytes of its own record.

@@ -23,7 +23,8 @@ pub use descriptors::Descriptor;
 pub use entries::{FdEntry, FdKind, ListEntry, WatchEntry};
 pub use faults::RecFault;
 pub use laws::{
-    entries_stand_in_their_places, one_encoding_one_record, what_is_encoded_is_decoded,
+    entries_stand_in_their_places, one_encoding_one_record, what_fills_records_is_in_range,
+    what_is_encoded_is_decoded,
 };
 pub use lists::{encode_sigact, write_fds, write_list, write_lstatus, write_map, write_watch};
 pub use lwp_flags::{LwpFlags, LwpMarks, words_of_lwp_flags};

@@ -8,7 +8,7 @@ ghost use Rattle.pr_rec.specs.declared.mappings.MapEntry.{MapEntry as Decoded};
 
 use crate::RecFault;
 use crate::columns::{Column, put_record, read_record};
-use crate::fields::{kind_of, kind_word, name_of, name_words, protection_of};
+use crate::fields::{kind_of, name_of, name_words, protection_of};
 use pr_num::{MappingKind, Prot};
 
 /// A mapping of an address space (proc(4), "map").
@@ -79,7 +79,7 @@ impl MapEntry {
             self.at,
             self.size,
             self.prot.word(),
-            kind_word(self.kind),
+            self.kind.number(),
             name[0],
             name[1],
             name[2],

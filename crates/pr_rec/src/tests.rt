@@ -1,23 +1,23 @@
 //! What no clause says: each record as words written by hand, both ways, and words that are out of their range.
 use crate::*;
 use pr_num::{
-    Access, Errno, Flt, FltSet, MappingKind, Name, Prot, Sig, SigSet, StopReason, SysSet, Sysno,
-    WatchFlags,
+    Access, Errno, Flt, FltSet, Info, MappingKind, Modes, Name, Prot, Sig, SigSet, StopReason,
+    SysSet, Sysno, Target, WatchFlags,
 };
 use std::alloc::{AllocError, Global};
 use std::test::Fail;
 
 /// The words of a status. From the 14th on they are those of its lwp: it is stopped on an event, at the entry of write,
-/// with the current signal SIGINT and the errno EAGAIN.
-const STATUS: [u64; 43] = [
+/// with the current signal SIGRT0, which process 9 queued with a value, and the errno EAGAIN.
+const STATUS: [u64; 46] = [
     9,
     7,
     1,
     2,
-    0x4000_0000,
+    0x40_0000_0000,
     3,
     0x80,
-    0x1000_0000,
+    0x2000_0000,
     5,
     0x10_0000,
     4_096,
@@ -27,7 +27,7 @@ const STATUS: [u64; 43] = [
     4_294_967_295,
     3,
     4,
-    2,
+    32,
     8,
     77,
     4,
@@ -40,7 +40,7 @@ const STATUS: [u64; 43] = [
     17,
     11,
     1,
-    0x7fff_ffff,
+    0x7f_ffff_ffff,
     20,
     21,
     22,
@@ -53,6 +53,9 @@ const STATUS: [u64; 43] = [
     29,
     u64::MAX,
     2,
+    2,
+    9,
+    1 << 63,
 ];
 
 /// A name in its 32 bytes.
@@ -63,14 +66,6 @@ const NAME: [u8; 32] = [
 
 /// The words of that name.
 const NAME_WORDS: [u64; 4] = [0x74_6163, 0, 0, 0x7a00_0000_0000_0000];
-
-/// What a process does at each signal.
-const DISPOSITIONS: [u64; 31] = [
-    0, 1, 0x1_0000, 0x1_0010, 0x1_0020, 0x1_0030, 0x1_0040, 0x1_0050, 0x1_0060, 0x1_0070, 0x1_0080,
-    0x1_0090, 0x1_00a0, 0x1_00b0, 0x1_00c0, 0x1_00d0, 0x1_00e0, 0x1_00f0, 0x1_0100, 0x1_0110,
-    0x1_0120, 0x1_0130, 0x1_0140, 0x1_0150, 0x1_0160, 0x1_0170, 0x1_0180, 0x1_0190, 0x1_01a0,
-    0x1_01b0, 0x1_01c0,
-];
 
 /// A watched area: address, size and flags.
 const AREA: [u8; 24] = [
@@ -98,27 +93,29 @@ const MAPPING: [u8; 64] = [
 ];
 
 /// Words out of their range, each at the byte of a status at which it begins.
-const BAD: [(usize, u64); 20] = [
+const BAD: [(usize, u64); 22] = [
     (0, 32),
     (8, 1 << 32),
     (16, 1 << 32),
-    (32, 1 << 31),
-    (40, 1 << 31),
+    (32, 1 << 39),
+    (40, 1 << 39),
     (48, 1 << 8),
-    (56, 1 << 29),
-    (64, 1 << 29),
+    (56, 1 << 30),
+    (64, 1 << 30),
     (88, 1 << 32),
     (104, 64),
     (112, 1 << 32),
     (120, 8),
-    (128, 32),
-    (136, 32),
+    (128, 40),
+    (136, 40),
     (144, 9),
-    (160, 30),
+    (160, 31),
     (224, 13),
-    (232, 1 << 31),
-    (240, 1 << 31),
+    (232, 1 << 39),
+    (240, 1 << 39),
     (336, 3),
+    (344, 6),
+    (352, 1 << 32),
 ];
 
 fn bytes_of(alloc: Global, words: &[u64]) -> Result<Vec<u8>, AllocError> {
@@ -129,20 +126,20 @@ fn bytes_of(alloc: Global, words: &[u64]) -> Result<Vec<u8>, AllocError> {
     Ok(bytes)
 }
 
-fn stopped_for(number: u64) -> What {
-    match What::from_number(number) {
-        Some(what) => what,
-        None => What::NONE,
-    }
-}
-
 fn lwp() -> LwpStatus {
     LwpStatus {
-        flags: LwpFlags::STOPPED.union(LwpFlags::ISTOP),
+        flags: LwpFlags::of(LwpMarks {
+            stopped: true,
+            on_event: true,
+            directed: false,
+            step: false,
+            asleep: false,
+            agent: false,
+        }),
         id: 4_294_967_295,
         why: Some(StopReason::SysEntry),
-        what: stopped_for(4),
-        signal: Some(Sig::Int),
+        what: What::of_call(Sysno::Write),
+        signal: Some(Sig::Rt0),
         fault: Some(Flt::Izdiv),
         fault_address: 77,
         call: Some(Sysno::Write),
@@ -152,20 +149,25 @@ fn lwp() -> LwpStatus {
         held: SigSet::empty().with(Sig::Hup),
         pending: SigSet::all(),
         regs: [20, 21, 22, 23, 24, 25, 26, 27, 28, 29, u64::MAX],
-        disposition: Disposition::Caught,
+        disposition: Disposition::of(0x1_0000),
+        info: Info {
+            code: Info::QUEUE,
+            pid: 9,
+            value: 1 << 63,
+        },
     }
 }
 
 fn status() -> Status {
     Status {
-        flags: ProcessFlags::FORK.union(ProcessFlags::ASYNC),
+        flags: ProcessFlags::of(Modes::FORK.union(Modes::ASYNC), false),
         id: 7,
         parent: 1,
         lwps: 2,
-        pending: SigSet::empty().with(Sig::Xfsz),
+        pending: SigSet::empty().with(Sig::Rt7),
         traced_signals: SigSet::empty().with(Sig::Hup).with(Sig::Int),
         traced_faults: FltSet::empty().with(Flt::Izdiv),
-        traced_entries: SysSet::empty().with(Sysno::Fstat),
+        traced_entries: SysSet::empty().with(Sysno::Sigqueue),
         traced_exits: SysSet::empty().with(Sysno::Exit).with(Sysno::Read),
         heap_base: 0x10_0000,
         heap_size: 4_096,
@@ -180,10 +182,10 @@ fn a_status_is_its_words(rt: HostRuntime) -> Result<(), Fail> {
     let bytes = bytes_of(rt.alloc(), &STATUS)?;
     assert_eq!(rt; status().encode().as_slice(), bytes.as_slice());
     assert_eq!(rt; Status::decode(&bytes), Ok(status()));
-    assert_eq!(rt; bytes.len(), 344);
-    assert_eq!(rt; Status::decode(&[0; 343]), Err(RecFault::Short));
+    assert_eq!(rt; bytes.len(), 368);
+    assert_eq!(rt; Status::decode(&[0; 367]), Err(RecFault::Short));
     assert_eq!(rt; LwpStatus::decode(&bytes[104..]), Ok(lwp()));
-    assert_eq!(rt; LwpStatus::decode(&[0; 239]), Err(RecFault::Short));
+    assert_eq!(rt; LwpStatus::decode(&[0; 263]), Err(RecFault::Short));
     assert_eq!(rt; lwp().encode().as_slice(), &bytes[104..]);
     Ok(())
 }
@@ -201,27 +203,6 @@ fn words_out_of_their_range_are_named(rt: HostRuntime) -> Result<(), Fail> {
     Ok(())
 }
 
-/// An lwp of which nothing is to be told.
-fn idle() -> LwpStatus {
-    LwpStatus {
-        flags: LwpFlags::empty(),
-        id: 0,
-        why: None,
-        what: What::NONE,
-        signal: None,
-        fault: None,
-        fault_address: 0,
-        call: None,
-        arguments: [0; 6],
-        result: 0,
-        errno: None,
-        held: SigSet::empty(),
-        pending: SigSet::empty(),
-        regs: [0; 11],
-        disposition: Disposition::Default,
-    }
-}
-
 fn mapping() -> MapEntry {
     MapEntry {
         at: 0x70_0000,
@@ -233,13 +214,7 @@ fn mapping() -> MapEntry {
 }
 
 #[test]
-fn nothing_is_zeros(rt: HostRuntime) {
-    assert_eq!(rt; idle().encode(), [0; 240]);
-    assert_eq!(rt; LwpStatus::decode(&[0; 240]), Ok(idle()));
-}
-
-#[test]
-fn usage_is_its_words(rt: HostRuntime) -> Result<(), Fail> {
+fn other_records_are_their_words(rt: HostRuntime) -> Result<(), Fail> {
     let usage = Usage {
         id: 3,
         calls: 4,
@@ -250,11 +225,6 @@ fn usage_is_its_words(rt: HostRuntime) -> Result<(), Fail> {
     let bytes = bytes_of(rt.alloc(), &[3, 4, 5, 6, u64::MAX])?;
     assert_eq!(rt; usage.encode().as_slice(), bytes.as_slice());
     assert_eq!(rt; Usage::decode(&bytes), Ok(usage));
-    Ok(())
-}
-
-#[test]
-fn psinfo_is_its_words(rt: HostRuntime) -> Result<(), Fail> {
     let [a, b, c, d] = NAME_WORDS;
     let psinfo = Psinfo {
         id: 3,
@@ -270,19 +240,36 @@ fn psinfo_is_its_words(rt: HostRuntime) -> Result<(), Fail> {
     let bytes = bytes_of(rt.alloc(), &[3, 1, 2, 1, 0x100, 8_192, 50, 24, a, b, c, d])?;
     assert_eq!(rt; psinfo.encode().as_slice(), bytes.as_slice());
     assert_eq!(rt; Psinfo::decode(&bytes), Ok(psinfo));
+    assert_eq!(rt; mapping().encode(), MAPPING);
+    assert_eq!(rt; MapEntry::decode(&MAPPING), Ok(mapping()));
     Ok(())
 }
 
 #[test]
-fn a_mapping_is_its_words(rt: HostRuntime) -> Result<(), Fail> {
-    assert_eq!(rt; mapping().encode(), MAPPING);
-    assert_eq!(rt; MapEntry::decode(&MAPPING), Ok(mapping()));
-    for kind in [0, 6] {
-        let bytes = bytes_of(rt.alloc(), &[0, 0, 7, kind, 0, 0, 0, 0])?;
-        assert_eq!(rt;
-            MapEntry::decode(&bytes),
-            Err(RecFault::BadField { at: 24 })
-        );
+fn an_old_status_is_upgraded(rt: HostRuntime) -> Result<(), Fail> {
+    let alloc = rt.alloc();
+    for (place, word, want) in [
+        (4, 31, Ok(())),
+        (4, 32, Err(RecFault::BadField { at: 32 })),
+        (3, 32, Err(RecFault::BadField { at: 24 })),
+        (7, 30, Err(RecFault::BadField { at: 56 })),
+        (17, 1 << 31, Err(RecFault::BadField { at: 136 })),
+    ] {
+        let mut words = [0; 30];
+        if let Some(changed) = words.get_mut(place) {
+            *changed = word;
+        }
+        let bytes = bytes_of(alloc, &words)?;
+        assert_eq!(rt; bytes.len(), 240);
+        let mut old = [0; 240];
+        old.copy_from_slice(&bytes);
+        let upgraded = upgrade(&old);
+        assert_eq!(rt; upgraded.map(|_| ()), want, "word {place}");
+        if let Ok(new) = upgraded {
+            assert_eq!(rt; &new[..240], old.as_slice());
+            assert_eq!(rt; &new[240..], [0; 24].as_slice());
+            assert_eq!(rt; LwpStatus::decode(&new).is_ok(), true);
+        }
     }
     Ok(())
 }
@@ -293,15 +280,15 @@ fn a_list_of_lwps_begins_with_their_number(rt: HostRuntime) -> Result<(), Fail> 
     assert_eq!(rt; write_lstatus(alloc, &[])?.as_slice(), [0; 8].as_slice());
     let mut two = bytes_of(alloc, &[2])?;
     two.extend_from_slice(&bytes_of(alloc, &STATUS[13..])?)?;
-    two.extend_from_slice(&bytes_of(alloc, &[0; 30])?)?;
-    let written = write_lstatus(alloc, &[lwp(), idle()])?;
+    two.extend_from_slice(&[0; 264])?;
+    let written = write_lstatus(alloc, &[lwp(), LwpStatus::none()])?;
     assert_eq!(rt; written.as_slice(), two.as_slice());
     assert!(rt; written.as_slice().starts_with(&[2, 0, 0, 0, 0, 0, 0, 0, 3]));
     Ok(())
 }
 
 #[test]
-fn mappings_and_areas_stand_one_behind_the_other(rt: HostRuntime) -> Result<(), Fail> {
+fn mappings_and_areas_stand_one_after_the_other(rt: HostRuntime) -> Result<(), Fail> {
     let alloc = rt.alloc();
     assert_eq!(rt;
         write_map(alloc, &[mapping()])?.as_slice(),
@@ -326,10 +313,10 @@ fn mappings_and_areas_stand_one_behind_the_other(rt: HostRuntime) -> Result<(), 
 fn descriptors_and_processes_are_their_bytes(rt: HostRuntime) -> Result<(), Fail> {
     let alloc = rt.alloc();
     assert_eq!(rt; Descriptor::from_number(64), None);
-    assert_eq!(rt; What::from_number(32), None);
+    assert_eq!(rt; What::from_number(40), None);
     let descriptor = FdEntry {
-        descriptor: Descriptor::from_number(63).ok_or("63 is a descriptor")?,
-        kind: FdKind::PipeWriter,
+        descriptor: Descriptor::at(63),
+        kind: FdKind::of(Target::PipeWriter(2)),
         access: Access::Write,
         offset: 0x105,
         name: NAME,
@@ -347,15 +334,6 @@ fn descriptors_and_processes_are_their_bytes(rt: HostRuntime) -> Result<(), Fail
         write_list(alloc, &[process])?.as_slice(),
         LISTED.as_slice()
     );
-    Ok(())
-}
-
-#[test]
-fn dispositions_are_their_words(rt: HostRuntime) -> Result<(), Fail> {
-    let written = encode_sigact(&DISPOSITIONS);
-    let bytes = bytes_of(rt.alloc(), &DISPOSITIONS)?;
-    assert_eq!(rt; written.as_slice(), bytes.as_slice());
-    assert_eq!(rt; &written[240..], [0xc0, 1, 1, 0, 0, 0, 0, 0].as_slice());
     Ok(())
 }
 

@@ -1,5 +1,5 @@
 use crate::{Action, Pendings, action, deletes, takeable};
-use pr_num::{Sig, SigSet};
+use pr_num::{Info, Sig, SigSet};
 use std::test::Fail;
 
 /// What is taken next, by the words of the lwp's own pending signals, its process's, and the held ones.
@@ -46,16 +46,43 @@ fn deletes_and_acts_by_the_tables(rt: HostRuntime) {
     }
 }
 
+/// A signal comes, where there is room for it.
+fn send(pending: &mut Pendings, s: Sig, info: Info) {
+    if pending.room(s) {
+        pending.add(s, info);
+    }
+}
+
+/// A standard signal is pending once, with what came first; the queue answers in the order in which they came.
 #[test]
 fn pending_signals_come_and_go(rt: HostRuntime) {
     let mut pending = Pendings::new();
-    pending.add(Sig::Tstp);
-    pending.add(Sig::Hup);
-    pending.add(Sig::Tstp);
+    send(&mut pending, Sig::Segv, Info::killed_by(7));
+    send(&mut pending, Sig::Segv, Info::killed_by(8));
+    assert_eq!(rt; pending.info(Sig::Segv), Some(Info::killed_by(7)));
+    send(&mut pending, Sig::Segv, Info::of_fault(0x1000));
+    assert_eq!(rt; pending.info(Sig::Segv), Some(Info::of_fault(0x1000)));
+    send(&mut pending, Sig::Tstp, Info::killed_by(7));
+    send(&mut pending, Sig::Rt3, Info::queued_by(9, 1));
+    send(&mut pending, Sig::Rt3, Info::queued_by(9, 2));
+    // SEGV is bit 10, TSTP bit 23, SIGRT3 bit 34.
+    assert_eq!(rt; pending.set().word(), 1 << 10 | 1 << 23 | 1 << 34);
     pending.delete(deletes(Sig::Cont));
-    assert_eq!(rt; pending.set().word(), 1);
-    if pending.set().has(Sig::Hup) {
-        pending.take(Sig::Hup);
+    assert_eq!(rt; pending.info(Sig::Rt3), Some(Info::queued_by(9, 1)));
+    pending.delete_one(Sig::Rt3);
+    assert_eq!(rt; pending.info(Sig::Rt3), Some(Info::queued_by(9, 2)));
+    pending.delete_one(Sig::Rt3);
+    assert_eq!(rt; pending.set().word(), 1 << 10);
+}
+
+/// A queue has 32 pairs at most; a standard signal always has room.
+#[test]
+fn a_queue_has_a_limit(rt: HostRuntime) {
+    let mut pending = Pendings::new();
+    for value in 0..32 {
+        assert!(rt; pending.room(Sig::Rt0));
+        send(&mut pending, Sig::Rt0, Info::queued_by(1, value));
     }
-    assert!(rt; pending.set().is_empty());
+    assert!(rt; !pending.room(Sig::Rt0));
+    assert!(rt; pending.room(Sig::Hup));
 }

@@ -4,7 +4,7 @@ use Rattle.pr_num.specs.Control.{has_flags}
 use Rattle.pr_num.specs.declared.mappings.Area.{Area}
 use Rattle.pr_parts.specs.WatchedAreas.{first_hit, watcher}
 
--- how many bytes behind an address an area is reached, where 0 stands behind the last address
+-- how many bytes after an address an area is reached, where 0 stands after the last address
 unfoldable pub steps_to : ℕ → Area → ℕ
 steps_to at a =
     if nat_le at a.at then a.at - at

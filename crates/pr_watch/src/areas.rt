@@ -4,9 +4,10 @@ ghost use Rattle.pr_num.specs.Messages.{bad_operand};
 ghost use Rattle.pr_num.specs.declared.messages.Message.TheVariants.{Watch};
 ghost use Rattle.pr_parts.specs.ByAddress.{is_behind};
 ghost use Rattle.pr_parts.specs.WatchedAreas.{area_address, begins_at, overlaps, is_taken, with_area, without_area, hit_in};
+ghost use Rattle.pr_watch.specs.Accesses.{access_flag, is_access_flag};
 ghost use Rattle.pr_watch.specs.Setting.{set_refusal, done_unless};
 
-use crate::hits;
+use crate::{AccessKind, hits};
 use pr_num::{Area, WatchFlags};
 use std::marker::Model;
 use thiserror::Error;
@@ -125,12 +126,21 @@ impl Areas {
         }
     }
 
-    /// The first byte of an access that is watched for its kind, a watch flag, and whether its area has TRAPAFTER. The
-    /// access has `size` bytes from `at` on, and goes on at 0 behind the last address.
-    pub fn hit(&self, at: u64, size: u64, kind: u8) -> Option<(u64, bool)>
-        ensures { result ≡ hit_in kind self.now at size }
+    /// The first byte of an access that is watched for its kind, and whether its area has TRAPAFTER. The access has `size`
+    /// bytes from `at` on, and goes on at 0 after the last address.
+    pub fn hit_by(&self, at: u64, size: u64, kind: AccessKind) -> Option<(u64, bool)>
+        ensures { result ≡ hit_in (access_flag kind) self.now at size }
     {
-        hits::hit_in(self.as_slice(), at, size, kind)
+        hits::hit_in(self.as_slice(), at, size, kind.flag())
+    }
+
+    /// The same, where the kind is given by its flag: 1 for a read, 2 for a write, 4 for an instruction that is fetched.
+    /// Any other number is no kind of access, and hits nothing.
+    pub fn hit(&self, at: u64, size: u64, kind: u8) -> Option<(u64, bool)>
+        ensures { result ≡ (if is_access_flag kind then hit_in kind self.now at size else None) }
+    {
+        let kind = AccessKind::of_flag(kind)?;
+        self.hit_by(at, size, kind)
     }
 }
 
@@ -161,14 +171,14 @@ fn is_taken(areas: &[Area], at: u64, size: u64) -> bool
     areas.iter().any(|area| overlaps(area, at, size))
 }
 
-/// The place of the first area that stands behind an address.
+/// The place of the first area that stands after an address.
 fn place_behind(areas: &[Area], at: u64) -> Option<usize>
     ensures { result ≡ position (is_behind area_address at) areas.now }
 {
     areas.iter().position(|area| area.at > at)
 }
 
-/// The place of an area that is to begin at an address: before the first that stands behind it, or behind all.
+/// The place of an area that is to begin at an address: before the first that stands after it, or after all.
 #[tactic(auto, using(pr_parts::proofs::ByAddressLemmas::places))]
 fn place_for(areas: &[Area], at: u64) -> usize
     ensures value { result ≡ position_or_len (is_behind area_address at) areas.now }
@@ -199,7 +209,7 @@ fn insert_at(slots: &mut [Area; 64], len: usize, place: usize, area: Area)
     slots[place..len + 1].rotate_right(1);
 }
 
-/// Takes out the area in a place among the first `len`; those behind it move down.
+/// Takes out the area in a place among the first `len`; those after it move down.
 #[tactic(auto, using(crate::proofs::SlotLemmas::moves))]
 fn remove_at(slots: &mut [Area; 64], len: usize, place: usize)
     requires all { len ≤ 64 }

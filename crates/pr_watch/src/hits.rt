@@ -30,7 +30,7 @@ fn watcher(areas: &[Area], byte: u64, kind: u8) -> Option<&Area>
     areas.iter().find(|area| watches(area, byte, kind))
 }
 
-/// How many bytes behind an address an area is reached, where 0 stands behind the last address.
+/// How many bytes after an address an area is reached, where 0 stands after the last address.
 #[tactic(auto, unfolding(crate::specs::Steps::steps_to))]
 fn steps_to(area: &Area, at: u64) -> u64
     requires { area.now.at + area.now.size ≤ 2 ^ 64 }
@@ -66,7 +66,7 @@ fn nearer(best: Option<u64>, area: &Area, at: u64, kind: u8) -> Option<u64>
     }
 }
 
-/// How many bytes behind an address the next byte is that is watched for accesses of a kind, if any is.
+/// How many bytes after an address the next byte is that is watched for accesses of a kind, if any is.
 fn nearest(areas: &[Area], at: u64, kind: u8) -> Option<u64>
     requires { All (λ a. a.at + a.size ≤ 2 ^ 64) areas.now }
     ensures { result ≡ nearest_from kind at None areas.now }

@@ -3,15 +3,13 @@ ghost use Rattle.pr_parts.specs.FileTables.{IsOpenFile, at_place};
 ghost use Rattle.pr_parts.specs.FileCalls.{unless_no_memory};
 ghost use Rattle.pr_parts.specs.FileTransfers.{read_file, read_pipe, read_fd, count_of, filled, write_file, write_pipe, write_fd};
 
-use super::{Files, MOST_BYTES};
+use super::Files;
 use crate::buffers::copy_front;
 use crate::fds::Fds;
+use pr_num::limits::{FILE_SIZE_LIMIT, PIPE_SIZE_LIMIT};
 use pr_num::{OpenFile, Target};
 use pr_parts::FileNo;
 use std::alloc::Global;
-
-/// How many bytes a pipe can have.
-const MOST_PIPE_BYTES: usize = 4096;
 
 impl Files {
     /// Reads at most so many bytes as the buffer has (read(2)), puts them at its front, and answers how many came.
@@ -33,7 +31,7 @@ impl Files {
         }
     }
 
-    /// Reads a file from its offset on, which moves behind what was read.
+    /// Reads a file from its offset on, which moves on by what was read.
     #[tactic(auto, unfolding(pr_parts::specs::FileTransfers::read_file))]
     fn read_file(&mut self, place: usize, file: OpenFile, out: &mut [u8]) -> usize
         requires short { length out.old ≤ 4096 }
@@ -98,7 +96,7 @@ impl Files {
         }
     }
 
-    /// Writes a file from its offset on, which moves behind what was written.
+    /// Writes a file from its offset on, which moves on by what was written.
     #[tactic(auto, unfolding(pr_parts::specs::FileTransfers::write_file))]
     fn write_file(
         &mut self,
@@ -116,7 +114,7 @@ impl Files {
         ensures { (record { files = self.new; fds = fds.now; answer = result }) ≡ unless_no_memory self.old fds.now result (write_file self.old fds.now place file target bytes.now) }
     {
         let offset = file.offset + bytes.len() as u64;
-        if offset > MOST_BYTES {
+        if offset > FILE_SIZE_LIMIT {
             return Err(FileNo::NoSpace);
         }
         self.tables
@@ -125,7 +123,7 @@ impl Files {
         Ok(bytes.len())
     }
 
-    /// Puts bytes behind those of a pipe.
+    /// Puts bytes after those of a pipe.
     #[tactic(auto, unfolding(pr_parts::specs::FileTransfers::write_pipe))]
     fn write_pipe(&mut self, fds: &Fds, pipe: u32, bytes: &[u8]) -> Result<usize, FileNo>
         requires short { length bytes.now ≤ 4096 }
@@ -136,7 +134,7 @@ impl Files {
             return Err(FileNo::NoReader);
         }
         let held = self.tables.pipe_bytes(pipe).len();
-        if held + bytes.len() > MOST_PIPE_BYTES {
+        if held + bytes.len() > PIPE_SIZE_LIMIT {
             return Err(FileNo::Sleep);
         }
         self.tables.extend_pipe(pipe, bytes)?;

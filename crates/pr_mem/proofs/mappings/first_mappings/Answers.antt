@@ -1,8 +1,8 @@
 use Rattle.std.proofs.Common.{◌≡◌, ℕ, List, [], ◌∷◌, ◌++◌, refl}
-use Rattle.pr_num.specs.Spaces.{Space, read_execute, read_write, unless_empty}
+use Rattle.pr_num.specs.Spaces.{Space, read_execute, read_write, unless_empty, first_mappings}
 use Rattle.pr_num.specs.declared.mappings.Mapping.{Mapping}
 use Rattle.pr_num.specs.declared.mappings.MappingKind.TheVariants.{Text, Data, Stack}
-use Rattle.pr_parts.specs.AddressSpaces.{first_mappings, zeros_at}
+use Rattle.pr_parts.specs.AddressSpaces.{zeros_at}
 use Rattle.pr_mem.proofs.mappings.first_mappings.Goals as goal
 
 -- one mapping behind another
