@@ -11,21 +11,11 @@ use Rattle.pr_model.specs.Machines.{traced, untraced}
 use Rattle.pr_model.specs.Signals.{is_kill, generated}
 use Rattle.pr_model.specs.State.{TracedLwp, TracedProcess, TracedSystem, with_process, with_lwp}
 use Rattle.pr_erasure.proofs.LifeLemmas.{with_this_ended-erased, with_ended-erased, with_child-erased, with_reaped-erased, with_program-erased, with_new_lwp-erased, with_lwp_ended-erased}
-use Rattle.pr_erasure.proofs.SignalLemmas.{IsSent, told-erased}
+use Rattle.pr_erasure.specs.Suiting.{IsSent, IsProper, AreProper}
+use Rattle.pr_erasure.proofs.SignalLemmas.{told-erased}
 use Rattle.pr_erasure.proofs.StateLemmas.{with_process-erased, with_lwp-erased}
 
 -- What a turn changes of the system, as programs see it: a line a kind of change.
-
--- whether what comes with the signals that a change sends is not of a fault, and the lwp that it makes is no agent
-abbrev pub IsProper : Change → Type 0
-IsProper (signals target g info) = IsSent info
-IsProper (signals_itself g info) = IsSent info
-IsProper (makes_lwp new regs held) = eqb new agent_id ≡ false
-IsProper _ = Unit {0}
-
-abbrev pub AreProper : List Change → Type 0
-AreProper [] = Unit {0}
-AreProper (c ∷ cs) = IsProper c × AreProper cs
 
 -- a signal is generated
 pub generated-erased : (pid : ℕ) (target : Option ℕ) (g : Sig) (info : Info) → IsSent info → (s : TracedSystem) → erased_system (generated traced pid target g info s) ≡ generated untraced pid target g info (erased_system s)

@@ -11,14 +11,9 @@ use Rattle.pr_num.specs.declared.mappings.BadByte.TheVariants.{Hole, NotAllowed}
 use Rattle.pr_parts.specs.WatchedAreas.{hit_in}
 use Rattle.pr_model.specs.InstructionEffects.{InstructionEffect, runs, calls, faults, runs_into_watch, Load, Store, Decoded, faults_itself, enters_call, leaves, loads, stores, divided, decoded, access_fault, unless_watched, load_effect, store_effect, executed, of_instruction, unless_exec_watched, of_fetch, instruction_effect, in_register, is_stack_load}
 use Rattle.pr_model.specs.Registers.{pc_of}
+use Rattle.pr_erasure.specs.PlainEffects.{IsPlain}
 
 -- Where nothing is watched no instruction incurs FLTWATCH, and none incurs FLTTRACE by itself: that comes of a step mark.
-
-abbrev pub IsPlain : InstructionEffect → Type 0
-IsPlain (runs regs store) = Unit {0}
-IsPlain (calls call regs) = Unit {0}
-IsPlain (faults f address) = f ≢ Trace
-IsPlain (runs_into_watch address regs store) = ⊥
 
 unwatched : (kind at size : ℕ) → hit_in kind [] at size ≡ None
 unfolding hit_in

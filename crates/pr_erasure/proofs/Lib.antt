@@ -1,6 +1,8 @@
+pub mod CallLemmas
 pub mod ChangeLemmas
 pub mod DecisionLemmas
 pub mod FaultLemmas
+pub mod HistoryLemmas
 pub mod LifeLemmas
 pub mod MoveLemmas
 pub mod PointLemmas

@@ -13,7 +13,8 @@ use Rattle.pr_model.specs.Generation.{told}
 use Rattle.pr_model.specs.Lives.{with_made, orphaned, with_parent_told, without_lwp, with_reaped, new_lwp, first_lwp, bare_process, new_process, with_spawned, forked_lwp, forked, with_child, started, with_program, with_new_lwp, uncaught, zombie, with_this_ended, ended_if_live, with_ended, with_lwp_ended}
 use Rattle.pr_model.specs.Machines.{Machine, UntracedLwp, UntracedProcess, UntracedSystem, no_marks, traced, untraced}
 use Rattle.pr_model.specs.State.{TracedLwp, TracedProcess, TracedSystem, live_process, lwp_of, with_process}
-use Rattle.pr_erasure.proofs.SignalLemmas.{IsSent, told-erased}
+use Rattle.pr_erasure.proofs.SignalLemmas.{told-erased}
+use Rattle.pr_erasure.specs.Suiting.{IsSent}
 use Rattle.pr_erasure.proofs.StateLemmas.{map_each-all, live-erased, lwp-erased, with_process-erased}
 
 -- How processes and lwps begin and end, as programs see it.
@@ -138,3 +139,5 @@ with_lwp_ended-erased pid p id s =
     elim (eqb (length p.lwps) 1) as (λ b. erased_system (cond b (with_this_ended traced pid p 0 s) (with_process pid (without_lwp id) s)) ≡ cond b (with_this_ended untraced pid (erased_process p) 0 (erased_system s)) (with_process pid (without_lwp id) (erased_system s)))
     [ true ↦ with_this_ended-erased pid p 0 s | false ↦ with_process-erased s pid (without_lwp id) (without_lwp id) (λ x found. without_lwp-erased id x) ]
     ∙ ap (λ n. cond (eqb n 1) (with_this_ended untraced pid (erased_process p) 0 (erased_system s)) (with_process pid (without_lwp id) (erased_system s))) (sym (lwps-erased p))
+
+pub ruleset ends = (with_this_ended-erased)

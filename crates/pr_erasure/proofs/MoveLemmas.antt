@@ -3,6 +3,7 @@ use Rattle.pr_num.specs.Faults.{fault_signal}
 use Rattle.pr_num.specs.Infos.{of_fault}
 use Rattle.pr_model.specs.Erasure.{erased_lwp, erased_pending, erased_phase}
 use Rattle.pr_model.specs.Machines.{UntracedLwp, in_program, at_call, sleeping, fault_incurred, fault_posted, fault_pending, unchanged, traced, untraced}
+use Rattle.pr_erasure.specs.Suiting.{HasNoFault, Fits}
 use Rattle.pr_model.specs.Moves.{Move, stays, stops, posts, returns, runs, enters, incurs, traps, leaves, sleeps, takes, drops, catches, moved}
 use Rattle.pr_parts.specs.PendingSignals.{Pending, added, without_one}
 use Rattle.pr_model.specs.Registers.{stored}
@@ -11,26 +12,6 @@ use Rattle.pr_model.specs.declared.lwps.Phase.{Phase}
 use Rattle.pr_model.specs.declared.lwps.Phase.TheVariants.{User, Entered, Asleep, Exiting, Faulted}
 
 -- What a turn makes of its lwp, as programs see it.
-
--- an lwp that is not between a fault and its posting: what is pending for it is what programs see
-abbrev pub HasNoFault : Phase → Type 0
-HasNoFault phase = (p : Pending) → erased_pending phase p ≡ p
-
--- The phases in which an lwp can make a move.
-abbrev pub Fits : Move → Phase → Type 0
-Fits stays phase = Unit {0}
-Fits stops phase = Unit {0}
-Fits (posts f address) phase = phase ≡ Faulted f address
-Fits returns phase = HasNoFault phase
-Fits (runs regs) phase = Unit {0}
-Fits (enters call regs) phase = HasNoFault phase
-Fits (incurs f address) phase = phase ≡ User
-Fits (traps f address regs) phase = HasNoFault phase
-Fits (leaves call args result) phase = HasNoFault phase
-Fits (sleeps call args since) phase = HasNoFault phase
-Fits (takes c own) phase = HasNoFault phase
-Fits drops phase = Unit {0}
-Fits (catches frames regs held) phase = HasNoFault phase
 
 -- an lwp as programs see it in a phase, with what is pending for it then
 seen_in : TracedLwp → (Phase → Pending) → Phase → UntracedLwp

@@ -41,11 +41,13 @@ use Rattle.pr_model.specs.declared.lwps.Phase.{Phase}
 use Rattle.pr_model.specs.declared.lwps.Phase.TheVariants.{User, Entered, Asleep, Exiting, Faulted}
 use Rattle.pr_model.specs.declared.steps.Step.{Step}
 use Rattle.pr_model.specs.declared.steps.Step.TheVariants.{Exec, Fault, Act as ActOn}
-use Rattle.pr_erasure.proofs.ChangeLemmas.{AreProper}
-use Rattle.pr_erasure.proofs.FaultLemmas.{IsPlain, plain}
-use Rattle.pr_erasure.proofs.MoveLemmas.{Fits, HasNoFault}
+use Rattle.pr_erasure.specs.Suiting.{AreProper}
+use Rattle.pr_erasure.proofs.FaultLemmas.{plain}
+use Rattle.pr_erasure.specs.PlainEffects.{IsPlain}
+use Rattle.pr_erasure.specs.Suiting.{Fits, HasNoFault}
 use Rattle.pr_erasure.proofs.StateLemmas.{process-erased, lwp-erased, live-erased}
-use Rattle.pr_erasure.proofs.TransitionLemmas.{IsThere, Suits, settled-erased}
+use Rattle.pr_erasure.proofs.TransitionLemmas.{settled-erased}
+use Rattle.pr_erasure.specs.Suiting.{IsThere, Suits}
 
 -- Each row of the turn table, as programs see it: which steps of the untraced machine it is.
 
@@ -64,7 +66,7 @@ pub record HasTurn (s : TracedSystem) (pid : ℕ) (p : TracedProcess) (id : ℕ)
 abbrev pub RowRuns : TracedSystem → ℕ → TracedProcess → ℕ → TracedLwp → Row → Type 0
 RowRuns s pid p id l row = (returning : Bool) → UntracedRun (erased_system s) (steps_of_turn returning pid id row.did) (erased_system (settled s pid p id l row).system)
 
-found-live : (s : TracedSystem) (pid : ℕ) (p : TracedProcess) → live_process s pid ≡ Some p → process_of s pid ≡ Some p
+pub found-live : (s : TracedSystem) (pid : ℕ) (p : TracedProcess) → live_process s pid ≡ Some p → process_of s pid ≡ Some p
 unfolding live_process
 found-live s pid p live = by (process_of s pid) live
   where

@@ -19,13 +19,10 @@ use Rattle.pr_num.specs.Infos.{of_fault}
 use Rattle.pr_model.specs.State.{TracedLwp, TracedProcess, TracedSystem}
 use Rattle.pr_model.specs.declared.lwps.Phase.{Phase}
 use Rattle.pr_model.specs.declared.lwps.Phase.TheVariants.{User, Entered, Asleep, Exiting, Faulted}
+use Rattle.pr_erasure.specs.Suiting.{IsSent}
 use Rattle.pr_erasure.proofs.StateLemmas.{map_each-all}
 
 -- Signals that become pending, and that are deleted, as programs see it.
-
--- whether what comes with a signal is not of a fault
-pub record IsSent (info : Info) : Type 0 where
-  pub no_fault : eqb info.code 4 ≡ false
 
 -- The signal of a fault that was incurred counts early. It is there whether another signal comes before or after it, and
 -- no other signal deletes it.

@@ -10,23 +10,14 @@ use Rattle.pr_model.specs.Rows.{Row}
 use Rattle.pr_model.specs.State.{TracedLwp, TracedProcess, TracedSystem, process_of, lwp_of, with_process, with_lwp, with_lwp_of}
 use Rattle.pr_model.specs.Transitions.{Transition, ended_if, after_transition}
 use Rattle.pr_model.specs.declared.lwps.Phase.{Phase}
-use Rattle.pr_erasure.proofs.ChangeLemmas.{AreProper, all_changed-erased, ended-erased}
-use Rattle.pr_erasure.proofs.MoveLemmas.{Fits, moved-erased}
+use Rattle.pr_erasure.specs.Suiting.{AreProper, Fits, IsThere, Suits}
+use Rattle.pr_erasure.proofs.ChangeLemmas.{all_changed-erased, ended-erased}
+use Rattle.pr_erasure.proofs.MoveLemmas.{moved-erased}
 use Rattle.pr_erasure.proofs.PointLemmas.{after_meeting-hidden, with_counted-hidden}
 use Rattle.pr_erasure.proofs.StandingLemmas.{Stands, stands-all}
 use Rattle.pr_erasure.proofs.StateLemmas.{with_process-erased, with_process-hidden, with_lwp-erased}
 
 -- A turn, as programs see it: its transition is the same transition of the untraced machine.
-
--- a transition whose move fits the phase of its lwp, and that sends no signal as a fault's
-pub record Suits (t : Transition) (phase : Phase) : Type 0 where
-  pub fits : Fits t.move phase
-  pub sent : AreProper t.changes
-
--- the lwp of an id stands in the process of an id
-pub record IsThere (s : TracedSystem) (pid : ℕ) (p : TracedProcess) (id : ℕ) (l : TracedLwp) : Type 0 where
-  pub found : process_of s pid ≡ Some p
-  pub there : lwp_of p id ≡ Some l
 
 move-erased : (pid id : ℕ) (phase : Phase) (move : Move) (s : TracedSystem) → Fits move phase → Stands pid id phase s → erased_system (with_lwp_of pid id (moved traced move) s) ≡ with_lwp_of pid id (moved untraced move) (erased_system s)
 unfolding with_lwp_of
@@ -58,3 +49,5 @@ settled-erased s pid p id l here row suits =
     with_process-hidden (with_process pid (with_counted row.did row.begun) (after_transition traced pid p id l row.transition s)) pid (after_meeting row.point id) (after_meeting-hidden row.point id)
     ∙ with_process-hidden (after_transition traced pid p id l row.transition s) pid (with_counted row.did row.begun) (with_counted-hidden row.did row.begun)
     ∙ transition-erased s pid p id l here row.transition suits
+
+pub ruleset transitions = (transition-erased)

@@ -16,7 +16,7 @@ use Rattle.pr_model.specs.UntracedSteps.{steps_of_turn}
 use Rattle.pr_model.specs.declared.lwps.Current.{Current}
 use Rattle.pr_model.specs.declared.lwps.Phase.{Phase}
 use Rattle.pr_model.specs.declared.lwps.Phase.TheVariants.{User, Entered, Asleep, Exiting, Faulted}
-use Rattle.pr_erasure.proofs.MoveLemmas.{HasNoFault}
+use Rattle.pr_erasure.specs.Suiting.{HasNoFault}
 use Rattle.pr_erasure.proofs.RowLemmas.{HasTurn, RowRuns, requested-runs, posted-runs, returned-runs, program-runs, unsignalled, own_taken-runs, shared_taken-runs, acted-runs, call-runs}
 use Rattle.pr_erasure.proofs.ProperLemmas.{call-proper}
 

@@ -31,7 +31,7 @@ use Rattle.pr_model.specs.Stops.{has_event_stop, directed, with_all_directed}
 use Rattle.pr_model.specs.Transitions.{Transition, ended_if, after_transition}
 use Rattle.pr_model.specs.declared.stops.Point.{Point}
 use Rattle.pr_erasure.specs.Untouched.{IsUntouchedLwp, IsUntouchedProcess, IsUntouched}
-use Rattle.pr_erasure.proofs.ChangeLemmas.{IsProper, AreProper}
+use Rattle.pr_erasure.specs.Suiting.{IsProper, AreProper}
 
 -- What a turn leaves untouched.
 
@@ -84,7 +84,7 @@ same_parts f control lwps pid x u = record {
   lwps = subst (All IsUntouchedLwp) (sym (lwps x)) u.lwps;
 }
 
-either : {X : Type 0} (P : X → Type 0) (b : Bool) (x y : X) → P x → P y → P (cond b x y)
+pub either : {X : Type 0} (P : X → Type 0) (b : Bool) (x y : X) → P x → P y → P (cond b x y)
 either P true x y one other = one
 either P false x y one other = other
 
@@ -143,7 +143,7 @@ generated-keeps : (pid : ℕ) (target : Option ℕ) (g : Sig) (info : Info) (s :
 unfolding generated
 generated-keeps pid target g info s u = either IsUntouched _ _ _ (with_ended-keeps pid _ s u) (process-keeps pid (told target g info) (told-keeps target g info) s u)
 
-made-keeps : (p : TracedProcess) (s : TracedSystem) → ((pid : ℕ) → IsUntouchedProcess (pid, p)) → IsUntouched s → IsUntouched (with_made p s)
+pub made-keeps : (p : TracedProcess) (s : TracedSystem) → ((pid : ℕ) → IsUntouchedProcess (pid, p)) → IsUntouched s → IsUntouched (with_made p s)
 unfolding with_made
 made-keeps p s new u = record { processes = All-inserted IsUntouchedProcess s.made p s.processes (new s.made) u.processes }
 

@@ -1,4 +1,0 @@
-ghost use Rattle.std.specs.Prelude.{◌≡◌, ℕ};
-pub fn probe()
-    ensures { (n : ℕ) → n ≡ n }
-{}
