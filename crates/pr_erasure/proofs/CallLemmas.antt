@@ -1,168 +1,346 @@
-use Rattle.std.proofs.Common.{◌≡◌, ◌⊎◌, inl, inr, ℕ, Bool, true, false, Option, Some, None, [], IfSome, cond, refl, sym, subst}
-use Rattle.std.specs.Bool.{IsTrue}
-use Rattle.std.specs.List.{slice_set}
-use Rattle.std.specs.Option.{option_map}
-use Rattle.pr_num.specs.Control.{has_flags, rlc_mode}
+use Rattle.std.proofs.Common.{◌≡◌, ◌&&◌, ◌||◌, not, ℕ, Bool, true, false, eqb, is_none, is_some, Option, Some, None, Result, Ok, Err, List, [], ◌∷◌, cond, refl, sym, subst, ◌∙◌, ap}
+use Rattle.std.proofs.lemmas.Bool.{eqb-true}
+use Rattle.std.proofs.lemmas.Option.{same_Some}
+use Rattle.std.specs.List.{All, list_all}
+use Rattle.std.specs.Option.{option_map, option_and_then}
+use Rattle.pr_num.specs.ById.{change_under, map_each}
+use Rattle.pr_num.specs.Control.{has_flags, klc_mode, rlc_mode}
+use Rattle.pr_num.specs.Sets.{common_word}
+use Rattle.pr_num.specs.Messages.{first_message}
+use Rattle.pr_num.specs.declared.messages.Message.{Message}
+use Rattle.pr_num.specs.declared.messages.Message.TheVariants as message
+use Rattle.pr_num.specs.declared.messages.MsgFault.{MsgFault}
+use Rattle.pr_num.specs.declared.signals.Sig.{Sig}
+use Rattle.pr_num.proofs.ByIdLaws.{All-under, All-change_under, All-map_each}
+use Rattle.std.specs.List.{position, slice_set}
+use Rattle.pr_num.specs.Signals.{signal_number}
 use Rattle.pr_num.specs.declared.errnos.Errno.{Errno}
 use Rattle.pr_num.specs.declared.errnos.Errno.TheVariants.{Intr}
-use Rattle.pr_model.specs.Calls.{Answer, refused, opened, open_unless, open_answer, close_held, close_answer, read_status, read_file, readable, read_held, read_answer, controlled, waited, answer_to}
-use Rattle.pr_model.specs.ControlMessages.{Controlled, control_answer}
-use Rattle.pr_model.specs.Handles.{handle_of, open_refusal, released, with_closed, with_last_close, after_last_close, was_last_writer, with_opened}
-use Rattle.pr_model.specs.Passive.{is_passive_call}
-use Rattle.pr_model.specs.State.{Places, TracedState, TracedSystem, TracedProcess, live_process, with_process}
-use Rattle.pr_model.specs.UntracedSteps.{steps_of_call}
+use Rattle.pr_num.specs.declared.signals.Sig.TheVariants.{Kill}
 use Rattle.pr_model.specs.declared.calls.Call as calls
 use Rattle.pr_model.specs.declared.calls.Call.TheVariants as call
-use Rattle.pr_model.specs.declared.calls.File.{File}
-use Rattle.pr_model.specs.declared.calls.File.TheVariants.{Status}
 use Rattle.pr_model.specs.declared.calls.Reply.{Reply}
-use Rattle.pr_model.specs.declared.calls.Reply.TheVariants.{Fail, Done}
+use Rattle.pr_model.specs.declared.calls.Reply.TheVariants.{Fail}
+use Rattle.pr_model.specs.Lives.{with_this_ended}
+use Rattle.pr_model.specs.Machines.{traced}
+use Rattle.pr_model.specs.UntracedSteps.{steps_of_call}
+use Rattle.pr_model.specs.Calls.{Answer, opened, open_unless, open_answer, close_held, close_answer, is_interrupted, waited, whole_answer, answer_to}
+use Rattle.pr_model.specs.Built.{is_built_message, is_built_write, is_built_ctl, is_built_call}
+use Rattle.pr_model.specs.ControlMessages.{aim_of, tail_of, target_of, control_handle, decoded_answer, targeted_answer, held_answer, control_answer, wait_reply}
+use Rattle.pr_model.specs.Erasure.{erased_lwp, erased_process, erased_system}
+use Rattle.pr_model.specs.Handles.{is_of_lwp, is_control, handle_of, open_refusal, with_opened, was_last_writer, released_lwp, released_control, released, with_last_close, after_last_close, with_closed}
+use Rattle.pr_model.specs.Messages.{Controlled, Aim, at_lwp, at_process, with_aim_directed, run_answer, message_answer}
+use Rattle.pr_model.specs.Running.{if_flag, with_cleared, with_aborted, with_flags_on, without_directive, with_request, without_request, was_requested, if_all_requested, shows_run, run_refused, with_representative_run, with_all_run, with_run}
+use Rattle.pr_model.specs.State.{Places, TracedLwp, TracedProcess, TracedSystem, TracedState, process_of, if_live, live_process, with_process, with_lwp}
+use Rattle.pr_model.specs.Stops.{has_event_stop, directed, with_all_directed, representative}
 use Rattle.pr_model.specs.declared.handles.Held.{Held}
-use Rattle.pr_laws.proofs.ErasureLemmas.{released-hidden}
-use Rattle.pr_laws.proofs.RefusalLemmas.{refused-leaves}
-use Rattle.pr_laws.proofs.TurnLemmas.{live-found}
-use Rattle.pr_laws.specs.Refusals.{LeavesIfRefused}
-use Rattle.pr_erasure.proofs.FollowLemmas.{Follows, hidden-follows}
-use Rattle.pr_erasure.proofs.HiddenLemmas.{IsHidden, hidden-none, hidden-process}
-use Rattle.pr_laws.proofs.ListLemmas.{All-found}
-use Rattle.pr_erasure.proofs.MessageLemmas.{control-hides}
-use Rattle.pr_erasure.proofs.UntouchedLemmas.{released-untouched}
-use Rattle.pr_erasure.specs.Untouched.{IsUntouchedProcess, IsUntouched}
+use Rattle.pr_model.specs.declared.stops.Stop.TheVariants.{Requested}
+use Rattle.pr_erasure.specs.Untouched.{IsUntouchedLwp, IsUntouchedProcess, IsUntouched}
+use Rattle.pr_erasure.proofs.PointLemmas.{directed-hidden, with_all_directed-hidden}
+use Rattle.pr_erasure.proofs.StateLemmas.{map_each-hidden, map_each-all_hidden, with_process-hidden, with_lwp-hidden}
+use Rattle.pr_erasure.proofs.UntouchedLemmas.{either, KeepsLwps, KeepsProcesses, directed-keeps, lwp-keeps, lwps-keep, process-keeps}
 
--- Calls of controllers, one lemma each: one that is passive changes nothing that programs see.
+-- The calls of controllers in a passive history, as programs see them: nothing.
 
--- The last close for writing: no process is killed by it, and a release is not seen.
-module _ (s : TracedSystem) (untouched : IsUntouched s) where
-  live-untouched : (pid : ℕ) (p : TracedProcess) → live_process s pid ≡ Some p → IsUntouchedProcess p
-  live-untouched pid p live = let at = live-found s pid p live in All-found IsUntouchedProcess _ s.processes p untouched.processes at.found
+-- a change of the system that programs do not see, and that leaves it untouched
+pub record Hides (s t : TracedSystem) : Type 0 where
+  pub same : erased_system t ≡ erased_system s
+  pub untouched : IsUntouched t
 
-  last_close-hidden : (p : TracedProcess) → IsUntouchedProcess p → IsHidden s (with_last_close p s)
-  unfolding with_last_close
-  last_close-hidden p u = rw u.no_kill (elim (has_flags p.modes rlc_mode) as (λ b. IsHidden s (cond b (with_process p.id released s) s)) [
-    | true ↦ hidden-process p.id released released-hidden released-untouched s untouched
-    | false ↦ hidden-none s untouched
-  ])
+pub hides-nothing : (s : TracedSystem) → IsUntouched s → Hides s s
+hides-nothing s u = record { same = refl; untouched = u }
 
-  pub after_last_close-hidden : (pid : ℕ) → IsHidden s (after_last_close (live_process s pid) s)
-  after_last_close-hidden pid = by (live_process s pid) refl
+hides-process : (pid : ℕ) (f : TracedProcess → TracedProcess) → ((x : TracedProcess) → erased_process (f x) ≡ erased_process x) → KeepsProcesses f → (s : TracedSystem) → IsUntouched s → Hides s (with_process pid f s)
+hides-process pid f hides keeps s u = record { same = with_process-hidden s pid f hides; untouched = process-keeps pid f keeps s u }
+
+-- ---- lwps that are directed to stop, run and released
+
+without_directive-hidden : (l : TracedLwp) → erased_lwp (without_directive l) ≡ erased_lwp l
+unfolding erased_lwp without_directive
+without_directive-hidden l = refl
+
+without_directive-keeps : KeepsLwps without_directive
+unfolding without_directive
+without_directive-keeps id x u = record { no_step = u.no_step; no_abort = u.no_abort; no_agent = u.no_agent }
+
+with_request-hidden : (l : TracedLwp) → erased_lwp (with_request l) ≡ erased_lwp l
+unfolding erased_lwp with_request
+with_request-hidden l = elim (has_event_stop l) as (λ b. erased_lwp (cond b (record l { control = record l.control { stop = Some Requested } }) l) ≡ erased_lwp l) [ true ↦ refl | false ↦ refl ]
+
+with_request-keeps : KeepsLwps with_request
+unfolding with_request
+with_request-keeps id x u = elim (has_event_stop x) as (λ b. IsUntouchedLwp (id, cond b (record x { control = record x.control { stop = Some Requested } }) x)) [ true ↦ record { no_step = u.no_step; no_abort = u.no_abort; no_agent = u.no_agent } | false ↦ u ]
+
+without_request-hidden : (l : TracedLwp) → erased_lwp (without_request l) ≡ erased_lwp l
+unfolding erased_lwp without_request
+without_request-hidden l = elim (was_requested l.control.stop) as (λ b. erased_lwp (cond b (record l { control = record l.control { stop = None } }) l) ≡ erased_lwp l) [ true ↦ refl | false ↦ refl ]
+
+without_request-keeps : KeepsLwps without_request
+unfolding without_request
+without_request-keeps id x u = elim (was_requested x.control.stop) as (λ b. IsUntouchedLwp (id, cond b (record x { control = record x.control { stop = None } }) x)) [ true ↦ record { no_step = u.no_step; no_abort = u.no_abort; no_agent = u.no_agent } | false ↦ u ]
+
+released_lwp-hidden : (l : TracedLwp) → erased_lwp (released_lwp l) ≡ erased_lwp l
+unfolding erased_lwp released_lwp
+released_lwp-hidden l = refl
+
+released_lwp-keeps : KeepsLwps released_lwp
+unfolding released_lwp
+released_lwp-keeps id x u = record { no_step = refl; no_abort = u.no_abort; no_agent = u.no_agent }
+
+no_flags : (l : TracedLwp) → with_flags_on 0 l ≡ l
+unfolding with_flags_on with_cleared with_aborted has_flags common_word
+no_flags l = refl
+
+-- ---- the lwps of a process that is run
+
+-- lwps that look the same, and are untouched
+record SameLwps (old new : List (ℕ × TracedLwp)) : Type 0 where
+  seen : map_each erased_lwp new ≡ map_each erased_lwp old
+  untouched : All IsUntouchedLwp old → All IsUntouchedLwp new
+
+one : (id : ℕ) (f : TracedLwp → TracedLwp) → ((x : TracedLwp) → erased_lwp (f x) ≡ erased_lwp x) → KeepsLwps f → (ls : List (ℕ × TracedLwp)) → SameLwps ls (change_under id f ls)
+one id f hides keeps ls = record { seen = map_each-hidden erased_lwp id f ls hides; untouched = All-change_under IsUntouchedLwp id f ls (λ l found un. keeps id l un) }
+
+each : (f : TracedLwp → TracedLwp) → ((x : TracedLwp) → erased_lwp (f x) ≡ erased_lwp x) → KeepsLwps f → (ls : List (ℕ × TracedLwp)) → SameLwps ls (map_each f ls)
+each f hides keeps ls = record { seen = map_each-all_hidden erased_lwp f ls hides; untouched = All-map_each IsUntouchedLwp IsUntouchedLwp f (λ e un. keeps e.0 e.1 un) ls }
+
+next : {a b c : List (ℕ × TracedLwp)} → SameLwps a b → SameLwps b c → SameLwps a c
+next x y = record { seen = y.seen ∙ x.seen; untouched = λ u. y.untouched (x.untouched u) }
+
+flagged-hidden : (x : TracedLwp) → erased_lwp (with_flags_on 0 x) ≡ erased_lwp x
+flagged-hidden x = ap erased_lwp (no_flags x)
+
+flagged-keeps : KeepsLwps (with_flags_on 0)
+flagged-keeps id x u = subst (λ l. IsUntouchedLwp (id, l)) (sym (no_flags x)) u
+
+run-representative : (r : Option (ℕ × TracedLwp)) (ls : List (ℕ × TracedLwp)) → SameLwps ls (with_representative_run 0 r ls)
+run-representative None ls = each without_directive without_directive-hidden without_directive-keeps ls
+run-representative (Some r) ls =
+    next (one r.0 (with_flags_on 0) flagged-hidden flagged-keeps ls)
+    (next (each without_directive without_directive-hidden without_directive-keeps _)
+    (one r.0 with_request with_request-hidden with_request-keeps _))
+
+run-all : (job : Option Sig) (ls : List (ℕ × TracedLwp)) → SameLwps ls (if_all_requested job ls)
+unfolding if_all_requested
+run-all job ls = elim (list_all (shows_run job) ls) as (λ b. SameLwps ls (cond b (map_each without_request ls) ls)) [ true ↦ each without_request without_request-hidden without_request-keeps ls | false ↦ record { seen = refl; untouched = λ u. u } ]
+
+run-lwps : (p : TracedProcess) → SameLwps p.lwps (with_run 0 p).lwps
+unfolding with_run with_all_run has_flags common_word
+run-lwps p = next (run-representative (representative p) p.lwps) (run-all p.job_stop (with_representative_run 0 (representative p) p.lwps))
+
+run_is : (p : TracedProcess) → with_run 0 p ≡ record p { lwps = (with_run 0 p).lwps }
+unfolding with_run with_all_run has_flags common_word
+run_is p = refl
+
+with_lwps-hidden : (p : TracedProcess) (ls : List (ℕ × TracedLwp)) → SameLwps p.lwps ls → erased_process (record p { lwps = ls }) ≡ erased_process p
+unfolding erased_process
+with_lwps-hidden p ls same = ap (λ seen. record (erased_process p) { lwps = seen }) same.seen
+
+pub with_run-hidden : (p : TracedProcess) → erased_process (with_run 0 p) ≡ erased_process p
+with_run-hidden p = ap erased_process (run_is p) ∙ with_lwps-hidden p (with_run 0 p).lwps (run-lwps p)
+
+with_run-keeps : KeepsProcesses (with_run 0)
+with_run-keeps pid x u =
+    let ls = run-lwps x in
+    subst (λ y. IsUntouchedProcess (pid, y)) (sym (run_is x)) (record { no_kill = u.no_kill; unwatched = u.unwatched; lwps = ls.untouched u.lwps })
+
+pub released-hidden : (p : TracedProcess) → erased_process (released p) ≡ erased_process p
+unfolding erased_process released
+released-hidden p = ap (λ ls. record (erased_process p) { lwps = ls }) (map_each-all_hidden erased_lwp released_lwp p.lwps released_lwp-hidden)
+
+released-keeps : KeepsProcesses released
+unfolding released released_control
+released-keeps pid x u = record { no_kill = u.no_kill; unwatched = refl; lwps = lwps-keep released_lwp released_lwp-keeps x u.lwps }
+
+all_directed-keeps : KeepsProcesses with_all_directed
+unfolding with_all_directed
+all_directed-keeps pid x u = record { no_kill = u.no_kill; unwatched = u.unwatched; lwps = lwps-keep directed directed-keeps x u.lwps }
+
+-- ---- control messages that are built
+
+module _ (s : TracedSystem) (u : IsUntouched s) where
+  direct-hides : (pid : ℕ) (p : TracedProcess) (aim : Aim) → Hides s (with_aim_directed s pid p aim)
+  unfolding with_aim_directed
+  direct-hides pid p (at_lwp id) = hides-process pid (with_lwp id directed) (λ x. with_lwp-hidden x id directed directed-hidden) (lwp-keeps id directed directed-keeps) s u
+  direct-hides pid p at_process = hides-process pid with_all_directed with_all_directed-hidden all_directed-keeps s u
+
+  run-hides : (pid : ℕ) (p : TracedProcess) (len : ℕ) → Hides s (run_answer s pid p at_process 0 len).system
+  unfolding run_answer
+  run-hides pid p len = by (run_refused p) refl
     where
-      by : (o : Option TracedProcess) → live_process s pid ≡ o → IsHidden s (after_last_close o s)
-      by None live = hidden-none s untouched
-      by (Some p) live = last_close-hidden p (live-untouched pid p live)
+      by : (b : Bool) → run_refused p ≡ b → Hides s (run_answer s pid p at_process 0 len).system
+      by true is = rw is (hides-nothing s u)
+      by false is = rw is (hides-process pid (with_run 0) with_run-hidden with_run-keeps s u)
 
-module _ (s : TracedState) (by : ℕ) (untouched : IsUntouched s.system) where
-  -- what an answer makes of the state is hidden
-  Hides : Option Answer → Type 0
-  Hides a = IfSome a (λ (x : Answer). IsHidden s.system x.state.system)
+  unbuilt : {X : Type 0} → false ≡ true → X
+  unbuilt e = absurd (clash e)
+    where
+      clash : false ≡ true → ⊥
+      clash e = cc
 
-  hides : (a : Answer) → IsHidden s.system a.state.system → Hides (Some a)
-  unfolding Hides
-  hides a h = h
+  and_left : (a b : Bool) → (a && b) ≡ true → a ≡ true
+  and_left true b e = refl
+  and_left false b e = cc
 
-  not_built : Hides None
-  unfolding Hides
-  not_built = tt
+  and_right : (a b : Bool) → (a && b) ≡ true → b ≡ true
+  and_right true b e = e
+  and_right false b e = cc
 
-  -- an answer that leaves the system
-  left : (a : Answer) → a.state.system ≡ s.system → Hides (Some a)
-  left a same = hides a (subst (IsHidden s.system) (sym same) (hidden-none s.system untouched))
+  message-hides : (pid : ℕ) (p : TracedProcess) (of_lwp : Bool) (id : ℕ) (m : Message) (tail : List ℕ) (len : ℕ) → is_built_message of_lwp m ≡ true → Hides s (message_answer s pid p (cond of_lwp (at_lwp id) at_process) m tail len).system
+  unfolding message_answer is_built_message
+  message-hides pid p of_lwp id message.Stop tail len built = direct-hides pid p _
+  message-hides pid p of_lwp id message.Dstop tail len built = direct-hides pid p _
+  message-hides pid p of_lwp id message.Wstop tail len built = hides-nothing s u
+  message-hides pid p of_lwp id (message.Twstop ms) tail len built = hides-nothing s u
+  message-hides pid p true id (message.Run flags) tail len built = unbuilt built
+  message-hides pid p false id (message.Run flags) tail len built =
+      let none : flags ≡ 0 = eqb-true flags 0 built in
+      subst (λ f. Hides s (run_answer s pid p at_process f len).system) (sym none) (run-hides pid p len)
+  message-hides pid p of_lwp id message.Csig tail len built = unbuilt built
+  message-hides pid p of_lwp id message.Cfault tail len built = unbuilt built
+  message-hides pid p of_lwp id (message.Ssig number) tail len built = unbuilt built
+  message-hides pid p of_lwp id (message.Kill number) tail len built = unbuilt built
+  message-hides pid p of_lwp id (message.Unkill number) tail len built = unbuilt built
+  message-hides pid p of_lwp id (message.Shold set) tail len built = unbuilt built
+  message-hides pid p of_lwp id (message.Strace set) tail len built = unbuilt built
+  message-hides pid p of_lwp id (message.Sfault set) tail len built = unbuilt built
+  message-hides pid p of_lwp id (message.Sentry set) tail len built = unbuilt built
+  message-hides pid p of_lwp id (message.Sexit set) tail len built = unbuilt built
+  message-hides pid p of_lwp id (message.Set modes) tail len built = unbuilt built
+  message-hides pid p of_lwp id (message.Unset modes) tail len built = unbuilt built
+  message-hides pid p of_lwp id (message.Sreg regs) tail len built = unbuilt built
+  message-hides pid p of_lwp id (message.Svaddr pc) tail len built = unbuilt built
+  message-hides pid p of_lwp id (message.Watch at size flags) tail len built = unbuilt built
+  message-hides pid p of_lwp id (message.Agent regs) tail len built = unbuilt built
+  message-hides pid p of_lwp id (message.Read at size) tail len built = unbuilt built
+  message-hides pid p of_lwp id (message.Write at size) tail len built = unbuilt built
 
-  unless-hides : (b : Bool) (e : Errno) (a : Option Answer) → Hides a → Hides (cond b (Some (refused s e)) a)
-  unless-hides true e a h = left _ refl
-  unless-hides false e a h = h
+  -- ---- writes of control messages
 
-  -- an open takes a place for a handle
-  opened-left : (h : Held) (place : Option ℕ) → (opened s h place).state.system ≡ s.system
-  unfolding with_opened
-  opened-left h None = refl
-  opened-left h (Some place) = refl
+  decoded-hides : (h : Held) (p : TracedProcess) (bytes : List ℕ) (r : Result (Message × ℕ) MsgFault) → is_built_write h r ≡ true → Hides s (decoded_answer s h p bytes r).system
+  decoded-hides h p bytes (Err fault) built = hides-nothing s u
+  decoded-hides h p bytes (Ok m) built = either-hides (eqb h.pid 0) _ _ refl (message-hides h.pid p (is_of_lwp h.file) h.lwp m.0 (tail_of m.0 bytes) m.1 built)
+    where
+      either-hides : (b : Bool) (x y : Controlled) → x.system ≡ s → Hides s y.system → Hides s (cond b x y).system
+      either-hides true x y same other = subst (Hides s) (sym same) (hides-nothing s u)
+      either-hides false x y same other = other
 
-  call-open : (h : Held) (refusal : Option Errno) → Hides (Some (open_unless s h refusal))
-  call-open h (Some e) = left _ refl
-  call-open h None = left _ (opened-left h _)
+  targeted-hides : (h : Held) (o : Option TracedProcess) (bytes : List ℕ) → is_built_write h (first_message bytes) ≡ true → Hides s (targeted_answer s h o bytes).system
+  targeted-hides h None bytes built = hides-nothing s u
+  targeted-hides h (Some p) bytes built = decoded-hides h p bytes (first_message bytes) built
 
-  -- a close, with what the last close for writing does
-  call-close : (handle : ℕ) (h : Option Held) → Hides (Some (close_held s handle h))
-  unfolding with_closed
-  call-close handle None = left _ refl
-  call-close handle (Some h) =
-      let others : Places = slice_set s.opens handle None in
-      hides _ (elim (was_last_writer h others) as (λ b. IsHidden s.system (cond b (after_last_close (live_process s.system h.pid) s.system) s.system)) [
-        | true ↦ after_last_close-hidden s.system untouched h.pid
-        | false ↦ hidden-none s.system untouched
-      ])
+  control-hides : (opens : Places) (by handle : ℕ) (bytes : List ℕ) → is_built_ctl (handle_of opens by handle) bytes ≡ true → Hides s (control_answer s opens by handle bytes).system
+  unfolding control_answer
+  control-hides opens by handle bytes built = held (handle_of opens by handle) built
+    where
+      at : (h : Held) (b : Bool) → is_built_write h (first_message bytes) ≡ true → Hides s (held_answer s (cond b (Some h) None) bytes).system
+      at h true it = targeted-hides h (target_of s h) bytes it
+      at h false it = hides-nothing s u
 
-  -- a write of control messages
-  call-ctl : (c : Option Controlled) → IfSome c (λ (x : Controlled). IsHidden s.system x.system) → Hides (option_map (controlled s) c)
-  call-ctl None h = not_built
-  call-ctl (Some c) h = hides _ h
+      held : (o : Option Held) → is_built_ctl o bytes ≡ true → Hides s (held_answer s (control_handle o) bytes).system
+      held None it = hides-nothing s u
+      held (Some h) it = at h (is_control h.file) it
 
-  -- a wait, which at most sees an interrupt
-  waited-left : (r : Reply) → (waited s by r).state.system ≡ s.system
-  waited-left (Fail Intr) = refl
-  waited-left _ = refl
+  -- ---- closes
 
-  call-wait : (r : Option Reply) → Hides (option_map (waited s by) r)
-  call-wait None = not_built
-  call-wait (Some r) = left _ (waited-left r)
+  last_close-hides : (pid : ℕ) (p : TracedProcess) → has_flags p.control.modes klc_mode ≡ false → Hides s (with_last_close pid p s)
+  unfolding with_last_close
+  last_close-hides pid p no_kill =
+      subst (λ b. Hides s (cond b (with_this_ended traced pid p (signal_number Kill) s) (cond (has_flags p.control.modes rlc_mode) (with_process pid released s) s))) (sym no_kill)
+      (either (Hides s) (has_flags p.control.modes rlc_mode) _ _ (hides-process pid released released-hidden released-keeps s u) (hides-nothing s u))
 
-  -- a read
-  status-left : (p : Option TracedProcess) (from len : ℕ) → (read_status s p from len).state.system ≡ s.system
-  status-left None from len = refl
-  status-left (Some p) from len = refl
+  kept : (o : Option TracedProcess) (p : TracedProcess) → option_and_then if_live o ≡ Some p → o ≡ Some p
+  kept None p e = cc
+  kept (Some q) p e = by (is_none q.ended) e
+    where
+      by : (b : Bool) → cond b (Some q) None ≡ Some p → Some q ≡ Some p
+      by true e = e
+      by false e = cc
 
-  read-file : (h : Held) (from len : ℕ) (file : File) → Hides (read_file s h from len file)
-  read-file h from len Status = left _ (status-left (live_process s.system h.pid) from len)
-  read-file h from len _ = not_built
+  found-live : (pid : ℕ) (p : TracedProcess) → live_process s pid ≡ Some p → process_of s pid ≡ Some p
+  unfolding live_process
+  found-live pid p live = kept (process_of s pid) p live
 
-  call-read : (h : Option Held) (from len : ℕ) → Hides (read_held s h from len)
-  call-read None from len = left _ refl
-  call-read (Some h) from len = unless-hides _ _ _ (read-file h from len h.file)
+  after_close-hides : (pid : ℕ) → Hides s (after_last_close pid (live_process s pid) s)
+  after_close-hides pid = by (live_process s pid) refl
+    where
+      by : (o : Option TracedProcess) → live_process s pid ≡ o → Hides s (after_last_close pid o s)
+      by None is = hides-nothing s u
+      by (Some p) is =
+          let it : IsUntouchedProcess (pid, p) = All-under IsUntouchedProcess pid p s.processes u.processes (found-live pid p is) in
+          last_close-hides pid p it.no_kill
 
-  -- Every call that would be passive if it was granted.
-  call-hides : (c : calls.Call) → IsTrue (is_passive_call c Done) → Hides (answer_to s by c)
-  unfolding answer_to open_answer close_answer read_answer
-  call-hides (call.Open pid id file mode) passive = call-open _ (open_refusal s pid id file mode)
-  call-hides (call.Close handle) passive = call-close handle (handle_of s.opens by handle)
-  call-hides (call.Ctl handle bytes) passive = call-ctl (control_answer s.system s.opens by handle bytes) (control-hides s.system untouched s.opens by handle bytes passive)
-  call-hides (call.CtlWait handle until bytes) passive = call-wait _
-  call-hides (call.Read handle from len) passive = call-read (readable (handle_of s.opens by handle)) from len
-  call-hides (call.Poll handles) passive = not_built
-  call-hides (call.Interrupt controller) passive = not_built
-  call-hides (call.Spawn program held) passive = not_built
-  call-hides (call.Kill pid sig) passive = not_built
-  call-hides (call.Until moment) passive = not_built
-  call-hides call.List passive = not_built
+-- ---- calls
 
-  -- a call that was refused leaves the system
-  refused-hidden : (state : TracedState) (e : Errno) → LeavesIfRefused s by (record { state = state; reply = Fail e }) → IsHidden s.system state.system
-  refused-hidden state e leaves = elim leaves [
-    | inl same ↦ subst (λ (x : TracedState). IsHidden s.system x.system) (sym same) (hidden-none s.system untouched)
-    | inr seen ↦ subst (λ (x : TracedState). IsHidden s.system x.system) (sym seen.1) (hidden-none s.system untouched)
-  ]
+-- what an answer makes of the system is hidden
+HidesAnswer : TracedState → Answer → Type 0
+HidesAnswer s a = Hides s.system a.state.system
 
-  -- a passive call was refused, or would be passive if it was granted
-  refused-or_granted : (c : calls.Call) (r : Reply) → IsTrue (is_passive_call c r) → ((e : Errno) × (r ≡ Fail e)) ⊎ IsTrue (is_passive_call c Done)
-  refused-or_granted c (Fail e) passive = inl (e, refl)
-  refused-or_granted (call.Ctl handle bytes) r passive = inr passive
-  refused-or_granted (call.CtlWait handle until bytes) r passive = inr passive
-  refused-or_granted _ _ passive = inr passive
+module _ (s : TracedState) (u : IsUntouched s.system) where
+  open-hides : (h : Held) (refusal : Option Errno) → HidesAnswer s (open_unless s h refusal)
+  unfolding HidesAnswer with_opened
+  open-hides h (Some e) = hides-nothing s.system u
+  open-hides h None = by (position is_none s.opens)
+    where
+      by : (o : Option ℕ) → HidesAnswer s (opened s h o)
+      by None = hides-nothing s.system u
+      by (Some place) = hides-nothing s.system u
 
-  -- Every passive call.
-  passive-call : (c : calls.Call) (a : Answer) → answer_to s by c ≡ Some a → IsTrue (is_passive_call c a.reply) → IsHidden s.system a.state.system
-  unfolding Hides
-  passive-call c a answer passive = elim (refused-or_granted c a.reply passive) [
-    | inl refusal ↦ refused-hidden a.state refusal.0 (subst (λ (r : Reply). LeavesIfRefused s by (record { state = a.state; reply = r })) refusal.1 (refused-leaves s by c a answer))
-    | inr granted ↦ subst (λ (o : Option Answer). IfSome o (λ (x : Answer). IsHidden s.system x.state.system)) answer (call-hides c granted)
-  ]
+  close-hides : (handle : ℕ) (o : Option Held) → HidesAnswer s (close_held s handle o)
+  unfolding HidesAnswer with_closed
+  close-hides handle None = hides-nothing s.system u
+  close-hides handle (Some h) = either (Hides s.system) (was_last_writer h (slice_set s.opens handle None)) _ _ (after_close-hides s.system u h.pid) (hides-nothing s.system u)
+
+  wait-hides : (by : ℕ) (r : Reply) → HidesAnswer s (waited s by r)
+  unfolding HidesAnswer
+  wait-hides by (Fail Intr) = hides-nothing s.system u
+  wait-hides by _ = hides-nothing s.system u
+
+  -- every call that is built
+  built-hides : (by : ℕ) (c : calls.Call) (a : Answer) → is_built_call s by c ≡ true → whole_answer s by c ≡ Some a → HidesAnswer s a
+  unfolding is_built_call whole_answer open_answer close_answer HidesAnswer
+  built-hides by (call.Open pid id file mode) a built is = subst (HidesAnswer s) (same_Some _ _ is) (open-hides _ (open_refusal s pid id file mode))
+  built-hides by (call.Close handle) a built is = subst (HidesAnswer s) (same_Some _ _ is) (close-hides handle (handle_of s.opens by handle))
+  built-hides by (call.Ctl handle bytes) a built is = subst (HidesAnswer s) (same_Some _ _ is) (control-hides s.system u s.opens by handle bytes built)
+  built-hides by (call.CtlWait handle until bytes) a built is = over (wait_reply s.system s.opens by handle until (is_interrupted s by) bytes) is
+    where
+      over : (o : Option Reply) → option_map (waited s by) o ≡ Some a → HidesAnswer s a
+      over None e = absurd (none e)
+        where
+          none : None ≡ Some a → ⊥
+          none e = cc
+      over (Some r) e = subst (HidesAnswer s) (same_Some _ _ e) (wait-hides by r)
+  built-hides by (call.Read handle from len) a built is = subst (HidesAnswer s) (same_Some _ _ is) (hides-nothing s.system u)
+  built-hides by (call.Poll handles) a built is = unbuilt s.system u built
+  built-hides by (call.Interrupt controller) a built is = unbuilt s.system u built
+  built-hides by (call.Spawn program held) a built is = unbuilt s.system u built
+  built-hides by (call.Kill pid sig) a built is = unbuilt s.system u built
+  built-hides by (call.Until moment) a built is = unbuilt s.system u built
+  built-hides by call.List a built is = unbuilt s.system u built
+
+-- a built call, of one that has an answer
+answer-parts : (s : TracedState) (by : ℕ) (c : calls.Call) (a : Answer) → answer_to s by c ≡ Some a → (is_built_call s by c ≡ true) × (whole_answer s by c ≡ Some a)
+unfolding answer_to
+answer-parts s by c a is = parts (is_built_call s by c) refl is
+  where
+    parts : (b : Bool) → is_built_call s by c ≡ b → cond b (whole_answer s by c) None ≡ Some a → (is_built_call s by c ≡ true) × (whole_answer s by c ≡ Some a)
+    parts true built e = (built, e)
+    parts false built e = absurd (none e)
+      where
+        none : None ≡ Some a → ⊥
+        none e = cc
+
+-- Every call that has an answer hides what it makes of the system.
+pub call-hides : (s : TracedState) → IsUntouched s.system → (by : ℕ) (c : calls.Call) (a : Answer) → answer_to s by c ≡ Some a → Hides s.system a.state.system
+unfolding HidesAnswer
+call-hides s u by c a is = let parts = answer-parts s by c a is in built-hides s u by c a parts.0 parts.1
 
 -- None of the calls that are built is a step of the untraced machine.
-no_steps : (s : TracedState) (by : ℕ) (c : calls.Call) (a : Answer) → answer_to s by c ≡ Some a → steps_of_call c a.reply ≡ []
-unfolding answer_to
-no_steps s by (call.Spawn program held) a answer = cc
-no_steps s by (call.Kill pid sig) a answer = cc
-no_steps s by _ a answer = refl
-
--- What a passive call makes of the system is followed by its steps.
-pub call-follows : (s : TracedState) (by : ℕ) (c : calls.Call) (a : Answer) → answer_to s by c ≡ Some a → IsUntouched s.system → IsTrue (is_passive_call c a.reply) → Follows s.system (steps_of_call c a.reply) a.state.system
-call-follows s by c a answer u passive = rw (no_steps s by c a answer) (hidden-follows (passive-call s by u c a answer passive))
+pub no_steps : (s : TracedState) → IsUntouched s.system → (by : ℕ) (c : calls.Call) (a : Answer) → answer_to s by c ≡ Some a → steps_of_call c a.reply ≡ []
+unfolding is_built_call
+no_steps s u by c a is = let parts = answer-parts s by c a is in of c parts.0
+  where
+    of : (c : calls.Call) → is_built_call s by c ≡ true → steps_of_call c a.reply ≡ []
+    of (call.Spawn program held) built = unbuilt s.system u built
+    of (call.Kill pid sig) built = unbuilt s.system u built
+    of _ built = refl
