@@ -5,7 +5,7 @@ use Rattle.pr_model.specs.LwpTurns.{can_move}
 use Rattle.pr_model.specs.State.{TracedState}
 use Rattle.pr_model.specs.declared.calls.Call.{Call}
 use Rattle.pr_model.specs.declared.events.Entry.{Entry}
-unfoldable pub use Rattle.pr_proc.specs.Order.{is_after, live_lwps}
+unfoldable pub use Rattle.pr_model.specs.Order.{is_after, live_lwps}
 use Rattle.pr_api.specs.Sleepers.{some_sleeper}
 
 -- What contracts see of a kernel, whichever it is.

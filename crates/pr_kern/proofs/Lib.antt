@@ -1,3 +1,4 @@
+pub mod AnswerLemmas
 pub mod CloseLemmas
 pub mod FileLemmas
 pub mod HeapLemmas
@@ -5,8 +6,12 @@ pub mod InterruptLemmas
 pub mod KeptLemmas
 pub mod MessageLemmas
 pub mod OrderLemmas
+pub mod ReadLemmas
+pub mod RunLemmas
 pub mod SoundLemmas
 pub mod StartLemmas
+pub mod StatusLemmas
 pub mod StepLemmas
+pub mod TargetLemmas
 pub mod TurnedLemmas
 pub mod ViewLemmas

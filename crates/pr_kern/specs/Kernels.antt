@@ -1,5 +1,5 @@
 pub use Rattle.pr_api.specs.Entries.{call_entry, turn_entry, tick_entry, reply_of, last_reply_of}
-pub use Rattle.pr_api.specs.Sleepers.{sleeps_on, has_sleeper, some_sleeper}
+pub use Rattle.pr_api.specs.Sleepers.{sleeps_on, is_sleeper, has_sleeper, some_sleeper}
 use Rattle.std.specs.Prelude.{◌+◌, ℕ, Bool, true, false, List, [], ◌∷◌, ◌++◌, Option, option_map}
 use Rattle.pr_model.specs.Calls.{Answer, answer_to}
 use Rattle.pr_model.specs.Legal.{ticked}

@@ -1,7 +1,7 @@
+pub mod Aims
 pub mod Kernels
 pub mod Openings
 pub mod Orders
-pub mod Plans
 pub mod Runs
 pub mod Soundness
 pub mod Starts

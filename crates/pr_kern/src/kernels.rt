@@ -128,15 +128,17 @@ impl Kern {
         }
     }
 
-    /// Gives an lwp a turn, and adds its entry. No turn that is built takes memory.
+    /// Gives an lwp a turn, and adds its entry. No turn that is built takes memory; where memory runs out, the kernel is
+    /// as it was.
     #[tactic(auto, unfolding(crate::specs::Kernels::after_turn))]
     pub fn lwp_turn(&mut self, pid: u32, lwp: u32) -> Result<Turned, NoMemory>
         requires movable { can_move self.old.state.system pid lwp ≡ true }
         requires place { length self.old.history < self.old.places }
         ensures ok { IfOk result (λ turned. after_turn pid lwp self.old ≡ Some (record { kernel = self.new; turned = turned })) }
+        ensures err { OnErr result (self.new ≡ self.old) }
         ensures sure { IsOk result }
     {
-        let turned = turn(&mut self.state.system, pid, lwp);
+        let turned = turn(&mut self.state.system, pid, lwp)?;
         self.history.push(Entry {
             actor: Actor::Lwp(pid, lwp),
             act: Act::Turn(turned),

@@ -1,161 +1,155 @@
-//! PCRUN with no flags on a whole process (proc(4), "PCRUN").
-ghost use Rattle.std.specs.Prelude.{◌≡◌, map, option_map};
-ghost use Rattle.std.specs.List.{list_all};
-ghost use Rattle.pr_model.specs.Stops.{representative};
-ghost use Rattle.pr_kern.specs.Runs.{with_request_of};
-ghost use Rattle.pr_model.specs.Running.{if_all_requested, is_request, lets_run, run_refused, shows_run, stops_or_will, was_requested, with_request, with_run, without_directive, without_request};
+//! PCRUN on one lwp: what the run flags do to it, and what refuses it (proc(4), "PCRUN").
+ghost use Rattle.std.specs.Prelude.{◌≡◌};
+ghost use Rattle.std.specs.Option.{option_copied};
+ghost use Rattle.pr_num.specs.ById.{change_under};
+ghost use Rattle.pr_num.specs.Control.{single_step, stop_again};
+ghost use Rattle.pr_model.specs.Running.{if_flag, is_asleep, is_entry_stop, let_go, lwp_run_refused, run_lwp, stops_or_will, with_aborted, with_cleared, with_directive, with_flags_on, with_step, without_current, without_fault};
 
-use pr_model::{Lwp, Process, Shown, Stop};
-use pr_num::{AGENT, Sig, Table};
-use pr_stop::{representative, shown};
+use pr_model::{Phase, Stop};
+use pr_msg::RunFlags;
+use pr_num::{AGENT, ById};
+use pr_proc::{Lwp, Proc, has_agent};
 
-/// Whether a stop was requested.
-fn is_request(stop: Stop) -> bool
-    ensures { result ≡ is_request stop }
+/// Clears the current signal of an lwp.
+#[tactic(auto, unfolding(pr_model::specs::Running::without_current))]
+fn clear_signal(lwp: &mut Lwp)
+    ensures { lwp.new ≡ without_current lwp.old }
 {
-    match stop {
-        Stop::Requested => true,
-        Stop::Signalled(_) | Stop::SysEntry(_) | Stop::SysExit(_) | Stop::Faulted(_) => false,
+    lwp.current = None;
+}
+
+/// Clears the current fault of an lwp: it goes on, and no signal is posted.
+#[tactic(auto, unfolding(pr_model::specs::Running::without_fault))]
+fn clear_fault(lwp: &mut Lwp)
+    ensures { lwp.new ≡ without_fault lwp.old }
+{
+    if let Phase::Faulted { .. } = lwp.phase {
+        lwp.phase = Phase::User;
     }
 }
 
-/// Whether what is shown lets the whole process run: a requested stop, or a suspension.
-fn lets_run(shown: Option<Shown>) -> bool
-    ensures { result ≡ lets_run shown }
+/// An lwp stands still no more, and is not directed to stop.
+#[tactic(auto, unfolding(pr_model::specs::Running::let_go))]
+fn let_go(lwp: &mut Lwp)
+    ensures { lwp.new ≡ let_go lwp.old }
 {
-    match shown {
-        Some(Shown::Event(stop)) => is_request(stop),
-        Some(Shown::Suspended) => true,
-        Some(Shown::JobControl(_)) | None => false,
+    lwp.control.stop = None;
+    lwp.control.directed = false;
+}
+
+/// Whether an lwp stands at the entry of a system call.
+fn is_entry_stop(stop: Option<Stop>) -> bool
+    ensures { result ≡ is_entry_stop stop }
+{
+    match stop {
+        Some(Stop::SysEntry(_)) => true,
+        _ => false,
     }
 }
 
-/// Whether a stop, if there is one, was requested.
-fn was_requested(stop: Option<Stop>) -> bool
-    ensures { result ≡ was_requested stop }
+/// Whether an lwp is asleep in a system call.
+pub fn is_asleep(phase: Phase) -> bool
+    ensures { result ≡ is_asleep phase }
 {
-    match stop {
+    match phase {
+        Phase::Asleep { .. } => true,
+        _ => false,
+    }
+}
+
+/// Does what PRCSIG and PRCFAULT ask for.
+#[tactic(auto, unfolding(pr_model::specs::Running::with_cleared))]
+fn clear_by(lwp: &mut Lwp, flags: RunFlags)
+    ensures { lwp.new ≡ with_cleared flags lwp.old }
+{
+    if flags.has(RunFlags::CSIG) {
+        clear_signal(lwp);
+    }
+    if flags.has(RunFlags::CFAULT) {
+        clear_fault(lwp);
+    }
+}
+
+/// Does what PRSABORT asks for, of an lwp that stood on this event or on none: a call can be aborted at its entry, and
+/// while its lwp is asleep in it.
+#[tactic(auto, unfolding(pr_model::specs::Running::with_aborted, pr_model::specs::Running::with_abort))]
+fn abort_by(lwp: &mut Lwp, flags: RunFlags, stop: Option<Stop>)
+    ensures { lwp.new ≡ with_aborted flags stop lwp.old }
+{
+    if flags.has(RunFlags::SABORT) && (is_entry_stop(stop) || is_asleep(lwp.phase)) {
+        lwp.control.abort = true;
+    }
+}
+
+/// Does what PRSTEP asks for.
+#[tactic(auto, unfolding(pr_model::specs::Running::with_step))]
+fn step_by(lwp: &mut Lwp, flags: RunFlags)
+    ensures { lwp.new ≡ if_flag flags single_step with_step lwp.old }
+{
+    if flags.has(RunFlags::STEP) {
+        lwp.control.step = true;
+    }
+}
+
+/// Does what PRSTOP asks for.
+#[tactic(auto, unfolding(pr_model::specs::Running::with_directive))]
+fn stop_by(lwp: &mut Lwp, flags: RunFlags)
+    ensures { lwp.new ≡ if_flag flags stop_again with_directive lwp.old }
+{
+    if flags.has(RunFlags::STOP) {
+        lwp.control.directed = true;
+    }
+}
+
+/// Runs an lwp: its stop and its directive end, and then the flags act in the order PRCSIG, PRCFAULT, PRSTEP, PRSABORT,
+/// PRSTOP.
+#[tactic(auto, unfolding(pr_model::specs::Running::run_lwp))]
+fn run_lwp(lwp: &mut Lwp, flags: RunFlags)
+    ensures { lwp.new ≡ run_lwp flags lwp.old }
+{
+    let stop = lwp.control.stop;
+    let_go(lwp);
+    clear_by(lwp, flags);
+    step_by(lwp, flags);
+    abort_by(lwp, flags, stop);
+    stop_by(lwp, flags);
+}
+
+/// Runs the lwp of an id, if there is one.
+#[tactic(auto, using(pr_num::proofs::ByIdLaws::by_id_laws))]
+pub fn run_under(lwps: &mut ById<Lwp>, id: u32, flags: RunFlags)
+    ensures { lwps.new ≡ change_under id (run_lwp flags) lwps.old }
+{
+    if lwps.contains(id) {
+        run_lwp(lwps.get_mut(id), flags);
+    }
+}
+
+/// Does what PRCSIG, PRCFAULT and PRSABORT ask for, while the lwp stands where it stands.
+#[tactic(auto, unfolding(pr_model::specs::Running::with_flags_on))]
+pub fn flag_lwp(lwp: &mut Lwp, flags: RunFlags)
+    ensures { lwp.new ≡ with_flags_on flags lwp.old }
+{
+    let stop = lwp.control.stop;
+    clear_by(lwp, flags);
+    abort_by(lwp, flags, stop);
+}
+
+/// Whether an lwp, if there is one, is stopped on an event of interest or directed to stop.
+pub fn stops_or_will(lwp: Option<&Lwp>) -> bool
+    ensures { result ≡ stops_or_will (option_copied lwp.entry) }
+{
+    match lwp {
         None => false,
-        Some(stop) => is_request(stop),
+        Some(lwp) => lwp.control.stop.is_some() || lwp.control.directed,
     }
 }
 
-/// Whether an lwp shows what lets its whole process run.
-#[tactic(auto, unfolding(pr_model::specs::Running::shows_run))]
-fn shows_run<P>(job: Option<Sig>, lwp: &Lwp<P>) -> bool
-    ensures { result ≡ shows_run job lwp.now }
+/// Whether PCRUN is refused on an lwp, with its id: an agent that it is not exists, or it is neither stopped on an event
+/// of interest nor directed to stop.
+#[tactic(auto, unfolding(pr_model::specs::Running::lwp_run_refused))]
+pub fn lwp_run_refused(process: &Proc, id: u32, lwp: &Lwp) -> bool
+    ensures { result ≡ lwp_run_refused process.now id lwp.now }
 {
-    lets_run(shown(job, lwp))
-}
-
-#[tactic(auto, unfolding(pr_model::specs::Running::without_directive))]
-fn clear_directive<P>(lwp: &mut Lwp<P>)
-    ensures { lwp.new ≡ without_directive lwp.old }
-{
-    lwp.directed = false;
-}
-
-/// Makes the stop of an lwp on an event of interest a requested one.
-#[tactic(auto, unfolding(pr_model::specs::Running::with_request))]
-fn request<P>(lwp: &mut Lwp<P>)
-    ensures { lwp.new ≡ with_request lwp.old }
-{
-    if lwp.stop.is_some() {
-        lwp.stop = Some(Stop::Requested);
-    }
-}
-
-/// Ends a requested stop.
-#[tactic(auto, unfolding(pr_model::specs::Running::without_request))]
-fn end_request<P>(lwp: &mut Lwp<P>)
-    ensures { lwp.new ≡ without_request lwp.old }
-{
-    if was_requested(lwp.stop) {
-        lwp.stop = None;
-    }
-}
-
-#[tactic(auto, using(pr_num::proofs::TableLemmas::map_step))]
-fn clear_directives<P>(lwps: &mut [Lwp<P>])
-    ensures { lwps.new ≡ map without_directive lwps.old }
-{
-    for lwp in lwps.iter_mut() {
-        clear_directive(lwp);
-    }
-}
-
-#[tactic(auto, using(pr_num::proofs::TableLemmas::map_step))]
-fn end_requests<P>(lwps: &mut [Lwp<P>])
-    ensures { lwps.new ≡ map without_request lwps.old }
-{
-    for lwp in lwps.iter_mut() {
-        end_request(lwp);
-    }
-}
-
-fn all_show_run<P>(job: Option<Sig>, lwps: &[Lwp<P>]) -> bool
-    ensures { result ≡ list_all (shows_run job) lwps.now }
-{
-    lwps.iter().all(|lwp| shows_run(job, lwp))
-}
-
-/// Ends all requested stops, where every lwp shows a requested stop or a suspension.
-#[tactic(auto, unfolding(pr_model::specs::Running::if_all_requested))]
-fn end_if_all_requested<P>(job: Option<Sig>, lwps: &mut [Lwp<P>])
-    ensures { lwps.new ≡ if_all_requested job lwps.old }
-{
-    if all_show_run(job, lwps) {
-        end_requests(lwps);
-    }
-}
-
-/// Makes the stop of the lwp of an id, if one is named, a requested one.
-#[tactic(auto, using(pr_num::proofs::TableLemmas::change_first_laws))]
-fn request_of<P>(id: Option<u32>, lwps: &mut Table<Lwp<P>>)
-    ensures { lwps.new ≡ with_request_of id lwps.old }
-{
-    let Some(id) = id else {
-        return;
-    };
-    if let Some(place) = lwps.place_of(id) {
-        request(lwps.at_mut(place));
-    }
-}
-
-/// The id of the representative lwp, if there is one.
-fn representative_id<S, F, P, A>(process: &Process<S, F, P, A>) -> Option<u32>
-    ensures { result ≡ option_map (λ l. l.id) (representative process.now) }
-{
-    match representative(process) {
-        None => None,
-        Some(lwp) => Some(lwp.id),
-    }
-}
-
-/// Whether PCRUN is refused: an agent exists, or the representative is neither stopped on an event of interest nor
-/// directed to stop.
-#[tactic(auto, unfolding(pr_model::specs::Running::run_refused))]
-pub fn run_refused<S, F, P, A>(process: &Process<S, F, P, A>) -> bool
-    ensures { result ≡ run_refused process.now }
-{
-    if process.lwps.contains(AGENT) {
-        return true;
-    }
-    match representative(process) {
-        None => true,
-        Some(lwp) => lwp.stop.is_none() && !lwp.directed,
-    }
-}
-
-/// Runs a whole process (proc(4), "PCRUN" with no flags): no directive is left, the representative's stop becomes a
-/// requested one, and all requested stops end where no lwp shows anything but such a stop or a suspension.
-#[tactic(auto, unfolding(pr_model::specs::Running::with_run))]
-pub fn run<S, F, P, A>(process: &mut Process<S, F, P, A>)
-    ensures { process.new ≡ with_run process.old }
-{
-    let id = representative_id(process);
-    clear_directives(process.lwps.as_mut_slice());
-    request_of(id, &mut process.lwps);
-    let job = process.job_stop;
-    end_if_all_requested(job, process.lwps.as_mut_slice());
+    (has_agent(process) && id != AGENT) || !stops_or_will(Some(lwp))
 }

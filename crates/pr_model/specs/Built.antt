@@ -78,7 +78,7 @@ is_built_message of_lwp Stop = true
 is_built_message of_lwp Dstop = true
 is_built_message of_lwp Wstop = true
 is_built_message of_lwp (Twstop ms) = true
-is_built_message of_lwp (Run flags) = not of_lwp && (flags == 0)
+is_built_message of_lwp (Run flags) = true
 is_built_message of_lwp _ = false
 
 -- whether the reading of a file is built

@@ -20,6 +20,11 @@ abbrev pub id_found : Option (ℕ × TracedLwp) → Option ℕ
 id_found None = None
 id_found (Some e) = Some e.0
 
+-- the lwp itself
+abbrev pub lwp_found : Option (ℕ × TracedLwp) → Option TracedLwp
+lwp_found None = None
+lwp_found (Some e) = Some e.1
+
 -- a process of which one lwp, or all, are directed to stop
 abbrev pub with_directed : Option ℕ → TracedProcess → TracedProcess
 with_directed None p = with_all_directed p

@@ -7,4 +7,4 @@ mod representing;
 
 pub use directing::{direct, direct_others};
 pub use points::{is_traced, meets, stop_at};
-pub use representing::{is_stopped, representative, shown};
+pub use representing::{is_stopped, representative, representative_lwp, shown};

@@ -2,7 +2,7 @@
 ghost use Rattle.std.specs.Prelude.{◌≡◌, ◌==◌};
 ghost use Rattle.std.specs.Option.{option_copied};
 ghost use Rattle.pr_model.specs.Stops.{class_of, first_in_class, is_stopped, representative, shown};
-ghost use Rattle.pr_stop.specs.Classes.{id_found, in_classes};
+ghost use Rattle.pr_stop.specs.Classes.{id_found, in_classes, lwp_found};
 
 use pr_model::{Shown, Stop};
 use pr_num::{AGENT, Sig};
@@ -64,6 +64,20 @@ pub fn representative(process: &Proc) -> Option<u32>
         Some(_) => Some(AGENT),
         None => match in_classes(process) {
             Some(entry) => Some(entry.0),
+            None => None,
+        },
+    }
+}
+
+/// The representative lwp itself, which stands under its id.
+#[tactic(auto, using(crate::proofs::StopLemmas::representing))]
+pub fn representative_lwp(process: &Proc) -> Option<&Lwp>
+    ensures { option_copied result ≡ lwp_found (representative process.now) }
+{
+    match process.lwps.get(AGENT) {
+        Some(lwp) => Some(lwp),
+        None => match in_classes(process) {
+            Some(entry) => Some(&entry.1),
             None => None,
         },
     }
