@@ -25,7 +25,7 @@ use Rattle.pr_model.specs.declared.calls.Call.TheVariants as call
 use Rattle.pr_model.specs.declared.calls.Reply.{Reply}
 use Rattle.pr_model.specs.declared.calls.Reply.TheVariants.{Fail}
 use Rattle.pr_model.specs.declared.handles.Held.{Held}
-use Rattle.pr_kern.proofs.SoundLemmas.{KeepsUsage, keeps, sound-either, sound-with_process, sound-with_this_ended}
+use Rattle.pr_kern.proofs.SoundLemmas.{KeepsUsage, sound-either, sound-with_process, sound-with_this_ended}
 use Rattle.pr_kern.specs.Soundness.{IsSound}
 
 -- What the calls of controllers leave of a sound system.

@@ -1,4 +1,4 @@
-use Rattle.std.proofs.Common.{◌≡◌, ◌==◌, ◌&&◌, ◌+◌, ℕ, ◌≤◌, Bool, true, false, cond, Option, Some, None, List, [], ◌∷◌, is_none, refl, sym, subst, inl, inr, arith}
+use Rattle.std.proofs.Common.{◌≡◌, ◌==◌, ◌&&◌, ◌+◌, ℕ, ◌≤◌, Bool, true, false, cond, Option, Some, None, List, [], ◌∷◌, is_none, refl, sym, subst, ◌∙◌, inl, inr, arith}
 use Rattle.std.specs.List.{All}
 use Rattle.std.proofs.lemmas.Bool.{cases_Bool}
 use Rattle.std.proofs.lemmas.List.Elements.{All-weaker}
@@ -36,12 +36,8 @@ sound-either n false s t h k = k
 -- ---- a process changed
 
 -- a change that leaves what a process has used
-pub KeepsUsage : (TracedProcess → TracedProcess) → Type 0
+unfoldable pub KeepsUsage : (TracedProcess → TracedProcess) → Type 0
 KeepsUsage f = (p : TracedProcess) → (f p).control.usage ≡ p.control.usage
-
-pub keeps : (f : TracedProcess → TracedProcess) → ((p : TracedProcess) → (f p).control.usage ≡ p.control.usage) → KeepsUsage f
-unfolding KeepsUsage
-keeps f h = h
 
 kept-under : (n : ℕ) (f : TracedProcess → TracedProcess) (id : ℕ) (p : TracedProcess) → KeepsUsage f → HasUsedAtMost n (id, p) → HasUsedAtMost n (id, f p)
 unfolding KeepsUsage
@@ -100,7 +96,7 @@ pending-keep (Some id) g info p = refl
 pub told-keeps : (target : Option ℕ) (g : Sig) (info : Info) → KeepsUsage (told target g info)
 unfolding KeepsUsage told
 told-keeps target g info p =
-    let sent = rw (pending-keep target g info (with_deletions g p)) (deletions-keep g p) in
+    let sent = pending-keep target g info (with_deletions g p) ∙ deletions-keep g p in
     elim (is_none p.ended) as (λ b. (let q : TracedProcess = cond b (with_pending target g info (with_deletions g p)) p in q.control.usage) ≡ p.control.usage) [ true ↦ sent | false ↦ refl ]
 
 -- ---- ends

@@ -1,5 +1,5 @@
 //! Writes of control messages (proc(4), "CONTROL MESSAGES"): what the first message of a write does.
-ghost use Rattle.std.specs.Prelude.{◌≡◌, ◌==◌, ◌≤◌, ◌+◌, ◌^◌, ◌<◌, true, ℕ, List, None, IfOk, is_some};
+ghost use Rattle.std.specs.Prelude.{◌≡◌, ◌==◌, ◌≤◌, ◌+◌, ◌^◌, ◌<◌, true, ℕ, List, None, IfOk, is_some, if◌then◌else◌};
 ghost use Rattle.std.specs.Option.{ForSome, IsSome};
 ghost use Rattle.pr_num.specs.Messages.{bad_operand, first_message};
 ghost use Rattle.pr_model.specs.Built.{is_built_ctl, is_built_message, is_built_write};
@@ -7,7 +7,7 @@ ghost use Rattle.pr_model.specs.ControlMessages.{control_answer, decoded_answer,
 ghost use Rattle.pr_model.specs.Handles.{handle_of};
 ghost use Rattle.pr_model.specs.Legal.{clock_limit};
 ghost use Rattle.pr_model.specs.Messages.{Controlled, message_answer, run_answer, with_aim_directed};
-ghost use Rattle.pr_model.specs.State.{TracedProcess, live_process};
+ghost use Rattle.pr_model.specs.State.{TracedProcess, live_process, with_process};
 ghost use Rattle.pr_kern.specs.Aims.{aim_at};
 ghost use Rattle.pr_kern.specs.Runs.{ran, run_by_id};
 
@@ -56,6 +56,14 @@ fn wait_end(clock: u64, ms: u64) -> u64
     if ms == 0 { 0 } else { clock + ms }
 }
 
+/// The run flags of a word that has no other bits.
+fn run_flags(word: u64) -> RunFlags
+    requires { word < 32 }
+    ensures { result ≡ word }
+{
+    RunFlags::from_word(word).unwrap()
+}
+
 /// Runs the lwp of an id in the process of an id, or where none is named the process.
 #[tactic(auto, using(pr_num::proofs::ByIdLaws::by_id_laws), unfolding(pr_model::specs::State::with_process))]
 fn run_target(sys: &mut Sys, pid: u32, lwp: Option<u32>, flags: RunFlags)
@@ -100,10 +108,7 @@ fn handle(sys: &mut Sys, pid: u32, lwp: Option<u32>, message: Message, length: u
         }
         Message::Wstop => Reply::Half(0),
         Message::Twstop { ms } => Reply::Half(wait_end(sys.clock, ms)),
-        Message::Run { flags } => {
-            let flags = RunFlags::from_word(flags).unwrap();
-            run_message(sys, pid, lwp, flags, length)
-        }
+        Message::Run { flags } => run_message(sys, pid, lwp, run_flags(flags), length),
         _ => unreachable!(),
     }
 }

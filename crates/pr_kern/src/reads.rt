@@ -54,7 +54,6 @@ fn part_read(alloc: Global, bytes: &[u8], from: u64, len: u64) -> Result<Bytes, 
 
 /// The bytes of a process's status, with its id. They decode to that status, where the information of the
 /// representative's current signal is one that a record can hold.
-#[tactic(auto, using(crate::proofs::ReadLemmas::read_laws))]
 pub fn status_bytes(pid: u32, process: &Proc) -> [u8; 368]
     ensures bytes { result ≡ status_bytes (status_of pid process.now) }
     ensures decodes { IsInfo (status_of pid process.now).lwp.info → BeginsWith status_ranges result (status_words_of (status_of pid process.now)) }

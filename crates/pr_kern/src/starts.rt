@@ -23,7 +23,7 @@ fn stored(alloc: Global, files: Vec<(Name, Bytes)>) -> Result<Files, NoMemory>
 {
     let mut all = Files::new(alloc);
     for (name, bytes) in files {
-        all.add(name, bytes)?;
+        all.add(alloc, name, bytes)?;
     }
     Ok(all)
 }

@@ -61,7 +61,7 @@ enum Step<'a> {
     Tick(u64),
 }
 
-fn spelt(alloc: Global, words: &[u64]) -> Result<Bytes, NoMemory> {
+fn encoded(alloc: Global, words: &[u64]) -> Result<Bytes, NoMemory> {
     let mut bytes = Vec::new(alloc);
     for word in words {
         bytes.extend_from_slice(&word.to_le_bytes())?;
@@ -84,11 +84,11 @@ fn call_of(alloc: Global, step: &Step<'_>) -> Result<Option<(u32, Call, Said)>, 
         )),
         Step::Close(by, handle, want) => Some((by, Call::Close { handle }, want)),
         Step::Write(by, handle, words, want) => {
-            let bytes = spelt(alloc, words)?;
+            let bytes = encoded(alloc, words)?;
             Some((by, Call::Ctl { handle, bytes }, want))
         }
         Step::Wait(by, handle, until, words, want) => {
-            let bytes = spelt(alloc, words)?;
+            let bytes = encoded(alloc, words)?;
             Some((
                 by,
                 Call::CtlWait {
@@ -229,8 +229,8 @@ const OPENS_AND_READS: [Step<'static>; 25] = [
     Step::Read(0, (3, 0, 8), BADF),
     Step::Read(5, (1, 0, 8), BADF),
     Step::Read(0, (1, 1, 0), INVAL),
-    Step::Read(0, (1, 1, 16_385), INVAL),
-    Step::Read(0, (1, 1_000, 16_384), Said::Bytes),
+    Step::Read(0, (1, 1, 20_481), INVAL),
+    Step::Read(0, (1, 1_000, 20_480), Said::Bytes),
     // handles belong to who opened them, and the least free one is taken
     Step::Close(5, 0, BADF),
     Step::Close(0, 0, Said::Done),
@@ -258,7 +258,7 @@ const MESSAGES: [Step<'static>; 20] = [
     Step::Write(0, 0, &[DSTOP], Said::Used(8)),
     Step::Write(0, 0, &[RUN, 0], Said::Used(16)),
     Step::Turn(Did::Entered(GETPID)),
-    // of a write the first message is handled; the rest, sent in the next call, spells none
+    // of a write the first message is handled; the rest, sent in the next call, begins with none
     Step::Write(0, 0, &[DSTOP, RUN], Said::Used(8)),
     Step::Write(0, 0, &[RUN], INVAL),
     Step::Turn(Did::Stopped),
@@ -356,7 +356,7 @@ fn check_waits(rt: &impl Abort, alloc: Global, kern: &Kern, until: u64) -> Resul
     let wait = Call::CtlWait {
         handle: 0,
         until,
-        bytes: spelt(alloc, &[TWSTOP, 1])?,
+        bytes: encoded(alloc, &[TWSTOP, 1])?,
     };
     assert!(rt; !kern.ready(0, &wait), "until {until}");
     Ok(())

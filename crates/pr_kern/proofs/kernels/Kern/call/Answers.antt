@@ -1,7 +1,8 @@
 use Rattle.std.proofs.Common.{◌<◌, length, sym, subst, arith}
 use Rattle.pr_kern.specs.Kernels.{Kernel}
+use Rattle.pr_kern.proofs.AnswerLemmas.{answer-sound}
 use Rattle.pr_kern.proofs.KeptLemmas.{kept-push}
-use Rattle.pr_kern.proofs.SoundLemmas.{IsSound-more, answer-sound}
+use Rattle.pr_kern.proofs.SoundLemmas.{IsSound-more}
 use Rattle.pr_kern.proofs.kernels.Kern.call.Goals as goal
 
 -- the answer leaves the system sound, and there was a place for the entry

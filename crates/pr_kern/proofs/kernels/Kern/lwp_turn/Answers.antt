@@ -5,8 +5,8 @@ use Rattle.pr_kern.proofs.TurnedLemmas.{turned-sound}
 use Rattle.pr_kern.proofs.kernels.Kern.lwp_turn.Goals as goal
 
 -- the turn leaves the system sound for one step more, and there was a place for the entry
-pub invariant_of-self : goal.invariant_of-self
-invariant_of-self c =
+pub invariant_of-self-2 : goal.invariant_of-self-2
+invariant_of-self-2 c =
     let place = subst (λ (k : Kernel). length k.history < k.places) (sym c.self.view_is) c.requires.place in
     kept-push _ _ _ _ _ c.push.ensures.entries c.push.ensures.room place c.self.invariant.room
-    (turned-sound _ _ _ _ _ _ c.turn-turned.ensures c.self.invariant.sound)
+    (turned-sound _ _ _ _ _ _ c.in_ok-turned.ensures.ok c.self.invariant.sound)
