@@ -231,6 +231,14 @@ impl Space {
         gaps::gap(&self.mappings, size)
     }
 
+    /// Takes all mappings away. Takes no memory.
+    pub fn clear(&mut self)
+        ensures { self.new ≡ [] }
+    {
+        self.mappings.clear();
+        self.mapped = 0;
+    }
+
     /// The same space again.
     pub fn copy(&self, alloc: Global) -> Result<Space, NoMemory>
         ensures { IfOk result (λ copy. copy ≡ self.now) }
