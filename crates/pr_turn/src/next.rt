@@ -235,10 +235,11 @@ fn acted(process: &Proc, lwp: &Lwp, current: Current) -> Next
 // ---- the table
 
 /// The row of the signal that an lwp takes, if there is one: from those that pend for it alone first.
-#[tactic(auto, unfolding(crate::specs::NextRows::row_of, pr_model::specs::Signals::own_takeable, pr_model::specs::Signals::shared_takeable))]
+#[tactic(auto, unfolding(crate::specs::NextRows::row_of, pr_model::specs::Signals::own_takeable, pr_model::specs::Signals::shared_takeable, pr_model::specs::Signals::takeable, pr_parts::specs::SignalRules::takeable_signal))]
 fn taken(process: &Proc, lwp: &Lwp) -> Option<Next>
     ensures row { (s : TracedSystem) (pid id : ℕ) (otherwise : Row) → row_or process.now lwp.now result otherwise ≡ taken_or s pid process.now id lwp.now (own_takeable lwp.now) (shared_takeable process.now lwp.now) otherwise }
     ensures fits { IfSome result (λ next. fits lwp.now next ≡ true) }
+    ensures some { is_some result ≡ has_takeable process.now lwp.now }
 {
     if let Some(signal) = lwp.pending.set().minus(lwp.held).first() {
         return Some(Next::TookOwn(signal));
@@ -260,6 +261,7 @@ fn taken_or(process: &Proc, lwp: &Lwp, otherwise: Next) -> Next
 }
 
 /// An lwp that sleeps takes a signal, or its call is over.
+#[tactic(auto, using(crate::proofs::NextLemmas::tests))]
 fn asleep(pid: u32, process: &Proc, lwp: &Lwp, call: Sysno, args: [u64; 6]) -> Next
     requires { (has_takeable process.now lwp.now || (lwp.now.control.abort || is_built_syscall call)) ≡ true }
     ensures row { (s : TracedSystem) (id since : ℕ) → row_of process.now lwp.now result ≡ taken_or s pid process.now id lwp.now (own_takeable lwp.now) (shared_takeable process.now lwp.now) (call_row s pid process.now id lwp.now true call args since) }
@@ -272,7 +274,7 @@ fn asleep(pid: u32, process: &Proc, lwp: &Lwp, call: Sysno, args: [u64; 6]) -> N
 }
 
 /// An lwp takes a signal, or its phase decides; one at a call that it has not made takes none.
-#[tactic(auto, unfolding(crate::specs::NextRows::row_of, pr_model::specs::Rows::signal_row_or, pr_model::specs::Rows::row_in))]
+#[tactic(auto, using(crate::proofs::NextLemmas::phases))]
 fn in_phase(pid: u32, process: &Proc, lwp: &Lwp) -> Next
     requires { is_built_in process.now lwp.now lwp.now.phase ≡ true }
     ensures row { (s : TracedSystem) (id : ℕ) → row_of process.now lwp.now result ≡ signal_row_or s pid process.now id lwp.now lwp.now.phase (row_in s pid process.now id lwp.now lwp.now.phase) }
