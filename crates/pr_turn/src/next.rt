@@ -273,6 +273,22 @@ fn asleep(pid: u32, process: &Proc, lwp: &Lwp, call: Sysno, args: [u64; 6]) -> N
     }
 }
 
+/// An lwp in its program takes a signal, or runs an instruction.
+fn in_program(process: &Proc, lwp: &Lwp) -> Next
+    ensures row { (s : TracedSystem) (pid id : ℕ) → row_of process.now lwp.now result ≡ taken_or s pid process.now id lwp.now (own_takeable lwp.now) (shared_takeable process.now lwp.now) (row_of process.now lwp.now Next.Executed) }
+    ensures fits { fits lwp.now result ≡ true }
+{
+    taken_or(process, lwp, Next::Executed)
+}
+
+/// An lwp on its way out of a call takes a signal, or goes back to its program.
+fn leaving(process: &Proc, lwp: &Lwp, call: Sysno) -> Next
+    ensures row { (s : TracedSystem) (pid id : ℕ) → row_of process.now lwp.now result ≡ taken_or s pid process.now id lwp.now (own_takeable lwp.now) (shared_takeable process.now lwp.now) (row_of process.now lwp.now (Next.Returned call)) }
+    ensures fits { fits lwp.now result ≡ true }
+{
+    taken_or(process, lwp, Next::Returned(call))
+}
+
 /// An lwp takes a signal, or its phase decides; one at a call that it has not made takes none.
 #[tactic(auto, using(crate::proofs::NextLemmas::phases))]
 fn in_phase(pid: u32, process: &Proc, lwp: &Lwp) -> Next
@@ -281,10 +297,10 @@ fn in_phase(pid: u32, process: &Proc, lwp: &Lwp) -> Next
     ensures fits { fits lwp.now result ≡ true }
 {
     match lwp.phase {
-        Phase::User => taken_or(process, lwp, Next::Executed),
+        Phase::User => in_program(process, lwp),
         Phase::Entered(call) => at_call(pid, lwp, false, call, arguments_of(&lwp.regs)),
         Phase::Asleep { call, args, .. } => asleep(pid, process, lwp, call, args),
-        Phase::Exiting { call, .. } => taken_or(process, lwp, Next::Returned(call)),
+        Phase::Exiting { call, .. } => leaving(process, lwp, call),
         Phase::Faulted { fault, address } => Next::Posted { fault, address },
     }
 }
