@@ -1,18 +1,11 @@
 use Rattle.std.specs.Prelude.{◌==◌, ◌||◌, ◌&&◌, ℕ, Bool, true, false, not, List, Option, Some, None, Result, Ok, Err, is_some}
-use Rattle.pr_num.specs.Control.{prot_exec}
-use Rattle.pr_num.specs.Instructions.{instruction_in}
 use Rattle.pr_num.specs.Messages.{first_message}
-use Rattle.pr_num.specs.Spaces.{bytes_for}
-use Rattle.pr_num.specs.declared.instructions.Instruction.{Instruction}
-use Rattle.pr_num.specs.declared.instructions.Instruction.TheVariants.{Set, Sys}
-use Rattle.pr_num.specs.declared.mappings.BadByte.{BadByte}
 use Rattle.pr_num.specs.declared.messages.Message.{Message}
 use Rattle.pr_num.specs.declared.messages.Message.TheVariants.{Stop, Dstop, Wstop, Twstop, Run}
 use Rattle.pr_num.specs.declared.messages.MsgFault.{MsgFault}
 use Rattle.pr_num.specs.declared.syscalls.Sysno.{Sysno}
 use Rattle.pr_num.specs.declared.syscalls.Sysno.TheVariants.{Exit, Getpid}
 use Rattle.pr_model.specs.Handles.{is_control, is_of_lwp, handle_of}
-use Rattle.pr_model.specs.Registers.{pc_of}
 use Rattle.pr_model.specs.Signals.{has_takeable}
 use Rattle.pr_model.specs.State.{TracedState, TracedProcess, TracedLwp}
 use Rattle.pr_model.specs.declared.calls.Call.{Call}
@@ -29,46 +22,24 @@ use Rattle.pr_model.specs.declared.lwps.Phase.TheVariants.{User, Entered, Asleep
 
 -- ---- turns of lwps
 
--- whether an instruction is built
-abbrev pub is_built_instruction : Instruction → Bool
-is_built_instruction (Set to imm) = true
-is_built_instruction (Sys call) = true
-is_built_instruction _ = false
-
--- bytes that are no instruction fault
-abbrev pub is_built_decoded : Option Instruction → Bool
-is_built_decoded None = true
-is_built_decoded (Some i) = is_built_instruction i
-
--- a fetch that fails faults
-abbrev pub is_built_fetched : Result (List ℕ) BadByte → Bool
-is_built_fetched (Err bad) = true
-is_built_fetched (Ok bytes) = is_built_decoded (instruction_in bytes)
-
 -- whether a system call is built
 abbrev pub is_built_syscall : Sysno → Bool
 is_built_syscall Exit = true
 is_built_syscall Getpid = true
 is_built_syscall _ = false
 
--- what is built of each phase
+-- What is built of each phase: all but some system calls. A call that was aborted ends with EINTR, whatever it is, and
+-- an lwp that sleeps may take a signal.
 abbrev pub is_built_in : TracedProcess → TracedLwp → Phase → Bool
-is_built_in p l User = is_built_fetched (bytes_for prot_exec p.space (pc_of l.regs) 16)
+is_built_in p l User = true
 is_built_in p l (Entered call) = l.control.abort || is_built_syscall call
-is_built_in p l (Asleep call args since) = false
+is_built_in p l (Asleep call args since) = has_takeable p l || (l.control.abort || is_built_syscall call)
 is_built_in p l (Exiting call args result) = true
 is_built_in p l (Faulted f address) = true
 
--- whether a phase is one before which a current signal is acted on and a signal is taken
-abbrev pub meets_signals : Phase → Bool
-meets_signals (Faulted f address) = false
-meets_signals _ = true
-
--- whether the turn of an lwp is built: neither acting on a signal nor taking one is
+-- whether the turn of an lwp is built: a directed lwp stops, and a current signal is acted on, in every phase
 unfoldable pub is_built_turn : TracedProcess → TracedLwp → Bool
-is_built_turn p l =
-    l.control.directed
-    || (not (meets_signals l.phase && (is_some l.current || has_takeable p l)) && is_built_in p l l.phase)
+is_built_turn p l = l.control.directed || (is_some l.current || is_built_in p l l.phase)
 
 -- ---- calls of controllers
 

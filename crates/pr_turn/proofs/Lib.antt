@@ -1,3 +1,5 @@
 pub mod MakeLemmas
 pub mod MoveLemmas
 pub mod NextLemmas
+pub mod TurnLemmas
+pub mod UsageLemmas

@@ -4,23 +4,29 @@ use Rattle.pr_num.specs.ById.{change_under}
 use Rattle.pr_num.proofs.ByIdLaws.{change_under-alike}
 use Rattle.pr_num.specs.Spaces.{Space}
 use Rattle.pr_num.specs.declared.faults.Flt.TheVariants.{Trace, Watch}
+use Rattle.pr_num.specs.declared.signals.Sig.{Sig}
 use Rattle.pr_num.specs.declared.syscalls.Sysno.{Sysno}
-use Rattle.pr_model.specs.Changes.{Change, space_is, with_space}
+use Rattle.pr_model.specs.Changes.{Change, space_is, takes_shared, job_stops, with_space, with_shared_taken, with_job_stop}
 use Rattle.pr_model.specs.InstructionEffects.{InstructionEffect, Store, instruction_effect, runs, calls, faults, runs_into_watch}
 use Rattle.pr_model.specs.Machines.{traced}
 use Rattle.pr_model.specs.Moves.{Move, moved, traps, enters, incurs, returns}
 use Rattle.pr_model.specs.Moves as move
 use Rattle.pr_model.specs.Registers.{pc_of}
-use Rattle.pr_model.specs.Rows.{Row, requested_row, posted_row, returned_row, executed_row, ran_row, entered_row, incurred_row, watched_row}
+use Rattle.pr_model.specs.Signals.{current_of}
+use Rattle.pr_model.specs.Rows.{Row, own_taken_row, shared_taken_row, requested_row, posted_row, returned_row, executed_row, ran_row, entered_row, incurred_row, watched_row}
 use Rattle.pr_model.specs.State.{TracedLwp, TracedProcess, lwp_of, with_lwp}
-use Rattle.pr_model.specs.Transitions.{Transition, requested, posted, returned, ran, entered, incurred, trapped, stored_in}
+use Rattle.pr_model.specs.Transitions.{Transition, own_taken, shared_taken, dropped, job_stopped, requested, posted, returned, ran, entered, incurred, trapped, stored_in}
 use Rattle.pr_lwp.specs.Plain.{outcome_of, space_after}
 use Rattle.pr_lwp.specs.Steps.{stepped}
 use Rattle.pr_lwp.specs.Steps as steps
-use Rattle.pr_turn.specs.Making.{effect_of, executed_by, in_process, made_by, made_of, moved_by, of_row, process_after}
-use Rattle.pr_turn.specs.NextRows.{executed_move, is_own_row, move_of, row_of}
+use Rattle.pr_turn.specs.Making.{at_point, quiet, effect_of, executed_by, in_process, made_by, made_of, moved_by, of_row, process_after}
+use Rattle.pr_turn.specs.NextRows.{caught_move, executed_move, is_own_row, move_of, row_of}
+use Rattle.pr_model.specs.declared.events.Did.TheVariants.{Took, Acted}
+use Rattle.pr_model.specs.declared.events.How.TheVariants as how
+use Rattle.pr_model.specs.declared.stops.Point.TheVariants.{Signal}
+use Rattle.pr_turn.specs.declared.making.Made.{Made}
 use Rattle.pr_turn.specs.declared.next.Next.{Next}
-use Rattle.pr_turn.specs.declared.next.Next.TheVariants.{Requested, Posted, Gave, Ends, Returned, Executed}
+use Rattle.pr_turn.specs.declared.next.Next.TheVariants.{Requested, Posted, Gave, Ends, Returned, Executed, TookOwn, TookShared, Dropped, JobStopped, Caught}
 
 -- What a row makes of its process.
 
@@ -32,20 +38,30 @@ alike p id l f g there same = ap (λ ls. record p { lwps = ls }) (change_under-a
 module _ (p : TracedProcess) (id : ℕ) (l : TracedLwp) where
   -- a row that moves its lwp alone
   pub own-after : (next : Next) → is_own_row next ≡ true → lwp_of p id ≡ Some l → with_lwp id (moved_by next) p ≡ process_after id (row_of p l next).transition p
-  unfolding row_of process_after requested_row posted_row requested posted returned_row returned trapped stored_in move_of moved_by
+  unfolding row_of process_after requested_row posted_row requested posted returned_row returned trapped stored_in move_of moved_by own_taken_row own_taken dropped
   own-after Requested own there = alike p id l (moved_by Requested) (moved traced move.stops) there refl
   own-after (Posted f address) own there = alike p id l (moved_by (Posted f address)) (moved traced (move.posts f address)) there refl
-  own-after (Gave call args result) own there = alike p id l (moved_by (Gave call args result)) (moved traced (move.leaves call args result)) there refl
+  own-after (Gave woken call args result) own there = alike p id l (moved_by (Gave woken call args result)) (moved traced (move.leaves call args result)) there refl
+  own-after (TookOwn g) own there = alike p id l (moved_by (TookOwn g)) (moved traced (move.takes (current_of g l.pending) true)) there refl
+  own-after (Dropped g) own there = alike p id l (moved_by (Dropped g)) (moved traced move.drops) there refl
+  own-after (Caught c handler) own there = alike p id l (moved_by (Caught c handler)) (moved traced (caught_move l c handler)) there refl
+  own-after (TookShared g) own there = absurd (cc)
+  own-after (JobStopped g) own there = absurd (cc)
   own-after (Ends call status) own there = absurd (cc)
   own-after Executed own there = absurd (cc)
   own-after (Returned call) own there =
       elim (cases_Bool l.control.step) [ inl marked ↦ rw marked (alike p id l (moved_by (Returned call)) (moved traced (traps Trace (pc_of l.regs) l.regs)) there (rw marked refl)) | inr unmarked ↦ rw unmarked (alike p id l (moved_by (Returned call)) (moved traced returns) there (rw unmarked refl)) ]
 
   pub own-made : (next : Next) → is_own_row next ≡ true → made_of l next ≡ of_row (row_of p l next)
-  unfolding made_of row_of requested_row posted_row returned_row
+  unfolding made_of row_of requested_row posted_row returned_row own_taken_row
   own-made Requested own = refl
   own-made (Posted f address) own = refl
-  own-made (Gave call args result) own = refl
+  own-made (Gave woken call args result) own = refl
+  own-made (TookOwn g) own = refl
+  own-made (Dropped g) own = refl
+  own-made (Caught c handler) own = refl
+  own-made (TookShared g) own = absurd (cc)
+  own-made (JobStopped g) own = absurd (cc)
   own-made (Ends call status) own = absurd (cc)
   own-made Executed own = absurd (cc)
   own-made (Returned call) own =
@@ -75,9 +91,11 @@ module _ (p : TracedProcess) (id : ℕ) (l : TracedLwp) where
 -- ---- what controllers set on the process stays
 
 in_process-control : (cs : List Change) (p : TracedProcess) → (in_process cs p).control ≡ p.control
-unfolding with_space
+unfolding with_space with_shared_taken with_job_stop
 in_process-control [] p = refl
 in_process-control (space_is space ∷ cs) p = in_process-control cs (record p { space = space })
+in_process-control (takes_shared g ∷ cs) p = in_process-control cs (with_shared_taken g p)
+in_process-control (job_stops g ∷ cs) p = in_process-control cs (with_job_stop g p)
 in_process-control (_ ∷ cs) p = in_process-control cs p
 
 pub process_after-control : (id : ℕ) (t : Transition) (p : TracedProcess) → (process_after id t p).control ≡ p.control
@@ -97,8 +115,26 @@ module _ (p : TracedProcess) (id : ℕ) (l : TracedLwp) where
   made-executed lwps space there e s =
       ap (λ ls. record p { space = space; lwps = ls }) e ∙ ap (λ m. record p { space = m; lwps = change_under id (executed_by (instruction_effect p.space p.control.areas l.regs)) p.lwps }) s ∙ executed-by p id l (instruction_effect p.space p.control.areas l.regs) there
 
-  pub made-executed_what : made_by (effect_of l (instruction_effect p.space p.control.areas l.regs)) ≡ of_row (row_of p l Executed)
+  pub made-executed_what : (m : Made) → m ≡ made_by (effect_of l (instruction_effect p.space p.control.areas l.regs)) → m ≡ of_row (row_of p l Executed)
   unfolding row_of
-  made-executed_what = executed-made p id l (instruction_effect p.space p.control.areas l.regs)
+  made-executed_what m e = e ∙ executed-made p id l (instruction_effect p.space p.control.areas l.regs)
 
-pub ruleset making = (own-made, made-own, made-executed, made-executed_what)
+  -- ---- signals of the process
+
+  pub made-shared : (g : Sig) (p1 : TracedProcess) → p1 ≡ process_after id (shared_taken p g) p → p1 ≡ process_after id (row_of p l (TookShared g)).transition p
+  unfolding row_of shared_taken_row
+  made-shared g p1 e = e
+
+  pub made-job_stop : (g : Sig) (p1 : TracedProcess) → p1 ≡ process_after id (job_stopped g) p → p1 ≡ process_after id (row_of p l (JobStopped g)).transition p
+  unfolding row_of
+  made-job_stop g p1 e = e
+
+  pub made-shared_what : (g : Sig) (m : Made) → m ≡ at_point (Took g) (Signal g) → m ≡ of_row (row_of p l (TookShared g))
+  unfolding row_of shared_taken_row
+  made-shared_what g m e = e
+
+  pub made-job_stop_what : (g : Sig) (m : Made) → m ≡ quiet (Acted g how.JobStop) → m ≡ of_row (row_of p l (JobStopped g))
+  unfolding row_of
+  made-job_stop_what g m e = e
+
+pub ruleset making = (made-shared, made-job_stop, made-shared_what, made-job_stop_what, own-made, made-own, made-executed, made-executed_what)

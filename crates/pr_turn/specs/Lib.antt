@@ -1,2 +1,3 @@
 pub mod Making
 pub mod NextRows
+pub mod Turns

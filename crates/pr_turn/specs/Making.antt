@@ -1,15 +1,15 @@
 use Rattle.std.specs.Prelude.{ℕ, Bool, true, false, List, [], ◌∷◌, Option, Some, None, if◌then◌else◌}
 use Rattle.pr_num.specs.declared.faults.Flt.TheVariants.{Trace}
-use Rattle.pr_model.specs.Changes.{Change, space_is, with_space}
+use Rattle.pr_model.specs.Changes.{Change, space_is, takes_shared, job_stops, with_space, with_shared_taken, with_job_stop}
 use Rattle.pr_model.specs.InstructionEffects.{InstructionEffect}
 use Rattle.pr_model.specs.Machines.{traced}
 use Rattle.pr_model.specs.Moves.{moved}
-use Rattle.pr_model.specs.Rows.{Row}
+use Rattle.pr_model.specs.Rows.{Row, finished as call_finished}
 use Rattle.pr_model.specs.State.{TracedProcess, TracedLwp, with_lwp}
 use Rattle.pr_model.specs.Transitions.{Transition}
 use Rattle.pr_model.specs.declared.events.Did.{Did}
 use Rattle.pr_model.specs.declared.events.Did.TheVariants as did
-use Rattle.pr_model.specs.declared.events.Res.TheVariants.{Ended}
+use Rattle.pr_model.specs.declared.events.How.TheVariants as how
 use Rattle.pr_model.specs.declared.lwps.Phase.TheVariants.{Entered, Faulted}
 use Rattle.pr_num.specs.declared.syscalls.Sysno.{Sysno}
 use Rattle.pr_num.specs.declared.syscalls.Sysno.TheVariants.{Sigreturn, Exec}
@@ -22,7 +22,7 @@ use Rattle.pr_lwp.specs.declared.steps.Effect.TheVariants.{Ran, Sys, Fault}
 use Rattle.pr_turn.specs.NextRows.{move_of, executed_move}
 use Rattle.pr_turn.specs.declared.making.Made.{Made}
 use Rattle.pr_turn.specs.declared.next.Next.{Next}
-use Rattle.pr_turn.specs.declared.next.Next.TheVariants.{Requested, Posted, Gave, Ends, Returned, Executed}
+use Rattle.pr_turn.specs.declared.next.Next.TheVariants.{Requested, Posted, Gave, Ends, Returned, Executed, TookOwn, TookShared, Dropped, JobStopped, Caught}
 
 -- What a row makes of its process, and what it did.
 
@@ -36,10 +36,15 @@ at_point d p = record { did = d; point = Some p; begun = false }
 unfoldable pub made_of : TracedLwp → Next → Made
 made_of l Requested = quiet did.Stopped
 made_of l (Posted f address) = quiet (did.Posted f)
-made_of l (Gave call args result) = at_point (did.Made call result) (point.Exit call)
-made_of l (Ends call status) = quiet (did.Made call Ended)
+made_of l (Gave woken call args result) = at_point (call_finished woken call result) (point.Exit call)
+made_of l (Ends what status) = quiet what
 made_of l (Returned call) = if l.control.step then at_point (did.Faulted Trace) (point.Fault Trace) else quiet (did.Returned call)
 made_of l Executed = quiet did.Ran
+made_of l (TookOwn g) = at_point (did.Took g) (point.Signal g)
+made_of l (TookShared g) = at_point (did.Took g) (point.Signal g)
+made_of l (Dropped g) = quiet (did.Acted g how.Ignored)
+made_of l (JobStopped g) = quiet (did.Acted g how.JobStop)
+made_of l (Caught c handler) = quiet (did.Acted c.signal how.Caught)
 
 -- what an instruction did that came to this
 abbrev pub made_by : Effect → Made
@@ -64,13 +69,15 @@ executed_by e l = moved traced (executed_move l e) l
 
 -- whether a row ends its process
 abbrev pub ends : Next → Bool
-ends (Ends call status) = true
+ends (Ends did status) = true
 ends _ = false
 
 -- a process after changes that are its own
 abbrev pub in_process : List Change → TracedProcess → TracedProcess
 in_process [] p = p
 in_process (space_is space ∷ cs) p = in_process cs (with_space space p)
+in_process (takes_shared g ∷ cs) p = in_process cs (with_shared_taken g p)
+in_process (job_stops g ∷ cs) p = in_process cs (with_job_stop g p)
 in_process (_ ∷ cs) p = in_process cs p
 
 -- a process after such a transition of the lwp of an id

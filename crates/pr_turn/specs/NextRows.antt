@@ -1,22 +1,31 @@
-use Rattle.std.specs.Prelude.{ℕ, Bool, false, true, List, [], Option, Some, None, if◌then◌else◌}
+use Rattle.std.specs.Prelude.{ℕ, Bool, false, true, List, [], Option, Some, None, length, nat_lt, if◌then◌else◌}
+use Rattle.pr_num.specs.declared.faults.Flt.{Flt}
 use Rattle.pr_num.specs.declared.faults.Flt.TheVariants.{Trace, Watch}
+use Rattle.pr_num.specs.Limits.{frame_limit}
 use Rattle.pr_model.specs.Changes.{ends_process}
 use Rattle.pr_model.specs.InstructionEffects.{InstructionEffect, runs, calls, faults, runs_into_watch, instruction_effect}
-use Rattle.pr_model.specs.Machines.{traced}
-use Rattle.pr_model.specs.Moves.{Move, moved, stops, posts, returns, leaves, enters, incurs, traps, stays}
+use Rattle.pr_model.specs.Moves.{Move, moved, stops, posts, returns, leaves, enters, incurs, traps, stays, takes, drops, catches}
 use Rattle.pr_model.specs.Moves as move
 use Rattle.pr_model.specs.Registers.{pc_of}
-use Rattle.pr_model.specs.Rows.{Row, requested_row, posted_row, returned_row, executed_row, point_row, quiet_row}
-use Rattle.pr_model.specs.State.{TracedProcess, TracedLwp, with_lwp}
-use Rattle.pr_model.specs.Transitions.{changing, ending}
-use Rattle.pr_model.specs.declared.events.Did.TheVariants.{Made}
-use Rattle.pr_model.specs.declared.events.Res.TheVariants.{Ended}
+use Rattle.pr_model.specs.Rows.{Row, finished, requested_row, posted_row, returned_row, executed_row, own_taken_row, shared_taken_row, point_row, quiet_row}
+use Rattle.pr_model.specs.Signals.{current_of, handler_held, handler_registers, with_frame}
+use Rattle.pr_model.specs.State.{TracedProcess, TracedLwp}
+use Rattle.pr_model.specs.Transitions.{changing, dropped, ending, job_stopped, moving}
+use Rattle.pr_model.specs.declared.events.Did.TheVariants.{Acted}
+use Rattle.pr_model.specs.declared.events.How.TheVariants as how
+use Rattle.pr_model.specs.declared.lwps.Current.{Current}
+use Rattle.pr_model.specs.declared.lwps.Phase.{Phase}
+use Rattle.pr_model.specs.declared.lwps.Phase.TheVariants as phase
 use Rattle.pr_model.specs.declared.stops.Point.TheVariants.{Exit}
-use Rattle.pr_lwp.specs.Plain.{space_after}
 use Rattle.pr_turn.specs.declared.next.Next.{Next}
-use Rattle.pr_turn.specs.declared.next.Next.TheVariants.{Requested, Posted, Gave, Ends, Returned, Executed}
+use Rattle.pr_turn.specs.declared.next.Next.TheVariants.{Requested, Posted, Gave, Ends, Returned, Executed, TookOwn, TookShared, Dropped, JobStopped, Caught}
 
 -- What the crate's own type of rows says, in the words of the turn table.
+
+-- a handler runs
+abbrev pub caught_move : TracedLwp → Current → ℕ → Move
+caught_move l c handler =
+    catches (with_frame l.regs l.held l.frames) (handler_registers c handler l.regs) (handler_held c l.held)
 
 module _ (p : TracedProcess) (l : TracedLwp) where
   -- the instruction at pc
@@ -27,10 +36,31 @@ module _ (p : TracedProcess) (l : TracedLwp) where
   unfoldable pub row_of : Next → Row
   row_of Requested = requested_row
   row_of (Posted f address) = posted_row f address
-  row_of (Gave call args result) = point_row (Made call result) (Exit call) (changing [] (leaves call args result))
-  row_of (Ends call status) = quiet_row (Made call Ended) (ending (ends_process status))
+  row_of (Gave woken call args result) =
+      point_row (finished woken call result) (Exit call) (changing [] (leaves call args result))
+  row_of (Ends did status) = quiet_row did (ending (ends_process status))
   row_of (Returned call) = returned_row p l call
   row_of Executed = executed_row p l effect_at
+  row_of (TookOwn g) = own_taken_row l g
+  row_of (TookShared g) = shared_taken_row p g
+  row_of (Dropped g) = quiet_row (Acted g how.Ignored) dropped
+  row_of (JobStopped g) = quiet_row (Acted g how.JobStop) (job_stopped g)
+  row_of (Caught c handler) = quiet_row (Acted c.signal how.Caught) (moving (caught_move l c handler))
+
+  -- this row, or another one where there is none
+  abbrev pub row_or : Option Next → Row → Row
+  row_or (Some next) otherwise = row_of next
+  row_or None otherwise = otherwise
+
+-- whether a row may be made: the frame of a handler that runs has room
+abbrev pub fits : TracedLwp → Next → Bool
+fits l (Caught c handler) = nat_lt (length l.frames) frame_limit
+fits l _ = true
+
+-- the fault that an lwp incurred and whose signal is not posted yet
+abbrev pub fault_in : Phase → Option (Flt × ℕ)
+fault_in (phase.Faulted f address) = Some (f, address)
+fault_in _ = None
 
 -- the move of an lwp by an instruction
 unfoldable pub executed_move : TracedLwp → InstructionEffect → Move
@@ -43,16 +73,17 @@ executed_move l (runs_into_watch address regs store) = traps Watch address regs
 unfoldable pub move_of : TracedLwp → Next → Move
 move_of l Requested = stops
 move_of l (Posted f address) = posts f address
-move_of l (Gave call args result) = leaves call args result
-move_of l (Ends call status) = stays
+move_of l (Gave woken call args result) = leaves call args result
 move_of l (Returned call) = if l.control.step then traps Trace (pc_of l.regs) l.regs else returns
-move_of l Executed = stays
+move_of l (TookOwn g) = takes (current_of g l.pending) true
+move_of l (Dropped g) = drops
+move_of l (Caught c handler) = caught_move l c handler
+move_of l _ = stays
 
 -- whether a row moves its lwp and changes nothing else
 abbrev pub is_own_row : Next → Bool
-is_own_row Requested = true
-is_own_row (Posted f address) = true
-is_own_row (Gave call args result) = true
-is_own_row (Ends call status) = false
-is_own_row (Returned call) = true
+is_own_row (Ends did status) = false
 is_own_row Executed = false
+is_own_row (TookShared g) = false
+is_own_row (JobStopped g) = false
+is_own_row _ = true

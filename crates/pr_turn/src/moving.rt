@@ -1,18 +1,19 @@
 //! What a row of the turn table makes of its lwp.
-ghost use Rattle.std.specs.Prelude.{◌≡◌, true};
+ghost use Rattle.std.specs.Prelude.{◌≡◌, ◌<◌, false, true, length};
 ghost use Rattle.pr_lwp.specs.Plain.{outcome_of, space_after};
 ghost use Rattle.pr_model.specs.InstructionEffects.{instruction_effect};
 ghost use Rattle.pr_model.specs.Machines.{call_over, fault_posted, step_taken, stopped_as_directed, traced};
-ghost use Rattle.pr_model.specs.Moves.{leaves, moved, posts, stops};
+ghost use Rattle.pr_model.specs.Moves.{drops, leaves, moved, posts, stops, takes};
 ghost use Rattle.pr_model.specs.Registers.{stored, with_result};
-ghost use Rattle.pr_turn.specs.Making.{effect_of, executed_by, finished, keeps_registers};
-ghost use Rattle.pr_turn.specs.NextRows.{is_own_row, move_of};
+ghost use Rattle.pr_turn.specs.Making.{effect_of, executed_by, finished, keeps_registers, moved_by};
+ghost use Rattle.pr_model.specs.Signals.{current_of, handler_registers};
+ghost use Rattle.pr_turn.specs.NextRows.{caught_move, fits, is_own_row, move_of};
 
 use crate::next::Next;
 use pr_lwp::{Effect, step};
 use pr_mem::Space;
-use pr_model::{PC, Phase, Res, Stop};
-use pr_num::{Flt, Info, Sysno};
+use pr_model::{Current, Frame, PC, Phase, Res, Stop};
+use pr_num::{Flt, Info, Sig, Sysno};
 use pr_proc::Lwp;
 use pr_watch::Areas;
 
@@ -77,11 +78,15 @@ fn store(regs: &mut [u64; 11], call: Sysno, outcome: Res)
 
 /// A call gives its result.
 #[tactic(auto, unfolding(pr_model::specs::Moves::moved, pr_model::specs::Machines::traced, pr_model::specs::Machines::call_over))]
-fn leave(lwp: &mut Lwp, call: Sysno, args: [u64; 6], result: Res)
-    ensures { lwp.new ≡ moved traced (leaves call args result) lwp.old }
+fn leave(lwp: &mut Lwp, call: Sysno, args: [u64; 6], outcome: Res)
+    ensures { lwp.new ≡ moved traced (leaves call args outcome) lwp.old }
 {
-    store(&mut lwp.regs, call, result);
-    lwp.phase = Phase::Exiting { call, args, result };
+    store(&mut lwp.regs, call, outcome);
+    lwp.phase = Phase::Exiting {
+        call,
+        args,
+        result: outcome,
+    };
     lwp.control.abort = false;
 }
 
@@ -101,18 +106,85 @@ fn return_from(lwp: &mut Lwp, call: Sysno)
     }
 }
 
+/// A signal that pends for an lwp alone becomes its current one, with its information.
+#[tactic(auto, unfolding(pr_model::specs::Moves::moved))]
+fn take_own(lwp: &mut Lwp, signal: Sig)
+    ensures { lwp.new ≡ moved traced (takes (current_of signal lwp.old.pending) true) lwp.old }
+{
+    let info = lwp.pending.info(signal).unwrap_or(Info::none());
+    lwp.pending.delete_one(signal);
+    lwp.current = Some(Current { signal, info });
+}
+
+/// A signal that pended for the process of an lwp becomes its current one.
+#[tactic(auto, unfolding(pr_model::specs::Moves::moved))]
+pub fn set_current(lwp: &mut Lwp, current: Current)
+    ensures { lwp.new ≡ moved traced (takes current false) lwp.old }
+{
+    lwp.current = Some(current);
+}
+
+/// The current signal of an lwp is dropped.
+#[tactic(auto, unfolding(pr_model::specs::Moves::moved))]
+pub fn drop_current(lwp: &mut Lwp)
+    ensures { lwp.new ≡ moved traced drops lwp.old }
+{
+    lwp.current = None;
+}
+
+/// The registers with which a handler begins: r1 to r4 are the signal and its information, and pc is its address.
+#[tactic(auto, unfolding(pr_model::specs::Signals::handler_registers))]
+fn begin_handler(regs: &mut [u64; 11], current: Current, handler: u64)
+    ensures { regs.new ≡ handler_registers current handler regs.old }
+{
+    regs[1] = current.signal.number();
+    regs[2] = current.info.code;
+    regs[3] = current.info.pid;
+    regs[4] = current.info.value;
+    regs[PC] = handler;
+}
+
+/// A handler runs, with its signal held; what it interrupted is saved in a frame, which has room.
+#[tactic(auto, unfolding(pr_model::specs::Moves::moved, pr_model::specs::Machines::traced, pr_model::specs::Signals::handler_held))]
+fn catch_signal(lwp: &mut Lwp, current: Current, handler: u64)
+    requires { length lwp.old.frames < 32 }
+    ensures { lwp.new ≡ moved traced (caught_move lwp.old current handler) lwp.old }
+{
+    let frame = Frame {
+        regs: lwp.regs,
+        held: lwp.held,
+    };
+    lwp.frames.push(frame);
+    begin_handler(&mut lwp.regs, current, handler);
+    lwp.held = lwp.held.with(current.signal);
+    lwp.current = None;
+    lwp.phase = Phase::User;
+}
+
 /// What a row that changes its lwp alone makes of it.
-#[tactic(auto, unfolding(crate::specs::NextRows::move_of))]
+#[tactic(auto, unfolding(crate::specs::NextRows::move_of, crate::specs::Making::moved_by))]
 pub fn move_lwp(lwp: &mut Lwp, next: Next)
-    requires { is_own_row next ≡ true }
-    ensures { lwp.new ≡ moved traced (move_of lwp.old next) lwp.old }
+    requires own { is_own_row next ≡ true }
+    requires fits { fits lwp.old next ≡ true }
+    ensures { lwp.new ≡ moved_by next lwp.old }
 {
     match next {
         Next::Requested => stop(lwp),
         Next::Posted { fault, address } => post(lwp, fault, address),
-        Next::Gave { call, args, result } => leave(lwp, call, args, result),
+        Next::Gave {
+            call,
+            args,
+            result: outcome,
+            ..
+        } => leave(lwp, call, args, outcome),
         Next::Returned(call) => return_from(lwp, call),
-        Next::Ends { .. } | Next::Executed => unreachable!(),
+        Next::TookOwn(signal) => take_own(lwp, signal),
+        Next::Dropped(_) => drop_current(lwp),
+        Next::Caught { current, handler } => catch_signal(lwp, current, handler),
+        Next::Ends { .. } => unreachable!(),
+        Next::Executed => unreachable!(),
+        Next::TookShared(_) => unreachable!(),
+        Next::JobStopped(_) => unreachable!(),
     }
 }
 
@@ -135,7 +207,11 @@ pub fn execute_lwp(lwp: &mut Lwp, space: &mut Space, areas: &Areas) -> Effect
     ensures space { space.new ≡ space_after (instruction_effect space.old areas.now lwp.old.regs) space.old }
     ensures effect { result ≡ effect_of lwp.old (instruction_effect space.old areas.now lwp.old.regs) }
 {
-    let effect = step(lwp, space, areas).unwrap();
-    finish(lwp, effect);
-    effect
+    match step(lwp, space, areas) {
+        Ok(effect) => {
+            finish(lwp, effect);
+            effect
+        }
+        Err(_) => unreachable!(),
+    }
 }

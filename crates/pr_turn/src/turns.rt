@@ -1,13 +1,15 @@
 //! One turn of an lwp, as it changes the whole system.
-ghost use Rattle.std.specs.Prelude.{◌≡◌, ◌-◌, ◌^◌, true, Some, IsSome, IfOk, IsOk};
+ghost use Rattle.std.specs.Prelude.{◌≡◌, ℕ, ◌+◌, ◌-◌, ◌^◌, true, false, Some, IsSome, IfOk, IsOk};
 ghost use Rattle.std.specs.Option.{ForSome};
 ghost use Rattle.pr_num.specs.ById.{change_under, under};
 ghost use Rattle.pr_model.specs.LwpTurns.{can_move, counted, may_turn, turn_of, with_counted};
 ghost use Rattle.pr_model.specs.Points.{after_meeting, stopped_at, with_stop_at};
-ghost use Rattle.pr_model.specs.State.{lwp_of, with_process};
+ghost use Rattle.pr_model.specs.State.{TracedSystem, with_process};
 ghost use Rattle.pr_proc.specs.Counts.{AllUsedAtMost, UsedAtMost};
+ghost use Rattle.pr_turn.specs.Making.{ends};
+ghost use Rattle.pr_turn.specs.Turns.{IsNext, Makes};
 
-use crate::making::{Made, make, made_of};
+use crate::making::{Made, make_and_ask, quiet};
 use crate::next::{Next, is_built_turn, is_held_back, next_row};
 use pr_model::{Did, Point, Turned, Usage};
 use pr_num::{ById, NoMemory};
@@ -111,52 +113,66 @@ fn next_of(sys: &Sys, pid: u32, id: u32) -> Next
 }
 
 /// What a row that does not end its process makes of the system.
+#[tactic(auto, using(crate::proofs::TurnLemmas::making_laws, crate::proofs::TurnLemmas::next_laws))]
 fn make_in(sys: &mut Sys, pid: u32, id: u32, next: Next) -> (Made, bool)
     requires next { IsNext sys.old pid id next }
     requires lives { ends next ≡ false }
-    ensures { MakesIn sys.old sys.new pid id next result.0 result.1 }
+    ensures { Makes sys.old sys.new pid id result.0 result.1 }
 {
     make_and_ask(sys.processes.get_mut(pid), id, next)
 }
 
 /// What a row makes of the system, and what it did.
+#[tactic(auto, using(crate::proofs::TurnLemmas::making_laws, crate::proofs::TurnLemmas::next_laws))]
 fn make_turn(sys: &mut Sys, pid: u32, id: u32, next: Next) -> (Made, bool)
     requires next { IsNext sys.old pid id next }
-    ensures { Makes sys.old sys.new pid id next result.0 result.1 }
+    ensures { Makes sys.old sys.new pid id result.0 result.1 }
 {
     match next {
-        Next::Ends { call, status } => {
+        Next::Ends { did, status } => {
             end(sys, pid, status);
-            (ended_by(call), false)
+            (quiet(did), false)
         }
         _ => make_in(sys, pid, id, next),
     }
 }
 
-/// Counts what a turn did in the process of an id, and lets its lwp stop where that is traced.
-fn finish(sys: &mut Sys, pid: u32, id: u32, made: Made)
+/// Counts what a turn did in the process of an id; a process that ended keeps its counts.
+#[tactic(auto, using(pr_num::proofs::ByIdLaws::by_id_laws, crate::proofs::UsageLemmas::usage_laws), unfolding(pr_model::specs::State::with_process))]
+fn count_under(sys: &mut Sys, pid: u32, did: Did, begun: bool)
     requires { AllUsedAtMost (2 ^ 64 - 2) sys.old }
-    ensures { sys.new ≡ with_process pid (after_meeting made.point id) (with_process pid (with_counted made.did made.begun) sys.old) }
+    ensures { sys.new ≡ with_process pid (with_counted did begun) sys.old }
 {
     if sys.processes.contains(pid) {
-        count_in(sys.processes.get_mut(pid), made.did, made.begun);
+        count_in(sys.processes.get_mut(pid), did, begun);
     }
+}
+
+/// An lwp of the process of an id met this, or nothing.
+#[tactic(auto, using(pr_num::proofs::ByIdLaws::by_id_laws), unfolding(pr_model::specs::State::with_process))]
+fn meet_under(sys: &mut Sys, pid: u32, id: u32, point: Option<Point>)
+    ensures { sys.new ≡ with_process pid (after_meeting point id) sys.old }
+{
     if sys.processes.contains(pid) {
-        meet(sys.processes.get_mut(pid), id, made.point);
+        meet(sys.processes.get_mut(pid), id, point);
     }
 }
 
 /// One turn of an lwp: it makes the first row of the turn table that fits. No turn that is built takes memory.
+#[tactic(auto, using(crate::proofs::TurnLemmas::making_laws))]
 pub fn turn(sys: &mut Sys, pid: u32, lwp: u32) -> Result<Turned, NoMemory>
     requires movable { can_move sys.old pid lwp ≡ true }
     // the counts of use do not wrap
     requires room { AllUsedAtMost (2 ^ 64 - 2) sys.old }
     ensures ok { IfOk result (λ turned. turn_of sys.old pid lwp ≡ Some (record { system = sys.new; turned = turned })) }
+    // a turn adds at most 1 to each count
+    ensures used { (n : ℕ) → AllUsedAtMost n sys.old → AllUsedAtMost (n + 1) sys.new }
     ensures sure { IsOk result }
 {
     let next = next_of(sys, pid, lwp);
     let (made, stop) = make_turn(sys, pid, lwp, next);
-    finish(sys, pid, lwp, made);
+    count_under(sys, pid, made.did, made.begun);
+    meet_under(sys, pid, lwp, made.point);
     Ok(Turned {
         did: made.did,
         stop,

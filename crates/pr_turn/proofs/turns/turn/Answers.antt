@@ -1,0 +1,14 @@
+use Rattle.std.proofs.Common.{refl}
+use Rattle.pr_turn.proofs.TurnLemmas.{turn-made}
+use Rattle.pr_turn.proofs.UsageLemmas.{used-after}
+use Rattle.pr_turn.proofs.turns.turn.Goals as goal
+
+pub count_under-requires : goal.count_under-requires
+count_under-requires c = c.make_turn-stop.ensures.used _ c.requires.room
+
+pub returns-clause-ok : goal.returns-clause-ok
+returns-clause-ok c =
+    rw (c.meet_under.ensures, c.count_under.ensures) (turn-made c.args.sys.now c.make_turn-stop.new.sys c.args.pid c.args.lwp c.make_turn-stop.result.0 c.make_turn-stop.result.1 c.make_turn-stop.ensures)
+
+pub returns-clause-used : goal.returns-clause-used
+returns-clause-used c n h = used-after n c.make_turn-stop.new.sys c.count_under.new.sys c.meet_under.new.sys c.args.pid c.args.lwp _ _ _ (c.make_turn-stop.ensures.used n h) c.count_under.ensures c.meet_under.ensures
