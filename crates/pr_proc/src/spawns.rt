@@ -109,12 +109,7 @@ fn first_lwps(alloc: Global, held: bool) -> Result<ById<Lwp>, NoMemory>
 
 /// A new process of a program, whose parent is process 0; `held`: it is directed to stop before it runs.
 #[tactic(auto, unfolding(pr_model::specs::Lives::new_process))]
-fn new_process(
-    alloc: Global,
-    program: &Program,
-    clock: u64,
-    held: bool,
-) -> Result<Proc, NoMemory>
+fn new_process(alloc: Global, program: &Program, clock: u64, held: bool) -> Result<Proc, NoMemory>
     ensures { IfOk result (λ p. p ≡ new_process traced program.now clock held) }
 {
     let space = first_space(alloc, program)?;

@@ -186,8 +186,8 @@ module _ (s new : TracedSystem) (pid id : ℕ) (next : Next) where
       let stands : lwp_of p id ≡ Some is.lwp = ap (λ q. lwp_of q id) same ∙ is.stands in
       let row : row_of p is.lwp next ≡ row_for s pid is.process id is.lwp = ap (λ q. row_of q is.lwp next) same ∙ is.row in
       let put : record s { processes = put_under pid p1 s.processes } ≡ with_process pid (process_after id (row_of p is.lwp next).transition) s =
-          ap (λ q. record s { processes = put_under pid q s.processes }) (changes is.lwp stands)
-          ∙ ap (λ ps. record s { processes = ps }) (put_under-found pid (process_after id (row_of p is.lwp next).transition) p s.processes there)
+      ap (λ q. record s { processes = put_under pid q s.processes }) (changes is.lwp stands)
+      ∙ ap (λ ps. record s { processes = ps }) (put_under-found pid (process_after id (row_of p is.lwp next).transition) p s.processes there)
       in
       let made : new ≡ after_transition traced pid p id is.lwp (row_of p is.lwp next).transition s = e ∙ put ∙ after-row s pid p id is.lwp next on in
       record {

@@ -71,8 +71,8 @@ pub AllUsedAtMost-ended : (n pid : ℕ) (p : TracedProcess) (status : ℕ) (s : 
 unfolding with_this_ended
 AllUsedAtMost-ended n pid p status s h =
     let buried : AllUsedAtMost n (record s { processes = change_under pid (zombie traced status) s.processes }) = record {
-        each = All-change_under (HasUsedAtMost n) pid (zombie traced status) s.processes (λ q at within. subst (UsedAtMost n) (sym (zombie-usage status q)) within) h.each;
-      } in
+      each = All-change_under (HasUsedAtMost n) pid (zombie traced status) s.processes (λ q at within. subst (UsedAtMost n) (sym (zombie-usage status q)) within) h.each;
+    } in
     AllUsedAtMost-told n p.parent pid status _ (record { each = (AllUsedAtMost-each n (orphaned pid) _ s (orphaned-usage pid) buried).each })
 
 -- what bounds all counts bounds those of a process

@@ -20,7 +20,10 @@ pub enum Next {
     /// The lwp stops as it was directed to.
     Requested,
     /// The signal of its fault is posted.
-    Posted { fault: Flt, address: u64 },
+    Posted {
+        fault: Flt,
+        address: u64,
+    },
     /// The call at which it is, or in which it sleeps, gives a result.
     Gave {
         woken: bool,
@@ -29,7 +32,10 @@ pub enum Next {
         result: Res,
     },
     /// What it does ends its process, with this wait status.
-    Ends { did: Did, status: u64 },
+    Ends {
+        did: Did,
+        status: u64,
+    },
     /// It goes back from a call to its program.
     Returned(Sysno),
     /// It runs an instruction.
@@ -43,7 +49,10 @@ pub enum Next {
     /// Its current signal stops its process by job control.
     JobStopped(Sig),
     /// Its current signal is caught: the handler at this address runs.
-    Caught { current: Current, handler: u64 },
+    Caught {
+        current: Current,
+        handler: u64,
+    },
 }
 
 /// Whether an lwp is held back: it stands on an event of interest, or is suspended, or its process is stopped by job
