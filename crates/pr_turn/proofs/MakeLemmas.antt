@@ -19,12 +19,8 @@ use Rattle.pr_model.specs.Transitions.{Transition, own_taken, shared_taken, drop
 use Rattle.pr_lwp.specs.Plain.{outcome_of, space_after}
 use Rattle.pr_lwp.specs.Steps.{stepped}
 use Rattle.pr_lwp.specs.Steps as steps
-use Rattle.pr_turn.specs.Making.{at_point, quiet, effect_of, executed_by, in_process, made_by, made_of, moved_by, of_row, process_after}
+use Rattle.pr_turn.specs.Making.{effect_of, executed_by, in_process, made_by, made_of, moved_by, of_row, process_after}
 use Rattle.pr_turn.specs.NextRows.{caught_move, executed_move, is_own_row, move_of, row_of}
-use Rattle.pr_model.specs.declared.events.Did.TheVariants.{Took, Acted}
-use Rattle.pr_model.specs.declared.events.How.TheVariants as how
-use Rattle.pr_model.specs.declared.stops.Point.TheVariants.{Signal}
-use Rattle.pr_turn.specs.declared.making.Made.{Made}
 use Rattle.pr_turn.specs.declared.next.Next.{Next}
 use Rattle.pr_turn.specs.declared.next.Next.TheVariants.{Requested, Posted, Gave, Ends, Returned, Executed, TookOwn, TookShared, Dropped, JobStopped, Caught}
 
@@ -115,9 +111,9 @@ module _ (p : TracedProcess) (id : ℕ) (l : TracedLwp) where
   made-executed lwps space there e s =
       ap (λ ls. record p { space = space; lwps = ls }) e ∙ ap (λ m. record p { space = m; lwps = change_under id (executed_by (instruction_effect p.space p.control.areas l.regs)) p.lwps }) s ∙ executed-by p id l (instruction_effect p.space p.control.areas l.regs) there
 
-  pub made-executed_what : (m : Made) → m ≡ made_by (effect_of l (instruction_effect p.space p.control.areas l.regs)) → m ≡ of_row (row_of p l Executed)
+  pub made-executed_what : made_by (effect_of l (instruction_effect p.space p.control.areas l.regs)) ≡ of_row (row_of p l Executed)
   unfolding row_of
-  made-executed_what m e = e ∙ executed-made p id l (instruction_effect p.space p.control.areas l.regs)
+  made-executed_what = executed-made p id l (instruction_effect p.space p.control.areas l.regs)
 
   -- ---- signals of the process
 
@@ -129,12 +125,12 @@ module _ (p : TracedProcess) (id : ℕ) (l : TracedLwp) where
   unfolding row_of
   made-job_stop g p1 e = e
 
-  pub made-shared_what : (g : Sig) (m : Made) → m ≡ at_point (Took g) (Signal g) → m ≡ of_row (row_of p l (TookShared g))
-  unfolding row_of shared_taken_row
-  made-shared_what g m e = e
+  pub made-shared_what : (g : Sig) → made_of l (TookShared g) ≡ of_row (row_of p l (TookShared g))
+  unfolding made_of row_of shared_taken_row
+  made-shared_what g = refl
 
-  pub made-job_stop_what : (g : Sig) (m : Made) → m ≡ quiet (Acted g how.JobStop) → m ≡ of_row (row_of p l (JobStopped g))
-  unfolding row_of
-  made-job_stop_what g m e = e
+  pub made-job_stop_what : (g : Sig) → made_of l (JobStopped g) ≡ of_row (row_of p l (JobStopped g))
+  unfolding made_of row_of
+  made-job_stop_what g = refl
 
 pub ruleset making = (made-shared, made-job_stop, made-shared_what, made-job_stop_what, own-made, made-own, made-executed, made-executed_what)

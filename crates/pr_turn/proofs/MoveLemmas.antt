@@ -73,15 +73,15 @@ finished-moved : (e : InstructionEffect) (l : TracedLwp) → finished (stepped (
 unfolding finished stepped ran executed_by executed_move moved traced fault_incurred step_taken
 finished-moved (runs regs store) l = by l.control.step
   where
+    by : (b : Bool) → finished (cond b (marked regs l) (unmarked regs l)).effect (cond b (marked regs l) (unmarked regs l)).lwp ≡ moved traced (cond b (traps Trace (pc_of regs) regs) (move.runs regs)) l
+    by true = refl
+    by false = refl
+
     marked : List ℕ → TracedLwp → Stepped Pending
     marked regs l = record { lwp = with_step_taken (with_regs regs l); effect = Fault Trace (pc_of regs) }
 
     unmarked : List ℕ → TracedLwp → Stepped Pending
     unmarked regs l = record { lwp = with_regs regs l; effect = Ran }
-
-    by : (b : Bool) → finished (cond b (marked regs l) (unmarked regs l)).effect (cond b (marked regs l) (unmarked regs l)).lwp ≡ moved traced (cond b (traps Trace (pc_of regs) regs) (move.runs regs)) l
-    by true = refl
-    by false = refl
 finished-moved (calls call regs) l = refl
 finished-moved (faults f address) l = refl
 finished-moved (runs_into_watch address regs store) l = refl

@@ -1,4 +1,4 @@
-use Rattle.std.proofs.Common.{◌≡◌, ℕ, ◌&&◌, ◌||◌, not, Bool, true, false, cond, Option, Some, None, is_some, List, refl, sym, ap, ◌∙◌, subst, inl, inr, ◌%◌, ◌*◌}
+use Rattle.std.proofs.Common.{◌≡◌, ℕ, ◌&&◌, ◌||◌, not, Bool, true, false, cond, Option, Some, None, is_some, List, refl, sym, ap, ◌∙◌, inl, inr, ◌%◌, ◌*◌}
 use Rattle.std.specs.Prelude.{slice_index}
 use Rattle.std.proofs.lemmas.Option.{same_Some}
 use Rattle.pr_num.specs.declared.faults.Flt.{Flt}
@@ -10,21 +10,19 @@ use Rattle.pr_parts.specs.declared.actions.Action.TheVariants as act
 use Rattle.pr_model.specs.Built.{is_built_in, is_built_syscall, is_built_turn}
 use Rattle.pr_model.specs.CallEffects.{call_effect}
 use Rattle.pr_model.specs.ProcessCalls.{exit_effect}
-use Rattle.pr_model.specs.Registers.{arguments}
-use Rattle.pr_model.specs.Rows.{Row, acted_row, call_row, caught_row, current_row_or, finished, interrupted_row, performed_row, posted_row, posted_row_or, requested_row, row_for, row_in, signal_row_or, taken_or}
-use Rattle.pr_model.specs.Signals.{action_for, own_takeable, shared_takeable}
+use Rattle.pr_model.specs.Rows.{Row, acted_row, call_row, caught_row, current_row_or, finished, interrupted_row, performed_row, posted_row, posted_row_or, requested_row, row_for, row_in, signal_row_or}
+use Rattle.pr_model.specs.Signals.{action_for}
 use Rattle.pr_model.specs.State.{TracedLwp, TracedProcess, TracedSystem}
 use Rattle.pr_model.specs.Transitions.{died, interrupted, performed}
 use Rattle.pr_model.specs.declared.events.Did.TheVariants.{Acted}
 use Rattle.pr_model.specs.declared.events.How.TheVariants as how
-use Rattle.pr_model.specs.declared.events.Res.{Res}
 use Rattle.pr_model.specs.declared.events.Res.TheVariants.{Value, Error, Ended}
 use Rattle.pr_model.specs.declared.lwps.Current.{Current}
 use Rattle.pr_model.specs.declared.lwps.Phase.{Phase}
 use Rattle.pr_model.specs.declared.lwps.Phase.TheVariants as phase
 use Rattle.pr_turn.specs.NextRows.{fault_in, row_of}
 use Rattle.pr_turn.specs.declared.next.Next.{Next}
-use Rattle.pr_turn.specs.declared.next.Next.TheVariants.{Requested, Posted, Gave, Ends, Returned, Executed, Dropped, JobStopped}
+use Rattle.pr_turn.specs.declared.next.Next.TheVariants.{Requested, Posted, Gave, Ends, Dropped, JobStopped}
 
 -- Which row is next.
 
@@ -39,13 +37,13 @@ module _ (s : TracedSystem) (pid : ℕ) (p : TracedProcess) (id : ℕ) (l : Trac
   unfolding row_of performed_row performed call_effect
   row-getpid woken args since = refl
 
-  pub row-aborted : (r : Row) (woken : Bool) (call : Sysno) (args : List ℕ) (since : ℕ) → l.control.abort ≡ true → r ≡ interrupted_row woken call args → r ≡ call_row s pid p id l woken call args since
+  pub row-aborted : (woken : Bool) (call : Sysno) (args : List ℕ) (since : ℕ) → l.control.abort ≡ true → interrupted_row woken call args ≡ call_row s pid p id l woken call args since
   unfolding call_row
-  row-aborted r woken call args since aborted e = e ∙ rw aborted refl
+  row-aborted woken call args since aborted = rw aborted refl
 
-  pub row-performed : (r : Row) (woken : Bool) (call : Sysno) (args : List ℕ) (since : ℕ) → l.control.abort ≡ false → r ≡ performed_row woken call args since (call_effect s pid p id l since call args) → r ≡ call_row s pid p id l woken call args since
+  pub row-performed : (woken : Bool) (call : Sysno) (args : List ℕ) (since : ℕ) → l.control.abort ≡ false → performed_row woken call args since (call_effect s pid p id l since call args) ≡ call_row s pid p id l woken call args since
   unfolding call_row
-  row-performed r woken call args since on e = e ∙ rw on refl
+  row-performed woken call args since on = rw on refl
 
   -- ---- the table
 
@@ -69,47 +67,14 @@ module _ (s : TracedSystem) (pid : ℕ) (p : TracedProcess) (id : ℕ) (l : Trac
   unfolding row_for
   row-current c off none current = rw (off, current) (unposted l.phase _ none)
 
-  pub row-phase : (r : Row) → l.control.directed ≡ false → fault_in l.phase ≡ None → l.current ≡ None → r ≡ signal_row_or s pid p id l l.phase (row_in s pid p id l l.phase) → r ≡ row_for s pid p id l
+  pub row-phase : l.control.directed ≡ false → fault_in l.phase ≡ None → l.current ≡ None → signal_row_or s pid p id l l.phase (row_in s pid p id l l.phase) ≡ row_for s pid p id l
   unfolding row_for
-  row-phase r off none current e = e ∙ rw (off, current) (unposted l.phase _ none)
-
-  -- ---- what each phase decides, where no signal is taken
-
-  pub in-user : (r : Row) → l.phase ≡ phase.User → r ≡ taken_or s pid p id l (own_takeable l) (shared_takeable p l) (row_of p l Executed) → r ≡ signal_row_or s pid p id l l.phase (row_in s pid p id l l.phase)
-  unfolding row_of signal_row_or row_in
-  in-user r at e = subst (λ ph. r ≡ signal_row_or s pid p id l ph (row_in s pid p id l ph)) (sym at) e
-
-  pub in-entered : (r : Row) (call : Sysno) → l.phase ≡ phase.Entered call → r ≡ call_row s pid p id l false call (arguments l.regs) s.clock → r ≡ signal_row_or s pid p id l l.phase (row_in s pid p id l l.phase)
-  unfolding row_of signal_row_or row_in
-  in-entered r call at e = subst (λ ph. r ≡ signal_row_or s pid p id l ph (row_in s pid p id l ph)) (sym at) e
-
-  pub in-asleep : (r : Row) (call : Sysno) (args : List ℕ) (since : ℕ) → l.phase ≡ phase.Asleep call args since → r ≡ taken_or s pid p id l (own_takeable l) (shared_takeable p l) (call_row s pid p id l true call args since) → r ≡ signal_row_or s pid p id l l.phase (row_in s pid p id l l.phase)
-  unfolding row_of signal_row_or row_in
-  in-asleep r call args since at e = subst (λ ph. r ≡ signal_row_or s pid p id l ph (row_in s pid p id l ph)) (sym at) e
-
-  pub in-exiting : (r : Row) (call : Sysno) (args : List ℕ) (result : Res) → l.phase ≡ phase.Exiting call args result → r ≡ taken_or s pid p id l (own_takeable l) (shared_takeable p l) (row_of p l (Returned call)) → r ≡ signal_row_or s pid p id l l.phase (row_in s pid p id l l.phase)
-  unfolding row_of signal_row_or row_in
-  in-exiting r call args result at e = subst (λ ph. r ≡ signal_row_or s pid p id l ph (row_in s pid p id l ph)) (sym at) e
-
-  pub in-faulted : (r : Row) (f : Flt) (address : ℕ) → l.phase ≡ phase.Faulted f address → r ≡ row_of p l (Posted f address) → r ≡ signal_row_or s pid p id l l.phase (row_in s pid p id l l.phase)
-  unfolding row_of signal_row_or row_in
-  in-faulted r f address at e = subst (λ ph. r ≡ signal_row_or s pid p id l ph (row_in s pid p id l ph)) (sym at) e
-
--- ---- what is built
-
-third : (d c x : Bool) → d ≡ false → c ≡ false → (d || (c || x)) ≡ true → x ≡ true
-third false false x off none e = e
-third true c x off none e = absurd (cc)
-third false true x off none e = absurd (cc)
-
-pub second : (t x : Bool) → t ≡ false → (t || x) ≡ true → x ≡ true
-second false x off e = e
-second true x off e = absurd (cc)
+  row-phase off none current = rw (off, current) (unposted l.phase _ none)
 
 -- what is built of an lwp that is not directed and has no current signal
 pub built-in : (p : TracedProcess) (l : TracedLwp) → l.control.directed ≡ false → l.current ≡ None → is_built_turn p l ≡ true → is_built_in p l l.phase ≡ true
 unfolding is_built_turn
-built-in p l off current built = third l.control.directed (is_some l.current) (is_built_in p l l.phase) off (ap is_some current) built
+built-in p l off current built = rw (off, current) at built
 
 -- ---- the current signal
 
@@ -135,7 +100,3 @@ pub ruleset performing = (row-exit, row-getpid, row-aborted, row-performed)
 pub ruleset rows = (row-directed, row-posted, row-current, row-phase, built-in)
 
 pub ruleset acting = (acted-ignored, acted-stopped, acted-died, acted-caught)
-
-pub ruleset phases = (in-user, in-entered, in-asleep, in-exiting, in-faulted)
-
-pub ruleset tests = (second)

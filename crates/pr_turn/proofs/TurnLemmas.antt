@@ -1,4 +1,5 @@
 use Rattle.std.proofs.Common.{◌≡◌, ℕ, ◌-◌, ◌^◌, ◌&&◌, ◌||◌, not, Bool, true, false, cond, Option, Some, None, IsSome, is_some, List, [], ◌∷◌, refl, sym, ap, ◌∙◌, subst, inl, inr}
+use Rattle.std.proofs.lemmas.Bool.{cases_Bool}
 use Rattle.std.proofs.lemmas.Option.{same_Some}
 use Rattle.pr_num.specs.ById.{change_under, put_under, under}
 use Rattle.pr_num.proofs.ByIdLaws.{change_under-change_under, put_under-found, put_under-same}
@@ -7,7 +8,7 @@ use Rattle.pr_num.specs.declared.faults.Flt.TheVariants.{Trace, Watch}
 use Rattle.pr_num.specs.declared.syscalls.Sysno.{Sysno}
 use Rattle.pr_num.specs.declared.syscalls.Sysno.TheVariants as sysno
 use Rattle.pr_num.specs.declared.signals.Sig.{Sig}
-use Rattle.pr_model.specs.Built.{is_built_in, is_built_syscall, is_built_turn}
+use Rattle.pr_model.specs.Built.{is_built_syscall, is_built_turn}
 use Rattle.pr_model.specs.Signals.{has_takeable}
 use Rattle.pr_model.specs.Changes.{all_changed, changed, ended, ends_process, space_is, takes_shared, job_stops, with_space, with_shared_taken, with_job_stop}
 use Rattle.pr_model.specs.InstructionEffects.{InstructionEffect, instruction_effect, runs, calls, faults, runs_into_watch}
@@ -63,7 +64,7 @@ module _ (s : TracedSystem) (pid : ℕ) (p : TracedProcess) (id : ℕ) (l : Trac
   going (phase.Exiting call args result) at = refl
   going (phase.Faulted f address) at = refl
   going (phase.Asleep call args since) at =
-      subst (λ ph. (may_go_on s pid p id l (phase.Asleep call args since) && (l.control.directed || (is_some l.current || is_built_in p l ph))) ≡ (l.control.directed || (is_some l.current || is_built_in p l ph))) (sym at) (absorbed l.control.directed (is_some l.current) (has_takeable p l) l.control.abort (is_ready s pid p id l since call args) (is_built_syscall call) (ready since call args))
+      rw at (absorbed l.control.directed (is_some l.current) (has_takeable p l) l.control.abort (is_ready s pid p id l since call args) (is_built_syscall call) (ready since call args))
 
   pub may-built : (not (is_held_back p id l) && is_built_turn p l) ≡ may_turn s pid p id l
   unfolding may_turn
@@ -120,15 +121,10 @@ module _ (s : TracedSystem) (pid : ℕ) (p : TracedProcess) (id : ℕ) (l : Trac
   after-job_stop g move =
       ap (λ ps. record s { processes = ps }) (sym (change_under-change_under pid (with_job_stop g) (with_lwp id (moved traced move)) s.processes))
 
-  -- one of two rows
-  either : (b : Bool) (x y : Row) → with_process pid (process_after id x.transition) s ≡ after_transition traced pid p id l x.transition s → with_process pid (process_after id y.transition) s ≡ after_transition traced pid p id l y.transition s → with_process pid (process_after id (cond b x y).transition) s ≡ after_transition traced pid p id l (cond b x y).transition s
-  either true x y e f = e
-  either false x y e f = f
-
   after-executed : (e : InstructionEffect) → with_process pid (process_after id (executed_row p l e).transition) s ≡ after_transition traced pid p id l (executed_row p l e).transition s
   unfolding executed_row ran_row entered_row incurred_row watched_row ran entered incurred trapped stored_in
-  after-executed (runs regs None) = either l.control.step _ _ (after-move _) (after-move _)
-  after-executed (runs regs (Some store)) = either l.control.step _ _ (after-store _ _) (after-store _ _)
+  after-executed (runs regs None) = elim (cases_Bool l.control.step) [ inl on ↦ rw on (after-move _) | inr off ↦ rw off (after-move _) ]
+  after-executed (runs regs (Some store)) = elim (cases_Bool l.control.step) [ inl on ↦ rw on (after-store _ _) | inr off ↦ rw off (after-store _ _) ]
   after-executed (calls call regs) = after-move _
   after-executed (faults f address) = after-move _
   after-executed (runs_into_watch address regs None) = after-move _
@@ -146,7 +142,7 @@ module _ (s : TracedSystem) (pid : ℕ) (p : TracedProcess) (id : ℕ) (l : Trac
   after-row (Dropped g) on = after-move _
   after-row (JobStopped g) on = after-job_stop g _
   after-row (Caught c handler) on = after-move _
-  after-row (Returned call) on = either l.control.step _ _ (after-move _) (after-move _)
+  after-row (Returned call) on = elim (cases_Bool l.control.step) [ inl marked ↦ rw marked (after-move _) | inr unmarked ↦ rw unmarked (after-move _) ]
   after-row Executed on = after-executed (instruction_effect p.space p.control.areas l.regs)
 
   -- an lwp that stays as it was leaves its system as it was
@@ -186,8 +182,8 @@ module _ (s new : TracedSystem) (pid id : ℕ) (next : Next) where
       let stands : lwp_of p id ≡ Some is.lwp = ap (λ q. lwp_of q id) same ∙ is.stands in
       let row : row_of p is.lwp next ≡ row_for s pid is.process id is.lwp = ap (λ q. row_of q is.lwp next) same ∙ is.row in
       let put : record s { processes = put_under pid p1 s.processes } ≡ with_process pid (process_after id (row_of p is.lwp next).transition) s =
-      ap (λ q. record s { processes = put_under pid q s.processes }) (changes is.lwp stands)
-      ∙ ap (λ ps. record s { processes = ps }) (put_under-found pid (process_after id (row_of p is.lwp next).transition) p s.processes there)
+          ap (λ q. record s { processes = put_under pid q s.processes }) (changes is.lwp stands)
+          ∙ ap (λ ps. record s { processes = ps }) (put_under-found pid (process_after id (row_of p is.lwp next).transition) p s.processes there)
       in
       let made : new ≡ after_transition traced pid p id is.lwp (row_of p is.lwp next).transition s = e ∙ put ∙ after-row s pid p id is.lwp next on in
       record {
@@ -219,7 +215,6 @@ module _ (s new : TracedSystem) (pid id : ℕ) (next : Next) where
         used = λ n h. subst (AllUsedAtMost n) (sym (e ∙ ended-live status is.process is.found)) (AllUsedAtMost-ended n pid is.process status s h);
       }
 
-module _ (s : TracedSystem) (pid id : ℕ) (next : Next) where
   -- the process and the lwp of a row that is next stand
   pub next-found : IsNext s pid id next → IsSome (under pid s.processes)
   next-found is = ap is_some (live_process-found s pid is.process is.found)

@@ -96,7 +96,7 @@ fn made_by(effect: Effect) -> Made
 }
 
 /// What a row that changes its lwp alone makes of the lwp of an id, and what it did.
-#[tactic(auto, using(pr_num::proofs::ByIdLaws::by_id_laws, std::proofs::lemmas::Option::same_Some))]
+#[tactic(auto, using(pr_num::proofs::ByIdLaws::by_id_laws, std::proofs::lemmas::Option::same_Some), unfolding(crate::specs::Making::moved_by))]
 fn move_under(lwps: &mut ById<Lwp>, id: u32, next: Next) -> Made
     requires found { IsSome (under id lwps.old) }
     requires own { is_own_row next ≡ true }

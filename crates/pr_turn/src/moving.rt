@@ -5,7 +5,7 @@ ghost use Rattle.pr_model.specs.InstructionEffects.{instruction_effect};
 ghost use Rattle.pr_model.specs.Machines.{call_over, fault_posted, step_taken, stopped_as_directed, traced};
 ghost use Rattle.pr_model.specs.Moves.{drops, leaves, moved, posts, stops, takes};
 ghost use Rattle.pr_model.specs.Registers.{stored, with_result};
-ghost use Rattle.pr_turn.specs.Making.{effect_of, executed_by, finished, keeps_registers, moved_by};
+ghost use Rattle.pr_turn.specs.Making.{effect_of, executed_by, finished, keeps_registers};
 ghost use Rattle.pr_model.specs.Signals.{current_of, handler_registers};
 ghost use Rattle.pr_turn.specs.NextRows.{caught_move, fits, is_own_row, move_of};
 
@@ -162,11 +162,11 @@ fn catch_signal(lwp: &mut Lwp, current: Current, handler: u64)
 }
 
 /// What a row that changes its lwp alone makes of it.
-#[tactic(auto, unfolding(crate::specs::NextRows::move_of, crate::specs::Making::moved_by))]
+#[tactic(auto, unfolding(crate::specs::NextRows::move_of))]
 pub fn move_lwp(lwp: &mut Lwp, next: Next)
     requires own { is_own_row next ≡ true }
     requires fits { fits lwp.old next ≡ true }
-    ensures { lwp.new ≡ moved_by next lwp.old }
+    ensures { lwp.new ≡ moved traced (move_of lwp.old next) lwp.old }
 {
     match next {
         Next::Requested => stop(lwp),
@@ -207,11 +207,7 @@ pub fn execute_lwp(lwp: &mut Lwp, space: &mut Space, areas: &Areas) -> Effect
     ensures space { space.new ≡ space_after (instruction_effect space.old areas.now lwp.old.regs) space.old }
     ensures effect { result ≡ effect_of lwp.old (instruction_effect space.old areas.now lwp.old.regs) }
 {
-    match step(lwp, space, areas) {
-        Ok(effect) => {
-            finish(lwp, effect);
-            effect
-        }
-        Err(_) => unreachable!(),
-    }
+    let effect = step(lwp, space, areas).unwrap();
+    finish(lwp, effect);
+    effect
 }

@@ -20,10 +20,7 @@ pub enum Next {
     /// The lwp stops as it was directed to.
     Requested,
     /// The signal of its fault is posted.
-    Posted {
-        fault: Flt,
-        address: u64,
-    },
+    Posted { fault: Flt, address: u64 },
     /// The call at which it is, or in which it sleeps, gives a result.
     Gave {
         woken: bool,
@@ -32,10 +29,7 @@ pub enum Next {
         result: Res,
     },
     /// What it does ends its process, with this wait status.
-    Ends {
-        did: Did,
-        status: u64,
-    },
+    Ends { did: Did, status: u64 },
     /// It goes back from a call to its program.
     Returned(Sysno),
     /// It runs an instruction.
@@ -49,10 +43,7 @@ pub enum Next {
     /// Its current signal stops its process by job control.
     JobStopped(Sig),
     /// Its current signal is caught: the handler at this address runs.
-    Caught {
-        current: Current,
-        handler: u64,
-    },
+    Caught { current: Current, handler: u64 },
 }
 
 /// Whether an lwp is held back: it stands on an event of interest, or is suspended, or its process is stopped by job
@@ -244,11 +235,10 @@ fn acted(process: &Proc, lwp: &Lwp, current: Current) -> Next
 // ---- the table
 
 /// The row of the signal that an lwp takes, if there is one: from those that pend for it alone first.
-#[tactic(auto, unfolding(crate::specs::NextRows::row_of, pr_model::specs::Signals::own_takeable, pr_model::specs::Signals::shared_takeable, pr_model::specs::Signals::takeable, pr_parts::specs::SignalRules::takeable_signal))]
+#[tactic(auto, unfolding(crate::specs::NextRows::row_of, pr_model::specs::Signals::own_takeable, pr_model::specs::Signals::shared_takeable))]
 fn taken(process: &Proc, lwp: &Lwp) -> Option<Next>
     ensures row { (s : TracedSystem) (pid id : ℕ) (otherwise : Row) → row_or process.now lwp.now result otherwise ≡ taken_or s pid process.now id lwp.now (own_takeable lwp.now) (shared_takeable process.now lwp.now) otherwise }
     ensures fits { IfSome result (λ next. fits lwp.now next ≡ true) }
-    ensures some { is_some result ≡ has_takeable process.now lwp.now }
 {
     if let Some(signal) = lwp.pending.set().minus(lwp.held).first() {
         return Some(Next::TookOwn(signal));
@@ -270,7 +260,6 @@ fn taken_or(process: &Proc, lwp: &Lwp, otherwise: Next) -> Next
 }
 
 /// An lwp that sleeps takes a signal, or its call is over.
-#[tactic(auto, using(crate::proofs::NextLemmas::tests))]
 fn asleep(pid: u32, process: &Proc, lwp: &Lwp, call: Sysno, args: [u64; 6]) -> Next
     requires { (has_takeable process.now lwp.now || (lwp.now.control.abort || is_built_syscall call)) ≡ true }
     ensures row { (s : TracedSystem) (id since : ℕ) → row_of process.now lwp.now result ≡ taken_or s pid process.now id lwp.now (own_takeable lwp.now) (shared_takeable process.now lwp.now) (call_row s pid process.now id lwp.now true call args since) }
@@ -282,34 +271,18 @@ fn asleep(pid: u32, process: &Proc, lwp: &Lwp, call: Sysno, args: [u64; 6]) -> N
     }
 }
 
-/// An lwp in its program takes a signal, or runs an instruction.
-fn in_program(process: &Proc, lwp: &Lwp) -> Next
-    ensures row { (s : TracedSystem) (pid id : ℕ) → row_of process.now lwp.now result ≡ taken_or s pid process.now id lwp.now (own_takeable lwp.now) (shared_takeable process.now lwp.now) (row_of process.now lwp.now Next.Executed) }
-    ensures fits { fits lwp.now result ≡ true }
-{
-    taken_or(process, lwp, Next::Executed)
-}
-
-/// An lwp on its way out of a call takes a signal, or goes back to its program.
-fn leaving(process: &Proc, lwp: &Lwp, call: Sysno) -> Next
-    ensures row { (s : TracedSystem) (pid id : ℕ) → row_of process.now lwp.now result ≡ taken_or s pid process.now id lwp.now (own_takeable lwp.now) (shared_takeable process.now lwp.now) (row_of process.now lwp.now (Next.Returned call)) }
-    ensures fits { fits lwp.now result ≡ true }
-{
-    taken_or(process, lwp, Next::Returned(call))
-}
-
 /// An lwp takes a signal, or its phase decides; one at a call that it has not made takes none.
-#[tactic(auto, using(crate::proofs::NextLemmas::phases))]
+#[tactic(auto, unfolding(crate::specs::NextRows::row_of, pr_model::specs::Rows::signal_row_or, pr_model::specs::Rows::row_in))]
 fn in_phase(pid: u32, process: &Proc, lwp: &Lwp) -> Next
     requires { is_built_in process.now lwp.now lwp.now.phase ≡ true }
     ensures row { (s : TracedSystem) (id : ℕ) → row_of process.now lwp.now result ≡ signal_row_or s pid process.now id lwp.now lwp.now.phase (row_in s pid process.now id lwp.now lwp.now.phase) }
     ensures fits { fits lwp.now result ≡ true }
 {
     match lwp.phase {
-        Phase::User => in_program(process, lwp),
+        Phase::User => taken_or(process, lwp, Next::Executed),
         Phase::Entered(call) => at_call(pid, lwp, false, call, arguments_of(&lwp.regs)),
         Phase::Asleep { call, args, .. } => asleep(pid, process, lwp, call, args),
-        Phase::Exiting { call, .. } => leaving(process, lwp, call),
+        Phase::Exiting { call, .. } => taken_or(process, lwp, Next::Returned(call)),
         Phase::Faulted { fault, address } => Next::Posted { fault, address },
     }
 }

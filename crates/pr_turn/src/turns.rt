@@ -1,5 +1,5 @@
 //! One turn of an lwp, as it changes the whole system.
-ghost use Rattle.std.specs.Prelude.{◌≡◌, ℕ, ◌+◌, ◌-◌, ◌^◌, true, false, Some, IsSome, IfOk, IsOk};
+ghost use Rattle.std.specs.Prelude.{◌≡◌, ◌-◌, ◌^◌, true, false, Some, IsSome, IfOk, IsOk};
 ghost use Rattle.std.specs.Option.{ForSome};
 ghost use Rattle.pr_num.specs.ById.{change_under, under};
 ghost use Rattle.pr_model.specs.LwpTurns.{can_move, counted, may_turn, turn_of, with_counted};
@@ -165,8 +165,6 @@ pub fn turn(sys: &mut Sys, pid: u32, lwp: u32) -> Result<Turned, NoMemory>
     // the counts of use do not wrap
     requires room { AllUsedAtMost (2 ^ 64 - 2) sys.old }
     ensures ok { IfOk result (λ turned. turn_of sys.old pid lwp ≡ Some (record { system = sys.new; turned = turned })) }
-    // a turn adds at most 1 to each count
-    ensures used { (n : ℕ) → AllUsedAtMost n sys.old → AllUsedAtMost (n + 1) sys.new }
     ensures sure { IsOk result }
 {
     let next = next_of(sys, pid, lwp);
