@@ -1,4 +1,4 @@
-//! What the program writes, from a history to a sink, entry by entry.
+//! What the program writes, from a history to a sink, in blocks of lines.
 #![tactic(auto)]
 
 mod cuts;

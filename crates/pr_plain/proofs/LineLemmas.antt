@@ -30,7 +30,7 @@ no_newline w h = All-weaker (λ b. is_word_byte b ≡ true) (λ b. is_newline b 
 
 -- ---- words of a line
 
-joined-words : (w : List ℕ) (ws : List (List ℕ)) → list_all is_word (w ∷ ws) ≡ true → slice_split is_blank (joined (w ∷ ws)) ≡ w ∷ ws
+pub joined-words : (w : List ℕ) (ws : List (List ℕ)) → list_all is_word (w ∷ ws) ≡ true → slice_split is_blank (joined (w ∷ ws)) ≡ w ∷ ws
 unfolding joined behind_blank
 joined-words w [] h =
     ap (slice_split is_blank) (append-nil w) ∙ slice_split_none is_blank w (no_blank w (left_of (is_word w) true h))
@@ -50,7 +50,7 @@ spaced-newline [] h = All-nil (λ b. is_newline b ≡ false)
 spaced-newline (w ∷ ws) h =
     All-append (λ b. is_newline b ≡ false) (behind_blank w) (spaced ws) (All-cons (λ b. is_newline b ≡ false) blank w refl (no_newline w (left_of (is_word w) (list_all is_word ws) h))) (spaced-newline ws (right_of (is_word w) (list_all is_word ws) h))
 
-joined-newline : (w : List ℕ) (ws : List (List ℕ)) → list_all is_word (w ∷ ws) ≡ true → All (λ b. is_newline b ≡ false) (joined (w ∷ ws))
+pub joined-newline : (w : List ℕ) (ws : List (List ℕ)) → list_all is_word (w ∷ ws) ≡ true → All (λ b. is_newline b ≡ false) (joined (w ∷ ws))
 unfolding joined
 joined-newline w ws h =
     All-append (λ b. is_newline b ≡ false) w (spaced ws) (no_newline w (left_of (is_word w) (list_all is_word ws) h)) (spaced-newline ws (right_of (is_word w) (list_all is_word ws) h))

@@ -48,11 +48,11 @@ use Rattle.pr_plain.specs.Lines.{is_word_byte, is_word, names_words, has_words}
 record AllBytes (w : List ℕ) : Type 0 where
   each : list_all is_word_byte w ≡ true
 
-record AllWords (ws : List (List ℕ)) : Type 0 where
-  each : list_all is_word ws ≡ true
+pub record AllWords (ws : List (List ℕ)) : Type 0 where
+  pub each : list_all is_word ws ≡ true
 
-record IsWord (w : List ℕ) : Type 0 where
-  is : is_word w ≡ true
+pub record IsWord (w : List ℕ) : Type 0 where
+  pub is : is_word w ≡ true
 
 both : (a b : Bool) → a ≡ true → b ≡ true → (a && b) ≡ true
 both a b p q = ap (λ t. t && b) p ∙ q
@@ -107,7 +107,7 @@ words_append xs ys p q = record {
 one : (w : List ℕ) → IsWord w → AllWords (w ∷ [])
 one w p = words_cons w [] p none
 
-two : (v w : List ℕ) → IsWord v → IsWord w → AllWords (v ∷ w ∷ [])
+pub two : (v w : List ℕ) → IsWord v → IsWord w → AllWords (v ∷ w ∷ [])
 two v w p q = words_cons v (w ∷ []) p (one w q)
 
 three : (u v w : List ℕ) → IsWord u → IsWord v → IsWord w → AllWords (u ∷ v ∷ w ∷ [])
@@ -133,7 +133,7 @@ decimal_from (suc k) n acc h =
     let more : AllBytes (digit_glyph false (n % 10) ∷ acc) = bytes_cons (digit_glyph false (n % 10)) acc (digit_byte n) h in
     either (λ w. IsWord w) (eqb (n / 10) 0) (digit_glyph false (n % 10) ∷ acc) (digits_onto (suc k) 10 false (n / 10) (digit_glyph false (n % 10) ∷ acc)) (word_of (digit_glyph false (n % 10)) acc more) (decimal_from k (n / 10) (digit_glyph false (n % 10) ∷ acc) more)
 
-decimal_word : (n : ℕ) → IsWord (decimal n)
+pub decimal_word : (n : ℕ) → IsWord (decimal n)
 unfolding digits
 decimal_word n = decimal_from 63 n [] no_bytes
 

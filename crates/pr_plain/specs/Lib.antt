@@ -1,6 +1,17 @@
 pub mod Buffers
+pub mod CallReading
+pub mod Cuts
+pub mod DecimalWords
+pub mod EntryForms
+pub mod EntryReading
 pub mod FileNames
 pub mod Forms
+pub mod Generated
 pub mod HexWords
+pub mod Histories
 pub mod HistoryText
 pub mod Lines
+pub mod PlainText
+pub mod Readings
+pub mod TurnReading
+pub mod WordReading

@@ -11,7 +11,9 @@ ghost use Rattle.pr_model.specs.declared.calls.Mode.{Mode as AnyMode};
 ghost use Rattle.pr_model.specs.declared.events.Entry.{Entry as AnyEntry};
 ghost use Rattle.pr_plain.specs.FileNames.{file_name, file_of_name, mode_name, mode_of_name};
 ghost use Rattle.pr_plain.specs.Forms.{first_word, same_call, same_did, same_reply};
+ghost use Rattle.pr_plain.specs.EntryForms.{has_form};
 ghost use Rattle.pr_plain.specs.HexWords.{hex_word, bytes_of_word};
+ghost use Rattle.pr_plain.specs.Histories.{history_text, BeginsWith, IsTextOf};
 ghost use Rattle.pr_plain.specs.HistoryText.{newline, did_words, call_words, reply_words, entry_words, entry_line, entry_text, entries_text};
 ghost use Rattle.pr_plain.specs.Lines.{is_blank, is_newline, is_word, has_words, entry_lines};
 
@@ -71,4 +73,13 @@ pub fn forms_are_told_by_their_first_word()
     ensures calls_and_turns { (c : AnyCall) (d : AnyDid) → bytes_eq (first_word (call_words c)) (first_word (did_words d)) ≡ false }
     ensures calls_and_times { (c : AnyCall) (n : ℕ) → first_word (call_words c) ≢ decimal n }
     ensures turns_and_times { (d : AnyDid) (n : ℕ) → first_word (did_words d) ≢ decimal n }
+{}
+
+/// The texts that begin with a history are its own text with anything behind it, and its own text without the last newline.
+/// So what is written of a history is read back.
+#[tactic(auto, using(crate::proofs::TextLaws::texts_of_histories))]
+pub fn a_history_is_in_its_text()
+    ensures whole { (es : List AnyEntry) (rest : List ℕ) → list_all has_form es ≡ true → BeginsWith (history_text es ++ rest) es }
+    ensures unended { (es : List AnyEntry) (text : List ℕ) → list_all has_form es ≡ true → text ++ newline ∷ [] ≡ history_text es → BeginsWith text es }
+    ensures only { (text : List ℕ) (es : List AnyEntry) → BeginsWith text es → IsTextOf text es }
 {}

@@ -10,7 +10,7 @@ use std::alloc::AllocError;
 
 /// Writes what a system call gave.
 #[tactic(auto, using(crate::proofs::BufferLemmas::kept), unfolding(crate::specs::HistoryText::result_words))]
-fn write_result(out: &mut Vec<u8>, res: Res) -> Result<(), AllocError>
+pub fn write_result(out: &mut Vec<u8>, res: Res) -> Result<(), AllocError>
     ensures all { OnOk result (out.new.items ≡ out.old.items ++ spaced (result_words res)) }
     ensures kept { StartsWith out.new.items out.old.items }
 {

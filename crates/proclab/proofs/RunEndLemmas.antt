@@ -1,18 +1,20 @@
 -- What is kept of a run, and how its status is caused.
 use Rattle.std.proofs.Common.{◌≡◌, ◌≢◌, ◌⊎◌, inl, inr, ⊎_elim, ℕ, Bool, true, false, List, [], Option, Some, None, is_some, Result, Ok, Err, IfOk, IfSome, refl, sym, ◌∙◌, ap, subst, arith}
 use Rattle.std.proofs.lemmas.List.{append-nil}
+use Rattle.pr_api.specs.MachineLaws.{machine-lawful}
+use Rattle.pr_api.specs.Views.{IsLawful}
 use Rattle.pr_model.specs.declared.events.Actor.{Actor}
 use Rattle.pr_model.specs.declared.events.Entry.{Entry}
 use Rattle.pr_run_laws.specs.Fronts.{IsFront}
 use Rattle.pr_run_laws.specs.ScenarioRuns.{IsKept, first_world, run_of}
-use Rattle.pr_run_laws.proofs.KeptLemmas.{run-kept}
+use Rattle.pr_run_laws.proofs.KeptLemmas.{first-fresh, first-told, run-kept}
 use Rattle.pr_scen.specs.Reading.{scenario_of}
 use Rattle.pr_scen.specs.declared.refusals.ScenFault.{ScenFault}
 use Rattle.pr_scen.specs.declared.scenarios.Scenario.{Scenario}
-use Rattle.pr_world.specs.Runs.{IsFresh}
-use Rattle.pr_world.specs.Worlds.{WorldState, after_moves, all_finished, end_of, end_with, next_actor, quiet_end}
-use Rattle.pr_world.proofs.NextLemmas.{moves-counted}
-use Rattle.pr_world.proofs.RestLemmas.{all-rest, next-can}
+use Rattle.pr_world.specs.Runs.{IsFresh, IsTold, after_moves}
+use Rattle.pr_world.specs.Worlds.{WorldState, all_finished, end_of, end_with, next_actor, quiet_end}
+use Rattle.pr_world.proofs.RestLemmas.{all-rest, next-acts}
+use Rattle.pr_world.proofs.RunLemmas.{moves-counted, moves-told}
 use Rattle.proclab.specs.Answers.{Answer, answer_of, answer_to, end_status, input_limit, ran, ran_so, refused_at}
 use Rattle.proclab.specs.Ends.{EndsAs}
 use Rattle.proclab.specs.Giving.{IsGiven, RanOutLate}
@@ -22,7 +24,6 @@ use Rattle.proclab.specs.Rows.{Ends, Reads, LeftNothing, RanOutAfter, Says}
 use Rattle.proclab.specs.Statuses.{IsWhole}
 use Rattle.proclab.specs.declared.outcomes.Status.{Status}
 use Rattle.proclab.specs.declared.outcomes.Status.TheVariants.{Done, Usage, Refused, Spent, Stuck, ReadFailed, WriteFailed, OutOfMemory}
-use Rattle.proclab.proofs.RunLemmas.{first_world-fresh}
 
 -- ---- the history is kept
 
@@ -32,7 +33,7 @@ of_scenario quiet old new input (Err fault) spelt took h is = inl is
 of_scenario quiet old new input (Ok s) spelt took h is =
     let front : IsFront h (run_of s).kernel.history = record { more = []; is = sym is ∙ sym (append-nil h) } in
     let run : IsAfterMoves input h = record { scenario = s; spelt = spelt; moves = s.turns; within = omega arith; is = is; front = front } in
-    inr (record { input = input; took = took; run = run; kept = subst (λ (x : List Entry). IsKept s x) (sym is) (run-kept input s s.turns spelt) })
+    inr (record { input = input; took = took; run = run; kept = subst (λ (x : List Entry). IsKept s x) (sym is) (run-kept s s.turns) })
 
 of_answer : (quiet : Bool) (old new : Option (List ℕ)) (input : Option (List ℕ)) (h : List Entry) → Took input_limit old new input → h ≡ (answer_to quiet input).history → HistoryIsKept old new h
 unfolding answer_to refused_at
@@ -42,7 +43,7 @@ of_answer quiet old new (Some input) h took is = of_scenario quiet old new input
 of_way : (old new : Option (List ℕ)) (input : List ℕ) (h : List Entry) → TookAll input_limit old new input → (h ≡ []) ⊎ IsAfterMoves input h → HistoryIsKept old new h
 of_way old new input h took (inl none) = inl none
 of_way old new input h took (inr run) =
-    inr (record { input = input; took = took; run = run; kept = subst (λ (x : List Entry). IsKept run.scenario x) (sym run.is) (run-kept input run.scenario run.moves run.spelt) })
+    inr (record { input = input; took = took; run = run; kept = subst (λ (x : List Entry). IsKept run.scenario x) (sym run.is) (run-kept run.scenario run.moves) })
 
 of_early : (old new : Option (List ℕ)) (input : Option (List ℕ)) (h : List Entry) (w v : Option (List ℕ)) → Took input_limit old new input → RanOutEarly true input h w v → HistoryIsKept old new h
 of_early old new None h w v took early = inl early.left
@@ -79,19 +80,22 @@ history-kept quiet old new status h r = by (status_cases status)
 
 -- ---- a scenario is run
 
-ended : (first : WorldState) (n : ℕ) → IsFresh first → (next : Option Actor) → next_actor (after_moves n first) ≡ next → EndsAs n (after_moves n first) (end_status (end_with (after_moves n first) next))
+told-lawful : (w : WorldState) → IsTold w → IsLawful w.kernel
+told-lawful w t = subst IsLawful (sym t.is) (machine-lawful t.machine w.kernel.history w.kernel.places)
+
+ended : (first : WorldState) (n : ℕ) → IsTold first → IsFresh first → (next : Option Actor) → next_actor (after_moves n first) ≡ next → EndsAs n (after_moves n first) (end_status (end_with (after_moves n first) next))
 unfolding end_status
-ended first n fresh None rest = by (all_finished (after_moves n first)) refl
+ended first n told fresh None rest = by (all_finished (after_moves n first)) refl
   where
     by : (b : Bool) → all_finished (after_moves n first) ≡ b → EndsAs n (after_moves n first) (end_status (quiet_end b))
-    by true finished = inl (refl, record { rest = λ actor. all-rest (after_moves n first) actor rest; finished = finished })
-    by false unfinished = inr (inr (refl, record { rest = λ actor. all-rest (after_moves n first) actor rest; unfinished = unfinished }))
-ended first n fresh (Some actor) next =
-    inr (inl (refl, record { mover = actor; can_move = next-can (after_moves n first) actor next; full = moves-counted first n fresh (ap is_some next) }))
+    by true finished = inl (refl, record { rest = λ actor. all-rest (after_moves n first) actor (told-lawful (after_moves n first) (moves-told first n told)) rest; finished = finished })
+    by false unfinished = inr (inr (refl, record { rest = λ actor. all-rest (after_moves n first) actor (told-lawful (after_moves n first) (moves-told first n told)) rest; unfinished = unfinished }))
+ended first n told fresh (Some actor) next =
+    inr (inl (refl, record { mover = actor; can_move = next-acts (after_moves n first) actor next; full = moves-counted first n told fresh (ap is_some next) }))
 
 run_ended : (s : Scenario) → EndsAs s.turns (run_of s) (end_status (end_of (run_of s)))
 unfolding end_of
-run_ended s = ended (first_world s) s.turns (first_world-fresh s) (next_actor (run_of s)) refl
+run_ended s = ended (first_world s) s.turns (first-told s) (first-fresh s) (next_actor (run_of s)) refl
 
 run_given : (quiet : Bool) (s : Result Scenario ScenFault) (status : Status) → (IsWhole status → status ≡ (answer_of quiet s).status) → IfOk s (λ scenario. IsWhole status → EndsAs scenario.turns (run_of scenario) status)
 unfolding answer_of ran ran_so

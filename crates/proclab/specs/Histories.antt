@@ -35,7 +35,7 @@ pub record RanOutEarly (runs : Bool) (input : Option (List ℕ)) (history : List
   pub left : IsLeft runs input history
 
 -- What the history of a call is where there is one: that of the run of the scenario that was read, after so many moves.
--- It is legal and follows the protocol, and tracing was transparent.
+-- It is legal and follows the protocol, and where it is passive, tracing is transparent in it.
 pub record IsHistoryOfRun (left_old left_new : Option (List ℕ)) (history : List Entry) : Type 0 where
   pub input : List ℕ
   pub took : TookAll input_limit left_old left_new input

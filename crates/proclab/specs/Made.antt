@@ -2,7 +2,14 @@ use Rattle.std.specs.Prelude.{◌≡◌, ◌≤◌, ◌⊎◌, ℕ, List, [], Op
 use Rattle.pr_model.specs.declared.events.Entry.{Entry}
 use Rattle.pr_run_laws.specs.ScenarioRuns.{first_world}
 use Rattle.pr_scen.specs.declared.scenarios.Scenario.{Scenario}
-use Rattle.pr_world.specs.Worlds.{WorldState, after_moves}
+use Rattle.pr_api.specs.Views.{KernelView, kernel_of}
+use Rattle.pr_kern.specs.Kernels.{Kernel}
+use Rattle.pr_world.specs.Runs.{after_moves}
+use Rattle.pr_world.specs.Worlds.{WorldState}
+
+-- the kernel as a world sees it
+abbrev pub kern_view : Kernel → KernelView
+kern_view k = kernel_of k.state k.history k.places
 
 -- A history that a world has on its way: that after so many moves, of as many as there are places for entries.
 pub record IsWorldsWay (first : WorldState) (history : List Entry) : Type 0 where

@@ -39,7 +39,8 @@ pub fn serve<R: Threads + Wait + Sync, S: Source, K: Sink, G: Gate + Sync>(
     // Words whose command is not built leave the source alone.
     ensures unread { work_of (command_of (map string_bytes words.now)) ≡ Explains → source.new ≡ source.old }
 
-    // However the call ends: a legal history that follows the protocol, and in which tracing is transparent.
+    // However the call ends: a legal history that follows the protocol, and in which, where it is passive, tracing is
+    // transparent.
     ensures kept { HistoryIsKept (S.left source.old) (S.left source.new) result.history.entries }
 {
     outcome_of(carry_out(alloc, work_of(command_of(words)), source, sink))

@@ -1,0 +1,104 @@
+//! Steps of the untraced machine and of traces, as text.
+ghost use Rattle.std.specs.Prelude.{◌≡◌, ◌++◌, [], ◌∷◌, decimal, OnOk};
+ghost use Rattle.pr_plain.specs.HistoryText.{spaced, joined, result_words, lwp_text};
+ghost use Rattle.pr_num.specs.Syscalls.{syscall_name};
+ghost use Rattle.pr_plain.specs.PlainText.{step_words, step_text, plain_heading, trace_heading};
+
+use crate::turns::write_result;
+use crate::words::{write_lwp, write_number, write_word};
+use pr_model::{Res, Step};
+use pr_num::{NoMemory, Sysno};
+use std::alloc::AllocError;
+
+/// Writes an lwp, what it did, and of what.
+#[tactic(auto, unfolding(crate::specs::HistoryText::behind_blank))]
+fn write_named(
+    out: &mut Vec<u8>,
+    pid: u32,
+    lwp: u32,
+    word: &[u8],
+    name: &[u8],
+) -> Result<(), AllocError>
+    ensures { OnOk result (out.new.items ≡ out.old.items ++ (lwp_text pid lwp ++ spaced (word.now ∷ name.now ∷ []))) }
+{
+    write_lwp(out, pid, lwp)?;
+    write_word(out, word)?;
+    write_word(out, name)
+}
+
+/// Writes an lwp, what became of a call that it made, the call, and what it gave.
+fn write_gave(
+    out: &mut Vec<u8>,
+    pid: u32,
+    lwp: u32,
+    word: &[u8],
+    call: Sysno,
+    res: Res,
+) -> Result<(), AllocError>
+    ensures { OnOk result (out.new.items ≡ out.old.items ++ (lwp_text pid lwp ++ spaced (word.now ∷ syscall_name call ∷ result_words res))) }
+{
+    write_named(out, pid, lwp, word, call.name().as_bytes())?;
+    write_result(out, res)
+}
+
+/// Writes what a step is.
+#[tactic(auto, unfolding(crate::specs::PlainText::step_words, crate::specs::HistoryText::joined, crate::specs::HistoryText::behind_blank))]
+fn write_step_words(out: &mut Vec<u8>, step: Step) -> Result<(), AllocError>
+    ensures { OnOk result (out.new.items ≡ out.old.items ++ joined (step_words step)) }
+{
+    match step {
+        Step::Exec(pid, lwp) => {
+            write_lwp(out, pid, lwp)?;
+            write_word(out, b"exec")
+        }
+        Step::Call(pid, lwp, call, res) => write_gave(out, pid, lwp, b"call", call, res),
+        Step::Sleep(pid, lwp, call) => {
+            write_named(out, pid, lwp, b"sleep", call.name().as_bytes())
+        }
+        Step::Finish(pid, lwp, call, res) => write_gave(out, pid, lwp, b"finish", call, res),
+        Step::Fault(pid, lwp, fault) => {
+            write_named(out, pid, lwp, b"fault", fault.name().as_bytes())
+        }
+        Step::Take(pid, lwp, sig) => write_named(out, pid, lwp, b"take", sig.name().as_bytes()),
+        Step::Act(pid, lwp, sig) => write_named(out, pid, lwp, b"act", sig.name().as_bytes()),
+        Step::Spawn(program) => {
+            out.extend_from_slice(b"spawn")?;
+            write_word(out, program.as_slice())
+        }
+        Step::Kill(pid, sig) => {
+            out.extend_from_slice(b"kill")?;
+            write_number(out, pid as u64)?;
+            write_number(out, sig)
+        }
+        Step::Tick => out.extend_from_slice(b"tick"),
+    }
+}
+
+/// Writes the line of a step, with the newline that ends it.
+#[tactic(auto, unfolding(crate::specs::PlainText::step_text))]
+pub fn write_step(out: &mut Vec<u8>, step: Step) -> Result<(), NoMemory>
+    ensures { OnOk result (out.new.items ≡ out.old.items ++ step_text step) }
+{
+    write_step_words(out, step)?;
+    Ok(out.extend_from_slice(b"\n")?)
+}
+
+/// Writes the line above the steps of a run, of which there are so many.
+#[tactic(auto, unfolding(crate::specs::HistoryText::joined, crate::specs::PlainText::plain_heading))]
+pub fn write_plain_heading(out: &mut Vec<u8>, steps: usize) -> Result<(), NoMemory>
+    ensures { OnOk result (out.new.items ≡ out.old.items ++ plain_heading steps) }
+{
+    out.extend_from_slice(b"plain")?;
+    write_number(out, steps as u64)?;
+    Ok(out.extend_from_slice(b"\n")?)
+}
+
+/// Writes the line above a trace, which has so many steps.
+#[tactic(auto, unfolding(crate::specs::HistoryText::joined, crate::specs::PlainText::trace_heading))]
+pub fn write_trace_heading(out: &mut Vec<u8>, steps: usize) -> Result<(), NoMemory>
+    ensures { OnOk result (out.new.items ≡ out.old.items ++ trace_heading steps) }
+{
+    out.extend_from_slice(b"trace")?;
+    write_number(out, steps as u64)?;
+    Ok(out.extend_from_slice(b"\n")?)
+}

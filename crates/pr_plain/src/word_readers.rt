@@ -1,0 +1,190 @@
+//! Words of a line, taken one after another.
+ghost use Rattle.std.specs.Prelude.{◌≡◌, ◌<◌, ◌++◌, [], ◌∷◌, IfSome, IfOk, OnOk};
+ghost use Rattle.pr_plain.specs.HexWords.{digit_value, byte_of, bytes_of_digits, bytes_of_word};
+ghost use Rattle.pr_plain.specs.Readings.{Says, Gives};
+ghost use Rattle.pr_plain.specs.WordReading.{behind_word, number_at, id_at, bytes_at, syscall_at, fault_at, signal_of, signal_at, errno_at, file_at, mode_at, program_at};
+
+use crate::name_readers::{file_of_name, mode_of_name};
+use crate::numerals::{id_of, number_of};
+use crate::pieces::Pieces;
+use crate::refusals::Refused;
+use pr_asm::name_of;
+use pr_model::{File, Mode};
+use pr_num::{Bytes, Errno, Flt, Name, NoMemory, Sig, Sysno};
+use std::alloc::Global;
+
+/// Takes this word, if it is the next.
+#[tactic(auto, unfolding(crate::specs::WordReading::behind_word))]
+pub fn pass(words: &mut Pieces<'_>, word: &[u8]) -> Option<()>
+    ensures { Says (λ _. words.new) result (behind_word word.now words.old) }
+{
+    if words.next()? == word {
+        Some(())
+    } else {
+        None
+    }
+}
+
+/// Takes a number.
+#[tactic(auto, unfolding(crate::specs::WordReading::number_at))]
+pub fn number_at(words: &mut Pieces<'_>) -> Option<u64>
+    ensures { Says (λ n. (n, words.new)) result (number_at words.old) }
+{
+    number_of(words.next()?)
+}
+
+/// Takes a number below 2^32.
+#[tactic(auto, unfolding(crate::specs::WordReading::id_at))]
+pub fn id_at(words: &mut Pieces<'_>) -> Option<u32>
+    ensures { Says (λ n. (n, words.new)) result (id_at words.old) }
+{
+    id_of(words.next()?)
+}
+
+/// Takes the name of a system call.
+#[tactic(auto, unfolding(crate::specs::WordReading::syscall_at))]
+pub fn syscall_at(words: &mut Pieces<'_>) -> Option<Sysno>
+    ensures { Says (λ c. (c, words.new)) result (syscall_at words.old) }
+{
+    Sysno::from_name(words.next()?)
+}
+
+/// Takes the name of a fault.
+#[tactic(auto, unfolding(crate::specs::WordReading::fault_at))]
+pub fn fault_at(words: &mut Pieces<'_>) -> Option<Flt>
+    ensures { Says (λ f. (f, words.new)) result (fault_at words.old) }
+{
+    Flt::from_name(words.next()?)
+}
+
+/// The signal of a whole name, with `SIG`.
+#[tactic(auto, unfolding(crate::specs::WordReading::signal_of))]
+fn signal_of(word: &[u8]) -> Option<Sig>
+    ensures { result ≡ signal_of word.now }
+{
+    let signal = Sig::from_name(word)?;
+    if word == signal.name().as_bytes() {
+        Some(signal)
+    } else {
+        None
+    }
+}
+
+/// Takes the whole name of a signal.
+#[tactic(auto, unfolding(crate::specs::WordReading::signal_at))]
+pub fn signal_at(words: &mut Pieces<'_>) -> Option<Sig>
+    ensures { Says (λ s. (s, words.new)) result (signal_at words.old) }
+{
+    signal_of(words.next()?)
+}
+
+/// Takes the name of an errno.
+#[tactic(auto, unfolding(crate::specs::WordReading::errno_at))]
+pub fn errno_at(words: &mut Pieces<'_>) -> Option<Errno>
+    ensures { Says (λ e. (e, words.new)) result (errno_at words.old) }
+{
+    Errno::from_name(words.next()?)
+}
+
+/// Takes the name of a file.
+#[tactic(auto, unfolding(crate::specs::WordReading::file_at))]
+pub fn file_at(words: &mut Pieces<'_>) -> Option<File>
+    ensures { Says (λ f. (f, words.new)) result (file_at words.old) }
+{
+    file_of_name(words.next()?)
+}
+
+/// Takes the name of a way to open a file.
+#[tactic(auto, unfolding(crate::specs::WordReading::mode_at))]
+pub fn mode_at(words: &mut Pieces<'_>) -> Option<Mode>
+    ensures { Says (λ m. (m, words.new)) result (mode_at words.old) }
+{
+    mode_of_name(words.next()?)
+}
+
+/// Takes the name of a program.
+#[tactic(auto, unfolding(crate::specs::WordReading::program_at))]
+pub fn program_at(words: &mut Pieces<'_>) -> Option<Name>
+    ensures { Says (λ n. (n, words.new)) result (program_at words.old) }
+{
+    name_of(words.next()?)
+}
+
+/// No bytes, with room for so many.
+fn with_capacity(alloc: Global, room: usize) -> Result<Vec<u8>, NoMemory>
+    ensures { IfOk result (λ bytes. bytes.items ≡ []) }
+{
+    Ok(Vec::with_capacity(alloc, room)?)
+}
+
+/// Puts a number behind others.
+pub fn put<T: Drop>(items: &mut Vec<T>, item: T) -> Result<(), NoMemory>
+    ensures { OnOk result (items.new.items ≡ items.old.items ++ item ∷ []) }
+{
+    Ok(items.push(item)?)
+}
+
+/// The value of a hex digit of lower case.
+#[tactic(auto, unfolding(crate::specs::HexWords::digit_value))]
+fn digit_value(c: u8) -> Option<u8>
+    ensures value { result ≡ digit_value c }
+    ensures range { IfSome result (λ d. d < 16) }
+{
+    match c {
+        b'0'..=b'9' => Some(c - b'0'),
+        b'a'..=b'f' => Some(c - b'a' + 10),
+        _ => None,
+    }
+}
+
+/// The byte of two hex digits.
+fn byte_of(high: u8, low: u8) -> Option<u8>
+    ensures { result ≡ byte_of (digit_value high) (digit_value low) }
+{
+    Some(16 * digit_value(high)? + digit_value(low)?)
+}
+
+/// The bytes that hex digits say, two digits a byte.
+#[tactic(auto, unfolding(crate::specs::HexWords::bytes_of_digits))]
+fn bytes_of_digits(alloc: Global, digits: &[u8]) -> Result<Bytes, Refused>
+    ensures { Gives (λ bytes. bytes) result (bytes_of_digits digits.now) }
+{
+    let mut bytes = with_capacity(alloc, digits.len() / 2)?;
+    let mut rest = digits;
+    while let [high, low, others @ ..] = rest {
+        let byte = byte_of(*high, *low).ok_or(Refused::Malformed)?;
+        put(&mut bytes, byte)?;
+        rest = others;
+    }
+    if rest.is_empty() {
+        Ok(Bytes::from_vec(bytes))
+    } else {
+        Err(Refused::Malformed)
+    }
+}
+
+/// The bytes that a word says; a dash says none.
+#[tactic(auto, unfolding(crate::specs::HexWords::bytes_of_word))]
+fn bytes_of_word(alloc: Global, word: &[u8]) -> Result<Bytes, Refused>
+    ensures { Gives (λ bytes. bytes) result (bytes_of_word word.now) }
+{
+    match word {
+        [] => Err(Refused::Malformed),
+        [c] => {
+            if *c != b'-' {
+                return Err(Refused::Malformed);
+            }
+            Ok(Bytes::from_vec(Vec::new(alloc)))
+        }
+        [_, _, ..] => bytes_of_digits(alloc, word),
+    }
+}
+
+/// Takes bytes in hex.
+#[tactic(auto, unfolding(crate::specs::WordReading::bytes_at))]
+pub fn bytes_at(alloc: Global, words: &mut Pieces<'_>) -> Result<Bytes, Refused>
+    ensures { Gives (λ bytes. (bytes, words.new)) result (bytes_at words.old) }
+{
+    let word = words.next().ok_or(Refused::Malformed)?;
+    bytes_of_word(alloc, word)
+}
