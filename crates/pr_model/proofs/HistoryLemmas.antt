@@ -7,7 +7,7 @@ use Rattle.std.specs.List.{flat_map}
 use Rattle.pr_num.specs.declared.faults.Flt.{Flt}
 use Rattle.pr_num.specs.declared.faults.Flt.TheVariants.{Ill, Bpt, Trace, Watch, Access, Bounds, Stack, Izdiv}
 use Rattle.pr_model.specs.UntracedMachine.{traced_step}
-use Rattle.pr_model.specs.UntracedSteps.{latest_first, steps_of, steps_after, steps_of_fault, steps_of_turn, steps_of_call, trace_of, trace_of_turn, untraced_steps, untraced_trace, was_returning}
+use Rattle.pr_model.specs.UntracedSteps.{Memory, nothing_yet, remembered, remembered_all, steps_of, steps_from, steps_of_fault, steps_of_turn, steps_of_call, trace_of, trace_of_turn, untraced_steps, untraced_trace}
 use Rattle.pr_model.specs.declared.events.Entry.{Entry}
 use Rattle.pr_model.specs.declared.calls.Call as calls
 use Rattle.pr_model.specs.declared.calls.Call.TheVariants as call
@@ -39,15 +39,15 @@ pub IsLegal-last : (n : ℕ) (s : TracedState) (h : List Entry) (e : Entry) → 
 IsLegal-last n s [] e legal = legal.0
 IsLegal-last n s (x ∷ h) e legal = IsLegal-last n (after s x) h e legal.1
 
-steps_after-push : (before h : List Entry) (e : Entry) → steps_after before (h ++ e ∷ []) ≡ steps_after before h ++ steps_of (latest_first before h) e
-steps_after-push before [] e = append-nil (steps_of before e)
-steps_after-push before (x ∷ h) e =
-    ap (λ (steps : List Step). steps_of before x ++ steps) (steps_after-push (x ∷ before) h e)
-    ∙ sym (append_assoc (steps_of before x) (steps_after (x ∷ before) h) (steps_of (latest_first (x ∷ before) h) e))
+steps_from-push : (m : Memory) (h : List Entry) (e : Entry) → steps_from m (h ++ e ∷ []) ≡ steps_from m h ++ steps_of (remembered_all m h) e
+steps_from-push m [] e = append-nil (steps_of m e)
+steps_from-push m (x ∷ h) e =
+    ap (λ (steps : List Step). steps_of m x ++ steps) (steps_from-push (remembered m x) h e)
+    ∙ sym (append_assoc (steps_of m x) (steps_from (remembered m x) h) (steps_of (remembered_all (remembered m x) h) e))
 
-pub untraced_steps-push : (h : List Entry) (e : Entry) → untraced_steps (h ++ e ∷ []) ≡ untraced_steps h ++ steps_of (latest_first [] h) e
+pub untraced_steps-push : (h : List Entry) (e : Entry) → untraced_steps (h ++ e ∷ []) ≡ untraced_steps h ++ steps_of (remembered_all nothing_yet h) e
 unfolding untraced_steps
-untraced_steps-push h e = steps_after-push [] h e
+untraced_steps-push h e = steps_from-push nothing_yet h e
 
 pub ruleset one_longer = (state_after-push, IsLegal-push, IsLegal-front, IsLegal-last, untraced_steps-push)
 
@@ -81,22 +81,22 @@ call-trace (call.Spawn program held) (reply.Pid pid) = refl
 call-trace (call.Kill pid sig) reply.Done = refl
 call-trace _ _ = refl
 
-entry-trace : (before : List Entry) (actor : Actor) (it : Act) → flat_map traced_step (steps_of before (record { actor = actor; act = it })) ≡ trace_of (record { actor = actor; act = it })
+entry-trace : (m : Memory) (actor : Actor) (it : Act) → flat_map traced_step (steps_of m (record { actor = actor; act = it })) ≡ trace_of (record { actor = actor; act = it })
 unfolding steps_of trace_of
-entry-trace before (Controller k) (act.Call c r) = call-trace c r
-entry-trace before (Lwp p l) (act.Turn t) = turn-trace (was_returning before p l) p l t.did
-entry-trace before Clock (act.Tick n) = refl
-entry-trace before _ _ = refl
+entry-trace m (Controller k) (act.Call c r) = call-trace c r
+entry-trace m (Lwp p l) (act.Turn t) = turn-trace (m.returning p l) p l t.did
+entry-trace m Clock (act.Tick n) = refl
+entry-trace m _ _ = refl
 
-steps-trace : (before h : List Entry) → flat_map traced_step (steps_after before h) ≡ flat_map trace_of h
-steps-trace before [] = refl
-steps-trace before (e ∷ es) =
-    flat_map-append traced_step (steps_of before e) (steps_after (e ∷ before) es)
-    ∙ ap (λ (steps : List Step). steps ++ flat_map traced_step (steps_after (e ∷ before) es)) (entry-trace before e.actor e.act)
-    ∙ ap (λ (steps : List Step). trace_of e ++ steps) (steps-trace (e ∷ before) es)
+steps-trace : (m : Memory) (h : List Entry) → flat_map traced_step (steps_from m h) ≡ flat_map trace_of h
+steps-trace m [] = refl
+steps-trace m (e ∷ es) =
+    flat_map-append traced_step (steps_of m e) (steps_from (remembered m e) es)
+    ∙ ap (λ (steps : List Step). steps ++ flat_map traced_step (steps_from (remembered m e) es)) (entry-trace m e.actor e.act)
+    ∙ ap (λ (steps : List Step). trace_of e ++ steps) (steps-trace (remembered m e) es)
 
 pub untraced_trace-steps : (h : List Entry) → untraced_trace h ≡ flat_map traced_step (untraced_steps h)
 unfolding untraced_trace untraced_steps
-untraced_trace-steps h = sym (steps-trace [] h)
+untraced_trace-steps h = sym (steps-trace nothing_yet h)
 
 pub ruleset traces = (untraced_trace-steps)

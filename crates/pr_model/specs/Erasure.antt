@@ -1,14 +1,14 @@
-use Rattle.std.specs.Prelude.{ℕ, map}
 use Rattle.pr_num.specs.Faults.{fault_signal}
-use Rattle.pr_num.specs.Sets.{with_number}
-use Rattle.pr_num.specs.Signals.{signal_number}
+use Rattle.pr_num.specs.ById.{map_each}
+use Rattle.pr_model.specs.Machines.{Place, in_program, at_call, sleeping, UntracedLwp, UntracedProcess, UntracedSystem}
+use Rattle.pr_parts.specs.PendingSignals.{Pending, added}
+use Rattle.pr_num.specs.Infos.{of_fault}
 use Rattle.pr_model.specs.State.{TracedState, TracedSystem, TracedProcess, TracedLwp}
-use Rattle.pr_model.specs.System.{Place, in_program, at_call, sleeping, SystemLwp, SystemProcess, SystemState}
 use Rattle.pr_model.specs.declared.lwps.Phase.{Phase}
 use Rattle.pr_model.specs.declared.lwps.Phase.TheVariants.{User, Entered, Asleep, Exiting, Faulted}
 
 -- Erasure forgets what controllers have set, and the counts of usage, which only they can read: of the traced state it
--- keeps the system state.
+-- keeps what programs can see.
 
 -- An lwp at a call that it has not made is at the call; one on its way out of a call, or between a fault and its
 -- posting, is in its program.
@@ -20,28 +20,27 @@ erased_phase (Exiting call args result) = in_program
 erased_phase (Faulted f address) = in_program
 
 -- the signal of a fault that was incurred is pending already, although it is posted later
-unfoldable pub erased_pending : Phase → ℕ → ℕ
+unfoldable pub erased_pending : Phase → Pending → Pending
 erased_pending User pending = pending
 erased_pending (Entered call) pending = pending
 erased_pending (Asleep call args since) pending = pending
 erased_pending (Exiting call args result) pending = pending
-erased_pending (Faulted f address) pending = with_number pending (signal_number (fault_signal f))
+erased_pending (Faulted f address) pending = added (fault_signal f) (of_fault address) pending
 
-unfoldable pub erased_lwp : TracedLwp → SystemLwp
+unfoldable pub erased_lwp : TracedLwp → UntracedLwp
 erased_lwp l = record {
-  id = l.id;
   regs = l.regs;
   held = l.held;
   pending = erased_pending l.phase l.pending;
   current = l.current;
   frames = l.frames;
   suspended = l.suspended;
-  place = erased_phase l.phase;
+  phase = erased_phase l.phase;
+  control = tt;
 }
 
-unfoldable pub erased_process : TracedProcess → SystemProcess
+unfoldable pub erased_process : TracedProcess → UntracedProcess
 erased_process p = record {
-  id = p.id;
   parent = p.parent;
   program = p.program;
   made_at = p.made_at;
@@ -52,18 +51,19 @@ erased_process p = record {
   pending = p.pending;
   job_stop = p.job_stop;
   next_lwp = p.next_lwp;
-  lwps = map erased_lwp p.lwps;
+  lwps = map_each erased_lwp p.lwps;
+  control = tt;
 }
 
-unfoldable pub erased_system : TracedSystem → SystemState
+unfoldable pub erased_system : TracedSystem → UntracedSystem
 erased_system s = record {
   programs = s.programs;
   clock = s.clock;
   made = s.made;
   files = s.files;
-  processes = map erased_process s.processes;
+  processes = map_each erased_process s.processes;
 }
 
 -- open handles and interrupts are forgotten
-abbrev pub erased : TracedState → SystemState
+abbrev pub erased : TracedState → UntracedSystem
 erased s = erased_system s.system

@@ -2,13 +2,14 @@ use Rattle.std.specs.Prelude.{ℕ, List, [], ◌∷◌, Option, Some, None, fals
 use Rattle.pr_num.specs.Programs.{Program}
 use Rattle.pr_num.specs.declared.files.StoredFile.{StoredFile}
 use Rattle.pr_model.specs.Lives.{bare_process, with_spawned}
+use Rattle.pr_model.specs.Machines.{traced}
 use Rattle.pr_model.specs.State.{TracedState, TracedSystem, TracedProcess, nothing_open}
 
 -- The state before the first step.
 
 -- process 0, the system process: it has no lwp, no memory and no descriptor, and is never stopped
 unfoldable pub system_process : TracedProcess
-system_process = bare_process 0 0 (codes "sched") 0
+system_process = bare_process traced 0 (codes "sched") 0
 
 -- nothing but process 0, these programs and these files
 unfoldable pub bare_system : List Program → List StoredFile → TracedSystem
@@ -17,13 +18,13 @@ bare_system programs files = record {
   clock = 0;
   made = 1;
   files = record { files = files; pipes = []; opens = [] };
-  processes = system_process ∷ [];
+  processes = (0, system_process) ∷ [];
 }
 
 -- a process of the program at a place
 abbrev pub spawned_at : Option Program → TracedSystem → TracedSystem
 spawned_at None s = s
-spawned_at (Some program) s = with_spawned program false s
+spawned_at (Some program) s = with_spawned traced program false s
 
 -- processes of these programs, one after another, each of the program at a place
 unfoldable pub with_spawns : List ℕ → TracedSystem → TracedSystem
@@ -34,6 +35,6 @@ with_spawns (place ∷ places) s = with_spawns places (spawned_at (slice_get s.p
 abbrev pub first_system : List Program → List StoredFile → List ℕ → TracedSystem
 first_system programs files spawns = with_spawns spawns (bare_system programs files)
 
--- nobody has opened anything or was interrupted
+-- nothing is open, and no controller was interrupted
 unfoldable pub first_state : List Program → List StoredFile → List ℕ → TracedState
 first_state programs files spawns = record { system = first_system programs files spawns; opens = nothing_open; interrupted = 0 }

@@ -1,11 +1,14 @@
-use Rattle.std.specs.Prelude.{◌==◌, ◌||◌, ◌&&◌, ℕ, Bool, true, false, not, List, [], Option, Some, None, is_some, is_none, map, slice_get, slice_set, if◌then◌else◌}
+use Rattle.std.specs.Prelude.{◌==◌, ◌||◌, ◌&&◌, ℕ, Bool, true, false, not, [], Option, Some, None, is_some, is_none, slice_get, slice_set, if◌then◌else◌}
 use Rattle.std.specs.List.{list_any}
+use Rattle.pr_num.specs.ById.{map_each}
 use Rattle.pr_num.specs.Control.{has_flags, rlc_mode, klc_mode}
+use Rattle.pr_num.specs.Signals.{signal_number}
 use Rattle.pr_num.specs.declared.errnos.Errno.{Errno}
 use Rattle.pr_num.specs.declared.errnos.Errno.TheVariants.{Inval, Noent, Busy}
-use Rattle.pr_model.specs.Lives.{with_ended}
-use Rattle.pr_model.specs.Lwps.{lwp_of}
-use Rattle.pr_model.specs.State.{TracedState, TracedSystem, Places, TracedProcess, TracedLwp, process_of, live_process, with_process}
+use Rattle.pr_num.specs.declared.signals.Sig.TheVariants.{Kill}
+use Rattle.pr_model.specs.Lives.{with_this_ended}
+use Rattle.pr_model.specs.Machines.{traced}
+use Rattle.pr_model.specs.State.{TracedState, TracedSystem, Places, TracedControl, TracedProcess, TracedLwp, lwp_of, process_of, live_process, with_process}
 use Rattle.pr_model.specs.declared.calls.File.{File}
 use Rattle.pr_model.specs.declared.calls.File.TheVariants.{Ctl, Psinfo, Usage, Lwpctl, Lwpstatus}
 use Rattle.pr_model.specs.declared.calls.Mode.{Mode}
@@ -57,7 +60,7 @@ abbrev pub is_exclusive_writer : ℕ → Option Held → Bool
 is_exclusive_writer pid None = false
 is_exclusive_writer pid (Some h) = (h.pid == pid) && is_exclusive h.mode
 
--- whether somebody has the process open for writing; for writing exclusively
+-- whether a controller has the process open for writing; for writing exclusively
 abbrev pub has_writer : ℕ → Places → Bool
 has_writer pid opens = list_any (is_writer pid) opens
 
@@ -95,35 +98,31 @@ own by None = None
 unfoldable pub handle_of : Places → ℕ → ℕ → Option Held
 handle_of opens by number = own by (slice_get opens number)
 
+-- ---- the last close for writing
+
 -- an lwp with nothing that a controller asked of it: it runs again if it stood on an event of interest
 unfoldable pub released_lwp : TracedLwp → TracedLwp
-released_lwp l = record l { stop = None; directed = false; step = false }
+released_lwp l = record l { control = record l.control { stop = None; directed = false; step = false } }
+
+-- nothing traced and nothing watched; the modes stay
+unfoldable pub released_control : TracedControl → TracedControl
+released_control c =
+    record c { traced_signals = 0; traced_faults = 0; traced_entries = 0; traced_exits = 0; areas = [] }
 
 -- a process of which nothing is traced, watched, directed or stopped on an event of interest any more
 unfoldable pub released : TracedProcess → TracedProcess
-released p = record p {
-  lwps = map released_lwp p.lwps;
-  traced_signals = 0;
-  traced_faults = 0;
-  traced_entries = 0;
-  traced_exits = 0;
-  areas = [];
-}
-
--- SIGKILL's number, which is the wait status of a process that it ended
-abbrev pub sigkill : ℕ
-sigkill = 9
+released p = record p { lwps = map_each released_lwp p.lwps; control = released_control p.control }
 
 -- what the last close for writing does to a live process (proc(4), "PR_KLC", "PR_RLC"): under PR_KLC it ends as by
 -- SIGKILL; else under PR_RLC it is released
-unfoldable pub with_last_close : TracedProcess → TracedSystem → TracedSystem
-with_last_close p s =
-    if has_flags p.modes klc_mode then with_ended p sigkill s
-    else (if has_flags p.modes rlc_mode then with_process p.id released s else s)
+unfoldable pub with_last_close : ℕ → TracedProcess → TracedSystem → TracedSystem
+with_last_close pid p s =
+    if has_flags p.control.modes klc_mode then with_this_ended traced pid p (signal_number Kill) s
+    else (if has_flags p.control.modes rlc_mode then with_process pid released s else s)
 
-abbrev pub after_last_close : Option TracedProcess → TracedSystem → TracedSystem
-after_last_close None s = s
-after_last_close (Some p) s = with_last_close p s
+abbrev pub after_last_close : ℕ → Option TracedProcess → TracedSystem → TracedSystem
+after_last_close pid None s = s
+after_last_close pid (Some p) s = with_last_close pid p s
 
 -- whether a handle that is closed was the last one for writing on its process
 abbrev pub was_last_writer : Held → Places → Bool
@@ -132,6 +131,8 @@ was_last_writer h others = is_writable h.mode && not (has_writer h.pid others)
 -- A handle closed, and what follows where no other handle for writing is left on its process.
 unfoldable pub with_closed : Held → ℕ → TracedState → TracedState
 with_closed h number s = record s {
-  system = if was_last_writer h (slice_set s.opens number None) then after_last_close (live_process s.system h.pid) s.system else s.system;
+  system =
+      if was_last_writer h (slice_set s.opens number None) then after_last_close h.pid (live_process s.system h.pid) s.system
+      else s.system;
   opens = slice_set s.opens number None;
 }

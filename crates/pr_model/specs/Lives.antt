@@ -1,106 +1,178 @@
-use Rattle.std.specs.Prelude.{◌==◌, ◌+◌, ℕ, Bool, false, List, [], ◌∷◌, ◌++◌, Option, Some, None, map, replicate, if◌then◌else◌}
-use Rattle.pr_num.specs.Sets.{with_number}
+use Rattle.std.specs.Prelude.{◌==◌, ◌+◌, ℕ, Bool, false, List, [], ◌∷◌, Option, Some, None, is_some, length, map, nat_lt, replicate, if◌then◌else◌}
 use Rattle.pr_num.specs.Files.{no_descriptors, with_all_closed}
 use Rattle.pr_num.specs.Programs.{Program}
 use Rattle.pr_num.specs.Spaces.{first_space, first_registers}
-use Rattle.pr_num.specs.KeyedTables.{change_first}
-use Rattle.pr_model.specs.Lwps.{is_process}
-use Rattle.pr_model.specs.State.{TracedSystem, TracedLwp, TracedProcess, with_process}
-use Rattle.pr_model.specs.declared.lwps.Phase.TheVariants as phase
-use Rattle.pr_model.specs.declared.processes.Usage.{Usage}
+use Rattle.pr_num.specs.declared.signals.Sig.TheVariants.{Cld}
+use Rattle.pr_num.specs.declared.syscalls.Sysno.TheVariants.{Fork}
+use Rattle.pr_parts.specs.FileCalls.{with_all_shared}
+use Rattle.pr_num.specs.ById.{change_under, inserted, map_each, without_id}
+use Rattle.pr_model.specs.Generation.{told}
+use Rattle.pr_model.specs.Machines.{Machine}
+use Rattle.pr_parts.specs.PendingSignals.{nothing_pending}
+use Rattle.pr_model.specs.Registers.{with_result}
+use Rattle.pr_num.specs.Infos.{of_child}
+use Rattle.pr_num.specs.Limits.{signal_count}
+use Rattle.pr_model.specs.State.{LwpOf, ProcessOf, SystemOf, live_process, lwp_of, with_process}
+use Rattle.pr_model.specs.declared.events.Res.TheVariants.{Value}
 
--- How processes begin and end.
+-- How processes and lwps begin and end.
 
 -- default dispositions
 abbrev pub default_dispositions : List ℕ
-default_dispositions = replicate 39 0
+default_dispositions = replicate signal_count 0
 
--- nothing used yet
-abbrev pub nothing_used : Usage
-nothing_used = record { calls = 0; signals = 0; faults = 0; instructions = 0 }
+-- a process that runs another program keeps what it ignores, and catches nothing (exec(2))
+abbrev pub uncaught : ℕ → ℕ
+uncaught disposition = if nat_lt 1 disposition then 0 else disposition
 
--- the lwp of a new process, directed to stop or not
-unfoldable pub first_lwp : Bool → TracedLwp
-first_lwp held = record {
-  id = 1;
-  regs = first_registers;
-  held = 0;
-  pending = 0;
-  current = None;
-  frames = [];
-  suspended = false;
-  phase = phase.User;
-  stop = None;
-  directed = held;
-  step = false;
-  abort = false;
-}
+module _ {C H K : Type 0} where
+  -- a system with one process more, under the next id
+  unfoldable pub with_made : ProcessOf C H K → SystemOf C H K → SystemOf C H K
+  with_made p s = record s { made = s.made + 1; processes = inserted s.made p s.processes }
 
--- A process with no lwp, no memory, no descriptor and nothing that is traced, under this id, parent and program name.
-unfoldable pub bare_process : ℕ → ℕ → List ℕ → ℕ → TracedProcess
-bare_process pid parent name clock = record {
-  id = pid;
-  parent = parent;
-  program = name;
-  made_at = clock;
-  usage = nothing_used;
-  ended = None;
-  space = [];
-  fds = no_descriptors;
-  dispositions = default_dispositions;
-  pending = 0;
-  job_stop = None;
-  next_lwp = 1;
-  lwps = [];
-  traced_signals = 0;
-  traced_faults = 0;
-  traced_entries = 0;
-  traced_exits = 0;
-  modes = 0;
-  areas = [];
-}
+  -- a child of a process that has ended gets process 0 as its parent
+  unfoldable pub orphaned : ℕ → ProcessOf C H K → ProcessOf C H K
+  orphaned pid p = if p.parent == pid then record p { parent = 0 } else p
 
--- a new process of a program, whose parent is process 0
-unfoldable pub new_process : ℕ → Program → ℕ → Bool → TracedProcess
-new_process pid program clock held =
-    record (bare_process pid 0 program.name clock) { space = first_space program; next_lwp = 2; lwps = first_lwp held ∷ [] }
+  -- the parent of a process that ended gets SIGCLD, unless that is process 0
+  unfoldable pub with_parent_told : ℕ → ℕ → ℕ → SystemOf C H K → SystemOf C H K
+  with_parent_told parent pid status s =
+      if parent == 0 then s else with_process parent (told None Cld (of_child pid status)) s
 
--- a new process stands behind the others
-unfoldable pub with_spawned : Program → Bool → TracedSystem → TracedSystem
-with_spawned program held s =
-    record s { made = s.made + 1; processes = s.processes ++ new_process s.made program s.clock held ∷ [] }
+  unfoldable pub without_lwp : ℕ → ProcessOf C H K → ProcessOf C H K
+  without_lwp id p = record p { lwps = without_id id p.lwps }
 
--- What is left of a process that has ended: it waits to be reaped under its id, parent and program name, with its
--- wait status and what it has used (wait(3C)).
-unfoldable pub zombie : ℕ → TracedProcess → TracedProcess
-zombie status p =
-    record (bare_process p.id p.parent p.program p.made_at) { usage = p.usage; ended = Some status }
+  -- a zombie is reaped (wait(3C))
+  unfoldable pub with_reaped : ℕ → SystemOf C H K → SystemOf C H K
+  with_reaped pid s = record s { processes = without_id pid s.processes }
 
--- a child of a process that has ended gets process 0 as its parent
-unfoldable pub orphaned : ℕ → TracedProcess → TracedProcess
-orphaned pid p = if p.parent == pid then record p { parent = 0 } else p
+module _ {C H K : Type 0} (m : Machine C H K) where
+  -- ---- beginnings
 
--- SIGCLD's number
-abbrev pub sigcld : ℕ
-sigcld = 18
+  -- an lwp with these registers and this held set, in its program, with nothing pending
+  unfoldable pub new_lwp : List ℕ → ℕ → K → LwpOf H K
+  new_lwp regs held marks = record {
+    regs = regs;
+    held = held;
+    pending = nothing_pending;
+    current = None;
+    frames = [];
+    suspended = false;
+    phase = m.in_user;
+    control = marks;
+  }
 
--- SIGCLD becomes pending for a live process
-unfoldable pub told_of_child : TracedProcess → TracedProcess
-told_of_child p = told p.ended
-  where
-    told : Option ℕ → TracedProcess
-    told (Some status) = p
-    told None = record p { pending = with_number p.pending sigcld }
+  -- the lwp of a new process, directed to stop or not
+  unfoldable pub first_lwp : Bool → LwpOf H K
+  first_lwp held = new_lwp first_registers 0 (m.marks held)
 
--- The parent of a process that ended gets SIGCLD, unless that is process 0.
-unfoldable pub with_parent_told : ℕ → TracedSystem → TracedSystem
-with_parent_told parent s = if parent == 0 then s else with_process parent told_of_child s
+  -- a process with no lwp, no memory, no descriptor and nothing set, of this parent, program name and moment
+  unfoldable pub bare_process : ℕ → List ℕ → ℕ → ProcessOf C H K
+  bare_process parent name clock = record {
+    parent = parent;
+    program = name;
+    made_at = clock;
+    ended = None;
+    space = [];
+    fds = no_descriptors;
+    dispositions = default_dispositions;
+    pending = nothing_pending;
+    job_stop = None;
+    next_lwp = 1;
+    lwps = [];
+    control = m.unset;
+  }
 
--- A process ends with a wait status: it loses its lwps, its descriptors and its memory, its children get process 0 as
--- their parent, and its own parent gets SIGCLD.
-unfoldable pub with_ended : TracedProcess → ℕ → TracedSystem → TracedSystem
-with_ended p status s =
-    with_parent_told p.parent (record s {
-      files = with_all_closed s.files p.fds;
-      processes = map (orphaned p.id) (change_first (is_process p.id) (zombie status) s.processes);
-    })
+  -- a new process of a program, whose parent is process 0
+  unfoldable pub new_process : Program → ℕ → Bool → ProcessOf C H K
+  new_process program clock held =
+      record (bare_process 0 program.name clock) { space = first_space program; next_lwp = 2; lwps = (1, first_lwp held) ∷ [] }
+
+  unfoldable pub with_spawned : Program → Bool → SystemOf C H K → SystemOf C H K
+  with_spawned program held s = with_made (new_process program s.clock held) s
+
+  -- The lwp of a forked child: it is on its way out of fork, with 0 as its result. It has the held set, the frames and
+  -- the registers of the lwp that called fork, and nothing pending (fork(2)).
+  unfoldable pub forked_lwp : List ℕ → C → LwpOf H K → LwpOf H K
+  forked_lwp args set l = record {
+    regs = with_result (Value 0) l.regs;
+    held = l.held;
+    pending = nothing_pending;
+    current = None;
+    frames = l.frames;
+    suspended = false;
+    phase = m.exiting Fork args (Value 0);
+    control = m.at_birth set;
+  }
+
+  -- A forked child: a copy of its parent with that lwp alone, with nothing pending and no job stop.
+  unfoldable pub forked : ℕ → ProcessOf C H K → LwpOf H K → List ℕ → ℕ → ProcessOf C H K
+  forked pid p l args clock = record {
+    parent = pid;
+    program = p.program;
+    made_at = clock;
+    ended = None;
+    space = p.space;
+    fds = p.fds;
+    dispositions = p.dispositions;
+    pending = nothing_pending;
+    job_stop = None;
+    next_lwp = 2;
+    lwps = (1, forked_lwp args p.control l) ∷ [];
+    control = m.of_child p.control;
+  }
+
+  -- a system with a forked child, which shares its parent's open files
+  unfoldable pub with_child : ℕ → ProcessOf C H K → LwpOf H K → List ℕ → SystemOf C H K → SystemOf C H K
+  with_child pid p l args s =
+      with_made (forked pid p l args s.clock) (record s { files = with_all_shared s.files p.fds })
+
+  -- An lwp that runs another program keeps its held set, its pending signals and what is set on it (exec(2)).
+  unfoldable pub started : LwpOf H K → LwpOf H K
+  started l = record l { regs = first_registers; frames = [] }
+
+  -- A process that runs another program, with the lwp of this id alone: its space is the program's, it keeps its
+  -- descriptors, the signals that it ignores, and those that are pending.
+  unfoldable pub with_program : ℕ → LwpOf H K → Program → ProcessOf C H K → ProcessOf C H K
+  with_program id l program p = record p {
+    program = program.name;
+    space = first_space program;
+    dispositions = map uncaught p.dispositions;
+    lwps = (id, started l) ∷ [];
+    control = m.of_exec p.control;
+  }
+
+  -- an lwp more in a process, under an id that none has yet (lwp_create(2))
+  unfoldable pub with_new_lwp : ℕ → List ℕ → ℕ → ProcessOf C H K → ProcessOf C H K
+  with_new_lwp id regs held p =
+      if is_some (lwp_of p id) then p
+      else record p { next_lwp = id + 1; lwps = inserted id (new_lwp regs held (m.marks false)) p.lwps }
+
+  -- ---- ends
+
+  -- What is left of a process that has ended: it waits to be reaped under its id, parent and program name, with its
+  -- wait status (wait(3C)).
+  unfoldable pub zombie : ℕ → ProcessOf C H K → ProcessOf C H K
+  zombie status p = record (bare_process p.parent p.program p.made_at) { ended = Some status; control = m.of_zombie p.control }
+
+  -- A live process ends with a wait status: it loses its lwps, its descriptors and its memory, its children get process
+  -- 0 as their parent, and its own parent gets SIGCLD.
+  unfoldable pub with_this_ended : ℕ → ProcessOf C H K → ℕ → SystemOf C H K → SystemOf C H K
+  with_this_ended pid p status s =
+      with_parent_told p.parent pid status (record s {
+        files = with_all_closed s.files p.fds;
+        processes = map_each (orphaned pid) (change_under pid (zombie status) s.processes);
+      })
+
+  abbrev pub ended_if_live : ℕ → ℕ → SystemOf C H K → Option (ProcessOf C H K) → SystemOf C H K
+  ended_if_live pid status s None = s
+  ended_if_live pid status s (Some p) = with_this_ended pid p status s
+
+  -- the live process of an id ends, if there is one
+  unfoldable pub with_ended : ℕ → ℕ → SystemOf C H K → SystemOf C H K
+  with_ended pid status s = ended_if_live pid status s (live_process s pid)
+
+  -- one lwp ends, and with the last one its process, with wait status 0
+  unfoldable pub with_lwp_ended : ℕ → ProcessOf C H K → ℕ → SystemOf C H K → SystemOf C H K
+  with_lwp_ended pid p id s =
+      if length p.lwps == 1 then with_this_ended pid p 0 s else with_process pid (without_lwp id) s

@@ -1,7 +1,13 @@
-use Rattle.std.specs.Prelude.{◌==◌, ◌&&◌, ℕ, Bool, true, false, List, [], ◌∷◌, ◌++◌, Option, Some, None, unwrap_or, if◌then◌else◌}
-use Rattle.std.specs.List.{flat_map, list_any}
+use Rattle.std.specs.Prelude.{◌==◌, ◌&&◌, ℕ, Bool, true, false, List, [], ◌∷◌, ◌++◌, Result, Ok, if◌then◌else◌}
+use Rattle.std.specs.List.{flat_map}
+use Rattle.pr_num.specs.Agents.{agent_id}
+use Rattle.pr_num.specs.Messages.{first_message}
 use Rattle.pr_num.specs.declared.faults.Flt.{Flt}
 use Rattle.pr_num.specs.declared.faults.Flt.TheVariants.{Trace}
+use Rattle.pr_num.specs.declared.messages.Message.{Message}
+use Rattle.pr_num.specs.declared.messages.Message.TheVariants.{Agent}
+use Rattle.pr_num.specs.declared.messages.MsgFault.{MsgFault}
+use Rattle.pr_num.specs.declared.syscalls.Sysno.{Sysno}
 use Rattle.pr_num.specs.declared.syscalls.Sysno.TheVariants.{Fork}
 use Rattle.pr_model.specs.declared.calls.Call.TheVariants as call
 use Rattle.pr_model.specs.declared.calls.Call as calls
@@ -16,68 +22,80 @@ use Rattle.pr_model.specs.declared.events.Did.TheVariants.{Stopped, Ran, Entered
 use Rattle.pr_model.specs.declared.events.Entry.{Entry}
 use Rattle.pr_model.specs.declared.events.How.TheVariants.{Caught, Ignored, JobStop, Died}
 use Rattle.pr_model.specs.declared.events.Res.{Res}
-use Rattle.pr_model.specs.declared.events.Res.TheVariants.{Value, Error, Ended}
+use Rattle.pr_model.specs.declared.events.Res.TheVariants.{Value}
 use Rattle.pr_model.specs.declared.steps.Step.{Step}
 use Rattle.pr_model.specs.declared.steps.Step.TheVariants.{Exec, Call, Sleep, Finish, Fault, Take, Act as ActOn, Spawn, Kill, Tick}
 
--- The untraced steps of a history: what the untraced machine would have done of it.
+-- The untraced steps of a history: what the untraced machine would have done of it. An entry is read after those before
+-- it, of which this is remembered: which lwps are on their way out of a system call, and which process each open handle
+-- names.
+pub record Memory : Type 0 where
+  pub returning : ℕ → ℕ → Bool
+  pub named : ℕ → ℕ
 
--- Whether a turn leaves an lwp on its way out of a call. A stop, a signal that is taken, and one that is acted on
--- without a handler leave it where it was, which is told by the turns before.
-abbrev pub left_out : Did → Option Bool
-left_out Stopped = None
-left_out Ran = Some false
-left_out (Entered c) = Some false
-left_out (Made c r) = Some true
-left_out (Slept c) = Some false
-left_out (Woke c r) = Some true
-left_out (Returned c) = Some false
-left_out (Faulted f) = Some false
-left_out (Posted f) = Some false
-left_out (Took s) = None
-left_out (Acted s Caught) = Some false
-left_out (Acted s Ignored) = None
-left_out (Acted s JobStop) = None
-left_out (Acted s Died) = None
+-- before the first entry no lwp is on its way out of a call
+unfoldable pub nothing_yet : Memory
+nothing_yet = record { returning = λ p l. false; named = λ handle. 0 }
 
--- the same of an entry, where it is a turn of this lwp
-abbrev pub left_out_by : ℕ → ℕ → Entry → Option Bool
-left_out_by p l e = by e.actor e.act
+-- another word of one lwp, and of one handle
+abbrev pub with_lwp_at : ℕ → ℕ → Bool → (ℕ → ℕ → Bool) → ℕ → ℕ → Bool
+with_lwp_at p l out returning q k = if (q == p) && (k == l) then out else returning q k
+
+abbrev pub with_handle_at : ℕ → ℕ → (ℕ → ℕ) → ℕ → ℕ
+with_handle_at handle pid named other = if other == handle then pid else named other
+
+unfoldable pub with_returning : ℕ → ℕ → Bool → Memory → Memory
+with_returning p l out m = record m { returning = with_lwp_at p l out m.returning }
+
+unfoldable pub with_named : ℕ → ℕ → Memory → Memory
+with_named handle pid m = record m { named = with_handle_at handle pid m.named }
+
+-- the first lwp of a forked child begins on its way out of fork
+abbrev pub with_child_of : Sysno → Res → Memory → Memory
+with_child_of Fork (Value child) m = with_returning child 1 true m
+with_child_of call result m = m
+
+-- What a turn of an lwp leaves remembered. A stop, a signal that is taken, and one that is acted on without a handler
+-- leave an lwp where it was.
+unfoldable pub after_did : ℕ → ℕ → Did → Memory → Memory
+after_did p l Stopped m = m
+after_did p l Ran m = with_returning p l false m
+after_did p l (Entered c) m = with_returning p l false m
+after_did p l (Made c r) m = with_child_of c r (with_returning p l true m)
+after_did p l (Slept c) m = with_returning p l false m
+after_did p l (Woke c r) m = with_returning p l true m
+after_did p l (Returned c) m = with_returning p l false m
+after_did p l (Faulted f) m = with_returning p l false m
+after_did p l (Posted f) m = with_returning p l false m
+after_did p l (Took s) m = m
+after_did p l (Acted s Caught) m = with_returning p l false m
+after_did p l (Acted s Ignored) m = m
+after_did p l (Acted s JobStop) m = m
+after_did p l (Acted s Died) m = m
+
+-- A PCAGENT that was granted makes an agent anew, in its program.
+abbrev pub after_message : ℕ → Result (Message × ℕ) MsgFault → Memory → Memory
+after_message pid (Ok (Agent regs, length)) m = with_returning pid agent_id false m
+after_message pid other m = m
+
+-- what a call leaves remembered: the process that a new handle names, and a new agent
+unfoldable pub after_call : calls.Call → Reply → Memory → Memory
+after_call (call.Open pid lwp file mode) (reply.Handle handle) m = with_named handle pid m
+after_call (call.Ctl handle bytes) (reply.Used used) m = after_message (m.named handle) (first_message bytes) m
+after_call c r m = m
+
+-- what an entry leaves remembered
+unfoldable pub remembered : Memory → Entry → Memory
+remembered m e = by e.actor e.act
   where
-    by : Actor → Act → Option Bool
-    by (Lwp q k) (act.Turn t) = if (q == p) && (k == l) then left_out t.did else None
-    by _ _ = None
+    by : Actor → Act → Memory
+    by (Controller k) (act.Call c r) = after_call c r m
+    by (Lwp p l) (act.Turn t) = after_did p l t.did m
+    by _ _ = m
 
--- what the latest entry says that says anything, of entries that stand latest first
-abbrev pub latest_left_out : ℕ → ℕ → List Entry → Option Bool
-latest_left_out p l [] = None
-latest_left_out p l (e ∷ es) = first (left_out_by p l e) (latest_left_out p l es)
-  where
-    first : Option Bool → Option Bool → Option Bool
-    first (Some out) earlier = Some out
-    first None earlier = earlier
-
--- whether an entry is the fork that made a process
-abbrev pub forks : ℕ → Entry → Bool
-forks p e = by e.act
-  where
-    forked : Res → Bool
-    forked (Value child) = child == p
-    forked (Error x) = false
-    forked Ended = false
-
-    in_turn : Did → Bool
-    in_turn (Made Fork r) = forked r
-    in_turn _ = false
-
-    by : Act → Bool
-    by (act.Turn t) = in_turn t.did
-    by _ = false
-
--- Whether an lwp was on its way out of a call: by its latest turn that tells; the first lwp of a process that was
--- forked begins on its way out of fork.
-unfoldable pub was_returning : List Entry → ℕ → ℕ → Bool
-was_returning before p l = unwrap_or (latest_left_out p l before) ((l == 1) && list_any (forks p) before)
+abbrev pub remembered_all : Memory → List Entry → Memory
+remembered_all m [] = m
+remembered_all m (e ∷ es) = remembered_all (remembered m e) es
 
 -- A fault is one step; FLTTRACE comes after an instruction that was run, but for an lwp on its way out of a call.
 abbrev pub steps_of_fault : Bool → ℕ → ℕ → Flt → List Step
@@ -104,29 +122,24 @@ steps_of_call (call.Spawn program held) (reply.Pid pid) = Spawn program ∷ []
 steps_of_call (call.Kill pid sig) reply.Done = Kill pid sig ∷ []
 steps_of_call _ _ = []
 
--- what an entry is, behind those that stand before it, the latest first
-unfoldable pub steps_of : List Entry → Entry → List Step
-steps_of before e = by e.actor e.act
+-- what an entry is, with what is remembered of those before it
+unfoldable pub steps_of : Memory → Entry → List Step
+steps_of m e = by e.actor e.act
   where
     by : Actor → Act → List Step
     by (Controller k) (act.Call c r) = steps_of_call c r
-    by (Lwp p l) (act.Turn t) = steps_of_turn (was_returning before p l) p l t.did
+    by (Lwp p l) (act.Turn t) = steps_of_turn (m.returning p l) p l t.did
     by Clock (act.Tick n) = Tick ∷ []
     by _ _ = []
 
--- the steps of entries behind others, which stand latest first
-abbrev pub steps_after : List Entry → List Entry → List Step
-steps_after before [] = []
-steps_after before (e ∷ es) = steps_of before e ++ steps_after (e ∷ before) es
+-- the steps of entries, with what is remembered of those before them
+abbrev pub steps_from : Memory → List Entry → List Step
+steps_from m [] = []
+steps_from m (e ∷ es) = steps_of m e ++ steps_from (remembered m e) es
 
 -- the steps of a history, in its order
 unfoldable pub untraced_steps : List Entry → List Step
-untraced_steps h = steps_after [] h
-
--- the entries of a history, the latest first, in front of others
-abbrev pub latest_first : List Entry → List Entry → List Entry
-latest_first before [] = before
-latest_first before (e ∷ es) = latest_first (e ∷ before) es
+untraced_steps h = steps_from nothing_yet h
 
 -- The trace of a history: its calls that were made or are over, its faults and its taken signals.
 abbrev pub trace_of_turn : ℕ → ℕ → Did → List Step

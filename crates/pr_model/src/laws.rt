@@ -3,7 +3,7 @@ ghost use Rattle.pr_model.specs.Legal.{IsLegal, IsLegalEntry, after, state_after
 ghost use Rattle.pr_model.specs.State.{TracedState};
 ghost use Rattle.std.specs.List.{flat_map};
 ghost use Rattle.pr_model.specs.UntracedMachine.{traced_step};
-ghost use Rattle.pr_model.specs.UntracedSteps.{latest_first, steps_of, untraced_steps, untraced_trace};
+ghost use Rattle.pr_model.specs.UntracedSteps.{nothing_yet, remembered_all, steps_of, untraced_steps, untraced_trace};
 ghost use Rattle.pr_model.specs.declared.events.Entry.{Entry};
 
 /// A history that grows by one entry leads to the state after that entry; it stays legal exactly where the entry is
@@ -14,7 +14,7 @@ pub fn history_grows_at_its_end()
     ensures legal { (n : ℕ) (s : TracedState) (h : List Entry) (e : Entry) → IsLegal n s h → IsLegalEntry n (state_after s h) e → IsLegal n s (h ++ e ∷ []) }
     ensures front { (n : ℕ) (s : TracedState) (h : List Entry) (e : Entry) → IsLegal n s (h ++ e ∷ []) → IsLegal n s h }
     ensures last { (n : ℕ) (s : TracedState) (h : List Entry) (e : Entry) → IsLegal n s (h ++ e ∷ []) → IsLegalEntry n (state_after s h) e }
-    ensures steps { (h : List Entry) (e : Entry) → untraced_steps (h ++ e ∷ []) ≡ untraced_steps h ++ steps_of (latest_first [] h) e }
+    ensures steps { (h : List Entry) (e : Entry) → untraced_steps (h ++ e ∷ []) ≡ untraced_steps h ++ steps_of (remembered_all nothing_yet h) e }
 {}
 
 /// The trace of a history is the trace of its untraced steps.

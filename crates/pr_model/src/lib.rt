@@ -3,7 +3,6 @@
 #![tactic(auto)]
 
 mod calls;
-mod effects;
 mod events;
 mod frames;
 mod handles;
@@ -17,14 +16,13 @@ mod stops;
 mod tools;
 
 pub use calls::{Call, File, Mode, Reply};
-pub use effects::{CallEffect, InstructionEffect, Rowed, TurnRow};
 pub use events::{Act, Actor, Did, Entry, How, Res, Turned};
 pub use frames::{Frame, Frames};
 pub use handles::Held;
 pub use histories::History;
 pub use laws::{history_grows_at_its_end, trace_is_that_of_the_steps};
-pub use lwps::{Lwp, PC, Phase};
-pub use processes::{Process, Usage};
+pub use lwps::{Current, Lwp, LwpControl, LwpOf, PC, Phase};
+pub use processes::{Control, Process, ProcessOf, Usage};
 pub use states::{State, System};
 pub use steps::{Step, Steps, Trace};
 pub use stops::{Point, Shown, Stop};

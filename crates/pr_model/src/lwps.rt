@@ -1,5 +1,5 @@
 use crate::{Frames, Res, Stop};
-use pr_num::{Flt, Keyed, Sig, SigSet, Sysno};
+use pr_num::{Flt, Info, Sig, SigSet, Sysno};
 
 /// Where an lwp is between its program and the kernel.
 #[derive(Clone, Copy, Debug, PartialEq, Eq)]
@@ -30,11 +30,18 @@ pub enum Phase {
 /// The place of pc among the registers.
 pub const PC: usize = 10;
 
-/// A lightweight process. `P` is how pending signals are kept.
+/// A signal that an lwp took and has not acted on yet, with its information.
+#[derive(Clone, Copy, Debug, PartialEq, Eq)]
+pub struct Current {
+    pub signal: Sig,
+    pub info: Info,
+}
+
+/// A lightweight process, which stands in its process under its id: ids count from 1, and the agent's is 65,535. `P` is
+/// how pending signals are kept, `H` where it is between its program and the kernel, and `K` what controllers set on
+/// it.
 #[derive(Drop)]
-pub struct Lwp<P> {
-    /// Counts from 1 in its process; the agent's is 65,535.
-    pub id: u32,
+pub struct LwpOf<P, H, K> {
     /// r0 to r7, sp, fp and pc.
     pub regs: [u64; 11],
     /// The signals that it does not take.
@@ -42,12 +49,18 @@ pub struct Lwp<P> {
     /// The signals sent to it alone that it has not taken yet.
     pub pending: P,
     /// The signal that it took and has not acted on yet.
-    pub current: Option<Sig>,
+    pub current: Option<Current>,
     /// What its running signal handlers interrupted, the latest last.
     pub frames: Frames,
     /// Whether another lwp suspended it (lwp_suspend(2)).
     pub suspended: bool,
-    pub phase: Phase,
+    pub phase: H,
+    pub control: K,
+}
+
+/// What controllers set on an lwp.
+#[derive(Clone, Copy, Debug, PartialEq, Eq)]
+pub struct LwpControl {
     /// Why it stands still on an event of interest, if it does.
     pub stop: Option<Stop>,
     /// Whether it is directed to stop.
@@ -58,10 +71,5 @@ pub struct Lwp<P> {
     pub abort: bool,
 }
 
-impl<P> Keyed for Lwp<P> {
-    ghost key = { λ l. l.id };
-
-    fn id(&self) -> u32 {
-        self.id
-    }
-}
+/// An lwp of the traced machine.
+pub type Lwp<P> = LwpOf<P, Phase, LwpControl>;

@@ -1,5 +1,5 @@
 use crate::Lwp;
-use pr_num::{FltSet, Keyed, Modes, Name, Sig, SigSet, SysSet, Table};
+use pr_num::{ById, FltSet, Modes, Name, Sig, SigSet, SysSet};
 
 /// What a process has used, counted from its making (proc(4), "usage").
 #[derive(Clone, Copy, Debug, PartialEq, Eq)]
@@ -14,21 +14,19 @@ pub struct Usage {
     pub instructions: u64,
 }
 
-/// A process. `S` is how its address space is kept, `F` its descriptors, `P` pending signals, and `A` its watched
-/// areas.
+/// A process, which stands in its system under its id. `S` is how its address space is kept, `F` its descriptors, `P`
+/// pending signals, `L` its lwps, and `C` what controllers set on it.
 ///
-/// A zombie has ended and waits to be reaped. It has nothing of what stands from `space` on: no memory, no
-/// descriptors, no lwps, no traced events and no modes; its next lwp would be the first.
+/// A zombie has ended and waits to be reaped. It has nothing of what stands from `space` on, but for its usage: no
+/// memory, no descriptors, no lwps, no traced events and no modes; its next lwp would be the first.
 #[derive(Drop)]
-pub struct Process<S, F, P, A> {
-    pub id: u32,
+pub struct ProcessOf<S, F, P, L, C> {
     /// The parent's id, 0 once the parent has ended.
     pub parent: u32,
     /// The name of the program that it runs.
     pub program: Name,
     /// The clock at its making, in milliseconds.
     pub made_at: u64,
-    pub usage: Usage,
     /// The wait status of a zombie (wait.h(3HEAD)).
     pub ended: Option<u64>,
     pub space: S,
@@ -41,20 +39,22 @@ pub struct Process<S, F, P, A> {
     pub job_stop: Option<Sig>,
     /// The id that the next lwp gets.
     pub next_lwp: u32,
-    /// By rising id.
-    pub lwps: Table<Lwp<P>>,
+    /// Under their ids.
+    pub lwps: L,
+    pub control: C,
+}
+
+/// What controllers set on a process, and what they alone can read of it. `A` is how watched areas are kept.
+#[derive(Drop)]
+pub struct Control<A> {
     pub traced_signals: SigSet,
     pub traced_faults: FltSet,
     pub traced_entries: SysSet,
     pub traced_exits: SysSet,
     pub modes: Modes,
     pub areas: A,
+    pub usage: Usage,
 }
 
-impl<S, F, P, A> Keyed for Process<S, F, P, A> {
-    ghost key = { λ p. p.id };
-
-    fn id(&self) -> u32 {
-        self.id
-    }
-}
+/// A process of the traced machine. `A` is how watched areas are kept.
+pub type Process<S, F, P, A> = ProcessOf<S, F, P, ById<Lwp<P>>, Control<A>>;

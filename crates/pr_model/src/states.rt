@@ -9,7 +9,7 @@ pub struct System<G, W, T> {
     /// How many processes were ever made, process 0 among them; the next one gets this id.
     pub made: u32,
     pub files: W,
-    /// Live processes and zombies, by rising id.
+    /// Live processes and zombies, under their ids.
     pub processes: T,
 }
 

@@ -1,0 +1,189 @@
+use Rattle.std.specs.Prelude.{◌==◌, ◌+◌, ℕ, Bool, true, false, List, Option, Some, None, is_some, length, replicate, if◌then◌else◌}
+use Rattle.pr_num.specs.Agents.{agent_id}
+use Rattle.pr_num.specs.Control.{stopped_flag, istop_flag, dstop_flag, step_flag, asleep_flag, agent_flag, issys_flag}
+use Rattle.pr_num.specs.Faults.{fault_number}
+use Rattle.pr_num.specs.Signals.{signal_number}
+use Rattle.pr_num.specs.Spaces.{heap_size}
+use Rattle.pr_num.specs.Syscalls.{syscall_number}
+use Rattle.pr_num.specs.declared.errnos.Errno.{Errno}
+use Rattle.pr_num.specs.declared.faults.Flt.{Flt}
+use Rattle.pr_num.specs.declared.signals.Sig.{Sig}
+use Rattle.pr_num.specs.declared.stop_reasons.StopReason.{StopReason}
+use Rattle.pr_num.specs.declared.stop_reasons.StopReason.TheVariants as reason
+use Rattle.pr_num.specs.declared.syscalls.Sysno.{Sysno}
+use Rattle.pr_parts.specs.AddressSpaces.{heap_base}
+use Rattle.pr_num.specs.Infos.{no_info}
+use Rattle.pr_num.specs.declared.infos.Info.{Info}
+use Rattle.pr_rec.specs.NoLwp.{no_lwp}
+use Rattle.pr_rec.specs.declared.lwps.Disposition.{Disposition}
+use Rattle.pr_rec.specs.declared.lwps.Disposition.TheVariants as disposition
+use Rattle.pr_rec.specs.declared.lwps.LwpStatus.{LwpStatus}
+use Rattle.pr_rec.specs.declared.statuses.Status.{Status}
+use Rattle.pr_parts.specs.PendingSignals.{pending_set}
+use Rattle.pr_model.specs.Registers.{arguments}
+use Rattle.pr_model.specs.Running.{is_asleep}
+use Rattle.pr_model.specs.Signals.{disposition_of}
+use Rattle.pr_model.specs.State.{TracedProcess, TracedLwp, has_agent}
+use Rattle.pr_model.specs.Stops.{shown, has_event_stop, representative}
+use Rattle.pr_model.specs.declared.events.Res.{Res}
+use Rattle.pr_model.specs.declared.events.Res.TheVariants.{Value, Error, Ended}
+use Rattle.pr_model.specs.declared.lwps.Current.{Current}
+use Rattle.pr_model.specs.declared.lwps.Phase.{Phase}
+use Rattle.pr_model.specs.declared.lwps.Phase.TheVariants.{User, Entered, Asleep, Exiting, Faulted}
+use Rattle.pr_model.specs.declared.stops.Stop.{Stop}
+use Rattle.pr_model.specs.declared.stops.Stop.TheVariants as stop
+use Rattle.pr_model.specs.declared.stops.Shown.{Shown}
+use Rattle.pr_model.specs.declared.stops.Shown.TheVariants.{Event, Suspended, JobControl}
+
+-- The status of a process and of an lwp (proc(4), "status" and "lwpstatus"), filled from the state, a line a field.
+
+-- a flag that is set or not
+abbrev pub flag : Bool → ℕ → ℕ
+flag true bit = bit
+flag false bit = 0
+
+-- ---- why an lwp is stopped, and what for
+
+abbrev pub reason_of_stop : Stop → StopReason
+reason_of_stop stop.Requested = reason.Requested
+reason_of_stop (stop.Signalled s) = reason.Signalled
+reason_of_stop (stop.SysEntry c) = reason.SysEntry
+reason_of_stop (stop.SysExit c) = reason.SysExit
+reason_of_stop (stop.Faulted f) = reason.Faulted
+
+abbrev pub what_of_stop : Stop → ℕ
+what_of_stop stop.Requested = 0
+what_of_stop (stop.Signalled s) = signal_number s
+what_of_stop (stop.SysEntry c) = syscall_number c
+what_of_stop (stop.SysExit c) = syscall_number c
+what_of_stop (stop.Faulted f) = fault_number f
+
+unfoldable pub reason_shown : Option Shown → Option StopReason
+reason_shown None = None
+reason_shown (Some (Event stop)) = Some (reason_of_stop stop)
+reason_shown (Some (JobControl s)) = Some reason.JobControl
+reason_shown (Some Suspended) = Some reason.Suspended
+
+unfoldable pub what_shown : Option Shown → ℕ
+what_shown None = 0
+what_shown (Some (Event stop)) = what_of_stop stop
+what_shown (Some (JobControl s)) = signal_number s
+what_shown (Some Suspended) = 0
+
+-- ---- the fault or the call in which an lwp is
+
+unfoldable pub fault_in : Phase → Option Flt
+fault_in (Faulted f address) = Some f
+fault_in _ = None
+
+unfoldable pub fault_address_in : Phase → ℕ
+fault_address_in (Faulted f address) = address
+fault_address_in _ = 0
+
+unfoldable pub call_in : Phase → Option Sysno
+call_in User = None
+call_in (Entered call) = Some call
+call_in (Asleep call args since) = Some call
+call_in (Exiting call args result) = Some call
+call_in (Faulted f address) = None
+
+-- before a call is made its arguments are those that stand in r1 to r6
+unfoldable pub arguments_in : List ℕ → Phase → List ℕ
+arguments_in regs User = replicate 6 0
+arguments_in regs (Entered call) = arguments regs
+arguments_in regs (Asleep call args since) = args
+arguments_in regs (Exiting call args result) = args
+arguments_in regs (Faulted f address) = replicate 6 0
+
+abbrev pub value_of : Res → ℕ
+value_of (Value v) = v
+value_of (Error e) = 0
+value_of Ended = 0
+
+abbrev pub error_of : Res → Option Errno
+error_of (Value v) = None
+error_of (Error e) = Some e
+error_of Ended = None
+
+unfoldable pub result_in : Phase → ℕ
+result_in (Exiting call args result) = value_of result
+result_in _ = 0
+
+unfoldable pub errno_in : Phase → Option Errno
+errno_in (Exiting call args result) = error_of result
+errno_in _ = None
+
+-- ---- the current signal
+
+unfoldable pub signal_in : Option Current → Option Sig
+signal_in None = None
+signal_in (Some c) = Some c.signal
+
+unfoldable pub info_in : Option Current → Info
+info_in None = no_info
+info_in (Some c) = c.info
+
+-- what a process does with a signal: 0 default, 1 ignored, else caught
+abbrev pub disposition_class : ℕ → Disposition
+disposition_class d = if d == 0 then disposition.Default else (if d == 1 then disposition.Ignored else disposition.Caught)
+
+unfoldable pub disposition_in : List ℕ → Option Current → Disposition
+disposition_in dispositions None = disposition.Default
+disposition_in dispositions (Some c) = disposition_class (disposition_of dispositions c.signal)
+
+-- ---- the records
+
+-- an lwp's flags
+unfoldable pub lwp_flags : Option Sig → ℕ → TracedLwp → ℕ
+lwp_flags job id l =
+    flag (is_some (shown job l)) stopped_flag + flag (has_event_stop l) istop_flag + flag l.control.directed dstop_flag
+    + flag l.control.step step_flag + flag (is_asleep l.phase) asleep_flag + flag (id == agent_id) agent_flag
+
+-- the status of the lwp of an id in a process
+unfoldable pub lwpstatus_of : TracedProcess → ℕ → TracedLwp → LwpStatus
+lwpstatus_of p id l = record {
+  flags = lwp_flags p.job_stop id l;
+  id = id;
+  why = reason_shown (shown p.job_stop l);
+  what = what_shown (shown p.job_stop l);
+  signal = signal_in l.current;
+  fault = fault_in l.phase;
+  fault_address = fault_address_in l.phase;
+  call = call_in l.phase;
+  arguments = arguments_in l.regs l.phase;
+  result = result_in l.phase;
+  errno = errno_in l.phase;
+  held = l.held;
+  pending = pending_set l.pending;
+  regs = l.regs;
+  disposition = disposition_in p.dispositions l.current;
+  info = info_in l.current;
+}
+
+-- that of the representative; a process without lwps has none
+abbrev pub status_of_found : TracedProcess → Option (ℕ × TracedLwp) → LwpStatus
+status_of_found p None = no_lwp
+status_of_found p (Some e) = lwpstatus_of p e.0 e.1
+
+-- a process's flags: its modes, and whether it is the system process
+unfoldable pub process_flags : ℕ → TracedProcess → ℕ
+process_flags pid p = p.control.modes + flag (pid == 0) issys_flag
+
+-- the status of the process of an id
+unfoldable pub status_of : ℕ → TracedProcess → Status
+status_of pid p = record {
+  flags = process_flags pid p;
+  id = pid;
+  parent = p.parent;
+  lwps = length p.lwps;
+  pending = pending_set p.pending;
+  traced_signals = p.control.traced_signals;
+  traced_faults = p.control.traced_faults;
+  traced_entries = p.control.traced_entries;
+  traced_exits = p.control.traced_exits;
+  heap_base = heap_base;
+  heap_size = heap_size p.space;
+  agent = flag (has_agent p) agent_id;
+  areas = length p.control.areas;
+  lwp = status_of_found p (representative p);
+}
