@@ -1,188 +1,395 @@
-use Rattle.std.proofs.Common.{◌≡◌, ◌≢◌, ℕ, Bool, true, false, List, [], ◌∷◌, Some, None, refl, sym, ◌∙◌, ap, subst}
-use Rattle.pr_num.specs.Sets.{with_number}
-use Rattle.pr_num.specs.Signals.{signal_number}
-use Rattle.pr_num.specs.Faults.{fault_signal}
+use Rattle.std.proofs.Common.{◌≡◌, ◌≢◌, ℕ, Bool, true, false, not, ◌||◌, ◌&&◌, is_some, is_none, eqb, ltb, length, Option, Some, None, List, [], ◌∷◌, cond, refl, sym, subst, ◌∙◌, ap}
+use Rattle.std.specs.Option.{option_map, option_and_then, option_or}
+use Rattle.pr_num.specs.Agents.{agent_id}
+use Rattle.pr_num.specs.Limits.{frame_limit}
 use Rattle.pr_num.specs.declared.faults.Flt.{Flt}
-use Rattle.pr_num.specs.declared.faults.Flt.TheVariants.{Trace}
+use Rattle.pr_num.specs.declared.faults.Flt.TheVariants.{Ill, Bpt, Trace, Watch, Access, Bounds, Stack, Izdiv}
+use Rattle.pr_num.specs.declared.signals.Sig.{Sig}
 use Rattle.pr_num.specs.declared.syscalls.Sysno.{Sysno}
-use Rattle.pr_model.specs.Erasure.{erased_phase, erased_pending, erased_lwp, erased_process, erased_system}
-use Rattle.pr_model.specs.InstructionEffects.{instruction_effect}
-use Rattle.pr_model.specs.LwpTurns.{lwp_made, made_by, posted, rest_made, with_row, settled}
-use Rattle.pr_model.specs.State.{TracedSystem, TracedProcess, TracedLwp, with_process}
-use Rattle.pr_model.specs.System.{in_program, at_call, SystemState, with_system_ended}
-use Rattle.pr_model.specs.Turns.{Row, requested_stop, returned, made, ran, entered, incurred, with_step_taken, with_result}
-use Rattle.pr_model.specs.UntracedMachine.{with_regs, with_call_entered, with_call_done, with_fault_pending, called, UntracedStep, UntracedRun, ends_here, by_call_entry, step_by}
-use Rattle.pr_model.specs.UntracedSteps.{steps_of_fault, steps_of_turn}
-use Rattle.pr_model.specs.declared.effects.CallEffect.TheVariants.{Done, EndsProcess}
-use Rattle.pr_model.specs.declared.effects.InstructionEffect.TheVariants.{Runs, Calls, Faults}
-use Rattle.pr_model.specs.declared.effects.TurnRow.{TurnRow}
-use Rattle.pr_model.specs.declared.effects.TurnRow.TheVariants as rows
-use Rattle.pr_model.specs.declared.events.Did.{Did}
+use Rattle.pr_parts.specs.declared.actions.Action.{Action}
+use Rattle.pr_parts.specs.declared.actions.Action.TheVariants as act
+use Rattle.pr_model.specs.Changes.{Effect, Ending, ends_process, is_over, all_changed}
+use Rattle.pr_model.specs.Changes as change
+use Rattle.pr_model.specs.Erasure.{erased_lwp, erased_process, erased_system, erased_phase}
+use Rattle.pr_model.specs.InstructionEffects.{InstructionEffect, Store, instruction_effect}
+use Rattle.pr_model.specs.InstructionEffects as instruction
+use Rattle.pr_model.specs.LwpTurns.{is_held_back, settled}
+use Rattle.pr_model.specs.Machines.{UntracedLwp, in_program, unchanged, untraced}
+use Rattle.pr_model.specs.Moves as move
+use Rattle.pr_model.specs.Moves.{Move, catches, takes, posts, returns, moved}
+use Rattle.pr_model.specs.Rows.{Row, handler_row, caught_row, interrupted_row, acted_row, performed_row, quiet_row, instruction_row, requested_row, posted_row, returned_row, entered_row, incurred_row, ran_row, executed_row, own_taken_row, shared_taken_row}
+use Rattle.pr_model.specs.CallEffects.{call_effect}
+use Rattle.pr_model.specs.Registers.{arguments}
+use Rattle.pr_model.specs.declared.lwps.Current.{Current}
+use Rattle.pr_erasure.proofs.DecisionLemmas.{decided}
+use Rattle.pr_erasure.proofs.EffectLemmas.{IsProperEffect}
+use Rattle.pr_model.specs.Signals.{action_for, with_frame, handler_registers, handler_held, own_takeable, shared_takeable, takeable, current_of}
+use Rattle.pr_num.specs.Sets.{minus_word}
+use Rattle.pr_num.specs.declared.signals.Sig.TheVariants.{Segv}
+use Rattle.pr_num.specs.Signals.{signal_number, least_signal}
+use Rattle.pr_parts.specs.SignalRules.{takeable_signal}
+use Rattle.pr_parts.specs.PendingSignals.{pending_set}
+use Rattle.pr_model.specs.State.{TracedLwp, TracedProcess, TracedSystem, process_of, if_live, live_process, lwp_of, with_lwp_of}
+use Rattle.pr_model.specs.Transitions.{performed, interrupted, handled, dropped, job_stopped, died, ending, moving, stored_in, after_transition, requested, posted, returned, ran, entered, incurred, own_taken, shared_taken}
+use Rattle.pr_model.specs.UntracedMachine.{MayStep, Makes, IsUnsignalled, RunsProgram, takes_in, takes_own, takes_shared, wakes, is_caught, is_caught_by, at_it, asleep_in_it, Acting, ignores, stops, kills, handles, acts_on, interrupts_call, interrupts_sleep, makes_call, falls_asleep, executes, incurs, UntracedRun, ends_here, by_call_entry, step_by}
+use Rattle.pr_model.specs.UntracedSteps.{steps_of_turn, steps_of_fault}
 use Rattle.pr_model.specs.declared.events.Did.TheVariants as did
-use Rattle.pr_model.specs.declared.events.Res.{Res}
-use Rattle.pr_model.specs.declared.events.Res.TheVariants.{Ended}
 use Rattle.pr_model.specs.declared.lwps.Phase.{Phase}
-use Rattle.pr_model.specs.declared.lwps.Phase.TheVariants.{User, Exiting, Faulted}
-use Rattle.pr_model.specs.declared.steps.Step.{Step}
-use Rattle.pr_model.specs.declared.steps.Step.TheVariants as step
-use Rattle.pr_erasure.proofs.DecisionLemmas.{IsInProgram, IsAtCall, Decided}
-use Rattle.pr_erasure.proofs.EndLemmas.{erased-ended}
-use Rattle.pr_erasure.proofs.FaultLemmas.{instruction-no_trace}
-use Rattle.pr_erasure.proofs.SeenLemmas.{HasTurn, lwp_is_untouched, may_step, runs_program, erased-turn, erased-turn_hidden, erased-row_hidden}
+use Rattle.pr_model.specs.declared.lwps.Phase.TheVariants.{User, Entered, Asleep, Exiting, Faulted}
+use Rattle.pr_model.specs.declared.steps.Step.TheVariants.{Fault, Act as ActOn}
+use Rattle.pr_erasure.specs.Suiting.{AreProper}
+use Rattle.pr_erasure.proofs.FaultLemmas.{plain}
+use Rattle.pr_erasure.specs.PlainEffects.{IsPlain}
+use Rattle.pr_erasure.specs.Suiting.{HasNoFault}
+use Rattle.pr_erasure.proofs.StateLemmas.{lwp-erased, live-erased, unmoved}
+use Rattle.pr_erasure.proofs.TransitionLemmas.{settled-erased}
+use Rattle.pr_erasure.specs.Suiting.{IsThere, Suits}
 
--- The rows of the turn table, one lemma each: what a row makes of the traced system, the untraced machine makes of what
--- programs see of it, by the steps of the turn.
+-- Each row of the turn table, as programs see it: which steps of the untraced machine it is.
 
--- what is to be shown of each row: whether the lwp was on its way out of a call makes no difference
-pub record RunsUntraced (s : TracedSystem) (p : TracedProcess) (l : TracedLwp) (row : TurnRow) : Type 0 where
-  pub run : (returning : Bool) → UntracedRun (erased_system s) (steps_of_turn returning p.id l.id (rest_made row l).did) (erased_system (settled s p l row).system)
+-- An lwp that may have a turn, in a process of which nothing is watched; it has no mark of a controller, and is not the
+-- agent.
+pub record HasTurn (s : TracedSystem) (pid : ℕ) (p : TracedProcess) (id : ℕ) (l : TracedLwp) : Type 0 where
+  pub live : live_process s pid ≡ Some p
+  pub there : lwp_of p id ≡ Some l
+  pub free : is_held_back p id l ≡ false
+  pub no_agent : eqb id agent_id ≡ false
+  pub no_step : l.control.step ≡ false
+  pub no_abort : l.control.abort ≡ false
+  pub unwatched : p.control.areas ≡ []
 
--- an lwp without a step mark does what it does, and incurs no FLTTRACE
-not_stepped : (row : Row ℕ) → row.lwp.step ≡ false → with_step_taken row ≡ row
-unfolding with_step_taken
-not_stepped row h = rw h
+-- the row is these steps
+abbrev pub RowRuns : TracedSystem → ℕ → TracedProcess → ℕ → TracedLwp → Row → Type 0
+RowRuns s pid p id l row = (returning : Bool) → UntracedRun (erased_system s) (steps_of_turn returning pid id row.did) (erased_system (settled s pid p id l row).system)
 
--- any other fault is one step
-steps-no_trace : (returning : Bool) (pid id : ℕ) (f : Flt) → f ≢ Trace → steps_of_fault returning pid id f ≡ step.Fault pid id f ∷ []
-steps-no_trace returning pid id Trace other = absurd (other refl)
-steps-no_trace returning pid id _ other = refl
+pub found-live : (s : TracedSystem) (pid : ℕ) (p : TracedProcess) → live_process s pid ≡ Some p → process_of s pid ≡ Some p
+unfolding live_process
+found-live s pid p live = by (process_of s pid) live
+  where
+    kept : (b : Bool) (q : TracedProcess) → cond b (Some q) None ≡ Some p → Some q ≡ Some p
+    kept true q e = e
+    kept false q e = cc
 
-stays : {u v : SystemState} → v ≡ u → UntracedRun u [] v
-stays {u} e = subst (UntracedRun u []) (sym e) ends_here
+    by : (o : Option TracedProcess) → option_and_then if_live o ≡ Some p → o ≡ Some p
+    by None e = cc
+    by (Some q) e = kept (is_none q.ended) q e
 
-one_step : {u v : SystemState} {x : Step} → UntracedStep u x v → UntracedRun u (x ∷ []) v
-one_step h = step_by h ends_here
+is_there : (s : TracedSystem) (pid : ℕ) (p : TracedProcess) (id : ℕ) (l : TracedLwp) → HasTurn s pid p id l → IsThere s pid p id l
+is_there s pid p id l h = record { found = found-live s pid p h.live; there = h.there }
 
-module _ (s : TracedSystem) (p : TracedProcess) (l : TracedLwp) (t : HasTurn s p l) where
-  -- a row by what it did
-  runs_as : (row : TurnRow) (d : Did) → (rest_made row l).did ≡ d → ((returning : Bool) → UntracedRun (erased_system s) (steps_of_turn returning p.id l.id d) (erased_system (settled s p l row).system)) → RunsUntraced s p l row
-  runs_as row d was run = record {
-    run = λ returning. subst (λ (x : Did). UntracedRun (erased_system s) (steps_of_turn returning p.id l.id x) (erased_system (settled s p l row).system)) (sym was) (run returning);
-  }
+-- ---- it may make a step
 
-  -- A directed lwp stops: nothing is seen of it.
-  pub row-requested : RunsUntraced s p l rows.Requested
-  unfolding settled lwp_made rest_made made_by requested_stop erased_lwp
-  row-requested = runs_as rows.Requested did.Stopped refl (λ returning. stays (erased-turn_hidden s p l t rows.Requested refl))
+false_left : (a b : Bool) → (a || b) ≡ false → a ≡ false
+false_left true b e = cc
+false_left false b e = refl
 
-  -- The signal of a fault is posted: it was seen to be pending since the fault.
-  pub row-posted : (f : Flt) (address : ℕ) → l.phase ≡ Faulted f address → RunsUntraced s p l (rows.Posted f)
-  unfolding settled lwp_made rest_made made_by posted erased_lwp erased_phase erased_pending
-  row-posted f address phase =
-      let seen : erased_lwp (lwp_made (rows.Posted f) l) ≡ erased_lwp l =
-      ap (λ (ph : Phase). record (erased_lwp l) { pending = erased_pending ph l.pending; place = erased_phase ph }) (sym phase) in
-      runs_as (rows.Posted f) (did.Posted f) refl (λ returning. stays (erased-turn_hidden s p l t (rows.Posted f) seen))
+false_right : (a b : Bool) → (a || b) ≡ false → b ≡ false
+false_right true b e = cc
+false_right false b e = e
 
-  -- An lwp goes back to its program, in which it was seen since the call was over.
-  pub row-returned : (call : Sysno) (args : List ℕ) (result : Res) → l.phase ≡ Exiting call args result → RunsUntraced s p l (rows.Returned call)
-  unfolding settled lwp_made rest_made made_by returned erased_lwp erased_phase erased_pending
-  row-returned call args result phase =
-      let back : Row ℕ = record { lwp = record l { phase = User }; rest = record { did = did.Returned call; point = None; begun = false } } in
-      let is : made_by (rows.Returned call) l ≡ back = not_stepped back (lwp_is_untouched s p l t).no_step in
-      let seen : erased_lwp (lwp_made (rows.Returned call) l) ≡ erased_lwp l =
-      ap (λ (row : Row ℕ). erased_lwp row.lwp) is
-      ∙ ap (λ (ph : Phase). record (erased_lwp l) { pending = erased_pending ph l.pending; place = erased_phase ph }) (sym phase) in
-      runs_as (rows.Returned call) (did.Returned call) (ap (λ (row : Row ℕ). row.rest.did) is) (λ returning. stays (erased-turn_hidden s p l t (rows.Returned call) seen))
+no_job : (o : Option Sig) (agent : Bool) → (is_some o && not agent) ≡ false → agent ≡ false → o ≡ None
+no_job None agent e other = refl
+no_job (Some g) true e other = cc
+no_job (Some g) false e other = cc
 
-  -- An instruction runs.
-  pub row-ran : (regs : List ℕ) → IsInProgram p l → instruction_effect l.regs p.space ≡ Some (Runs regs) → RunsUntraced s p l (rows.Ran regs)
-  unfolding settled lwp_made rest_made made_by ran erased_lwp erased_process with_regs UntracedStep
-  row-ran regs here effect =
-      let on : Row ℕ = record { lwp = record l { regs = regs }; rest = record { did = did.Ran; point = None; begun = true } } in
-      let is : made_by (rows.Ran regs) l ≡ on = not_stepped on (lwp_is_untouched s p l t).no_step in
-      let seen : erased_lwp (lwp_made (rows.Ran regs) l) ≡ with_regs regs (erased_lwp l) = ap (λ (row : Row ℕ). erased_lwp row.lwp) is in
-      runs_as (rows.Ran regs) did.Ran (ap (λ (row : Row ℕ). row.rest.did) is) (λ returning. one_step (record {
+module _ (s : TracedSystem) (pid : ℕ) (p : TracedProcess) (id : ℕ) (l : TracedLwp) (h : HasTurn s pid p id l) where
+  may_step : MayStep (erased_system s) pid id (erased_process p) (erased_lwp l)
+  unfolding is_held_back erased_process erased_lwp
+  may_step =
+      let moves = false_right (is_some l.control.stop) _ h.free in
+      record {
+        live = live-erased s pid ∙ ap (option_map erased_process) h.live;
+        there = lwp-erased p id ∙ ap (option_map erased_lwp) h.there;
+        not_stopped = no_job p.job_stop (eqb id agent_id) (false_right l.suspended _ moves) h.no_agent;
+        not_suspended = false_left l.suspended _ moves;
+      }
+
+  -- a row makes its transition for both machines
+  pub makes : (row : Row) → Suits row.transition l.phase → Makes (erased_system s) pid id (erased_process p) (erased_lwp l) row.transition (erased_system (settled s pid p id l row).system)
+  makes row suits = record { may_step = may_step; state = settled-erased s pid p id l (is_there s pid p id l h) row suits }
+
+  -- ---- rows that are hidden
+
+  same_system : (f : UntracedLwp → UntracedLwp) → f (erased_lwp l) ≡ erased_lwp l → with_lwp_of pid id f (erased_system s) ≡ erased_system s
+  same_system f same = unmoved s pid p id l (found-live s pid p h.live) h.there f same
+
+  hides : (row : Row) → Suits row.transition l.phase → after_transition untraced pid (erased_process p) id (erased_lwp l) row.transition (erased_system s) ≡ erased_system s → UntracedRun (erased_system s) [] (erased_system (settled s pid p id l row).system)
+  hides row suits same = subst (λ v. UntracedRun (erased_system s) [] v) (sym ((makes row suits).state ∙ same)) ends_here
+
+  pub requested-runs : RowRuns s pid p id l requested_row
+  unfolding requested_row requested after_transition moved untraced all_changed
+  requested-runs returning = hides requested_row (record { fits = tt; sent = tt }) (same_system (moved untraced move.stops) refl)
+
+  pub posted-runs : (f : Flt) (address : ℕ) → l.phase ≡ Faulted f address → RowRuns s pid p id l (posted_row f address)
+  unfolding posted_row posted after_transition moved untraced all_changed unchanged
+  posted-runs f address is returning = hides (posted_row f address) (record { fits = is; sent = tt }) (same_system (moved untraced (posts f address)) refl)
+
+  back : (call : Sysno) (args : List ℕ) (result : _) → l.phase ≡ Exiting call args result → moved untraced returns (erased_lwp l) ≡ erased_lwp l
+  unfolding moved untraced erased_lwp erased_phase
+  back call args result is = sym (ap (λ ph. record (erased_lwp l) { phase = erased_phase ph }) is)
+
+  returned_is : (call : Sysno) → returned_row p l call ≡ quiet_row (did.Returned call) returned
+  unfolding returned_row
+  returned_is call = rw (h.no_step) refl
+
+  pub returned-runs : (call : Sysno) (args : List ℕ) (result : _) → l.phase ≡ Exiting call args result → HasNoFault l.phase → RowRuns s pid p id l (returned_row p l call)
+  unfolding returned after_transition all_changed
+  returned-runs call args result is no_fault =
+      subst (λ row. RowRuns s pid p id l row) (sym (returned_is call))
+      (λ returning. hides (quiet_row (did.Returned call) returned) (record { fits = no_fault; sent = tt }) (same_system (moved untraced returns) (back call args result is)))
+
+  -- ---- instructions
+
+  runs_program : l.phase ≡ User → IsUnsignalled (erased_process p) (erased_lwp l) → RunsProgram (erased_process p) (erased_lwp l)
+  unfolding erased_lwp erased_phase
+  runs_program is unsignalled = record { in_its_program = ap erased_phase is; unsignalled = unsignalled }
+
+  ran_is : (regs : List ℕ) (store : Option Store) → ran_row p l regs store ≡ instruction_row did.Ran None (ran p.space regs store)
+  unfolding ran_row
+  ran_is regs store = rw (h.no_step) refl
+
+  sent_store : (store : Option Store) → AreProper (stored_in p.space store)
+  unfolding stored_in
+  sent_store None = tt
+  sent_store (Some store) = (tt, tt)
+
+  one_fault : (returning : Bool) (f : Flt) → f ≢ Trace → steps_of_fault returning pid id f ≡ Fault pid id f ∷ []
+  one_fault returning Ill other = refl
+  one_fault returning Bpt other = refl
+  one_fault returning Trace other = absurd (other refl)
+  one_fault returning Watch other = refl
+  one_fault returning Access other = refl
+  one_fault returning Bounds other = refl
+  one_fault returning Stack other = refl
+  one_fault returning Izdiv other = refl
+
+  executed-runs : (e : InstructionEffect) → instruction_effect p.space [] l.regs ≡ e → IsPlain e → l.phase ≡ User → HasNoFault l.phase → IsUnsignalled (erased_process p) (erased_lwp l) → RowRuns s pid p id l (executed_row p l e)
+  unfolding executed_row erased_process erased_lwp ran entered_row entered incurred_row incurred
+  executed-runs (instruction.runs regs store) is plainly user no_fault unsignalled returning =
+      (subst (λ row. RowRuns s pid p id l row) (sym (ran_is regs store))
+      (λ again. step_by (executes (record {
         process = erased_process p;
         lwp = erased_lwp l;
-        may_step = may_step s p l t;
-        runs_program = runs_program s p l t here;
+        runs_program = runs_program user unsignalled;
         regs = regs;
-        effect = effect;
-        state = erased-turn s p l t (rows.Ran regs) (with_regs regs) seen;
-      }))
-
-  -- An lwp comes to a system call: a silent move.
-  pub row-entered : (call : Sysno) (regs : List ℕ) → IsInProgram p l → instruction_effect l.regs p.space ≡ Some (Calls call regs) → RunsUntraced s p l (rows.Entered call regs)
-  unfolding settled lwp_made rest_made made_by entered erased_lwp erased_process erased_phase erased_pending with_call_entered
-  row-entered call regs here effect =
-      let seen : erased_lwp (lwp_made (rows.Entered call regs) l) ≡ with_call_entered call regs (erased_lwp l) =
-      ap (λ (ph : Phase). record (erased_lwp l) { regs = regs; pending = erased_pending ph l.pending; place = at_call call }) (sym here.phase) in
-      runs_as (rows.Entered call regs) (did.Entered call) refl (λ returning. by_call_entry (record {
-        pid = p.id;
-        id = l.id;
+        store = store;
+        effect = is;
+        makes = makes (instruction_row did.Ran None (ran p.space regs store)) (record { fits = tt; sent = sent_store store });
+      })) ends_here)) returning
+  executed-runs (instruction.calls call regs) is plainly user no_fault unsignalled returning =
+      by_call_entry (record {
+        pid = pid;
+        id = id;
         process = erased_process p;
         lwp = erased_lwp l;
-        may_step = may_step s p l t;
-        runs_program = runs_program s p l t here;
+        runs_program = runs_program user unsignalled;
         call = call;
         regs = regs;
-        effect = effect;
-        state = erased-turn s p l t (rows.Entered call regs) (with_call_entered call regs) seen;
-      }) ends_here)
-
-  -- An instruction incurs a fault, whose signal is pending from now on to programs.
-  pub row-incurred : (f : Flt) (address : ℕ) → IsInProgram p l → instruction_effect l.regs p.space ≡ Some (Faults f address) → RunsUntraced s p l (rows.Incurred f address)
-  unfolding settled lwp_made rest_made made_by incurred erased_lwp erased_process erased_phase erased_pending with_fault_pending UntracedStep
-  row-incurred f address here effect =
-      let seen : erased_lwp (lwp_made (rows.Incurred f address) l) ≡ with_fault_pending f (erased_lwp l) =
-      ap (λ (ph : Phase). record (erased_lwp l) { pending = with_number (erased_pending ph l.pending) (signal_number (fault_signal f)); place = erased_phase ph }) (sym here.phase) in
-      let step : UntracedRun (erased_system s) (step.Fault p.id l.id f ∷ []) (erased_system (settled s p l (rows.Incurred f address)).system) = one_step (record {
+        effect = is;
+        makes = makes (entered_row call regs) (record { fits = no_fault; sent = tt });
+      }) ends_here
+  executed-runs (instruction.faults f address) is plainly user no_fault unsignalled returning =
+      subst (λ steps. UntracedRun (erased_system s) steps (erased_system (settled s pid p id l (incurred_row f address)).system)) (sym (one_fault returning f plainly))
+      (step_by (incurs (record {
         process = erased_process p;
         lwp = erased_lwp l;
-        may_step = may_step s p l t;
-        runs_program = runs_program s p l t here;
+        runs_program = runs_program user unsignalled;
         address = address;
-        effect = effect;
-        state = erased-turn s p l t (rows.Incurred f address) (with_fault_pending f) seen;
-      }) in
-      runs_as (rows.Incurred f address) (did.Faulted f) refl (λ returning. rw (steps-no_trace returning p.id l.id f (instruction-no_trace l.regs p.space f address effect)) step)
+        effect = is;
+        makes = makes (incurred_row f address) (record { fits = user; sent = tt });
+      })) ends_here)
+  executed-runs (instruction.runs_into_watch address regs store) is plainly user no_fault unsignalled returning = absurd plainly
 
-  -- A call is made and gives its result.
-  pub row-made : (call : Sysno) (result : Res) → IsAtCall p l call (Done result) → RunsUntraced s p l (rows.Made call result)
-  unfolding settled lwp_made rest_made made_by made erased_lwp erased_process erased_phase erased_pending with_call_done called UntracedStep
-  row-made call result here =
-      let seen : erased_lwp (lwp_made (rows.Made call result) l) ≡ with_call_done result (erased_lwp l) =
-      ap (λ (ph : Phase). record (erased_lwp l) { regs = with_result result l.regs; pending = erased_pending ph l.pending; place = in_program }) (sym here.phase) in
-      runs_as (rows.Made call result) (did.Made call result) refl (λ returning. one_step (record {
+  pub program-runs : l.phase ≡ User → HasNoFault l.phase → IsUnsignalled (erased_process p) (erased_lwp l) → RowRuns s pid p id l (executed_row p l (instruction_effect p.space p.control.areas l.regs))
+  program-runs user no_fault unsignalled =
+      subst (λ areas. RowRuns s pid p id l (executed_row p l (instruction_effect p.space areas l.regs))) (sym h.unwatched)
+      (executed-runs (instruction_effect p.space [] l.regs) refl (plain p.space l.regs) user no_fault unsignalled)
+
+  -- ---- signals that are taken
+
+  own-erased : HasNoFault l.phase → own_takeable (erased_lwp l) ≡ own_takeable l
+  unfolding own_takeable erased_lwp
+  own-erased no_fault = ap (λ w. least_signal (minus_word (pending_set w) l.held)) (no_fault l.pending)
+
+  own_taken-erased : (g : Sig) → HasNoFault l.phase → own_taken (erased_lwp l) g ≡ own_taken l g
+  unfolding own_taken erased_lwp
+  own_taken-erased g no_fault = ap (λ w. moving (takes (current_of g w) true)) (no_fault l.pending)
+
+  pub unsignalled : HasNoFault l.phase → l.current ≡ None → own_takeable l ≡ None → shared_takeable p l ≡ None → IsUnsignalled (erased_process p) (erased_lwp l)
+  unfolding takeable takeable_signal own_takeable shared_takeable erased_process erased_lwp
+  unsignalled no_fault no_current own shared = record {
+    no_current = no_current;
+    none_to_take =
+        ap (λ w. is_some (option_or (least_signal (minus_word (pending_set w) l.held)) (least_signal (minus_word (pending_set p.pending) l.held)))) (no_fault l.pending)
+        ∙ ap (λ o. is_some (option_or o (least_signal (minus_word (pending_set p.pending) l.held)))) own
+        ∙ ap (λ o. is_some o) shared;
+  }
+
+  pub own_taken-runs : (g : Sig) → HasNoFault l.phase → takes_in (erased_phase l.phase) ≡ true → l.current ≡ None → own_takeable l ≡ Some g → RowRuns s pid p id l (own_taken_row l g)
+  unfolding own_taken_row erased_lwp own_taken
+  own_taken-runs g no_fault place no_current own returning =
+      step_by (takes_own (record {
         process = erased_process p;
         lwp = erased_lwp l;
-        may_step = may_step s p l t;
-        at = ap erased_phase here.phase;
-        no_current = here.no_current;
-        effect = Done result;
-        does = here.does;
-        gives = refl;
-        state = erased-turn s p l t (rows.Made call result) (with_call_done result) seen;
-      }))
+        may_take = record { place = place; no_current = no_current };
+        its_own = own-erased no_fault ∙ own;
+        makes = subst (λ t. Makes (erased_system s) pid id (erased_process p) (erased_lwp l) t (erased_system (settled s pid p id l (own_taken_row l g)).system)) (sym (own_taken-erased g no_fault)) (makes (own_taken_row l g) (record { fits = no_fault; sent = tt }));
+      })) ends_here
 
-  -- A call is made and ends its process.
-  pub row-ended : (call : Sysno) (status : ℕ) → IsAtCall p l call (EndsProcess status) → RunsUntraced s p l (rows.Ended call status)
-  unfolding settled lwp_made rest_made made_by erased_lwp erased_process erased_phase called UntracedStep
-  row-ended call status here =
-      let row : TurnRow = rows.Ended call status in
-      let ends : erased_system (settled s p l row).system ≡ with_system_ended (erased_process p) status (erased_system s) =
-      erased-ended (with_row row l p) status (with_process p.id (with_row row l) s)
-      ∙ ap (λ q. with_system_ended q status (erased_system (with_process p.id (with_row row l) s))) (erased-row_hidden s p l t row refl)
-      ∙ ap (with_system_ended (erased_process p) status) (erased-turn_hidden s p l t row refl) in
-      runs_as row (did.Made call Ended) refl (λ returning. one_step (record {
+  pub shared_taken-runs : (g : Sig) → HasNoFault l.phase → takes_in (erased_phase l.phase) ≡ true → l.current ≡ None → own_takeable l ≡ None → shared_takeable p l ≡ Some g → RowRuns s pid p id l (shared_taken_row p g)
+  unfolding shared_taken_row erased_lwp erased_process shared_taken shared_takeable
+  shared_taken-runs g no_fault place no_current own shared returning =
+      step_by (takes_shared (record {
         process = erased_process p;
         lwp = erased_lwp l;
-        may_step = may_step s p l t;
-        at = ap erased_phase here.phase;
-        no_current = here.no_current;
-        effect = EndsProcess status;
-        does = here.does;
-        gives = refl;
-        state = ends;
-      }))
+        may_take = record { place = place; no_current = no_current };
+        none_own = own-erased no_fault ∙ own;
+        shared = shared;
+        makes = makes (shared_taken_row p g) (record { fits = no_fault; sent = (tt, tt) });
+      })) ends_here
 
-  -- the row that was decided
-  pub row-runs : (row : TurnRow) → Decided p l row → RunsUntraced s p l row
-  row-runs _ Decided.requested = row-requested
-  row-runs _ (Decided.posted {f = f} {address = address} phase) = row-posted f address phase
-  row-runs _ (Decided.returned {call = call} {args = args} {result = result} phase) = row-returned call args result phase
-  row-runs _ (Decided.made {call = call} {result = result} here) = row-made call result here
-  row-runs _ (Decided.ended {call = call} {status = status} here) = row-ended call status here
-  row-runs _ (Decided.ran {regs = regs} here effect) = row-ran regs here effect
-  row-runs _ (Decided.entered {call = call} {regs = regs} here effect) = row-entered call regs here effect
-  row-runs _ (Decided.incurred {f = f} {address = address} here effect) = row-incurred f address here effect
+  -- ---- signals that are acted on
+
+  acts : (c : Current) → l.current ≡ Some c → (row : Row) → Suits row.transition l.phase → Acting (erased_process p) (erased_lwp l) c row.transition → UntracedRun (erased_system s) (ActOn pid id c.signal ∷ []) (erased_system (settled s pid p id l row).system)
+  unfolding erased_lwp
+  acts c current row suits acting =
+      step_by (acts_on (record {
+        process = erased_process p;
+        lwp = erased_lwp l;
+        current = c;
+        its_current = current;
+        of_signal = refl;
+        transition = row.transition;
+        acting = acting;
+        makes = makes row suits;
+      })) ends_here
+
+  is_caught_action : (c : Current) (handler : ℕ) → l.current ≡ Some c → action_for p.dispositions c.signal ≡ act.Catch handler → is_caught p.dispositions l.current ≡ true
+  is_caught_action c handler current action = ap (is_caught p.dispositions) current ∙ ap is_caught_by action
+
+  fits_handled : (c : Current) (handler : ℕ) → HasNoFault l.phase → Suits (handled l c handler) l.phase
+  unfolding handled
+  fits_handled c handler no_fault = elim (ltb (length l.frames) frame_limit) as (λ b. Suits (cond b (moving (catches (with_frame l.regs l.held l.frames) (handler_registers c handler l.regs) (handler_held c l.held))) (ending (ends_process (signal_number Segv)))) l.phase)
+      [ true ↦ record { fits = no_fault; sent = tt } | false ↦ record { fits = tt; sent = tt } ]
+
+  handler-runs : (c : Current) (handler : ℕ) → l.current ≡ Some c → action_for p.dispositions c.signal ≡ act.Catch handler → HasNoFault l.phase → erased_phase l.phase ≡ in_program → RowRuns s pid p id l (handler_row l c handler)
+  unfolding handler_row erased_process erased_lwp handled
+  handler-runs c handler current action no_fault place returning = acts c current (handler_row l c handler) (fits_handled c handler no_fault) (handles action place)
+
+  caught-runs : (phase : Phase) → l.phase ≡ phase → (c : Current) (handler : ℕ) → l.current ≡ Some c → action_for p.dispositions c.signal ≡ act.Catch handler → HasNoFault l.phase → RowRuns s pid p id l (caught_row l c handler phase)
+  unfolding caught_row interrupted_row interrupted erased_lwp erased_process erased_phase
+  caught-runs User is c handler current action no_fault returning = handler-runs c handler current action no_fault (ap erased_phase is) returning
+  caught-runs (Entered call) is c handler current action no_fault returning =
+      step_by (interrupts_call (record {
+        process = erased_process p;
+        lwp = erased_lwp l;
+        args = arguments l.regs;
+        in_call = at_it (ap erased_phase is);
+        caught = is_caught_action c handler current action;
+        makes = makes (interrupted_row false call (arguments l.regs)) (record { fits = no_fault; sent = tt });
+      })) ends_here
+  caught-runs (Asleep call args since) is c handler current action no_fault returning =
+      step_by (interrupts_sleep (record {
+        process = erased_process p;
+        lwp = erased_lwp l;
+        args = args;
+        in_call = asleep_in_it (ap erased_phase is);
+        caught = is_caught_action c handler current action;
+        makes = makes (interrupted_row true call args) (record { fits = no_fault; sent = tt });
+      })) ends_here
+  caught-runs (Exiting call args result) is c handler current action no_fault returning = handler-runs c handler current action no_fault (ap erased_phase is) returning
+  caught-runs (Faulted f address) is c handler current action no_fault returning = handler-runs c handler current action no_fault (ap erased_phase is) returning
+
+  pub acted-runs : (c : Current) → l.current ≡ Some c → HasNoFault l.phase → RowRuns s pid p id l (acted_row p l c)
+  unfolding acted_row erased_process dropped job_stopped died
+  acted-runs c current no_fault = by (action_for p.dispositions c.signal) refl
+    where
+      by : (a : Action) → action_for p.dispositions c.signal ≡ a → RowRuns s pid p id l (acted_row p l c)
+      by act.Ignore is = rw is (λ returning. acts c current _ (record { fits = tt; sent = tt }) (ignores is))
+      by act.Stop is = rw is (λ returning. acts c current _ (record { fits = tt; sent = (tt, tt) }) (stops is))
+      by act.Die is = rw is (λ returning. acts c current _ (record { fits = tt; sent = tt }) (kills is))
+      by (act.Catch handler) is = rw is (caught-runs l.phase refl c handler current is no_fault)
+
+  -- ---- system calls
+
+  not_caught : l.current ≡ None → is_caught p.dispositions l.current ≡ false
+  not_caught current = ap (is_caught p.dispositions) current
+
+  pub call-runs : (call : Sysno) (effect : Effect) → call_effect s pid p id l s.clock call (arguments l.regs) ≡ effect → IsProperEffect effect → l.phase ≡ Entered call → l.current ≡ None → HasNoFault l.phase → RowRuns s pid p id l (performed_row false call (arguments l.regs) s.clock effect)
+  unfolding performed_row performed erased_lwp erased_process erased_system erased_phase
+  call-runs call (change.does result changes) is sent at current no_fault returning =
+      step_by (makes_call (record {
+        process = erased_process p;
+        lwp = erased_lwp l;
+        at = ap erased_phase at;
+        not_caught = not_caught current;
+        performs = record {
+          effect = change.does result changes;
+          does_it = decided s pid p id l s.clock call (arguments l.regs) ∙ is;
+          over = refl;
+          gives = refl;
+          makes = makes (performed_row false call (arguments l.regs) s.clock (change.does result changes)) (record { fits = no_fault; sent = sent });
+        };
+      })) ends_here
+  call-runs call change.sleeps is sent at current no_fault returning =
+      step_by (falls_asleep (record {
+        process = erased_process p;
+        lwp = erased_lwp l;
+        at = ap erased_phase at;
+        does_it = decided s pid p id l s.clock call (arguments l.regs) ∙ is;
+        makes = makes (performed_row false call (arguments l.regs) s.clock change.sleeps) (record { fits = no_fault; sent = tt });
+      })) ends_here
+  call-runs call (change.ends how) is sent at current no_fault returning =
+      step_by (makes_call (record {
+        process = erased_process p;
+        lwp = erased_lwp l;
+        at = ap erased_phase at;
+        not_caught = not_caught current;
+        performs = record {
+          effect = change.ends how;
+          does_it = decided s pid p id l s.clock call (arguments l.regs) ∙ is;
+          over = refl;
+          gives = refl;
+          makes = makes (performed_row false call (arguments l.regs) s.clock (change.ends how)) (record { fits = tt; sent = tt });
+        };
+      })) ends_here
+
+  -- a call in which the lwp slept is performed anew, and does not sleep again
+  pub woken-runs : (call : Sysno) (args : List ℕ) (since : ℕ) (effect : Effect) → call_effect s pid p id l since call args ≡ effect → IsProperEffect effect → is_over effect ≡ true → l.phase ≡ Asleep call args since → IsUnsignalled (erased_process p) (erased_lwp l) → HasNoFault l.phase → RowRuns s pid p id l (performed_row true call args since effect)
+  unfolding performed_row performed erased_lwp erased_process erased_system erased_phase
+  woken-runs call args since (change.does result changes) is sent over at unsignalled no_fault returning =
+      step_by (wakes (record {
+        process = erased_process p;
+        lwp = erased_lwp l;
+        args = args;
+        since = since;
+        at = ap erased_phase at;
+        unsignalled = unsignalled;
+        performs = record {
+          effect = change.does result changes;
+          does_it = decided s pid p id l since call args ∙ is;
+          over = refl;
+          gives = refl;
+          makes = makes (performed_row true call args since (change.does result changes)) (record { fits = no_fault; sent = sent });
+        };
+      })) ends_here
+  woken-runs call args since change.sleeps is sent over at unsignalled no_fault returning = absurd (clash over)
+    where
+      clash : false ≡ true → ⊥
+      clash e = cc
+  woken-runs call args since (change.ends how) is sent over at unsignalled no_fault returning =
+      step_by (wakes (record {
+        process = erased_process p;
+        lwp = erased_lwp l;
+        args = args;
+        since = since;
+        at = ap erased_phase at;
+        unsignalled = unsignalled;
+        performs = record {
+          effect = change.ends how;
+          does_it = decided s pid p id l since call args ∙ is;
+          over = refl;
+          gives = refl;
+          makes = makes (performed_row true call args since (change.ends how)) (record { fits = tt; sent = tt });
+        };
+      })) ends_here

@@ -1,50 +1,154 @@
-use Rattle.std.proofs.Common.{◌≡◌, ℕ, Bool, Some, sym, subst, ap, ◌∙◌}
-use Rattle.std.specs.List.{find}
-use Rattle.pr_model.specs.Erasure.{erased_system}
-use Rattle.pr_model.specs.Lwps.{is_lwp, is_process}
-use Rattle.pr_model.specs.LwpTurns.{LwpTurn, turn_of, settled}
-use Rattle.pr_model.specs.State.{TracedSystem, TracedProcess, TracedLwp}
-use Rattle.pr_model.specs.UntracedMachine.{UntracedRun}
-use Rattle.pr_model.specs.UntracedSteps.{steps_of_turn}
-use Rattle.pr_model.specs.declared.effects.TurnRow.{TurnRow}
-use Rattle.pr_laws.proofs.TurnLemmas.{TakesTurn, turn-taken}
-use Rattle.pr_erasure.proofs.DecisionLemmas.{row-decided}
-use Rattle.pr_erasure.proofs.FollowLemmas.{Follows}
-use Rattle.pr_erasure.proofs.RowLemmas.{RunsUntraced, row-runs}
-use Rattle.pr_erasure.proofs.SeenLemmas.{HasTurn, lwp_is_untouched}
-use Rattle.pr_erasure.proofs.UntouchedLemmas.{settled-untouched}
-use Rattle.pr_erasure.specs.Untouched.{IsUntouched}
+use Rattle.std.proofs.Common.{◌≡◌, ℕ, Bool, true, false, not, ◌||◌, ◌&&◌, is_some, Option, Some, None, List, cond, refl, sym, subst, ◌∙◌, ap}
+use Rattle.std.proofs.lemmas.Option.{same_Some}
+use Rattle.pr_num.specs.declared.signals.Sig.{Sig}
+use Rattle.pr_num.specs.declared.syscalls.Sysno.{Sysno}
+use Rattle.pr_model.specs.Built.{is_built_turn}
+use Rattle.pr_model.specs.CallEffects.{call_effect}
+use Rattle.pr_model.specs.Erasure.{erased_phase, erased_pending}
+use Rattle.pr_model.specs.LwpTurns.{LwpTurn, is_held_back, is_ready, may_wake, may_go_on, may_turn, settled, turn_of_lwp, turn_of_process, turn_of}
+use Rattle.pr_model.specs.Registers.{arguments}
+use Rattle.pr_model.specs.Rows.{Row, requested_row, performed_row, interrupted_row, call_row, row_in, taken_or, signal_row_or, current_row_or, posted_row_or, row_for}
+use Rattle.pr_model.specs.Signals.{own_takeable, shared_takeable, takeable, has_takeable}
+use Rattle.pr_parts.specs.SignalRules.{takeable_signal}
+use Rattle.pr_num.specs.Signals.{least_signal}
+use Rattle.pr_num.specs.Sets.{minus_word}
+use Rattle.pr_parts.specs.PendingSignals.{pending_set}
+use Rattle.std.specs.Option.{option_or}
+use Rattle.pr_model.specs.State.{TracedLwp, TracedProcess, TracedSystem, live_process, lwp_of}
+use Rattle.pr_model.specs.UntracedMachine.{takes_in}
+use Rattle.pr_model.specs.declared.lwps.Current.{Current}
+use Rattle.pr_model.specs.declared.lwps.Phase.{Phase}
+use Rattle.pr_model.specs.declared.lwps.Phase.TheVariants.{User, Entered, Asleep, Exiting, Faulted}
+use Rattle.pr_erasure.specs.Suiting.{HasNoFault}
+use Rattle.pr_erasure.proofs.RowLemmas.{HasTurn, RowRuns, requested-runs, posted-runs, returned-runs, program-runs, unsignalled, own_taken-runs, shared_taken-runs, acted-runs, call-runs, woken-runs}
+use Rattle.pr_erasure.proofs.EffectLemmas.{call-known}
 
--- A turn of an lwp, which takes the row that is decided for it.
+-- Every turn, as programs see it.
 
--- an lwp that takes a turn in an untouched system
-has_turn : (s : TracedSystem) (pid id : ℕ) (t : LwpTurn) → IsUntouched s → (taken : TakesTurn s pid id t) → HasTurn s taken.process taken.lwp
-has_turn s pid id t u taken = record {
-  found = ap (λ n. find (is_process n) s.processes) taken.live.same_id ∙ taken.live.found;
-  no_zombie = taken.live.no_zombie;
-  there = ap (λ n. find (is_lwp n) taken.process.lwps) taken.same_id ∙ taken.found;
-  free = taken.free;
-  untouched = u;
-}
+clash : {X : Type 0} (b : Bool) → b ≡ true → b ≡ false → X
+clash true h e = absurd (no e)
+  where
+    no : true ≡ false → ⊥
+    no e = cc
+clash false h e = absurd (no h)
+  where
+    no : false ≡ true → ⊥
+    no e = cc
 
--- the run of a row, under the ids by which its process and its lwp were named
-named : (s : TracedSystem) (p : TracedProcess) (l : TracedLwp) (row : TurnRow) (pid id : ℕ) (t : LwpTurn) → p.id ≡ pid → l.id ≡ id → t ≡ settled s p l row → RunsUntraced s p l row → (returning : Bool) → UntracedRun (erased_system s) (steps_of_turn returning pid id t.turned.did) (erased_system t.system)
-unfolding settled
-named s p l row pid id t process lwp is runs returning =
-    let to : LwpTurn = settled s p l row in
-    let ran : UntracedRun (erased_system s) (steps_of_turn returning p.id l.id to.turned.did) (erased_system to.system) = runs.run returning in
-    let of_process = subst (λ n. UntracedRun (erased_system s) (steps_of_turn returning n l.id to.turned.did) (erased_system to.system)) process ran in
-    let of_lwp = subst (λ n. UntracedRun (erased_system s) (steps_of_turn returning pid n to.turned.did) (erased_system to.system)) lwp of_process in
-    subst (λ (u : LwpTurn). UntracedRun (erased_system s) (steps_of_turn returning pid id u.turned.did) (erased_system u.system)) (sym is) of_lwp
+and_left : (a b : Bool) → (a && b) ≡ true → a ≡ true
+and_left true b e = refl
+and_left false b e = cc
 
--- Every turn.
-pub turn-follows : (s : TracedSystem) (pid id : ℕ) (t : LwpTurn) (returning : Bool) → turn_of s pid id ≡ Some t → IsUntouched s → Follows s (steps_of_turn returning pid id t.turned.did) t.system
-turn-follows s pid id t returning turn u =
-    let taken = turn-taken s pid id t turn in
-    let has = has_turn s pid id t u taken in
-    let lwp = lwp_is_untouched s taken.process taken.lwp has in
-    let runs = row-runs s taken.process taken.lwp has taken.row (row-decided taken.process taken.lwp taken.row lwp.no_abort taken.decided) in
-    record {
-      run = named s taken.process taken.lwp taken.row pid id t taken.live.same_id taken.same_id taken.is runs returning;
-      untouched = subst (λ (v : LwpTurn). IsUntouched v.system) (sym taken.is) (settled-untouched s taken.process taken.lwp taken.row u);
+and_right : (a b : Bool) → (a && b) ≡ true → b ≡ true
+and_right true b e = e
+and_right false b e = cc
+
+or_right : (a b : Bool) → (a || b) ≡ true → a ≡ false → b ≡ true
+or_right true b e other = clash true refl other
+or_right false b e other = e
+
+not_true : (b : Bool) → not b ≡ true → b ≡ false
+not_true true e = cc
+not_true false e = refl
+
+module _ (s : TracedSystem) (pid : ℕ) (p : TracedProcess) (id : ℕ) (l : TracedLwp) (h : HasTurn s pid p id l) where
+  current-runs : (o : Option Current) → l.current ≡ o → HasNoFault l.phase → (rest : Row) → (l.current ≡ None → RowRuns s pid p id l rest) → RowRuns s pid p id l (current_row_or s pid p id l o rest)
+  current-runs (Some c) is no_fault rest runs = acted-runs s pid p id l h c is no_fault
+  current-runs None is no_fault rest runs = runs is
+
+  taken-runs : (a b : Option Sig) → own_takeable l ≡ a → shared_takeable p l ≡ b → HasNoFault l.phase → takes_in (erased_phase l.phase) ≡ true → l.current ≡ None → (rest : Row) → (own_takeable l ≡ None → shared_takeable p l ≡ None → RowRuns s pid p id l rest) → RowRuns s pid p id l (taken_or s pid p id l a b rest)
+  taken-runs (Some g) b own shared no_fault place current rest runs = own_taken-runs s pid p id l h g no_fault place current own
+  taken-runs None (Some g) own shared no_fault place current rest runs = shared_taken-runs s pid p id l h g no_fault place current own shared
+  taken-runs None None own shared no_fault place current rest runs = runs own shared
+
+  -- an lwp that neither acts on a signal nor takes one has none to take
+  none_takeable : own_takeable l ≡ None → shared_takeable p l ≡ None → has_takeable p l ≡ false
+  unfolding takeable takeable_signal own_takeable shared_takeable
+  none_takeable own shared =
+      ap (λ o. is_some (option_or o (least_signal (minus_word (pending_set p.pending) l.held)))) own
+      ∙ ap (λ o. is_some o) shared
+
+  -- an lwp that is asleep, and goes on for no other reason, is ready
+  ready-asleep : (call : Sysno) (args : List ℕ) (since : ℕ) → may_wake s pid p id l since call args ≡ true → l.control.directed ≡ false → l.current ≡ None → own_takeable l ≡ None → shared_takeable p l ≡ None → is_ready s pid p id l since call args ≡ true
+  unfolding may_wake
+  ready-asleep call args since wakes free current own shared =
+      or_right l.control.abort _ (or_right (has_takeable p l) _ (or_right (is_some l.current) _ (or_right l.control.directed _ wakes free) (ap (λ o. is_some o) current)) (none_takeable own shared)) h.no_abort
+
+  phase-runs : (phase : Phase) → l.phase ≡ phase → may_go_on s pid p id l phase ≡ true → l.control.directed ≡ false → RowRuns s pid p id l (posted_row_or s pid p id l phase (current_row_or s pid p id l l.current (signal_row_or s pid p id l phase (row_in s pid p id l phase))))
+  unfolding erased_pending erased_phase signal_row_or row_in call_row
+  phase-runs User is goes free =
+      let no_fault : HasNoFault l.phase = subst HasNoFault (sym is) (λ w. refl) in
+      current-runs l.current refl no_fault _ (λ current.
+      taken-runs (own_takeable l) (shared_takeable p l) refl refl no_fault (ap (λ ph. takes_in (erased_phase ph)) is) current _ (λ own shared.
+      program-runs s pid p id l h is no_fault (unsignalled s pid p id l h no_fault current own shared)))
+  phase-runs (Entered call) is goes free =
+      let no_fault : HasNoFault l.phase = subst HasNoFault (sym is) (λ w. refl) in
+      let known = call-known s pid p id l s.clock call (arguments l.regs) in
+      current-runs l.current refl no_fault _ (λ current.
+      subst (λ b. RowRuns s pid p id l (cond b (interrupted_row false call (arguments l.regs)) (performed_row false call (arguments l.regs) s.clock (call_effect s pid p id l s.clock call (arguments l.regs))))) (sym h.no_abort)
+      (call-runs s pid p id l h call _ refl known.proper is current no_fault))
+  phase-runs (Asleep call args since) is goes free =
+      let no_fault : HasNoFault l.phase = subst HasNoFault (sym is) (λ w. refl) in
+      let known = call-known s pid p id l since call args in
+      current-runs l.current refl no_fault _ (λ current.
+      taken-runs (own_takeable l) (shared_takeable p l) refl refl no_fault (ap (λ ph. takes_in (erased_phase ph)) is) current _ (λ own shared.
+      subst (λ b. RowRuns s pid p id l (cond b (interrupted_row true call args) (performed_row true call args since (call_effect s pid p id l since call args)))) (sym h.no_abort)
+      (woken-runs s pid p id l h call args since _ refl known.proper (known.over (ready-asleep call args since goes free current own shared)) is (unsignalled s pid p id l h no_fault current own shared) no_fault)))
+  phase-runs (Exiting call args result) is goes free =
+      let no_fault : HasNoFault l.phase = subst HasNoFault (sym is) (λ w. refl) in
+      current-runs l.current refl no_fault _ (λ current.
+      taken-runs (own_takeable l) (shared_takeable p l) refl refl no_fault (ap (λ ph. takes_in (erased_phase ph)) is) current _ (λ own shared.
+      returned-runs s pid p id l h call args result is no_fault))
+  phase-runs (Faulted f address) is goes free = posted-runs s pid p id l h f address is
+
+  -- whatever row is the first that fits
+  pub row-runs : may_go_on s pid p id l l.phase ≡ true → RowRuns s pid p id l (row_for s pid p id l)
+  unfolding row_for
+  row-runs goes = by l.control.directed refl
+    where
+      by : (b : Bool) → l.control.directed ≡ b → RowRuns s pid p id l (cond b requested_row (posted_row_or s pid p id l l.phase (current_row_or s pid p id l l.current (signal_row_or s pid p id l l.phase (row_in s pid p id l l.phase)))))
+      by true is = requested-runs s pid p id l h
+      by false is = phase-runs l.phase refl goes is
+
+-- what a turn that an lwp takes is made of
+pub record TakesTurn (s : TracedSystem) (pid id : ℕ) (t : LwpTurn) : Type 0 where
+  pub process : TracedProcess
+  pub lwp : TracedLwp
+  pub live : live_process s pid ≡ Some process
+  pub there : lwp_of process id ≡ Some lwp
+  pub free : is_held_back process id lwp ≡ false
+  pub goes : may_go_on s pid process id lwp lwp.phase ≡ true
+  pub is : t ≡ settled s pid process id lwp (row_for s pid process id lwp)
+
+pub turn-taken : (s : TracedSystem) (pid id : ℕ) (t : LwpTurn) → turn_of s pid id ≡ Some t → TakesTurn s pid id t
+unfolding turn_of may_turn
+turn-taken s pid id t turn = by_process (live_process s pid) refl turn
+  where
+    by_test : (p : TracedProcess) (l : TracedLwp) → live_process s pid ≡ Some p → lwp_of p id ≡ Some l → (b : Bool) → may_turn s pid p id l ≡ b → cond b (Some (settled s pid p id l (row_for s pid p id l))) None ≡ Some t → TakesTurn s pid id t
+    by_test p l live there true may is = record {
+      process = p;
+      lwp = l;
+      live = live;
+      there = there;
+      free = not_true _ (and_left _ _ may);
+      goes = and_left _ (is_built_turn p l) (and_right _ _ may);
+      is = sym (same_Some _ _ is);
     }
+    by_test p l live there false may is = absurd (none is)
+      where
+        none : None ≡ Some t → ⊥
+        none e = cc
+
+    by_lwp : (p : TracedProcess) → live_process s pid ≡ Some p → (o : Option TracedLwp) → lwp_of p id ≡ o → turn_of_lwp s pid id p o ≡ Some t → TakesTurn s pid id t
+    by_lwp p live None there is = absurd (none is)
+      where
+        none : None ≡ Some t → ⊥
+        none e = cc
+    by_lwp p live (Some l) there is = by_test p l live there (may_turn s pid p id l) refl is
+
+    by_process : (o : Option TracedProcess) → live_process s pid ≡ o → turn_of_process s pid id o ≡ Some t → TakesTurn s pid id t
+    by_process None live is = absurd (none is)
+      where
+        none : None ≡ Some t → ⊥
+        none e = cc
+    by_process (Some p) live is = by_lwp p live (lwp_of p id) refl is

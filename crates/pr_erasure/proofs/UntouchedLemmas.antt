@@ -1,185 +1,230 @@
-use Rattle.std.proofs.Common.{◌≡◌, ◌==◌, ℕ, Bool, true, false, Option, Some, None, List, map, cond, refl}
-use Rattle.std.proofs.lemmas.List.Elements.{All-nil}
-use Rattle.std.specs.List.{All, list_all}
-use Rattle.pr_num.specs.Control.{has_flags, async_mode}
-use Rattle.pr_num.specs.KeyedTables.{change_first}
+use Rattle.std.proofs.Common.{◌≡◌, ◌+◌, ℕ, Bool, true, false, is_some, eqb, bit_and, Option, Some, None, List, [], ◌∷◌, cond, refl, sym, subst, ◌∙◌, ap}
+use Rattle.std.proofs.lemmas.List.Elements.{All-nil, All-cons}
+use Rattle.std.specs.List.{All}
+use Rattle.pr_num.specs.Agents.{agent_id}
 use Rattle.pr_num.specs.Sets.{common_word}
-use Rattle.pr_num.specs.declared.faults.Flt.TheVariants.{Trace}
+use Rattle.pr_num.specs.Control.{has_flags, klc_mode, fork_mode, async_mode}
+use Rattle.pr_num.specs.Infos.{of_child}
+use Rattle.pr_num.specs.Files.{with_all_closed}
+use Rattle.pr_num.specs.Programs.{Program}
+use Rattle.pr_num.specs.declared.infos.Info.{Info}
 use Rattle.pr_num.specs.declared.signals.Sig.{Sig}
-use Rattle.pr_model.specs.ControlMessages.{with_directed}
-use Rattle.pr_model.specs.Handles.{is_of_lwp, released, released_lwp}
-use Rattle.pr_model.specs.Legal.{ticked}
-use Rattle.pr_model.specs.Lives.{bare_process, zombie, orphaned, told_of_child, with_parent_told, with_ended}
-use Rattle.pr_model.specs.Lwps.{is_lwp, is_process}
-use Rattle.pr_model.specs.LwpTurns.{lwp_made, made_by, posted, rest_made, stopped_at, with_stop_at, after_meeting, with_row, ending, ended_if, settled}
-use Rattle.pr_model.specs.Running.{with_run, with_representative_run, if_all_requested, shows_run, without_directive, with_request, without_request, was_requested}
-use Rattle.pr_model.specs.State.{TracedSystem, TracedProcess, TracedLwp, with_process}
-use Rattle.pr_model.specs.Stops.{has_event_stop, directed, directed_but, with_all_directed, with_others_directed, representative, is_traced}
-use Rattle.pr_model.specs.Turns.{Row, requested_stop, incurred, with_step_taken, returned, made, ran, entered, counted, pc_of}
-use Rattle.pr_model.specs.declared.effects.TurnRow.{TurnRow}
-use Rattle.pr_model.specs.declared.effects.TurnRow.TheVariants as rows
-use Rattle.pr_model.specs.declared.handles.Held.{Held}
+use Rattle.pr_num.specs.declared.signals.Sig.TheVariants.{Cld}
+use Rattle.pr_num.specs.ById.{change_under, map_each, inserted}
+use Rattle.pr_num.proofs.ByIdLaws.{All-change_under, All-map_each, All-inserted, All-without_id}
+use Rattle.pr_parts.specs.FileCalls.{with_all_shared}
+use Rattle.pr_parts.specs.SignalRules.{deleted_by}
+use Rattle.pr_model.specs.Changes.{Change, files_are, space_is, signals, signals_itself, takes_shared, job_stops, disposition_is, held_is, resumes, forks, reaps, becomes, makes_lwp, suspends, Ending, ends_process, ends_lwp, with_fds, with_space, with_shared_taken, with_job_stop, with_disposition_of, with_held, resumed, with_suspended, changed, all_changed, ended}
+use Rattle.pr_model.specs.Generation.{lwp_without_pending, lwp_with_pending, without_pending, without_job_stop, with_deletions, with_pending, told}
+use Rattle.pr_model.specs.Lives.{with_made, orphaned, with_parent_told, without_lwp, with_reaped, new_lwp, bare_process, forked_lwp, forked, with_child, started, with_program, with_new_lwp, zombie, with_this_ended, ended_if_live, with_ended, with_lwp_ended}
+use Rattle.pr_model.specs.LwpTurns.{with_counted, settled}
+use Rattle.pr_model.specs.Machines.{nothing_set, no_marks, nothing_used, zombie_control, exec_control, child_control, birth_marks, call_over, stopped_as_directed, step_taken, fault_incurred, fault_posted, traced}
+use Rattle.pr_model.specs.Moves.{Move, moved}
+use Rattle.pr_model.specs.Moves as move
+use Rattle.pr_model.specs.Points.{is_traced, stopped_at, with_others_directed, with_stop_at, after_meeting}
+use Rattle.pr_model.specs.Rows.{Row}
+use Rattle.pr_model.specs.Signals.{generated}
+use Rattle.pr_model.specs.State.{TracedControl, TracedLwp, TracedProcess, TracedSystem, live_process, lwp_of, with_process, with_lwp, with_lwp_of}
+use Rattle.pr_model.specs.Stops.{has_event_stop, directed, with_all_directed}
+use Rattle.pr_model.specs.Transitions.{Transition, ended_if, after_transition}
 use Rattle.pr_model.specs.declared.stops.Point.{Point}
-use Rattle.pr_model.specs.declared.stops.Stop.TheVariants as stop
-use Rattle.pr_laws.proofs.ListLemmas.{All-change_first, All-map_kept}
 use Rattle.pr_erasure.specs.Untouched.{IsUntouchedLwp, IsUntouchedProcess, IsUntouched}
+use Rattle.pr_erasure.specs.Suiting.{IsProper, AreProper}
 
--- What changes a state without touching it.
+-- What a turn leaves untouched.
 
--- Lwps: an lwp of the same id and the same marks is as untouched.
-same-marks : (l m : TracedLwp) → m.id ≡ l.id → m.step ≡ l.step → m.abort ≡ l.abort → IsUntouchedLwp l → IsUntouchedLwp m
-same-marks l m id step abort u = record { no_step = rw step u.no_step; no_abort = rw abort u.no_abort; no_agent = rw id u.no_agent }
+-- ---- lwps
 
-directed-untouched : (l : TracedLwp) → IsUntouchedLwp l → IsUntouchedLwp (directed l)
+-- a change of an lwp that leaves its marks as they are, or clears them
+abbrev pub KeepsLwps : (TracedLwp → TracedLwp) → Type 0
+KeepsLwps f = (id : ℕ) (x : TracedLwp) → IsUntouchedLwp (id, x) → IsUntouchedLwp (id, f x)
+
+same_control : (f : TracedLwp → TracedLwp) → ((x : TracedLwp) → (f x).control ≡ x.control) → KeepsLwps f
+same_control f same id x u = record { no_step = ap (λ k. k.step) (same x) ∙ u.no_step; no_abort = ap (λ k. k.abort) (same x) ∙ u.no_abort; no_agent = u.no_agent }
+
+pub directed-keeps : KeepsLwps directed
 unfolding directed
-directed-untouched l u = elim (has_event_stop l) as (λ b. IsUntouchedLwp (cond b l (record l { directed = true }))) [ true ↦ u | false ↦ same-marks l _ refl refl refl u ]
+directed-keeps id x u = elim (has_event_stop x) as (λ b. IsUntouchedLwp (id, cond b x (record x { control = record x.control { directed = true } }))) [ true ↦ u | false ↦ record { no_step = u.no_step; no_abort = u.no_abort; no_agent = u.no_agent } ]
 
-directed_but-untouched : (id : ℕ) (l : TracedLwp) → IsUntouchedLwp l → IsUntouchedLwp (directed_but id l)
-unfolding directed_but
-directed_but-untouched id l u = elim (l.id == id) as (λ b. IsUntouchedLwp (cond b l (directed l))) [ true ↦ u | false ↦ directed-untouched l u ]
+moved-keeps : (m : Move) → KeepsLwps (moved traced m)
+unfolding moved traced call_over stopped_as_directed step_taken fault_incurred fault_posted
+moved-keeps move.stays id x u = u
+moved-keeps move.stops id x u = record { no_step = u.no_step; no_abort = u.no_abort; no_agent = u.no_agent }
+moved-keeps (move.posts f address) id x u = record { no_step = u.no_step; no_abort = u.no_abort; no_agent = u.no_agent }
+moved-keeps move.returns id x u = record { no_step = u.no_step; no_abort = u.no_abort; no_agent = u.no_agent }
+moved-keeps (move.runs regs) id x u = record { no_step = u.no_step; no_abort = u.no_abort; no_agent = u.no_agent }
+moved-keeps (move.enters call regs) id x u = record { no_step = u.no_step; no_abort = u.no_abort; no_agent = u.no_agent }
+moved-keeps (move.incurs f address) id x u = record { no_step = u.no_step; no_abort = u.no_abort; no_agent = u.no_agent }
+moved-keeps (move.traps f address regs) id x u = record { no_step = refl; no_abort = u.no_abort; no_agent = u.no_agent }
+moved-keeps (move.leaves call args result) id x u = record { no_step = u.no_step; no_abort = refl; no_agent = u.no_agent }
+moved-keeps (move.sleeps call args since) id x u = record { no_step = u.no_step; no_abort = u.no_abort; no_agent = u.no_agent }
+moved-keeps (move.takes c own) id x u = record { no_step = u.no_step; no_abort = u.no_abort; no_agent = u.no_agent }
+moved-keeps move.drops id x u = record { no_step = u.no_step; no_abort = u.no_abort; no_agent = u.no_agent }
+moved-keeps (move.catches frames regs held) id x u = record { no_step = u.no_step; no_abort = u.no_abort; no_agent = u.no_agent }
 
-without_directive-untouched : (l : TracedLwp) → IsUntouchedLwp l → IsUntouchedLwp (without_directive l)
-unfolding without_directive
-without_directive-untouched l u = same-marks l _ refl refl refl u
+-- ---- processes
 
-with_request-untouched : (l : TracedLwp) → IsUntouchedLwp l → IsUntouchedLwp (with_request l)
-unfolding with_request
-with_request-untouched l u = elim (has_event_stop l) as (λ b. IsUntouchedLwp (cond b (record l { stop = Some stop.Requested }) l)) [ true ↦ same-marks l _ refl refl refl u | false ↦ u ]
+abbrev pub KeepsProcesses : (TracedProcess → TracedProcess) → Type 0
+KeepsProcesses f = (pid : ℕ) (x : TracedProcess) → IsUntouchedProcess (pid, x) → IsUntouchedProcess (pid, f x)
 
-without_request-untouched : (l : TracedLwp) → IsUntouchedLwp l → IsUntouchedLwp (without_request l)
-unfolding without_request
-without_request-untouched l u = elim (was_requested l.stop) as (λ b. IsUntouchedLwp (cond b (record l { stop = None }) l)) [ true ↦ same-marks l _ refl refl refl u | false ↦ u ]
+-- one lwp of a process is changed; every lwp is; its lwps and what is set on it stay
+pub lwp-keeps : (id : ℕ) (f : TracedLwp → TracedLwp) → KeepsLwps f → KeepsProcesses (with_lwp id f)
+unfolding with_lwp
+lwp-keeps id f keeps pid x u = record { no_kill = u.no_kill; unwatched = u.unwatched; lwps = All-change_under IsUntouchedLwp id f x.lwps (λ l found un. keeps id l un) u.lwps }
 
-released_lwp-untouched : (l : TracedLwp) → IsUntouchedLwp l → IsUntouchedLwp (released_lwp l)
-unfolding released_lwp
-released_lwp-untouched l u = record { no_step = refl; no_abort = u.no_abort; no_agent = u.no_agent }
+pub lwps-keep : (f : TracedLwp → TracedLwp) → KeepsLwps f → (x : TracedProcess) → All IsUntouchedLwp x.lwps → All IsUntouchedLwp (map_each f x.lwps)
+lwps-keep f keeps x u = All-map_each IsUntouchedLwp IsUntouchedLwp f (λ e un. keeps e.0 e.1 un) x.lwps u
 
-stopped_at-untouched : (point : Point) (l : TracedLwp) → IsUntouchedLwp l → IsUntouchedLwp (stopped_at point l)
-unfolding stopped_at
-stopped_at-untouched point l u = same-marks l _ refl refl refl u
+same_parts : (f : TracedProcess → TracedProcess) → ((x : TracedProcess) → (f x).control ≡ x.control) → ((x : TracedProcess) → (f x).lwps ≡ x.lwps) → KeepsProcesses f
+same_parts f control lwps pid x u = record {
+  no_kill = ap (λ c. has_flags c.modes klc_mode) (control x) ∙ u.no_kill;
+  unwatched = ap (λ c. c.areas) (control x) ∙ u.unwatched;
+  lwps = subst (All IsUntouchedLwp) (sym (lwps x)) u.lwps;
+}
 
-step_taken-untouched : (row : Row ℕ) → IsUntouchedLwp row.lwp → IsUntouchedLwp (with_step_taken row).lwp
-unfolding with_step_taken incurred
-step_taken-untouched row u =
-    elim row.lwp.step as (λ b. IsUntouchedLwp (cond b (incurred Trace (pc_of row.lwp.regs) row.rest.begun (record row.lwp { step = false })) row).lwp) [
-      | true ↦ record { no_step = refl; no_abort = u.no_abort; no_agent = u.no_agent }
-      | false ↦ u
-    ]
+pub either : {X : Type 0} (P : X → Type 0) (b : Bool) (x y : X) → P x → P y → P (cond b x y)
+either P true x y one other = one
+either P false x y one other = other
 
--- no row of the turn table sets a mark
-lwp_made-untouched : (row : TurnRow) (l : TracedLwp) → IsUntouchedLwp l → IsUntouchedLwp (lwp_made row l)
-unfolding lwp_made made_by requested_stop posted returned made ran entered incurred
-lwp_made-untouched rows.Requested l u = same-marks l _ refl refl refl u
-lwp_made-untouched (rows.Posted f) l u = same-marks l _ refl refl refl u
-lwp_made-untouched (rows.Returned call) l u = step_taken-untouched _ (same-marks l _ refl refl refl u)
-lwp_made-untouched (rows.Made call result) l u = record { no_step = u.no_step; no_abort = refl; no_agent = u.no_agent }
-lwp_made-untouched (rows.Ended call status) l u = u
-lwp_made-untouched (rows.Ran regs) l u = step_taken-untouched _ (same-marks l _ refl refl refl u)
-lwp_made-untouched (rows.Entered call regs) l u = same-marks l _ refl refl refl u
-lwp_made-untouched (rows.Incurred f address) l u = same-marks l _ refl refl refl u
+pending-keeps : (target : Option ℕ) (g : Sig) (info : Info) → KeepsProcesses (with_pending target g info)
+unfolding with_pending lwp_with_pending
+pending-keeps None g info pid x u = record { no_kill = u.no_kill; unwatched = u.unwatched; lwps = u.lwps }
+pending-keeps (Some id) g info pid x u = record { no_kill = u.no_kill; unwatched = u.unwatched; lwps = All-change_under IsUntouchedLwp id (lwp_with_pending g info) x.lwps (λ l found un. record { no_step = un.no_step; no_abort = un.no_abort; no_agent = un.no_agent }) u.lwps }
 
--- Processes: one of the same modes and areas whose lwps are untouched.
-with-lwps : (p q : TracedProcess) → q.modes ≡ p.modes → q.areas ≡ p.areas → All IsUntouchedLwp q.lwps → IsUntouchedProcess p → IsUntouchedProcess q
-with-lwps p q modes areas lwps u = record { no_kill = rw modes u.no_kill; unwatched = rw areas u.unwatched; lwps = lwps }
+without_pending-keeps : (set : ℕ) → KeepsProcesses (without_pending set)
+unfolding without_pending lwp_without_pending
+without_pending-keeps set pid x u = record { no_kill = u.no_kill; unwatched = u.unwatched; lwps = lwps-keep (lwp_without_pending set) (same_control (lwp_without_pending set) (λ l. refl)) x u.lwps }
 
-one-changed : (q : TracedLwp → Bool) (f : TracedLwp → TracedLwp) → ((l : TracedLwp) → IsUntouchedLwp l → IsUntouchedLwp (f l)) → (ls : List TracedLwp) → All IsUntouchedLwp ls → All IsUntouchedLwp (change_first q f ls)
-one-changed q f kept ls all = All-change_first IsUntouchedLwp q f kept ls all
+deletions-keep : (g : Sig) → KeepsProcesses (with_deletions g)
+unfolding with_deletions without_job_stop
+deletions-keep g pid x u =
+    let gone = without_pending-keeps (deleted_by g) pid x u in
+    either (λ y. IsUntouchedProcess (pid, y)) _ x _ u
+    (either (λ y. IsUntouchedProcess (pid, y)) _ (record (without_pending (deleted_by g) x) { job_stop = None }) (without_pending (deleted_by g) x) (record { no_kill = gone.no_kill; unwatched = gone.unwatched; lwps = gone.lwps }) gone)
 
-all-changed : (f : TracedLwp → TracedLwp) → ((l : TracedLwp) → IsUntouchedLwp l → IsUntouchedLwp (f l)) → (ls : List TracedLwp) → All IsUntouchedLwp ls → All IsUntouchedLwp (map f ls)
-all-changed f kept ls all = All-map_kept IsUntouchedLwp f kept ls all
+told-keeps : (target : Option ℕ) (g : Sig) (info : Info) → KeepsProcesses (told target g info)
+unfolding told
+told-keeps target g info pid x u = either (λ y. IsUntouchedProcess (pid, y)) _ _ x (pending-keeps target g info pid (with_deletions g x) (deletions-keep g pid x u)) u
 
-pub with_directed-untouched : (h : Held) (p : TracedProcess) → IsUntouchedProcess p → IsUntouchedProcess (with_directed h p)
-unfolding with_directed with_all_directed
-with_directed-untouched h p u =
-    elim (is_of_lwp h.file) as (λ b. IsUntouchedProcess (cond b (record p { lwps = change_first (is_lwp h.lwp) directed p.lwps }) (record p { lwps = map directed p.lwps }))) [
-      | true ↦ with-lwps p _ refl refl (one-changed (is_lwp h.lwp) directed directed-untouched p.lwps u.lwps) u
-      | false ↦ with-lwps p _ refl refl (all-changed directed directed-untouched p.lwps u.lwps) u
-    ]
-
-representative_run-untouched : (r : Option TracedLwp) (ls : List TracedLwp) → All IsUntouchedLwp ls → All IsUntouchedLwp (with_representative_run r ls)
-representative_run-untouched None ls all = all-changed without_directive without_directive-untouched ls all
-representative_run-untouched (Some r) ls all = one-changed (is_lwp r.id) with_request with_request-untouched (map without_directive ls) (all-changed without_directive without_directive-untouched ls all)
-
-all_requested-untouched : (job : Option Sig) (ls : List TracedLwp) → All IsUntouchedLwp ls → All IsUntouchedLwp (if_all_requested job ls)
-unfolding if_all_requested
-all_requested-untouched job ls all =
-    elim (list_all (shows_run job) ls) as (λ b. All IsUntouchedLwp (cond b (map without_request ls) ls)) [ true ↦ all-changed without_request without_request-untouched ls all | false ↦ all ]
-
-pub with_run-untouched : (p : TracedProcess) → IsUntouchedProcess p → IsUntouchedProcess (with_run p)
-unfolding with_run
-with_run-untouched p u = with-lwps p _ refl refl (all_requested-untouched p.job_stop _ (representative_run-untouched (representative p) p.lwps u.lwps)) u
-
-pub released-untouched : (p : TracedProcess) → IsUntouchedProcess p → IsUntouchedProcess (released p)
-unfolding released
-released-untouched p u = record { no_kill = u.no_kill; unwatched = refl; lwps = all-changed released_lwp released_lwp-untouched p.lwps u.lwps }
-
-others_directed-untouched : (id : ℕ) (p : TracedProcess) → IsUntouchedProcess p → IsUntouchedProcess (with_others_directed id p)
-unfolding with_others_directed
-others_directed-untouched id p u =
-    elim (has_flags p.modes async_mode) as (λ b. IsUntouchedProcess (cond b p (record p { lwps = map (directed_but id) p.lwps })))
-    [ true ↦ u | false ↦ with-lwps p _ refl refl (all-changed (directed_but id) (directed_but-untouched id) p.lwps u.lwps) u ]
-
-stop_at-untouched : (point : Point) (id : ℕ) (p : TracedProcess) → IsUntouchedProcess p → IsUntouchedProcess (with_stop_at point id p)
-unfolding with_stop_at
-stop_at-untouched point id p u =
-    others_directed-untouched id _ (with-lwps p (record p { lwps = change_first (is_lwp id) (stopped_at point) p.lwps }) refl refl (one-changed (is_lwp id) (stopped_at point) (stopped_at-untouched point) p.lwps u.lwps) u)
-
-meeting-untouched : (point : Option Point) (id : ℕ) (p : TracedProcess) → IsUntouchedProcess p → IsUntouchedProcess (after_meeting point id p)
-meeting-untouched None id p u = u
-meeting-untouched (Some point) id p u =
-    elim (is_traced p point) as (λ b. IsUntouchedProcess (cond b (with_stop_at point id p) p)) [ true ↦ stop_at-untouched point id p u | false ↦ u ]
-
-pub with_row-untouched : (row : TurnRow) (l : TracedLwp) (p : TracedProcess) → IsUntouchedProcess p → IsUntouchedProcess (with_row row l p)
-unfolding with_row
-with_row-untouched row l p u =
-    meeting-untouched (rest_made row l).point l.id _ (with-lwps p (record p { usage = counted (rest_made row l) p.usage; lwps = change_first (is_lwp l.id) (lwp_made row) p.lwps }) refl refl (one-changed (is_lwp l.id) (lwp_made row) (lwp_made-untouched row) p.lwps u.lwps) u)
-
--- a process with nothing set on it
-pub bare-untouched : (pid parent : ℕ) (name : List ℕ) (clock : ℕ) → IsUntouchedProcess (bare_process pid parent name clock)
-unfolding bare_process has_flags common_word
-bare-untouched pid parent name clock = record { no_kill = refl; unwatched = refl; lwps = All-nil IsUntouchedLwp }
-
-zombie-untouched : (status : ℕ) (p : TracedProcess) → IsUntouchedProcess p → IsUntouchedProcess (zombie status p)
-unfolding zombie bare_process
-zombie-untouched status p u = with-lwps (bare_process p.id p.parent p.program p.made_at) _ refl refl (All-nil IsUntouchedLwp) (bare-untouched p.id p.parent p.program p.made_at)
-
-orphaned-untouched : (pid : ℕ) (p : TracedProcess) → IsUntouchedProcess p → IsUntouchedProcess (orphaned pid p)
+orphaned-keeps : (parent : ℕ) → KeepsProcesses (orphaned parent)
 unfolding orphaned
-orphaned-untouched pid p u =
-    elim (p.parent == pid) as (λ b. IsUntouchedProcess (cond b (record p { parent = 0 }) p)) [ true ↦ with-lwps p _ refl refl u.lwps u | false ↦ u ]
+orphaned-keeps parent pid x u = either (λ y. IsUntouchedProcess (pid, y)) (eqb x.parent parent) (record x { parent = 0 }) x (record { no_kill = u.no_kill; unwatched = u.unwatched; lwps = u.lwps }) u
 
-told-untouched : (p : TracedProcess) → IsUntouchedProcess p → IsUntouchedProcess (told_of_child p)
-unfolding told_of_child
-told-untouched p u = by p.ended u
-  where
-    by : (ended : Option ℕ) → IsUntouchedProcess (record p { ended = ended }) → IsUntouchedProcess (told_of_child (record p { ended = ended }))
-    by (Some status) u = u
-    by None u = with-lwps p _ refl refl u.lwps (with-lwps _ p refl refl u.lwps u)
+zombie-keeps : (status : ℕ) → KeepsProcesses (zombie traced status)
+unfolding zombie bare_process traced zombie_control nothing_set has_flags common_word
+zombie-keeps status pid x u = record { no_kill = refl; unwatched = refl; lwps = All-nil IsUntouchedLwp }
 
--- Systems.
-pub with_process-untouched : (pid : ℕ) (f : TracedProcess → TracedProcess) → ((p : TracedProcess) → IsUntouchedProcess p → IsUntouchedProcess (f p)) → (s : TracedSystem) → IsUntouched s → IsUntouched (with_process pid f s)
+-- ---- systems
+
+pub process-keeps : (pid : ℕ) (f : TracedProcess → TracedProcess) → KeepsProcesses f → (s : TracedSystem) → IsUntouched s → IsUntouched (with_process pid f s)
 unfolding with_process
-with_process-untouched pid f kept s u = record { processes = All-change_first IsUntouchedProcess (is_process pid) f kept s.processes u.processes }
+process-keeps pid f keeps s u = record { processes = All-change_under IsUntouchedProcess pid f s.processes (λ x found un. keeps pid x un) u.processes }
 
-parent_told-untouched : (parent : ℕ) (s : TracedSystem) → IsUntouched s → IsUntouched (with_parent_told parent s)
-unfolding with_parent_told
-parent_told-untouched parent s u =
-    elim (parent == 0) as (λ b. IsUntouched (cond b s (with_process parent told_of_child s))) [ true ↦ u | false ↦ with_process-untouched parent told_of_child told-untouched s u ]
+pub with_this_ended-keeps : (pid : ℕ) (p : TracedProcess) (status : ℕ) (s : TracedSystem) → IsUntouched s → IsUntouched (with_this_ended traced pid p status s)
+unfolding with_this_ended with_parent_told
+with_this_ended-keeps pid p status s u =
+    let buried = All-change_under IsUntouchedProcess pid (zombie traced status) s.processes (λ x found un. zombie-keeps status pid x un) u.processes in
+    let left = All-map_each IsUntouchedProcess IsUntouchedProcess (orphaned pid) (λ e un. orphaned-keeps pid e.0 e.1 un) _ buried in
+    let to : TracedSystem = record s { files = with_all_closed s.files p.fds; processes = map_each (orphaned pid) (change_under pid (zombie traced status) s.processes) } in
+    let it : IsUntouched to = record { processes = left } in
+    either IsUntouched (eqb p.parent 0) to (with_process p.parent (told None Cld (of_child pid status)) to) it (process-keeps p.parent (told None Cld (of_child pid status)) (told-keeps None Cld (of_child pid status)) to it)
 
-pub ended-untouched : (p : TracedProcess) (status : ℕ) (s : TracedSystem) → IsUntouched s → IsUntouched (with_ended p status s)
+with_ended-keeps : (pid status : ℕ) (s : TracedSystem) → IsUntouched s → IsUntouched (with_ended traced pid status s)
 unfolding with_ended
-ended-untouched p status s u =
-    let zombied = All-change_first IsUntouchedProcess (is_process p.id) (zombie status) (zombie-untouched status) s.processes u.processes in
-    parent_told-untouched p.parent _ (record { processes = All-map_kept IsUntouchedProcess (orphaned p.id) (orphaned-untouched p.id) (change_first (is_process p.id) (zombie status) s.processes) zombied })
+with_ended-keeps pid status s u = by (live_process s pid)
+  where
+    by : (o : Option TracedProcess) → IsUntouched (ended_if_live traced pid status s o)
+    by None = u
+    by (Some p) = with_this_ended-keeps pid p status s u
 
-ended_if-untouched : (status : Option ℕ) (p : TracedProcess) (s : TracedSystem) → IsUntouched s → IsUntouched (ended_if status p s)
-ended_if-untouched None p s u = u
-ended_if-untouched (Some status) p s u = ended-untouched p status s u
+pub generated-keeps : (pid : ℕ) (target : Option ℕ) (g : Sig) (info : Info) (s : TracedSystem) → IsUntouched s → IsUntouched (generated traced pid target g info s)
+unfolding generated
+generated-keeps pid target g info s u = either IsUntouched _ _ _ (with_ended-keeps pid _ s u) (process-keeps pid (told target g info) (told-keeps target g info) s u)
 
--- A turn leaves a system untouched, whichever row it is.
-pub settled-untouched : (s : TracedSystem) (p : TracedProcess) (l : TracedLwp) (row : TurnRow) → IsUntouched s → IsUntouched (settled s p l row).system
-unfolding settled
-settled-untouched s p l row u = ended_if-untouched (ending row) (with_row row l p) _ (with_process-untouched p.id (with_row row l) (with_row-untouched row l) s u)
+pub made-keeps : (p : TracedProcess) (s : TracedSystem) → ((pid : ℕ) → IsUntouchedProcess (pid, p)) → IsUntouched s → IsUntouched (with_made p s)
+unfolding with_made
+made-keeps p s new u = record { processes = All-inserted IsUntouchedProcess s.made p s.processes (new s.made) u.processes }
 
-pub ticked-untouched : (s : TracedSystem) → IsUntouched s → IsUntouched (ticked s)
-ticked-untouched s u = record { processes = u.processes }
+-- what is set on a child does not kill it, and watches nothing
+record IsMild (c : TracedControl) : Type 0 where
+  no_kill : has_flags c.modes klc_mode ≡ false
+  unwatched : c.areas ≡ []
+
+child_control-mild : (c : TracedControl) → IsMild (child_control c)
+unfolding child_control nothing_set has_flags common_word
+child_control-mild c = either IsMild (eqb (bit_and c.modes fork_mode) fork_mode) (record c { modes = fork_mode; areas = []; usage = nothing_used }) nothing_set (record { no_kill = refl; unwatched = refl }) (record { no_kill = refl; unwatched = refl })
+
+forked-untouched : (pid : ℕ) (p : TracedProcess) (l : TracedLwp) (args : List ℕ) (clock : ℕ) (own : ℕ) → IsUntouchedProcess (own, forked traced pid p l args clock)
+unfolding forked forked_lwp traced birth_marks no_marks
+forked-untouched pid p l args clock own =
+    let set = child_control-mild p.control in
+    record { no_kill = set.no_kill; unwatched = set.unwatched; lwps = All-cons IsUntouchedLwp _ [] (record { no_step = refl; no_abort = refl; no_agent = refl }) (All-nil IsUntouchedLwp) }
+
+new_lwp-keeps : (new : ℕ) (regs : List ℕ) (held : ℕ) → eqb new agent_id ≡ false → KeepsProcesses (with_new_lwp traced new regs held)
+unfolding with_new_lwp new_lwp traced no_marks
+new_lwp-keeps new regs held plain pid x u =
+    let made = new_lwp traced regs held (no_marks false) in
+    either (λ y. IsUntouchedProcess (pid, y)) (is_some (lwp_of x new)) x (record x { next_lwp = new + 1; lwps = inserted new made x.lwps }) u
+    (record { no_kill = u.no_kill; unwatched = u.unwatched; lwps = All-inserted IsUntouchedLwp new made x.lwps (record { no_step = refl; no_abort = refl; no_agent = plain }) u.lwps })
+
+module _ (pid : ℕ) (p : TracedProcess) (id : ℕ) (l : TracedLwp) (lu : IsUntouchedLwp (id, l)) where
+  program-keeps : (program : Program) → KeepsProcesses (with_program traced id l program)
+  unfolding with_program started traced exec_control
+  program-keeps program q x u = record { no_kill = u.no_kill; unwatched = refl; lwps = All-cons IsUntouchedLwp _ [] (record { no_step = lu.no_step; no_abort = lu.no_abort; no_agent = lu.no_agent }) (All-nil IsUntouchedLwp) }
+
+  changed-keeps : (c : Change) → IsProper c → (s : TracedSystem) → IsUntouched s → IsUntouched (changed traced pid p id l c s)
+  unfolding changed with_fds with_space with_shared_taken with_job_stop with_disposition_of with_held resumed with_suspended with_child with_reaped
+  changed-keeps (files_are files fds) proper s u = process-keeps pid (with_fds fds) (same_parts (with_fds fds) (λ x. refl) (λ x. refl)) _ (record { processes = u.processes })
+  changed-keeps (space_is space) proper s u = process-keeps pid (with_space space) (same_parts (with_space space) (λ x. refl) (λ x. refl)) s u
+  changed-keeps (signals target g info) proper s u = either IsUntouched _ s _ u (generated-keeps target None g info s u)
+  changed-keeps (signals_itself g info) proper s u = either IsUntouched _ s _ u (generated-keeps pid (Some id) g info s u)
+  changed-keeps (takes_shared g) proper s u = process-keeps pid (with_shared_taken g) (same_parts (with_shared_taken g) (λ x. refl) (λ x. refl)) s u
+  changed-keeps (job_stops g) proper s u = process-keeps pid (with_job_stop g) (same_parts (with_job_stop g) (λ x. refl) (λ x. refl)) s u
+  changed-keeps (disposition_is g d) proper s u = process-keeps pid (with_disposition_of g d) (same_parts (with_disposition_of g d) (λ x. refl) (λ x. refl)) s u
+  changed-keeps (held_is held) proper s u = process-keeps pid (with_lwp id (with_held held)) (lwp-keeps id (with_held held) (same_control (with_held held) (λ x. refl))) s u
+  changed-keeps (resumes frame frames) proper s u = process-keeps pid (with_lwp id (resumed frame frames)) (lwp-keeps id (resumed frame frames) (same_control (resumed frame frames) (λ x. refl))) s u
+  changed-keeps (forks args) proper s u = either IsUntouched (eqb s.made pid) s (with_child traced pid p l args s) u (made-keeps (forked traced pid p l args s.clock) (record s { files = with_all_shared s.files p.fds }) (forked-untouched pid p l args s.clock) (record { processes = u.processes }))
+  changed-keeps (reaps child) proper s u = either IsUntouched (eqb child pid) s (with_reaped child s) u (record { processes = All-without_id IsUntouchedProcess child s.processes u.processes })
+  changed-keeps (becomes program) proper s u = process-keeps pid (with_program traced id l program) (program-keeps program) s u
+  changed-keeps (makes_lwp new regs held) proper s u = process-keeps pid (with_new_lwp traced new regs held) (new_lwp-keeps new regs held proper) s u
+  changed-keeps (suspends other it) proper s u = process-keeps pid (with_lwp other (with_suspended it)) (lwp-keeps other (with_suspended it) (same_control (with_suspended it) (λ x. refl))) s u
+
+  all_changed-keeps : (cs : List Change) → AreProper cs → (s : TracedSystem) → IsUntouched s → IsUntouched (all_changed traced pid p id l cs s)
+  unfolding all_changed
+  all_changed-keeps [] proper s u = u
+  all_changed-keeps (c ∷ cs) proper s u = all_changed-keeps cs proper.1 (changed traced pid p id l c s) (changed-keeps c proper.0 s u)
+
+  without_lwp-keeps : KeepsProcesses (without_lwp id)
+  unfolding without_lwp
+  without_lwp-keeps q x u = record { no_kill = u.no_kill; unwatched = u.unwatched; lwps = All-without_id IsUntouchedLwp id x.lwps u.lwps }
+
+  ended-keeps : (how : Ending) (s : TracedSystem) → IsUntouched s → IsUntouched (ended traced pid p id how s)
+  unfolding ended with_lwp_ended
+  ended-keeps (ends_process status) s u = with_this_ended-keeps pid p status s u
+  ended-keeps ends_lwp s u = either IsUntouched _ _ _ (with_this_ended-keeps pid p 0 s u) (process-keeps pid (without_lwp id) without_lwp-keeps s u)
+
+  transition-keeps : (t : Transition) → AreProper t.changes → (s : TracedSystem) → IsUntouched s → IsUntouched (after_transition traced pid p id l t s)
+  unfolding after_transition with_lwp_of
+  transition-keeps t proper s u =
+      by t.ending _ (process-keeps pid (with_lwp id (moved traced t.move)) (lwp-keeps id (moved traced t.move) (moved-keeps t.move)) _ (all_changed-keeps t.changes proper s u))
+    where
+      by : (o : Option Ending) (to : TracedSystem) → IsUntouched to → IsUntouched (ended_if traced pid p id l o to)
+      by None to un = un
+      by (Some how) to un = ended-keeps how to un
+
+  meeting-keeps : (point : Option Point) → KeepsProcesses (after_meeting point id)
+  unfolding after_meeting with_stop_at with_others_directed with_all_directed stopped_at
+  meeting-keeps None q x u = u
+  meeting-keeps (Some point) q x u =
+      let stopped = lwp-keeps id (stopped_at point) (λ i m un. record { no_step = un.no_step; no_abort = un.no_abort; no_agent = un.no_agent }) q x u in
+      let at = with_lwp id (stopped_at point) x in
+      either (λ y. IsUntouchedProcess (q, y)) (is_traced x.control point) (with_stop_at point id x) x
+      (either (λ y. IsUntouchedProcess (q, y)) (has_flags at.control.modes async_mode) at (with_all_directed at) stopped (record { no_kill = stopped.no_kill; unwatched = stopped.unwatched; lwps = lwps-keep directed directed-keeps (with_lwp id (stopped_at point) x) stopped.lwps }))
+      u
+
+  pub settled-keeps : (s : TracedSystem) → IsUntouched s → (row : Row) → AreProper row.transition.changes → IsUntouched (settled s pid p id l row).system
+  unfolding settled with_counted
+  settled-keeps s u row proper =
+      process-keeps pid (after_meeting row.point id) (meeting-keeps row.point) _
+      (process-keeps pid (with_counted row.did row.begun) (λ q x un. record { no_kill = un.no_kill; unwatched = un.unwatched; lwps = un.lwps }) _
+      (transition-keeps row.transition proper s u))

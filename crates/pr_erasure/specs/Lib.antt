@@ -1,2 +1,4 @@
+pub mod PlainEffects
+pub mod Suiting
 pub mod Transparency
 pub mod Untouched

@@ -1,6 +1,4 @@
-pub mod ErasureLemmas
-pub mod FoundLemmas
-pub mod ListLemmas
+pub mod CloseLemmas
 pub mod RefusalLemmas
+pub mod RunLemmas
 pub mod StopLemmas
-pub mod TurnLemmas

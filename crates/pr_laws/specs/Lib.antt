@@ -1,1 +1,3 @@
+pub mod LastCloses
 pub mod Refusals
+pub mod Runs

@@ -3,13 +3,18 @@
 #![tactic(auto)]
 
 mod calls;
-mod erasure;
+mod closes;
 mod messages;
+mod runs;
 mod stops;
+mod untraced_runs;
 
 pub use calls::refused_call_leaves_state;
-pub use erasure::{stopping_and_running_are_hidden, untraced_runs_follow_one_another};
+pub use closes::nothing_is_left_after_the_last_close;
 pub use messages::{
-    no_spelling_begins_another, one_spelling_one_message, read_is_spelt, spelt_is_read,
+    encoded_message_is_read, no_encoding_begins_another, one_encoding_one_message,
+    read_message_is_encoded,
 };
-pub use stops::{directed_stop_is_hidden, one_lwp_is_its_process};
+pub use runs::running_a_process_stopped_on_an_event;
+pub use stops::one_lwp_is_its_process;
+pub use untraced_runs::untraced_runs_follow_one_another;

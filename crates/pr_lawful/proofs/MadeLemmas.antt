@@ -1,0 +1,136 @@
+use Rattle.std.proofs.Common.{◌&&◌, ℕ, ◌≤◌, Bool, true, false, eqb, Option, Some, None, List, [], ◌∷◌, length, cond, arith}
+use Rattle.std.specs.List.{All}
+use Rattle.std.proofs.lemmas.List.Elements.{All-weaker}
+use Rattle.pr_num.specs.Programs.{Program}
+use Rattle.pr_num.specs.Signals.{signal_number}
+use Rattle.pr_num.specs.declared.infos.Info.{Info}
+use Rattle.pr_num.specs.declared.signals.Sig.{Sig}
+use Rattle.pr_num.specs.declared.signals.Sig.TheVariants.{Kill}
+use Rattle.pr_model.specs.Changes.{Change, files_are, space_is, signals, signals_itself, takes_shared, job_stops, disposition_is, held_is, resumes, forks, reaps, becomes, makes_lwp, suspends, Ending, ends_process, ends_lwp, changed, all_changed, ended}
+use Rattle.pr_model.specs.Generation.{told}
+use Rattle.pr_num.specs.Control.{has_flags, klc_mode, rlc_mode}
+use Rattle.pr_model.specs.Handles.{after_last_close, released, with_last_close}
+use Rattle.pr_model.specs.Lawful.{IsOfMade}
+use Rattle.pr_model.specs.Lives.{with_made, with_parent_told, without_lwp, with_reaped, with_spawned, with_child, with_this_ended, ended_if_live, with_ended, with_lwp_ended}
+use Rattle.pr_model.specs.LwpTurns.{settled}
+use Rattle.pr_model.specs.Machines.{traced}
+use Rattle.pr_model.specs.Rows.{Row}
+use Rattle.pr_model.specs.Signals.{is_kill, generated}
+use Rattle.pr_model.specs.State.{Places, TracedLwp, TracedProcess, TracedSystem, live_process, with_process, with_lwp_of}
+use Rattle.pr_model.specs.Transitions.{Transition, ended_if, after_transition}
+use Rattle.pr_model.specs.declared.handles.Held.{Held}
+
+-- No step makes the number of processes that were made less.
+
+abbrev pub Grows : TracedSystem → TracedSystem → Type 0
+Grows s t = s.made ≤ t.made
+
+pub same-grows : (s : TracedSystem) → Grows s s
+same-grows s = omega arith
+
+next-grows : (s t u : TracedSystem) → Grows s t → Grows t u → Grows s u
+next-grows s t u first next = omega arith
+
+pub either-grows : (b : Bool) (s t u : TracedSystem) → Grows s t → Grows s u → Grows s (cond b t u)
+either-grows true s t u one other = one
+either-grows false s t u one other = other
+
+pub process-grows : (s : TracedSystem) (pid : ℕ) (f : TracedProcess → TracedProcess) → Grows s (with_process pid f s)
+unfolding with_process
+process-grows s pid f = omega arith
+
+-- ---- ends
+
+pub ended-grows : (s : TracedSystem) (pid : ℕ) (p : TracedProcess) (status : ℕ) → Grows s (with_this_ended traced pid p status s)
+unfolding with_this_ended with_parent_told with_process
+ended-grows s pid p status = either-grows (eqb p.parent 0) s _ _ (omega arith) (omega arith)
+
+with_ended-grows : (s : TracedSystem) (pid status : ℕ) → Grows s (with_ended traced pid status s)
+unfolding with_ended
+with_ended-grows s pid status = by (live_process s pid)
+  where
+    by : (o : Option TracedProcess) → Grows s (ended_if_live traced pid status s o)
+    by None = same-grows s
+    by (Some p) = ended-grows s pid p status
+
+pub generated-grows : (s : TracedSystem) (pid : ℕ) (target : Option ℕ) (g : Sig) (info : Info) → Grows s (generated traced pid target g info s)
+unfolding generated
+generated-grows s pid target g info = either-grows (is_kill g) s _ _ (with_ended-grows s pid (signal_number g)) (process-grows s pid (told target g info))
+
+lwp_ended-grows : (s : TracedSystem) (pid : ℕ) (p : TracedProcess) (id : ℕ) → Grows s (with_lwp_ended traced pid p id s)
+unfolding with_lwp_ended
+lwp_ended-grows s pid p id = either-grows (eqb (length p.lwps) 1) s _ _ (ended-grows s pid p 0) (process-grows s pid (without_lwp id))
+
+-- the last close for writing
+pub closed-grows : (s : TracedSystem) (pid : ℕ) (o : Option TracedProcess) → Grows s (after_last_close pid o s)
+unfolding with_last_close
+closed-grows s pid None = same-grows s
+closed-grows s pid (Some p) =
+    either-grows (has_flags p.control.modes klc_mode) s _ _ (ended-grows s pid p (signal_number Kill))
+    (either-grows (has_flags p.control.modes rlc_mode) s _ _ (process-grows s pid released) (same-grows s))
+
+-- ---- beginnings
+
+pub made-grows : (s : TracedSystem) (p : TracedProcess) → Grows s (with_made p s)
+unfolding with_made
+made-grows s p = omega arith
+
+pub spawned-grows : (s : TracedSystem) (program : Program) (held : Bool) → Grows s (with_spawned traced program held s)
+unfolding with_spawned with_made
+spawned-grows s program held = omega arith
+
+child-grows : (s : TracedSystem) (pid : ℕ) (p : TracedProcess) (l : TracedLwp) (args : List ℕ) → Grows s (with_child traced pid p l args s)
+unfolding with_child with_made
+child-grows s pid p l args = omega arith
+
+-- ---- turns: a line a kind of change
+
+module _ (pid : ℕ) (p : TracedProcess) (id : ℕ) (l : TracedLwp) where
+  changed-grows : (c : Change) (s : TracedSystem) → Grows s (changed traced pid p id l c s)
+  unfolding changed with_process with_reaped
+  changed-grows (files_are files fds) s = omega arith
+  changed-grows (space_is space) s = omega arith
+  changed-grows (signals target g info) s = either-grows (is_kill g && eqb target pid) s _ _ (same-grows s) (generated-grows s target None g info)
+  changed-grows (signals_itself g info) s = either-grows (is_kill g) s _ _ (same-grows s) (generated-grows s pid (Some id) g info)
+  changed-grows (takes_shared g) s = omega arith
+  changed-grows (job_stops g) s = omega arith
+  changed-grows (disposition_is g d) s = omega arith
+  changed-grows (held_is held) s = omega arith
+  changed-grows (resumes frame frames) s = omega arith
+  changed-grows (forks args) s = either-grows (eqb s.made pid) s _ _ (same-grows s) (child-grows s pid p l args)
+  changed-grows (reaps child) s = either-grows (eqb child pid) s _ _ (same-grows s) (omega arith)
+  changed-grows (becomes program) s = omega arith
+  changed-grows (makes_lwp new regs held) s = omega arith
+  changed-grows (suspends other it) s = omega arith
+
+  all_changed-grows : (cs : List Change) (s : TracedSystem) → Grows s (all_changed traced pid p id l cs s)
+  unfolding all_changed
+  all_changed-grows [] s = same-grows s
+  all_changed-grows (c ∷ cs) s =
+      next-grows s (changed traced pid p id l c s) (all_changed traced pid p id l cs (changed traced pid p id l c s)) (changed-grows c s) (all_changed-grows cs (changed traced pid p id l c s))
+
+  ending-grows : (how : Ending) (s : TracedSystem) → Grows s (ended traced pid p id how s)
+  unfolding ended
+  ending-grows (ends_process status) s = ended-grows s pid p status
+  ending-grows ends_lwp s = lwp_ended-grows s pid p id
+
+  transition-grows : (s : TracedSystem) (t : Transition) → Grows s (after_transition traced pid p id l t s)
+  unfolding after_transition with_lwp_of with_process
+  transition-grows s t = let moved = all_changed-grows t.changes s in by t.ending _ moved
+    where
+      by : (o : Option Ending) (to : TracedSystem) → Grows s to → Grows s (ended_if traced pid p id l o to)
+      by None to grown = grown
+      by (Some how) to grown = next-grows s to (ended traced pid p id how to) grown (ending-grows how to)
+
+  pub settled-grows : (s : TracedSystem) (row : Row) → Grows s (settled s pid p id l row).system
+  unfolding settled with_process
+  settled-grows s row = transition-grows s row.transition
+
+-- ---- handles name processes that were made
+
+of-made : (made more : ℕ) → made ≤ more → (o : Option Held) → IsOfMade made o → IsOfMade more o
+of-made made more fewer None it = tt
+of-made made more fewer (Some h) it = omega arith
+
+pub handles-on : (opens : Places) (s t : TracedSystem) → Grows s t → All (IsOfMade s.made) opens → All (IsOfMade t.made) opens
+handles-on opens s t grows all = All-weaker (IsOfMade s.made) (IsOfMade t.made) (of-made s.made t.made grows) opens all

@@ -1,0 +1,125 @@
+use Rattle.std.proofs.Common.{◌≡◌, ◌≢◌, ℕ, ◌+◌, ◌<◌, ◌≤◌, Bool, true, false, Some, None, List, [], ◌∷◌, length}
+use Rattle.std.specs.List.{All}
+use Rattle.pr_num.specs.Files.{FileTable, Descriptors}
+use Rattle.pr_num.specs.Limits.{lwp_limit, process_limit, descriptor_limit, all_mappings_limit}
+use Rattle.pr_num.specs.Programs.{Program}
+use Rattle.pr_num.specs.Spaces.{Space, first_space, mapped_size}
+use Rattle.pr_parts.specs.FileTables.{CountsUsers, IsFileTable, PipesHaveEnds}
+use Rattle.pr_parts.specs.AddressSpaces.{LeavesHeapPlace}
+use Rattle.pr_rec.specs.InRange.{IsInfo}
+use Rattle.pr_model.specs.Changes.{Change, files_are, space_is, signals, signals_itself, takes_shared, job_stops, disposition_is, held_is, resumes, forks, reaps, becomes, makes_lwp, suspends, changed}
+use Rattle.pr_model.specs.Lawful.{IsHoldable, IsLawfulFrame}
+use Rattle.pr_model.specs.LwpCalls.{last_lwp}
+use Rattle.pr_model.specs.Machines.{traced}
+use Rattle.pr_model.specs.Moves.{Move, stays, stops, takes, catches}
+use Rattle.pr_model.specs.Readers.{size_of, total_size}
+use Rattle.pr_model.specs.SignalCalls.{can_be_caught}
+use Rattle.pr_model.specs.State.{TracedLwp, TracedProcess, TracedSystem, lwp_of, process_of}
+use Rattle.pr_model.specs.Transitions.{Transition}
+
+-- What turns keep to, so that they leave the system lawful: each change in the system that it finds, and each move.
+
+-- ---- changes
+
+-- other files and descriptors: the files are in order, and count the descriptors that the process then has
+pub record SuitsFiles (s : TracedSystem) (pid : ℕ) (files : FileTable) (fds : Descriptors) : Type 0 where
+  pub process : TracedProcess
+  pub found : process_of s pid ≡ Some process
+  pub live : process.ended ≡ None
+  pub table : IsFileTable files
+  pub pipes : PipesHaveEnds files
+  pub counted : CountsUsers s.files process.fds files fds
+  pub places : length fds ≡ descriptor_limit
+
+-- another address space: there is room for it among those of all processes
+pub record SuitsSpace (s : TracedSystem) (pid : ℕ) (space : Space) : Type 0 where
+  pub process : TracedProcess
+  pub found : process_of s pid ≡ Some process
+  pub live : process.ended ≡ None
+  pub mapped : total_size s + mapped_size space ≤ all_mappings_limit + size_of process
+  pub heap_place : All LeavesHeapPlace space
+
+-- a child: there is room for it and for its memory
+pub record SuitsChild (s : TracedSystem) (pid : ℕ) (p : TracedProcess) (l : TracedLwp) : Type 0 where
+  pub found : process_of s pid ≡ Some p
+  pub live : p.ended ≡ None
+  pub room : s.made < process_limit
+  pub mapped : total_size s + size_of p ≤ all_mappings_limit
+  pub held : IsHoldable l.held
+  pub frames : All IsLawfulFrame l.frames
+
+-- what is reaped is a zombie
+pub record SuitsReaped (s : TracedSystem) (child : ℕ) : Type 0 where
+  pub zombie : TracedProcess
+  pub status : ℕ
+  pub found : process_of s child ≡ Some zombie
+  pub over : zombie.ended ≡ Some status
+
+-- another program: there is room for its memory, and the lwp that goes on is one of the process
+pub record SuitsProgram (s : TracedSystem) (pid id : ℕ) (l : TracedLwp) (program : Program) : Type 0 where
+  pub process : TracedProcess
+  pub found : process_of s pid ≡ Some process
+  pub live : process.ended ≡ None
+  pub mapped : total_size s + mapped_size (first_space program) ≤ all_mappings_limit + size_of process
+  pub heap_place : All LeavesHeapPlace (first_space program)
+  pub there : lwp_of process id ≡ Some l
+
+-- an lwp more: it gets the next id, and there is room for it
+pub record SuitsLwp (s : TracedSystem) (pid new held : ℕ) : Type 0 where
+  pub process : TracedProcess
+  pub found : process_of s pid ≡ Some process
+  pub live : process.ended ≡ None
+  pub next : new ≡ process.next_lwp
+  pub last : process.next_lwp ≤ last_lwp
+  pub few : length process.lwps < lwp_limit
+  pub holdable : IsHoldable held
+
+module _ (pid : ℕ) (p : TracedProcess) (id : ℕ) (l : TracedLwp) where
+  -- A change in the turn of the lwp of an id suits a system.
+  abbrev pub SuitsChange : TracedSystem → Change → Type 0
+  SuitsChange s (files_are files fds) = SuitsFiles s pid files fds
+  SuitsChange s (space_is space) = SuitsSpace s pid space
+  SuitsChange s (signals target g info) = (target ≢ 0) × IsInfo info
+  SuitsChange s (signals_itself g info) = IsInfo info
+  SuitsChange s (takes_shared g) = Unit {0}
+  SuitsChange s (job_stops g) = Unit {0}
+  SuitsChange s (disposition_is g disposition) = can_be_caught g ≡ true
+  SuitsChange s (held_is held) = IsHoldable held
+  SuitsChange s (resumes frame frames) = IsHoldable frame.held × All IsLawfulFrame frames
+  SuitsChange s (forks args) = SuitsChild s pid p l
+  SuitsChange s (reaps child) = SuitsReaped s child
+  SuitsChange s (becomes program) = SuitsProgram s pid id l program
+  SuitsChange s (makes_lwp new regs held) = SuitsLwp s pid new held
+  SuitsChange s (suspends other suspended) = Unit {0}
+
+  -- changes one after another, each in the system that it finds
+  abbrev pub SuitChanges : TracedSystem → List Change → Type 0
+  SuitChanges s [] = Unit {0}
+  SuitChanges s (c ∷ cs) = SuitsChange s c × SuitChanges (changed traced pid p id l c s) cs
+
+-- ---- moves
+
+-- a handler runs with a set that can be held, and comes back to such sets
+pub record SuitsHandler (held : ℕ) (frames : List _) : Type 0 where
+  pub holdable : IsHoldable held
+  pub backs : All IsLawfulFrame frames
+
+abbrev pub SuitsMove : Move → Type 0
+SuitsMove (catches frames regs held) = SuitsHandler held frames
+SuitsMove (takes c own) = IsInfo c.info
+SuitsMove _ = Unit {0}
+
+-- whether a move is a stop as directed
+abbrev pub is_stop : Move → Bool
+is_stop stops = true
+is_stop _ = false
+
+-- ---- transitions
+
+-- The changes suit, and so does the move; what ends its lwp or its process does nothing else; and an lwp that stops was
+-- directed to, and does nothing else.
+pub record SuitsTransition (s : TracedSystem) (pid : ℕ) (p : TracedProcess) (id : ℕ) (l : TracedLwp) (t : Transition) : Type 0 where
+  pub changes : SuitChanges pid p id l s t.changes
+  pub move : SuitsMove t.move
+  pub alone : (how : _) → t.ending ≡ Some how → (t.changes ≡ []) × (t.move ≡ stays)
+  pub stop : is_stop t.move ≡ true → (l.control.directed ≡ true) × (t.changes ≡ [])

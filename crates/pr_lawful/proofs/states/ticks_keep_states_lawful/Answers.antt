@@ -1,0 +1,5 @@
+use Rattle.pr_lawful.proofs.CallLemmas.{tick-state}
+use Rattle.pr_lawful.proofs.states.ticks_keep_states_lawful.Goals as goal
+
+pub returns : goal.returns
+returns c = tick-state

@@ -1,0 +1,5 @@
+use Rattle.pr_lawful.proofs.TurnLemmas.{turn-lawful}
+use Rattle.pr_lawful.proofs.turns.turns_keep_systems_lawful.Goals as goal
+
+pub returns : goal.returns
+returns c = turn-lawful

@@ -1,5 +1,0 @@
-use Rattle.pr_codec.proofs.MessageLemmas.{begins_another}
-use Rattle.pr_laws.proofs.messages.no_spelling_begins_another.Goals as goal
-
-pub returns : goal.returns
-returns c = begins_another
