@@ -1,0 +1,3 @@
+pub mod BadBytes
+pub mod Plain
+pub mod Steps

@@ -1,0 +1,67 @@
+use Rattle.std.specs.Prelude.{ℕ, List, [], ◌∷◌, ◌++◌, Option, Some, None, Result, Ok, Err}
+use Rattle.pr_num.specs.Spaces.{Space}
+use Rattle.pr_num.specs.Words.{word_bytes}
+use Rattle.pr_num.specs.declared.mappings.BadByte.{BadByte}
+use Rattle.pr_parts.specs.AddressSpaces.{with_bytes}
+use Rattle.pr_model.specs.InstructionEffects.{InstructionEffect, runs, calls, faults, runs_into_watch, loaded, a_word, a_byte, a_frame, faults_itself, enters_call, leaves, loads, stores}
+use Rattle.pr_model.specs.InstructionEffects as model
+use Rattle.pr_lwp.specs.declared.decoding.Decoded.{Decoded}
+use Rattle.pr_lwp.specs.declared.decoding.Decoded.TheVariants.{FaultsItself, EntersCall, Leaves, Loads, Stores}
+use Rattle.pr_lwp.specs.declared.decoding.Load.{Load}
+use Rattle.pr_lwp.specs.declared.decoding.Load.TheVariants as load
+use Rattle.pr_lwp.specs.declared.decoding.Store.{Store}
+use Rattle.pr_lwp.specs.declared.decoding.Stored.{Stored}
+use Rattle.pr_lwp.specs.declared.decoding.Stored.TheVariants as stored
+use Rattle.pr_lwp.specs.declared.executing.Outcome.{Outcome}
+use Rattle.pr_lwp.specs.declared.executing.Outcome.TheVariants.{Runs, Calls, Faults, RunsIntoWatch}
+
+-- What the crate's own types say, in the words of the definitions.
+
+abbrev pub stored_bytes : Stored → List ℕ
+stored_bytes (stored.Byte b) = b ∷ []
+stored_bytes (stored.Word w) = word_bytes w
+stored_bytes (stored.Frame fp pc) = word_bytes fp ++ word_bytes pc
+
+abbrev pub store_of : Store → model.Store
+store_of s = record { at = s.at; bytes = stored_bytes s.bytes }
+
+abbrev pub load_of : Load → model.Load
+load_of (load.Word to) = a_word to
+load_of (load.Byte to) = a_byte to
+load_of load.Frame = a_frame
+
+-- how many bytes are read
+abbrev pub size_of : Load → ℕ
+size_of (load.Word to) = 8
+size_of (load.Byte to) = 1
+size_of load.Frame = 16
+
+abbrev pub decoded_of : Decoded → model.Decoded
+decoded_of (FaultsItself f) = faults_itself f
+decoded_of (EntersCall call) = enters_call call
+decoded_of (Leaves regs) = leaves regs
+decoded_of (Loads load at) = loads (load_of load) at (size_of load)
+decoded_of (Stores stack regs store) = stores stack regs (store_of store)
+
+-- the registers after a read, or the first byte that cannot be read
+abbrev pub loaded_from : model.Load → List ℕ → Result (List ℕ) BadByte → Result (List ℕ) BadByte
+loaded_from load regs (Err bad) = Err bad
+loaded_from load regs (Ok bytes) = Ok (loaded load regs bytes)
+
+-- what an instruction came to
+abbrev pub outcome_of : InstructionEffect → Outcome
+outcome_of (runs regs store) = Runs regs
+outcome_of (calls call regs) = Calls call regs
+outcome_of (faults f address) = Faults f address
+outcome_of (runs_into_watch address regs store) = RunsIntoWatch address regs
+
+-- memory after a store, if there is one
+abbrev pub with_store : Option model.Store → Space → Space
+with_store None space = space
+with_store (Some store) space = with_bytes store.at store.bytes space
+
+abbrev pub space_after : InstructionEffect → Space → Space
+space_after (runs regs store) space = with_store store space
+space_after (calls call regs) space = space
+space_after (faults f address) space = space
+space_after (runs_into_watch address regs store) space = with_store store space

@@ -1,0 +1,104 @@
+//! The registers of an lwp: r0 to r7, sp, fp and pc.
+ghost use Rattle.std.specs.Prelude.{◌≡◌};
+ghost use Rattle.pr_model.specs.InstructionEffects.{access_at, after_call, after_return, in_register, jumped_if, with_register};
+ghost use Rattle.pr_model.specs.Registers.{moved_on, with_pc};
+
+use pr_model::PC;
+use pr_num::Reg;
+
+/// The places of sp and fp among the registers.
+pub const SP: usize = 8;
+
+pub const FP: usize = 9;
+
+/// How many bytes a call of a subroutine stores, the old fp and pc.
+pub const FRAME: u64 = 16;
+
+#[tactic(auto, using(crate::proofs::RegisterLemmas::registers))]
+pub fn value(regs: &[u64; 11], r: Reg) -> u64
+    ensures { result ≡ in_register r regs.now }
+{
+    regs[r.number() as usize]
+}
+
+/// The registers with pc at the next instruction.
+#[tactic(auto, unfolding(pr_model::specs::Registers::moved_on))]
+pub fn moved_on(regs: &[u64; 11]) -> [u64; 11]
+    ensures { result ≡ moved_on regs.now }
+{
+    let mut new = *regs;
+    new[PC] = regs[PC].wrapping_add(16);
+    new
+}
+
+/// The registers with a value in one of them.
+#[tactic(auto, using(crate::proofs::RegisterLemmas::registers))]
+fn with(regs: &[u64; 11], to: Reg, value: u64) -> [u64; 11]
+    ensures { result ≡ with_register to value regs.now }
+{
+    let mut new = *regs;
+    new[to.number() as usize] = value;
+    new
+}
+
+/// The registers after an instruction that computes a value.
+pub fn computed(regs: &[u64; 11], to: Reg, value: u64) -> [u64; 11]
+    ensures { result ≡ moved_on (with_register to value regs.now) }
+{
+    moved_on(&with(regs, to, value))
+}
+
+/// The registers after a jump.
+pub fn jumped(regs: &[u64; 11], target: u64) -> [u64; 11]
+    ensures { result ≡ with_pc target regs.now }
+{
+    let mut new = *regs;
+    new[PC] = target;
+    new
+}
+
+/// The registers after a jump that is taken or not.
+pub fn jumped_if(taken: bool, target: u64, regs: &[u64; 11]) -> [u64; 11]
+    ensures { result ≡ jumped_if taken target regs.now }
+{
+    if taken {
+        jumped(regs, target)
+    } else {
+        moved_on(regs)
+    }
+}
+
+/// The registers after a call of a subroutine: sp falls by 16, and fp points there.
+pub fn called(regs: &[u64; 11], target: u64) -> [u64; 11]
+    ensures { result ≡ after_call target regs.now }
+{
+    let sp = regs[SP].wrapping_sub(FRAME);
+    let mut new = *regs;
+    new[SP] = sp;
+    new[FP] = sp;
+    new[PC] = target;
+    new
+}
+
+/// The address of an access through a register and an offset, which wraps.
+pub fn access_at(base: Reg, offset: u64, regs: &[u64; 11]) -> u64
+    ensures { result ≡ access_at base offset regs.now }
+{
+    value(regs, base).wrapping_add(offset)
+}
+
+/// The registers after the return from a subroutine: fp and pc are the two words at fp, and sp stands behind them.
+#[tactic(auto, unfolding(pr_num::specs::Words::word_of))]
+pub fn returned(regs: &[u64; 11], frame: &[u8; 16]) -> [u64; 11]
+    ensures { result ≡ after_return regs.now frame.now }
+{
+    let mut fp = [0; 8];
+    fp.copy_from_slice(&frame[..8]);
+    let mut pc = [0; 8];
+    pc.copy_from_slice(&frame[8..]);
+    let mut new = *regs;
+    new[SP] = regs[FP].wrapping_add(FRAME);
+    new[FP] = u64::from_le_bytes(fp);
+    new[PC] = u64::from_le_bytes(pc);
+    new
+}

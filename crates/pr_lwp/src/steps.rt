@@ -1,0 +1,65 @@
+ghost use Rattle.std.specs.Prelude.{◌≡◌, IsOk, IfOk, OnOk};
+ghost use Rattle.pr_model.specs.InstructionEffects.{instruction_effect};
+ghost use Rattle.pr_lwp.specs.Plain.{outcome_of, space_after};
+ghost use Rattle.pr_lwp.specs.Steps.{ran, stepped};
+
+use crate::executing::{Outcome, execute};
+use pr_mem::Space;
+use pr_model::{Lwp, PC};
+use pr_num::{Flt, NoMemory, Sysno};
+use pr_watch::Areas;
+
+/// What one instruction came to.
+#[derive(Clone, Copy, Debug, PartialEq, Eq)]
+pub enum Effect {
+    /// It ran.
+    Ran,
+    /// It came to a system call.
+    Sys(Sysno),
+    /// It incurred a fault at an address.
+    Fault(Flt, u64),
+}
+
+/// An instruction ran and left these registers; a step mark is used up.
+#[tactic(auto, unfolding(crate::specs::Steps::ran))]
+fn run<P>(lwp: &mut Lwp<P>, regs: [u64; 11]) -> Effect
+    ensures { (record { lwp = lwp.new; effect = result }) ≡ ran regs lwp.old }
+{
+    lwp.regs = regs;
+    if !lwp.control.step {
+        return Effect::Ran;
+    }
+    lwp.control.step = false;
+    Effect::Fault(Flt::Trace, regs[PC])
+}
+
+/// What an instruction makes of its lwp.
+#[tactic(auto, unfolding(crate::specs::Steps::stepped))]
+fn finish<P>(lwp: &mut Lwp<P>, outcome: Outcome) -> Effect
+    ensures { (record { lwp = lwp.new; effect = result }) ≡ stepped outcome lwp.old }
+{
+    match outcome {
+        Outcome::Runs(regs) => run(lwp, regs),
+        Outcome::Calls(call, regs) => {
+            lwp.regs = regs;
+            Effect::Sys(call)
+        }
+        Outcome::Faults(fault, address) => Effect::Fault(fault, address),
+        Outcome::RunsIntoWatch(address, regs) => {
+            lwp.regs = regs;
+            lwp.control.step = false;
+            Effect::Fault(Flt::Watch, address)
+        }
+    }
+}
+
+/// Runs the instruction at pc. A fault changes neither registers nor memory, but one of an area that traps after the
+/// access, and FLTTRACE, for which the lwp's step mark is used up. It takes no memory as yet.
+pub fn step<P>(lwp: &mut Lwp<P>, space: &mut Space, areas: &Areas) -> Result<Effect, NoMemory>
+    ensures lwp { IfOk result (λ effect. (record { lwp = lwp.new; effect = effect }) ≡ stepped (outcome_of (instruction_effect space.old areas.now lwp.old.regs)) lwp.old) }
+    ensures space { OnOk result (space.new ≡ space_after (instruction_effect space.old areas.now lwp.old.regs) space.old) }
+    ensures sure { IsOk result }
+{
+    let outcome = execute(&lwp.regs, space, areas);
+    Ok(finish(lwp, outcome))
+}
