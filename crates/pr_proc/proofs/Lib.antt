@@ -1,5 +1,11 @@
 pub mod CountLemmas
+pub mod ExecLemmas
+pub mod FamilyLemmas
 pub mod FirstLemmas
+pub mod ForkLemmas
 pub mod LifeLemmas
 pub mod OrderLemmas
+pub mod ProgramLemmas
+pub mod SignalLemmas
+pub mod SizeLemmas
 pub mod SpaceLemmas

@@ -1,32 +1,44 @@
-use Rattle.std.proofs.Common.{◌≡◌, ℕ, ◌+◌, ◌<◌, ◌≤◌, Bool, true, false, cond, Option, Some, None, List, [], ◌∷◌, length, map, drop, get_or, refl, sym, ap, ◌∙◌}
-use Rattle.std.specs.List.{find, flat_map}
-use Rattle.std.specs.Option.{option_or, option_map}
-use Rattle.std.proofs.lemmas.List.{drop_more, drop_all}
+use Rattle.std.proofs.Common.{◌≡◌, ℕ, zero, suc, ◌+◌, ◌≤◌, true, false, cond, Option, Some, None, List, [], ◌∷◌, ◌++◌, length, drop, refl, sym, ap, ◌∙◌, arith}
+use Rattle.std.specs.List.{find, slice_get}
+use Rattle.std.specs.Option.{option_or}
+use Rattle.std.proofs.lemmas.List.{drop_all}
 use Rattle.std.proofs.lemmas.List.Folds.{find-append}
-use Rattle.pr_model.specs.State.{TracedProcess, TracedLwp}
-use Rattle.pr_proc.specs.Order.{lwp_pair, is_after, follows}
+use Rattle.std.proofs.lemmas.Option.{none-some, same_Some}
+use Rattle.pr_model.specs.Order.{is_after, lwps_among, lwps_in, pairs_of}
+use Rattle.pr_model.specs.State.{TracedLwp, TracedProcess}
 
--- what the first of the lists has is found first
-find-flat_map_more : {X Y : Type 0} (p : Y → Bool) (f : X → List Y) (xs : List X) (i : ℕ) (d : X) → i < length xs → find p (flat_map f (drop i xs)) ≡ option_or (find p (f (get_or xs i d))) (find p (flat_map f (drop (i + 1) xs)))
-find-flat_map_more p f xs i d within =
-    ap (λ ys. find p (flat_map f ys)) (drop_more xs i d within) ∙ find-append p (f (get_or xs i d)) (flat_map f (drop (i + 1) xs))
+-- What a walk over lists by id finds.
 
-pub find-flat_map_here : {X Y : Type 0} (p : Y → Bool) (f : X → List Y) (xs : List X) (i : ℕ) (d : X) (y : Y) → i < length xs → find p (f (get_or xs i d)) ≡ Some y → find p (flat_map f (drop i xs)) ≡ Some y
-find-flat_map_here p f xs i d y within here =
-    find-flat_map_more p f xs i d within ∙ ap (λ o. option_or o (find p (flat_map f (drop (i + 1) xs)))) here
+-- what stands at a place, and what stands behind it
+pub drop-at : {X : Type 0} (xs : List X) (i : ℕ) (x : X) → slice_get xs i ≡ Some x → drop i xs ≡ x ∷ drop (i + 1) xs
+drop-at [] i x e = absurd (none-some x e)
+drop-at (y ∷ xs) zero x e = ap (λ z. z ∷ xs) (same_Some y x e)
+drop-at (y ∷ xs) (suc i) x e =
+    let step : suc (i + 1) ≡ suc i + 1 = omega arith in
+    drop-at xs i x e ∙ ap (λ n. x ∷ drop n (y ∷ xs)) step
 
-pub find-flat_map_on : {X Y : Type 0} (p : Y → Bool) (f : X → List Y) (xs : List X) (i : ℕ) (d : X) → i < length xs → find p (f (get_or xs i d)) ≡ None → find p (flat_map f (drop (i + 1) xs)) ≡ find p (flat_map f (drop i xs))
-find-flat_map_on p f xs i d within none =
-    sym (find-flat_map_more p f xs i d within ∙ ap (λ o. option_or o (find p (flat_map f (drop (i + 1) xs)))) none)
+module _ (after : Option (ℕ × ℕ)) (pid : ℕ) (lwps : List (ℕ × TracedLwp)) (i : ℕ) (id : ℕ) (l : TracedLwp) where
+  pub first-here : slice_get lwps i ≡ Some (id, l) → is_after after (pid, id) ≡ true → find (is_after after) (pairs_of pid (drop i lwps)) ≡ Some (pid, id)
+  first-here at here = ap (λ es. find (is_after after) (pairs_of pid es)) (drop-at lwps i (id, l) at) ∙ rw here refl
 
-pub find-flat_map_end : {X Y : Type 0} (p : Y → Bool) (f : X → List Y) (xs : List X) (i : ℕ) → length xs ≤ i → find p (flat_map f (drop i xs)) ≡ None
-find-flat_map_end p f xs i past = ap (λ ys. find p (flat_map f ys)) (drop_all i xs past)
+  pub first-on : slice_get lwps i ≡ Some (id, l) → is_after after (pid, id) ≡ false → find (is_after after) (pairs_of pid (drop (i + 1) lwps)) ≡ find (is_after after) (pairs_of pid (drop i lwps))
+  first-on at passed = sym (ap (λ es. find (is_after after) (pairs_of pid es)) (drop-at lwps i (id, l) at) ∙ rw passed refl)
 
--- the next one among the lwps of a process
-pub find-lwp_pair : (after : Option (ℕ × ℕ)) (p : TracedProcess) (lwps : List TracedLwp) → find (is_after after) (map (lwp_pair p) lwps) ≡ option_map (lwp_pair p) (find (follows after p.id) lwps)
-unfolding follows
-find-lwp_pair after p [] = refl
-find-lwp_pair after p (l ∷ lwps) =
-    elim (is_after after (p.id, l.id)) as (λ b. cond b (Some (lwp_pair p l)) (find (is_after after) (map (lwp_pair p) lwps)) ≡ option_map (lwp_pair p) (cond b (Some l) (find (follows after p.id) lwps))) [ true ↦ refl | false ↦ find-lwp_pair after p lwps ]
+pub first-end : (after : Option (ℕ × ℕ)) (pid : ℕ) (lwps : List (ℕ × TracedLwp)) (i : ℕ) → length lwps ≤ i → find (is_after after) (pairs_of pid (drop i lwps)) ≡ None
+first-end after pid lwps i past = ap (λ es. find (is_after after) (pairs_of pid es)) (drop_all i lwps past)
 
-pub ruleset order_laws = (find-flat_map_here, find-flat_map_on, find-flat_map_end, find-lwp_pair)
+module _ (after : Option (ℕ × ℕ)) (processes : List (ℕ × TracedProcess)) (i : ℕ) (pid : ℕ) (p : TracedProcess) where
+  among : slice_get processes i ≡ Some (pid, p) → find (is_after after) (lwps_among (drop i processes)) ≡ option_or (find (is_after after) (lwps_in (pid, p))) (find (is_after after) (lwps_among (drop (i + 1) processes)))
+  among at =
+      ap (λ es. find (is_after after) (lwps_among es)) (drop-at processes i (pid, p) at) ∙ find-append (is_after after) (lwps_in (pid, p)) (lwps_among (drop (i + 1) processes))
+
+  pub next-here : (x : ℕ × ℕ) → slice_get processes i ≡ Some (pid, p) → find (is_after after) (lwps_in (pid, p)) ≡ Some x → find (is_after after) (lwps_among (drop i processes)) ≡ Some x
+  next-here x at here = among at ∙ ap (λ o. option_or o (find (is_after after) (lwps_among (drop (i + 1) processes)))) here
+
+  pub next-on : slice_get processes i ≡ Some (pid, p) → find (is_after after) (lwps_in (pid, p)) ≡ None → find (is_after after) (lwps_among (drop (i + 1) processes)) ≡ find (is_after after) (lwps_among (drop i processes))
+  next-on at none = sym (among at ∙ ap (λ o. option_or o (find (is_after after) (lwps_among (drop (i + 1) processes)))) none)
+
+pub next-end : (after : Option (ℕ × ℕ)) (processes : List (ℕ × TracedProcess)) (i : ℕ) → length processes ≤ i → find (is_after after) (lwps_among (drop i processes)) ≡ None
+next-end after processes i past = ap (λ es. find (is_after after) (lwps_among es)) (drop_all i processes past)
+
+pub ruleset order_laws = (first-here, first-on, first-end, next-here, next-on, next-end)

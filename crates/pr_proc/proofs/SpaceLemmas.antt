@@ -2,7 +2,7 @@ use Rattle.std.proofs.Common.{◌≡◌, ℕ, ◌*◌, ◌+◌, ◌≤◌, List,
 use Rattle.std.specs.List.{flat_map}
 use Rattle.pr_num.specs.Instructions.{instruction_bytes}
 use Rattle.pr_num.specs.Programs.{Program, text_of}
-use Rattle.pr_num.specs.Spaces.{first_space, first_mappings}
+use Rattle.pr_num.specs.Spaces.{first_mappings, first_space}
 use Rattle.pr_num.specs.declared.instructions.Instruction.{Instruction}
 use Rattle.pr_num.specs.Words.{word_bytes}
 

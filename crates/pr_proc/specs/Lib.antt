@@ -1,3 +1,8 @@
 pub mod Counts
+pub mod Families
 pub mod FirstFiles
-pub mod Order
+pub mod Forks
+pub mod Lives
+pub mod Refusals
+pub mod Room
+pub mod Shows

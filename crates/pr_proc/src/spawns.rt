@@ -1,75 +1,82 @@
 //! How processes begin.
-ghost use Rattle.std.specs.Prelude.{◌≡◌, ◌+◌, ◌<◌, ◌^◌, ℕ, length, slice_get, codes, IfOk, OnOk, OnErr};
+ghost use Rattle.std.specs.Prelude.{◌≡◌, ◌+◌, ◌<◌, ◌^◌, [], ◌∷◌, length, slice_get, None, IfOk, OnOk, OnErr};
 ghost use Rattle.std.specs.Option.{ForSome};
-ghost use Rattle.pr_model.specs.Lives.{first_lwp, bare_process, new_process, with_spawned};
 ghost use Rattle.pr_num.specs.Spaces.{first_space};
+ghost use Rattle.pr_model.specs.Lives.{bare_process, first_lwp, new_process, with_made, with_spawned};
+ghost use Rattle.pr_model.specs.Spawning.{spawn_refusal};
+ghost use Rattle.pr_model.specs.State.{process_of};
+ghost use Rattle.pr_model.specs.Machines.{no_marks, nothing_set, traced};
+ghost use Rattle.pr_proc.specs.Counts.{IsNumbered};
+ghost use Rattle.pr_proc.specs.Refusals.{Says};
 
-use crate::{Proc, Sys};
+use crate::lwps::new_lwp;
+use crate::{Lwp, Proc, ProcNo, Sys, total_has_room};
 use pr_asm::Program;
 use pr_file::Fds;
 use pr_mem::Space;
-use pr_model::{Frames, Lwp, Phase, Usage};
-use pr_num::{FltSet, Modes, Name, NoMemory, SigSet, SysSet, Table};
+use pr_model::{Control, ProcessOf, Usage};
+use pr_num::limits::PROCESS_LIMIT;
+use pr_num::{ById, FltSet, Modes, Name, NoMemory, SigSet, SysSet};
+use pr_sig::Pendings;
 use pr_watch::Areas;
 use std::alloc::Global;
 
+/// The registers of an lwp that begins a program: pc at the first instruction, sp at the end of an empty stack.
+pub(crate) const FIRST_REGISTERS: [u64; 11] = [0, 0, 0, 0, 0, 0, 0, 0, 0x701000, 0, 0x10000];
+
 /// The lwp of a new process, directed to stop or not. It begins at the first instruction, with an empty stack.
-#[tactic(auto, unfolding(pr_model::specs::Lives::first_lwp))]
-fn first_lwp(held: bool) -> Lwp<SigSet>
-    ensures { result ≡ first_lwp held }
+#[tactic(auto, unfolding(pr_model::specs::Lives::first_lwp, pr_model::specs::Machines::traced))]
+pub(crate) fn first_lwp(held: bool) -> Lwp
+    ensures { result ≡ first_lwp traced held }
 {
-    Lwp {
-        id: 1,
-        regs: [0, 0, 0, 0, 0, 0, 0, 0, 0x701000, 0, 0x10000],
-        held: SigSet::empty(),
-        pending: SigSet::empty(),
-        current: None,
-        frames: Frames::new(),
-        suspended: false,
-        phase: Phase::User,
-        stop: None,
-        directed: held,
-        step: false,
-        abort: false,
-    }
+    new_lwp(FIRST_REGISTERS, SigSet::empty(), held)
 }
 
-/// A process with no lwp, no memory, no descriptor and nothing that is traced. Takes no memory.
-#[tactic(auto, unfolding(pr_model::specs::Lives::bare_process))]
-pub(crate) fn bare_process(alloc: Global, pid: u32, parent: u32, name: Name, clock: u64) -> Proc
-    ensures { result ≡ bare_process pid parent name clock }
+/// Nothing is traced, no mode is set and nothing watched.
+#[tactic(auto, unfolding(pr_model::specs::Machines::nothing_set))]
+pub(crate) fn nothing_set() -> Control<Areas>
+    ensures { result ≡ nothing_set }
 {
-    Proc {
-        id: pid,
-        parent,
-        program: name,
-        made_at: clock,
-        usage: Usage {
-            calls: 0,
-            signals: 0,
-            faults: 0,
-            instructions: 0,
-        },
-        ended: None,
-        space: Space::new(alloc),
-        fds: Fds::new(),
-        dispositions: [0; 39],
-        pending: SigSet::empty(),
-        job_stop: None,
-        next_lwp: 1,
-        lwps: Table::new(alloc),
+    Control {
         traced_signals: SigSet::empty(),
         traced_faults: FltSet::empty(),
         traced_entries: SysSet::empty(),
         traced_exits: SysSet::empty(),
         modes: Modes::empty(),
         areas: Areas::new(),
+        usage: Usage {
+            calls: 0,
+            signals: 0,
+            faults: 0,
+            instructions: 0,
+        },
+    }
+}
+
+/// A process with no lwp, no memory, no descriptor and nothing set on it. Takes no memory.
+#[tactic(auto, unfolding(pr_model::specs::Lives::bare_process, pr_model::specs::Machines::traced))]
+pub(crate) fn bare_process(alloc: Global, parent: u32, name: Name, clock: u64) -> Proc
+    ensures { result ≡ bare_process traced parent name clock }
+{
+    ProcessOf {
+        parent,
+        program: name,
+        made_at: clock,
+        ended: None,
+        space: Space::new(alloc),
+        fds: Fds::new(),
+        dispositions: [0; 39],
+        pending: Pendings::new(),
+        job_stop: None,
+        next_lwp: 1,
+        lwps: ById::new(alloc),
+        control: nothing_set(),
     }
 }
 
 /// The address space in which a program begins.
 #[tactic(auto, using(crate::proofs::SpaceLemmas::first_space_laws))]
-fn first_space(alloc: Global, program: &Program) -> Result<Space, NoMemory>
+pub(crate) fn first_space(alloc: Global, program: &Program) -> Result<Space, NoMemory>
     ensures { IfOk result (λ space. space ≡ first_space program.now) }
 {
     prove!(program.code().len() <= Program::MAX_CODE);
@@ -77,40 +84,116 @@ fn first_space(alloc: Global, program: &Program) -> Result<Space, NoMemory>
     Space::first(alloc, &text, program.data())
 }
 
-/// A new process of a program, whose parent is process 0; `held`: it is directed to stop before it runs.
+/// The lwps of a process that has one.
+pub(crate) fn one_lwp(alloc: Global, id: u32, lwp: Lwp) -> Result<ById<Lwp>, NoMemory>
+    ensures { IfOk result (λ lwps. lwps ≡ (id, lwp) ∷ []) }
+{
+    let mut lwps = ById::new(alloc);
+    lwps.insert(id, lwp)?;
+    Ok(lwps)
+}
+
+/// A new process of a program that begins in this space, whose parent is process 0; `held`: it is directed to stop
+/// before it runs.
 #[tactic(auto, unfolding(pr_model::specs::Lives::new_process))]
 fn new_process(
     alloc: Global,
-    pid: u32,
     program: &Program,
+    space: Space,
     clock: u64,
     held: bool,
 ) -> Result<Proc, NoMemory>
-    ensures { IfOk result (λ p. p ≡ new_process pid program.now clock held) }
+    requires { space ≡ first_space program.now }
+    ensures { IfOk result (λ p. p ≡ new_process traced program.now clock held) }
 {
-    let space = first_space(alloc, program)?;
-    let mut lwps = Table::new(alloc);
-    lwps.push(first_lwp(held))?;
-    let mut process = bare_process(alloc, pid, 0, program.name(), clock);
+    let lwps = one_lwp(alloc, 1, first_lwp(held))?;
+    let mut process = bare_process(alloc, 0, program.name(), clock);
     process.space = space;
     process.next_lwp = 2;
     process.lwps = lwps;
     Ok(process)
 }
 
-/// Makes a process of the program at a place, behind the others; `held`: it is directed to stop before it runs. Where
-/// memory runs out, the system stays as it is.
-#[tactic(auto, unfolding(pr_model::specs::Lives::with_spawned))]
-pub fn spawn(sys: &mut Sys, alloc: Global, place: usize, held: bool) -> Result<(), NoMemory>
-    requires program { place < length sys.old.programs }
+/// Puts a process under the next id. Where memory runs out, the system stays as it is.
+#[tactic(auto, using(crate::proofs::FirstLemmas::numbering), unfolding(pr_model::specs::Lives::with_made))]
+pub(crate) fn add_process(sys: &mut Sys, process: Proc) -> Result<(), NoMemory>
     requires room { sys.old.made + 1 < 2 ^ 32 }
-    ensures ok { OnOk result (ForSome (slice_get sys.old.programs place) (λ program. sys.new ≡ with_spawned program held sys.old)) }
+    requires free { process_of sys.old sys.old.made ≡ None }
+    ensures ok { OnOk result (sys.new ≡ with_made process sys.old) }
     ensures made { OnOk result (sys.new.made ≡ sys.old.made + 1) }
+    ensures ids { IsNumbered sys.old → IsNumbered sys.new }
+    ensures err { OnErr result (sys.new ≡ sys.old) }
+{
+    sys.processes.insert(sys.made, process)?;
+    sys.made += 1;
+    Ok(())
+}
+
+/// Makes a process of the program at a place that begins in this space, under the next id.
+#[tactic(auto, using(crate::proofs::FirstLemmas::numbering), unfolding(pr_model::specs::Lives::with_spawned))]
+fn add_spawned(
+    alloc: Global,
+    sys: &mut Sys,
+    place: usize,
+    space: Space,
+    held: bool,
+) -> Result<(), NoMemory>
+    requires program { place < length sys.old.programs }
+    requires space { ForSome (slice_get sys.old.programs place) (λ program. space ≡ first_space program) }
+    requires room { sys.old.made + 1 < 2 ^ 32 }
+    requires free { process_of sys.old sys.old.made ≡ None }
+    ensures ok { OnOk result (ForSome (slice_get sys.old.programs place) (λ program. sys.new ≡ with_spawned traced program held sys.old)) }
+    ensures made { OnOk result (sys.new.made ≡ sys.old.made + 1) }
+    ensures ids { IsNumbered sys.old → IsNumbered sys.new }
     ensures err { OnErr result (sys.new ≡ sys.old) }
 {
     let program = sys.programs.at(place);
-    let process = new_process(alloc, sys.made, program, sys.clock, held)?;
-    sys.processes.push(process)?;
-    sys.made += 1;
-    Ok(())
+    let process = new_process(alloc, program, space, sys.clock, held)?;
+    add_process(sys, process)
+}
+
+/// Makes a process of the program at a place, under the next id, however many there are.
+#[tactic(auto, using(crate::proofs::FirstLemmas::numbering))]
+pub(crate) fn spawn_unlimited(
+    alloc: Global,
+    sys: &mut Sys,
+    place: usize,
+    held: bool,
+) -> Result<(), NoMemory>
+    requires program { place < length sys.old.programs }
+    requires room { sys.old.made + 1 < 2 ^ 32 }
+    requires ids { IsNumbered sys.old }
+    ensures ok { OnOk result (ForSome (slice_get sys.old.programs place) (λ program. sys.new ≡ with_spawned traced program held sys.old)) }
+    ensures made { OnOk result (sys.new.made ≡ sys.old.made + 1) }
+    ensures ids { IsNumbered sys.new }
+    ensures err { OnErr result (sys.new ≡ sys.old) }
+{
+    let space = first_space(alloc, sys.programs.at(place))?;
+    add_spawned(alloc, sys, place, space, held)
+}
+
+/// Makes a process of the program at a place, under the next id, which it answers; `held`: the process is directed to
+/// stop before it runs. `Again` comes exactly where 4,096 processes were made, then `NoSpace` exactly where all
+/// processes together would map more than 64 MiB. After an error the system is as it was.
+#[tactic(auto, unfolding(pr_model::specs::Spawning::spawn_refusal))]
+pub fn spawn(alloc: Global, sys: &mut Sys, place: u32, held: bool) -> Result<u32, ProcNo>
+    requires program { place < length sys.old.programs }
+    // no process has the next id
+    requires free { process_of sys.old sys.old.made ≡ None }
+    ensures ok { OnOk result (ForSome (slice_get sys.old.programs place) (λ program. sys.new ≡ with_spawned traced program held sys.old)) }
+    ensures child { IfOk result (λ child. child ≡ sys.old.made) }
+    ensures refused { ForSome (slice_get sys.old.programs place) (λ program. Says result (spawn_refusal sys.old program)) }
+    ensures err { OnErr result (sys.new ≡ sys.old) }
+{
+    let child = sys.made;
+    if child >= PROCESS_LIMIT as u32 {
+        return Err(ProcNo::Again);
+    }
+    let place = place as usize;
+    let space = first_space(alloc, sys.programs.at(place))?;
+    if !total_has_room(sys, space.mapped(), 0) {
+        return Err(ProcNo::NoSpace);
+    }
+    add_spawned(alloc, sys, place, space, held)?;
+    Ok(child)
 }

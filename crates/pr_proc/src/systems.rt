@@ -1,20 +1,23 @@
 ghost use Rattle.std.specs.Prelude.{◌≡◌};
 ghost use Rattle.std.specs.Option.{option_copied};
-ghost use Rattle.pr_model.specs.Lwps.{has_agent};
-ghost use Rattle.pr_model.specs.State.{live_process};
+ghost use Rattle.pr_model.specs.State.{has_agent, live_process};
 
 use pr_asm::Program;
 use pr_file::{Fds, Files};
 use pr_mem::Space;
-use pr_model::{Process, System};
-use pr_num::{AGENT, SigSet, Table};
+use pr_model::{Control, ProcessOf, System};
+use pr_num::{AGENT, ById, Table};
+use pr_sig::Pendings;
 use pr_watch::Areas;
 
-/// A process with its address space, its descriptors and its watched areas.
-pub type Proc = Process<Space, Fds, SigSet, Areas>;
+/// An lwp with its pending signals.
+pub type Lwp = pr_model::Lwp<Pendings>;
+
+/// A process with its address space, descriptors, pending signals, lwps and watched areas.
+pub type Proc = ProcessOf<Space, Fds, Pendings, ById<Lwp>, Control<Areas>>;
 
 /// The system with its files. Contracts see it as the traced system of the definitions.
-pub type Sys = System<Table<Program>, Files, Table<Proc>>;
+pub type Sys = System<Table<Program>, Files, ById<Proc>>;
 
 /// The live process of an id: `None` for an id that no process has, and for a zombie's.
 #[tactic(auto, unfolding(pr_model::specs::State::live_process))]

@@ -30,14 +30,11 @@ fn check_process(rt: &impl Abort, process: &Proc, parent: u32, held: bool) {
     );
     assert_eq!(rt; mappings[1].at, 0x700000);
     assert_eq!(rt; mappings[1].bytes.as_slice().len(), 4096);
-    let lwps = process.lwps.as_slice();
-    assert_eq!(rt; lwps.len(), 1);
-    assert_eq!(rt; lwps[0].id, 1);
-    assert_eq!(rt; lwps[0].directed, held);
-    assert_eq!(rt;
-        lwps[0].regs,
-        [0, 0, 0, 0, 0, 0, 0, 0, 0x701000, 0, 0x10000]
-    );
+    assert_eq!(rt; process.lwps.len(), 1);
+    let (id, lwp) = process.lwps.at(0);
+    assert_eq!(rt; id, 1);
+    assert_eq!(rt; lwp.control.directed, held);
+    assert_eq!(rt; lwp.regs, [0, 0, 0, 0, 0, 0, 0, 0, 0x701000, 0, 0x10000]);
 }
 
 #[test]
@@ -49,7 +46,8 @@ fn processes_begin_with_their_text_and_a_stack(rt: HostRuntime) -> Result<(), Fa
     assert_eq!(rt; sys.made, 2, "place 7 has no program");
     check_process(&rt, live(&sys, 1).ok_or("no process 1")?, 0, false);
     assert_eq!(rt; sys.programs.len(), 1);
-    spawn(&mut sys, rt.alloc(), 0, true)?;
+    let child = spawn(rt.alloc(), &mut sys, 0, true)?;
+    assert_eq!(rt; child, 2);
     check_process(&rt, live(&sys, 2).ok_or("no process 2")?, 0, true);
     Ok(())
 }

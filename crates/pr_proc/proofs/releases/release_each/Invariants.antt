@@ -1,7 +1,9 @@
-use Rattle.std.proofs.Common.{◌≡◌, ◌++◌, take, drop, map}
+use Rattle.std.proofs.Common.{◌≡◌, ◌++◌, take, drop, length}
+use Rattle.pr_num.specs.ById.{map_each}
 use Rattle.pr_model.specs.Handles.{released_lwp}
 use Rattle.pr_proc.proofs.releases.release_each.Given as goal
 
--- the lwps so far are released, and the others are as they were
-abbrev pub invariant-loop-lwp : goal.invariant-loop-lwp
-invariant-loop-lwp l = l.lwps ≡ map released_lwp (take l.lwp-index l.fn.lwps) ++ drop l.lwp-index l.fn.lwps
+-- the lwps so far are changed, and the others are as they were
+abbrev pub invariant-loop-place : goal.invariant-loop-place
+invariant-loop-place l =
+    (l.lwps ≡ map_each released_lwp (take l.place l.fn.lwps) ++ drop l.place l.fn.lwps) × (length l.lwps ≡ length l.fn.lwps)

@@ -1,0 +1,271 @@
+//! How a process is forked (fork(2)).
+ghost use Rattle.std.specs.Prelude.{◌≡◌, ◌+◌, ◌<◌, ◌≤◌, ◌^◌, [], ◌∷◌, None, IfOk, IfSome, IsSome, OnOk, OnErr, length};
+ghost use Rattle.std.specs.Option.{ForSome};
+ghost use Rattle.pr_num.specs.ById.{under};
+ghost use Rattle.pr_parts.specs.FileCalls.{with_all_shared};
+ghost use Rattle.pr_parts.specs.FileTables.{HasRoom};
+ghost use Rattle.pr_model.specs.Changes.{with_fds};
+ghost use Rattle.pr_model.specs.Lives.{forked_lwp, with_child, with_made};
+ghost use Rattle.pr_model.specs.Machines.{birth_marks, birth_stop, child_control, traced};
+ghost use Rattle.pr_model.specs.Registers.{with_result};
+ghost use Rattle.pr_model.specs.State.{live_process, lwp_of, process_of, with_process};
+ghost use Rattle.pr_model.specs.declared.events.Res.TheVariants.{Value};
+ghost use Rattle.pr_proc.specs.Forks.{bare_child, child_of};
+ghost use Rattle.pr_proc.specs.Refusals.{Says, fork_refusal};
+
+use crate::lwps::no_marks;
+use crate::spawns::{add_process, nothing_set, one_lwp};
+use crate::{Lwp, Proc, ProcNo, Sys, live, size_of, total_has_room};
+use pr_file::Fds;
+use pr_model::{Control, Frame, Frames, LwpControl, LwpOf, Phase, ProcessOf, Res, Stop, Usage};
+use pr_num::limits::PROCESS_LIMIT;
+use pr_num::{Modes, NoMemory, Sysno};
+use pr_sig::Pendings;
+use pr_watch::Areas;
+use std::alloc::Global;
+
+fn same(frame: &Frame) -> Frame
+    ensures { result ≡ frame.now }
+{
+    let regs = frame.regs;
+    Frame {
+        regs,
+        held: frame.held,
+    }
+}
+
+/// The frames again. Each is taken off and put back; takes no memory.
+#[tactic(auto, using(crate::proofs::ForkLemmas::frame_laws))]
+fn frames_again(frames: &mut Frames) -> Frames
+    ensures same { frames.new ≡ frames.old }
+    ensures again { result ≡ frames.old }
+{
+    prove!(frames.len() <= Frames::MAX);
+    let Some(frame) = frames.pop() else {
+        return Frames::new();
+    };
+    let mut again = frames_again(frames);
+    frames.push(same(&frame));
+    again.push(same(&frame));
+    again
+}
+
+/// The frames of an lwp of a process again.
+#[tactic(auto, using(pr_num::proofs::ByIdLaws::by_id_laws))]
+fn frames_of(process: &mut Proc, lwp: u32) -> Frames
+    requires { IsSome (lwp_of process.old lwp) }
+    ensures same { process.new ≡ process.old }
+    ensures frames { ForSome (lwp_of process.old lwp) (λ l. result ≡ l.frames) }
+{
+    frames_again(&mut process.lwps.get_mut(lwp).frames)
+}
+
+/// The stop of a child at its birth, on its exit from fork, where that is traced (proc(4), "PR_FORK").
+#[tactic(auto, unfolding(pr_model::specs::Machines::birth_stop))]
+fn birth_stop(control: &Control<Areas>) -> Option<Stop>
+    ensures { result ≡ birth_stop control.now }
+{
+    if control.modes.has(Modes::FORK) && control.traced_exits.has(Sysno::Fork) {
+        Some(Stop::SysExit(Sysno::Fork))
+    } else {
+        None
+    }
+}
+
+#[tactic(auto, unfolding(pr_model::specs::Machines::birth_marks))]
+fn birth_marks(control: &Control<Areas>) -> LwpControl
+    ensures { result ≡ birth_marks control.now }
+{
+    LwpControl {
+        stop: birth_stop(control),
+        ..no_marks(false)
+    }
+}
+
+/// What a child takes over of what is set on its parent: under PR_FORK the traced sets and that mode, and else nothing.
+#[tactic(auto, unfolding(pr_model::specs::Machines::child_control))]
+fn child_control(control: &Control<Areas>) -> Control<Areas>
+    ensures { result ≡ child_control control.now }
+{
+    if !control.modes.has(Modes::FORK) {
+        return nothing_set();
+    }
+    Control {
+        traced_signals: control.traced_signals,
+        traced_faults: control.traced_faults,
+        traced_entries: control.traced_entries,
+        traced_exits: control.traced_exits,
+        modes: Modes::FORK,
+        areas: Areas::new(),
+        usage: Usage {
+            calls: 0,
+            signals: 0,
+            faults: 0,
+            instructions: 0,
+        },
+    }
+}
+
+/// Registers in which 0 stands as the value of a call.
+#[tactic(auto, unfolding(pr_model::specs::Registers::with_result))]
+fn with_zero(regs: [u64; 11]) -> [u64; 11]
+    ensures { result ≡ with_result (Value 0) regs }
+{
+    let mut regs = regs;
+    regs[0] = 0;
+    regs[7] = 0;
+    regs
+}
+
+/// The lwp of a forked child, on its way out of fork with 0 as its result: it has the registers, the held set and the
+/// frames of the lwp that called fork, and nothing pending.
+#[tactic(auto, unfolding(pr_model::specs::Lives::forked_lwp, pr_model::specs::Machines::traced))]
+fn forked_lwp(lwp: &Lwp, frames: Frames, args: [u64; 6], control: &Control<Areas>) -> Lwp
+    requires { frames ≡ lwp.now.frames }
+    ensures { result ≡ forked_lwp traced args control.now lwp.now }
+{
+    let regs = lwp.regs;
+    LwpOf {
+        regs: with_zero(regs),
+        held: lwp.held,
+        pending: Pendings::new(),
+        current: None,
+        frames,
+        suspended: false,
+        phase: Phase::Exiting {
+            call: Sysno::Fork,
+            args,
+            result: Res::Value(0),
+        },
+        control: birth_marks(control),
+    }
+}
+
+/// A copy of a process with this lwp alone, with nothing pending, no job stop and no descriptor yet.
+#[tactic(auto, unfolding(crate::specs::Forks::bare_child, pr_model::specs::Lives::forked, pr_model::specs::Changes::with_fds, pr_model::specs::Machines::traced))]
+fn bare_child(
+    alloc: Global,
+    pid: u32,
+    process: &Proc,
+    lwp: &Lwp,
+    frames: Frames,
+    args: [u64; 6],
+    clock: u64,
+) -> Result<Proc, NoMemory>
+    requires { frames ≡ lwp.now.frames }
+    ensures { IfOk result (λ child. child ≡ bare_child pid process.now lwp.now args clock) }
+{
+    let space = process.space.copy(alloc)?;
+    let lwps = one_lwp(alloc, 1, forked_lwp(lwp, frames, args, &process.control))?;
+    let dispositions = process.dispositions;
+    Ok(ProcessOf {
+        parent: pid,
+        program: process.program,
+        made_at: clock,
+        ended: None,
+        space,
+        fds: Fds::new(),
+        dispositions,
+        pending: Pendings::new(),
+        job_stop: None,
+        next_lwp: 2,
+        lwps,
+        control: child_control(&process.control),
+    })
+}
+
+/// A child of the live process of an id, forked by an lwp of it, before it stands in the system.
+#[tactic(auto, using(pr_num::proofs::ByIdLaws::by_id_laws, crate::proofs::LifeLemmas::life_laws))]
+fn made_child(
+    alloc: Global,
+    sys: &mut Sys,
+    pid: u32,
+    lwp: u32,
+    args: [u64; 6],
+) -> Result<Proc, NoMemory>
+    requires live { IsSome (live_process sys.old pid) }
+    requires lwp { IfSome (live_process sys.old pid) (λ p. IsSome (lwp_of p lwp)) }
+    ensures same { sys.new ≡ sys.old }
+    ensures child { IfOk result (λ child. ForSome (live_process sys.old pid) (λ p. ForSome (lwp_of p lwp) (λ l. child ≡ bare_child pid p l args sys.old.clock))) }
+{
+    let frames = frames_of(sys.processes.get_mut(pid), lwp);
+    let process = live(sys, pid).unwrap();
+    let forking = process.lwps.get(lwp).unwrap();
+    bare_child(alloc, pid, process, forking, frames, args, sys.clock)
+}
+
+#[tactic(auto, unfolding(pr_model::specs::Changes::with_fds))]
+fn give_fds(process: &mut Proc, fds: Fds)
+    ensures { process.new ≡ with_fds fds process.old }
+{
+    process.fds = fds;
+}
+
+/// Descriptors for the open files of the process of an id. Takes no memory.
+#[tactic(auto, using(pr_num::proofs::ByIdLaws::by_id_laws))]
+fn share_fds(sys: &mut Sys, pid: u32) -> Fds
+    requires stands { IsSome (under pid sys.old.processes) }
+    requires users { HasRoom sys.old.files 64 }
+    ensures system { ForSome (under pid sys.old.processes) (λ p. sys.new ≡ record sys.old { files = with_all_shared sys.old.files p.fds }) }
+    ensures processes { sys.new.processes ≡ sys.old.processes }
+    ensures fds { ForSome (under pid sys.old.processes) (λ p. result ≡ p.fds) }
+{
+    let parent = sys.processes.get(pid).unwrap();
+    sys.files.share(&parent.fds)
+}
+
+/// Gives the process of an id these descriptors.
+#[tactic(auto, using(pr_num::proofs::ByIdLaws::by_id_laws), unfolding(pr_model::specs::State::with_process))]
+fn give_fds_to(sys: &mut Sys, pid: u32, fds: Fds)
+    requires { IsSome (under pid sys.old.processes) }
+    ensures { sys.new ≡ with_process pid (with_fds fds) sys.old }
+{
+    give_fds(sys.processes.get_mut(pid), fds);
+}
+
+/// Puts a child under the next id and gives it descriptors for its parent's open files. Where memory runs out, the
+/// system stays as it is.
+#[tactic(auto, using(crate::proofs::ForkLemmas::fork_laws, crate::proofs::LifeLemmas::life_laws))]
+fn add_child(sys: &mut Sys, pid: u32, child: Proc) -> Result<(), NoMemory>
+    requires live { IsSome (live_process sys.old pid) }
+    requires room { sys.old.made + 1 < 2 ^ 32 }
+    requires free { process_of sys.old sys.old.made ≡ None }
+    requires users { HasRoom sys.old.files 64 }
+    ensures ok { OnOk result (ForSome (live_process sys.old pid) (λ p. sys.new ≡ with_made (with_fds p.fds child) (record sys.old { files = with_all_shared sys.old.files p.fds }))) }
+    ensures err { OnErr result (sys.new ≡ sys.old) }
+{
+    let id = sys.made;
+    add_process(sys, child)?;
+    let fds = share_fds(sys, pid);
+    give_fds_to(sys, id, fds);
+    Ok(())
+}
+
+/// Forks a live process by an lwp of it, whose call has these arguments, and answers the child's id. `Again`
+/// comes exactly where 4,096 processes were made, then `NoSpace` exactly where all processes together would map more
+/// than 64 MiB. After an error the system is as it was.
+#[tactic(auto, unfolding(crate::specs::Refusals::fork_refusal))]
+pub fn fork(alloc: Global, sys: &mut Sys, pid: u32, lwp: u32, args: [u64; 6]) -> Result<u32, ProcNo>
+    requires live { IsSome (live_process sys.old pid) }
+    requires lwp { IfSome (live_process sys.old pid) (λ p. IsSome (lwp_of p lwp)) }
+    // no process has the next id
+    requires free { process_of sys.old sys.old.made ≡ None }
+    // open files can count a child's descriptors too
+    requires users { HasRoom sys.old.files 64 }
+    ensures ok { OnOk result (ForSome (live_process sys.old pid) (λ p. ForSome (lwp_of p lwp) (λ l. sys.new ≡ with_child traced pid p l args sys.old))) }
+    ensures child { IfOk result (λ child. child ≡ sys.old.made) }
+    ensures refused { ForSome (live_process sys.old pid) (λ p. Says result (fork_refusal sys.old p)) }
+    ensures err { OnErr result (sys.new ≡ sys.old) }
+{
+    let id = sys.made;
+    if id >= PROCESS_LIMIT as u32 {
+        return Err(ProcNo::Again);
+    }
+    let size = size_of(live(sys, pid).unwrap());
+    if !total_has_room(sys, size, 0) {
+        return Err(ProcNo::NoSpace);
+    }
+    let child = made_child(alloc, sys, pid, lwp, args)?;
+    add_child(sys, pid, child)?;
+    Ok(id)
+}
