@@ -1,5 +1,7 @@
-pub mod AccessLemmas
-pub mod CountLaws
-pub mod EffectLemmas
-pub mod SettlingLemmas
+pub mod CallTurnLemmas
+pub mod ChangeUsageLemmas
+pub mod MakeLemmas
+pub mod MoveLemmas
+pub mod NextLemmas
 pub mod TurnLemmas
+pub mod UsageLemmas

@@ -1,181 +1,306 @@
-use Rattle.std.proofs.Common.{◌≡◌, ℕ, Bool, true, false, eqb, cond, Option, Some, None, IsSome, is_some, is_none, List, refl, sym, ap, ◌∙◌, subst, inl, inr}
-use Rattle.std.specs.List.{find}
-use Rattle.std.specs.Option.{option_map, option_and_then}
-use Rattle.std.proofs.lemmas.Bool.{cases_Bool}
-use Rattle.pr_num.specs.KeyedTables.{change_first, put_first}
-use Rattle.pr_num.proofs.TableLemmas.{put_first-found}
-use Rattle.pr_num.proofs.TableLaws.{find-change_first}
-use Rattle.pr_model.specs.Lwps.{is_process, lwp_of}
-use Rattle.pr_model.specs.State.{TracedSystem, TracedProcess, TracedLwp, process_of, live_process, with_process}
-use Rattle.pr_model.specs.Stops.{is_traced, with_others_directed}
-use Rattle.pr_model.specs.LwpTurns.{LwpTurn, is_kept, row_for, rest_made, with_stop_at, after_meeting, with_row, turned_by, ending, ended_if, settled, turn_in, turn_of, can_move}
-use Rattle.pr_model.specs.declared.effects.TurnRow.{TurnRow}
-use Rattle.pr_model.specs.declared.events.Turned.{Turned}
-use Rattle.pr_model.specs.declared.processes.Usage.{Usage}
-use Rattle.pr_model.specs.declared.stops.Point.{Point}
-use Rattle.pr_num.specs.Control.{has_flags, async_mode}
-use Rattle.pr_proc.specs.Counts.{UsedAtMost, AllUsedAtMost}
-use Rattle.pr_proc.proofs.LifeLemmas.{live_process-found, live_process-live, live_process-id, live_process-made}
-use Rattle.pr_proc.proofs.CountLemmas.{AllUsedAtMost-live}
-use Rattle.pr_turn.specs.NextRows.{next_row, next_row_in, next_row_of, with_row_of, turned_of}
-use Rattle.pr_turn.proofs.SettlingLemmas.{with_row_of-found, turned_of-found}
+use Rattle.std.proofs.Common.{◌≡◌, ℕ, ◌&&◌, ◌||◌, not, Bool, true, false, cond, Some, None, IsSome, is_some, List, [], ◌∷◌, refl, sym, ap, ◌∙◌, subst}
+use Rattle.std.proofs.lemmas.Option.{same_Some}
+use Rattle.pr_num.specs.ById.{put_under, under}
+use Rattle.pr_num.proofs.ByIdLaws.{change_under-change_under, put_under-found, put_under-same}
+use Rattle.pr_num.specs.Spaces.{Space}
+use Rattle.pr_num.specs.declared.syscalls.Sysno.{Sysno}
+use Rattle.pr_num.specs.declared.signals.Sig.{Sig}
+use Rattle.pr_model.specs.Built.{is_built_in, is_built_syscall, is_built_turn}
+use Rattle.pr_model.specs.Signals.{has_takeable}
+use Rattle.pr_model.specs.Changes.{all_changed, changed, ended, ends_process, space_is, takes_shared, job_stops, with_space, with_shared_taken, with_job_stop}
+use Rattle.pr_model.specs.InstructionEffects.{InstructionEffect, instruction_effect, runs, calls, faults, runs_into_watch}
+use Rattle.pr_model.specs.Lives.{with_ended, with_this_ended}
+use Rattle.pr_model.specs.LwpTurns.{can_move, is_held_back, LwpTurn, may_go_on, is_ready, may_turn, may_wake, settled, turn_of, with_counted}
+use Rattle.pr_model.specs.Machines.{traced}
+use Rattle.pr_model.specs.Moves.{Move, moved, stays}
+use Rattle.pr_model.specs.Points.{after_meeting, meets}
+use Rattle.pr_model.specs.Rows.{Row, own_taken_row, shared_taken_row, executed_row, requested_row, posted_row, returned_row, ran_row, entered_row, incurred_row, watched_row, row_for}
+use Rattle.pr_model.specs.State.{TracedLwp, TracedProcess, TracedSystem, live_process, lwp_of, process_of, with_lwp, with_lwp_of, with_process}
+use Rattle.pr_model.specs.Transitions.{own_taken, shared_taken, dropped, job_stopped, after_transition, changing, ending, requested, posted, returned, ran, entered, incurred, trapped, stored_in}
+use Rattle.pr_model.specs.declared.lwps.Phase.TheVariants as phase
+use Rattle.pr_proc.proofs.LifeLemmas.{live_process-found}
+use Rattle.pr_proc.specs.Counts.{AllUsedAtMost}
+use Rattle.pr_turn.proofs.MakeLemmas.{process_after-control}
+use Rattle.pr_turn.proofs.UsageLemmas.{AllUsedAtMost-ended, AllUsedAtMost-with_process}
+use Rattle.pr_turn.specs.CallTurns.{may_take_memory, phase_takes}
+use Rattle.pr_turn.specs.Making.{ends, of_row, process_after, quiet}
+use Rattle.pr_turn.specs.NextRows.{row_of, row_of_turn, turn_fits}
+use Rattle.pr_turn.specs.Turns.{IsNext, Makes}
+use Rattle.pr_turn.specs.declared.making.Made.{Made}
+use Rattle.pr_model.specs.declared.events.Did.{Did}
+use Rattle.pr_turn.specs.declared.next.Next.{Next}
+use Rattle.pr_turn.specs.declared.next.NextTurn.{NextTurn}
+use Rattle.pr_turn.specs.declared.next.NextTurn.TheVariants.{Row as ThisRow}
+use Rattle.pr_turn.specs.declared.next.Next.TheVariants.{Requested, Posted, Gave, Ends, Returned, Executed, TookOwn, TookShared, Dropped, JobStopped, Caught}
 
--- ---- what a row leaves of its process
+-- What a turn makes of the whole system.
 
--- what of a process does not depend on its counts and its lwps
-abbrev pub Keeps : {X : Type 0} → (TracedProcess → X) → Type 0
-Keeps f = (p : TracedProcess) (u : Usage) (lwps : List TracedLwp) → f (record p { usage = u; lwps = lwps }) ≡ f p
+-- ---- who may have a turn
 
-with_others_directed-keeps : {X : Type 0} (f : TracedProcess → X) (keeps : Keeps f) (id : ℕ) (p : TracedProcess) → f (with_others_directed id p) ≡ f p
-unfolding with_others_directed
-with_others_directed-keeps f keeps id p =
-    elim (cases_Bool (has_flags p.modes async_mode)) [ inl async ↦ rw async refl | inr together ↦ rw together (keeps p p.usage _) ]
+both : (a b : Bool) → (a && b) ≡ true → b ≡ true
+both true b e = e
+both false b e = absurd (cc)
 
-with_stop_at-keeps : {X : Type 0} (f : TracedProcess → X) (keeps : Keeps f) (point : Point) (id : ℕ) (p : TracedProcess) → f (with_stop_at point id p) ≡ f p
-unfolding with_stop_at
-with_stop_at-keeps f keeps point id p = with_others_directed-keeps f keeps id _ ∙ keeps p p.usage _
+-- what is built of a call in which an lwp sleeps, where nothing else wakes it
+pub built-last : (directed current takes aborted built : Bool) → directed ≡ false → current ≡ false → takes ≡ false → aborted ≡ false → (directed || (current || (takes || (aborted || built)))) ≡ true → built ≡ true
+built-last directed current takes aborted built d c t a e = rw (d, c, t, a) at e
 
-after_meeting-keeps : {X : Type 0} (f : TracedProcess → X) (keeps : Keeps f) (point : Option Point) (id : ℕ) (p : TracedProcess) → f (after_meeting point id p) ≡ f p
-after_meeting-keeps f keeps None id p = refl
-after_meeting-keeps f keeps (Some point) id p =
-    elim (cases_Bool (is_traced p point)) [ inl traced ↦ rw traced (with_stop_at-keeps f keeps point id p) | inr passed ↦ rw passed refl ]
+-- the first of five tests that holds, or the last
+module _ (d c t a r : Bool) where
+  first-holds : d ≡ true → true ≡ (d || (c || (t || (a || r))))
+  first-holds e = rw e refl
 
--- a stop changes no counts
-pub after_meeting-keeps_usage : (point : Option Point) (id : ℕ) (p : TracedProcess) → (after_meeting point id p).usage ≡ p.usage
-unfolding with_stop_at with_others_directed
-after_meeting-keeps_usage None id p = refl
-after_meeting-keeps_usage (Some point) id p =
-    elim (cases_Bool (is_traced p point)) [ inl traced ↦ rw traced (elim (cases_Bool (has_flags p.modes async_mode)) [ inl async ↦ rw async refl | inr together ↦ rw together refl ]) | inr passed ↦ rw passed refl ]
+  second-holds : d ≡ false → c ≡ true → true ≡ (d || (c || (t || (a || r))))
+  second-holds x e = rw (x, e) refl
 
-pub with_row-keeps : {X : Type 0} (f : TracedProcess → X) (keeps : Keeps f) (row : TurnRow) (l : TracedLwp) (p : TracedProcess) → f (with_row row l p) ≡ f p
-unfolding with_row
-with_row-keeps f keeps row l p = after_meeting-keeps f keeps _ l.id _ ∙ keeps p _ _
+  third-holds : d ≡ false → c ≡ false → t ≡ true → true ≡ (d || (c || (t || (a || r))))
+  third-holds x y e = rw (x, y, e) refl
 
--- the process of a row has its id, and ends by its call alone
-pub with_row_of-keeps : {X : Type 0} (f : TracedProcess → X) (keeps : Keeps f) (id : ℕ) (row : TurnRow) (p : TracedProcess) → f (with_row_of id row p) ≡ f p
-unfolding with_row_of
-with_row_of-keeps f keeps id row p = after (lwp_of p id)
+  fourth-holds : d ≡ false → c ≡ false → t ≡ false → a ≡ true → true ≡ (d || (c || (t || (a || r))))
+  fourth-holds x y z e = rw (x, y, z, e) refl
+
+  last-decides : d ≡ false → c ≡ false → t ≡ false → a ≡ false → r ≡ (d || (c || (t || (a || r))))
+  last-decides x y z w = rw (x, y, z, w) refl
+
+module _ (s : TracedSystem) (pid : ℕ) (p : TracedProcess) (id : ℕ) (l : TracedLwp) where
+  -- what an lwp that sleeps has to have in order to go on
+  pub built-asleep : (call : Sysno) (args : List ℕ) (since : ℕ) → l.phase ≡ phase.Asleep call args since → is_built_turn p l ≡ true → (l.control.directed || (is_some l.current || (has_takeable p l || (l.control.abort || is_built_syscall call)))) ≡ true
+  unfolding is_built_turn
+  built-asleep call args since at built =
+      subst (λ ph. (l.control.directed || (is_some l.current || is_built_in p l ph)) ≡ true) at built
+
+  module _ (since : ℕ) (call : Sysno) (args : List ℕ) where
+    pub wakes-directed : l.control.directed ≡ true → true ≡ may_wake s pid p id l since call args
+    unfolding may_wake
+    wakes-directed = first-holds l.control.directed (is_some l.current) (has_takeable p l) l.control.abort (is_ready s pid p id l since call args)
+
+    pub wakes-current : l.control.directed ≡ false → is_some l.current ≡ true → true ≡ may_wake s pid p id l since call args
+    unfolding may_wake
+    wakes-current = second-holds l.control.directed (is_some l.current) (has_takeable p l) l.control.abort (is_ready s pid p id l since call args)
+
+    pub wakes-takes : l.control.directed ≡ false → is_some l.current ≡ false → has_takeable p l ≡ true → true ≡ may_wake s pid p id l since call args
+    unfolding may_wake
+    wakes-takes = third-holds l.control.directed (is_some l.current) (has_takeable p l) l.control.abort (is_ready s pid p id l since call args)
+
+    pub wakes-aborted : l.control.directed ≡ false → is_some l.current ≡ false → has_takeable p l ≡ false → l.control.abort ≡ true → true ≡ may_wake s pid p id l since call args
+    unfolding may_wake
+    wakes-aborted = fourth-holds l.control.directed (is_some l.current) (has_takeable p l) l.control.abort (is_ready s pid p id l since call args)
+
+    pub wakes-ready : l.control.directed ≡ false → is_some l.current ≡ false → has_takeable p l ≡ false → l.control.abort ≡ false → is_ready s pid p id l since call args ≡ may_wake s pid p id l since call args
+    unfolding may_wake
+    wakes-ready = last-decides l.control.directed (is_some l.current) (has_takeable p l) l.control.abort (is_ready s pid p id l since call args)
+
+  pub may-held : is_held_back p id l ≡ true → false ≡ may_turn s pid p id l
+  unfolding may_turn
+  may-held held = rw held refl
+
+  pub may-unbuilt : is_built_turn p l ≡ false → false ≡ may_turn s pid p id l
+  unfolding may_turn
+  may-unbuilt off = rw off (none (not (is_held_back p id l)) (may_go_on s pid p id l l.phase))
+    where
+      none : (a b : Bool) → false ≡ (a && (b && false))
+      none true true = refl
+      none true false = refl
+      none false b = refl
+
+  pub may-on : is_held_back p id l ≡ false → is_built_turn p l ≡ true → may_go_on s pid p id l l.phase ≡ may_turn s pid p id l
+  unfolding may_turn
+  may-on free built = rw (free, built) (all (may_go_on s pid p id l l.phase))
+    where
+      all : (a : Bool) → a ≡ (a && true)
+      all true = refl
+      all false = refl
+
+  pub may-built : may_turn s pid p id l ≡ true → is_built_turn p l ≡ true
+  unfolding may_turn
+  may-built may = both _ _ (both _ _ may)
+
+pub ruleset wake_laws = (built-last, wakes-directed, wakes-current, wakes-takes, wakes-aborted, wakes-ready)
+
+pub ruleset may_laws = (may-held, may-unbuilt, may-on, built-asleep)
+
+module _ (s : TracedSystem) (pid id : ℕ) where
+  -- an lwp that can move stands in a live process
+  pub can_move-live : can_move s pid id ≡ true → IsSome (live_process s pid)
+  unfolding can_move
+  can_move-live can = elim (live_process s pid) as (λ o. o ≡ live_process s pid → IsSome o) [ None ↦ λ e. absurd (let wrong : false ≡ true = rw (sym e) at can in cc) | Some p ↦ λ e. refl ] refl
+
+  pub can_move-stands : (p : TracedProcess) → live_process s pid ≡ Some p → can_move s pid id ≡ true → IsSome (lwp_of p id)
+  unfolding can_move
+  can_move-stands p found can = elim (lwp_of p id) as (λ o. o ≡ lwp_of p id → IsSome o) [ None ↦ λ e. absurd (let wrong : false ≡ true = rw (found, sym e) at can in cc) | Some l ↦ λ e. refl ] refl
+
+  pub can_move-may : (p : TracedProcess) (l : TracedLwp) → live_process s pid ≡ Some p → lwp_of p id ≡ Some l → can_move s pid id ≡ true → may_turn s pid p id l ≡ true
+  unfolding can_move
+  can_move-may p l found stands can = rw (found, stands) at can
+
+  pub can_move-built : (p : TracedProcess) (l : TracedLwp) → live_process s pid ≡ Some p → lwp_of p id ≡ Some l → can_move s pid id ≡ true → is_built_turn p l ≡ true
+  can_move-built p l found stands can = may-built s pid p id l (can_move-may p l found stands can)
+
+  pub is-next : (p : TracedProcess) (l : TracedLwp) (next : NextTurn) → live_process s pid ≡ Some p → lwp_of p id ≡ Some l → can_move s pid id ≡ true → row_of_turn s pid p id l next ≡ row_for s pid p id l → turn_fits l next ≡ true → IsNext s pid id next
+  is-next p l next found stands can row room = record { process = p; lwp = l; found = found; stands = stands; may = can_move-may p l found stands can; fits = room; row = row }
+
+  pub may_take-phase : (p : TracedProcess) (l : TracedLwp) → live_process s pid ≡ Some p → lwp_of p id ≡ Some l → may_take_memory s pid id ≡ false → phase_takes l.phase ≡ false
+  unfolding may_take_memory
+  may_take-phase p l found stands none = rw (found, stands) at none
+
+pub ruleset turn_laws = (can_move-live, can_move-stands, can_move-built, is-next, may_take-phase)
+
+-- ---- the transition
+
+module _ (s : TracedSystem) (pid : ℕ) (p : TracedProcess) (id : ℕ) (l : TracedLwp) where
+  -- a move alone, and a move after a store
+  after-move : (move : Move) → with_process pid (process_after id (changing [] move)) s ≡ after_transition traced pid p id l (changing [] move) s
+  unfolding after_transition all_changed with_lwp_of process_after
+  after-move move = refl
+
+  after-store : (space : Space) (move : Move) → with_process pid (process_after id (changing (space_is space ∷ []) move)) s ≡ after_transition traced pid p id l (changing (space_is space ∷ []) move) s
+  unfolding after_transition all_changed changed with_lwp_of with_process process_after
+  after-store space move =
+      ap (λ ps. record s { processes = ps }) (sym (change_under-change_under pid (with_space space) (with_lwp id (moved traced move)) s.processes))
+
+  after-shared : (g : Sig) (move : Move) → with_process pid (process_after id (changing (takes_shared g ∷ []) move)) s ≡ after_transition traced pid p id l (changing (takes_shared g ∷ []) move) s
+  unfolding after_transition all_changed changed with_lwp_of with_process process_after
+  after-shared g move =
+      ap (λ ps. record s { processes = ps }) (sym (change_under-change_under pid (with_shared_taken g) (with_lwp id (moved traced move)) s.processes))
+
+  after-job_stop : (g : Sig) (move : Move) → with_process pid (process_after id (changing (job_stops g ∷ []) move)) s ≡ after_transition traced pid p id l (changing (job_stops g ∷ []) move) s
+  unfolding after_transition all_changed changed with_lwp_of with_process process_after
+  after-job_stop g move =
+      ap (λ ps. record s { processes = ps }) (sym (change_under-change_under pid (with_job_stop g) (with_lwp id (moved traced move)) s.processes))
+
+  -- one of two rows
+  either : (b : Bool) (x y : Row) → with_process pid (process_after id x.transition) s ≡ after_transition traced pid p id l x.transition s → with_process pid (process_after id y.transition) s ≡ after_transition traced pid p id l y.transition s → with_process pid (process_after id (cond b x y).transition) s ≡ after_transition traced pid p id l (cond b x y).transition s
+  either true x y e f = e
+  either false x y e f = f
+
+  after-executed : (e : InstructionEffect) → with_process pid (process_after id (executed_row p l e).transition) s ≡ after_transition traced pid p id l (executed_row p l e).transition s
+  unfolding executed_row ran_row entered_row incurred_row watched_row ran entered incurred trapped stored_in
+  after-executed (runs regs None) = either l.control.step _ _ (after-move _) (after-move _)
+  after-executed (runs regs (Some store)) = either l.control.step _ _ (after-store _ _) (after-store _ _)
+  after-executed (calls call regs) = after-move _
+  after-executed (faults f address) = after-move _
+  after-executed (runs_into_watch address regs None) = after-move _
+  after-executed (runs_into_watch address regs (Some store)) = after-store _ _
+
+  -- what a row makes of its process, it makes of the system
+  pub after-row : (next : Next) → ends next ≡ false → with_process pid (process_after id (row_of p l next).transition) s ≡ after_transition traced pid p id l (row_of p l next).transition s
+  unfolding row_of requested_row posted_row returned_row requested posted returned trapped stored_in own_taken_row own_taken shared_taken_row shared_taken dropped job_stopped
+  after-row Requested on = after-move _
+  after-row (Posted f address) on = after-move _
+  after-row (Gave woken call args result) on = after-move _
+  after-row (Ends did status) on = absurd (cc)
+  after-row (TookOwn g) on = after-move _
+  after-row (TookShared g) on = after-shared g _
+  after-row (Dropped g) on = after-move _
+  after-row (JobStopped g) on = after-job_stop g _
+  after-row (Caught c handler) on = after-move _
+  after-row (Returned call) on = either l.control.step _ _ (after-move _) (after-move _)
+  after-row Executed on = after-executed (instruction_effect p.space p.control.areas l.regs)
+
+  -- an lwp that stays as it was leaves its system as it was
+  stays-process : lwp_of p id ≡ Some l → with_lwp id (moved traced stays) p ≡ p
+  unfolding with_lwp moved
+  stays-process stands =
+      ap (λ ls. record p { lwps = ls }) (sym (put_under-found id (moved traced stays) l p.lwps stands) ∙ put_under-same id l p.lwps stands)
+
+  stays-system : process_of s pid ≡ Some p → lwp_of p id ≡ Some l → with_lwp_of pid id (moved traced stays) s ≡ s
+  unfolding with_lwp_of with_process
+  stays-system there stands =
+      ap (λ ps. record s { processes = ps }) (sym (put_under-found pid (with_lwp id (moved traced stays)) p s.processes there) ∙ ap (λ q. put_under pid q s.processes) (stays-process stands) ∙ put_under-same pid p s.processes there)
+
+  -- the end of the process
+  pub after-end : (status : ℕ) → live_process s pid ≡ Some p → lwp_of p id ≡ Some l → with_ended traced pid status s ≡ after_transition traced pid p id l (ending (ends_process status)) s
+  unfolding with_ended after_transition all_changed ended
+  after-end status found stands =
+      rw found (ap (λ t. with_this_ended traced pid p status t) (sym (stays-system (live_process-found s pid p found) stands)))
+
+  -- ---- what was used stays
+
+  pub after-usage : (n : ℕ) (next : Next) → ends next ≡ false → AllUsedAtMost n s → AllUsedAtMost n (with_process pid (process_after id (row_of p l next).transition) s)
+  after-usage n next on h = AllUsedAtMost-with_process n pid _ s (λ q. ap (λ c. c.usage) (process_after-control id (row_of p l next).transition q)) h
+
+-- ---- the parts of a turn
+
+module _ (s new : TracedSystem) (pid id : ℕ) (next : Next) where
+  ended-live : (status : ℕ) (p : TracedProcess) → live_process s pid ≡ Some p → with_ended traced pid status s ≡ with_this_ended traced pid p status s
+  unfolding with_ended
+  ended-live status p found = rw found refl
+
+  -- a row that does not end its process
+  pub makes-row : (p p1 : TracedProcess) (did : Made) (stop : Bool) → IsNext s pid id (ThisRow next) → ends next ≡ false → under pid s.processes ≡ Some p → ((l : TracedLwp) → lwp_of p id ≡ Some l → p1 ≡ process_after id (row_of p l next).transition p) → ((l : TracedLwp) → lwp_of p id ≡ Some l → did ≡ of_row (row_of p l next)) → ((l : TracedLwp) → lwp_of p id ≡ Some l → stop ≡ meets p.control (row_of p l next).point) → new ≡ record s { processes = put_under pid p1 s.processes } → Makes s new pid id did stop
+  unfolding with_process
+  makes-row p p1 did stop is on there changes what traces e =
+      let same : p ≡ is.process = same_Some p is.process (sym there ∙ live_process-found s pid is.process is.found) in
+      let stands : lwp_of p id ≡ Some is.lwp = ap (λ q. lwp_of q id) same ∙ is.stands in
+      let row : row_of p is.lwp next ≡ row_for s pid is.process id is.lwp = ap (λ q. row_of q is.lwp next) same ∙ is.row in
+      let put : record s { processes = put_under pid p1 s.processes } ≡ with_process pid (process_after id (row_of p is.lwp next).transition) s =
+      ap (λ q. record s { processes = put_under pid q s.processes }) (changes is.lwp stands)
+      ∙ ap (λ ps. record s { processes = ps }) (put_under-found pid (process_after id (row_of p is.lwp next).transition) p s.processes there)
+      in
+      let made : new ≡ after_transition traced pid p id is.lwp (row_of p is.lwp next).transition s = e ∙ put ∙ after-row s pid p id is.lwp next on in
+      record {
+        process = is.process;
+        lwp = is.lwp;
+        found = is.found;
+        stands = is.stands;
+        may = is.may;
+        system = made ∙ ap (λ r. after_transition traced pid p id is.lwp r.transition s) row ∙ ap (λ q. after_transition traced pid q id is.lwp (row_for s pid is.process id is.lwp).transition s) same;
+        what = what is.lwp stands ∙ ap of_row row;
+        traces = traces is.lwp stands ∙ ap (λ r. meets p.control r.point) row ∙ ap (λ q. meets q.control (row_for s pid is.process id is.lwp).point) same;
+        used = λ n h. subst (AllUsedAtMost n) (sym (e ∙ put)) (after-usage s pid p id is.lwp n next on h);
+      }
+
+  -- one that ends it
+  pub makes-end : (how : Did) (status : ℕ) (did : Made) → IsNext s pid id (ThisRow (Ends how status)) → new ≡ with_ended traced pid status s → did ≡ quiet how → Makes s new pid id did false
+  unfolding row_of
+  makes-end how status did is e what =
+      let made : new ≡ after_transition traced pid is.process id is.lwp (ending (ends_process status)) s = e ∙ after-end s pid is.process id is.lwp status is.found is.stands in
+      record {
+        process = is.process;
+        lwp = is.lwp;
+        found = is.found;
+        stands = is.stands;
+        may = is.may;
+        system = made ∙ ap (λ r. after_transition traced pid is.process id is.lwp r.transition s) is.row;
+        what = what ∙ ap of_row is.row;
+        traces = ap (λ r. meets is.process.control r.point) is.row;
+        used = λ n h. subst (AllUsedAtMost n) (sym (e ∙ ended-live status is.process is.found)) (AllUsedAtMost-ended n pid is.process status s h);
+      }
+
+module _ (s : TracedSystem) (pid id : ℕ) (next : NextTurn) where
+  -- the process and the lwp of a turn that is next stand
+  pub next-found : IsNext s pid id next → IsSome (under pid s.processes)
+  next-found is = ap is_some (live_process-found s pid is.process is.found)
+
+  pub next-live : IsNext s pid id next → IsSome (live_process s pid)
+  next-live is = ap is_some is.found
+
+  pub next-stands : (p : TracedProcess) → IsNext s pid id next → under pid s.processes ≡ Some p → IsSome (lwp_of p id)
+  next-stands p is there =
+      let same : p ≡ is.process = same_Some p is.process (sym there ∙ live_process-found s pid is.process is.found) in
+      ap is_some (ap (λ q. lwp_of q id) same ∙ is.stands)
+
+  pub next-fits : (p : TracedProcess) (l : TracedLwp) → IsNext s pid id next → under pid s.processes ≡ Some p → lwp_of p id ≡ Some l → turn_fits l next ≡ true
+  next-fits p l is there stands =
+      let same : p ≡ is.process = same_Some p is.process (sym there ∙ live_process-found s pid is.process is.found) in
+      let same_lwp : l ≡ is.lwp = same_Some l is.lwp (sym stands ∙ ap (λ q. lwp_of q id) same ∙ is.stands) in
+      ap (λ x. turn_fits x next) same_lwp ∙ is.fits
+
+pub ruleset next_laws = (next-found, next-live, next-stands, next-fits)
+
+-- the turn
+pub turn-made : (s new : TracedSystem) (pid id : ℕ) (did : Made) (stop : Bool) → Makes s new pid id did stop → turn_of s pid id ≡ Some (record { system = with_process pid (after_meeting did.point id) (with_process pid (with_counted did.did did.begun) new); turned = record { did = did.did; stop = stop } })
+unfolding turn_of settled
+turn-made s new pid id did stop m =
+    let row : Row = row_for s pid m.process id m.lwp in
+    let after : TracedSystem = after_transition traced pid m.process id m.lwp row.transition s in
+    let start : turn_of s pid id ≡ Some (settled s pid m.process id m.lwp row) = rw (m.found, m.stands, m.may) refl in
+    start
+    ∙ ap (λ (d : Made). Some (turn_with d after (meets m.process.control row.point))) (sym m.what)
+    ∙ ap (λ x. Some (turn_with did x (meets m.process.control row.point))) (sym m.system)
+    ∙ ap (λ b. Some (turn_with did new b)) (sym m.traces)
   where
-    after : (o : Option TracedLwp) → f (elim o as (λ _. TracedProcess) [ None ↦ p | Some l ↦ with_row row l p ]) ≡ f p
-    after None = refl
-    after (Some l) = with_row-keeps f keeps row l p
+    turn_with : Made → TracedSystem → Bool → LwpTurn
+    turn_with d x b = record { system = with_process pid (after_meeting d.point id) (with_process pid (with_counted d.did d.begun) x); turned = record { did = d.did; stop = b } }
 
--- ---- an lwp that has a row to make
-
--- the process, the lwp and the row of an lwp's next turn
-pub record HasRow (s : TracedSystem) (pid id : ℕ) (row : TurnRow) : Type 0 where
-  pub process : TracedProcess
-  pub lwp : TracedLwp
-  pub is_live : live_process s pid ≡ Some process
-  pub is_there : lwp_of process id ≡ Some lwp
-  pub is_free : is_kept process lwp ≡ false
-  pub is_next : row_for process lwp ≡ Some row
-
-pub has_row : (s : TracedSystem) (pid id : ℕ) (row : TurnRow) → next_row_of s pid id ≡ Some row → HasRow s pid id row
-unfolding next_row_of next_row_in next_row
-has_row s pid id row next = of_live (live_process s pid) refl next
-  where
-    of_free : (p : TracedProcess) (l : TracedLwp) → live_process s pid ≡ Some p → lwp_of p id ≡ Some l → (b : Bool) → is_kept p l ≡ b → cond b None (row_for p l) ≡ Some row → HasRow s pid id row
-    of_free p l live there true kept e = absurd (cc)
-    of_free p l live there false free e = record { process = p; lwp = l; is_live = live; is_there = there; is_free = free; is_next = e }
-
-    of_lwp : (p : TracedProcess) → live_process s pid ≡ Some p → (o : Option TracedLwp) → lwp_of p id ≡ o → option_and_then (next_row p) o ≡ Some row → HasRow s pid id row
-    of_lwp p live None there e = absurd (cc)
-    of_lwp p live (Some l) there e = of_free p l live there (is_kept p l) refl e
-
-    of_live : (o : Option TracedProcess) → live_process s pid ≡ o → option_and_then (next_row_in id) o ≡ Some row → HasRow s pid id row
-    of_live None live e = absurd (cc)
-    of_live (Some p) live e = of_lwp p live (lwp_of p id) refl e
-
--- an lwp can move exactly where it has a row to make
-pub can_move-next_row : (s : TracedSystem) (pid id : ℕ) → is_some (next_row_of s pid id) ≡ can_move s pid id
-unfolding next_row_of next_row_in next_row turn_of turn_in
-can_move-next_row s pid id = of_live (live_process s pid)
-  where
-    of_row : (p : TracedProcess) (l : TracedLwp) (o : Option TurnRow) → is_some o ≡ is_some (option_map (settled s p l) o)
-    of_row p l None = refl
-    of_row p l (Some row) = refl
-
-    of_free : (p : TracedProcess) (l : TracedLwp) (b : Bool) → is_some (cond b None (row_for p l)) ≡ is_some (cond b None (option_map (settled s p l) (row_for p l)))
-    of_free p l true = refl
-    of_free p l false = of_row p l (row_for p l)
-
-    of_lwp : (p : TracedProcess) (o : Option TracedLwp) → is_some (option_and_then (next_row p) o) ≡ is_some (option_and_then (λ l. turn_in s p l) o)
-    of_lwp p None = refl
-    of_lwp p (Some l) = of_free p l (is_kept p l)
-
-    of_live : (o : Option TracedProcess) → is_some (option_and_then (next_row_in id) o) ≡ is_some (option_and_then (λ p. option_and_then (λ l. turn_in s p l) (lwp_of p id)) o)
-    of_live None = refl
-    of_live (Some p) = of_lwp p (lwp_of p id)
-
--- the turn that makes a row
-pub turn_of-row : (s : TracedSystem) (pid id : ℕ) (row : TurnRow) (h : HasRow s pid id row) → turn_of s pid id ≡ Some (settled s h.process h.lwp row)
-unfolding turn_of turn_in
-turn_of-row s pid id row h = rw (h.is_live, h.is_there, h.is_free, h.is_next) refl
-
--- ---- what is needed on the way
-
-pub next_row_of-found : (s : TracedSystem) (pid id : ℕ) (row : TurnRow) → next_row_of s pid id ≡ Some row → IsSome (find (is_process pid) s.processes)
-next_row_of-found s pid id row next =
-    let h = has_row s pid id row next in
-    ap is_some (live_process-found s pid h.process h.is_live)
-
-same_process : (p q : TracedProcess) → Some p ≡ Some q → p ≡ q
-same_process p q e = cc
-
-pub next_row_of-lwp : (s : TracedSystem) (pid id : ℕ) (row : TurnRow) (p : TracedProcess) → find (is_process pid) s.processes ≡ Some p → next_row_of s pid id ≡ Some row → IsSome (lwp_of p id)
-next_row_of-lwp s pid id row p found next =
-    let h = has_row s pid id row next in
-    let same : h.process ≡ p = same_process h.process p (sym (live_process-found s pid h.process h.is_live) ∙ found) in
-    let P : TracedProcess → Type 0 = λ q. IsSome (lwp_of q id) in
-    subst P same (ap is_some h.is_there)
-
-pub next_row_of-room : (n : ℕ) (s : TracedSystem) (pid id : ℕ) (row : TurnRow) (p : TracedProcess) → find (is_process pid) s.processes ≡ Some p → next_row_of s pid id ≡ Some row → AllUsedAtMost n s → UsedAtMost n p.usage
-next_row_of-room n s pid id row p found next room =
-    let h = has_row s pid id row next in
-    let same : h.process ≡ p = same_process h.process p (sym (live_process-found s pid h.process h.is_live) ∙ found) in
-    let P : TracedProcess → Type 0 = λ q. UsedAtMost n q.usage in
-    subst P same (AllUsedAtMost-live n s pid h.process h.is_live room)
-
--- the process of a row lives on until its call ends it
-live_after : (s : TracedSystem) (pid id : ℕ) (row : TurnRow) (p : TracedProcess) → live_process s pid ≡ Some p → live_process (with_process pid (with_row_of id row) s) pid ≡ Some (with_row_of id row p)
-unfolding with_process
-live_after s pid id row p live =
-    let f = with_row_of id row in
-    let same_id : (q : TracedProcess) → (f q).id ≡ q.id = λ q. with_row_of-keeps (λ (x : TracedProcess). x.id) (λ x u lwps. refl) id row q in
-    let same_end : (f p).ended ≡ p.ended = with_row_of-keeps (λ (x : TracedProcess). x.ended) (λ x u lwps. refl) id row p in
-    live_process-made (record s { processes = change_first (is_process pid) f s.processes }) pid (f p) (find-change_first (is_process pid) f (λ q here. ap (λ k. eqb k pid) (same_id q) ∙ here) s.processes ∙ ap (option_map f) (live_process-found s pid p live)) (ap is_none same_end ∙ live_process-live s pid p live)
-
-pub live_after-row : (s t : TracedSystem) (pid id : ℕ) (row : TurnRow) → next_row_of s pid id ≡ Some row → t ≡ with_process pid (with_row_of id row) s → IsSome (live_process t pid)
-live_after-row s t pid id row next changed =
-    let h = has_row s pid id row next in
-    rw changed (ap is_some (live_after s pid id row h.process h.is_live))
-
--- two changes of an element that do the same to it
-change_first-same : {X : Type 0} (t : X → Bool) (f g : X → X) (x : X) (xs : List X) → find t xs ≡ Some x → f x ≡ g x → change_first t f xs ≡ change_first t g xs
-change_first-same t f g x xs found same =
-    sym (put_first-found t f x xs found) ∙ ap (λ w. put_first t w xs) same ∙ put_first-found t g x xs found
-
--- the change of a process by its row, by the process's own id
-row_change : (s : TracedSystem) (pid id : ℕ) (row : TurnRow) (h : HasRow s pid id row) → with_process pid (with_row_of id row) s ≡ with_process h.process.id (with_row row h.lwp) s
-unfolding with_process
-row_change s pid id row h =
-    ap (λ ps. record s { processes = ps }) (change_first-same (is_process pid) (with_row_of id row) (with_row row h.lwp) h.process s.processes (live_process-found s pid h.process h.is_live) (with_row_of-found row h.process id h.lwp h.is_there)) ∙ ap (λ i. record s { processes = change_first (is_process i) (with_row row h.lwp) s.processes }) (sym (live_process-id s pid h.process h.is_live))
-
-same_turned : (t u : Turned) → Some t ≡ Some u → t ≡ u
-same_turned t u e = cc
-
--- The steps of a turn are the turn: its row, counted and stopped at, and then the end of its process.
-pub turn_of-made : (s t e : TracedSystem) (pid id : ℕ) (row : TurnRow) (status : Option ℕ) (turned : Turned) → next_row_of s pid id ≡ Some row → t ≡ with_process pid (with_row_of id row) s → Some turned ≡ option_and_then (turned_of id row) (process_of s pid) → status ≡ ending row → ((q : TracedProcess) → live_process t pid ≡ Some q → e ≡ ended_if status q t) → Some (let r : LwpTurn = record { system = e; turned = turned } in r) ≡ turn_of s pid id
-unfolding settled
-turn_of-made s t e pid id row status turned next changed told ends ended =
-    let h = has_row s pid id row next in
-    let p = h.process in
-    let l = h.lwp in
-    let live : live_process t pid ≡ Some (with_row row l p) = ap (λ x. live_process x pid) changed ∙ live_after s pid id row p h.is_live ∙ ap Some (with_row_of-found row p id l h.is_there) in
-    let after : t ≡ with_process p.id (with_row row l) s = changed ∙ row_change s pid id row h in
-    let last : e ≡ ended_if (ending row) (with_row row l p) (with_process p.id (with_row row l) s) = ended (with_row row l p) live ∙ ap (λ o. ended_if o (with_row row l p) t) ends ∙ ap (λ x. ended_if (ending row) (with_row row l p) x) after in
-    let did : turned ≡ turned_by p (rest_made row l) = same_turned turned (turned_by p (rest_made row l)) (told ∙ ap (option_and_then (turned_of id row)) (live_process-found s pid p h.is_live) ∙ turned_of-found row p id l h.is_there) in
-    ap (λ x. Some (let r : LwpTurn = record { system = x; turned = turned } in r)) last ∙ ap (λ x. Some (let r : LwpTurn = record { system = ended_if (ending row) (with_row row l p) (with_process p.id (with_row row l) s); turned = x } in r)) did ∙ sym (turn_of-row s pid id row h)
-
-pub ruleset turn_laws = (can_move-next_row, next_row_of-found, next_row_of-lwp, next_row_of-room)
+pub ruleset making_laws = (makes-row, makes-end, turn-made)

@@ -1,2 +1,4 @@
-pub mod BadBytes
+pub mod CallTurns
+pub mod Making
 pub mod NextRows
+pub mod Turns

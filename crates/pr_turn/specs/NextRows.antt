@@ -1,36 +1,104 @@
-use Rattle.std.specs.Prelude.{ℕ, Option, Some, None, option_and_then, if◌then◌else◌}
-use Rattle.pr_model.specs.Lwps.{lwp_of}
-use Rattle.pr_model.specs.LwpTurns.{is_kept, row_for, rest_made, with_row, turned_by}
-use Rattle.pr_model.specs.State.{TracedSystem, TracedProcess, TracedLwp, live_process}
-use Rattle.pr_model.specs.declared.effects.TurnRow.{TurnRow}
-use Rattle.pr_model.specs.declared.events.Turned.{Turned}
+use Rattle.std.specs.Prelude.{ℕ, Bool, false, true, [], Option, Some, None, length, nat_lt, if◌then◌else◌}
+use Rattle.pr_num.specs.declared.faults.Flt.{Flt}
+use Rattle.pr_num.specs.declared.faults.Flt.TheVariants.{Trace, Watch}
+use Rattle.pr_num.specs.Limits.{frame_limit}
+use Rattle.pr_model.specs.Built.{is_built_syscall}
+use Rattle.pr_model.specs.CallEffects.{call_effect}
+use Rattle.pr_model.specs.Changes.{ends_process}
+use Rattle.pr_model.specs.InstructionEffects.{InstructionEffect, runs, calls, faults, runs_into_watch, instruction_effect}
+use Rattle.pr_model.specs.Moves.{Move, moved, stops, posts, returns, leaves, enters, incurs, traps, stays, takes, drops, catches}
+use Rattle.pr_model.specs.Moves as move
+use Rattle.pr_model.specs.Registers.{pc_of}
+use Rattle.pr_model.specs.Rows.{Row, finished, requested_row, posted_row, returned_row, executed_row, own_taken_row, shared_taken_row, performed_row, point_row, quiet_row}
+use Rattle.pr_model.specs.Signals.{current_of, handler_held, handler_registers, with_frame}
+use Rattle.pr_model.specs.State.{TracedProcess, TracedLwp, TracedSystem}
+use Rattle.pr_model.specs.Transitions.{changing, dropped, ending, job_stopped, moving}
+use Rattle.pr_model.specs.declared.events.Did.TheVariants.{Acted}
+use Rattle.pr_model.specs.declared.events.How.TheVariants as how
+use Rattle.pr_model.specs.declared.lwps.Current.{Current}
+use Rattle.pr_model.specs.declared.lwps.Phase.{Phase}
+use Rattle.pr_model.specs.declared.lwps.Phase.TheVariants as phase
+use Rattle.pr_model.specs.declared.stops.Point.TheVariants.{Exit}
+use Rattle.pr_turn.specs.declared.next.Next.{Next}
+use Rattle.pr_turn.specs.declared.next.NextTurn.{NextTurn}
+use Rattle.pr_turn.specs.declared.next.NextTurn.TheVariants.{Row as ThisRow, Performs}
+use Rattle.pr_turn.specs.declared.next.Next.TheVariants.{Requested, Posted, Gave, Ends, Returned, Executed, TookOwn, TookShared, Dropped, JobStopped, Caught}
 
--- The row that is made in the next turn of an lwp, if it can have one.
+-- What the crate's own type of rows says, in the words of the turn table.
 
--- of an lwp of a live process: none while it is kept from its turns
-unfoldable pub next_row : TracedProcess → TracedLwp → Option TurnRow
-next_row p l = if is_kept p l then None else row_for p l
+-- a handler runs
+abbrev pub caught_move : TracedLwp → Current → ℕ → Move
+caught_move l c handler =
+    catches (with_frame l.regs l.held l.frames) (handler_registers c handler l.regs) (handler_held c l.held)
 
--- of the lwp of an id
-unfoldable pub next_row_in : ℕ → TracedProcess → Option TurnRow
-next_row_in id p = option_and_then (next_row p) (lwp_of p id)
+module _ (p : TracedProcess) (l : TracedLwp) where
+  -- the instruction at pc
+  abbrev pub effect_at : InstructionEffect
+  effect_at = instruction_effect p.space p.control.areas l.regs
 
--- of the lwp of an id in the live process of an id
-unfoldable pub next_row_of : TracedSystem → ℕ → ℕ → Option TurnRow
-next_row_of s pid id = option_and_then (next_row_in id) (live_process s pid)
+  -- the row that is meant
+  unfoldable pub row_of : Next → Row
+  row_of Requested = requested_row
+  row_of (Posted f address) = posted_row f address
+  row_of (Gave woken call args result) =
+      point_row (finished woken call result) (Exit call) (changing [] (leaves call args result))
+  row_of (Ends did status) = quiet_row did (ending (ends_process status))
+  row_of (Returned call) = returned_row p l call
+  row_of Executed = executed_row p l effect_at
+  row_of (TookOwn g) = own_taken_row l g
+  row_of (TookShared g) = shared_taken_row p g
+  row_of (Dropped g) = quiet_row (Acted g how.Ignored) dropped
+  row_of (JobStopped g) = quiet_row (Acted g how.JobStop) (job_stopped g)
+  row_of (Caught c handler) = quiet_row (Acted c.signal how.Caught) (moving (caught_move l c handler))
 
--- a process after a row of the lwp of an id
-unfoldable pub with_row_of : ℕ → TurnRow → TracedProcess → TracedProcess
-with_row_of id row p = after (lwp_of p id)
-  where
-    after : Option TracedLwp → TracedProcess
-    after None = p
-    after (Some l) = with_row row l p
+  -- this row, or another one where there is none
+  abbrev pub row_or : Option Next → Row → Row
+  row_or (Some next) otherwise = row_of next
+  row_or None otherwise = otherwise
 
--- and what that turn did
-unfoldable pub turned_of : ℕ → TurnRow → TracedProcess → Option Turned
-turned_of id row p = by (lwp_of p id)
-  where
-    by : Option TracedLwp → Option Turned
-    by None = None
-    by (Some l) = Some (turned_by p (rest_made row l))
+-- the row of the next turn of an lwp
+abbrev pub row_of_turn : TracedSystem → ℕ → TracedProcess → ℕ → TracedLwp → NextTurn → Row
+row_of_turn s pid p id l (ThisRow next) = row_of p l next
+row_of_turn s pid p id l (Performs woken call args since) =
+    performed_row woken call args since (call_effect s pid p id l since call args)
+
+-- whether a row may be made: the frame of a handler that runs has room
+abbrev pub fits : TracedLwp → Next → Bool
+fits l (Caught c handler) = nat_lt (length l.frames) frame_limit
+fits l _ = true
+
+-- the same of a turn: the call that is performed is built
+abbrev pub turn_fits : TracedLwp → NextTurn → Bool
+turn_fits l (ThisRow next) = fits l next
+turn_fits l (Performs woken call args since) = is_built_syscall call
+
+-- the fault that an lwp incurred and whose signal is not posted yet
+abbrev pub fault_in : Phase → Option (Flt × ℕ)
+fault_in (phase.Faulted f address) = Some (f, address)
+fault_in _ = None
+
+-- the move of an lwp by an instruction
+unfoldable pub executed_move : TracedLwp → InstructionEffect → Move
+executed_move l (runs regs store) = if l.control.step then traps Trace (pc_of regs) regs else move.runs regs
+executed_move l (calls call regs) = enters call regs
+executed_move l (faults f address) = incurs f address
+executed_move l (runs_into_watch address regs store) = traps Watch address regs
+
+-- the move of an lwp by another row
+unfoldable pub move_of : TracedLwp → Next → Move
+move_of l Requested = stops
+move_of l (Posted f address) = posts f address
+move_of l (Gave woken call args result) = leaves call args result
+move_of l (Returned call) = if l.control.step then traps Trace (pc_of l.regs) l.regs else returns
+move_of l (TookOwn g) = takes (current_of g l.pending) true
+move_of l (Dropped g) = drops
+move_of l (Caught c handler) = caught_move l c handler
+move_of l _ = stays
+
+-- whether a row moves its lwp and changes nothing else
+abbrev pub is_own_row : Next → Bool
+is_own_row (Ends did status) = false
+is_own_row Executed = false
+is_own_row (TookShared g) = false
+is_own_row (JobStopped g) = false
+is_own_row _ = true

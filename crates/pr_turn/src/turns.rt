@@ -1,82 +1,277 @@
 //! One turn of an lwp, as it changes the whole system.
-ghost use Rattle.std.specs.Prelude.{◌≡◌, ◌-◌, ◌^◌, true, Some, IsSome, option_and_then};
+ghost use Rattle.std.specs.Prelude.{◌≡◌, ℕ, ◌+◌, ◌-◌, ◌^◌, ◌||◌, true, false, is_some, Some, IsSome, IfOk, IsOk, OnErr};
 ghost use Rattle.std.specs.Option.{ForSome};
-ghost use Rattle.pr_model.specs.State.{process_of, live_process, with_process};
-ghost use Rattle.pr_model.specs.LwpTurns.{ending, ended_if, can_move, turn_of};
-ghost use Rattle.pr_proc.specs.Counts.{AllUsedAtMost};
-ghost use Rattle.pr_turn.specs.NextRows.{next_row, next_row_in, next_row_of, with_row_of, turned_of};
+ghost use Rattle.pr_num.specs.ById.{change_under, under};
+ghost use Rattle.pr_model.specs.LwpTurns.{can_move, counted, may_go_on, may_turn, may_wake, turn_of, with_counted};
+ghost use Rattle.pr_model.specs.Points.{after_meeting, stopped_at, with_stop_at};
+ghost use Rattle.pr_model.specs.Built.{is_built_syscall, is_built_turn};
+ghost use Rattle.pr_model.specs.Lawful.{IsLawfulSystem};
+ghost use Rattle.pr_model.specs.Signals.{has_takeable};
+ghost use Rattle.pr_model.specs.State.{with_process};
+ghost use Rattle.pr_proc.specs.Counts.{AllUsedAtMost, UsedAtMost};
+ghost use Rattle.pr_turn.specs.CallTurns.{may_take_memory, turn_takes};
+ghost use Rattle.pr_turn.specs.Making.{ends};
+ghost use Rattle.pr_turn.specs.Turns.{IsNext, Makes};
 
-use crate::settling::{ending, make_turn};
-use crate::tables::{is_kept, row_for};
-use pr_model::{Lwp, TurnRow, Turned};
-use pr_num::SigSet;
-use pr_proc::{Proc, Sys, end, live};
+use crate::calls::perform_next;
+use crate::making::{Made, make_and_ask, quiet};
+use crate::next::{Next, NextTurn, has_takeable, is_built_turn, is_held_back, next_row};
+use pr_call::{Request, is_ready};
+use pr_model::{Did, Phase, Point, Turned, Usage};
+use pr_num::{ById, NoMemory};
+use pr_proc::{Lwp, Proc, Sys, end, live};
+use pr_stop::{direct_others, is_traced, stop_at};
+use std::alloc::Global;
 
-/// The row that an lwp of a live process makes in its next turn, if it can have one.
-#[tactic(auto, unfolding(crate::specs::NextRows::next_row))]
-fn next_row(process: &Proc, lwp: &Lwp<SigSet>) -> Option<TurnRow>
-    ensures { result ≡ next_row process.now lwp.now }
+/// Counts what a turn did.
+#[tactic(auto, unfolding(pr_model::specs::LwpTurns::counted))]
+fn count(usage: &mut Usage, did: Did, begun: bool)
+    requires { UsedAtMost (2 ^ 64 - 2) usage.old }
+    ensures { usage.new ≡ counted did begun usage.old }
 {
-    if is_kept(process, lwp) {
-        return None;
+    match did {
+        Did::Made(..) | Did::Woke(..) => usage.calls += 1,
+        Did::Took(_) => usage.signals += 1,
+        Did::Faulted(_) => usage.faults += 1,
+        _ => {}
     }
-    row_for(process, lwp)
+    if begun {
+        usage.instructions += 1;
+    }
 }
 
-#[tactic(auto, unfolding(crate::specs::NextRows::next_row_in))]
-fn next_row_in(process: &Proc, id: u32) -> Option<TurnRow>
-    ensures { result ≡ next_row_in id process.now }
+#[tactic(auto, unfolding(pr_model::specs::LwpTurns::with_counted))]
+fn count_in(process: &mut Proc, did: Did, begun: bool)
+    requires { UsedAtMost (2 ^ 64 - 2) process.old.control.usage }
+    ensures { process.new ≡ with_counted did begun process.old }
 {
-    let lwp = process.lwps.get(id)?;
-    next_row(process, lwp)
+    count(&mut process.control.usage, did, begun);
 }
 
-#[tactic(auto, unfolding(crate::specs::NextRows::next_row_of))]
-fn next_row_of(sys: &Sys, pid: u32, id: u32) -> Option<TurnRow>
-    ensures { result ≡ next_row_of sys.now pid id }
+/// An lwp stops at what it met.
+#[tactic(auto, unfolding(pr_model::specs::Points::stopped_at))]
+fn stop_lwp(lwp: &mut Lwp, point: Point)
+    ensures { lwp.new ≡ stopped_at point lwp.old }
 {
-    let process = live(sys, pid)?;
-    next_row_in(process, id)
+    lwp.control.stop = Some(stop_at(point));
 }
 
-/// Whether an lwp can have a turn: its process is live, it does not stand still, and what it would do is built.
-#[tactic(auto, using(crate::proofs::TurnLemmas::turn_laws))]
+#[tactic(auto, using(pr_num::proofs::ByIdLaws::by_id_laws))]
+fn stop_under(lwps: &mut ById<Lwp>, id: u32, point: Point)
+    ensures { lwps.new ≡ change_under id (stopped_at point) lwps.old }
+{
+    if lwps.contains(id) {
+        stop_lwp(lwps.get_mut(id), point);
+    }
+}
+
+/// An lwp of a process stops at what it met, and the others are directed to stop.
+#[tactic(auto, unfolding(pr_model::specs::Points::with_stop_at, pr_model::specs::State::with_lwp))]
+fn stop_in(process: &mut Proc, id: u32, point: Point)
+    ensures { process.new ≡ with_stop_at point id process.old }
+{
+    stop_under(&mut process.lwps, id, point);
+    direct_others(process);
+}
+
+/// An lwp of a process met this, or nothing: it stops where that is traced.
+#[tactic(auto, unfolding(pr_model::specs::Points::after_meeting))]
+fn meet(process: &mut Proc, id: u32, point: Option<Point>)
+    ensures { process.new ≡ after_meeting point id process.old }
+{
+    if let Some(point) = point {
+        if is_traced(&process.control, point) {
+            stop_in(process, id, point);
+        }
+    }
+}
+
+/// Whether an lwp that is asleep in a call goes on: it is directed to stop, has a signal to act on or to take, or its
+/// call was aborted or is ready.
+#[tactic(auto, using(crate::proofs::TurnLemmas::wake_laws))]
+fn may_wake(sys: &Sys, process: &Proc, lwp: &Lwp, request: &Request) -> bool
+    requires { (lwp.now.control.directed || (is_some lwp.now.current || (has_takeable process.now lwp.now || (lwp.now.control.abort || is_built_syscall request.now.call)))) ≡ true }
+    ensures { result ≡ may_wake sys.now request.now.pid process.now request.now.lwp lwp.now request.now.since request.now.call request.now.args }
+{
+    if lwp.control.directed {
+        return true;
+    }
+    if lwp.current.is_some() {
+        return true;
+    }
+    if has_takeable(process, lwp) {
+        return true;
+    }
+    if lwp.control.abort {
+        return true;
+    }
+    is_ready(sys, request)
+}
+
+/// Whether an lwp may go on, whose turn is built; only one that is asleep may not.
+#[tactic(auto, using(crate::proofs::TurnLemmas::may_laws))]
+fn may_go_on(sys: &Sys, pid: u32, process: &Proc, id: u32, lwp: &Lwp) -> bool
+    requires { is_built_turn process.now lwp.now ≡ true }
+    ensures { result ≡ may_go_on sys.now pid process.now id lwp.now lwp.now.phase }
+{
+    match lwp.phase {
+        Phase::User => true,
+        Phase::Entered(_) => true,
+        Phase::Asleep { call, args, since } => {
+            let request = Request {
+                pid,
+                lwp: id,
+                since,
+                call,
+                args,
+            };
+            may_wake(sys, process, lwp, &request)
+        }
+        Phase::Exiting { .. } => true,
+        Phase::Faulted { .. } => true,
+    }
+}
+
+/// Whether an lwp, with its id, may have a turn: it is not held back, its turn is built, and it may go on.
+#[tactic(auto, using(crate::proofs::TurnLemmas::may_laws))]
+fn may_turn(sys: &Sys, pid: u32, process: &Proc, id: u32, lwp: &Lwp) -> bool
+    ensures { result ≡ may_turn sys.now pid process.now id lwp.now }
+{
+    if is_held_back(process, id, lwp) {
+        return false;
+    }
+    if !is_built_turn(process, lwp) {
+        return false;
+    }
+    may_go_on(sys, pid, process, id, lwp)
+}
+
+/// Whether an lwp can have a turn: its process is live, it is not held back, and what it would do is built.
+#[tactic(auto, unfolding(pr_model::specs::LwpTurns::can_move))]
 pub fn movable(sys: &Sys, pid: u32, lwp: u32) -> bool
     ensures { result ≡ can_move sys.now pid lwp }
 {
-    next_row_of(sys, pid, lwp).is_some()
-}
-
-/// Makes the next row of an lwp in its process, and answers what the turn did.
-#[tactic(auto, using(crate::proofs::TurnLemmas::turn_laws, pr_num::proofs::TableLemmas::change_first_laws), unfolding(pr_model::specs::State::with_process))]
-fn make_turn_of(sys: &mut Sys, pid: u32, id: u32, row: TurnRow) -> Turned
-    requires row { next_row_of sys.old pid id ≡ Some row }
-    requires room { AllUsedAtMost (2 ^ 64 - 2) sys.old }
-    ensures system { sys.new ≡ with_process pid (with_row_of id row) sys.old }
-    ensures turned { Some result ≡ option_and_then (turned_of id row) (process_of sys.old pid) }
-{
-    make_turn(sys.processes.get_mut(pid), id, row)
-}
-
-/// Ends a live process with a wait status, if there is one.
-fn end_with(sys: &mut Sys, pid: u32, status: Option<u64>)
-    requires { IsSome (live_process sys.old pid) }
-    ensures { ForSome (live_process sys.old pid) (λ p. sys.new ≡ ended_if status p sys.old) }
-{
-    if let Some(status) = status {
-        end(sys, pid, status);
+    let Some(process) = live(sys, pid) else {
+        return false;
+    };
+    match process.lwps.get(lwp) {
+        None => false,
+        Some(found) => may_turn(sys, pid, process, lwp, found),
     }
 }
 
-/// One turn of an lwp: it makes the first row of the turn table that fits. Takes no memory.
-pub fn turn(sys: &mut Sys, pid: u32, lwp: u32) -> Turned
+/// The next turn of an lwp that can have one.
+#[tactic(auto, using(crate::proofs::TurnLemmas::turn_laws))]
+fn next_of(sys: &Sys, pid: u32, id: u32) -> NextTurn
+    requires { can_move sys.now pid id ≡ true }
+    ensures next { IsNext sys.now pid id result }
+    ensures sure { may_take_memory sys.now pid id ≡ false → turn_takes result ≡ false }
+{
+    let process = live(sys, pid).unwrap();
+    let lwp = process.lwps.get(id).unwrap();
+    next_row(sys.clock, process, lwp)
+}
+
+/// What a row that does not end its process makes of the system.
+#[tactic(auto, using(crate::proofs::TurnLemmas::making_laws, crate::proofs::TurnLemmas::next_laws))]
+fn make_in(sys: &mut Sys, pid: u32, id: u32, next: Next) -> (Made, bool)
+    requires next { IsNext sys.old pid id (NextTurn.Row next) }
+    requires lives { ends next ≡ false }
+    ensures { Makes sys.old sys.new pid id result.0 result.1 }
+{
+    make_and_ask(sys.processes.get_mut(pid), id, next)
+}
+
+/// What a row makes of the system, and what it did.
+#[tactic(auto, using(crate::proofs::TurnLemmas::making_laws, crate::proofs::TurnLemmas::next_laws))]
+fn make_row(sys: &mut Sys, pid: u32, id: u32, next: Next) -> (Made, bool)
+    requires next { IsNext sys.old pid id (NextTurn.Row next) }
+    ensures { Makes sys.old sys.new pid id result.0 result.1 }
+{
+    match next {
+        Next::Ends { did, status } => {
+            end(sys, pid, status);
+            (quiet(did), false)
+        }
+        _ => make_in(sys, pid, id, next),
+    }
+}
+
+/// What the next turn of an lwp makes of the system, and what it did.
+fn make_turn(
+    alloc: Global,
+    sys: &mut Sys,
+    pid: u32,
+    id: u32,
+    next: NextTurn,
+) -> Result<(Made, bool), NoMemory>
+    requires lawful { IsLawfulSystem sys.old }
+    requires next { IsNext sys.old pid id next }
+    ensures ok { IfOk result (λ made. Makes sys.old sys.new pid id made.0 made.1) }
+    ensures sure { turn_takes next ≡ false → IsOk result }
+    ensures err { OnErr result (sys.new ≡ sys.old) }
+{
+    match next {
+        NextTurn::Row(row) => Ok(make_row(sys, pid, id, row)),
+        NextTurn::Performs {
+            woken,
+            call,
+            args,
+            since,
+        } => {
+            let request = Request {
+                pid,
+                lwp: id,
+                since,
+                call,
+                args,
+            };
+            perform_next(alloc, sys, woken, &request)
+        }
+    }
+}
+
+/// Counts what a turn did in the process of an id; a process that ended keeps its counts.
+#[tactic(auto, using(pr_num::proofs::ByIdLaws::by_id_laws, crate::proofs::UsageLemmas::usage_laws), unfolding(pr_model::specs::State::with_process))]
+fn count_under(sys: &mut Sys, pid: u32, did: Did, begun: bool)
+    requires { AllUsedAtMost (2 ^ 64 - 2) sys.old }
+    ensures { sys.new ≡ with_process pid (with_counted did begun) sys.old }
+{
+    if sys.processes.contains(pid) {
+        count_in(sys.processes.get_mut(pid), did, begun);
+    }
+}
+
+/// An lwp of the process of an id met this, or nothing.
+#[tactic(auto, using(pr_num::proofs::ByIdLaws::by_id_laws), unfolding(pr_model::specs::State::with_process))]
+fn meet_under(sys: &mut Sys, pid: u32, id: u32, point: Option<Point>)
+    ensures { sys.new ≡ with_process pid (after_meeting point id) sys.old }
+{
+    if sys.processes.contains(pid) {
+        meet(sys.processes.get_mut(pid), id, point);
+    }
+}
+
+/// One turn of an lwp: it makes the first row of the turn table that fits. Where memory runs out, the system stays as
+/// it is; only turns that perform some calls take memory.
+#[tactic(auto, using(crate::proofs::TurnLemmas::making_laws))]
+pub fn turn(alloc: Global, sys: &mut Sys, pid: u32, lwp: u32) -> Result<Turned, NoMemory>
+    requires lawful { IsLawfulSystem sys.old }
     requires movable { can_move sys.old pid lwp ≡ true }
     // the counts of use do not wrap
     requires room { AllUsedAtMost (2 ^ 64 - 2) sys.old }
-    ensures { Some (record { system = sys.new; turned = result }) ≡ turn_of sys.old pid lwp }
+    ensures ok { IfOk result (λ turned. turn_of sys.old pid lwp ≡ Some (record { system = sys.new; turned = turned })) }
+    // a turn adds at most 1 to each count
+    ensures used { (n : ℕ) → AllUsedAtMost n sys.old → AllUsedAtMost (n + 1) sys.new }
+    ensures sure { may_take_memory sys.old pid lwp ≡ false → IsOk result }
+    ensures err { OnErr result (sys.new ≡ sys.old) }
 {
-    let row = next_row_of(sys, pid, lwp).unwrap();
-    let turned = make_turn_of(sys, pid, lwp, row);
-    end_with(sys, pid, ending(row));
-    turned
+    let next = next_of(sys, pid, lwp);
+    let (made, stop) = make_turn(alloc, sys, pid, lwp, next)?;
+    count_under(sys, pid, made.did, made.begun);
+    meet_under(sys, pid, lwp, made.point);
+    Ok(Turned {
+        did: made.did,
+        stop,
+    })
 }

@@ -1,0 +1,16 @@
+pub mod FileAnswerLemmas
+pub mod FileCallLemmas
+pub mod FileKeptLemmas
+pub mod FilingLemmas
+pub mod ForkLemmas
+pub mod IdLemmas
+pub mod LwpCallLemmas
+pub mod MakingLemmas
+pub mod MapLemmas
+pub mod MemoryLemmas
+pub mod PathLemmas
+pub mod ProgramLemmas
+pub mod RoomLemmas
+pub mod SendingLemmas
+pub mod SignalCallLemmas
+pub mod WaitLemmas

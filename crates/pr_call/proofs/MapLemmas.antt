@@ -1,0 +1,99 @@
+use Rattle.std.proofs.Common.{◌≡◌, ◌≢◌, ◌≤◌, ◌<◌, ◌+◌, ◌^◌, ◌&&◌, ◌||◌, ℕ, Bool, true, false, eqb, leb, ltb, Some, None, Ok, [], ◌∷◌, length, replicate, refl, sym, ap, ◌∙◌, arith}
+use Rattle.std.proofs.lemmas.Bool.{leb-true, le-leb, and_parts, eqb-false, ltb-false}
+use Rattle.std.proofs.lemmas.List.{length-replicate}
+use Rattle.std.proofs.lemmas.Option.{same_Some}
+use Rattle.pr_num.specs.ById.{put_under, under}
+use Rattle.pr_num.specs.Programs.{rounded}
+use Rattle.pr_num.specs.Spaces.{Space, mapped_size, mapping_limit}
+use Rattle.pr_num.specs.declared.errnos.Errno.{Errno}
+use Rattle.pr_num.specs.declared.errnos.Errno.TheVariants.{Inval, Nomem}
+use Rattle.pr_num.specs.declared.mappings.MappingKind.TheVariants.{Mapped}
+use Rattle.pr_parts.proofs.SpaceLemmas.{mapped_size-with_mapping}
+use Rattle.pr_parts.specs.AddressSpaces.{gap_in, with_mapping, zeros_at}
+use Rattle.pr_mem.proofs.LawLemmas.{gap_in-least}
+use Rattle.pr_mem.specs.Answers.{map_refusal}
+use Rattle.pr_model.specs.Changes.{all_changed, fails, gives, space_is}
+use Rattle.pr_model.specs.MemoryCalls.{mmap_effect, prot_limit}
+use Rattle.pr_model.specs.Readers.{size_of, total_has_room}
+use Rattle.pr_model.specs.State.{TracedLwp, TracedProcess, TracedSystem, live_process}
+use Rattle.pr_proc.proofs.LifeLemmas.{live_process-found}
+use Rattle.pr_call.proofs.MemoryLemmas.{space-done}
+use Rattle.pr_call.specs.Effects.{after_effect}
+use Rattle.pr_call.specs.Maps.{CanMap, are_bad, can_grow}
+
+-- Where mmap maps.
+
+or_false : (a b : Bool) → (a || b) ≡ false → (a ≡ false) × (b ≡ false)
+or_false false b e = (refl, e)
+or_false true b e = absurd (cc)
+
+module _ (s : TracedSystem) (p : TracedProcess) (len prot : ℕ) where
+  pub mmap-bad : are_bad len prot ≡ true → fails Inval ≡ mmap_effect s p len prot
+  unfolding mmap_effect
+  mmap-bad bad = rw bad refl
+
+  pub mmap-no_gap : are_bad len prot ≡ false → gap_in (rounded len) p.space ≡ None → fails Nomem ≡ mmap_effect s p len prot
+  unfolding mmap_effect
+  mmap-no_gap good none = rw (good, none) refl
+
+  module _ (at : ℕ) where
+    whole : mapped_size (with_mapping (zeros_at at (rounded len) prot Mapped) p.space) ≡ mapped_size p.space + rounded len
+    whole =
+        let sum : mapped_size (with_mapping (zeros_at at (rounded len) prot Mapped) p.space) ≡ length (zeros_at at (rounded len) prot Mapped).bytes + mapped_size p.space = mapped_size-with_mapping (zeros_at at (rounded len) prot Mapped) p.space in
+        let bytes : length (zeros_at at (rounded len) prot Mapped).bytes ≡ rounded len = length-replicate (rounded len) 0 in
+        omega arith
+
+    pub mmap-fits : are_bad len prot ≡ false → gap_in (rounded len) p.space ≡ Some at → can_grow s p (rounded len) ≡ true → gives at (space_is (with_mapping (zeros_at at (rounded len) prot Mapped) p.space) ∷ []) ≡ mmap_effect s p len prot
+    unfolding mmap_effect size_of
+    mmap-fits good found room = rw (good, found, whole, room) refl
+
+    pub mmap-big : are_bad len prot ≡ false → gap_in (rounded len) p.space ≡ Some at → can_grow s p (rounded len) ≡ false → fails Nomem ≡ mmap_effect s p len prot
+    unfolding mmap_effect size_of
+    mmap-big good found room = rw (good, found, whole, room) refl
+
+    pub mmap-can : are_bad len prot ≡ false → gap_in (rounded len) p.space ≡ Some at → can_grow s p (rounded len) ≡ true → CanMap p.space len prot at
+    unfolding size_of
+    mmap-can good found room =
+        let parts = or_false _ _ good in
+        let others = or_false _ _ parts.1 in
+        let some : len ≢ 0 = eqb-false len 0 parts.0 in
+        let short : len ≤ mapping_limit = ltb-false mapping_limit len others.0 in
+        let within : prot ≤ prot_limit = ltb-false prot_limit prot others.1 in
+        let gap = gap_in-least (rounded len) p.space at found in
+        let place = gap.place in
+        let high = place.high in
+        let fits : leb (mapped_size p.space + rounded len) mapping_limit ≡ true = (and_parts (leb (mapped_size p.space + rounded len) mapping_limit) (total_has_room s (mapped_size p.space + rounded len) (mapped_size p.space)) room).0 in
+        record {
+          some = omega arith;
+          short = omega arith;
+          end = omega arith;
+          prot = omega arith;
+          free = rw (gap.free, fits) refl;
+        }
+
+pub good-short : (len prot : ℕ) → are_bad len prot ≡ false → len ≤ 0x100000
+good-short len prot good = ltb-false mapping_limit len (or_false _ _ (or_false _ _ good).1).0
+
+pub ruleset mmap_laws = (mmap-bad, mmap-no_gap, mmap-fits, mmap-big, mmap-can, good-short)
+
+-- ---- the system
+
+module _ (s : TracedSystem) (pid : ℕ) (q p : TracedProcess) (len prot id : ℕ) (l : TracedLwp) (there : live_process s pid ≡ Some q) (found : live_process s pid ≡ Some p) where
+  the_same : q ≡ p
+  the_same = same_Some q p (sym there ∙ found)
+
+  fails-kept : (e : Errno) → s ≡ after_effect pid p id l (fails e) s
+  unfolding after_effect all_changed
+  fails-kept e = refl
+
+  pub mmap-kept : (e : Errno) → fails e ≡ mmap_effect s q len prot → s ≡ after_effect pid p id l (mmap_effect s p len prot) s
+  mmap-kept e effect =
+      fails-kept e
+      ∙ ap (λ x. after_effect pid p id l x s) (effect ∙ ap (λ (x : TracedProcess). mmap_effect s x len prot) the_same)
+
+  pub mmap-made : (at : ℕ) (r : TracedProcess) (new : Space) → under pid s.processes ≡ Some r → gives at (space_is (with_mapping (zeros_at at (rounded len) prot Mapped) q.space) ∷ []) ≡ mmap_effect s q len prot → new ≡ with_mapping (zeros_at at (rounded len) prot Mapped) r.space → record s { processes = put_under pid (record r { space = new }) s.processes } ≡ after_effect pid p id l (mmap_effect s p len prot) s
+  mmap-made at r new stands effect now =
+      let same : r ≡ q = same_Some r q (sym stands ∙ live_process-found s pid q there) in
+      space-done s pid r p new (Ok at) (mmap_effect s p len prot) id l stands found
+      (λ _. ap (λ (m : Space). gives at (space_is m ∷ [])) (now ∙ ap (λ (x : TracedProcess). with_mapping (zeros_at at (rounded len) prot Mapped) x.space) same) ∙ (effect ∙ ap (λ (x : TracedProcess). mmap_effect s x len prot) the_same))
+      tt

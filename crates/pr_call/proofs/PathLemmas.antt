@@ -1,0 +1,76 @@
+use Rattle.std.proofs.Common.{◌≡◌, ◌≢◌, ◌≤◌, ◌+◌, ℕ, Option, Some, None, Result, Ok, Err, List, [], ◌∷◌, ◌++◌, length, take, drop, refl, sym, ap, ◌∙◌, arith, length-append}
+use Rattle.pr_num.specs.Spaces.{Space}
+use Rattle.pr_num.specs.declared.errnos.Errno.TheVariants.{Inval, Fault}
+use Rattle.pr_num.specs.declared.mappings.BadByte.{BadByte}
+use Rattle.pr_mem.specs.Answers.{text_answer, with_text}
+use Rattle.pr_mem.specs.declared.faults.MemFault.{MemFault}
+use Rattle.pr_model.specs.MemoryCalls.{path_at, path_limit}
+use Rattle.pr_parts.specs.AddressSpaces.{text_at}
+use Rattle.pr_call.specs.Paths.{path_told}
+
+-- Paths, by the text that was read.
+
+path-by : (space : Space) (at : ℕ) (r : Result (Option (List ℕ)) BadByte) → text_at space at path_limit ≡ r → path_at space at ≡ path_told r
+unfolding path_at
+path-by space at (Err bad) e = rw e refl
+path-by space at (Ok None) e = rw e refl
+path-by space at (Ok (Some [])) e = rw e refl
+path-by space at (Ok (Some (b ∷ bytes))) e = rw e refl
+
+path-of : (space : Space) (at : ℕ) → path_told (text_at space at path_limit) ≡ path_at space at
+path-of space at = sym (path-by space at (text_at space at path_limit) refl)
+
+told-err : (r : Result (Option (List ℕ)) BadByte) (fault : MemFault) → Err fault ≡ text_answer r → Err Fault ≡ path_told r
+told-err (Err bad) fault e = refl
+told-err (Ok None) fault e = absurd (cc)
+told-err (Ok (Some text)) fault e = absurd (cc)
+
+told-none : (r : Result (Option (List ℕ)) BadByte) → Ok None ≡ text_answer r → Err Inval ≡ path_told r
+told-none (Err bad) e = absurd (cc)
+told-none (Ok None) e = refl
+told-none (Ok (Some text)) e = absurd (cc)
+
+told-empty : (r : Result (Option (List ℕ)) BadByte) → Ok (Some 0) ≡ text_answer r → Err Inval ≡ path_told r
+told-empty (Err bad) e = absurd (cc)
+told-empty (Ok None) e = absurd (cc)
+told-empty (Ok (Some [])) e = refl
+told-empty (Ok (Some (b ∷ bytes))) e = absurd (let wrong : 0 ≡ length (b ∷ bytes) = cc in omega arith)
+
+take-front : (xs ys : List ℕ) → take (length xs) (xs ++ ys) ≡ xs
+take-front [] ys = refl
+take-front (x ∷ xs) ys = ap (λ zs. x ∷ zs) (take-front xs ys)
+
+told-some : (r : Result (Option (List ℕ)) BadByte) (n : ℕ) (old new : List ℕ) → Ok (Some n) ≡ text_answer r → n ≢ 0 → new ≡ with_text r old → Ok (take n new) ≡ path_told r
+told-some (Err bad) n old new e some is = absurd (cc)
+told-some (Ok None) n old new e some is = absurd (cc)
+told-some (Ok (Some [])) n old new e some is = absurd (some (cc))
+told-some (Ok (Some (b ∷ bytes))) n old new e some is =
+    let long : n ≡ length (b ∷ bytes) = cc in
+    rw (is, long) (ap Ok (take-front (b ∷ bytes) (drop (length (b ∷ bytes)) old)))
+
+told-within : (r : Result (Option (List ℕ)) BadByte) (n : ℕ) (old new : List ℕ) → Ok (Some n) ≡ text_answer r → new ≡ with_text r old → length new ≡ 32 → n ≤ 32
+told-within (Err bad) n old new e is long = absurd (cc)
+told-within (Ok None) n old new e is long = absurd (cc)
+told-within (Ok (Some text)) n old new e is long =
+    let same : n ≡ length text = cc in
+    let parts : length (text ++ drop (length text) old) ≡ length text + length (drop (length text) old) = length-append text (drop (length text) old) in
+    let whole : length new ≡ length (text ++ drop (length text) old) = ap (λ (zs : List ℕ). length zs) is in
+    omega arith
+
+module _ (space : Space) (at : ℕ) where
+  pub path-fault : (fault : MemFault) → Err fault ≡ text_answer (text_at space at 32) → Err Fault ≡ path_at space at
+  path-fault fault e = told-err _ fault e ∙ path-of space at
+
+  pub path-none : Ok None ≡ text_answer (text_at space at 32) → Err Inval ≡ path_at space at
+  path-none e = told-none _ e ∙ path-of space at
+
+  pub path-empty : Ok (Some 0) ≡ text_answer (text_at space at 32) → Err Inval ≡ path_at space at
+  path-empty e = told-empty _ e ∙ path-of space at
+
+  pub path-some : (n : ℕ) (old new : List ℕ) → Ok (Some n) ≡ text_answer (text_at space at 32) → n ≢ 0 → new ≡ with_text (text_at space at 32) old → Ok (take n new) ≡ path_at space at
+  path-some n old new e some is = told-some _ n old new e some is ∙ path-of space at
+
+  pub path-within : (n : ℕ) (old new : List ℕ) → Ok (Some n) ≡ text_answer (text_at space at 32) → new ≡ with_text (text_at space at 32) old → length new ≡ 32 → n ≤ 32
+  path-within n old new e is long = told-within _ n old new e is long
+
+pub ruleset paths = (path-fault, path-none, path-empty, path-some, path-within)

@@ -1,0 +1,111 @@
+use Rattle.std.specs.Prelude.{◌-◌, ℕ, Bool, true, false, List, [], ◌∷◌, Option, Some, None, length, slice_get, take}
+use Rattle.pr_num.specs.declared.syscalls.Sysno.{Sysno}
+use Rattle.pr_num.specs.declared.syscalls.Sysno.TheVariants.{Fork, Write, Open, Exec, Pipe, Brk, Mmap, LwpCreate, Exit, Getpid, Getppid, Sigaction, Sigmask, Pause, Sigreturn, Time, Sleep, LwpExit, LwpSuspend, LwpContinue}
+use Rattle.pr_model.specs.CallEffects.{call_effect}
+use Rattle.pr_model.specs.Changes as changes
+use Rattle.pr_model.specs.Changes.{all_changed, ended, with_disposition_of, with_held, with_suspended, resumed}
+use Rattle.pr_model.specs.Machines.{traced}
+use Rattle.pr_model.specs.State.{TracedSystem, TracedProcess, TracedLwp, with_lwp}
+use Rattle.pr_model.specs.declared.frames.Frame.{Frame}
+use Rattle.pr_call.specs.declared.requests.Change.{Change}
+use Rattle.pr_call.specs.declared.requests.Change.TheVariants.{Held, Disposition, Resumed, Suspended}
+use Rattle.pr_call.specs.declared.requests.Effect.{Effect}
+use Rattle.pr_call.specs.declared.requests.Effect.TheVariants.{Does, Sleeps, Ends, EndsLwp}
+use Rattle.pr_call.specs.declared.requests.Performed.{Performed}
+use Rattle.pr_call.specs.declared.requests.Performed.TheVariants as performed
+use Rattle.pr_call.specs.declared.requests.Request.{Request}
+
+-- What the crate's own types say, in the words of the definitions.
+
+-- the effect of the call that an lwp makes
+abbrev pub effect_of : TracedSystem → TracedProcess → TracedLwp → Request → changes.Effect
+effect_of s p l r = call_effect s r.pid p r.lwp l r.since r.call r.args
+
+-- what comes of an effect
+abbrev pub outcome_of : changes.Effect → Performed
+outcome_of (changes.does result made) = performed.Done result
+outcome_of changes.sleeps = performed.Sleep
+outcome_of (changes.ends how) = performed.Ended
+
+-- What an effect makes of the system, of a call of the lwp of an id in the process of an id, which were as is said
+-- here.
+unfoldable pub after_effect : ℕ → TracedProcess → ℕ → TracedLwp → changes.Effect → TracedSystem → TracedSystem
+after_effect pid p id l (changes.does result made) s = all_changed traced pid p id l made s
+after_effect pid p id l changes.sleeps s = s
+after_effect pid p id l (changes.ends how) s = ended traced pid p id how s
+
+-- ---- effects as code has them
+
+-- back to a frame, if there is one
+abbrev pub resuming : Option Frame → List Frame → List changes.Change
+resuming None frames = []
+resuming (Some frame) frames = changes.resumes frame frames ∷ []
+
+-- the changes that are meant, or none
+abbrev pub changes_meant : TracedLwp → Option Change → List changes.Change
+changes_meant l None = []
+changes_meant l (Some (Held held)) = changes.held_is held ∷ []
+changes_meant l (Some (Disposition g disposition)) = changes.disposition_is g disposition ∷ []
+changes_meant l (Some (Suspended other on)) = changes.suspends other on ∷ []
+changes_meant l (Some Resumed) = resuming (slice_get l.frames (length l.frames - 1)) (take (length l.frames - 1) l.frames)
+
+-- the effect that is meant
+abbrev pub effect_meant : TracedLwp → Effect → changes.Effect
+effect_meant l (Does result made) = changes.does result (changes_meant l made)
+effect_meant l Sleeps = changes.sleeps
+effect_meant l (Ends status) = changes.ends (changes.ends_process status)
+effect_meant l EndsLwp = changes.ends changes.ends_lwp
+
+-- ---- what changes make of the caller's process
+
+-- back to the last frame, if there is one
+abbrev pub resumed_to : Option Frame → TracedLwp → TracedLwp
+resumed_to None l = l
+resumed_to (Some frame) l = resumed frame (take (length l.frames - 1) l.frames) l
+
+unfoldable pub resumed_last : TracedLwp → TracedLwp
+resumed_last l = resumed_to (slice_get l.frames (length l.frames - 1)) l
+
+-- the caller itself after a change
+unfoldable pub lwp_changed : Change → TracedLwp → TracedLwp
+lwp_changed (Held held) = with_held held
+lwp_changed Resumed = resumed_last
+lwp_changed (Disposition g disposition) = λ l. l
+lwp_changed (Suspended other on) = λ l. l
+
+-- its process
+unfoldable pub process_changed : ℕ → Change → TracedProcess → TracedProcess
+process_changed id (Held held) = with_lwp id (lwp_changed (Held held))
+process_changed id Resumed = with_lwp id (lwp_changed Resumed)
+process_changed id (Disposition g disposition) = with_disposition_of g disposition
+process_changed id (Suspended other on) = with_lwp other (with_suspended on)
+
+-- ---- kinds of calls
+
+-- whether all that a call does is known before anything changes
+abbrev pub is_plain : Sysno → Bool
+is_plain Exit = true
+is_plain Getpid = true
+is_plain Getppid = true
+is_plain Sigaction = true
+is_plain Sigmask = true
+is_plain Pause = true
+is_plain Sigreturn = true
+is_plain Time = true
+is_plain Sleep = true
+is_plain LwpExit = true
+is_plain LwpSuspend = true
+is_plain LwpContinue = true
+is_plain _ = false
+
+-- whether a call takes memory
+abbrev pub takes_memory : Sysno → Bool
+takes_memory Fork = true
+takes_memory Write = true
+takes_memory Open = true
+takes_memory Exec = true
+takes_memory Pipe = true
+takes_memory Brk = true
+takes_memory Mmap = true
+takes_memory LwpCreate = true
+takes_memory _ = false

@@ -1,0 +1,9 @@
+pub mod Effects
+pub mod FileAnswers
+pub mod Lwps
+pub mod Maps
+pub mod Memories
+pub mod Paths
+pub mod Processes
+pub mod Sendings
+pub mod Waits

@@ -1,0 +1,92 @@
+//! A system call performed.
+ghost use Rattle.std.specs.Prelude.{◌≡◌, true, false, IsSome, IsOk, IfOk, OnErr};
+ghost use Rattle.std.specs.Option.{ForSome};
+ghost use Rattle.pr_call.specs.Effects.{after_effect, effect_meant, effect_of, is_plain, outcome_of, takes_memory};
+ghost use Rattle.pr_model.specs.Built.{is_built_syscall};
+ghost use Rattle.pr_model.specs.Lawful.{IsLawfulSystem};
+ghost use Rattle.pr_model.specs.State.{live_process, lwp_of};
+
+use crate::filing::{close, dup, lseek};
+use crate::lwps::lwp_create;
+use crate::making::make;
+use crate::maps::mmap;
+use crate::memory::{protect, unmap};
+use crate::plain::{decide, is_plain};
+use crate::processes::{exec_by, fork_by};
+use crate::requests::{Effect, Performed, Request};
+use crate::sending::send;
+use crate::waits::wait;
+use pr_num::{Info, NoMemory, Sysno};
+use pr_proc::{Sys, live};
+use std::alloc::Global;
+
+/// What a plain call does, before anything changes.
+fn decide_now(sys: &Sys, request: &Request) -> Effect
+    requires plain { is_plain request.now.call ≡ true }
+    requires live { IsSome (live_process sys.now request.now.pid) }
+    requires lwp { ForSome (live_process sys.now request.now.pid) (λ p. IsSome (lwp_of p request.now.lwp)) }
+    ensures { ForSome (live_process sys.now request.now.pid) (λ p. ForSome (lwp_of p request.now.lwp) (λ l. effect_meant l result ≡ effect_of sys.now p l request.now)) }
+{
+    let process = live(sys, request.pid).unwrap();
+    let lwp = process.lwps.get(request.lwp).unwrap();
+    decide(sys, process, lwp, request)
+}
+
+/// A plain call performed.
+fn perform_plain(sys: &mut Sys, request: &Request) -> Performed
+    requires plain { is_plain request.now.call ≡ true }
+    requires live { IsSome (live_process sys.old request.now.pid) }
+    requires lwp { ForSome (live_process sys.old request.now.pid) (λ p. IsSome (lwp_of p request.now.lwp)) }
+    ensures system { ForSome (live_process sys.old request.now.pid) (λ p. ForSome (lwp_of p request.now.lwp) (λ l. sys.new ≡ after_effect request.now.pid p request.now.lwp l (effect_of sys.old p l request.now) sys.old)) }
+    ensures outcome { ForSome (live_process sys.old request.now.pid) (λ p. ForSome (lwp_of p request.now.lwp) (λ l. result ≡ outcome_of (effect_of sys.old p l request.now))) }
+{
+    let effect = decide_now(sys, request);
+    make(sys, request.pid, request.lwp, effect)
+}
+
+/// Performs the call of an lwp of a live process, as far as calls are built: the system is as the effect of the call
+/// leaves it, and the answer is what comes of it. The result is not stored yet, and the lwp stays where it was. Where
+/// memory runs out, the system stays as it is; only some calls take memory.
+#[tactic(auto, unfolding(pr_model::specs::CallEffects::call_effect))]
+pub fn perform(alloc: Global, sys: &mut Sys, request: &Request) -> Result<Performed, NoMemory>
+    requires lawful { IsLawfulSystem sys.old }
+    requires built { is_built_syscall request.now.call ≡ true }
+    requires live { IsSome (live_process sys.old request.now.pid) }
+    requires lwp { ForSome (live_process sys.old request.now.pid) (λ p. IsSome (lwp_of p request.now.lwp)) }
+    ensures system { IfOk result (λ outcome. ForSome (live_process sys.old request.now.pid) (λ p. ForSome (lwp_of p request.now.lwp) (λ l. sys.new ≡ after_effect request.now.pid p request.now.lwp l (effect_of sys.old p l request.now) sys.old))) }
+    ensures outcome { IfOk result (λ outcome. ForSome (live_process sys.old request.now.pid) (λ p. ForSome (lwp_of p request.now.lwp) (λ l. outcome ≡ outcome_of (effect_of sys.old p l request.now)))) }
+    ensures sure { takes_memory request.now.call ≡ false → IsOk result }
+    ensures err { OnErr result (sys.new ≡ sys.old) }
+{
+    if is_plain(request.call) {
+        return Ok(perform_plain(sys, request));
+    }
+    let args = request.args;
+    match request.call {
+        Sysno::Kill => Ok(send(
+            sys,
+            request.pid,
+            args[0],
+            args[1],
+            Info::killed_by(request.pid),
+        )),
+        Sysno::Sigqueue => Ok(send(
+            sys,
+            request.pid,
+            args[0],
+            args[1],
+            Info::queued_by(request.pid, args[2]),
+        )),
+        Sysno::Munmap => Ok(unmap(sys, request.pid, args[0], args[1])),
+        Sysno::Mprotect => Ok(protect(sys, request.pid, args[0], args[1], args[2])),
+        Sysno::Mmap => mmap(alloc, sys, request.pid, args[0], args[1]),
+        Sysno::Close => Ok(close(sys, request.pid, request.lwp, args[0])),
+        Sysno::Dup => Ok(dup(sys, request.pid, request.lwp, args[0])),
+        Sysno::Lseek => Ok(lseek(sys, request.pid, request.lwp, args[0], args[1])),
+        Sysno::Wait => Ok(wait(sys, request.pid, args[0])),
+        Sysno::Fork => fork_by(alloc, sys, request.pid, request.lwp, args),
+        Sysno::Exec => exec_by(alloc, sys, request.pid, request.lwp, args[0]),
+        Sysno::LwpCreate => lwp_create(sys, request.pid, request.lwp, args),
+        _ => unreachable!(),
+    }
+}

@@ -1,0 +1,106 @@
+//! fork(2) and exec(2).
+ghost use Rattle.std.specs.Prelude.{◌≡◌, ◌<◌, IfOk, IsSome, OnErr, Option, Some, length};
+ghost use Rattle.std.specs.Option.{ForSome};
+ghost use Rattle.pr_call.specs.Effects.{after_effect, outcome_of};
+ghost use Rattle.pr_call.specs.Processes.{target_effect};
+ghost use Rattle.pr_model.specs.Lawful.{IsLawfulSystem};
+ghost use Rattle.pr_model.specs.ProcessCalls.{exec_effect, fork_effect};
+ghost use Rattle.pr_model.specs.State.{live_process, lwp_of};
+ghost use Rattle.pr_num.specs.declared.errnos.Errno.{Errno as AnyErrno};
+ghost use Rattle.pr_proc.specs.Refusals.{SaysOf};
+
+use crate::paths::path_at;
+use crate::requests::Performed;
+use pr_model::Res;
+use pr_num::{AGENT, Errno, NoMemory};
+use pr_proc::{ProcNo, Sys, exec, fork, live, program_named};
+use std::alloc::Global;
+
+/// The errno of a refusal; memory that ran out has none.
+fn errno_of(reason: ProcNo) -> Result<Errno, NoMemory>
+    ensures { (refusal : Option AnyErrno) → SaysOf reason refusal → IfOk result (λ error. refusal ≡ Some error) }
+{
+    match reason {
+        ProcNo::Again => Ok(Errno::Again),
+        ProcNo::NoSpace => Ok(Errno::Nomem),
+        ProcNo::NoMemory => Err(NoMemory),
+    }
+}
+
+/// fork(2) by an lwp of a live process gives the child's id. ENOTSUP: by the agent; EAGAIN: as many processes were made
+/// as can be; ENOMEM: too much would be mapped. Where memory runs out, the system stays as it is.
+#[tactic(auto, using(crate::proofs::ForkLemmas::forking))]
+pub fn fork_by(
+    alloc: Global,
+    sys: &mut Sys,
+    pid: u32,
+    id: u32,
+    args: [u64; 6],
+) -> Result<Performed, NoMemory>
+    requires lawful { IsLawfulSystem sys.old }
+    requires live { IsSome (live_process sys.old pid) }
+    requires lwp { ForSome (live_process sys.old pid) (λ p. IsSome (lwp_of p id)) }
+    ensures system { IfOk result (λ outcome. ForSome (live_process sys.old pid) (λ p. ForSome (lwp_of p id) (λ l. sys.new ≡ after_effect pid p id l (fork_effect sys.old p id args) sys.old))) }
+    ensures outcome { IfOk result (λ outcome. ForSome (live_process sys.old pid) (λ p. outcome ≡ outcome_of (fork_effect sys.old p id args))) }
+    ensures err { OnErr result (sys.new ≡ sys.old) }
+{
+    if id == AGENT {
+        return Ok(Performed::Done(Res::Error(Errno::Notsup)));
+    }
+    match fork(alloc, sys, pid, id, args) {
+        Ok(child) => Ok(Performed::Done(Res::Value(u64::from(child)))),
+        Err(reason) => {
+            let error = errno_of(reason)?;
+            Ok(Performed::Done(Res::Error(error)))
+        }
+    }
+}
+
+/// The place of the program that the path at an address names, for exec(2) by an lwp of a live process. ENOTSUP: by the
+/// agent; EFAULT, EINVAL: the path; ENOENT: no such program.
+#[tactic(auto, using(crate::proofs::ProgramLemmas::naming))]
+fn target(sys: &Sys, pid: u32, id: u32, at: u64) -> Result<usize, Errno>
+    requires { IsSome (live_process sys.now pid) }
+    ensures effect { ForSome (live_process sys.now pid) (λ p. target_effect sys.now p result ≡ exec_effect sys.now p id at) }
+    ensures within { IfOk result (λ place. place < length sys.now.programs) }
+{
+    if id == AGENT {
+        return Err(Errno::Notsup);
+    }
+    let mut path = [0; 32];
+    let process = live(sys, pid).unwrap();
+    let len = path_at(&process.space, at, &mut path)?;
+    let Some(place) = program_named(sys, &path[..len]) else {
+        return Err(Errno::Noent);
+    };
+    Ok(place)
+}
+
+/// exec(2) by an lwp of a live process, of the program that a path names. ENOMEM: too much would be mapped. Where memory
+/// runs out, the system stays as it is.
+#[tactic(auto, using(crate::proofs::ProgramLemmas::running))]
+pub fn exec_by(
+    alloc: Global,
+    sys: &mut Sys,
+    pid: u32,
+    id: u32,
+    at: u64,
+) -> Result<Performed, NoMemory>
+    requires live { IsSome (live_process sys.old pid) }
+    requires lwp { ForSome (live_process sys.old pid) (λ p. IsSome (lwp_of p id)) }
+    ensures system { IfOk result (λ outcome. ForSome (live_process sys.old pid) (λ p. ForSome (lwp_of p id) (λ l. sys.new ≡ after_effect pid p id l (exec_effect sys.old p id at) sys.old))) }
+    ensures outcome { IfOk result (λ outcome. ForSome (live_process sys.old pid) (λ p. outcome ≡ outcome_of (exec_effect sys.old p id at))) }
+    ensures err { OnErr result (sys.new ≡ sys.old) }
+{
+    let place = match target(sys, pid, id, at) {
+        Ok(place) => place,
+        Err(error) => return Ok(Performed::Done(Res::Error(error))),
+    };
+    match exec(alloc, sys, pid, id, place) {
+        Ok(()) => Ok(Performed::Done(Res::Value(0))),
+        Err(reason) => {
+            let error = errno_of(reason)?;
+            Ok(Performed::Done(Res::Error(error)))
+        }
+    }
+}

@@ -1,0 +1,94 @@
+//! wait(3C).
+ghost use Rattle.std.specs.Prelude.{◌≡◌, ℕ, IsSome, true, false};
+ghost use Rattle.std.specs.Option.{ForSome};
+ghost use Rattle.pr_num.specs.Spaces.{Space as AnySpace};
+ghost use Rattle.pr_num.specs.Words.{word_bytes};
+ghost use Rattle.pr_parts.specs.AddressSpaces.{with_bytes};
+ghost use Rattle.pr_call.specs.Effects.{after_effect, outcome_of};
+ghost use Rattle.pr_call.specs.Waits.{reaped_by};
+ghost use Rattle.pr_model.specs.Changes.{is_over, with_space};
+ghost use Rattle.pr_model.specs.FileCallRows.{word_size};
+ghost use Rattle.pr_model.specs.MemoryCalls.{can_write};
+ghost use Rattle.pr_model.specs.ProcessCalls.{wait_effect};
+ghost use Rattle.pr_model.specs.Readers.{children_of, first_zombie};
+ghost use Rattle.pr_model.specs.State.{TracedLwp, live_process, with_process};
+
+use crate::requests::Performed;
+use pr_mem::Space;
+use pr_model::Res;
+use pr_num::Errno;
+use pr_proc::{Children, Sys, children_of, reap};
+
+/// The protection that a store needs.
+const WRITE: u8 = 2;
+
+/// Stores a word, if all of it can be written; else the space stays as it is.
+#[tactic(auto, using(crate::proofs::WaitLemmas::storing), unfolding(pr_num::specs::Words::word_bytes))]
+fn store(space: &mut Space, at: u64, word: u64) -> bool
+    ensures can { result ≡ can_write space.old at word_size }
+    ensures stored { result ≡ true → space.new ≡ with_bytes at (word_bytes word) space.old }
+    ensures kept { result ≡ false → space.new ≡ space.old }
+{
+    space.write(at, &word.to_le_bytes(), WRITE).is_ok()
+}
+
+/// The same in the memory of the live process of an id.
+#[tactic(auto, using(crate::proofs::WaitLemmas::storing_in, pr_proc::proofs::LifeLemmas::life_laws))]
+fn store_in(sys: &mut Sys, pid: u32, at: u64, word: u64) -> bool
+    requires { IsSome (live_process sys.old pid) }
+    ensures can { ForSome (live_process sys.old pid) (λ p. result ≡ can_write p.space at word_size) }
+    ensures stored { ForSome (live_process sys.old pid) (λ p. result ≡ true → sys.new ≡ with_process pid (with_space (with_bytes at (word_bytes word) p.space)) sys.old) }
+    ensures kept { result ≡ false → sys.new ≡ sys.old }
+{
+    store(&mut sys.processes.get_mut(pid).space, at, word)
+}
+
+/// Reaps a child of the process of an id, which is none of its own.
+fn reap_child(sys: &mut Sys, pid: u32, child: u32)
+    ensures { sys.new ≡ reaped_by pid child sys.old }
+{
+    if child != pid {
+        reap(sys, child);
+    }
+}
+
+/// A child that has ended is reaped, and its wait status stored unless the address is 0; where it cannot be stored,
+/// nothing is reaped.
+#[tactic(auto, using(crate::proofs::WaitLemmas::giving))]
+fn give(sys: &mut Sys, pid: u32, child: u32, status: u64, at: u64) -> Performed
+    requires { IsSome (live_process sys.old pid) }
+    ensures system { ForSome (live_process sys.old pid) (λ p. (id : ℕ) (l : TracedLwp) → sys.new ≡ after_effect pid p id l (wait_effect p.space (first_zombie child status) at) sys.old) }
+    ensures outcome { ForSome (live_process sys.old pid) (λ p. result ≡ outcome_of (wait_effect p.space (first_zombie child status) at)) }
+{
+    if at != 0 && !store_in(sys, pid, at, status) {
+        return Performed::Done(Res::Error(Errno::Fault));
+    }
+    reap_child(sys, pid, child);
+    Performed::Done(Res::Value(u64::from(child)))
+}
+
+/// wait(3C) by the process of an id: ECHILD where it has no child; it sleeps while none has ended. Takes no memory.
+#[tactic(auto, using(crate::proofs::WaitLemmas::waiting))]
+pub fn wait(sys: &mut Sys, pid: u32, at: u64) -> Performed
+    requires { IsSome (live_process sys.old pid) }
+    ensures system { ForSome (live_process sys.old pid) (λ p. (id : ℕ) (l : TracedLwp) → sys.new ≡ after_effect pid p id l (wait_effect p.space (children_of sys.old pid) at) sys.old) }
+    ensures outcome { ForSome (live_process sys.old pid) (λ p. result ≡ outcome_of (wait_effect p.space (children_of sys.old pid) at)) }
+{
+    match children_of(sys, pid) {
+        Children::Nobody => Performed::Done(Res::Error(Errno::Child)),
+        Children::Living => Performed::Sleep,
+        Children::Zombie(child, status) => give(sys, pid, child, status, at),
+    }
+}
+
+/// Whether wait(3C) would not sleep: there is no child, or one has ended.
+#[tactic(auto, using(crate::proofs::WaitLemmas::overs))]
+pub fn is_waited(sys: &Sys, pid: u32) -> bool
+    ensures { (space : AnySpace) (at : ℕ) → result ≡ is_over (wait_effect space (children_of sys.now pid) at) }
+{
+    match children_of(sys, pid) {
+        Children::Nobody => true,
+        Children::Living => false,
+        Children::Zombie(..) => true,
+    }
+}

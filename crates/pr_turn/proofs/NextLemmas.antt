@@ -1,0 +1,127 @@
+use Rattle.std.proofs.Common.{◌≡◌, ℕ, ◌||◌, Bool, true, false, Some, None, is_some, List, refl, sym, ap, ◌∙◌, subst}
+use Rattle.std.proofs.lemmas.Option.{same_Some}
+use Rattle.pr_num.specs.declared.faults.Flt.{Flt}
+use Rattle.pr_num.specs.declared.syscalls.Sysno.{Sysno}
+use Rattle.pr_num.specs.Signals.{signal_number}
+use Rattle.pr_parts.specs.declared.actions.Action.TheVariants as act
+use Rattle.pr_model.specs.Built.{is_built_in, is_built_turn}
+use Rattle.pr_model.specs.CallEffects.{call_effect}
+use Rattle.pr_model.specs.Registers.{arguments}
+use Rattle.pr_model.specs.Rows.{Row, acted_row, call_row, caught_row, interrupted_row, performed_row, posted_row, posted_row_or, row_for, row_in, signal_row_or, taken_or}
+use Rattle.pr_model.specs.Signals.{action_for, own_takeable, shared_takeable}
+use Rattle.pr_model.specs.State.{TracedLwp, TracedProcess, TracedSystem}
+use Rattle.pr_model.specs.Transitions.{died}
+use Rattle.pr_model.specs.declared.events.Did.TheVariants.{Acted}
+use Rattle.pr_model.specs.declared.events.How.TheVariants as how
+use Rattle.pr_model.specs.declared.events.Res.{Res}
+use Rattle.pr_model.specs.declared.lwps.Current.{Current}
+use Rattle.pr_model.specs.declared.lwps.Phase.{Phase}
+use Rattle.pr_model.specs.declared.lwps.Phase.TheVariants as phase
+use Rattle.pr_turn.specs.NextRows.{fault_in, row_of}
+use Rattle.pr_turn.specs.declared.next.Next.TheVariants.{Requested, Posted, Ends, Returned, Executed, Dropped, JobStopped}
+
+-- Which row is next.
+
+module _ (s : TracedSystem) (pid : ℕ) (p : TracedProcess) (id : ℕ) (l : TracedLwp) where
+  -- ---- calls
+
+  pub row-aborted : (r : Row) (woken : Bool) (call : Sysno) (args : List ℕ) (since : ℕ) → l.control.abort ≡ true → r ≡ interrupted_row woken call args → r ≡ call_row s pid p id l woken call args since
+  unfolding call_row
+  row-aborted r woken call args since aborted e = e ∙ rw aborted refl
+
+  pub row-performed : (r : Row) (woken : Bool) (call : Sysno) (args : List ℕ) (since : ℕ) → l.control.abort ≡ false → r ≡ performed_row woken call args since (call_effect s pid p id l since call args) → r ≡ call_row s pid p id l woken call args since
+  unfolding call_row
+  row-performed r woken call args since on e = e ∙ rw on refl
+
+  -- ---- the table
+
+  pub row-directed : l.control.directed ≡ true → row_of p l Requested ≡ row_for s pid p id l
+  unfolding row_of row_for
+  row-directed directed = rw directed refl
+
+  posted : (ph : Phase) (x : Flt × ℕ) (otherwise : Row) → fault_in ph ≡ Some x → posted_row x.0 x.1 ≡ posted_row_or s pid p id l ph otherwise
+  posted (phase.Faulted f address) x otherwise e = ap (λ (y : Flt × ℕ). posted_row y.0 y.1) (sym (same_Some (f, address) x e))
+  posted _ x otherwise e = absurd (cc)
+
+  unposted : (ph : Phase) (otherwise : Row) → fault_in ph ≡ None → otherwise ≡ posted_row_or s pid p id l ph otherwise
+  unposted (phase.Faulted f address) otherwise e = absurd (cc)
+  unposted _ otherwise e = refl
+
+  pub row-posted : (f : Flt) (address : ℕ) → l.control.directed ≡ false → fault_in l.phase ≡ Some (f, address) → row_of p l (Posted f address) ≡ row_for s pid p id l
+  unfolding row_of row_for
+  row-posted f address off faulted = rw off (posted l.phase (f, address) _ faulted)
+
+  pub row-current : (c : Current) → l.control.directed ≡ false → fault_in l.phase ≡ None → l.current ≡ Some c → acted_row p l c ≡ row_for s pid p id l
+  unfolding row_for
+  row-current c off none current = rw (off, current) (unposted l.phase _ none)
+
+  pub row-phase : (r : Row) → l.control.directed ≡ false → fault_in l.phase ≡ None → l.current ≡ None → r ≡ signal_row_or s pid p id l l.phase (row_in s pid p id l l.phase) → r ≡ row_for s pid p id l
+  unfolding row_for
+  row-phase r off none current e = e ∙ rw (off, current) (unposted l.phase _ none)
+
+  -- ---- what each phase decides, where no signal is taken
+
+  pub in-user : (r : Row) → l.phase ≡ phase.User → r ≡ taken_or s pid p id l (own_takeable l) (shared_takeable p l) (row_of p l Executed) → r ≡ signal_row_or s pid p id l l.phase (row_in s pid p id l l.phase)
+  unfolding row_of signal_row_or row_in
+  in-user r at e = subst (λ ph. r ≡ signal_row_or s pid p id l ph (row_in s pid p id l ph)) (sym at) e
+
+  pub in-entered : (r : Row) (call : Sysno) → l.phase ≡ phase.Entered call → r ≡ call_row s pid p id l false call (arguments l.regs) s.clock → r ≡ signal_row_or s pid p id l l.phase (row_in s pid p id l l.phase)
+  unfolding row_of signal_row_or row_in
+  in-entered r call at e = subst (λ ph. r ≡ signal_row_or s pid p id l ph (row_in s pid p id l ph)) (sym at) e
+
+  pub in-asleep : (r : Row) (call : Sysno) (args : List ℕ) (since : ℕ) → l.phase ≡ phase.Asleep call args since → r ≡ taken_or s pid p id l (own_takeable l) (shared_takeable p l) (call_row s pid p id l true call args since) → r ≡ signal_row_or s pid p id l l.phase (row_in s pid p id l l.phase)
+  unfolding row_of signal_row_or row_in
+  in-asleep r call args since at e = subst (λ ph. r ≡ signal_row_or s pid p id l ph (row_in s pid p id l ph)) (sym at) e
+
+  pub in-exiting : (r : Row) (call : Sysno) (args : List ℕ) (result : Res) → l.phase ≡ phase.Exiting call args result → r ≡ taken_or s pid p id l (own_takeable l) (shared_takeable p l) (row_of p l (Returned call)) → r ≡ signal_row_or s pid p id l l.phase (row_in s pid p id l l.phase)
+  unfolding row_of signal_row_or row_in
+  in-exiting r call args result at e = subst (λ ph. r ≡ signal_row_or s pid p id l ph (row_in s pid p id l ph)) (sym at) e
+
+  pub in-faulted : (r : Row) (f : Flt) (address : ℕ) → l.phase ≡ phase.Faulted f address → r ≡ row_of p l (Posted f address) → r ≡ signal_row_or s pid p id l l.phase (row_in s pid p id l l.phase)
+  unfolding row_of signal_row_or row_in
+  in-faulted r f address at e = subst (λ ph. r ≡ signal_row_or s pid p id l ph (row_in s pid p id l ph)) (sym at) e
+
+-- ---- what is built
+
+third : (d c x : Bool) → d ≡ false → c ≡ false → (d || (c || x)) ≡ true → x ≡ true
+third false false x off none e = e
+third true c x off none e = absurd (cc)
+third false true x off none e = absurd (cc)
+
+pub second : (t x : Bool) → t ≡ false → (t || x) ≡ true → x ≡ true
+second false x off e = e
+second true x off e = absurd (cc)
+
+-- what is built of an lwp that is not directed and has no current signal
+pub built-in : (p : TracedProcess) (l : TracedLwp) → l.control.directed ≡ false → l.current ≡ None → is_built_turn p l ≡ true → is_built_in p l l.phase ≡ true
+unfolding is_built_turn
+built-in p l off current built = third l.control.directed (is_some l.current) (is_built_in p l l.phase) off (ap is_some current) built
+
+-- ---- the current signal
+
+module _ (p : TracedProcess) (l : TracedLwp) (c : Current) where
+  pub acted-ignored : action_for p.dispositions c.signal ≡ act.Ignore → row_of p l (Dropped c.signal) ≡ acted_row p l c
+  unfolding row_of acted_row
+  acted-ignored e = rw e refl
+
+  pub acted-stopped : action_for p.dispositions c.signal ≡ act.Stop → row_of p l (JobStopped c.signal) ≡ acted_row p l c
+  unfolding row_of acted_row
+  acted-stopped e = rw e refl
+
+  pub acted-died : action_for p.dispositions c.signal ≡ act.Die → row_of p l (Ends (Acted c.signal how.Died) (signal_number c.signal)) ≡ acted_row p l c
+  unfolding row_of acted_row died
+  acted-died e = rw e refl
+
+  pub acted-caught : (handler : ℕ) → action_for p.dispositions c.signal ≡ act.Catch handler → caught_row l c handler l.phase ≡ acted_row p l c
+  unfolding acted_row
+  acted-caught handler e = rw e refl
+
+pub ruleset performing = (second, row-aborted, row-performed)
+
+pub ruleset rows = (row-directed, row-posted, row-current, row-phase, built-in)
+
+pub ruleset acting = (acted-ignored, acted-stopped, acted-died, acted-caught)
+
+pub ruleset phases = (in-user, in-entered, in-asleep, in-exiting, in-faulted)
+
+pub ruleset tests = (second)

@@ -1,0 +1,7 @@
+use Rattle.pr_turn.proofs.next.taken_or.Goals as goal
+
+pub returns-in-Some-clause-row : goal.returns-in-Some-clause-row
+returns-in-Some-clause-row c s pid id = c.in-Some.ensures.row s pid id _
+
+pub returns-in-None-clause-row : goal.returns-in-None-clause-row
+returns-in-None-clause-row c s pid id = c.in-None.ensures.row s pid id _

@@ -1,0 +1,5 @@
+use Rattle.pr_turn.proofs.UsageLemmas.{AllUsedAtMost-under}
+use Rattle.pr_turn.proofs.turns.count_under.Goals as goal
+
+pub count_in-requires : goal.count_in-requires
+count_in-requires c = AllUsedAtMost-under _ _ _ _ c.get_mut.ensures.value c.requires

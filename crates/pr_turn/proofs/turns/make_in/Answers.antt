@@ -1,0 +1,16 @@
+use Rattle.std.proofs.Common.{refl}
+use Rattle.pr_turn.proofs.TurnLemmas.{makes-row, next-fits, next-found, next-stands}
+use Rattle.pr_turn.proofs.turns.make_in.Goals as goal
+
+pub get_mut-requires : goal.get_mut-requires
+get_mut-requires c = next-found _ _ _ _ c.requires.next
+
+pub make_and_ask-requires-clause-found : goal.make_and_ask-requires-clause-found
+make_and_ask-requires-clause-found c = next-stands _ _ _ _ _ c.requires.next c.get_mut.ensures.value
+
+pub make_and_ask-requires-clause-fits : goal.make_and_ask-requires-clause-fits
+make_and_ask-requires-clause-fits c l stands = next-fits _ _ _ _ _ l c.requires.next c.get_mut.ensures.value stands
+
+pub returns : goal.returns
+returns c =
+    makes-row c.args.sys.now _ c.args.pid c.args.id c.args.next c.get_mut.result.now c.make_and_ask.new.process c.make_and_ask.result.0 c.make_and_ask.result.1 c.requires.next c.requires.lives c.get_mut.ensures.value c.make_and_ask.ensures.process c.make_and_ask.ensures.made c.make_and_ask.ensures.stop refl

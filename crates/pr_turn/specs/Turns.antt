@@ -1,0 +1,37 @@
+use Rattle.std.specs.Prelude.{◌≡◌, ℕ, Bool, true, Some}
+use Rattle.pr_model.specs.LwpTurns.{may_turn}
+use Rattle.pr_model.specs.Machines.{traced}
+use Rattle.pr_model.specs.Points.{meets}
+use Rattle.pr_model.specs.Rows.{row_for}
+use Rattle.pr_model.specs.State.{TracedSystem, TracedProcess, TracedLwp, live_process, lwp_of}
+use Rattle.pr_model.specs.Transitions.{after_transition}
+use Rattle.pr_proc.specs.Counts.{AllUsedAtMost}
+use Rattle.pr_turn.specs.Making.{of_row}
+use Rattle.pr_turn.specs.NextRows.{row_of_turn, turn_fits}
+use Rattle.pr_turn.specs.declared.making.Made.{Made}
+use Rattle.pr_turn.specs.declared.next.NextTurn.{NextTurn}
+
+-- What the parts of a turn know of each other.
+
+-- this is the next turn of an lwp, which may have one
+pub record IsNext (s : TracedSystem) (pid id : ℕ) (next : NextTurn) : Type 0 where
+  pub process : TracedProcess
+  pub lwp : TracedLwp
+  pub found : live_process s pid ≡ Some process
+  pub stands : lwp_of process id ≡ Some lwp
+  pub may : may_turn s pid process id lwp ≡ true
+  pub fits : turn_fits lwp next ≡ true
+  pub row : row_of_turn s pid process id lwp next ≡ row_for s pid process id lwp
+
+-- A system is as the transition of the next turn of an lwp leaves another one; this is what the turn did, and whether
+-- the process traces what it met. What bounds all counts of use goes on to bound them.
+pub record Makes (s new : TracedSystem) (pid id : ℕ) (did : Made) (stop : Bool) : Type 0 where
+  pub process : TracedProcess
+  pub lwp : TracedLwp
+  pub found : live_process s pid ≡ Some process
+  pub stands : lwp_of process id ≡ Some lwp
+  pub may : may_turn s pid process id lwp ≡ true
+  pub system : new ≡ after_transition traced pid process id lwp (row_for s pid process id lwp).transition s
+  pub what : did ≡ of_row (row_for s pid process id lwp)
+  pub traces : stop ≡ meets process.control (row_for s pid process id lwp).point
+  pub used : (n : ℕ) → AllUsedAtMost n s → AllUsedAtMost n new
