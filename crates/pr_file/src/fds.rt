@@ -30,6 +30,13 @@ impl Fds {
         Fds { places: [None; 64] }
     }
 
+    /// Every process has 64 descriptors, open or free.
+    pub fn are_all(&self)
+        ensures { length self.now ≡ 64 }
+    {
+        let _ = &self.places;
+    }
+
     /// The place of the open file that a descriptor stands for.
     pub(crate) fn place(&self, fd: u64) -> Option<usize>
         ensures place { result ≡ at_place self.now fd }

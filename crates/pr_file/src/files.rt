@@ -1,14 +1,14 @@
-ghost use Rattle.std.specs.Prelude.{◌≡◌, ◌<◌, ◌≤◌, ◌+◌, ◌^◌, ◌≢◌, ◌↔◌, IsTrue, true, None, Some, is_some, IfSome, OnOk, OnErr, length};
+ghost use Rattle.std.specs.Prelude.{◌≡◌, ◌<◌, ◌≤◌, ◌+◌, ◌^◌, ◌≢◌, ◌↔◌, IsTrue, true, None, Some, is_some, IfSome, OnOk, OnErr, length, option_map};
 ghost use Rattle.pr_num.specs.Files.{with_all_closed, no_descriptors};
 ghost use Rattle.pr_parts.specs.FileTables.{open_of, at_place, file_named, HasRoom, IsOpenFile};
-ghost use Rattle.pr_parts.specs.FileCalls.{unless_no_memory, no_files, with_file, closed, duplicated, with_all_shared, are_open_flags, access_of, opened_file, created_file, opened, piped, sought, described, reads, writes, open_for_reading, open_for_writing};
+ghost use Rattle.pr_parts.specs.FileCalls.{name_of, unless_no_memory, no_files, with_file, closed, duplicated, with_all_shared, are_open_flags, access_of, opened_file, created_file, opened, piped, sought, described, reads, writes, open_for_reading, open_for_writing};
 
 mod transfers;
 
 use crate::fds::Fds;
 use crate::tables::{Tables, pipe_of};
 use pr_num::limits::{FILE_LIMIT, FILE_SIZE_LIMIT, PIPE_LIMIT};
-use pr_num::{Access, Bytes, Name, NoMemory, OpenFile};
+use pr_num::{Access, Bytes, Name, NoMemory, OpenFile, Target};
 use pr_parts::{FileNo, Stat};
 use std::alloc::Global;
 use std::marker::Model;
@@ -56,6 +56,21 @@ impl Files {
         let place = fds.place(fd)?;
         let open = self.tables.open_at(place)?;
         Some((place, open))
+    }
+
+    /// The open file that a descriptor stands for, if it is open.
+    pub fn opened(&self, fds: &Fds, fd: u64) -> Option<OpenFile>
+        ensures { result ≡ option_map (λ found. found.1) (open_of self.now fds.now fd) }
+    {
+        let (_, open) = self.open_of(fds, fd)?;
+        Some(open)
+    }
+
+    /// The name of what an open file reads and writes; a pipe has none.
+    pub fn name(&self, target: Target) -> Option<Name>
+        ensures { result ≡ name_of self.now target }
+    {
+        self.tables.name(target)
     }
 
     /// How many files there are, at most 256.

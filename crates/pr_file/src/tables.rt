@@ -269,7 +269,8 @@ impl Tables {
         }
     }
 
-    fn name(&self, target: Target) -> Option<Name>
+    /// The name of what an open file reads and writes; a pipe has none.
+    pub(crate) fn name(&self, target: Target) -> Option<Name>
         ensures { result ≡ name_of self.now target }
     {
         match target {

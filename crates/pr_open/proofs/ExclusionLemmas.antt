@@ -5,7 +5,8 @@ use Rattle.std.proofs.lemmas.Bool.{and_parts, eqb-true, cases_eq, cases_lt, fals
 use Rattle.std.proofs.lemmas.List.{get_or-set_same, get_or-set_other, get_or_past, length-set}
 use Rattle.std.proofs.lemmas.List.Folds.{list_any_at}
 use Rattle.pr_model.specs.Handles.{is_writable, is_exclusive, is_writer, is_exclusive_writer, has_writer, has_exclusive_writer, conflicts}
-use Rattle.pr_model.specs.State.{handle_places, nothing_open}
+use Rattle.pr_num.specs.Limits.{handle_limit}
+use Rattle.pr_model.specs.State.{nothing_open}
 use Rattle.pr_model.specs.declared.handles.Held.{Held}
 use Rattle.pr_open.specs.Exclusion.{AreExclusive}
 use Rattle.pr_open.specs.Opening.{open_answer, or_full}
@@ -27,7 +28,7 @@ none-replicate (suc n) (suc m) = none-replicate n m
 
 pub nothing_exclusive : AreExclusive nothing_open
 unfolding nothing_open
-nothing_exclusive = record { alone = λ pid m n one other. absurd (no_writer pid _ (none-replicate handle_places n) other) }
+nothing_exclusive = record { alone = λ pid m n one other. absurd (no_writer pid _ (none-replicate handle_limit n) other) }
 
 -- a place in a list that was changed at one number
 place_after : (places : List (Option Held)) (number m : ℕ) (p : Option Held) → ((m ≡ number) × (number < length places)) ⊎ (get_or (set places number p) m None ≡ get_or places m None)

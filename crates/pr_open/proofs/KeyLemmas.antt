@@ -8,7 +8,8 @@ use Rattle.std.proofs.lemmas.Iterator.Adapters.{position_from-zero}
 use Rattle.std.proofs.lemmas.Option.{same_Some, none-some}
 use Rattle.slab.specs.Slab.{Slab, get, slab_len, Updates}
 use Rattle.pr_model.specs.Handles.{own, conflicts, handle_of}
-use Rattle.pr_model.specs.State.{handle_places, nothing_open}
+use Rattle.pr_num.specs.Limits.{handle_limit}
+use Rattle.pr_model.specs.State.{nothing_open}
 use Rattle.pr_model.specs.declared.handles.Held.{Held}
 use Rattle.pr_open.specs.Keys.{held_at, places_of, IsKeyed}
 use Rattle.pr_open.specs.Opening.{open_answer, or_full}
@@ -227,18 +228,18 @@ no_key-none zero m = get_or_past [] m None (omega arith)
 no_key-none (suc n) zero = refl
 no_key-none (suc n) (suc m) = no_key-none n m
 
-module _ (slab : Slab Held) (keys : List (Option ℕ)) (none : keys ≡ replicate handle_places None) where
+module _ (slab : Slab Held) (keys : List (Option ℕ)) (none : keys ≡ replicate handle_limit None) where
   pub new_places : places_of slab keys ≡ nothing_open
   unfolding nothing_open
-  new_places = ap (places_of slab) none ∙ places_of-none slab handle_places
+  new_places = ap (places_of slab) none ∙ places_of-none slab handle_limit
 
-  pub new_keyed : slab.slots ≡ [] → handle_places ≤ slab.capacity → IsKeyed slab keys
+  pub new_keyed : slab.slots ≡ [] → handle_limit ≤ slab.capacity → IsKeyed slab keys
   new_keyed empty room = record {
-    places = ap length none ∙ length-replicate {A = Option ℕ} handle_places None;
+    places = ap length none ∙ length-replicate {A = Option ℕ} handle_limit None;
     room = room;
-    counted = ap (count_by is_some) empty ∙ sym (ap (count_by is_some) none ∙ count-none handle_places);
-    there = λ m k is. absurd (none-some k (sym (ap (λ ks. get_or ks m None) none ∙ no_key-none handle_places m) ∙ is));
-    apart = λ m n k here there. absurd (none-some k (sym (ap (λ ks. get_or ks m None) none ∙ no_key-none handle_places m) ∙ here));
+    counted = ap (count_by is_some) empty ∙ sym (ap (count_by is_some) none ∙ count-none handle_limit);
+    there = λ m k is. absurd (none-some k (sym (ap (λ ks. get_or ks m None) none ∙ no_key-none handle_limit m) ∙ is));
+    apart = λ m n k here there. absurd (none-some k (sym (ap (λ ks. get_or ks m None) none ∙ no_key-none handle_limit m) ∙ here));
   }
 
 -- one more number without a key

@@ -2,7 +2,8 @@ ghost use Rattle.std.specs.Prelude.{◌≡◌, ◌==◌, ◌<◌, length, replic
 ghost use Rattle.std.specs.List.{list_any};
 ghost use Rattle.slab.specs.Slab.{get};
 ghost use Rattle.pr_model.specs.Handles.{is_writable, is_exclusive, is_writer, is_exclusive_writer, has_writer, has_exclusive_writer, conflicts, handle_of};
-ghost use Rattle.pr_model.specs.State.{nothing_open, handle_places};
+ghost use Rattle.pr_model.specs.State.{nothing_open};
+ghost use Rattle.pr_num.specs.Limits.{handle_limit};
 ghost use Rattle.pr_open.specs.Keys.{held_at};
 
 use crate::OpenNo;
@@ -135,7 +136,7 @@ impl Opens {
 /// Keys of no numbers.
 #[tactic(auto, using(crate::proofs::KeyLemmas::more_none))]
 fn no_keys(alloc: Global) -> Result<Vec<Option<usize>>, NoMemory>
-    ensures { IfOk result (λ keys. keys.items ≡ replicate handle_places None) }
+    ensures { IfOk result (λ keys. keys.items ≡ replicate handle_limit None) }
 {
     let mut keys = Vec::with_capacity(alloc, Opens::PLACES)?;
     for _ in 0..Opens::PLACES {

@@ -1,0 +1,10 @@
+pub mod AgentLemmas
+pub mod AimLemmas
+pub mod CloseLemmas
+pub mod MemoryLemmas
+pub mod MessageLemmas
+pub mod ProcessLemmas
+pub mod RunLemmas
+pub mod SignalLemmas
+pub mod TargetLemmas
+pub mod WatchLemmas

@@ -1,0 +1,68 @@
+//! Messages that read and write memory, whatever its protection (proc(4), "PCREAD", "PCWRITE").
+ghost use Rattle.std.specs.Prelude.{◌≡◌, ◌≤◌, ℕ, List, Option, None, IsSome, IfOk, is_ok, length};
+ghost use Rattle.std.specs.Bool.{OnFalse, OnTrue};
+ghost use Rattle.std.specs.Option.{ForSome};
+ghost use Rattle.pr_num.specs.Messages.{bad_operand};
+ghost use Rattle.pr_num.specs.Spaces.{bytes_for};
+ghost use Rattle.pr_num.specs.declared.messages.Message.TheVariants as message;
+ghost use Rattle.pr_parts.specs.AddressSpaces.{with_bytes};
+ghost use Rattle.pr_model.specs.Changes.{with_space};
+ghost use Rattle.pr_model.specs.State.{live_process, with_process};
+ghost use Rattle.pr_ctl.specs.Answers.{Answers};
+ghost use Rattle.pr_ctl.specs.Memory.{memory_reply};
+
+use pr_mem::Space;
+use pr_model::Reply;
+use pr_num::{Bytes, Errno, NoMemory};
+use pr_proc::{Proc, Sys, live};
+use std::alloc::Global;
+
+/// The bytes from an address on, whatever their protection (EIO where not all of them are mapped).
+fn read_space(alloc: Global, space: &Space, at: u64, size: u64) -> Result<Reply, NoMemory>
+    requires { size ≤ 4096 }
+    ensures { IfOk result (λ reply. reply ≡ memory_reply (bytes_for 0 space.now at size)) }
+{
+    let mut bytes = vec![in alloc; 0; size as usize]?;
+    match space.read(at, &mut bytes, 0) {
+        Ok(()) => Ok(Reply::Bytes(Bytes::from_vec(bytes))),
+        Err(_) => Ok(Reply::Fail(Errno::Io)),
+    }
+}
+
+/// PCREAD: the bytes from an address on, whatever their protection (EIO where not all of them are mapped).
+#[tactic(auto, using(crate::proofs::MemoryLemmas::memory_laws), unfolding(pr_model::specs::Messages::message_answer, pr_model::specs::Messages::read_answer, pr_num::specs::Messages::bad_operand))]
+pub fn read(alloc: Global, sys: &Sys, pid: u32, at: u64, size: u64) -> Result<Reply, NoMemory>
+    requires live { IsSome (live_process sys.now pid) }
+    requires columns { bad_operand (message.Read at size) ≡ None }
+    ensures { (lwp : Option ℕ) (tail : List ℕ) (used : ℕ) → IfOk result (λ reply. Answers sys.now pid lwp (message.Read at size) tail used sys.now reply) }
+{
+    let process = live(sys, pid).unwrap();
+    read_space(alloc, &process.space, at, size)
+}
+
+/// Writes bytes to a process's memory from an address on, whatever its protection; false: not all of it is mapped, and
+/// nothing is written.
+#[tactic(auto, unfolding(pr_model::specs::Changes::with_space))]
+fn write_in(process: &mut Proc, at: u64, bytes: &[u8]) -> bool
+    ensures value { result ≡ is_ok (bytes_for 0 process.old.space at (length bytes.now)) }
+    ensures written { OnTrue result (process.new ≡ with_space (with_bytes at bytes.now process.old.space) process.old) }
+    ensures refused { OnFalse result (process.new ≡ process.old) }
+{
+    match process.space.write(at, bytes, 0) {
+        Ok(()) => true,
+        Err(_) => false,
+    }
+}
+
+/// PCWRITE: writes bytes from an address on, whatever the protection (EIO where not all of the range is mapped).
+#[tactic(auto, using(pr_num::proofs::ByIdLaws::by_id_laws, pr_proc::proofs::LifeLemmas::life_laws), unfolding(pr_model::specs::Messages::message_answer, pr_model::specs::Messages::write_answer, pr_model::specs::State::with_process))]
+pub fn write(sys: &mut Sys, pid: u32, at: u64, bytes: &[u8], used: u64) -> Reply
+    requires { IsSome (live_process sys.old pid) }
+    ensures { (lwp : Option ℕ) (size : ℕ) → Answers sys.old pid lwp (message.Write at size) bytes.now used sys.new result }
+{
+    if write_in(sys.processes.get_mut(pid), at, bytes) {
+        Reply::Used(used)
+    } else {
+        Reply::Fail(Errno::Io)
+    }
+}

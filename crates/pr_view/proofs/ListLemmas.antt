@@ -1,0 +1,56 @@
+use Rattle.std.proofs.Common.{◌≡◌, ℕ, zero, suc, ◌+◌, ◌≤◌, eqb, Some, List, [], ◌∷◌, ◌++◌, length, drop, refl, sym, ap, ◌∙◌, append_assoc, inl, inr, arith}
+use Rattle.std.proofs.lemmas.Bool.{cases_Bool}
+use Rattle.std.specs.List.{slice_get}
+use Rattle.std.proofs.lemmas.List.{append-nil, drop_all}
+use Rattle.std.proofs.lemmas.Option.{none-some, same_Some}
+use Rattle.pr_model.specs.Records.{list_entries, statuses_of_lwps}
+use Rattle.pr_model.specs.State.{TracedLwp, TracedProcess}
+use Rattle.pr_model.specs.Statuses.{lwpstatus_of}
+use Rattle.pr_rec.specs.declared.entries.ListEntry.{ListEntry}
+use Rattle.pr_rec.specs.declared.lwps.LwpStatus.{LwpStatus}
+use Rattle.pr_view.specs.Lists.{listed}
+
+-- Walks over what stands by id.
+
+-- what stands at a place, and what stands behind it
+drop-at : {X : Type 0} (xs : List X) (i : ℕ) (x : X) → slice_get xs i ≡ Some x → drop i xs ≡ x ∷ drop (i + 1) xs
+drop-at [] i x e = absurd (none-some x e)
+drop-at (y ∷ xs) zero x e = ap (λ z. z ∷ xs) (same_Some y x e)
+drop-at (y ∷ xs) (suc i) x e =
+    let step : suc (i + 1) ≡ suc i + 1 = omega arith in
+    drop-at xs i x e ∙ ap (λ n. x ∷ drop n (y ∷ xs)) step
+
+-- ---- the status of each lwp
+
+pub statuses-on : (p : TracedProcess) (lwps : List (ℕ × TracedLwp)) (i id : ℕ) (l : TracedLwp) (x : LwpStatus) (out more all : List LwpStatus) → slice_get lwps i ≡ Some (id, l) → x ≡ lwpstatus_of p id l → more ≡ out ++ x ∷ [] → out ++ statuses_of_lwps p (drop i lwps) ≡ all → more ++ statuses_of_lwps p (drop (i + 1) lwps) ≡ all
+statuses-on p lwps i id l x out more all at is added so_far =
+    ap (λ xs. xs ++ statuses_of_lwps p (drop (i + 1) lwps)) (added ∙ ap (λ y. out ++ y ∷ []) is)
+    ∙ append_assoc out (lwpstatus_of p id l ∷ []) (statuses_of_lwps p (drop (i + 1) lwps)) ∙ sym (ap (λ es. out ++ statuses_of_lwps p es) (drop-at lwps i (id, l) at)) ∙ so_far
+
+pub statuses-end : (p : TracedProcess) (lwps : List (ℕ × TracedLwp)) (i : ℕ) (out all : List LwpStatus) → length lwps ≤ i → out ++ statuses_of_lwps p (drop i lwps) ≡ all → out ≡ all
+statuses-end p lwps i out all past so_far =
+    sym (append-nil out) ∙ sym (ap (λ es. out ++ statuses_of_lwps p es) (drop_all i lwps past)) ∙ so_far
+
+-- ---- the list of processes
+
+pub listed-none : (out : List ListEntry) → out ≡ out ++ []
+listed-none out = sym (append-nil out)
+
+pub ruleset adding_laws = (listed-none)
+
+listed-before : (es : List (ℕ × TracedProcess)) (pid : ℕ) (p : TracedProcess) → list_entries ((pid, p) ∷ es) ≡ listed pid p ++ list_entries es
+unfolding listed
+listed-before es pid p = elim (cases_Bool (eqb pid 0)) [ inl zeroth ↦ rw zeroth refl | inr other ↦ rw other refl ]
+
+pub entries-on : (es : List (ℕ × TracedProcess)) (i pid : ℕ) (p : TracedProcess) (out more all : List ListEntry) → slice_get es i ≡ Some (pid, p) → more ≡ out ++ listed pid p → out ++ list_entries (drop i es) ≡ all → more ++ list_entries (drop (i + 1) es) ≡ all
+entries-on es i pid p out more all at added so_far =
+    ap (λ xs. xs ++ list_entries (drop (i + 1) es)) added
+    ∙ append_assoc out (listed pid p) (list_entries (drop (i + 1) es))
+    ∙ sym (ap (λ xs. out ++ xs) (ap list_entries (drop-at es i (pid, p) at) ∙ listed-before (drop (i + 1) es) pid p))
+    ∙ so_far
+
+pub entries-end : (es : List (ℕ × TracedProcess)) (i : ℕ) (out all : List ListEntry) → length es ≤ i → out ++ list_entries (drop i es) ≡ all → out ≡ all
+entries-end es i out all past so_far =
+    sym (append-nil out) ∙ sym (ap (λ ds. out ++ list_entries ds) (drop_all i es past)) ∙ so_far
+
+pub ruleset list_laws = (statuses-end, entries-end)
