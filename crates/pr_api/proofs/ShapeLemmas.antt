@@ -1,28 +1,44 @@
-use Rattle.std.proofs.Common.{◌≡◌, ◌||◌, ℕ, Bool, true, false, Option, Some, None, List, Result, Ok, Err, IfSome, cond, eqb, length, drop, nat_le, refl, ap, subst, arith}
+use Rattle.std.proofs.Common.{◌≡◌, ◌||◌, ◌&&◌, ◌==◌, ◌+◌, ◌-◌, ◌/◌, ◌≤◌, ◌%◌, ◌^◌, ℕ, zero, suc, Bool, true, false, not, Option, Some, None, List, [], ◌∷◌, Result, Ok, Err, IfSome, IfOk, cond, eqb, ltb, length, drop, nat_le, nat_lt, refl, sym, ap, ◌∙◌, subst, arith}
+use Rattle.std.specs.List.{find, list_all, list_any, slice_range}
 use Rattle.std.specs.Option.{option_map}
-use Rattle.std.proofs.lemmas.Bool.{le-leb}
+use Rattle.std.specs.Prelude.{is_ok}
+use Rattle.std.proofs.lemmas.Bool.{eq-eqb, le-leb, leb-true}
 use Rattle.std.proofs.lemmas.List.{length-take}
-use Rattle.pr_num.specs.Messages.{first_message}
+use Rattle.std.proofs.lemmas.Option.{same_Some}
+use Rattle.pr_num.specs.Limits.{area_limit, controller_limit, handle_limit, lwp_limit, message_bytes_limit, read_limit}
+use Rattle.pr_num.specs.Messages.{bad_operand, encoded_length, first_message, in_columns, message_read, nth_word, unless_bad, unpadded_length, with_tail, ◌>>=◌}
+use Rattle.pr_num.specs.Sets.{with_number}
+use Rattle.pr_num.specs.Signals.{signal_of_number}
+use Rattle.pr_num.specs.Spaces.{Space, byte_for, bytes_for, one_more}
 use Rattle.pr_num.specs.declared.errnos.Errno.{Errno}
-use Rattle.pr_num.specs.declared.errnos.Errno.TheVariants.{Intr}
-use Rattle.pr_num.specs.declared.messages.MsgFault.{MsgFault}
+use Rattle.pr_num.specs.declared.errnos.Errno.TheVariants.{Busy, Inval, Intr}
+use Rattle.pr_num.specs.declared.mappings.BadByte.{BadByte}
 use Rattle.pr_num.specs.declared.messages.Message.{Message}
-use Rattle.pr_num.specs.declared.messages.Message.TheVariants.{Stop, Dstop, Wstop, Twstop, Run}
-use Rattle.pr_model.specs.Calls.{Answer, answer_to, close_answer, close_held, controlled, is_interrupted, open_answer, open_unless, opened, read_answer, read_file, read_held, read_status, readable, waited}
-use Rattle.pr_model.specs.ControlMessages.{Controlled, control_answer, control_handle, decoded_answer, decoded_wait, held_answer, held_wait, message_answer, refused, target_of, targeted_answer, targeted_wait, wait_over, wait_reply, waiting_reply, waits}
+use Rattle.pr_num.specs.declared.messages.Message.TheVariants as message
+use Rattle.pr_num.specs.declared.messages.MsgFault.{MsgFault}
+use Rattle.pr_num.specs.declared.messages.MsgFault.TheVariants.{Short, BadOperand}
+use Rattle.pr_num.specs.declared.signals.Sig.{Sig}
+use Rattle.pr_parts.specs.PendingSignals.{has_room}
+use Rattle.pr_parts.specs.WatchedAreas.{is_taken}
+use Rattle.pr_model.specs.Built.{is_built_call}
+use Rattle.pr_model.specs.Calls.{Answer, answer_to, whole_answer, answered, close_answer, close_held, controlled, interrupt_answer, is_interrupted, is_open_by, is_polled_ready, kill_answer as call_kill_answer, open_answer, open_unless, opened, poll_answer, ready_answer, refused as call_refused, sent_reply, until_answer, waited}
+use Rattle.pr_model.specs.ControlMessages.{aim_of, control_answer, control_handle, decoded_answer, decoded_wait, held_answer, held_wait, system_refusal, tail_of, target_of, targeted_answer, targeted_wait, wait_over, wait_reply, waiting_reply, waits}
 use Rattle.pr_model.specs.Handles.{handle_of}
-use Rattle.pr_model.specs.State.{TracedProcess, TracedState, TracedSystem, live_process}
-use Rattle.pr_model.specs.StatusRecords.{part_read, status_words}
-use Rattle.pr_num.specs.Words.{words_bytes}
+use Rattle.pr_model.specs.Messages.{Controlled, refused, Aim, at_lwp, at_process, agent_answer, aimed_lwp, is_kill_of, kill_answer, kill_by, killed, lets_agent, mapped_bytes, message_answer, on_found, on_stopped_found, pending_at, read_answer, read_of, run_found, run_answer, ssig_answer, unkill_answer, unkill_by, watch_answer, with_address, with_held_set, with_process_changed, with_registers, with_signal_set, write_answer}
+use Rattle.pr_model.specs.Running.{lwp_run_refused, run_lwp, run_refused, with_run, without_current, without_fault}
+use Rattle.pr_model.specs.SignalCalls.{Sending, refuses as refuses_signal, sends_nothing, sends}
+use Rattle.pr_model.specs.Stops.{has_event_stop}
+use Rattle.pr_model.specs.Reads.{file_read, file_reply, held_read, mapped_from, of_lwp, of_process, part, part_read, read_process, read_reply, readable, unless_none}
+use Rattle.pr_model.specs.State.{TracedLwp, TracedProcess, TracedState, TracedSystem, has_agent, lwp_of, with_lwp}
 use Rattle.pr_model.specs.declared.calls.Call as calls
 use Rattle.pr_model.specs.declared.calls.Call.TheVariants as call
 use Rattle.pr_model.specs.declared.calls.File.{File}
-use Rattle.pr_model.specs.declared.calls.File.TheVariants.{Status}
+use Rattle.pr_model.specs.declared.calls.File.TheVariants as file
 use Rattle.pr_model.specs.declared.calls.Mode.{Mode}
 use Rattle.pr_model.specs.declared.calls.Reply.{Reply}
-use Rattle.pr_model.specs.declared.calls.Reply.TheVariants.{Fail, Used}
+use Rattle.pr_model.specs.declared.calls.Reply.TheVariants.{Bytes, Done, Fail, Used}
 use Rattle.pr_model.specs.declared.handles.Held.{Held}
-use Rattle.pr_api.specs.Shapes.{answers_message, has_shape, is_failure, is_used}
+use Rattle.pr_api.specs.Shapes.{answers_message, has_shape, is_at_most, is_done, is_failure, is_used}
 
 -- What the machine answers to a call has the shape of a reply to it.
 
@@ -31,41 +47,187 @@ either : {X : Type 0} (P : X → Type 0) (b : Bool) (x y : X) → P x → P y �
 either P true x y h k = h
 either P false x y h k = k
 
+-- ---- what is read of memory and of messages
+
+length-bytes_for : (need : ℕ) (space : Space) (at size : ℕ) (bytes : List ℕ) → bytes_for need space at size ≡ Ok bytes → length bytes ≡ size
+unfolding bytes_for
+length-bytes_for need space at zero bytes is = let none : [] ≡ bytes = cc in ap length (sym none)
+length-bytes_for need space at (suc n) bytes is =
+    of (byte_for need space at) (bytes_for need space ((at + 1) % 2 ^ 64) n) (λ others rest. length-bytes_for need space ((at + 1) % 2 ^ 64) n others rest) is
+  where
+    of : (b : Result ℕ BadByte) (r : Result (List ℕ) BadByte) → ((others : List ℕ) → r ≡ Ok others → length others ≡ n) → one_more b r ≡ Ok bytes → length bytes ≡ suc n
+    of (Err bad) r rest e = absurd (cc)
+    of (Ok byte) (Err bad) rest e = absurd (cc)
+    of (Ok byte) (Ok others) rest e = let whole : byte ∷ others ≡ bytes = cc in ap length (sym whole) ∙ ap suc (rest others refl)
+
+read-within : (at size : ℕ) → bad_operand (message.Read at size) ≡ None → size ≤ message_bytes_limit
+unfolding bad_operand
+read-within at size columns = of (nat_le 1 size) (nat_le size message_bytes_limit) refl columns
+  where
+    of : (least most : Bool) → nat_le size message_bytes_limit ≡ most → (let o : Option ℕ = cond (least && most) None (Some 2) in o) ≡ None → size ≤ message_bytes_limit
+    of true true is e = leb-true size message_bytes_limit is
+    of true false is e = absurd (cc)
+    of false most is e = absurd (cc)
+
+in_columns-good : (m k : Message) → in_columns m ≡ Ok k → bad_operand k ≡ None
+unfolding in_columns
+in_columns-good m k e = of (bad_operand m) refl e
+  where
+    of : (o : Option ℕ) → bad_operand m ≡ o → unless_bad m o ≡ Ok k → bad_operand k ≡ None
+    of None is e = let same : m ≡ k = cc in ap bad_operand (sym same) ∙ is
+    of (Some word) is e = absurd (cc)
+
+abbrev Read : Type 0
+Read = Result (Message × ℕ) MsgFault
+
+-- the message that stands before its tail is the one that was read
+tail-columns : (bytes : List ℕ) (m : Message) → bad_operand m ≡ None → IfOk (with_tail bytes m) (λ first. bad_operand first.0 ≡ None)
+unfolding with_tail
+tail-columns bytes m columns = of (nat_lt (length bytes) (encoded_length m)) (list_all (λ b. b == 0) (slice_range bytes (unpadded_length m) (encoded_length m))) (encoded_length m / 8 - 1)
+  where
+    of : (short zeros : Bool) (word : ℕ) → IfOk (let r : Read = cond short (Err Short) (cond zeros (let ok : Read = Ok (m, encoded_length m) in ok) (Err (BadOperand word))) in r) (λ first. bad_operand first.0 ≡ None)
+    of true zeros word = tt
+    of false true word = columns
+    of false false word = tt
+
+then-columns : (bytes : List ℕ) (r : Result Message MsgFault) → IfOk ((r >>= in_columns) >>= with_tail bytes) (λ first. bad_operand first.0 ≡ None)
+then-columns bytes (Err fault) = tt
+then-columns bytes (Ok m) = of (in_columns m) refl
+  where
+    of : (r : Result Message MsgFault) → in_columns m ≡ r → IfOk (r >>= with_tail bytes) (λ first. bad_operand first.0 ≡ None)
+    of (Err fault) is = tt
+    of (Ok k) is = tail-columns bytes k (in_columns-good m k is)
+
+-- the operands of the message with which bytes begin lie in their columns
+first-columns : (bytes : List ℕ) → IfOk (first_message bytes) (λ first. bad_operand first.0 ≡ None)
+unfolding first_message
+first-columns bytes = of (nat_lt (length bytes) 8)
+  where
+    of : (short : Bool) → IfOk (let r : Read = cond short (Err Short) ((message_read (nth_word bytes 0) bytes >>= in_columns) >>= with_tail bytes) in r) (λ first. bad_operand first.0 ≡ None)
+    of true = tt
+    of false = then-columns bytes (message_read (nth_word bytes 0) bytes)
+
+or-true : (a b : Bool) → b ≡ true → (a || b) ≡ true
+or-true true b e = refl
+or-true false b e = e
+
+-- what is found in a list stands there
+found-among : (p : ℕ → Bool) (xs : List ℕ) (x : ℕ) → find p xs ≡ Some x → list_any (λ y. y == x) xs ≡ true
+found-among p [] x e = absurd (cc)
+found-among p (y ∷ xs) x e = of (p y) e (found-among p xs x)
+  where
+    of : (b : Bool) → cond b (Some y) (find p xs) ≡ Some x → (find p xs ≡ Some x → list_any (λ y. y == x) xs ≡ true) → list_any (λ y. y == x) (y ∷ xs) ≡ true
+    of true here more = rw (eq-eqb y x (same_Some y x here)) refl
+    of false rest more = or-true (eqb y x) (list_any (λ y. y == x) xs) (more rest)
+
 -- ---- control messages
 
 -- an answer to a message is one that a message may have
-Answers : Option Controlled → Type 0
-Answers o = IfSome o (λ (c : Controlled). (answers_message c.reply || is_failure c.reply) ≡ true)
+record Answers (c : Controlled) : Type 0 where
+  shape : (answers_message c.reply || is_failure c.reply) ≡ true
 
-answers : (c : Controlled) → (answers_message c.reply || is_failure c.reply) ≡ true → Answers (Some c)
-unfolding Answers
-answers c h = h
+refuses : (s : TracedSystem) (e : Errno) → Answers (refused s e)
+refuses s e = record { shape = refl }
 
-not_built : Answers None
-unfolding Answers
-not_built = tt
+module _ (s : TracedSystem) (pid : ℕ) (p : TracedProcess) where
+  found-answers : (len : ℕ) (change : TracedLwp → TracedLwp) (o : Option (ℕ × TracedLwp)) → Answers (on_found s pid p len change o)
+  found-answers len change None = record { shape = refl }
+  found-answers len change (Some e) = record { shape = refl }
 
-refuses : (s : TracedSystem) (e : Errno) → Answers (Some (refused s e))
-refuses s e = answers (refused s e) refl
+  stopped-answers : (len : ℕ) (change : TracedLwp → TracedLwp) (o : Option (ℕ × TracedLwp)) → Answers (on_stopped_found s pid p len change o)
+  stopped-answers len change None = refuses s _
+  stopped-answers len change (Some e) =
+      either Answers (has_event_stop e.1) (with_process_changed s pid p len (with_lwp e.0 change)) (refused s Busy) (record { shape = refl }) (refuses s Busy)
 
-message-answers : (s : TracedSystem) (h : Held) (p : TracedProcess) (m : Message) (n : ℕ) → Answers (message_answer s h p m n)
-unfolding message_answer
-message-answers s h p Stop n = answers _ refl
-message-answers s h p Dstop n = answers _ refl
-message-answers s h p Wstop n = answers _ refl
-message-answers s h p (Twstop ms) n = answers _ refl
-message-answers s h p (Run flags) n = either Answers _ _ _ not_built (either Answers _ _ _ (refuses s _) (answers _ refl))
-message-answers s h p _ n = not_built
+  run-found-answers : (flags len : ℕ) (o : Option (ℕ × TracedLwp)) → Answers (run_found s pid p flags len o)
+  run-found-answers flags len None = refuses s _
+  run-found-answers flags len (Some e) =
+      either Answers (lwp_run_refused p e.0 e.1) (refused s Busy) (with_process_changed s pid p len (with_lwp e.0 (run_lwp flags))) (refuses s Busy) (record { shape = refl })
 
-decoded-answers : (s : TracedSystem) (h : Held) (p : TracedProcess) (read : Result (Message × ℕ) MsgFault) → Answers (decoded_answer s h p read)
-decoded-answers s h p (Err fault) = refuses s _
-decoded-answers s h p (Ok (m, n)) = either Answers _ _ _ (refuses s _) (message-answers s h p m n)
+  run-answers : (aim : Aim) (flags len : ℕ) → Answers (run_answer s pid p aim flags len)
+  unfolding run_answer
+  run-answers (at_lwp id) flags len = run-found-answers flags len _
+  run-answers at_process flags len =
+      either Answers (run_refused p) (refused s Busy) (with_process_changed s pid p len (with_run flags)) (refuses s Busy) (record { shape = refl })
+
+  ssig-answers : (aim : Aim) (number len : ℕ) → Answers (ssig_answer s pid p aim number len)
+  unfolding ssig_answer killed
+  ssig-answers aim number len =
+      either Answers (is_kill_of s pid p (signal_of_number number)) _ _ (record { shape = refl }) (found-answers len (with_signal_set (signal_of_number number)) (aimed_lwp s pid p aim))
+
+  kill-answers : (aim : Aim) (len : ℕ) (o : Option Sig) → Answers (kill_by s pid p aim len o)
+  kill-answers aim len None = record { shape = refl }
+  kill-answers aim len (Some g) = either Answers (has_room g (pending_at s pid p aim)) _ _ (record { shape = refl }) (refuses s _)
+
+  unkill-answers : (aim : Aim) (len : ℕ) (o : Option Sig) → Answers (unkill_by s pid p aim len o)
+  unkill-answers aim len None = record { shape = refl }
+  unkill-answers (at_lwp id) len (Some g) = record { shape = refl }
+  unkill-answers at_process len (Some g) = record { shape = refl }
+
+  watch-answers : (at size flags len : ℕ) → Answers (watch_answer s pid p at size flags len)
+  unfolding watch_answer
+  watch-answers at size flags len =
+      either Answers (eqb flags 0) _ _ (record { shape = refl })
+      (either Answers (is_taken at size p.control.areas) _ _ (refuses s _)
+      (either Answers (nat_le area_limit (length p.control.areas)) _ _ (refuses s _) (record { shape = refl })))
+
+  agent-answers : (regs : List ℕ) (len : ℕ) → Answers (agent_answer s pid p regs len)
+  unfolding agent_answer
+  agent-answers regs len =
+      either Answers (has_agent p || not (list_all (lets_agent p.job_stop) p.lwps)) _ _ (refuses s _)
+      (either Answers (nat_le lwp_limit (length p.lwps)) _ _ (refuses s _) (record { shape = refl }))
+
+  memory-answers : (at size : ℕ) → size ≤ message_bytes_limit → (r : Result (List ℕ) BadByte) → mapped_bytes s pid p at size ≡ r → Answers (read_of s pid p r)
+  memory-answers at size within (Err bad) is = refuses s _
+  memory-answers at size within (Ok bytes) is =
+      let all = length-bytes_for 0 p.space at size bytes is in
+      record { shape = ap (λ b. b || false) (le-leb (length bytes) message_bytes_limit (omega arith)) }
+
+  read-answers : (at size : ℕ) → bad_operand (message.Read at size) ≡ None → Answers (read_answer s pid p at size)
+  unfolding read_answer
+  read-answers at size columns = memory-answers at size (read-within at size columns) (mapped_bytes s pid p at size) refl
+
+  write-answers : (at : ℕ) (bytes : List ℕ) (len : ℕ) → Answers (write_answer s pid p at bytes len)
+  unfolding write_answer
+  write-answers at bytes len = either Answers (is_ok (mapped_bytes s pid p at (length bytes))) _ _ (record { shape = refl }) (refuses s _)
+
+  -- every message
+  message-answers : (aim : Aim) (m : Message) (tail : List ℕ) (len : ℕ) → bad_operand m ≡ None → Answers (message_answer s pid p aim m tail len)
+  unfolding message_answer kill_answer unkill_answer
+  message-answers aim message.Stop tail len columns = record { shape = refl }
+  message-answers aim message.Dstop tail len columns = record { shape = refl }
+  message-answers aim message.Wstop tail len columns = record { shape = refl }
+  message-answers aim (message.Twstop ms) tail len columns = record { shape = refl }
+  message-answers aim (message.Run flags) tail len columns = run-answers aim flags len
+  message-answers aim message.Csig tail len columns = found-answers len without_current (aimed_lwp s pid p aim)
+  message-answers aim message.Cfault tail len columns = found-answers len without_fault (aimed_lwp s pid p aim)
+  message-answers aim (message.Ssig number) tail len columns = ssig-answers aim number len
+  message-answers aim (message.Kill number) tail len columns = kill-answers aim len (signal_of_number number)
+  message-answers aim (message.Unkill number) tail len columns = unkill-answers aim len (signal_of_number number)
+  message-answers aim (message.Shold signals) tail len columns = found-answers len (with_held_set signals) (aimed_lwp s pid p aim)
+  message-answers aim (message.Strace signals) tail len columns = record { shape = refl }
+  message-answers aim (message.Sfault faults) tail len columns = record { shape = refl }
+  message-answers aim (message.Sentry calls) tail len columns = record { shape = refl }
+  message-answers aim (message.Sexit calls) tail len columns = record { shape = refl }
+  message-answers aim (message.Set modes) tail len columns = record { shape = refl }
+  message-answers aim (message.Unset modes) tail len columns = record { shape = refl }
+  message-answers aim (message.Sreg regs) tail len columns = stopped-answers len (with_registers regs) (aimed_lwp s pid p aim)
+  message-answers aim (message.Svaddr pc) tail len columns = stopped-answers len (with_address pc) (aimed_lwp s pid p aim)
+  message-answers aim (message.Watch at size flags) tail len columns = watch-answers at size flags len
+  message-answers aim (message.Agent regs) tail len columns = agent-answers regs len
+  message-answers aim (message.Read at size) tail len columns = read-answers at size columns
+  message-answers aim (message.Write at size) tail len columns = write-answers at tail len
+
+decoded-answers : (s : TracedSystem) (h : Held) (p : TracedProcess) (bytes : List ℕ) (read : Result (Message × ℕ) MsgFault) → IfOk read (λ first. bad_operand first.0 ≡ None) → Answers (decoded_answer s h p bytes read)
+decoded-answers s h p bytes (Err fault) columns = refuses s _
+decoded-answers s h p bytes (Ok (m, n)) columns =
+    either Answers (eqb h.pid 0) (refused s (system_refusal m)) (message_answer s h.pid p (aim_of h) m (tail_of m bytes) n) (refuses s _) (message-answers s h.pid p (aim_of h) m (tail_of m bytes) n columns)
 
 targeted-answers : (s : TracedSystem) (h : Held) (p : Option TracedProcess) (bytes : List ℕ) → Answers (targeted_answer s h p bytes)
 targeted-answers s h None bytes = refuses s _
-targeted-answers s h (Some p) bytes = decoded-answers s h p (first_message bytes)
+targeted-answers s h (Some p) bytes = decoded-answers s h p bytes (first_message bytes) (first-columns bytes)
 
-held-answers : (s : TracedSystem) (h : Option Held) (bytes : List ℕ) → Answers (held_answer s h bytes)
+held-answers : (s : TracedSystem) (o : Option Held) (bytes : List ℕ) → Answers (held_answer s o bytes)
 held-answers s None bytes = refuses s _
 held-answers s (Some h) bytes = targeted-answers s h (target_of s h) bytes
 
@@ -86,7 +248,7 @@ waiting-ends : (s : TracedSystem) (h : Held) (p : TracedProcess) (until : ℕ) (
 waiting-ends s h p until interrupted n =
     let told : Option Reply = cond (wait_over s h p until) (Some (Used n)) None in
     let seen : Option Reply = cond interrupted (Some (Fail Intr)) told in
-    either Ends (eqb p.id 0) _ seen (ends _ refl) (either Ends interrupted _ told (ends _ refl) (either Ends (wait_over s h p until) _ _ (ends _ refl) goes_on))
+    either Ends (eqb h.pid 0) _ seen (ends _ refl) (either Ends interrupted _ told (ends _ refl) (either Ends (wait_over s h p until) _ _ (ends _ refl) goes_on))
 
 decoded-ends : (s : TracedSystem) (h : Held) (p : TracedProcess) (until : ℕ) (interrupted : Bool) (read : Result (Message × ℕ) MsgFault) → Ends (decoded_wait s h p until interrupted read)
 decoded-ends s h p until interrupted (Err fault) = ends _ refl
@@ -102,9 +264,61 @@ held-ends s (Some h) until interrupted bytes = targeted-ends s h (target_of s h)
 
 -- ---- reads
 
-part-within : (words : List ℕ) (from len : ℕ) → nat_le (length (part_read words from len)) len ≡ true
+-- what a read of so many bytes may get
+record Reads (len : ℕ) (r : Reply) : Type 0 where
+  shape : (is_at_most len r || is_failure r) ≡ true
+
+fails-reads : (len : ℕ) (e : Errno) → Reads len (Fail e)
+fails-reads len e = record { shape = refl }
+
+bytes-reads : (len : ℕ) (bytes : List ℕ) → length bytes ≤ len → Reads len (Bytes bytes)
+bytes-reads len bytes within = record { shape = ap (λ b. b || false) (le-leb _ _ within) }
+
+part-reads : (bytes : List ℕ) (from len : ℕ) → Reads len (part from len bytes)
 unfolding part_read
-part-within words from len = le-leb _ _ (omega (arith, length-take len (drop from (words_bytes words))))
+part-reads bytes from len = bytes-reads len _ (omega (arith, length-take len (drop from bytes)))
+
+mapped-within : (space : Space) (at len : ℕ) → length (mapped_from space at len) ≤ len
+unfolding mapped_from
+mapped-within space at zero = omega arith
+mapped-within space at (suc n) = of (byte_for 0 space at) refl (mapped-within space ((at + 1) % 2 ^ 64) n)
+  where
+    of : (r : Result ℕ BadByte) → byte_for 0 space at ≡ r → length (mapped_from space ((at + 1) % 2 ^ 64) n) ≤ n → length (mapped_from space at (suc n)) ≤ suc n
+    of (Err bad) is rest = rw is (omega arith)
+    of (Ok byte) is rest = rw is (omega (arith, rest))
+
+memory-reads : (len : ℕ) (bytes : List ℕ) → length bytes ≤ len → Reads len (unless_none bytes)
+memory-reads len [] within = fails-reads len _
+memory-reads len (b ∷ bytes) within = bytes-reads len (b ∷ bytes) within
+
+lwp-reads : (p : TracedProcess) (id from len : ℕ) (o : Option TracedLwp) → Reads len (of_lwp p id from len o)
+lwp-reads p id from len None = fails-reads len _
+lwp-reads p id from len (Some l) = part-reads _ from len
+
+file-reads : (s : TracedSystem) (pid : ℕ) (p : TracedProcess) (id from len : ℕ) (f : File) → Reads len (file_reply s pid p id from len f)
+unfolding file_reply
+file-reads s pid p id from len file.Ctl = fails-reads len _
+file-reads s pid p id from len file.Lwpctl = fails-reads len _
+file-reads s pid p id from len file.Mem = memory-reads len _ (mapped-within p.space from len)
+file-reads s pid p id from len file.Lwpstatus = lwp-reads p id from len (lwp_of p id)
+file-reads s pid p id from len file.Status = part-reads _ from len
+file-reads s pid p id from len file.Lstatus = part-reads _ from len
+file-reads s pid p id from len file.Psinfo = part-reads _ from len
+file-reads s pid p id from len file.Map = part-reads _ from len
+file-reads s pid p id from len file.Usage = part-reads _ from len
+file-reads s pid p id from len file.Sigact = part-reads _ from len
+file-reads s pid p id from len file.Watch = part-reads _ from len
+file-reads s pid p id from len file.Fds = part-reads _ from len
+
+process-reads : (s : TracedSystem) (pid id from len : ℕ) (f : File) (o : Option TracedProcess) → Reads len (of_process s pid id from len f o)
+process-reads s pid id from len f None = fails-reads len _
+process-reads s pid id from len f (Some p) = file-reads s pid p id from len f
+
+held-reads : (s : TracedSystem) (o : Option Held) (from len : ℕ) → Reads len (held_read s o from len)
+unfolding file_read
+held-reads s None from len = fails-reads len _
+held-reads s (Some h) from len =
+    either (Reads len) (eqb len 0 || ltb read_limit len) (Fail Inval) (of_process s h.pid h.lwp from len h.file (read_process s h.pid h.file)) (fails-reads len _) (process-reads s h.pid h.lwp from len h.file (read_process s h.pid h.file))
 
 -- ---- every call
 
@@ -121,29 +335,28 @@ module _ (s : TracedState) (by : ℕ) where
   unfolding HaveShape
   no_answer c = tt
 
-  opened-shaped : (pid id : ℕ) (file : File) (mode : Mode) (h : Held) (place : Option ℕ) → HaveShape (call.Open pid id file mode) (Some (opened s h place))
+  opened-shaped : (pid id : ℕ) (f : File) (mode : Mode) (h : Held) (place : Option ℕ) → HaveShape (call.Open pid id f mode) (Some (opened s h place))
   unfolding has_shape
-  opened-shaped pid id file mode h None = shaped _ _ refl
-  opened-shaped pid id file mode h (Some place) = shaped _ _ refl
+  opened-shaped pid id f mode h None = shaped _ _ refl
+  opened-shaped pid id f mode h (Some place) = shaped _ _ refl
 
-  unless-shaped : (pid id : ℕ) (file : File) (mode : Mode) (h : Held) (refusal : Option Errno) → HaveShape (call.Open pid id file mode) (Some (open_unless s h refusal))
+  unless-shaped : (pid id : ℕ) (f : File) (mode : Mode) (h : Held) (refusal : Option Errno) → HaveShape (call.Open pid id f mode) (Some (open_unless s h refusal))
   unfolding has_shape
-  unless-shaped pid id file mode h (Some e) = shaped _ _ refl
-  unless-shaped pid id file mode h None = opened-shaped pid id file mode h _
+  unless-shaped pid id f mode h (Some e) = shaped _ _ refl
+  unless-shaped pid id f mode h None = opened-shaped pid id f mode h _
 
-  open-shaped : (pid id : ℕ) (file : File) (mode : Mode) → HaveShape (call.Open pid id file mode) (Some (open_answer s by pid id file mode))
+  open-shaped : (pid id : ℕ) (f : File) (mode : Mode) → HaveShape (call.Open pid id f mode) (Some (open_answer s by pid id f mode))
   unfolding open_answer
-  open-shaped pid id file mode = unless-shaped pid id file mode _ _
+  open-shaped pid id f mode = unless-shaped pid id f mode _ _
 
   close-shaped : (handle : ℕ) (h : Option Held) → HaveShape (call.Close handle) (Some (close_held s handle h))
   unfolding has_shape
   close-shaped handle None = shaped _ _ refl
   close-shaped handle (Some h) = shaped _ _ refl
 
-  control-shaped : (handle : ℕ) (bytes : List ℕ) (o : Option Controlled) → Answers o → HaveShape (call.Ctl handle bytes) (option_map (controlled s) o)
-  unfolding Answers has_shape
-  control-shaped handle bytes None h = no_answer _
-  control-shaped handle bytes (Some c) h = shaped _ _ h
+  control-shaped : (handle : ℕ) (bytes : List ℕ) → HaveShape (call.Ctl handle bytes) (Some (controlled s (control_answer s.system s.opens by handle bytes)))
+  unfolding has_shape control_answer
+  control-shaped handle bytes = shaped _ _ (held-answers s.system (control_handle (handle_of s.opens by handle)) bytes).shape
 
   wait-shaped : (handle until : ℕ) (bytes : List ℕ) (o : Option Reply) → Ends o → HaveShape (call.CtlWait handle until bytes) (option_map (waited s by) o)
   unfolding Ends has_shape
@@ -151,33 +364,64 @@ module _ (s : TracedState) (by : ℕ) where
   wait-shaped handle until bytes (Some (Fail Intr)) h = shaped _ _ refl
   wait-shaped handle until bytes (Some r) h = shaped _ _ h
 
-  status-shaped : (handle from len : ℕ) (p : Option TracedProcess) → HaveShape (call.Read handle from len) (Some (read_status s p from len))
-  unfolding has_shape
-  status-shaped handle from len None = shaped _ _ refl
-  status-shaped handle from len (Some p) = shaped _ _ (ap (λ b. b || false) (part-within (status_words p) from len))
+  read-shaped : (handle from len : ℕ) → HaveShape (call.Read handle from len) (Some (answered s (read_reply s by handle from len)))
+  unfolding has_shape read_reply
+  read-shaped handle from len = shaped _ _ (held-reads s.system (readable (handle_of s.opens by handle)) from len).shape
 
-  file-shaped : (handle from len : ℕ) (h : Held) (file : File) → HaveShape (call.Read handle from len) (read_file s h from len file)
-  file-shaped handle from len h Status = status-shaped handle from len (live_process s.system h.pid)
-  file-shaped handle from len h _ = no_answer _
-
-  read-shaped : (handle from len : ℕ) (h : Option Held) → HaveShape (call.Read handle from len) (read_held s h from len)
+  ready-shaped : (handles : List ℕ) (o : Option ℕ) → find (is_polled_ready s by) handles ≡ o → HaveShape (call.Poll handles) (ready_answer s o)
   unfolding has_shape
-  read-shaped handle from len None = shaped _ _ refl
-  read-shaped handle from len (Some h) = either (HaveShape _) _ _ _ (shaped _ _ refl) (file-shaped handle from len h h.file)
+  ready-shaped handles None is = no_answer _
+  ready-shaped handles (Some handle) is = shaped _ _ (ap (λ b. b || false) (found-among (is_polled_ready s by) handles handle is))
+
+  poll-shaped : (handles : List ℕ) → HaveShape (call.Poll handles) (poll_answer s by handles)
+  unfolding has_shape poll_answer
+  poll-shaped handles =
+      let P = HaveShape (call.Poll handles) in
+      either P (not (list_all (is_open_by s.opens by) handles)) _ _ (shaped _ _ refl)
+      (either P (eqb (length handles) 0 || nat_lt handle_limit (length handles)) _ _ (shaped _ _ refl)
+      (either P (is_interrupted s by) _ _ (shaped _ _ refl) (ready-shaped handles (find (is_polled_ready s by) handles) refl)))
+
+  until-shaped : (moment : ℕ) → HaveShape (call.Until moment) (until_answer s by moment)
+  unfolding has_shape until_answer
+  until-shaped moment =
+      let P = HaveShape (call.Until moment) in
+      either P (is_interrupted s by) _ _ (shaped _ _ refl) (either P (nat_le moment s.system.clock) _ _ (shaped _ _ refl) (no_answer _))
+
+  interrupt-shaped : (controller : ℕ) → HaveShape (call.Interrupt controller) (Some (interrupt_answer s controller))
+  unfolding has_shape interrupt_answer
+  interrupt-shaped controller =
+      shaped _ _ (either (λ (a : Answer). (is_done a.reply || is_failure a.reply) ≡ true) (nat_lt controller controller_limit) (record { state = record s { interrupted = with_number s.interrupted (controller + 1) }; reply = Done }) (call_refused s Inval) refl refl)
+
+  sent-shape : (sending : Sending) → (is_done (sent_reply sending) || is_failure (sent_reply sending)) ≡ true
+  sent-shape (refuses_signal e) = refl
+  sent-shape sends_nothing = refl
+  sent-shape (sends g) = refl
+
+  kill-shaped : (pid number : ℕ) → HaveShape (call.Kill pid number) (Some (call_kill_answer s pid number))
+  unfolding has_shape call_kill_answer
+  kill-shaped pid number = shaped _ _ (sent-shape _)
+
+  unless-built : (c : calls.Call) (b : Bool) → is_built_call s by c ≡ b → (is_built_call s by c ≡ true → HaveShape c (whole_answer s by c)) → HaveShape c (cond b (whole_answer s by c) None)
+  unless-built c true built h = h built
+  unless-built c false built h = no_answer c
+
+  whole-shaped : (c : calls.Call) → is_built_call s by c ≡ true → HaveShape c (whole_answer s by c)
+  unfolding whole_answer is_built_call close_answer wait_reply
+  whole-shaped (call.Open pid id f mode) built = open-shaped pid id f mode
+  whole-shaped (call.Close handle) built = close-shaped handle (handle_of s.opens by handle)
+  whole-shaped (call.Ctl handle bytes) built = control-shaped handle bytes
+  whole-shaped (call.CtlWait handle until bytes) built = wait-shaped handle until bytes _ (held-ends s.system (control_handle (handle_of s.opens by handle)) until (is_interrupted s by) bytes)
+  whole-shaped (call.Read handle from len) built = read-shaped handle from len
+  whole-shaped (call.Poll handles) built = poll-shaped handles
+  whole-shaped (call.Interrupt controller) built = interrupt-shaped controller
+  whole-shaped (call.Spawn program held) built = absurd (cc)
+  whole-shaped (call.Kill pid number) built = kill-shaped pid number
+  whole-shaped (call.Until moment) built = until-shaped moment
+  whole-shaped call.List built = absurd (cc)
 
   answer-shaped : (c : calls.Call) → HaveShape c (answer_to s by c)
-  unfolding answer_to close_answer control_answer wait_reply read_answer
-  answer-shaped (call.Open pid id file mode) = open-shaped pid id file mode
-  answer-shaped (call.Close handle) = close-shaped handle (handle_of s.opens by handle)
-  answer-shaped (call.Ctl handle bytes) = control-shaped handle bytes _ (held-answers s.system (control_handle (handle_of s.opens by handle)) bytes)
-  answer-shaped (call.CtlWait handle until bytes) = wait-shaped handle until bytes _ (held-ends s.system (control_handle (handle_of s.opens by handle)) until (is_interrupted s by) bytes)
-  answer-shaped (call.Read handle from len) = read-shaped handle from len (readable (handle_of s.opens by handle))
-  answer-shaped (call.Poll handles) = no_answer _
-  answer-shaped (call.Interrupt controller) = no_answer _
-  answer-shaped (call.Spawn program held) = no_answer _
-  answer-shaped (call.Kill pid sig) = no_answer _
-  answer-shaped (call.Until moment) = no_answer _
-  answer-shaped call.List = no_answer _
+  unfolding answer_to
+  answer-shaped c = unless-built c (is_built_call s by c) refl (whole-shaped c)
 
 pub machine-shaped : (s : TracedState) (by : ℕ) (c : calls.Call) (a : Answer) → answer_to s by c ≡ Some a → has_shape c a.reply ≡ true
 unfolding HaveShape

@@ -32,7 +32,7 @@ taken-shaped c (r ∷ rs) = of (has_shape c r) refl
     of true fits = fits
     of false fails = otherwise-shaped c
 
--- A call took a reply and put its entry behind the others.
+-- A call took a reply and put its entry after the others.
 pub table-called : (by : ℕ) (c : Call) (old new : TableState) (t : Taken) → t ≡ taken c old.replies → new.history ≡ old.history ++ call_entry by c t.reply ∷ [] → new.places ≡ old.places → IsCalled by c (table_view old) (table_view new)
 table-called by c old new t took grown stays = record {
   reply = t.reply;

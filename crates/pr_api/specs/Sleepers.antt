@@ -13,8 +13,11 @@ abbrev pub sleeps_on : ℕ → Phase → Bool
 sleeps_on clock (Asleep Sleep args since) = nat_lt clock (since + slice_index args 0)
 sleeps_on clock _ = false
 
-abbrev pub has_sleeper : ℕ → TracedProcess → Bool
-has_sleeper clock p = list_any (λ (l : TracedLwp). sleeps_on clock l.phase) p.lwps
+abbrev pub is_sleeper : ℕ → ℕ × TracedLwp → Bool
+is_sleeper clock e = sleeps_on clock e.1.phase
+
+abbrev pub has_sleeper : ℕ → ℕ × TracedProcess → Bool
+has_sleeper clock e = list_any (is_sleeper clock) e.1.lwps
 
 -- whether some lwp, stopped or not, sleeps in the call sleep with a later moment
 abbrev pub some_sleeper : TracedSystem → Bool

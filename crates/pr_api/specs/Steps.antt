@@ -10,7 +10,7 @@ use Rattle.pr_api.specs.Entries.{call_entry, turn_entry, tick_entry}
 use Rattle.pr_api.specs.Shapes.{has_shape}
 use Rattle.pr_api.specs.Views.{KernelView}
 
--- The steps of a kernel: each adds one entry behind the others, and the places stay. Of a machine that is told the
+-- The steps of a kernel: each adds one entry after the others, and the places stay. Of a machine that is told the
 -- reply, or what the turn did, is the machine's, and so is the state that comes of it.
 
 -- a machine's answer to a call

@@ -5,13 +5,13 @@ use Rattle.pr_model.specs.LwpTurns.{can_move}
 use Rattle.pr_model.specs.State.{TracedState}
 use Rattle.pr_model.specs.declared.calls.Call.{Call}
 use Rattle.pr_model.specs.declared.events.Entry.{Entry}
-unfoldable pub use Rattle.pr_proc.specs.Order.{is_after, live_lwps}
+unfoldable pub use Rattle.pr_model.specs.Order.{is_after, live_lwps}
 use Rattle.pr_api.specs.Sleepers.{some_sleeper}
 
 -- What contracts see of a kernel, whichever it is.
 
 -- The state of the machine that it tells, or none where it tells none; the steps that were made, and how many there are
--- places for in all; which calls of which controllers are ready; the live lwps by rising ids, each behind its process's
+-- places for in all; which calls of which controllers are ready; the live lwps by rising ids, each after its process's
 -- id, and which of them can have a turn; the clock; and whether some lwp sleeps until a moment that is still to come.
 pub record KernelView : Type 0 where
   pub machine : Option TracedState

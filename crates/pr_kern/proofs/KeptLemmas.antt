@@ -1,7 +1,10 @@
 use Rattle.std.proofs.Common.{◌≡◌, ℕ, ◌+◌, ◌<◌, ◌≤◌, ◌^◌, List, [], ◌∷◌, ◌++◌, length, sym, ◌∙◌, ap, subst, arith, length-append}
 use Rattle.pr_model.specs.Kept.{Kept}
-use Rattle.pr_model.specs.State.{TracedSystem}
+use Rattle.pr_model.specs.Lawful.{IsLawful}
+use Rattle.pr_model.specs.Legal.{ticked}
+use Rattle.pr_model.specs.State.{TracedState, TracedSystem}
 use Rattle.pr_model.specs.declared.events.Entry.{Entry}
+use Rattle.pr_proc.proofs.CountLemmas.{AllUsedAtMost-more}
 use Rattle.pr_kern.specs.Soundness.{IsSound, HasRoom, IsKept}
 
 -- What the kernel keeps while its history grows.
@@ -10,11 +13,12 @@ longer : (h h' : List Entry) (e : Entry) → h' ≡ h ++ e ∷ [] → length h' 
 longer h h' e grown = ap length grown ∙ length-append h (e ∷ [])
 
 -- a history that had a place has one entry more, and its room is one less
-pub kept-push : (s : TracedSystem) (h h' : Kept) (places : ℕ) (e : Entry) → h'.entries ≡ h.entries ++ e ∷ [] → h'.room + 1 ≡ h.room → length h.entries < places → HasRoom h places → IsSound (length h.entries + 1) s → IsKept s h' places
-kept-push s h h' places e grown used place room sound =
+pub kept-push : (s : TracedState) (h h' : Kept) (places : ℕ) (e : Entry) → h'.entries ≡ h.entries ++ e ∷ [] → h'.room + 1 ≡ h.room → length h.entries < places → HasRoom h places → IsSound (length h.entries + 1) s.system → IsLawful s → IsKept s h' places
+kept-push s h h' places e grown used place room sound lawful =
     let n : length h'.entries ≡ length h.entries + 1 = longer h.entries h'.entries e grown in
     record {
-      sound = subst (λ k. IsSound k s) (sym n) sound;
+      sound = subst (λ k. IsSound k s.system) (sym n) sound;
+      lawful = lawful;
       room = record {
         within = omega (arith, n, place);
         room = omega (arith, n, used, place, room.room);
@@ -23,10 +27,15 @@ kept-push s h h' places e grown used place room sound =
     }
 
 -- a history that begins, with its places reserved
-pub kept-start : (s : TracedSystem) (h : Kept) (places : ℕ) → h.entries ≡ [] → places ≤ h.room → places < 2 ^ 32 → IsSound 0 s → IsKept s h places
-kept-start s h places none reserved fits sound =
+pub kept-start : (s : TracedState) (h : Kept) (places : ℕ) → h.entries ≡ [] → places ≤ h.room → places < 2 ^ 32 → IsSound 0 s.system → IsLawful s → IsKept s h places
+kept-start s h places none reserved fits sound lawful =
     let n : length h.entries ≡ 0 = ap length none in
     record {
-      sound = subst (λ k. IsSound k s) (sym n) sound;
+      sound = subst (λ k. IsSound k s.system) (sym n) sound;
+      lawful = lawful;
       room = record { within = omega (arith, n); room = omega (arith, n, reserved); fits = fits };
     }
+
+-- a millisecond more is one step more
+pub ticked-sound : (n : ℕ) (s : TracedSystem) → IsSound n s → IsSound (n + 1) (ticked s)
+ticked-sound n s sound = record { clock = omega (arith, sound.clock); counts = AllUsedAtMost-more n (n + 1) (ticked s) (omega arith) (record { each = sound.counts.each }) }

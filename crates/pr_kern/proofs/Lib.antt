@@ -1,12 +1,13 @@
-pub mod CloseLemmas
+pub mod AnswerLemmas
 pub mod FileLemmas
-pub mod HeapLemmas
 pub mod InterruptLemmas
 pub mod KeptLemmas
-pub mod MessageLemmas
 pub mod OrderLemmas
+pub mod SendingLemmas
+pub mod SizeLemmas
 pub mod SoundLemmas
 pub mod StartLemmas
 pub mod StepLemmas
 pub mod TurnedLemmas
 pub mod ViewLemmas
+pub mod WaitLemmas

@@ -1,15 +1,44 @@
-use Rattle.std.proofs.Common.{◌≡◌, ℕ, true, false, cond, Option, Some, List, [], ◌∷◌, map, refl}
-use Rattle.std.specs.List.{find}
-use Rattle.std.specs.Option.{option_map}
-use Rattle.pr_model.specs.State.{TracedSystem, TracedProcess, TracedLwp}
-use Rattle.pr_proc.specs.Order.{lwp_pair}
-use Rattle.pr_kern.specs.Orders.{can_follow, moves_after}
+use Rattle.std.proofs.Common.{◌≡◌, ℕ, zero, suc, ◌+◌, ◌≤◌, Bool, true, false, Some, None, List, [], ◌∷◌, length, drop, refl, sym, ap, ◌∙◌, arith}
+use Rattle.std.specs.List.{find, slice_get}
+use Rattle.std.specs.Option.{option_or}
+use Rattle.std.proofs.lemmas.List.{drop_all}
+use Rattle.std.proofs.lemmas.List.Folds.{find-append}
+use Rattle.std.proofs.lemmas.Option.{none-some, same_Some}
+use Rattle.pr_model.specs.Order.{lwps_among, lwps_in, pairs_of}
+use Rattle.pr_model.specs.State.{TracedLwp, TracedProcess}
 
--- the next one among the lwps of a process
-pub find-lwp_pair : (s : TracedSystem) (after : Option (ℕ × ℕ)) (p : TracedProcess) (lwps : List TracedLwp) → find (moves_after s after) (map (lwp_pair p) lwps) ≡ option_map (lwp_pair p) (find (can_follow s after p.id) lwps)
-unfolding can_follow
-find-lwp_pair s after p [] = refl
-find-lwp_pair s after p (l ∷ lwps) =
-    elim (moves_after s after (p.id, l.id)) as (λ b. cond b (Some (lwp_pair p l)) (find (moves_after s after) (map (lwp_pair p) lwps)) ≡ option_map (lwp_pair p) (cond b (Some l) (find (can_follow s after p.id) lwps))) [ true ↦ refl | false ↦ find-lwp_pair s after p lwps ]
+-- What a walk over lists by id finds, whatever it looks for.
 
-pub ruleset order_laws = (find-lwp_pair)
+-- what stands at a place, and what stands behind it
+drop-at : {X : Type 0} (xs : List X) (i : ℕ) (x : X) → slice_get xs i ≡ Some x → drop i xs ≡ x ∷ drop (i + 1) xs
+drop-at [] i x e = absurd (none-some x e)
+drop-at (y ∷ xs) zero x e = ap (λ z. z ∷ xs) (same_Some y x e)
+drop-at (y ∷ xs) (suc i) x e =
+    let step : suc (i + 1) ≡ suc i + 1 = omega arith in
+    drop-at xs i x e ∙ ap (λ n. x ∷ drop n (y ∷ xs)) step
+
+module _ (q : ℕ × ℕ → Bool) (pid : ℕ) (lwps : List (ℕ × TracedLwp)) (i : ℕ) (id : ℕ) (l : TracedLwp) where
+  pub first-here : slice_get lwps i ≡ Some (id, l) → q (pid, id) ≡ true → find q (pairs_of pid (drop i lwps)) ≡ Some (pid, id)
+  first-here at here = ap (λ es. find q (pairs_of pid es)) (drop-at lwps i (id, l) at) ∙ rw here refl
+
+  pub first-on : slice_get lwps i ≡ Some (id, l) → q (pid, id) ≡ false → find q (pairs_of pid (drop (i + 1) lwps)) ≡ find q (pairs_of pid (drop i lwps))
+  first-on at passed = sym (ap (λ es. find q (pairs_of pid es)) (drop-at lwps i (id, l) at) ∙ rw passed refl)
+
+pub first-end : (q : ℕ × ℕ → Bool) (pid : ℕ) (lwps : List (ℕ × TracedLwp)) (i : ℕ) → length lwps ≤ i → find q (pairs_of pid (drop i lwps)) ≡ None
+first-end q pid lwps i past = ap (λ es. find q (pairs_of pid es)) (drop_all i lwps past)
+
+module _ (q : ℕ × ℕ → Bool) (processes : List (ℕ × TracedProcess)) (i : ℕ) (pid : ℕ) (p : TracedProcess) where
+  among : slice_get processes i ≡ Some (pid, p) → find q (lwps_among (drop i processes)) ≡ option_or (find q (lwps_in (pid, p))) (find q (lwps_among (drop (i + 1) processes)))
+  among at =
+      ap (λ es. find q (lwps_among es)) (drop-at processes i (pid, p) at) ∙ find-append q (lwps_in (pid, p)) (lwps_among (drop (i + 1) processes))
+
+  pub next-here : (x : ℕ × ℕ) → slice_get processes i ≡ Some (pid, p) → find q (lwps_in (pid, p)) ≡ Some x → find q (lwps_among (drop i processes)) ≡ Some x
+  next-here x at here = among at ∙ ap (λ o. option_or o (find q (lwps_among (drop (i + 1) processes)))) here
+
+  pub next-on : slice_get processes i ≡ Some (pid, p) → find q (lwps_in (pid, p)) ≡ None → find q (lwps_among (drop (i + 1) processes)) ≡ find q (lwps_among (drop i processes))
+  next-on at none = sym (among at ∙ ap (λ o. option_or o (find q (lwps_among (drop (i + 1) processes)))) none)
+
+pub next-end : (q : ℕ × ℕ → Bool) (processes : List (ℕ × TracedProcess)) (i : ℕ) → length processes ≤ i → find q (lwps_among (drop i processes)) ≡ None
+next-end q processes i past = ap (λ es. find q (lwps_among es)) (drop_all i processes past)
+
+pub ruleset order_laws = (first-here, first-on, first-end, next-here, next-on, next-end)

@@ -1,219 +1,138 @@
-use Rattle.std.proofs.Common.{◌≡◌, ℕ, ◌≤◌, Bool, true, false, eqb, cond, Option, Some, None, IfSome, Result, Ok, Err, List, refl, sym, subst, inl, inr, arith}
-use Rattle.std.specs.Option.{option_map}
+use Rattle.std.proofs.Common.{◌≡◌, ◌==◌, ℕ, ◌≤◌, Bool, true, false, cond, Option, Some, None, is_none, refl, sym, subst, ◌∙◌, inl, inr, arith}
 use Rattle.std.proofs.lemmas.Bool.{cases_Bool}
-use Rattle.pr_num.specs.Control.{has_flags, klc_mode, rlc_mode}
-use Rattle.pr_num.specs.Messages.{first_message}
-use Rattle.pr_num.specs.declared.errnos.Errno.{Errno}
-use Rattle.pr_num.specs.declared.errnos.Errno.TheVariants.{Intr}
-use Rattle.pr_num.specs.declared.messages.Message.{Message}
-use Rattle.pr_num.specs.declared.messages.Message.TheVariants.{Stop, Dstop, Wstop, Twstop, Run}
-use Rattle.pr_num.specs.declared.messages.MsgFault.{MsgFault}
-use Rattle.pr_model.specs.Calls.{Answer, refused, answer_to, open_unless, opened, open_answer, close_held, close_answer, read_held, read_answer, read_file, read_status, readable, controlled, waited}
-use Rattle.pr_model.specs.ControlMessages.{Controlled, refused as message_refused, control_answer, held_answer, targeted_answer, decoded_answer, message_answer, run_answer, target_of, control_handle, with_directed}
-use Rattle.pr_model.specs.Handles.{handle_of, is_of_lwp, released, after_last_close, with_last_close, with_closed, with_opened, sigkill}
-use Rattle.pr_model.specs.Lives.{with_parent_told, with_ended}
-use Rattle.pr_model.specs.Running.{with_run}
-use Rattle.pr_model.specs.State.{TracedState, TracedSystem, TracedProcess, live_process, with_process}
-use Rattle.pr_model.specs.Stops.{with_all_directed}
-use Rattle.pr_model.specs.declared.calls.Call as calls
-use Rattle.pr_model.specs.declared.calls.Call.TheVariants as call
-use Rattle.pr_model.specs.declared.calls.File.{File}
-use Rattle.pr_model.specs.declared.calls.File.TheVariants.{Status}
-use Rattle.pr_model.specs.declared.calls.Reply.{Reply}
-use Rattle.pr_model.specs.declared.calls.Reply.TheVariants.{Fail}
-use Rattle.pr_model.specs.declared.handles.Held.{Held}
-use Rattle.pr_proc.proofs.CountLemmas.{AllUsedAtMost-more, AllUsedAtMost-with_process, AllUsedAtMost-with_ended, released-usage}
+use Rattle.pr_num.specs.Control.{has_flags, fork_mode}
+use Rattle.pr_num.proofs.ByIdLaws.{All-change_under, All-inserted, All-map_each, All-without_id}
+use Rattle.pr_num.specs.declared.infos.Info.{Info}
+use Rattle.pr_num.specs.ById.{change_under, map_each}
+use Rattle.pr_num.specs.Files.{with_all_closed}
+use Rattle.pr_num.specs.Infos.{of_child}
+use Rattle.pr_num.specs.Signals.{signal_number}
+use Rattle.pr_num.specs.declared.signals.Sig.{Sig}
+use Rattle.pr_num.specs.declared.signals.Sig.TheVariants.{Cld}
+use Rattle.pr_parts.specs.SignalRules.{deleted_by}
+use Rattle.pr_model.specs.Generation.{ends_job_stop, told, with_deletions, with_pending, without_job_stop, without_pending}
+use Rattle.pr_model.specs.Lives.{bare_process, ended_if_live, orphaned, with_ended, with_made, with_parent_told, with_reaped, with_this_ended, zombie}
+use Rattle.pr_model.specs.Machines.{traced, child_control, nothing_set, nothing_used, zombie_control}
+use Rattle.pr_model.specs.Signals.{generated, is_kill}
+use Rattle.pr_model.specs.State.{TracedControl, TracedProcess, TracedSystem, live_process, with_process}
+use Rattle.pr_proc.proofs.CountLemmas.{AllUsedAtMost-more}
+use Rattle.pr_proc.specs.Counts.{HasUsedAtMost, UsedAtMost}
 use Rattle.pr_kern.specs.Soundness.{IsSound}
 
--- What the calls of controllers leave of a sound system.
-
--- ---- the clock
-
-clock-with_parent_told : (parent : ℕ) (s : TracedSystem) → (with_parent_told parent s).clock ≡ s.clock
-unfolding with_parent_told with_process
-clock-with_parent_told parent s = elim (cases_Bool (eqb parent 0)) [ inl none ↦ rw none refl | inr some ↦ rw some refl ]
-
-pub clock-with_ended : (status : ℕ) (p : TracedProcess) (s : TracedSystem) → (with_ended p status s).clock ≡ s.clock
-unfolding with_ended
-clock-with_ended status p s = clock-with_parent_told p.parent _
-
--- ---- soundness
+-- What keeps a system sound: a lemma for each way in which processes are changed, made and taken away.
 
 -- a sound system is sound after more steps
 pub IsSound-more : (n m : ℕ) (s : TracedSystem) → n ≤ m → IsSound n s → IsSound m s
 IsSound-more n m s more h = record { clock = omega (arith, h.clock); counts = AllUsedAtMost-more n m s more h.counts }
 
-sound-with_process : (n pid : ℕ) (f : TracedProcess → TracedProcess) (s : TracedSystem) → ((p : TracedProcess) → (f p).usage ≡ p.usage) → IsSound n s → IsSound n (with_process pid f s)
+-- whether one choice or the other is made
+pub sound-either : (n : ℕ) (b : Bool) (s t : TracedSystem) → IsSound n s → IsSound n t → IsSound n (cond b s t)
+sound-either n true s t h k = h
+sound-either n false s t h k = k
+
+-- ---- a process changed
+
+-- a change that leaves what a process has used
+unfoldable pub KeepsUsage : (TracedProcess → TracedProcess) → Type 0
+KeepsUsage f = (p : TracedProcess) → (f p).control.usage ≡ p.control.usage
+
+kept-under : (n : ℕ) (f : TracedProcess → TracedProcess) (id : ℕ) (p : TracedProcess) → KeepsUsage f → HasUsedAtMost n (id, p) → HasUsedAtMost n (id, f p)
+unfolding KeepsUsage
+kept-under n f id p h used = subst (UsedAtMost n) (sym (h p)) used
+
+pub sound-with_process : (n pid : ℕ) (f : TracedProcess → TracedProcess) (s : TracedSystem) → KeepsUsage f → IsSound n s → IsSound n (with_process pid f s)
 unfolding with_process
-sound-with_process n pid f s usage h = record {
-  clock = h.clock;
-  counts = AllUsedAtMost-with_process n pid f s usage h.counts;
+sound-with_process n pid f s h sound = record {
+  clock = sound.clock;
+  counts = record {
+    each = All-change_under (HasUsedAtMost n) pid f s.processes (λ p found used. kept-under n f pid p h used) sound.counts.each;
+  };
 }
 
-sound-with_ended : (n status : ℕ) (p : TracedProcess) (s : TracedSystem) → IsSound n s → IsSound n (with_ended p status s)
-sound-with_ended n status p s h = record {
-  clock = subst (λ c. c ≤ n) (sym (clock-with_ended status p s)) h.clock;
-  counts = AllUsedAtMost-with_ended n status p s h.counts;
+-- ---- a process more, and one less
+
+pub unused : (n : ℕ) → UsedAtMost n nothing_used
+unused n = record { calls = omega arith; signals = omega arith; faults = omega arith; instructions = omega arith }
+
+pub sound-with_made : (n : ℕ) (p : TracedProcess) (s : TracedSystem) → p.control.usage ≡ nothing_used → IsSound n s → IsSound n (with_made p s)
+unfolding with_made
+sound-with_made n p s none sound = record {
+  clock = sound.clock;
+  counts = record {
+    each = All-inserted (HasUsedAtMost n) s.made p s.processes (subst (UsedAtMost n) (sym none) (unused n)) sound.counts.each;
+  };
 }
 
-with_run-usage : (p : TracedProcess) → (with_run p).usage ≡ p.usage
-unfolding with_run
-with_run-usage p = refl
+pub sound-with_reaped : (n pid : ℕ) (s : TracedSystem) → IsSound n s → IsSound n (with_reaped pid s)
+unfolding with_reaped
+sound-with_reaped n pid s sound = record {
+  clock = sound.clock;
+  counts = record { each = All-without_id (HasUsedAtMost n) pid s.processes sound.counts.each };
+}
 
-with_directed-usage : (h : Held) (p : TracedProcess) → (with_directed h p).usage ≡ p.usage
-unfolding with_directed with_all_directed
-with_directed-usage h p = elim (cases_Bool (is_of_lwp h.file)) [ inl one ↦ rw one refl | inr all ↦ rw all refl ]
+pub child-unused : (c : TracedControl) → (child_control c).usage ≡ nothing_used
+unfolding child_control nothing_set
+child-unused c = elim (cases_Bool (has_flags c.modes fork_mode)) [ inl inherits ↦ rw inherits refl | inr fresh ↦ rw fresh refl ]
 
--- ---- control messages, a lemma a row
+-- ---- signals
 
-module _ (n : ℕ) (s : TracedSystem) (sound : IsSound n s) where
-  Kept : Option Controlled → Type 0
-  Kept c = IfSome c (λ c. IsSound n c.system)
+deletions-keep : (g : Sig) (p : TracedProcess) → (with_deletions g p).control.usage ≡ p.control.usage
+unfolding with_deletions without_job_stop without_pending
+deletions-keep g p = of (deleted_by g == 0) (ends_job_stop g)
+  where
+    of : (none ends : Bool) → (let q : TracedProcess = cond none p (cond ends (record (without_pending (deleted_by g) p) { job_stop = None }) (without_pending (deleted_by g) p)) in q.control.usage) ≡ p.control.usage
+    of true ends = refl
+    of false true = refl
+    of false false = refl
 
-  granted : (c : Controlled) → IsSound n c.system → Kept (Some c)
-  unfolding Kept
-  granted c h = h
+pending-keep : (target : Option ℕ) (g : Sig) (info : Info) (p : TracedProcess) → (with_pending target g info p).control.usage ≡ p.control.usage
+unfolding with_pending
+pending-keep None g info p = refl
+pending-keep (Some id) g info p = refl
 
-  no_row : Kept None
-  unfolding Kept
-  no_row = tt
+pub told-keeps : (target : Option ℕ) (g : Sig) (info : Info) → KeepsUsage (told target g info)
+unfolding KeepsUsage told
+told-keeps target g info p =
+    let sent = pending-keep target g info (with_deletions g p) ∙ deletions-keep g p in
+    elim (is_none p.ended) as (λ b. (let q : TracedProcess = cond b (with_pending target g info (with_deletions g p)) p in q.control.usage) ≡ p.control.usage) [ true ↦ sent | false ↦ refl ]
 
-  refusal : (e : Errno) → Kept (Some (message_refused s e))
-  unfolding Kept
-  refusal e = sound
+-- ---- ends
 
-  none-kept : (b : Bool) (c : Option Controlled) → Kept c → Kept (cond b None c)
-  unfolding Kept
-  none-kept true c h = tt
-  none-kept false c h = h
+orphaned-keeps : (pid : ℕ) → KeepsUsage (orphaned pid)
+unfolding KeepsUsage orphaned
+orphaned-keeps pid p =
+    elim (p.parent == pid) as (λ b. (let q : TracedProcess = cond b (record p { parent = 0 }) p in q.control.usage) ≡ p.control.usage) [ true ↦ refl | false ↦ refl ]
 
-  unless-kept : (b : Bool) (e : Errno) (c : Option Controlled) → Kept c → Kept (cond b (Some (message_refused s e)) c)
-  unfolding Kept
-  unless-kept true e c h = sound
-  unless-kept false e c h = h
+zombie-keeps : (status : ℕ) → KeepsUsage (zombie traced status)
+unfolding KeepsUsage zombie bare_process traced zombie_control
+zombie-keeps status p = refl
 
-  directed-sound : (h : Held) (pid : ℕ) → IsSound n (with_process pid (with_directed h) s)
-  directed-sound h pid = sound-with_process n pid (with_directed h) s (with_directed-usage h) sound
+pub sound-with_this_ended : (n pid : ℕ) (p : TracedProcess) (status : ℕ) (s : TracedSystem) → IsSound n s → IsSound n (with_this_ended traced pid p status s)
+unfolding with_this_ended with_parent_told
+sound-with_this_ended n pid p status s sound =
+    let left : TracedSystem = record s {
+      files = with_all_closed s.files p.fds;
+      processes = map_each (orphaned pid) (change_under pid (zombie traced status) s.processes);
+    } in
+    let zombies = All-change_under (HasUsedAtMost n) pid (zombie traced status) s.processes (λ q found used. kept-under n (zombie traced status) pid q (zombie-keeps status) used) sound.counts.each in
+    let ended : IsSound n left = record {
+      clock = sound.clock;
+      counts = record {
+        each = All-map_each (HasUsedAtMost n) (HasUsedAtMost n) (orphaned pid) (λ e used. kept-under n (orphaned pid) e.0 e.1 (orphaned-keeps pid) used) (change_under pid (zombie traced status) s.processes) zombies;
+      };
+    } in
+    let tell : TracedProcess → TracedProcess = told None Cld (of_child pid status) in
+    sound-either n (p.parent == 0) left (with_process p.parent tell left) ended (sound-with_process n p.parent tell left (told-keeps None Cld (of_child pid status)) ended)
 
-  run-sound : (pid : ℕ) → IsSound n (with_process pid with_run s)
-  run-sound pid = sound-with_process n pid with_run s with_run-usage sound
+pub sound-with_ended : (n pid status : ℕ) (s : TracedSystem) → IsSound n s → IsSound n (with_ended traced pid status s)
+unfolding with_ended
+sound-with_ended n pid status s sound = of (live_process s pid)
+  where
+    of : (o : Option TracedProcess) → IsSound n (ended_if_live traced pid status s o)
+    of None = sound
+    of (Some p) = sound-with_this_ended n pid p status s sound
 
-  run-kept : (h : Held) (p : TracedProcess) (flags length : ℕ) → Kept (run_answer s h p flags length)
-  run-kept h p flags length = none-kept _ _ (unless-kept _ _ _ (granted _ (run-sound p.id)))
-
-  message-kept : (h : Held) (p : TracedProcess) (m : Message) (length : ℕ) → Kept (message_answer s h p m length)
-  unfolding message_answer
-  message-kept h p Stop length = granted _ (directed-sound h p.id)
-  message-kept h p Dstop length = granted _ (directed-sound h p.id)
-  message-kept h p Wstop length = granted _ sound
-  message-kept h p (Twstop ms) length = granted _ sound
-  message-kept h p (Run flags) length = run-kept h p flags length
-  message-kept h p _ length = no_row
-
-  decoded-kept : (h : Held) (p : TracedProcess) (m : Result (Message × ℕ) MsgFault) → Kept (decoded_answer s h p m)
-  decoded-kept h p (Err fault) = refusal _
-  decoded-kept h p (Ok (m, length)) = unless-kept _ _ _ (message-kept h p m length)
-
-  targeted-kept : (h : Held) (p : Option TracedProcess) (bytes : List ℕ) → Kept (targeted_answer s h p bytes)
-  targeted-kept h None bytes = refusal _
-  targeted-kept h (Some p) bytes = decoded-kept h p (first_message bytes)
-
-  control-kept : (h : Option Held) (bytes : List ℕ) → Kept (held_answer s h bytes)
-  control-kept None bytes = refusal _
-  control-kept (Some h) bytes = targeted-kept h (target_of s h) bytes
-
-  -- ---- the last close
-
-  close-cases : (p : TracedProcess) (killed let_go : Bool) → IsSound n (cond killed (with_ended p sigkill s) (cond let_go (with_process p.id released s) s))
-  close-cases p true let_go = sound-with_ended n sigkill p s sound
-  close-cases p false true = sound-with_process n p.id released s released-usage sound
-  close-cases p false false = sound
-
-  last_close-sound : (p : Option TracedProcess) → IsSound n (after_last_close p s)
-  unfolding with_last_close
-  last_close-sound None = sound
-  last_close-sound (Some p) = close-cases p (has_flags p.modes klc_mode) (has_flags p.modes rlc_mode)
-
-  if-closed : (b : Bool) (p : Option TracedProcess) → IsSound n (cond b (after_last_close p s) s)
-  if-closed true p = last_close-sound p
-  if-closed false p = sound
-
--- ---- calls
-
-module _ (n : ℕ) (s : TracedState) (by : ℕ) (sound : IsSound n s.system) where
-  Leaves : Option Answer → Type 0
-  Leaves a = IfSome a (λ a. IsSound n a.state.system)
-
-  answered : (a : Answer) → IsSound n a.state.system → Leaves (Some a)
-  unfolding Leaves
-  answered a h = h
-
-  not_built : Leaves None
-  unfolding Leaves
-  not_built = tt
-
-  opened-sound : (h : Held) (place : Option ℕ) → IsSound n (opened s h place).state.system
-  unfolding with_opened
-  opened-sound h None = sound
-  opened-sound h (Some place) = sound
-
-  open-sound : (h : Held) (refusal : Option Errno) → IsSound n (open_unless s h refusal).state.system
-  open-sound h (Some e) = sound
-  open-sound h None = opened-sound h _
-
-  close-sound : (handle : ℕ) (h : Option Held) → IsSound n (close_held s handle h).state.system
-  unfolding with_closed
-  close-sound handle None = sound
-  close-sound handle (Some h) = if-closed n s.system sound _ _
-
-  status-sound : (p : Option TracedProcess) (from len : ℕ) → IsSound n (read_status s p from len).state.system
-  status-sound None from len = sound
-  status-sound (Some p) from len = sound
-
-  file-leaves : (h : Held) (from len : ℕ) (file : File) → Leaves (read_file s h from len file)
-  file-leaves h from len Status = answered _ (status-sound (live_process s.system h.pid) from len)
-  file-leaves h from len _ = not_built
-
-  unless-leaves : (b : Bool) (e : Errno) (a : Option Answer) → Leaves a → Leaves (cond b (Some (refused s e)) a)
-  unfolding Leaves
-  unless-leaves true e a h = sound
-  unless-leaves false e a h = h
-
-  read-leaves : (h : Option Held) (from len : ℕ) → Leaves (read_held s h from len)
-  read-leaves None from len = answered _ sound
-  read-leaves (Some h) from len = unless-leaves _ _ _ (file-leaves h from len h.file)
-
-  control-leaves : (c : Option Controlled) → Kept n s.system sound c → Leaves (option_map (controlled s) c)
-  unfolding Leaves Kept
-  control-leaves None kept = tt
-  control-leaves (Some c) kept = kept
-
-  waited-sound : (r : Reply) → IsSound n (waited s by r).state.system
-  waited-sound (Fail Intr) = sound
-  waited-sound (Fail _) = sound
-  waited-sound _ = sound
-
-  wait-leaves : (r : Option Reply) → Leaves (option_map (waited s by) r)
-  unfolding Leaves
-  wait-leaves None = tt
-  wait-leaves (Some r) = waited-sound r
-
-  -- every call
-  answer-leaves : (c : calls.Call) → Leaves (answer_to s by c)
-  unfolding answer_to open_answer close_answer read_answer control_answer
-  answer-leaves (call.Open pid id file mode) = answered _ (open-sound _ _)
-  answer-leaves (call.Close handle) = answered _ (close-sound handle (handle_of s.opens by handle))
-  answer-leaves (call.Ctl handle bytes) = control-leaves _ (control-kept n s.system sound (control_handle (handle_of s.opens by handle)) bytes)
-  answer-leaves (call.CtlWait handle until bytes) = wait-leaves _
-  answer-leaves (call.Read handle from len) = read-leaves (readable (handle_of s.opens by handle)) from len
-  answer-leaves (call.Poll handles) = not_built
-  answer-leaves (call.Interrupt controller) = not_built
-  answer-leaves (call.Spawn program held) = not_built
-  answer-leaves (call.Kill pid sig) = not_built
-  answer-leaves (call.Until moment) = not_built
-  answer-leaves call.List = not_built
-
--- an answer leaves a sound system sound
-pub answer-sound : (n : ℕ) (s : TracedState) (by : ℕ) (c : calls.Call) (a : Answer) → answer_to s by c ≡ Some a → IsSound n s.system → IsSound n a.state.system
-unfolding Leaves
-answer-sound n s by c a e sound = let Q : Option Answer → Type 0 = λ o. IfSome o (λ a. IsSound n a.state.system) in subst Q e (answer-leaves n s by sound c)
+pub sound-generated : (n pid : ℕ) (target : Option ℕ) (g : Sig) (info : Info) (s : TracedSystem) → IsSound n s → IsSound n (generated traced pid target g info s)
+unfolding generated
+sound-generated n pid target g info s sound =
+    sound-either n (is_kill g) (with_ended traced pid (signal_number g) s) (with_process pid (told target g info) s) (sound-with_ended n pid _ s sound) (sound-with_process n pid (told target g info) s (told-keeps target g info) sound)

@@ -1,30 +1,58 @@
-use Rattle.std.proofs.Common.{◌≡◌, ℕ, ◌∙◌, Option, Some, None, List, [], ◌∷◌, refl, arith}
-use Rattle.std.specs.List.{slice_get}
+use Rattle.std.proofs.Common.{◌≡◌, ℕ, ◌+◌, ◌≤◌, true, false, Option, Some, None, List, [], ◌∷◌, length, refl, arith}
+use Rattle.std.specs.List.{All, slice_get, sum_by}
+use Rattle.std.proofs.lemmas.List.{length-map}
+use Rattle.std.proofs.lemmas.List.Elements.{All-cons, All-map, All-nil}
+use Rattle.pr_num.specs.Limits.{all_mappings_limit, process_limit}
 use Rattle.pr_num.specs.Programs.{Program}
 use Rattle.pr_num.specs.declared.files.StoredFile.{StoredFile}
-use Rattle.pr_model.specs.FirstState.{bare_system, spawned_at, with_spawns, first_system}
-use Rattle.pr_model.specs.Lives.{with_spawned}
+use Rattle.pr_parts.specs.FileTables.{IsShortFile, names_differ}
+use Rattle.pr_model.specs.FirstState.{bare_system, spawned_at, system_process, with_spawns, first_state, first_system}
+use Rattle.pr_model.specs.Lawful.{IsLawful, IsLawfulProgram}
+use Rattle.pr_model.specs.Lives.{bare_process, new_process, with_spawned}
+use Rattle.pr_model.specs.Machines.{nothing_set, traced}
 use Rattle.pr_model.specs.State.{TracedSystem}
-use Rattle.pr_proc.proofs.CountLemmas.{AllUsedAtMost-first_system}
+use Rattle.pr_proc.specs.Counts.{HasUsedAtMost}
+use Rattle.pr_kern.proofs.SoundLemmas.{sound-with_made, unused}
+use Rattle.pr_lawful.proofs.StartLemmas.{first-lawful}
+use Rattle.pr_lawful.specs.Starts.{size_at_start}
 use Rattle.pr_kern.specs.Soundness.{IsSound}
+use Rattle.pr_kern.specs.Starts.{stored, stored_file}
 
--- The first system is sound.
+-- The first system is sound, and the first state lawful.
 
-spawns-clock : (places : List ℕ) (s : TracedSystem) → (with_spawns places s).clock ≡ s.clock
-unfolding with_spawns with_spawned
-spawns-clock [] s = refl
-spawns-clock (place ∷ places) s = spawns-clock places _ ∙ spawned (slice_get s.programs place)
-  where
-    spawned : (o : Option Program) → (spawned_at o s).clock ≡ s.clock
-    spawned None = refl
-    spawned (Some program) = refl
+bare-sound : (programs : List Program) (files : List StoredFile) → IsSound 0 (bare_system programs files)
+unfolding bare_system system_process bare_process traced nothing_set
+bare-sound programs files = record {
+  clock = omega arith;
+  counts = record { each = All-cons (HasUsedAtMost 0) _ [] (unused 0) (All-nil (HasUsedAtMost 0)) };
+}
 
-bare-clock : (programs : List Program) (files : List StoredFile) → (bare_system programs files).clock ≡ 0
-unfolding bare_system
-bare-clock programs files = refl
+spawned-sound : (s : TracedSystem) (o : Option Program) → IsSound 0 s → IsSound 0 (spawned_at o s)
+unfolding with_spawned new_process bare_process traced nothing_set
+spawned-sound s None sound = sound
+spawned-sound s (Some program) sound = sound-with_made 0 (new_process traced program s.clock false) s refl sound
+
+spawns-sound : (places : List ℕ) (s : TracedSystem) → IsSound 0 s → IsSound 0 (with_spawns places s)
+unfolding with_spawns
+spawns-sound [] s sound = sound
+spawns-sound (place ∷ places) s sound = spawns-sound places _ (spawned-sound s (slice_get s.programs place) sound)
 
 pub first-sound : (programs : List Program) (files : List StoredFile) (spawns : List ℕ) → IsSound 0 (first_system programs files spawns)
-first-sound programs files spawns = record {
-  clock = omega (arith, spawns-clock spawns (bare_system programs files), bare-clock programs files);
-  counts = AllUsedAtMost-first_system programs files spawns;
-}
+first-sound programs files spawns = spawns-sound spawns (bare_system programs files) (bare-sound programs files)
+
+short-stored : (files : List (List ℕ × List ℕ)) → All (λ f. length f.1 ≤ 65536) files → All IsShortFile (stored files)
+unfolding stored_file
+short-stored files short = All-map IsShortFile stored_file files short
+
+pub start-lawful : (programs : List Program) (files : List (List ℕ × List ℕ)) (spawns : List ℕ) → All IsLawfulProgram programs → length files ≤ 256 → All (λ f. length f.1 ≤ 65536) files → names_differ (stored files) ≡ true
+    → length spawns + 1 ≤ process_limit → sum_by (λ place. size_at_start (slice_get programs place)) spawns ≤ all_mappings_limit → IsLawful (first_state programs (stored files) spawns)
+start-lawful programs files spawns within few short own_names room mapped =
+    first-lawful programs (stored files) spawns
+    (record {
+      within = within;
+      few = omega (arith, few, length-map files stored_file);
+      short = short-stored files short;
+      own_names = own_names;
+      room = room;
+      mapped = mapped;
+    })

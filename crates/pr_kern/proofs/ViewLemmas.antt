@@ -7,7 +7,7 @@ use Rattle.pr_model.specs.Calls.{Answer, answer_to}
 use Rattle.pr_model.specs.LwpTurns.{LwpTurn, turn_of}
 use Rattle.pr_model.specs.declared.calls.Call.{Call}
 use Rattle.pr_model.specs.declared.events.Turned.{Turned}
-use Rattle.pr_proc.specs.Order.{next_lwp}
+use Rattle.pr_model.specs.Order.{next_lwp}
 use Rattle.pr_kern.specs.Kernels.{Kernel, TurnedKernel, after_answer, after_call, after_lwp_turn, after_tick, after_turn}
 use Rattle.pr_kern.specs.Orders.{moves_after, next_movable, next_of as next_lwp_of}
 

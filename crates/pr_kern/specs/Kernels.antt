@@ -1,12 +1,14 @@
 pub use Rattle.pr_api.specs.Entries.{call_entry, turn_entry, tick_entry, reply_of, last_reply_of}
-pub use Rattle.pr_api.specs.Sleepers.{sleeps_on, has_sleeper, some_sleeper}
+pub use Rattle.pr_api.specs.Sleepers.{sleeps_on, is_sleeper, has_sleeper, some_sleeper}
 use Rattle.std.specs.Prelude.{◌+◌, ℕ, Bool, true, false, List, [], ◌∷◌, ◌++◌, Option, option_map}
+use Rattle.pr_num.specs.Messages.{first_message}
+use Rattle.pr_ctl.specs.Memory.{begins_in_place}
 use Rattle.pr_model.specs.Calls.{Answer, answer_to}
 use Rattle.pr_model.specs.Legal.{ticked}
 use Rattle.pr_model.specs.LwpTurns.{LwpTurn, turn_of}
 use Rattle.pr_model.specs.State.{TracedState, with_system}
 use Rattle.pr_model.specs.declared.calls.Call.{Call}
-use Rattle.pr_model.specs.declared.calls.Call.TheVariants.{Open, Close, Ctl, CtlWait}
+use Rattle.pr_model.specs.declared.calls.Call.TheVariants.{Open, Close, Ctl, CtlWait, Read, Poll, Interrupt, Spawn, Kill, Until, List as ListProcesses}
 use Rattle.pr_model.specs.declared.events.Entry.{Entry}
 use Rattle.pr_model.specs.declared.events.Turned.{Turned}
 
@@ -50,10 +52,17 @@ after_turn pid id k = option_map (after_lwp_turn pid id k) (turn_of k.state.syst
 unfoldable pub after_tick : Kernel → Kernel
 after_tick k = with_entry (with_system ticked k.state) (tick_entry (k.state.system.clock + 1)) k
 
--- calls that take no memory: opening and closing, control messages and their waits
+-- calls that take no memory: all but reads, lists, processes that are made, and the control messages that answer bytes
+-- or make an lwp
 abbrev pub takes_no_memory : Call → Bool
 takes_no_memory (Open pid id file mode) = true
 takes_no_memory (Close handle) = true
-takes_no_memory (Ctl handle bytes) = true
+takes_no_memory (Ctl handle bytes) = begins_in_place (first_message bytes)
 takes_no_memory (CtlWait handle until bytes) = true
-takes_no_memory _ = false
+takes_no_memory (Read handle from len) = false
+takes_no_memory (Poll handles) = true
+takes_no_memory (Interrupt controller) = true
+takes_no_memory (Spawn program held) = false
+takes_no_memory (Kill pid sig) = true
+takes_no_memory (Until moment) = true
+takes_no_memory ListProcesses = false

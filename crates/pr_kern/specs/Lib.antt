@@ -1,8 +1,8 @@
 pub mod Kernels
 pub mod Openings
 pub mod Orders
-pub mod Plans
-pub mod Runs
+pub mod Sendings
 pub mod Soundness
 pub mod Starts
 pub mod Steps
+pub mod Waits

@@ -2,16 +2,19 @@ pub use Rattle.pr_api.specs.Rooms.{HasRoom}
 use Rattle.std.specs.Prelude.{◌≤◌, ℕ, length}
 use Rattle.pr_proc.specs.Counts.{AllUsedAtMost}
 use Rattle.pr_model.specs.Kept.{Kept}
-use Rattle.pr_model.specs.State.{TracedSystem}
+use Rattle.pr_model.specs.Lawful.{IsLawful}
+use Rattle.pr_model.specs.State.{TracedState, TracedSystem}
 
--- What the kernel keeps of its system and its history, so that all numbers fit their types and each step has its place.
+-- What the kernel keeps of its state and its history, so that all numbers fit their types, each step has its place, and
+-- turns and calls find what they need.
 
 -- After n steps the clock is at most n, and no process has used anything more than n times.
 pub record IsSound (n : ℕ) (s : TracedSystem) : Type 0 where
   pub clock : s.clock ≤ n
   pub counts : AllUsedAtMost n s
 
--- The system is as sound as the history is long, and the history has its room.
-pub record IsKept (s : TracedSystem) (history : Kept) (places : ℕ) : Type 0 where
-  pub sound : IsSound (length history.entries) s
+-- The system is as sound as the history is long, the state is lawful, and the history has its room.
+pub record IsKept (s : TracedState) (history : Kept) (places : ℕ) : Type 0 where
+  pub sound : IsSound (length history.entries) s.system
+  pub lawful : IsLawful s
   pub room : HasRoom history places

@@ -7,15 +7,12 @@ ghost use Rattle.pr_model.specs.State.{live_process, with_process};
 use crate::Machine;
 use crate::opens::is_writable;
 use pr_model::{Held, Reply};
-use pr_num::{Errno, Modes};
+use pr_num::{Errno, Modes, Sig};
 use pr_open::Opens;
 use pr_proc::{Sys, end, live, release};
 
-/// SIGKILL's number, which is the wait status of a process that it ended.
-const KILLED: u64 = 9;
-
 /// Lets the process of an id go, if there is one.
-#[tactic(auto, using(pr_num::proofs::TableLemmas::change_first_laws), unfolding(pr_model::specs::State::with_process))]
+#[tactic(auto, using(pr_num::proofs::ByIdLaws::by_id_laws), unfolding(pr_model::specs::State::with_process))]
 fn release_process(sys: &mut Sys, pid: u32)
     ensures { sys.new ≡ with_process pid released sys.old }
 {
@@ -26,16 +23,16 @@ fn release_process(sys: &mut Sys, pid: u32)
 
 /// What the last close for writing does to a process, if it is live: under PR_KLC it ends as by SIGKILL; else under
 /// PR_RLC it is let go.
-#[tactic(auto, using(crate::proofs::CloseLemmas::close_laws), unfolding(pr_model::specs::Handles::with_last_close))]
+#[tactic(auto, using(pr_ctl::proofs::CloseLemmas::close_laws), unfolding(pr_model::specs::Handles::with_last_close))]
 fn end_tracing(sys: &mut Sys, pid: u32)
-    ensures { sys.new ≡ after_last_close (live_process sys.old pid) sys.old }
+    ensures { sys.new ≡ after_last_close pid (live_process sys.old pid) sys.old }
 {
     let Some(process) = live(sys, pid) else {
         return;
     };
-    let modes = process.modes;
+    let modes = process.control.modes;
     if modes.has(Modes::KLC) {
-        end(sys, pid, KILLED);
+        end(sys, pid, Sig::Kill.number());
     } else if modes.has(Modes::RLC) {
         release_process(sys, pid);
     }
@@ -50,7 +47,7 @@ fn was_last_writer(held: Held, others: &Opens) -> bool
 
 /// Closes a handle of a controller, or refuses it with EBADF; where no other handle for writing is left on its process,
 /// what the process's modes say follows. Takes no memory.
-#[tactic(auto, using(crate::proofs::CloseLemmas::close_laws), unfolding(pr_model::specs::Calls::close_answer, pr_model::specs::Handles::with_closed))]
+#[tactic(auto, unfolding(pr_model::specs::Calls::close_answer, pr_model::specs::Handles::with_closed))]
 pub fn close(state: &mut Machine, by: u32, handle: u32) -> Reply
     ensures { (record { state = state.new; reply = result }) ≡ close_answer state.old by handle }
 {

@@ -1,4 +1,4 @@
-ghost use Rattle.std.specs.Prelude.{◌≡◌, ◌≤◌, ◌<◌, ◌+◌, ◌^◌, [], true, length, All, Some, IsOk, OnOk, IfOk, OnErr, is_some};
+ghost use Rattle.std.specs.Prelude.{◌≡◌, ◌≤◌, ◌<◌, ◌+◌, [], false, true, length, slice_get, sum_by, All, Some, IsOk, OnOk, IfOk, OnErr, is_some};
 ghost use Rattle.std.specs.Option.{option_copied};
 ghost use Rattle.pr_model.specs.Calls.{answer_to};
 ghost use Rattle.pr_model.specs.FirstState.{first_state};
@@ -7,12 +7,15 @@ ghost use Rattle.pr_kern.specs.Kernels.{after_call, after_tick, after_turn, last
 ghost use Rattle.pr_model.specs.LwpTurns.{can_move};
 ghost use Rattle.pr_kern.specs.Orders.{next_of};
 ghost use Rattle.pr_kern.specs.Starts.{stored};
+ghost use Rattle.pr_num.specs.Limits.{all_mappings_limit, process_limit};
 ghost use Rattle.pr_parts.specs.FileTables.{names_differ};
+ghost use Rattle.pr_lawful.specs.Starts.{size_at_start};
+ghost use Rattle.pr_turn.specs.CallTurns.{may_take_memory};
 
 use crate::Machine;
 use crate::calls::{answer, ready};
 use crate::sleepers::some_sleeper;
-use crate::starts::first_machine;
+use crate::starts::{first_machine, keep_limits};
 use crate::turns::next_movable;
 use pr_asm::Program;
 use pr_model::{Act, Actor, Call, Entry, History, Reply, Turned};
@@ -40,12 +43,13 @@ impl Model for Kern {
 
     ghost view = { λ a. record { state = a.state; history = a.history.entries; places = a.places } };
 
-    ghost invariant = { λ a. IsKept a.state.system a.history a.places };
+    ghost invariant = { λ a. IsKept a.state a.history a.places };
 }
 
 impl Kern {
     /// A kernel with these programs and files, in the state before the first step, with a process of each program that
-    /// is spawned, by its place among the programs. It has places for so many entries.
+    /// is spawned, by its place among the programs: 4,095 at most, which together map 64 MiB at most. It has places for so
+    /// many entries.
     pub fn new(
         alloc: Global,
         programs: Vec<Program>,
@@ -53,7 +57,8 @@ impl Kern {
         spawns: &[u32],
         places: u32,
     ) -> Result<Kern, NoMemory>
-        requires spawns { length spawns.now + 1 < 2 ^ 32 }
+        requires spawns { length spawns.now + 1 ≤ process_limit }
+        requires mapped { sum_by (λ place. size_at_start (slice_get programs.items place)) spawns.now ≤ all_mappings_limit }
         requires few { length files.items ≤ 256 }
         requires short { All (λ f. length f.1 ≤ 65536) files.items }
         requires own_names { names_differ (stored files.items) ≡ true }
@@ -61,6 +66,8 @@ impl Kern {
         ensures history { IfOk result (λ kernel. kernel.history ≡ []) }
         ensures places { IfOk result (λ kernel. kernel.places ≡ places) }
     {
+        // their type keeps the programs within their limits, so that the first state is lawful
+        keep_limits(&programs);
         let state = first_machine(alloc, programs, files, spawns)?;
         let mut history = History::new(alloc);
         history.reserve(places as usize)?;
@@ -79,8 +86,8 @@ impl Kern {
         ready(&self.state, by, call)
     }
 
-    /// Makes a call of a controller: the machine answers it, and its entry is added. Opening, closing, control messages
-    /// and their waits take no memory; where memory runs out, the kernel is as it was.
+    /// Makes a call of a controller: the machine answers it, and its entry is added. Reads, lists, the making of
+    /// processes, PCREAD and PCAGENT alone take memory; where it runs out, the kernel is as it was.
     #[tactic(auto, unfolding(crate::specs::Kernels::after_call))]
     pub fn call(&mut self, by: u32, call: Call) -> Result<(), NoMemory>
         requires by { by < 64 }
@@ -128,15 +135,17 @@ impl Kern {
         }
     }
 
-    /// Gives an lwp a turn, and adds its entry. No turn that is built takes memory.
+    /// Gives an lwp a turn, and adds its entry. A turn may take memory where it performs a call that does; where memory
+    /// runs out, the kernel is as it was.
     #[tactic(auto, unfolding(crate::specs::Kernels::after_turn))]
     pub fn lwp_turn(&mut self, pid: u32, lwp: u32) -> Result<Turned, NoMemory>
         requires movable { can_move self.old.state.system pid lwp ≡ true }
         requires place { length self.old.history < self.old.places }
         ensures ok { IfOk result (λ turned. after_turn pid lwp self.old ≡ Some (record { kernel = self.new; turned = turned })) }
-        ensures sure { IsOk result }
+        ensures err { OnErr result (self.new ≡ self.old) }
+        ensures sure { may_take_memory self.old.state.system pid lwp ≡ false → IsOk result }
     {
-        let turned = turn(&mut self.state.system, pid, lwp);
+        let turned = turn(self.alloc, &mut self.state.system, pid, lwp)?;
         self.history.push(Entry {
             actor: Actor::Lwp(pid, lwp),
             act: Act::Turn(turned),

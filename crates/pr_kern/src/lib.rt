@@ -4,13 +4,12 @@
 mod as_kernel;
 mod calls;
 mod closes;
+mod interrupts;
 mod kernels;
 mod laws;
-mod messages;
 mod opens;
-mod plans;
-mod records;
-mod running;
+mod reads;
+mod sending;
 mod sleepers;
 mod starts;
 mod turns;
@@ -18,14 +17,8 @@ mod turns;
 pub use closes::close;
 pub use kernels::Kern;
 pub use laws::made_entries_are_legal;
-pub use messages::{control, control_wait};
 pub use opens::open;
-pub use records::{part_read, status_words};
-pub use running::{run, run_refused};
 
 /// The state that a machine is in: the system, the open handles, and the interrupted controllers. Contracts see it as
 /// the traced state of the definitions.
 pub type Machine = pr_model::State<pr_proc::Sys, pr_open::Opens>;
-
-#[cfg(test)]
-mod tests;

@@ -2,44 +2,16 @@
 ghost use Rattle.std.specs.Prelude.{◌≡◌, ◌==◌, ◌&&◌, ◌||◌, not};
 ghost use Rattle.std.specs.Option.{option_copied};
 ghost use Rattle.pr_model.specs.Calls.{Answer, open_answer};
-ghost use Rattle.pr_model.specs.Handles.{fits_file, handle_of, has_file, is_control, is_of_lwp, is_writable, outlives};
+ghost use Rattle.pr_model.specs.Handles.{fits_file, has_file, is_writable};
 ghost use Rattle.pr_kern.specs.Openings.{errno_of};
 
 use crate::Machine;
+use pr_ctl::{is_control, is_of_lwp};
 use pr_model::{File, Held, Mode, Reply};
 use pr_num::Errno;
 use pr_open::{OpenNo, Opens};
 use pr_proc::Proc;
-
-/// Whether a file takes control messages.
-pub fn is_control(file: File) -> bool
-    ensures { result ≡ is_control file }
-{
-    match file {
-        File::Ctl | File::Lwpctl => true,
-        _ => false,
-    }
-}
-
-/// Whether a file belongs to one lwp.
-pub fn is_of_lwp(file: File) -> bool
-    ensures { result ≡ is_of_lwp file }
-{
-    match file {
-        File::Lwpctl | File::Lwpstatus => true,
-        _ => false,
-    }
-}
-
-/// Whether a file outlives its process, until that is reaped.
-fn outlives(file: File) -> bool
-    ensures { result ≡ outlives file }
-{
-    match file {
-        File::Psinfo | File::Usage => true,
-        _ => false,
-    }
-}
+use pr_view::outlives;
 
 /// Whether a mode is for writing.
 pub fn is_writable(mode: Mode) -> bool
@@ -48,16 +20,6 @@ pub fn is_writable(mode: Mode) -> bool
     match mode {
         Mode::Read => false,
         Mode::Write | Mode::WriteExcl => true,
-    }
-}
-
-/// The handle of a number, if this controller has it open.
-pub fn own(opens: &Opens, by: u32, number: u32) -> Option<Held>
-    ensures { result ≡ handle_of opens.now by number }
-{
-    match opens.get(by, number) {
-        Ok(held) => Some(*held),
-        Err(_) => None,
     }
 }
 

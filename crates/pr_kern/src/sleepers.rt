@@ -1,10 +1,11 @@
-//! Whether the clock has somebody to wake.
+//! Whether the clock has an lwp to wake.
 ghost use Rattle.std.specs.Prelude.{◌≡◌};
-ghost use Rattle.pr_kern.specs.Kernels.{has_sleeper, sleeps_on, some_sleeper};
+ghost use Rattle.std.specs.List.{list_any};
+ghost use Rattle.pr_kern.specs.Kernels.{is_sleeper, sleeps_on, some_sleeper};
 
 use pr_model::Phase;
 use pr_num::Sysno;
-use pr_proc::{Proc, Sys};
+use pr_proc::{Lwp, Sys};
 
 /// Whether a phase is asleep in the call sleep until a moment that is later than this clock.
 fn sleeps_on(clock: u64, phase: Phase) -> bool
@@ -20,14 +21,10 @@ fn sleeps_on(clock: u64, phase: Phase) -> bool
     }
 }
 
-fn has_sleeper(clock: u64, process: &Proc) -> bool
-    ensures { result ≡ has_sleeper clock process.now }
+fn has_sleeper(clock: u64, lwps: &[(u32, Lwp)]) -> bool
+    ensures { result ≡ list_any (is_sleeper clock) lwps.now }
 {
-    process
-        .lwps
-        .as_slice()
-        .iter()
-        .any(|lwp| sleeps_on(clock, lwp.phase))
+    lwps.iter().any(|entry| sleeps_on(clock, entry.1.phase))
 }
 
 /// Whether some lwp, stopped or not, sleeps in the call sleep with a later moment.
@@ -38,5 +35,5 @@ pub fn some_sleeper(sys: &Sys) -> bool
     sys.processes
         .as_slice()
         .iter()
-        .any(|process| has_sleeper(clock, process))
+        .any(|entry| has_sleeper(clock, entry.1.lwps.as_slice()))
 }

@@ -1,8 +1,10 @@
 //! The state before the first step.
-ghost use Rattle.std.specs.Prelude.{◌≡◌, ◌≤◌, ◌+◌, ◌<◌, ◌^◌, All, length, true, IfOk};
+ghost use Rattle.std.specs.Prelude.{◌≡◌, ◌≤◌, ◌+◌, All, length, true, IfOk};
+ghost use Rattle.pr_num.specs.Limits.{process_limit};
 ghost use Rattle.pr_parts.specs.FileTables.{names_differ};
 ghost use Rattle.pr_proc.specs.FirstFiles.{stored_alone};
 ghost use Rattle.pr_model.specs.FirstState.{first_state};
+ghost use Rattle.pr_model.specs.Lawful.{IsLawfulProgram};
 ghost use Rattle.pr_kern.specs.Starts.{stored};
 
 use crate::Machine;
@@ -28,6 +30,24 @@ fn stored(alloc: Global, files: Vec<(Name, Bytes)>) -> Result<Files, NoMemory>
     Ok(all)
 }
 
+/// A program is within its limits, as its type keeps it. Does nothing.
+fn keep_limit(program: &Program)
+    ensures { IsLawfulProgram program.now }
+{
+    let code = program.code().len();
+    let bytes = program.data().len();
+    prove!(code <= Program::MAX_CODE && bytes <= Program::MAX_DATA);
+}
+
+/// So are all of these. Does nothing.
+pub fn keep_limits(programs: &[Program])
+    ensures { All IsLawfulProgram programs.now }
+{
+    for program in programs {
+        keep_limit(program);
+    }
+}
+
 /// The state before the first step: these programs and files, a process of each program that is spawned, by its place
 /// among the programs, nothing open and nobody interrupted.
 #[tactic(auto, unfolding(pr_model::specs::FirstState::first_state))]
@@ -37,7 +57,7 @@ pub fn first_machine(
     files: Vec<(Name, Bytes)>,
     spawns: &[u32],
 ) -> Result<Machine, NoMemory>
-    requires spawns { length spawns.now + 1 < 2 ^ 32 }
+    requires spawns { length spawns.now + 1 ≤ process_limit }
     requires few { length files.items ≤ 256 }
     requires short { All (λ f. length f.1 ≤ 65536) files.items }
     requires own_names { names_differ (stored files.items) ≡ true }
