@@ -1,7 +1,5 @@
 pub mod FaultLemmas
 pub mod PlaceLemmas
-pub mod QuoteLemmas
 pub mod ReadingLemmas
 pub mod SpellingLemmas
 pub mod SymbolLemmas
-pub mod TokenLemmas

@@ -93,7 +93,7 @@ module _ (old new added : Places) (above below : Layout) (line : ℕ) (read : Re
         ∙ ap (λ ps. first_of (found old name) (place_among ps name)) (below_line old new above below line read s is under rest);
   }
 
--- before the first line, and behind the last
+-- before the first line, and after the last
 pub places-start : (places : Places) (first n : ℕ) (reads : List (Result Statement AsmKind)) → n ≡ first → ((name : List ℕ) → found places name ≡ None) → (name : List ℕ) → first_of (found places name) (place_among (placed_from nothing_above n reads) name) ≡ place_in first reads name
 unfolding place_in
 places-start places first n reads e empty name =

@@ -1,5 +1,5 @@
 -- Programs line by line.
-use Rattle.std.proofs.Common.{◌≡◌, ℕ, ◌+◌, ◌<◌, ◌≤◌, List, [], ◌∷◌, ◌==◌, length, drop, get_or, Result, Ok, Err, sym, ◌∙◌, ap, arith}
+use Rattle.std.proofs.Common.{◌≡◌, ℕ, ◌+◌, ◌<◌, ◌≤◌, List, [], ◌∷◌, ◌==◌, length, drop, get_or, map, Result, Ok, Err, sym, ◌∙◌, ap, arith}
 use Rattle.std.proofs.lemmas.List.{drop_all, drop_more, length-map}
 use Rattle.std.proofs.lemmas.List.Splits.{length-slice_split}
 use Rattle.std.proofs.lemmas.List.Sums.{count_by-le-length}
@@ -14,7 +14,7 @@ use Rattle.pr_asm.specs.declared.statements.Statement.{Statement}
 use Rattle.pr_asm.specs.Reading.{Stops}
 use Rattle.pr_asm.specs.Statements.{statement_of}
 use Rattle.std.proofs.Common.{Option}
-use Rattle.pr_asm.specs.Assembly.{read_added, numbered, with_lines, assembled, lines_of, reads_of}
+use Rattle.pr_asm.specs.Assembly.{read_added, numbered, with_lines, assembled, lines_of}
 use Rattle.pr_asm.specs.Limits.{program}
 use Rattle.pr_asm.specs.Parts.{◌>>=◌}
 use Rattle.pr_asm.specs.Placing.{found, place_in}
@@ -44,11 +44,12 @@ lines-end place_of n i p reads whole over kept =
     sym kept ∙ ap (with_lines place_of n p) (drop_all i reads over)
 
 -- a text has at most one line more than bytes
-few_lines : (text : List ℕ) → length (lines_of text) ≤ length text + 1
+pub few_lines : (text : List ℕ) → length (lines_of text) ≤ length text + 1
 few_lines text = omega (arith, length-slice_split (λ b. b == 10) text, count_by-le-length (λ b. b == 10) text)
 
-pub few_reads : (text : List ℕ) → length (reads_of text) ≤ length text + 1
-few_reads text = omega (arith, length-map (lines_of text) statement_of, few_lines text)
+-- so many lines that are read
+pub few_read : {L : Type 0} (lines : List L) (now : L → List ℕ) (reads : List (Result Statement AsmKind)) → reads ≡ map statement_of (map now lines) → length reads ≡ length lines
+few_read lines now reads e = ap length e ∙ length-map (map now lines) statement_of ∙ length-map lines now
 
 -- what stops on a line stops the whole
 pub stops_whole : (e : AsmRefusal) (read whole : Result Program AsmFault) → Stops e read → ((fault : AsmFault) → read ≡ Err fault → whole ≡ Err fault) → Stops e whole

@@ -29,9 +29,10 @@ use Rattle.pr_asm.specs.declared.statements.Statement.{Statement}
 use Rattle.pr_asm.specs.declared.statements.Statement.TheVariants.{Blank, Label, Data, Code}
 use Rattle.pr_num.specs.declared.instructions.Instruction.{Instruction}
 use Rattle.pr_num.specs.declared.instructions.Instruction.TheVariants.{Bpt, Nop, Set, Mov, Add, Sub, Mul, Div, Ld, St, Ldb, Stb, Jmp, Jz, Jnz, Jlt, Call, Ret, Sys}
-use Rattle.pr_asm.specs.Names.{is_letter, is_name_byte, is_name, name_of, label_of}
-use Rattle.pr_asm.specs.Numerals.{digit_of, with_digit, number_from, number_after_zero, number_of}
-use Rattle.pr_asm.specs.Quotes.{before, bytes_between, escaped_bytes, hex_bytes, quoted_bytes}
+use Rattle.pr_asm.specs.Names.{label_of}
+use Rattle.pr_text.specs.Names.{is_letter, is_name_byte, is_name, name_of}
+use Rattle.pr_text.specs.NumberWords.{digit_of, with_digit, number_from, number_after_zero, number_of}
+use Rattle.pr_text.specs.QuotedWords.{before, bytes_between, escaped_bytes, hex_bytes, quoted_bytes}
 use Rattle.pr_asm.specs.Spelling.{register_text, immediate_text, code_words, escaped, quoted, statement_words, spaced, spelled, text_of_statements, IsImmediate, IsCode, IsStatement}
 
 -- ---- words with a blank before each
@@ -45,7 +46,7 @@ pub record IsToken (w : List ℕ) : Type 0 where
   pub one : (at : ℕ) (ws : List (List ℕ)) → words_from at (w ++ spaced ws) ≡ record { start = at; end = at + length w } ∷ words_from (at + length w) (spaced ws)
   pub line : list_all is_inline w ≡ true
 
--- the bytes of a word that stands in a line behind a front
+-- the bytes of a word that stands in a line after a prefix
 text_at : (line front w rest : List ℕ) (at end : ℕ) → length front ≡ at → end ≡ at + length w → line ≡ front ++ (w ++ rest) → line_words.text_of line (record { start = at; end = end }) ≡ w
 text_at line front w rest at end size last whole =
     ap (λ l. take (end - at) (drop at l)) whole ∙ ap (take (end - at)) (drop_at front (w ++ rest) at size) ∙ take_at w rest (end - at) (omega arith)
@@ -196,12 +197,9 @@ read_quoted bytes =
     let enough : leb 2 (length (quoted bytes)) ≡ true = le-leb 2 (length (quoted bytes)) (omega arith) in
     let last : get_or (quoted bytes) (length (quoted bytes) - 1) 0 ≡ 34 =
     ap (λ n. get_or (quoted bytes) n 0) last_place ∙ get_or-append_seam (34 ∷ body) 34 [] 0 in
-    let ahead : eqb (get_or (quoted bytes) (length (quoted bytes) - 2) 0) 92 ≡ false =
-    ap (λ n. eqb (get_or (quoted bytes) n 0) 92) next_place ∙ ap (λ n. eqb n 92) (get_or_append_left (34 ∷ body) (34 ∷ []) 0 (length body) (omega arith)) ∙ last_plain bytes 34 refl in
     let inside : take (length (quoted bytes) - 2) (body ++ 34 ∷ []) ≡ body = take_at body (34 ∷ []) (length (quoted bytes) - 2) (sym next_place) in
-    ap (λ v. cond (v && true && eqb (get_or (quoted bytes) (length (quoted bytes) - 1) 0) 34 && not (eqb (get_or (quoted bytes) (length (quoted bytes) - 2) 0) 92)) (bytes_between (take (length (quoted bytes) - 2) (body ++ 34 ∷ []))) None) enough
-    ∙ ap (λ n. cond (eqb n 34 && not (eqb (get_or (quoted bytes) (length (quoted bytes) - 2) 0) 92)) (bytes_between (take (length (quoted bytes) - 2) (body ++ 34 ∷ []))) None) last
-    ∙ ap (λ v. cond (not v) (bytes_between (take (length (quoted bytes) - 2) (body ++ 34 ∷ []))) None) ahead
+    ap (λ v. cond (v && true && eqb (get_or (quoted bytes) (length (quoted bytes) - 1) 0) 34) (bytes_between (take (length (quoted bytes) - 2) (body ++ 34 ∷ []))) None) enough
+    ∙ ap (λ n. cond (eqb n 34) (bytes_between (take (length (quoted bytes) - 2) (body ++ 34 ∷ []))) None) last
     ∙ ap bytes_between inside ∙ between_escaped bytes
 
 -- ---- numbers
@@ -236,7 +234,7 @@ digit-push v d small fits =
     ∙ ap (λ b. cond (b && ltb (v * 10 + d) (2 ^ 64)) (Some (v * 10 + d)) None) (lt-ltb d 10 small)
     ∙ ap (λ b. cond b (Some (v * 10 + d)) None) (lt-ltb (v * 10 + d) (2 ^ 64) fits)
 
-digit_plain : (d : ℕ) → d < 10 → is_plain (48 + d) ≡ true
+pub digit_plain : (d : ℕ) → d < 10 → is_plain (48 + d) ≡ true
 digit_plain zero small = refl
 digit_plain (suc zero) small = refl
 digit_plain (suc (suc zero)) small = refl

@@ -128,7 +128,7 @@ symbol_somewhere pc from labels name at e same above =
     let far = s.far in
     omega arith
 
--- a label at a place, and the labels behind it
+-- a label at a place, and the labels after it
 pub label_at : (labels : List Label) (i : ℕ) (item d : Label) → item ≡ get_or labels i d → i < length labels → All (λ l. l.place ≤ 4096) labels → item.place ≤ 4096
 label_at labels i item d here inside all =
     let P : Label → Type 0 = λ l. l.place ≤ 4096 in subst P (sym here) (All-get_or P labels i d inside all)

@@ -115,8 +115,12 @@ reads_of text = map statement_of (lines_of text)
 unfoldable pub assembled : List ℕ → ℕ → List (Result Statement AsmKind) → Result Program AsmFault
 assembled name first reads = with_lines (place_in first reads) first (program name [] [] []) reads
 
--- The program of this name that a text spells, whose lines count from `first`, or the first line that is refused. First
--- each line is read on its own, then the names of the well formed lines are placed, and then the program is put
--- together line by line.
+-- The program of this name that lines spell, which count from `first`, or the first of them that is refused. First each
+-- line is read on its own, then the names of the well formed lines are placed, and then the program is put together line
+-- by line.
+abbrev pub program_in : List ℕ → List (List ℕ) → ℕ → Result Program AsmFault
+program_in name lines first = assembled name first (map statement_of lines)
+
+-- the same of a text
 abbrev pub program_of : List ℕ → List ℕ → ℕ → Result Program AsmFault
-program_of name text first = assembled name first (reads_of text)
+program_of name text first = program_in name (lines_of text) first

@@ -3,11 +3,9 @@ pub mod Faults
 pub mod Limits
 pub mod Mnemonics
 pub mod Names
-pub mod Numerals
 pub mod Operands
 pub mod Parts
 pub mod Placing
-pub mod Quotes
 pub mod Reading
 pub mod Spelling
 pub mod Statements

@@ -4,8 +4,8 @@ use Rattle.pr_num.specs.Instructions.{registers}
 use Rattle.pr_num.specs.Syscalls.{syscall_of_name}
 use Rattle.pr_num.specs.declared.instructions.Reg.{Reg}
 use Rattle.pr_num.specs.declared.syscalls.Sysno.{Sysno}
-use Rattle.pr_asm.specs.Names.{is_name}
-use Rattle.pr_asm.specs.Numerals.{number_of}
+use Rattle.pr_text.specs.Names.{is_name}
+use Rattle.pr_text.specs.NumberWords.{number_of}
 use Rattle.pr_asm.specs.Parts.{◌>>=◌, ok_or, one, two, three}
 use Rattle.pr_asm.specs.declared.operands.Immediate.{Immediate}
 use Rattle.pr_asm.specs.declared.refusals.AsmKind.{AsmKind}

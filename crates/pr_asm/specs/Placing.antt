@@ -6,7 +6,7 @@ use Rattle.std.specs.declared.cmp.Ordering.{Ordering}
 use Rattle.std.specs.Cmp.Lexicographic.{slice_cmp}
 use Rattle.std.specs.Map.{lookup}
 use Rattle.std.specs.BTreeMap.{get}
-use Rattle.pr_asm.specs.declared.keys.Key.{Key}
+use Rattle.pr_text.specs.declared.keys.Key.{Key}
 use Rattle.pr_asm.specs.declared.places.Place.{Place}
 use Rattle.pr_asm.specs.declared.places.Places.{Places}
 use Rattle.pr_asm.specs.declared.layouts.Layout.{Layout}
@@ -18,7 +18,7 @@ use Rattle.pr_asm.specs.declared.refusals.AsmKind.{AsmKind}
 abbrev pub aligned : ℕ → ℕ
 aligned n = (n + 7) / 8 * 8
 
--- whether so many bytes and zeros stay within 65,536 bytes of data, behind so many
+-- whether so many bytes and zeros stay within 65,536 bytes of data, after so many
 abbrev pub has_room : ℕ → ℕ → ℕ → Bool
 has_room above len zeros = nat_le (aligned above + len + zeros) 65536
 
@@ -48,7 +48,7 @@ placed above line (Label name) = Some (name, record { line = line; value = 0x100
 placed above line (Data name bytes zeros) = Some (name, record { line = line; value = 0x80000 + aligned above.bytes })
 placed above line (Code i name) = None
 
--- a list with one more in front, if there is one
+-- a list with one more at the head, if there is one
 abbrev pub and_then_all : {A : Type 0} → Option A → List A → List A
 and_then_all None xs = xs
 and_then_all (Some x) xs = x ∷ xs

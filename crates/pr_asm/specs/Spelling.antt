@@ -8,7 +8,7 @@ use Rattle.pr_num.specs.declared.instructions.Instruction.TheVariants.{Bpt, Nop,
 use Rattle.pr_num.specs.declared.instructions.Reg.{Reg}
 use Rattle.pr_asm.specs.declared.statements.Statement.{Statement}
 use Rattle.pr_asm.specs.declared.statements.Statement.TheVariants.{Blank, Label, Data, Code}
-use Rattle.pr_asm.specs.Names.{is_name}
+use Rattle.pr_text.specs.Names.{is_name}
 
 -- a register is r and its digit
 abbrev pub register_text : Reg → List ℕ
@@ -69,7 +69,7 @@ spaced (w ∷ ws) = 32 ∷ w ++ spaced ws
 abbrev pub spelled : Statement → List ℕ
 spelled s = spaced (statement_words s)
 
--- What can be spelled: names have their form; zeros are 1 to 65,536, and behind bytes they are one; an immediate is a
+-- What can be spelled: names have their form; zeros are 1 to 65,536, and after bytes they are one; an immediate is a
 -- word, and 0 where a name stands for it, which no instruction without an immediate has.
 abbrev pub IsImmediate : Option (List ℕ) → ℕ → Type 0
 IsImmediate None n = n < 2 ^ 64

@@ -9,9 +9,10 @@ use Rattle.pr_asm.specs.declared.statements.Statement.TheVariants.{Blank, Label,
 use Rattle.pr_asm.specs.declared.refusals.AsmKind.{AsmKind}
 use Rattle.pr_asm.specs.declared.refusals.AsmKind.TheVariants.{UnknownWord, BadOperand}
 use Rattle.pr_asm.specs.Mnemonics.{mnemonics, is_spelled}
-use Rattle.pr_asm.specs.Names.{name_of, label_of}
-use Rattle.pr_asm.specs.Numerals.{number_of}
-use Rattle.pr_asm.specs.Quotes.{quoted_bytes}
+use Rattle.pr_asm.specs.Names.{label_of}
+use Rattle.pr_text.specs.Names.{name_of}
+use Rattle.pr_text.specs.NumberWords.{number_of}
+use Rattle.pr_text.specs.QuotedWords.{quoted_bytes}
 use Rattle.pr_asm.specs.Parts.{◌>>=◌, ok_or, none, two}
 use Rattle.pr_text.specs.Words.{texts_of}
 use Rattle.pr_asm.specs.Operands.{two_registers, register_and_immediate, registers_and_immediate, one_immediate, one_call}

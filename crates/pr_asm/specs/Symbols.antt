@@ -22,11 +22,11 @@ unfoldable pub nearest : ℕ → Option (List ℕ × ℕ) → List Label → Opt
 nearest pc best [] = best
 nearest pc best (l ∷ ls) = nearest pc (nearer pc best l) ls
 
--- the last label at or below pc, and how far pc lies behind it
+-- the last label at or below pc, and how far pc lies past it
 unfoldable pub symbol_at : Program → ℕ → Option (List ℕ × ℕ)
 symbol_at p pc = option_map (λ l. (l.0, pc - l.1)) (nearest pc None p.labels)
 
--- One of these labels is the last at or below pc: it has this name, and pc lies so far behind it. No label at or below
+-- One of these labels is the last at or below pc: it has this name, and pc lies so far past it. No label at or below
 -- pc is higher, and none of those on later lines is as high.
 pub record IsSymbol (labels : List Label) (pc : ℕ) (name : List ℕ) (distance : ℕ) : Type 0 where
   pub label : Label

@@ -5,8 +5,9 @@ ghost use Rattle.pr_asm.specs.Placing.{found};
 ghost use Rattle.pr_asm.specs.Reading.{LineGave};
 
 use crate::places::Places;
-use crate::{AsmFault, AsmKind, AsmRefusal, Refused};
+use crate::{AsmFault, AsmKind, AsmRefusal};
 use pr_num::{Instruction, Name};
+use pr_text::Refused;
 
 /// An instruction with another immediate, where it has one.
 #[tactic(auto, unfolding(crate::specs::Assembly::with_immediate))]
@@ -82,7 +83,7 @@ pub fn is_first(places: &Places, line: u32, name: Name) -> bool
 }
 
 /// What a line answered, with the number of the line where it is refused.
-pub fn at_line(line: u32, answer: Result<(), Refused>) -> Result<(), AsmRefusal>
+pub fn at_line(line: u32, answer: Result<(), Refused<AsmKind>>) -> Result<(), AsmRefusal>
     ensures { LineGave line answer result }
 {
     match answer {

@@ -8,8 +8,8 @@ ghost use Rattle.pr_asm.specs.Statements.{code_of};
 use crate::AsmKind;
 use crate::operands::{one_immediate, register_and_immediate, registers_and_immediate};
 use crate::statements::Statement;
-use crate::tokens::Tokens;
 use pr_num::Instruction;
+use pr_text::Tokens;
 
 pub fn set(operands: Tokens) -> Result<Statement, AsmKind>
     ensures { result ≡ code_of Mnemonic.Set operands.entry }

@@ -20,7 +20,7 @@ pub struct Layout {
     pub bytes: usize,
 }
 
-/// Where data begins behind so many bytes: at a multiple of 8.
+/// Where data begins after so many bytes: at a multiple of 8.
 pub fn aligned(bytes: usize) -> usize
     requires { bytes ≤ 65536 }
     ensures value { result ≡ aligned bytes }
@@ -30,7 +30,7 @@ pub fn aligned(bytes: usize) -> usize
 }
 
 impl Layout {
-    /// Whether so many bytes of data and zeros behind them stay within the limit of a program.
+    /// Whether so many bytes of data and zeros after them stay within the limit of a program.
     pub fn has_room(self, len: usize, zeros: u64) -> bool
         requires { self.bytes ≤ 65536 }
         ensures { result ≡ has_room self.bytes len zeros }

@@ -3,11 +3,8 @@ ghost use Rattle.std.specs.Prelude.{◌≡◌};
 ghost use Rattle.pr_asm.specs.Operands.{register, immediate, call, two_registers, register_and_immediate, registers_and_immediate, one_immediate, one_call};
 
 use crate::AsmKind;
-use crate::names::name_of;
-use crate::numerals::number_of;
-use crate::parts::{one, three, two};
-use crate::tokens::Tokens;
 use pr_num::{Name, Reg, Sysno};
+use pr_text::{Tokens, name_of, number_of, one, three, two};
 
 /// An immediate: a number, or a name of the program, whose value is filled in once the program's names are known.
 #[derive(Clone, Copy)]
@@ -55,7 +52,7 @@ fn call(word: &[u8]) -> Result<Sysno, AsmKind>
 pub fn two_registers(operands: Tokens) -> Result<(Reg, Reg), AsmKind>
     ensures { result ≡ two_registers operands.entry }
 {
-    let (a, b) = two(operands)?;
+    let (a, b) = two(operands, AsmKind::BadOperand)?;
     Ok((register(a)?, register(b)?))
 }
 
@@ -63,7 +60,7 @@ pub fn two_registers(operands: Tokens) -> Result<(Reg, Reg), AsmKind>
 pub fn register_and_immediate(operands: Tokens) -> Result<(Reg, Immediate), AsmKind>
     ensures { result ≡ register_and_immediate operands.entry }
 {
-    let (a, b) = two(operands)?;
+    let (a, b) = two(operands, AsmKind::BadOperand)?;
     Ok((register(a)?, immediate_of(b)?))
 }
 
@@ -71,7 +68,7 @@ pub fn register_and_immediate(operands: Tokens) -> Result<(Reg, Immediate), AsmK
 pub fn registers_and_immediate(operands: Tokens) -> Result<(Reg, Reg, Immediate), AsmKind>
     ensures { result ≡ registers_and_immediate operands.entry }
 {
-    let (a, b, c) = three(operands)?;
+    let (a, b, c) = three(operands, AsmKind::BadOperand)?;
     Ok((register(a)?, register(b)?, immediate_of(c)?))
 }
 
@@ -79,12 +76,12 @@ pub fn registers_and_immediate(operands: Tokens) -> Result<(Reg, Reg, Immediate)
 pub fn one_immediate(operands: Tokens) -> Result<Immediate, AsmKind>
     ensures { result ≡ one_immediate operands.entry }
 {
-    immediate_of(one(operands)?)
+    immediate_of(one(operands, AsmKind::BadOperand)?)
 }
 
 #[tactic(auto, unfolding(crate::specs::Operands::one_call))]
 pub fn one_call(operands: Tokens) -> Result<Sysno, AsmKind>
     ensures { result ≡ one_call operands.entry }
 {
-    call(one(operands)?)
+    call(one(operands, AsmKind::BadOperand)?)
 }

@@ -3,10 +3,10 @@ ghost use Rattle.std.specs.Prelude.{◌≡◌, ◌+◌, ◌<◌, ◌≤◌, ◌^
 ghost use Rattle.pr_asm.specs.Placing.{found, first_of, place_in, SeesLine};
 
 use crate::AsmKind;
-use crate::keys::Key;
 use crate::layouts::Layout;
 use crate::statements::Statement;
 use pr_num::{Name, NoMemory};
+use pr_text::Key;
 use std::alloc::Global;
 use std::collections::BTreeMap;
 

@@ -5,15 +5,17 @@ ghost use Rattle.pr_num.specs.Instructions.{instruction_bytes};
 ghost use Rattle.pr_num.specs.Programs.{text_of};
 ghost use Rattle.pr_asm.specs.Limits.{program, IsWithinLimits};
 ghost use Rattle.pr_asm.specs.Placing.{aligned, found};
-ghost use Rattle.pr_asm.specs.Reading.{Gives, Answers};
+ghost use Rattle.pr_asm.specs.Reading.{Answers};
+ghost use Rattle.pr_text.specs.Reads.{Gives};
 ghost use Rattle.pr_asm.specs.Assembly.{layout_of, with_label, with_data, with_code, label_added, data_added, code_added, with_statement, read_added, numbered};
 
 use crate::assembly::{at_line, filled, is_first};
 use crate::layouts::{Layout, aligned};
 use crate::places::Places;
 use crate::statements::Statement;
-use crate::{AsmKind, AsmRefusal, Label, Refused};
+use crate::{AsmKind, AsmRefusal, Label};
 use pr_num::{Instruction, Name, NoMemory};
+use pr_text::Refused;
 use std::alloc::Global;
 use std::marker::Model;
 
@@ -152,7 +154,12 @@ impl Program {
 
     /// Adds a label, where its name is placed first.
     #[tactic(auto, unfolding(crate::specs::Assembly::label_added))]
-    fn place_label(&mut self, places: &Places, line: u32, name: Name) -> Result<(), Refused>
+    fn place_label(
+        &mut self,
+        places: &Places,
+        line: u32,
+        name: Name,
+    ) -> Result<(), Refused<AsmKind>>
         ensures { Gives (λ _. self.new) result (label_added (found places.now) line self.old name) }
     {
         if !is_first(places, line, name) {
@@ -171,7 +178,7 @@ impl Program {
         name: Name,
         bytes: &[u8],
         zeros: u64,
-    ) -> Result<(), Refused>
+    ) -> Result<(), Refused<AsmKind>>
         ensures { Gives (λ _. self.new) result (data_added (found places.now) line self.old name bytes.now zeros) }
     {
         if !is_first(places, line, name) {
@@ -191,7 +198,7 @@ impl Program {
         places: &Places,
         instruction: Instruction,
         name: Option<Name>,
-    ) -> Result<(), Refused>
+    ) -> Result<(), Refused<AsmKind>>
         ensures { Gives (λ _. self.new) result (code_added (found places.now) self.old instruction name) }
     {
         let instruction = filled(places, instruction, name)?;
@@ -204,7 +211,12 @@ impl Program {
 
     /// Adds the statement of a line.
     #[tactic(auto, unfolding(crate::specs::Assembly::with_statement))]
-    fn add(&mut self, places: &Places, line: u32, statement: &Statement) -> Result<(), Refused>
+    fn add(
+        &mut self,
+        places: &Places,
+        line: u32,
+        statement: &Statement,
+    ) -> Result<(), Refused<AsmKind>>
         ensures { Gives (λ _. self.new) result (with_statement (found places.now) line self.old statement.now) }
     {
         match statement {

@@ -1,13 +1,14 @@
 //! Programs as text.
 ghost use Rattle.std.specs.Prelude.{◌≡◌, ◌+◌, ◌<◌, ◌≤◌, ◌^◌, length, map, IfOk};
-ghost use Rattle.pr_asm.specs.Assembly.{assembled, lines_of, reads_of, program_of};
+ghost use Rattle.pr_asm.specs.Assembly.{assembled, lines_of, program_in, program_of};
 ghost use Rattle.pr_asm.specs.Reading.{Answers};
 ghost use Rattle.pr_asm.specs.Statements.{statement_of};
 
 use crate::places::Places;
 use crate::statements::{Statement, statement_of};
-use crate::{AsmKind, AsmRefusal, Program, Refused};
+use crate::{AsmKind, AsmRefusal, Program};
 use pr_num::{Name, NoMemory};
+use pr_text::Refused;
 use std::alloc::{AllocError, Global};
 
 /// What a line says on its own, or the kind for which it is refused.
@@ -28,13 +29,12 @@ fn lines_of(alloc: Global, text: &[u8]) -> Result<Vec<&[u8]>, AllocError>
     text.split(|b| *b == b'\n').collect(alloc)
 }
 
-/// What each line of a text says on its own.
-fn reads_of(alloc: Global, text: &[u8]) -> Result<Vec<Result<Statement, AsmKind>>, NoMemory>
-    ensures { IfOk result (λ reads. reads.items ≡ reads_of text.now) }
+/// What each of these lines says on its own.
+fn reads_of(alloc: Global, lines: &[&[u8]]) -> Result<Vec<Result<Statement, AsmKind>>, NoMemory>
+    ensures { IfOk result (λ reads. reads.items ≡ map statement_of (map (λ line. line.now) lines.now)) }
 {
-    let lines = lines_of(alloc, text)?;
     let mut reads = Vec::new(alloc);
-    for line in &lines {
+    for line in lines {
         reads.push(read_line(alloc, line)?)?;
     }
     Ok(reads)
@@ -58,6 +58,30 @@ fn assemble(
     Ok(program)
 }
 
+/// The program of this name that lines spell, or the first of them that is refused. They count from `first_line`.
+///
+/// Takes time linear in the lines, but for the logarithm of the number of names.
+pub fn read_lines(
+    alloc: Global,
+    name: Name,
+    lines: &[&[u8]],
+    first_line: u32,
+) -> Result<Program, AsmRefusal>
+    requires { first_line + length lines.now ≤ 2 ^ 32 }
+    ensures { Answers (λ p. p) result (program_in name (map (λ line. line.now) lines.now) first_line) }
+{
+    let reads = reads_of(alloc, lines)?;
+    assemble(alloc, name, &reads, first_line)
+}
+
+/// The lines of a text, where out of memory is this repository's own.
+fn split_lines(alloc: Global, text: &[u8]) -> Result<Vec<&[u8]>, NoMemory>
+    ensures { IfOk result (λ lines. map (λ line. line.now) lines.items ≡ lines_of text.now) }
+{
+    let lines = lines_of(alloc, text)?;
+    Ok(lines)
+}
+
 /// The program of this name that a text spells, or its first line that is refused. The lines of the text count from
 /// `first_line`.
 ///
@@ -71,6 +95,6 @@ pub fn read_program(
     requires { first_line + length text.now < 2 ^ 32 }
     ensures { Answers (λ p. p) result (program_of name text.now first_line) }
 {
-    let reads = reads_of(alloc, text)?;
-    assemble(alloc, name, &reads, first_line)
+    let lines = split_lines(alloc, text)?;
+    read_lines(alloc, name, &lines, first_line)
 }

@@ -1,4 +1,5 @@
 use pr_num::NoMemory;
+use pr_text::Refused;
 use thiserror::Error;
 
 /// Why a line of a program is refused. Of several kinds in one line the first is named.
@@ -43,31 +44,13 @@ impl From<NoMemory> for AsmRefusal {
     }
 }
 
-/// Why one line is refused.
-#[derive(Clone, Copy)]
-pub enum Refused {
-    Kind(AsmKind),
-    NoMemory(NoMemory),
-}
-
-impl From<AsmKind> for Refused {
+impl From<AsmKind> for Refused<AsmKind> {
     ghost use Rattle.std.specs.Prelude.{◌≡◌};
-    ghost use Rattle.pr_asm.specs.declared.refusals.Refused.TheVariants as variants;
+    ghost use Rattle.pr_text.specs.declared.refusals.Refused.TheVariants as variants;
 
     ghost from_gives = { λ kind e. e ≡ variants.Kind kind };
 
-    fn from(kind: AsmKind) -> Refused {
+    fn from(kind: AsmKind) -> Refused<AsmKind> {
         Refused::Kind(kind)
-    }
-}
-
-impl From<NoMemory> for Refused {
-    ghost use Rattle.std.specs.Prelude.{◌≡◌};
-    ghost use Rattle.pr_asm.specs.declared.refusals.Refused.TheVariants as variants;
-
-    ghost from_gives = { λ error e. e ≡ variants.NoMemory error };
-
-    fn from(error: NoMemory) -> Refused {
-        Refused::NoMemory(error)
     }
 }

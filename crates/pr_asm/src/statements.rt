@@ -1,17 +1,14 @@
 //! The statements of a program, each read on its own line.
 ghost use Rattle.std.specs.Prelude.{◌≡◌, ◌==◌, Some, None, slice_index};
-ghost use Rattle.pr_asm.specs.Reading.{Gives};
+ghost use Rattle.pr_text.specs.Reads.{Gives};
 ghost use Rattle.pr_asm.specs.Statements.{code_of, text_of, space_of, statement_with, statement_of};
 
 use crate::mnemonics::Mnemonic;
-use crate::names::{label_of, name_of};
-use crate::numerals::number_of;
+use crate::names::label_of;
 use crate::operands::{one_call, two_registers};
-use crate::parts::{none, two};
-use crate::quotes::quoted_bytes;
-use crate::tokens::Tokens;
-use crate::{AsmKind, Refused, immediate_forms};
-use pr_num::{Bytes, Instruction, Name, NoMemory};
+use crate::{AsmKind, immediate_forms};
+use pr_num::{Bytes, Instruction, Name};
+use pr_text::{Refused, Tokens, name_of, none, number_of, quoted_bytes, two};
 use std::alloc::Global;
 
 /// What a line of a program says.
@@ -23,7 +20,7 @@ pub enum Statement {
     Label {
         name: Name,
     },
-    /// Bytes in the data, with so many zero bytes behind them.
+    /// Bytes in the data, with so many zero bytes after them.
     Data {
         name: Name,
         bytes: Bytes,
@@ -51,8 +48,8 @@ fn code_of(mnemonic: Mnemonic, operands: Tokens) -> Result<Statement, AsmKind>
     ensures { result ≡ code_of mnemonic operands.entry }
 {
     match mnemonic {
-        Mnemonic::Bpt => none(operands).map(|()| plain(Instruction::Bpt)),
-        Mnemonic::Nop => none(operands).map(|()| plain(Instruction::Nop)),
+        Mnemonic::Bpt => none(operands, AsmKind::BadOperand).map(|()| plain(Instruction::Bpt)),
+        Mnemonic::Nop => none(operands, AsmKind::BadOperand).map(|()| plain(Instruction::Nop)),
         Mnemonic::Set => immediate_forms::set(operands),
         Mnemonic::Mov => two_registers(operands).map(|(to, from)| plain(Instruction::Mov {
             to,
@@ -83,17 +80,17 @@ fn code_of(mnemonic: Mnemonic, operands: Tokens) -> Result<Statement, AsmKind>
         Mnemonic::Jnz => immediate_forms::jnz(operands),
         Mnemonic::Jlt => immediate_forms::jlt(operands),
         Mnemonic::Call => immediate_forms::call(operands),
-        Mnemonic::Ret => none(operands).map(|()| plain(Instruction::Ret)),
+        Mnemonic::Ret => none(operands, AsmKind::BadOperand).map(|()| plain(Instruction::Ret)),
         Mnemonic::Sys => one_call(operands).map(|call| plain(Instruction::Sys { call })),
     }
 }
 
 /// `text NAME "..."`.
 #[tactic(auto, unfolding(crate::specs::Statements::text_of))]
-fn text_of(alloc: Global, operands: Tokens) -> Result<Statement, Refused>
+fn text_of(alloc: Global, operands: Tokens) -> Result<Statement, Refused<AsmKind>>
     ensures { Gives (λ s. s) result (text_of operands.entry) }
 {
-    let (name, text) = two(operands)?;
+    let (name, text) = two(operands, AsmKind::BadOperand)?;
     let name = name_of(name).ok_or(AsmKind::BadOperand)?;
     let bytes = quoted_bytes(alloc, text)?.ok_or(AsmKind::BadOperand)?;
     Ok(Statement::Data {
@@ -108,7 +105,7 @@ fn text_of(alloc: Global, operands: Tokens) -> Result<Statement, Refused>
 fn space_of(alloc: Global, operands: Tokens) -> Result<Statement, AsmKind>
     ensures { result ≡ space_of operands.entry }
 {
-    let (name, size) = two(operands)?;
+    let (name, size) = two(operands, AsmKind::BadOperand)?;
     let name = name_of(name).ok_or(AsmKind::BadOperand)?;
     let zeros = number_of(size).ok_or(AsmKind::BadOperand)?;
     if zeros == 0 || zeros > 65_536 {
@@ -123,7 +120,11 @@ fn space_of(alloc: Global, operands: Tokens) -> Result<Statement, AsmKind>
 
 /// A line that is not a label: data or an instruction.
 #[tactic(auto, unfolding(crate::specs::Statements::statement_with, crate::specs::Statements::instruction_of))]
-fn statement_with(alloc: Global, first: &[u8], operands: Tokens) -> Result<Statement, Refused>
+fn statement_with(
+    alloc: Global,
+    first: &[u8],
+    operands: Tokens,
+) -> Result<Statement, Refused<AsmKind>>
     ensures { Gives (λ s. s) result (statement_with first.now operands.entry) }
 {
     if first == b"text".as_slice() {
@@ -147,7 +148,7 @@ fn is_comment(first: &[u8]) -> bool
 
 /// What a line says on its own.
 #[tactic(auto, unfolding(crate::specs::Statements::statement_of, crate::specs::Statements::statement_in, crate::specs::Statements::label_or))]
-pub fn statement_of(alloc: Global, line: &[u8]) -> Result<Statement, Refused>
+pub fn statement_of(alloc: Global, line: &[u8]) -> Result<Statement, Refused<AsmKind>>
     ensures { Gives (λ s. s) result (statement_of line.now) }
 {
     let mut words = Tokens::of(line);
@@ -158,7 +159,7 @@ pub fn statement_of(alloc: Global, line: &[u8]) -> Result<Statement, Refused>
         return Ok(Statement::Blank);
     }
     if let Some(name) = label_of(first) {
-        none(words)?;
+        none(words, AsmKind::BadOperand)?;
         return Ok(Statement::Label { name });
     }
     statement_with(alloc, first, words)

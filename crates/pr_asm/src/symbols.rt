@@ -40,7 +40,7 @@ fn nearest(pc: u64, labels: &[Label]) -> Option<(&[u8], u64)>
 }
 
 impl Program {
-    /// The name of the last label at or below `pc`, and how far `pc` lies behind it; `None` exactly where no label
+    /// The name of the last label at or below `pc`, and how far `pc` lies past it; `None` exactly where no label
     /// stands at or below `pc`. Of several labels at one address it is the one on the latest line. Takes no memory.
     #[tactic(auto, unfolding(crate::specs::Symbols::symbol_at))]
     pub fn symbol_at(&self, pc: u64) -> Option<(&[u8], u64)>

@@ -96,7 +96,7 @@ fn reads_each_form(rt: HostRuntime) {
     }
 }
 
-// Names before and behind their place: labels at multiples of 16 from 0x10000, data at multiples of 8 from 0x80000.
+// Names before and after their place: labels at multiples of 16 from 0x10000, data at multiples of 8 from 0x80000.
 #[test]
 fn places_names(rt: HostRuntime) {
     let program = program(

@@ -1,111 +1,76 @@
--- The first line of a scenario that is refused.
-use Rattle.std.proofs.Common.{◌≡◌, ℕ, ◌+◌, List, [], ◌∷◌, ◌++◌, length, Result, Ok, Err, refl, sym, ◌∙◌, ap, arith}
-use Rattle.std.specs.List.{list_any}
-use Rattle.pr_asm.specs.Parts.{◌>>=◌}
-use Rattle.pr_scen.specs.Drafts.{nothing, line_added}
-use Rattle.pr_scen.specs.Faults.{AreAccepted, StopsAt, IsFirstFault, IsAccepted}
-use Rattle.pr_scen.specs.Parts.{is_end}
-use Rattle.pr_scen.specs.Reading.{numbered, with_lines, finished, lines_of, scenario_in, scenario_of}
+-- The first part of a text that is refused.
+use Rattle.std.proofs.Common.{◌≡◌, ℕ, Option, Some, None, List, [], ◌∷◌, ◌++◌, Result, Ok, Err, refl, sym, ◌∙◌, ap, inl, inr}
+use Rattle.pr_text.specs.Steps.{◌>>=◌}
+use Rattle.pr_scen.specs.Blocks.{part_added, parts_added}
+use Rattle.pr_scen.specs.Division.{StopsAt, IsFirstFault}
+use Rattle.pr_scen.specs.Drafts.{nothing}
+use Rattle.pr_scen.specs.Parts.{Part, parts_of}
+use Rattle.pr_scen.specs.Reading.{draft_in, unless_unbuilt, finished, scenario_in}
 use Rattle.pr_scen.specs.declared.drafts.Draft.{Draft}
 use Rattle.pr_scen.specs.declared.refusals.ScenFault.{ScenFault}
-use Rattle.pr_scen.specs.declared.refusals.ScenKind.{ScenKind}
-use Rattle.pr_scen.specs.declared.scenarios.Scenario.{Scenario}
-use Rattle.std.proofs.lemmas.List.{append-nil}
+use Rattle.pr_scen.specs.declared.refusals.ScenKind.TheVariants.{NotBuilt}
 
--- how the lines below a line go on
-abbrev on : ℕ → List (List ℕ) → Result Draft ScenFault → Result Draft ScenFault
-on line below r = r >>= (λ e. with_lines (line + 1) e below)
+-- a part is refused, or one below it is
+here : (d : Draft) (part : Part) (parts : List Part) (fault : ScenFault) → part_added d part ≡ Err fault → StopsAt d (part ∷ parts) fault
+unfolding parts_added
+here d part parts fault refused = record { above = []; this = part; below = parts; read = d; whole = refl; accepted = refl; refused = refused }
 
--- the line is refused
-here : (line : ℕ) (d : Draft) (this : List ℕ) (below : List (List ℕ)) (fault : ScenFault) (kind : ScenKind) → line_added (list_any is_end below) d this ≡ Err kind → (err : Result Draft ScenFault) → err ≡ Err (record { line = line; kind = kind }) → err ≡ Err fault → StopsAt line d (this ∷ below) fault
-unfolding AreAccepted
-here line d this below fault kind refused err is e =
-    let same : fault ≡ record { line = line; kind = kind } = cc in
-    record {
-      above = [];
-      this = this;
-      below = below;
-      read = d;
-      whole = refl;
-      numbered = ap (λ f. f.line) same ∙ omega arith;
-      accepted = refl;
-      refused = refused ∙ ap (λ f. Err f.kind) (sym same);
-    }
+lower : (d e : Draft) (part : Part) (parts : List Part) (fault : ScenFault) → part_added d part ≡ Ok e → StopsAt e parts fault → StopsAt d (part ∷ parts) fault
+unfolding parts_added
+lower d e part parts fault added s = record {
+  above = part ∷ s.above;
+  this = s.this;
+  below = s.below;
+  read = s.read;
+  whole = ap (λ ps. part ∷ ps) s.whole;
+  accepted = ap (λ r. r >>= (λ m. parts_added m s.above)) added ∙ s.accepted;
+  refused = s.refused;
+}
 
--- a line below it is refused
-lower : (line : ℕ) (d e : Draft) (this : List ℕ) (below : List (List ℕ)) (fault : ScenFault) → line_added (list_any is_end below) d this ≡ Ok e → StopsAt (line + 1) e below fault → StopsAt line d (this ∷ below) fault
-unfolding AreAccepted
-lower line d e this below fault added s =
-    let at = s.numbered in
-    record {
-      above = this ∷ s.above;
-      this = s.this;
-      below = s.below;
-      read = s.read;
-      whole = ap (λ ls. this ∷ ls) s.whole;
-      numbered = omega arith;
-      accepted = (e, (ap (λ ls. line_added (list_any is_end ls) d this) (sym s.whole) ∙ added), s.accepted);
-      refused = s.refused;
-    }
+by_part : (d : Draft) (part : Part) (parts : List Part) (fault : ScenFault) (r : Result Draft ScenFault) → part_added d part ≡ r → ((e : Draft) → parts_added e parts ≡ Err fault → StopsAt e parts fault) → r >>= (λ m. parts_added m parts) ≡ Err fault → StopsAt d (part ∷ parts) fault
+by_part d part parts fault (Ok e) is on h = lower d e part parts fault is (on e h)
+by_part d part parts fault (Err f) is on h = here d part parts fault (is ∙ h)
 
-by_line : (line : ℕ) (d : Draft) (this : List ℕ) (below : List (List ℕ)) (fault : ScenFault) (r : Result Draft ScenKind) → line_added (list_any is_end below) d this ≡ r → on line below (numbered line (line_added (list_any is_end below) d this)) ≡ Err fault → ((e : Draft) → with_lines (line + 1) e below ≡ Err fault → StopsAt (line + 1) e below fault) → StopsAt line d (this ∷ below) fault
-by_line line d this below fault (Ok e) same stopped further =
-    lower line d e this below fault same (further e (ap (λ x. on line below (numbered line x)) (sym same) ∙ stopped))
-by_line line d this below fault (Err kind) same stopped further =
-    here line d this below fault kind same (Err (record { line = line; kind = kind })) refl (ap (λ x. on line below (numbered line x)) (sym same) ∙ stopped)
+stops_at : (parts : List Part) (d : Draft) (fault : ScenFault) → parts_added d parts ≡ Err fault → StopsAt d parts fault
+unfolding parts_added
+stops_at [] d fault h = cc
+stops_at (part ∷ parts) d fault h = by_part d part parts fault (part_added d part) refl (λ e more. stops_at parts e fault more) h
 
-stops_at : (line : ℕ) (d : Draft) (lines : List (List ℕ)) (fault : ScenFault) → with_lines line d lines ≡ Err fault → StopsAt line d lines fault
-unfolding with_lines
-stops_at line d [] fault stopped = cc
-stops_at line d (this ∷ below) fault stopped =
-    by_line line d this below fault (line_added (list_any is_end below) d this) refl stopped (λ e further. stops_at (line + 1) e below fault further)
+-- parts that are accepted lead to those below
+leads : (above below : List Part) (d e : Draft) → parts_added d above ≡ Ok e → parts_added d (above ++ below) ≡ parts_added e below
+unfolding parts_added
+leads [] below d e accepted = let same : d ≡ e = cc in ap (λ m. parts_added m below) same
+leads (part ∷ above) below d e accepted = by (part_added d part) (λ m more. leads above below m e more) accepted
+  where
+    by : (r : Result Draft ScenFault) → ((m : Draft) → parts_added m above ≡ Ok e → parts_added m (above ++ below) ≡ parts_added e below) → r >>= (λ m. parts_added m above) ≡ Ok e → r >>= (λ m. parts_added m (above ++ below)) ≡ parts_added e below
+    by (Ok m) on h = on m h
+    by (Err f) on h = cc
 
--- what the whole answers is what its lines make
-faulty : (r : Result Draft ScenFault) (fault : ScenFault) → r >>= (λ d. Ok (finished d)) ≡ Err fault → r ≡ Err fault
-faulty (Ok d) fault e = cc
-faulty (Err f) fault e = ap Err (cc)
+stopped : (parts : List Part) (d : Draft) (fault : ScenFault) → StopsAt d parts fault → parts_added d parts ≡ Err fault
+unfolding parts_added
+stopped parts d fault s =
+    ap (parts_added d) s.whole ∙ leads s.above (s.this ∷ s.below) d s.read s.accepted ∙ ap (λ r. r >>= (λ m. parts_added m s.below)) s.refused
 
-pub first_fault : (text : List ℕ) (fault : ScenFault) → scenario_of text ≡ Err fault → IsFirstFault text fault
-unfolding scenario_in
-first_fault text fault e = stops_at 1 nothing (lines_of text) fault (faulty (with_lines 1 nothing (lines_of text)) fault e)
+-- ---- the whole
 
--- lines that are accepted lead to what follows them
-leads : (line : ℕ) (d e : Draft) (above below : List (List ℕ)) → AreAccepted d above below e → (r : Result Draft ScenFault) → with_lines (line + length above) e below ≡ r → with_lines line d (above ++ below) ≡ r
-unfolding with_lines AreAccepted
-leads line d e [] below accepted r rest =
-    ap (λ x. with_lines line x below) accepted ∙ ap (λ n. with_lines n e below) (omega arith) ∙ rest
-leads line d e (this ∷ above) below accepted r rest =
-    ap (λ x. on line (above ++ below) (numbered line x)) accepted.1
-    ∙ leads (line + 1) accepted.0 e above below accepted.2 r (ap (λ n. with_lines n e below) (omega arith) ∙ rest)
+unbuilt_first : (lines : List (List ℕ)) (fault : ScenFault) (d : Draft) (o : Option ℕ) → parts_added nothing (parts_of lines) ≡ Ok d → d.unbuilt ≡ o → unless_unbuilt d o ≡ Err fault → IsFirstFault lines fault
+unbuilt_first lines fault d None added is h = cc
+unbuilt_first lines fault d (Some n) added is h =
+    let same : record { line = n; kind = NotBuilt } ≡ fault = cc in
+    inr (record { read = d; accepted = added; first = is ∙ ap (λ f. Some f.line) same; kind = ap (λ f. f.kind) (sym same) })
 
-stops : (line : ℕ) (e : Draft) (this : List ℕ) (below : List (List ℕ)) (fault : ScenFault) → fault.line ≡ line → line_added (list_any is_end below) e this ≡ Err fault.kind → with_lines line e (this ∷ below) ≡ Err fault
-unfolding with_lines
-stops line e this below fault at refused =
-    ap (λ x. on line below (numbered line x)) refused ∙ ap (λ n. Err (record { line = n; kind = fault.kind })) (sym at)
+first_by : (lines : List (List ℕ)) (fault : ScenFault) (r : Result Draft ScenFault) → parts_added nothing (parts_of lines) ≡ r → r >>= finished ≡ Err fault → IsFirstFault lines fault
+unfolding finished
+first_by lines fault (Ok d) added h = unbuilt_first lines fault d d.unbuilt added refl h
+first_by lines fault (Err f) added h =
+    let same : f ≡ fault = cc in inl (stops_at (parts_of lines) nothing fault (added ∙ ap Err same))
 
-pub is_first : (text : List ℕ) (fault : ScenFault) → IsFirstFault text fault → scenario_of text ≡ Err fault
-unfolding scenario_in
-is_first text fault s =
-    ap (λ r. r >>= (λ d. Ok (finished d))) (ap (with_lines 1 nothing) s.whole ∙ leads 1 nothing s.read s.above (s.this ∷ s.below) s.accepted (Err fault) (stops (1 + length s.above) s.read s.this s.below fault s.numbered s.refused))
+pub first_fault : (lines : List (List ℕ)) (fault : ScenFault) → scenario_in lines ≡ Err fault → IsFirstFault lines fault
+unfolding scenario_in draft_in
+first_fault lines fault h = first_by lines fault (parts_added nothing (parts_of lines)) refl h
 
--- what was accepted
-ok_by_line : (line : ℕ) (d : Draft) (this : List ℕ) (below : List (List ℕ)) (e : Draft) (r : Result Draft ScenKind) → line_added (list_any is_end below) d this ≡ r → on line below (numbered line (line_added (list_any is_end below) d this)) ≡ Ok e → ((next : Draft) → with_lines (line + 1) next below ≡ Ok e → AreAccepted next below [] e) → AreAccepted d (this ∷ below) [] e
-unfolding AreAccepted
-ok_by_line line d this below e (Ok next) same ok further =
-    (next, (ap (λ ls. line_added (list_any is_end ls) d this) (append-nil below) ∙ same), further next (ap (λ x. on line below (numbered line x)) (sym same) ∙ ok))
-ok_by_line line d this below e (Err kind) same ok further =
-    let no : Err (record { line = line; kind = kind }) ≡ Ok e = ap (λ x. on line below (numbered line x)) (sym same) ∙ ok in cc
-
-are_accepted : (line : ℕ) (d : Draft) (lines : List (List ℕ)) (e : Draft) → with_lines line d lines ≡ Ok e → AreAccepted d lines [] e
-unfolding with_lines AreAccepted
-are_accepted line d [] e ok = cc
-are_accepted line d (this ∷ below) e ok =
-    ok_by_line line d this below e (line_added (list_any is_end below) d this) refl ok (λ next further. are_accepted (line + 1) next below e further)
-
-finish : (text : List ℕ) (s : Scenario) (r : Result Draft ScenFault) → with_lines 1 nothing (lines_of text) ≡ r → r >>= (λ d. Ok (finished d)) ≡ Ok s → IsAccepted text s
-finish text s (Ok d) same e = record { read = d; accepted = are_accepted 1 nothing (lines_of text) d same; makes = cc }
-finish text s (Err f) same e = cc
-
-pub accepted : (text : List ℕ) (s : Scenario) → scenario_of text ≡ Ok s → IsAccepted text s
-unfolding scenario_in
-accepted text s e = finish text s (with_lines 1 nothing (lines_of text)) refl e
+pub is_first : (lines : List (List ℕ)) (fault : ScenFault) → IsFirstFault lines fault → scenario_in lines ≡ Err fault
+unfolding scenario_in draft_in finished
+is_first lines fault (inl s) = ap (λ r. r >>= finished) (stopped (parts_of lines) nothing fault s)
+is_first lines fault (inr u) =
+    ap (λ r. r >>= finished) u.accepted ∙ ap (unless_unbuilt u.read) u.first ∙ ap (λ k. Err (record { line = fault.line; kind = k })) (sym u.kind)

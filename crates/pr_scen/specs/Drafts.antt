@@ -1,135 +1,162 @@
--- What was read of a scenario so far, and what one more line makes of it.
-use Rattle.std.specs.Prelude.{◌==◌, ◌&&◌, ◌+◌, ℕ, Bool, true, false, Some, None, is_none, List, [], ◌∷◌, ◌++◌, length, nat_lt, Result, Ok, Err, if◌then◌else◌}
-use Rattle.std.specs.Str.{bytes_eq}
-use Rattle.pr_text.specs.Words.{texts_of}
+-- What was read of a scenario so far, and what one line or block more makes of it.
+use Rattle.std.specs.Prelude.{◌||◌, ◌+◌, ℕ, Bool, true, Some, None, Option, is_some, List, [], ◌∷◌, ◌++◌, length, option_map, slice_get, nat_lt, nat_le, unwrap_or, Result, Ok, Err, if◌then◌else◌}
 use Rattle.pr_num.specs.Programs.{Program}
-use Rattle.pr_num.specs.declared.instructions.Instruction.{Instruction}
-use Rattle.pr_asm.specs.Limits.{program}
-use Rattle.pr_asm.specs.Parts.{◌>>=◌}
-use Rattle.pr_scen.specs.Items.{item_of}
-use Rattle.pr_scen.specs.Codes.{ends_in_exit}
-use Rattle.pr_scen.specs.Parts.{is_readable}
-use Rattle.pr_scen.specs.ProgramBlocks.{program_line_of}
-use Rattle.pr_scen.specs.ScriptBlocks.{script_line_of}
+use Rattle.pr_line.specs.declared.options.Options.{Options}
+use Rattle.pr_text.specs.Steps.{◌>>=◌, ok_or}
+use Rattle.pr_scen.specs.Built.{is_built_item, is_built_line}
+use Rattle.pr_scen.specs.Limits.{most_turns, default_turns, most_programs, most_files, most_file, most_spawns, most_mapped, most_controllers, most_lists, most_scheduled}
+use Rattle.pr_scen.specs.Names.{place_of}
+use Rattle.pr_scen.specs.Scenarios.{Scenario, space_size}
+use Rattle.pr_scen.specs.Schedules.{turn_count, actors_of}
+use Rattle.pr_scen.specs.Scripts.{first_script}
 use Rattle.pr_scen.specs.declared.drafts.Draft.{Draft}
-use Rattle.pr_scen.specs.declared.drafts.Inside.{Inside}
-use Rattle.pr_scen.specs.declared.drafts.Inside.TheVariants as inside
 use Rattle.pr_scen.specs.declared.items.Item.{Item}
 use Rattle.pr_scen.specs.declared.items.Item.TheVariants as item
-use Rattle.pr_scen.specs.declared.program_blocks.ProgramLine.{ProgramLine}
-use Rattle.pr_scen.specs.declared.program_blocks.ProgramLine.TheVariants as in_program
+use Rattle.pr_scen.specs.declared.plans.Plan.{Plan}
+use Rattle.pr_scen.specs.declared.plans.Plan.TheVariants.{Script, Truss, Tool}
+use Rattle.pr_scen.specs.declared.refusals.ScenKind.{ScenKind}
+use Rattle.pr_scen.specs.declared.refusals.ScenKind.TheVariants.{UnknownName, Double, TooMany, TooBig}
+use Rattle.pr_scen.specs.declared.schedules.Turns.{Turns}
 use Rattle.pr_scen.specs.declared.script_blocks.InScript.{InScript}
 use Rattle.pr_scen.specs.declared.script_blocks.InScript.TheVariants as in_script
 use Rattle.pr_scen.specs.declared.script_lines.ScriptLine.{ScriptLine}
-use Rattle.pr_scen.specs.declared.script_lines.ScriptLine.TheVariants.{Open, Close, Read, Write}
-use Rattle.pr_scen.specs.declared.refusals.ScenKind.{ScenKind}
-use Rattle.pr_scen.specs.declared.refusals.ScenKind.TheVariants.{NotBuilt}
+use Rattle.pr_scen.specs.declared.script_lines.ScriptLine.TheVariants as line
 
 -- before the first line
 abbrev pub nothing : Draft
-nothing = record { turns = None; programs = []; spawns = []; scripts = []; inside = inside.Outside; code = []; lines = []; opens = 0 }
+nothing = record {
+  turns = None;
+  program_names = [];
+  programs = [];
+  file_names = [];
+  files = [];
+  spawns = [];
+  mapped = 0;
+  controllers = [];
+  lists = 0;
+  schedule = [];
+  lines = [];
+  unbuilt = None;
+}
 
--- ---- outside blocks
+-- the first line of a form that is not built is remembered
+unfoldable pub noting : ℕ → Bool → Draft → Draft
+noting n built d = if built || is_some d.unbuilt then d else record d { unbuilt = Some n }
 
--- the limit of turns, once
+-- ---- lines outside blocks
+
+-- turns N: at most once
 unfoldable pub with_turns : Draft → ℕ → Result Draft ScenKind
-with_turns d n = if is_none d.turns then Ok (record d { turns = Some n }) else Err NotBuilt
+with_turns d n =
+    if is_some d.turns then Err Double
+    else (if nat_le n most_turns then Ok (record d { turns = Some n }) else Err TooMany)
 
--- A program block begins: there is none above, and its end stands below.
-unfoldable pub with_program_begun : Bool → Draft → List ℕ → Result Draft ScenKind
-with_program_begun ended d name =
-    if (length d.programs == 0) && ended then Ok (record d { inside = inside.Program name }) else Err NotBuilt
+-- file NAME: its name is given once, and it keeps the limits on files and on the bytes of one
+unfoldable pub with_file : Draft → List ℕ → List ℕ → Result Draft ScenKind
+with_file d name bytes =
+    if is_some (place_of d.file_names name) then Err Double
+    else (if nat_lt (length d.file_names) most_files
+    then (if nat_le (length bytes) most_file
+    then Ok (record d { file_names = d.file_names ++ name ∷ []; files = d.files ++ (name, bytes) ∷ [] })
+    else Err TooBig)
+    else Err TooMany)
 
--- whether there is a program and goes by this name
-unfoldable pub has_program : List ℕ → List Program → Bool
-has_program name [] = false
-has_program name (p ∷ others) = bytes_eq p.name name
+-- one process more, of the program at a place, within the limit on processes and then on mapped bytes
+abbrev pub with_process : Draft → ℕ → ℕ → Result Draft ScenKind
+with_process d place size =
+    if nat_lt (length d.spawns) most_spawns
+    then (if nat_le (d.mapped + size) most_mapped then Ok (record d { spawns = d.spawns ++ place ∷ []; mapped = d.mapped + size }) else Err TooBig)
+    else Err TooMany
 
--- one process, of the program, whose block stands above; programs are counted from 0
+-- spawn NAME: a process of a program whose block has ended above
 unfoldable pub with_spawn : Draft → List ℕ → Result Draft ScenKind
-with_spawn d name =
-    if (length d.spawns == 0) && has_program name d.programs
-    then Ok (record d { spawns = d.spawns ++ 0 ∷ [] })
-    else Err NotBuilt
+with_spawn d name = do
+  place ← ok_or UnknownName (place_of d.program_names name)
+  size ← ok_or UnknownName (option_map space_size (slice_get d.programs place))
+  with_process d place size
 
--- A script block begins: there is none above, and its end stands below.
-unfoldable pub with_script_begun : Bool → Draft → Result Draft ScenKind
-with_script_begun ended d =
-    if (length d.scripts == 0) && ended then Ok (record d { inside = inside.Script }) else Err NotBuilt
+-- one controller more
+unfoldable pub with_controller : Draft → Plan → Result Draft ScenKind
+with_controller d plan =
+    if nat_lt (length d.controllers) most_controllers then Ok (record d { controllers = d.controllers ++ plan ∷ [] }) else Err TooMany
 
-unfoldable pub with_item : Bool → Draft → Item → Result Draft ScenKind
-with_item ended d item.Blank = Ok d
-with_item ended d (item.Turns n) = with_turns d n
-with_item ended d (item.Program name) = with_program_begun ended d name
-with_item ended d (item.Spawn name) = with_spawn d name
-with_item ended d item.Script = with_script_begun ended d
+-- whether a program of this name has ended above
+abbrev pub has_program : Draft → List ℕ → Bool
+has_program d name = is_some (place_of d.program_names name)
 
--- ---- in a program block
+-- whether the program of a truss, if it runs one, has ended above
+abbrev pub knows_program : Draft → Option (List ℕ) → Bool
+knows_program d None = true
+knows_program d (Some name) = has_program d name
 
--- one instruction more, of at most 4,096
-unfoldable pub with_code : Draft → Instruction → Result Draft ScenKind
-with_code d i = if nat_lt (length d.code) 4096 then Ok (record d { code = d.code ++ i ∷ [] }) else Err NotBuilt
+-- truss WORDS
+unfoldable pub with_truss : Draft → Options → Result Draft ScenKind
+with_truss d options = if knows_program d options.program then with_controller d (Truss options) else Err UnknownName
 
--- The block ends behind a `sys exit`, and the program is whole.
-unfoldable pub with_program : Draft → List ℕ → Result Draft ScenKind
-with_program d name =
-    if ends_in_exit d.code
-    then Ok (record d { programs = d.programs ++ program name d.code [] [] ∷ []; code = []; inside = inside.Outside })
-    else Err NotBuilt
+-- schedule ACTORS, after those of the lines above
+unfoldable pub with_schedule : Draft → List Turns → Result Draft ScenKind
+with_schedule d turns =
+    if nat_le (length d.schedule + turn_count turns) most_scheduled
+    then Ok (record d { schedule = d.schedule ++ actors_of turns })
+    else Err TooMany
 
-unfoldable pub with_program_line : Draft → List ℕ → ProgramLine → Result Draft ScenKind
-with_program_line d name in_program.Blank = Ok d
-with_program_line d name (in_program.Code i) = with_code d i
-with_program_line d name in_program.End = with_program d name
+-- A line outside blocks, a row a line. Those that begin a block are read with it.
+unfoldable pub with_item : Draft → Item → Result Draft ScenKind
+with_item d item.Blank = Ok d
+with_item d (item.Turns n) = with_turns d n
+with_item d (item.File name bytes) = with_file d name bytes
+with_item d (item.Program name) = Ok d
+with_item d (item.Spawn name) = with_spawn d name
+with_item d item.Script = Ok d
+with_item d (item.Truss options) = with_truss d options
+with_item d (item.Tool kind pid) = with_controller d (Tool kind pid)
+with_item d (item.Schedule turns) = with_schedule d turns
 
--- ---- in a script block
+-- The same of the item of line n, whose form may not be built.
+unfoldable pub item_added : ℕ → Draft → Item → Result Draft ScenKind
+item_added n d i = with_item d i >>= λ e. Ok (noting n (is_built_item i) e)
 
--- one line more; there are at most 16 opens in all
-unfoldable pub with_call : Draft → ScriptLine → Draft
-with_call d line = record d { lines = d.lines ++ line ∷ [] }
+-- ---- blocks
 
-unfoldable pub with_open : Draft → ScriptLine → Result Draft ScenKind
-with_open d line = if nat_lt d.opens 16 then Ok (record (with_call d line) { opens = d.opens + 1 }) else Err NotBuilt
+-- A line that begins a block can: a program has a name of its own, and a script is within the limit.
+unfoldable pub may_begin : Draft → Item → Result (Unit {0}) ScenKind
+may_begin d (item.Program name) =
+    if has_program d name then Err Double else (if nat_lt (length d.program_names) most_programs then Ok tt else Err TooMany)
+may_begin d item.Script = if nat_lt (length d.controllers) most_controllers then Ok tt else Err TooMany
+may_begin d _ = Ok tt
 
-unfoldable pub is_open : ScriptLine → Bool
-is_open (Open name pid lwp file mode) = true
-is_open (Close name) = false
-is_open (Read name at len) = false
-is_open (Write name bytes) = false
+-- a program more
+unfoldable pub with_program : Draft → List ℕ → Program → Draft
+with_program d name program = record d { program_names = d.program_names ++ name ∷ []; programs = d.programs ++ program ∷ [] }
 
-unfoldable pub with_line : Draft → ScriptLine → Result Draft ScenKind
-with_line d line = if is_open line then with_open d line else Ok (with_call d line)
+-- one line of a script more
+abbrev pub with_line : Draft → ScriptLine → Draft
+with_line d l = record d { lines = d.lines ++ l ∷ [] }
 
--- The block ends, and the script is whole.
+-- a script can make this call: it spawns a program whose block has ended above; there are at most 4,096 `list` lines
+unfoldable pub call_added : Draft → ScriptLine → Result Draft ScenKind
+call_added d (line.Spawn program held) = if has_program d program then Ok (with_line d (line.Spawn program held)) else Err UnknownName
+call_added d line.List = if nat_lt d.lists most_lists then Ok (record (with_line d line.List) { lists = d.lists + 1 }) else Err TooMany
+call_added d l = Ok (with_line d l)
+
+-- what line n of a script block makes of it
+unfoldable pub script_line_added : ℕ → Draft → InScript → Result Draft ScenKind
+script_line_added n d in_script.Blank = Ok d
+script_line_added n d (in_script.Line l) = call_added d l >>= λ e. Ok (noting n (is_built_line l) e)
+
+-- the script is whole
 unfoldable pub with_script : Draft → Draft
-with_script d = record d { scripts = d.scripts ++ d.lines ∷ []; lines = []; inside = inside.Outside }
+with_script d = record d { controllers = d.controllers ++ Script (first_script d.lines) ∷ []; lines = [] }
 
-unfoldable pub with_script_line : Draft → InScript → Result Draft ScenKind
-with_script_line d in_script.Blank = Ok d
-with_script_line d (in_script.Line line) = with_line d line
-with_script_line d in_script.End = Ok (with_script d)
+-- ---- the end
 
--- ---- any line
-
--- what the words of one more line make of it outside blocks, where `ended` says whether the end of a block stands below
--- that line; in the block of a program; and in that of a script
-abbrev pub with_outer_words : Bool → Draft → List (List ℕ) → Result Draft ScenKind
-with_outer_words ended d words = item_of words >>= with_item ended d
-
-abbrev pub with_program_words : Draft → List ℕ → List (List ℕ) → Result Draft ScenKind
-with_program_words d name words = program_line_of words >>= with_program_line d name
-
-abbrev pub with_script_words : Draft → List (List ℕ) → Result Draft ScenKind
-with_script_words d words = script_line_of words >>= with_script_line d
-
-abbrev pub words_inside : Inside → Bool → Draft → List (List ℕ) → Result Draft ScenKind
-words_inside inside.Outside ended d words = with_outer_words ended d words
-words_inside (inside.Program name) ended d words = with_program_words d name words
-words_inside inside.Script ended d words = with_script_words d words
-
-unfoldable pub with_words : Bool → Draft → List (List ℕ) → Result Draft ScenKind
-with_words ended d words = words_inside d.inside ended d words
-
--- what one more line makes of it
-unfoldable pub line_added : Bool → Draft → List ℕ → Result Draft ScenKind
-line_added ended d line = if is_readable line then with_words ended d (texts_of line) else Err NotBuilt
+-- what was read, as a scenario
+unfoldable pub made : Draft → Scenario
+made d = record {
+  turns = unwrap_or d.turns default_turns;
+  programs = d.programs;
+  files = d.files;
+  spawns = d.spawns;
+  controllers = d.controllers;
+  schedule = d.schedule;
+}

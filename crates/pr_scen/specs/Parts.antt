@@ -1,58 +1,34 @@
--- The words of a line, and steps that may be refused.
-use Rattle.std.specs.Prelude.{◌==◌, ◌&&◌, ℕ, Bool, false, List, [], ◌∷◌, codes, length, slice_index, nat_le, nat_lt, Result, Ok, Err}
-use Rattle.std.specs.List.{list_all}
-use Rattle.std.specs.Str.{bytes_eq}
+-- The parts of a text, one after the other: a line outside blocks, a block, or a line that begins a block that has no
+-- end.
+use Rattle.std.specs.Prelude.{◌||◌, ◌+◌, ℕ, Bool, List, [], ◌∷◌, ◌++◌, codes, length, if◌then◌else◌}
 use Rattle.pr_text.specs.Words.{texts_of}
-use Rattle.pr_scen.specs.declared.refusals.ScenKind.{ScenKind}
-use Rattle.pr_scen.specs.declared.refusals.ScenKind.TheVariants.{NotBuilt}
+use Rattle.pr_scen.specs.Lines.{first_is, is_end}
 
--- whether each byte of a line is one of ASCII
-unfoldable pub is_ascii : List ℕ → Bool
-is_ascii line = list_all (λ b. nat_lt b 128) line
+-- A part, with the number of its first line. The lines of a block stand between the line that begins it and the one that
+-- ends it.
+pub data Part : Type 0 where
+  line : ℕ → List ℕ → Part
+  block : ℕ → List ℕ → List (List ℕ) → List ℕ → Part
+  endless : ℕ → List ℕ → Part
 
--- a line can be read where it has at most 4,096 bytes, all of ASCII
-unfoldable pub is_readable : List ℕ → Bool
-is_readable line = nat_le (length line) 4096 && is_ascii line
+-- whether a line begins a block: its first word is `program` or `script`
+unfoldable pub begins_block : List ℕ → Bool
+begins_block this = first_is (codes "program") (texts_of this) || first_is (codes "script") (texts_of this)
 
--- a word that makes its line a comment, where it is the first
-unfoldable pub begins_comment : List ℕ → Bool
-begins_comment word = slice_index word 0 == 35
+-- The parts of lines that count from n. A block goes on to the next line whose first word is `end`. Nothing follows one
+-- without end.
+unfoldable mutual
+  pub parts_from : ℕ → List (List ℕ) → List Part
+  parts_from n [] = []
+  parts_from n (this ∷ below) =
+      if begins_block this then block_from n this [] below else line n this ∷ parts_from (n + 1) below
 
--- the word that ends a block
-unfoldable pub is_end_word : List ℕ → Bool
-is_end_word word = bytes_eq word (codes "end")
+  -- in the block that line n begins, after these lines of it
+  pub block_from : ℕ → List ℕ → List (List ℕ) → List (List ℕ) → List Part
+  block_from n first body [] = endless n first ∷ []
+  block_from n first body (this ∷ below) =
+      if is_end this then block n first body this ∷ parts_from (n + (length body + 2)) below
+      else block_from n first (body ++ this ∷ []) below
 
--- whether the first of a line's words ends a block
-unfoldable pub ends_block : List (List ℕ) → Bool
-ends_block [] = false
-ends_block (first ∷ others) = is_end_word first
-
--- whether a line ends a block
-unfoldable pub is_end : List ℕ → Bool
-is_end line = ends_block (texts_of line)
-
--- no word more, or so many words and no more
-abbrev pub none : List (List ℕ) → Result (Unit {0}) ScenKind
-none [] = Ok tt
-none _ = Err NotBuilt
-
-abbrev pub one : List (List ℕ) → Result (List ℕ) ScenKind
-one (a ∷ []) = Ok a
-one _ = Err NotBuilt
-
-abbrev pub two : List (List ℕ) → Result (List ℕ × List ℕ) ScenKind
-two (a ∷ b ∷ []) = Ok (a, b)
-two _ = Err NotBuilt
-
-abbrev pub three : List (List ℕ) → Result (List ℕ × List ℕ × List ℕ) ScenKind
-three (a ∷ b ∷ c ∷ []) = Ok (a, b, c)
-three _ = Err NotBuilt
-
-abbrev pub four : List (List ℕ) → Result (List ℕ × List ℕ × List ℕ × List ℕ) ScenKind
-four (a ∷ b ∷ c ∷ d ∷ []) = Ok (a, b, c, d)
-four _ = Err NotBuilt
-
--- a word and what stands behind it
-abbrev pub some : List (List ℕ) → Result (List ℕ × List (List ℕ)) ScenKind
-some [] = Err NotBuilt
-some (a ∷ others) = Ok (a, others)
+abbrev pub parts_of : List (List ℕ) → List Part
+parts_of lines = parts_from 1 lines

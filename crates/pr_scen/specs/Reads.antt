@@ -1,22 +1,13 @@
--- What a function that takes memory gives.
+-- What a reader of several lines gives.
 use Rattle.std.specs.Prelude.{◌≡◌, ℕ, Result, Ok, Err}
+use Rattle.pr_text.specs.declared.refusals.Refused.{Refused}
+use Rattle.pr_text.specs.declared.refusals.Refused.TheVariants as refused
 use Rattle.pr_scen.specs.declared.refusals.ScenFault.{ScenFault}
 use Rattle.pr_scen.specs.declared.refusals.ScenKind.{ScenKind}
 use Rattle.pr_scen.specs.declared.refusals.ScenRefusal.{ScenRefusal}
 use Rattle.pr_scen.specs.declared.refusals.ScenRefusal.TheVariants as answer
-use Rattle.pr_scen.specs.declared.refusals.Refused.{Refused}
-use Rattle.pr_scen.specs.declared.refusals.Refused.TheVariants as refused
 
--- what a reader of one line answered is what reading gives, unless memory ran out
-abbrev pub Fails : {Y : Type 0} → Refused → Result Y ScenKind → Type 0
-Fails (refused.NoMemory error) read = Unit {0}
-Fails (refused.Kind kind) read = read ≡ Err kind
-
-abbrev pub Gives : {X Y : Type 0} → (X → Y) → Result X Refused → Result Y ScenKind → Type 0
-Gives view (Ok x) read = read ≡ Ok (view x)
-Gives view (Err e) read = Fails e read
-
--- the same of a reader of several lines
+-- what it answered is what reading gives, unless memory ran out
 abbrev pub Stops : {Y : Type 0} → ScenRefusal → Result Y ScenFault → Type 0
 Stops answer.NoMemory read = Unit {0}
 Stops (answer.Fault fault) read = read ≡ Err fault
@@ -25,8 +16,8 @@ abbrev pub Answers : {X Y : Type 0} → (X → Y) → Result X ScenRefusal → R
 Answers view (Ok x) read = read ≡ Ok (view x)
 Answers view (Err e) read = Stops e read
 
--- an answer of one line, with the line's number where it is refused
-abbrev pub LineGave : ℕ → Result (Unit {0}) Refused → Result (Unit {0}) ScenRefusal → Type 0
-LineGave line (Ok x) result = result ≡ Ok x
-LineGave line (Err (refused.NoMemory error)) result = result ≡ Err answer.NoMemory
-LineGave line (Err (refused.Kind kind)) result = result ≡ Err (answer.Fault (record { line = line; kind = kind }))
+-- what was read of one line, with the line's number where it is refused
+abbrev pub LineGave : {T : Type 0} → ℕ → Result T (Refused ScenKind) → Result T ScenRefusal → Type 0
+LineGave n (Ok x) result = result ≡ Ok x
+LineGave n (Err (refused.NoMemory error)) result = result ≡ Err answer.NoMemory
+LineGave n (Err (refused.Kind kind)) result = result ≡ Err (answer.Fault (record { line = n; kind = kind }))

@@ -1,13 +1,96 @@
--- A scenario as contracts see it, and the limits that it keeps.
-use Rattle.std.specs.Prelude.{◌≡◌, ◌⊎◌, ◌≤◌, [], ◌∷◌, length}
-pub use Rattle.pr_scen.specs.declared.scenarios.Scenario.{Scenario}
+-- A scenario as contracts see it, and what is so of each that was read.
+use Rattle.std.specs.Prelude.{◌≡◌, ◌≤◌, ◌<◌, ℕ, Bool, true, false, Option, Some, None, List, [], ◌∷◌, length, map, count_by, sum_by, slice_get, All}
+use Rattle.std.specs.List.{flat_map}
+use Rattle.pr_num.specs.Programs.{Program}
+use Rattle.pr_num.specs.Spaces.{first_space, mapped_size}
+use Rattle.pr_num.specs.declared.files.StoredFile.{StoredFile}
+use Rattle.pr_parts.specs.FileTables.{names_differ}
+use Rattle.pr_model.specs.declared.events.Actor.{Actor}
+use Rattle.pr_scen.specs.Built.{is_built_instruction, is_built_line}
+use Rattle.pr_scen.specs.Limits.{most_turns, most_programs, most_files, most_file, most_spawns, most_mapped, most_controllers, most_lists, most_scheduled}
+use Rattle.pr_scen.specs.Scripts.{ScriptState}
+use Rattle.pr_scen.specs.declared.plans.Plan.{Plan}
+use Rattle.pr_scen.specs.declared.plans.Plan.TheVariants.{Script, Truss, Tool}
 pub use Rattle.pr_scen.specs.declared.script_lines.ScriptLine.{ScriptLine}
+use Rattle.pr_scen.specs.declared.script_lines.ScriptLine.TheVariants as line
 
--- What holds of every scenario that was read: its turns are within their limit; there is at most one program, one
--- process of it, and one script.
+-- What a scenario asks for: how many entries the history may have; its programs and its files, by name; of which
+-- programs, counted from 0, processes are made before the first turn; its controllers; and who moves first.
+pub record Scenario : Type 0 where
+  pub turns : ℕ
+  pub programs : List Program
+  pub files : List (List ℕ × List ℕ)
+  pub spawns : List ℕ
+  pub controllers : List Plan
+  pub schedule : List Actor
+
+-- the script of a controller that is one
+abbrev pub script_in : Plan → List ScriptState
+script_in (Script s) = s ∷ []
+script_in (Truss options) = []
+script_in (Tool kind pid) = []
+
+-- the scripts of a scenario, in the order of its controllers
+abbrev pub scripts_of : Scenario → List ScriptState
+scripts_of s = flat_map script_in s.controllers
+
+-- ---- limits
+
+-- a file as the system keeps it
+abbrev pub stored_file : List ℕ × List ℕ → StoredFile
+stored_file f = record { name = f.0; bytes = f.1 }
+
+-- how many bytes a process of a program has mapped when it begins
+unfoldable pub space_size : Program → ℕ
+space_size p = mapped_size (first_space p)
+
+abbrev pub size_of : Option Program → ℕ
+size_of None = 0
+size_of (Some p) = space_size p
+
+-- how many bytes processes have mapped when they begin, of the programs at these places
+abbrev pub mapped_by : List Program → List ℕ → ℕ
+mapped_by programs spawns = sum_by (λ place. size_of (slice_get programs place)) spawns
+
+abbrev pub is_list : ScriptLine → Bool
+is_list line.List = true
+is_list _ = false
+
+-- how many `list` lines a controller has
+abbrev pub lists_in : Plan → ℕ
+lists_in (Script s) = count_by is_list s.lines
+lists_in (Truss options) = 0
+lists_in (Tool kind pid) = 0
+
+-- What holds of every scenario that was read: it keeps each limit, its files have names of their own, and what is spawned
+-- is one of its programs.
 pub record IsWithinLimits (s : Scenario) : Type 0 where
   pub least : 1 ≤ s.turns
-  pub most : s.turns ≤ 100000
-  pub programs : length s.programs ≤ 1
-  pub spawns : (s.spawns ≡ []) ⊎ ((s.spawns ≡ 0 ∷ []) × (1 ≤ length s.programs))
-  pub scripts : length s.scripts ≤ 1
+  pub most : s.turns ≤ most_turns
+  pub programs : length s.programs ≤ most_programs
+  pub files : length s.files ≤ most_files
+  pub short : All (λ f. length f.1 ≤ most_file) s.files
+  pub own_names : names_differ (map stored_file s.files) ≡ true
+  pub spawns : length s.spawns ≤ most_spawns
+  pub of_programs : All (λ place. place < length s.programs) s.spawns
+  pub mapped : mapped_by s.programs s.spawns ≤ most_mapped
+  pub controllers : length s.controllers ≤ most_controllers
+  pub lists : sum_by lists_in s.controllers ≤ most_lists
+  pub schedule : length s.schedule ≤ most_scheduled
+
+-- ---- what is built
+
+-- a script of lines that are built
+abbrev pub IsBuiltPlan : Plan → Type 0
+IsBuiltPlan (Script s) = All (λ l. is_built_line l ≡ true) s.lines
+IsBuiltPlan (Truss options) = ⊥
+IsBuiltPlan (Tool kind pid) = ⊥
+
+-- each instruction of a program is built, so that of system calls it has only those that the kernel has a body for
+abbrev pub IsBuiltProgram : Program → Type 0
+IsBuiltProgram p = All (λ i. is_built_instruction i ≡ true) p.code
+
+-- What also holds of every scenario that was read: each of its forms is built.
+pub record IsBuilt (s : Scenario) : Type 0 where
+  pub programs : All IsBuiltProgram s.programs
+  pub controllers : All IsBuiltPlan s.controllers

@@ -1,16 +1,15 @@
 -- A script as a controller of the kernel: the call that it makes next, and what the reply makes of it. It knows the
 -- machine by replies alone.
-use Rattle.std.specs.Prelude.{ℕ, ◌+◌, Option, Some, None, List, drop, length, slice_get, nat_le, if◌then◌else◌}
+use Rattle.std.specs.Prelude.{ℕ, ◌+◌, Option, Some, None, List, drop, length, map, slice_get, nat_le, if◌then◌else◌}
 use Rattle.pr_model.specs.declared.calls.Call.{Call}
 use Rattle.pr_model.specs.declared.calls.Call.TheVariants as call
 use Rattle.pr_model.specs.declared.calls.Reply.{Reply}
 use Rattle.pr_model.specs.declared.calls.Reply.TheVariants as reply
-use Rattle.pr_scen.specs.Bindings.{no_handle, handle_of, bind, names_opened}
-use Rattle.pr_scen.specs.declared.bindings.Binding.{Binding}
+use Rattle.pr_scen.specs.Bindings.{Bindings, no_handle, handle_of, bound, unbound}
 use Rattle.pr_scen.specs.declared.scripts.Present.{Present}
 use Rattle.pr_scen.specs.declared.scripts.Present.TheVariants.{Over, Opens, Writes, Other}
 use Rattle.pr_scen.specs.declared.script_lines.ScriptLine.{ScriptLine}
-use Rattle.pr_scen.specs.declared.script_lines.ScriptLine.TheVariants.{Open, Close, Read, Write}
+use Rattle.pr_scen.specs.declared.script_lines.ScriptLine.TheVariants as line
 
 -- A script on its way through its lines: those lines, the place of the line whose call comes next, how many bytes of
 -- that line's write were taken, the end of the wait that this write has to make now, if one (0: no end), and the
@@ -20,11 +19,11 @@ pub record ScriptState : Type 0 where
   pub place : ℕ
   pub taken : ℕ
   pub wait : Option ℕ
-  pub bound : List Binding
+  pub bindings : Bindings
 
 -- a script before its first call
 unfoldable pub first_script : List ScriptLine → ScriptState
-first_script lines = record { lines = lines; place = 0; taken = 0; wait = None; bound = names_opened lines }
+first_script lines = record { lines = lines; place = 0; taken = 0; wait = None; bindings = unbound lines }
 
 -- A write carries all bytes that are left. Where the first half of a message that waits was done, the same bytes go
 -- into the wait.
@@ -34,14 +33,20 @@ write_call (Some until) handle left = call.CtlWait handle until left
 
 -- the call of a line, a row a line
 unfoldable pub call_of : ScriptState → ScriptLine → Call
-call_of s (Open name pid lwp file mode) = call.Open pid lwp file mode
-call_of s (Close name) = call.Close (handle_of s.bound name)
-call_of s (Read name at len) = call.Read (handle_of s.bound name) at len
-call_of s (Write name bytes) = write_call s.wait (handle_of s.bound name) (drop s.taken bytes)
+call_of s (line.Open name pid lwp file mode) = call.Open pid lwp file mode
+call_of s (line.Close name) = call.Close (handle_of s.bindings name)
+call_of s (line.Read name at len) = call.Read (handle_of s.bindings name) at len
+call_of s (line.Poll names) = call.Poll (map (handle_of s.bindings) names)
+call_of s (line.Write name bytes) = write_call s.wait (handle_of s.bindings name) (drop s.taken bytes)
+call_of s (line.Interrupt controller) = call.Interrupt controller
+call_of s (line.Spawn program held) = call.Spawn program held
+call_of s (line.Kill pid sig) = call.Kill pid sig
+call_of s (line.Until moment) = call.Until moment
+call_of s line.List = call.List
 
 abbrev pub call_at : ScriptState → Option ScriptLine → Option Call
 call_at s None = None
-call_at s (Some line) = Some (call_of s line)
+call_at s (Some l) = Some (call_of s l)
 
 -- the call that a script makes next; none where it has finished
 unfoldable pub next_call_of : ScriptState → Option Call
@@ -64,7 +69,7 @@ handle_in (reply.Fail errno) = no_handle
 
 -- a name stands for a handle from now on
 abbrev pub with_bound : ScriptState → List ℕ → ℕ → ScriptState
-with_bound s name handle = record s { bound = bind name handle s.bound }
+with_bound s name handle = record s { bindings = bound s.bindings name handle }
 
 -- So many bytes more of a write of `total` bytes were taken. The write is over where nothing is left.
 unfoldable pub with_taken : ScriptState → ℕ → ℕ → ScriptState
@@ -106,10 +111,16 @@ with_write_answered (Some until) s total r = with_wait_answered s total r
 -- many bytes; or it is over with its reply
 unfoldable pub present_of : Option ScriptLine → Present
 present_of None = Over
-present_of (Some (Open name pid lwp file mode)) = Opens name
-present_of (Some (Close name)) = Other
-present_of (Some (Read name at len)) = Other
-present_of (Some (Write name bytes)) = Writes (length bytes)
+present_of (Some (line.Open name pid lwp file mode)) = Opens name
+present_of (Some (line.Close name)) = Other
+present_of (Some (line.Read name at len)) = Other
+present_of (Some (line.Poll names)) = Other
+present_of (Some (line.Write name bytes)) = Writes (length bytes)
+present_of (Some (line.Interrupt controller)) = Other
+present_of (Some (line.Spawn program held)) = Other
+present_of (Some (line.Kill pid sig)) = Other
+present_of (Some (line.Until moment)) = Other
+present_of (Some line.List) = Other
 
 -- what a reply makes of a script, a row a line; every line but a write is over with its reply
 unfoldable pub with_answer : ScriptState → Reply → Present → ScriptState

@@ -1,87 +1,97 @@
-//! Names of a script, and the handles that they stand for.
-ghost use Rattle.std.specs.Prelude.{◌≡◌, ◌++◌, find, position, OnOk, IfOk};
-ghost use Rattle.std.specs.Option.{option_copied};
-ghost use Rattle.pr_scen.specs.Bindings.{is_named, handle_of, bind, name_opened, names_opened};
+//! The names of a script, and the handles that they stand for.
+ghost use Rattle.std.specs.Prelude.{◌≡◌, [], OnOk, IfOk};
+ghost use Rattle.pr_scen.specs.Bindings.{handle_of, bound, with_name, with_opened, all_opened, unbound};
 
 use crate::ScriptLine;
+use crate::name_indexes::Names;
 use pr_num::{Name, NoMemory};
 use std::alloc::Global;
-
-/// A name of a script and the handle that it stands for.
-#[derive(Drop)]
-pub struct Binding {
-    pub name: Name,
-    pub handle: u32,
-}
+use std::marker::Model;
 
 /// What a name stands for that is bound to no handle, and one whose open was refused.
 pub const NO_HANDLE: u32 = u32::MAX;
 
-/// Whether a binding is that of a name.
-#[tactic(auto, unfolding(crate::specs::Bindings::is_named))]
-fn is_named(binding: &Binding, name: &Name) -> bool
-    ensures { result ≡ is_named name.now binding.now }
-{
-    binding.name.as_slice() == name.as_slice()
+/// The names that a script opens, each once, and the handle that each stands for. A name is found in logarithmic time.
+#[derive(Drop)]
+pub struct Bindings {
+    names: Names,
+    handles: Vec<u32>,
 }
 
-/// The binding of a name.
-fn binding_of<'a>(bound: &'a [Binding], name: &Name) -> Option<&'a Binding>
-    ensures { option_copied result ≡ find (is_named name.now) bound.now }
-{
-    bound.iter().find(|b| is_named(b, name))
+impl Model for Bindings {
+    ghost use Rattle.std.specs.Prelude.{◌≡◌, length};
+    ghost use Rattle.pr_scen.specs.Bindings as plain;
+
+    ghost Value = { plain.Bindings };
+
+    ghost view = { λ b. record { names = b.names; handles = b.handles.items } };
+
+    ghost invariant = { λ b. length b.handles.items ≡ length b.names };
 }
 
-/// The place of the binding of a name.
-fn place_of(bound: &[Binding], name: &Name) -> Option<usize>
-    ensures { result ≡ position (is_named name.now) bound.now }
+/// Adds a name that is not among them.
+#[tactic(auto, unfolding(crate::specs::Bindings::with_name))]
+fn put_name(names: &mut Names, name: Name) -> Result<(), NoMemory>
+    ensures { OnOk result (names.new ≡ with_name names.old name) }
 {
-    bound.iter().position(|b| is_named(b, name))
-}
-
-/// The handle that a name stands for.
-#[tactic(auto, unfolding(crate::specs::Bindings::handle_of))]
-pub fn handle_of(bound: &[Binding], name: &Name) -> u32
-    ensures { result ≡ handle_of bound.now name.now }
-{
-    match binding_of(bound, name) {
-        Some(binding) => binding.handle,
-        None => NO_HANDLE,
+    if names.place_of(name).is_some() {
+        return Ok(());
     }
-}
-
-/// Binds a name to a handle.
-#[tactic(auto, unfolding(crate::specs::Bindings::bind, crate::specs::Bindings::with_handle), using(pr_num::proofs::TableLemmas::change_first_laws))]
-pub fn bind(bound: &mut [Binding], name: &Name, handle: u32)
-    ensures { bound.new ≡ bind name.now handle bound.old }
-{
-    if let Some(place) = place_of(bound, name) {
-        bound[place].handle = handle;
-    }
+    names.add(name)
 }
 
 /// Adds the name that a line opens, if it opens one.
-#[tactic(auto, unfolding(crate::specs::Bindings::name_opened))]
-fn put_opened(bound: &mut Vec<Binding>, line: &ScriptLine) -> Result<(), NoMemory>
-    ensures { OnOk result (bound.new.items ≡ bound.old.items ++ name_opened line.now) }
+#[tactic(auto, unfolding(crate::specs::Bindings::with_opened))]
+fn put_opened(names: &mut Names, line: &ScriptLine) -> Result<(), NoMemory>
+    ensures { OnOk result (names.new ≡ with_opened names.old line.now) }
 {
-    if let ScriptLine::Open { name, .. } = line {
-        bound.push(Binding {
-            name: *name,
-            handle: NO_HANDLE,
-        })?;
+    match line {
+        ScriptLine::Open { name, .. } => put_name(names, *name),
+        _ => Ok(()),
     }
-    Ok(())
 }
 
-/// The names that a script opens, none of them bound to a handle yet.
-#[tactic(auto, unfolding(crate::specs::Bindings::names_opened))]
-pub fn names_opened(alloc: Global, lines: &[ScriptLine]) -> Result<Vec<Binding>, NoMemory>
-    ensures { IfOk result (λ bound. bound.items ≡ names_opened lines.now) }
+/// The names that lines open.
+#[tactic(auto, unfolding(crate::specs::Bindings::all_opened))]
+fn opened(alloc: Global, lines: &[ScriptLine]) -> Result<Names, NoMemory>
+    ensures { IfOk result (λ names. names ≡ all_opened [] lines.now) }
 {
-    let mut bound = Vec::new(alloc);
+    let mut names = Names::new(alloc);
     for line in lines {
-        put_opened(&mut bound, line)?;
+        put_opened(&mut names, line)?;
     }
-    Ok(bound)
+    Ok(names)
+}
+
+impl Bindings {
+    /// The names that a script opens, none of them bound to a handle yet.
+    #[tactic(auto, unfolding(crate::specs::Bindings::unbound))]
+    pub fn of(alloc: Global, lines: &[ScriptLine]) -> Result<Bindings, NoMemory>
+        ensures { IfOk result (λ b. b ≡ unbound lines.now) }
+    {
+        let names = opened(alloc, lines)?;
+        let handles = vec![in alloc; NO_HANDLE; names.len()]?;
+        Ok(Bindings { names, handles })
+    }
+
+    /// The handle that a name stands for.
+    #[tactic(auto, unfolding(crate::specs::Bindings::handle_of))]
+    pub fn handle_of(&self, name: Name) -> u32
+        ensures { result ≡ handle_of self.now name }
+    {
+        match self.names.place_of(name) {
+            Some(place) => self.handles[place],
+            None => NO_HANDLE,
+        }
+    }
+
+    /// Binds a name to a handle.
+    #[tactic(auto, unfolding(crate::specs::Bindings::bound))]
+    pub fn bind(&mut self, name: Name, handle: u32)
+        ensures { self.new ≡ bound self.old name handle }
+    {
+        if let Some(place) = self.names.place_of(name) {
+            self.handles[place] = handle;
+        }
+    }
 }

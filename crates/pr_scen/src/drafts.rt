@@ -1,265 +1,396 @@
-//! What was read of a scenario so far, and what one more line makes of it.
-ghost use Rattle.std.specs.Prelude.{◌≡◌, OnOk};
-ghost use Rattle.pr_scen.specs.Drafts.{nothing, with_turns, with_program_begun, has_program, with_spawn, with_script_begun, with_item, with_code, with_program, with_program_line, with_call, with_open, is_open, with_line, with_script, with_script_line, with_outer_words, with_program_words, with_script_words, line_added};
-ghost use Rattle.pr_scen.specs.Reads.{Gives};
-ghost use Rattle.pr_text.specs.Words.{texts_of};
+//! What was read of a scenario so far, and what one line or block more makes of it.
+ghost use Rattle.std.specs.Prelude.{◌≡◌, ◌≤◌, ◌<◌, ◌++◌, ◌^◌, None, length, option_map, slice_get, IfSome, OnOk, nat_le, replicate};
+ghost use Rattle.pr_text.specs.Reads.{Gives};
+ghost use Rattle.pr_scen.specs.Scenarios.{space_size};
+ghost use Rattle.pr_scen.specs.Drafts.{nothing, noting, with_turns, with_file, with_process, with_spawn, with_controller, has_program, knows_program, with_truss, with_schedule, with_item, item_added, may_begin, with_program, with_line, call_added, script_line_added, with_script, made};
+ghost use Rattle.pr_scen.specs.Names.{place_of};
+ghost use Rattle.pr_scen.specs.Schedules.{turn_count, actors_of};
 
-use crate::codes::Code;
-use crate::items::{Item, item_of};
-use crate::parts::is_readable;
-use crate::program_blocks::{ProgramLine, program_line_of};
-use crate::refusals::Refused;
-use crate::script_blocks::{InScript, script_line_of};
-use crate::{Lines, ScenKind, ScriptLine};
+use crate::built::{is_built_item, is_built_line};
+use crate::few_names::FewNames;
+use crate::items::Item;
+use crate::limits::{
+    DEFAULT_TURNS, MOST_CONTROLLERS, MOST_FILE, MOST_FILES, MOST_LISTS, MOST_MAPPED, MOST_PROGRAMS,
+    MOST_SCHEDULED, MOST_SPAWNS, MOST_TURNS,
+};
+use crate::schedules::Turns;
+use crate::script_blocks::InScript;
+use crate::script_lines::Lines;
+use crate::{Plan, ScenKind, Scenario, Script, ScriptLine};
 use pr_asm::Program;
-use pr_num::{Instruction, Name, NoMemory, Table};
+use pr_line::Options;
+use pr_model::Actor;
+use pr_num::{Bytes, Name, NoMemory, Table};
+use pr_text::Refused;
 use std::alloc::Global;
 use std::mem;
-
-/// The most opens of all scripts.
-pub const MAX_OPENS: u32 = 16;
-
-/// In which block the next line stands.
-#[derive(Drop)]
-pub enum Inside {
-    Outside,
-    /// In the block of the program of this name.
-    Program(Name),
-    Script,
-}
 
 /// What was read of a scenario so far.
 #[derive(Drop)]
 pub struct Draft {
     /// How many entries the history may have, where a line said so.
     pub turns: Option<u32>,
+    /// The programs whose blocks have ended, and their names.
+    pub program_names: FewNames,
     pub programs: Table<Program>,
+    pub file_names: FewNames,
+    pub files: Table<(Name, Bytes)>,
     pub spawns: Table<u32>,
-    pub scripts: Table<Lines>,
-    pub inside: Inside,
-    /// The instructions of the program block so far; none outside one.
-    pub code: Code,
+    /// How many bytes the spawned processes have mapped when they begin.
+    pub mapped: u64,
+    pub controllers: Table<Plan>,
+    /// How many `list` lines there are so far.
+    pub lists: u32,
+    pub schedule: Table<Actor>,
     /// The lines of the script block so far; none outside one.
     pub lines: Lines,
-    /// How many opens there are so far.
-    pub opens: u32,
+    /// The first line of a form that is not built.
+    pub unbuilt: Option<u32>,
 }
 
-/// Whether there is a program and goes by this name.
-#[tactic(auto, unfolding(crate::specs::Drafts::has_program))]
-fn has_program(programs: &[Program], name: &Name) -> bool
-    ensures { result ≡ has_program name.now programs.now }
+/// How many bytes a process of a program has mapped when it begins: its text and its data, each a multiple of 4,096, and
+/// its stack.
+#[tactic(auto, using(crate::proofs::SizeLemmas::size_at_first), unfolding(crate::specs::Scenarios::space_size))]
+fn space_size(program: &Program) -> u64
+    ensures value { result ≡ space_size program.now }
+    ensures small { result ≤ 1048576 }
 {
-    match programs.first() {
-        Some(program) => program.name().as_slice() == name.as_slice(),
-        None => false,
-    }
-}
-
-#[tactic(auto, unfolding(crate::specs::Drafts::is_open))]
-fn is_open(line: &ScriptLine) -> bool
-    ensures { result ≡ is_open line.now }
-{
-    matches!(line, ScriptLine::Open { .. })
+    let text = (program.code().len() * 16).next_multiple_of(4096);
+    let data = program.data().len().next_multiple_of(4096);
+    (text + data + 4096) as u64
 }
 
 impl Draft {
-    /// Before the first line.
+    /// Before the first line. Takes no memory.
     pub fn new(alloc: Global) -> Draft
         ensures { result ≡ nothing }
     {
         Draft {
             turns: None,
+            program_names: FewNames::new(alloc),
             programs: Table::new(alloc),
+            file_names: FewNames::new(alloc),
+            files: Table::new(alloc),
             spawns: Table::new(alloc),
-            scripts: Table::new(alloc),
-            inside: Inside::Outside,
-            code: Code::new(alloc),
+            mapped: 0,
+            controllers: Table::new(alloc),
+            lists: 0,
+            schedule: Table::new(alloc),
             lines: Table::new(alloc),
-            opens: 0,
+            unbuilt: None,
         }
     }
 
-    /// The limit of turns, once.
+    /// Remembers the first line of a form that is not built.
+    #[tactic(auto, unfolding(crate::specs::Drafts::noting))]
+    pub fn note(&mut self, line: u32, built: bool)
+        ensures { self.new ≡ noting line built self.old }
+    {
+        if !built && self.unbuilt.is_none() {
+            self.unbuilt = Some(line);
+        }
+    }
+
     #[tactic(auto, unfolding(crate::specs::Drafts::with_turns))]
-    fn set_turns(&mut self, n: u32) -> Result<(), Refused>
+    fn set_turns(&mut self, n: u64) -> Result<(), Refused<ScenKind>>
         ensures { Gives (λ _. self.new) result (with_turns self.old n) }
     {
         if self.turns.is_some() {
-            return Err(Refused::Kind(ScenKind::NotBuilt));
+            return Err(Refused::Kind(ScenKind::Double));
         }
-        self.turns = Some(n);
+        if n > MOST_TURNS {
+            return Err(Refused::Kind(ScenKind::TooMany));
+        }
+        self.turns = Some(n as u32);
         Ok(())
     }
 
-    /// A program block begins.
-    #[tactic(auto, unfolding(crate::specs::Drafts::with_program_begun))]
-    fn begin_program(&mut self, ended: bool, name: Name) -> Result<(), Refused>
-        ensures { Gives (λ _. self.new) result (with_program_begun ended self.old name) }
+    #[tactic(auto, unfolding(crate::specs::Drafts::with_file))]
+    fn add_file(&mut self, name: Name, bytes: Bytes) -> Result<(), Refused<ScenKind>>
+        ensures { Gives (λ _. self.new) result (with_file self.old name bytes) }
     {
-        if self.programs.len() != 0 || !ended {
-            return Err(Refused::Kind(ScenKind::NotBuilt));
+        if self.file_names.place_of(name).is_some() {
+            return Err(Refused::Kind(ScenKind::Double));
         }
-        self.inside = Inside::Program(name);
+        if self.file_names.len() >= MOST_FILES {
+            return Err(Refused::Kind(ScenKind::TooMany));
+        }
+        if bytes.as_slice().len() > MOST_FILE {
+            return Err(Refused::Kind(ScenKind::TooBig));
+        }
+        self.file_names.add(name)?;
+        self.files.push((name, bytes))?;
         Ok(())
     }
 
-    /// One process, of a program whose block stands above.
+    /// Adds a process of the program at a place, which begins with so many bytes mapped.
+    fn add_process(&mut self, place: usize, size: u64) -> Result<(), Refused<ScenKind>>
+        requires place { place < 2 ^ 32 }
+        requires size { size ≤ 1048576 }
+        ensures { Gives (λ _. self.new) result (with_process self.old place size) }
+    {
+        if self.spawns.len() >= MOST_SPAWNS {
+            return Err(Refused::Kind(ScenKind::TooMany));
+        }
+        if self.mapped > MOST_MAPPED - size {
+            return Err(Refused::Kind(ScenKind::TooBig));
+        }
+        self.spawns.push(place as u32)?;
+        self.mapped += size;
+        Ok(())
+    }
+
+    /// How many bytes a process of the program at a place has mapped when it begins.
+    fn size_at(&self, place: usize) -> Option<u64>
+        ensures value { result ≡ option_map space_size (slice_get self.now.programs place) }
+        ensures small { IfSome result (λ size. size ≤ 1048576) }
+    {
+        let program = self.programs.as_slice().get(place)?;
+        Some(space_size(program))
+    }
+
     #[tactic(auto, unfolding(crate::specs::Drafts::with_spawn))]
-    fn add_spawn(&mut self, name: &Name) -> Result<(), Refused>
-        ensures { Gives (λ _. self.new) result (with_spawn self.old name.now) }
+    fn add_spawn(&mut self, name: Name) -> Result<(), Refused<ScenKind>>
+        ensures { Gives (λ _. self.new) result (with_spawn self.old name) }
     {
-        if self.spawns.len() != 0 || !has_program(self.programs.as_slice(), name) {
-            return Err(Refused::Kind(ScenKind::NotBuilt));
+        let place = self
+            .program_names
+            .place_of(name)
+            .ok_or(ScenKind::UnknownName)?;
+        let size = self.size_at(place).ok_or(ScenKind::UnknownName)?;
+        self.add_process(place, size)
+    }
+
+    /// Adds a controller.
+    #[tactic(auto, unfolding(crate::specs::Drafts::with_controller))]
+    fn add_controller(&mut self, plan: Plan) -> Result<(), Refused<ScenKind>>
+        ensures { Gives (λ _. self.new) result (with_controller self.old plan) }
+    {
+        if self.controllers.len() >= MOST_CONTROLLERS {
+            return Err(Refused::Kind(ScenKind::TooMany));
         }
-        self.spawns.push(0)?;
+        self.controllers.push(plan)?;
         Ok(())
     }
 
-    /// A script block begins.
-    #[tactic(auto, unfolding(crate::specs::Drafts::with_script_begun))]
-    fn begin_script(&mut self, ended: bool) -> Result<(), Refused>
-        ensures { Gives (λ _. self.new) result (with_script_begun ended self.old) }
+    /// Whether a program of this name has ended above.
+    pub fn has_program(&self, name: Name) -> bool
+        ensures { result ≡ has_program self.now name }
     {
-        if self.scripts.len() != 0 || !ended {
-            return Err(Refused::Kind(ScenKind::NotBuilt));
+        self.program_names.place_of(name).is_some()
+    }
+
+    fn knows_program(&self, program: Option<Name>) -> bool
+        ensures { result ≡ knows_program self.now program }
+    {
+        match program {
+            None => true,
+            Some(name) => self.has_program(name),
         }
-        self.inside = Inside::Script;
+    }
+
+    #[tactic(auto, unfolding(crate::specs::Drafts::with_truss))]
+    fn add_truss(&mut self, options: Options) -> Result<(), Refused<ScenKind>>
+        ensures { Gives (λ _. self.new) result (with_truss self.old options) }
+    {
+        if !self.knows_program(options.program) {
+            return Err(Refused::Kind(ScenKind::UnknownName));
+        }
+        self.add_controller(Plan::Truss(options))
+    }
+
+    #[tactic(auto, unfolding(crate::specs::Drafts::with_schedule))]
+    fn add_schedule(&mut self, turns: &[Turns]) -> Result<(), Refused<ScenKind>>
+        ensures { Gives (λ _. self.new) result (with_schedule self.old turns.now) }
+    {
+        let len = self.schedule.len();
+        if len > MOST_SCHEDULED || !are_within(turns, (MOST_SCHEDULED - len) as u64) {
+            return Err(Refused::Kind(ScenKind::TooMany));
+        }
+        put_turns(&mut self.schedule, turns)?;
         Ok(())
     }
 
+    /// Adds a line outside blocks. Those that begin a block are read with it.
     #[tactic(auto, unfolding(crate::specs::Drafts::with_item))]
-    fn add_item(&mut self, ended: bool, item: &Item) -> Result<(), Refused>
-        ensures { Gives (λ _. self.new) result (with_item ended self.old item.now) }
+    fn add(&mut self, item: Item) -> Result<(), Refused<ScenKind>>
+        ensures { Gives (λ _. self.new) result (with_item self.old item) }
     {
         match item {
-            Item::Blank => Ok(()),
-            Item::Turns(n) => self.set_turns(*n),
-            Item::Program(name) => self.begin_program(ended, *name),
+            Item::Blank | Item::Program(_) | Item::Script => Ok(()),
+            Item::Turns(n) => self.set_turns(n),
+            Item::File(name, bytes) => self.add_file(name, bytes),
             Item::Spawn(name) => self.add_spawn(name),
-            Item::Script => self.begin_script(ended),
+            Item::Truss(options) => self.add_truss(options),
+            Item::Tool(kind, pid) => self.add_controller(Plan::Tool(kind, pid)),
+            Item::Schedule(turns) => self.add_schedule(turns.as_slice()),
         }
     }
 
-    /// One instruction more.
-    #[tactic(auto, unfolding(crate::specs::Drafts::with_code))]
-    fn add_code(&mut self, instruction: Instruction) -> Result<(), Refused>
-        ensures { Gives (λ _. self.new) result (with_code self.old instruction) }
+    /// Adds the item of a line, whose form may not be built.
+    #[tactic(auto, unfolding(crate::specs::Drafts::item_added))]
+    pub fn add_item(&mut self, line: u32, item: Item) -> Result<(), Refused<ScenKind>>
+        ensures { Gives (λ _. self.new) result (item_added line self.old item) }
     {
-        if self.code.len() >= Program::MAX_CODE {
-            return Err(Refused::Kind(ScenKind::NotBuilt));
-        }
-        self.code.push(instruction)?;
+        let built = is_built_item(&item);
+        self.add(item)?;
+        self.note(line, built);
         Ok(())
     }
 
-    /// The program block ends, and the program is whole.
+    /// Whether a line that begins a block can: a program has a name of its own, and a script is within the limit.
+    #[tactic(auto, unfolding(crate::specs::Drafts::may_begin))]
+    pub fn may_begin(&self, item: &Item) -> Result<(), ScenKind>
+        ensures { result ≡ may_begin self.now item.now }
+    {
+        match item {
+            Item::Program(name) => self.may_begin_program(*name),
+            Item::Script => self.may_begin_script(),
+            _ => Ok(()),
+        }
+    }
+
+    #[tactic(auto, unfolding(crate::specs::Drafts::may_begin))]
+    fn may_begin_program(&self, name: Name) -> Result<(), ScenKind>
+        ensures { result ≡ may_begin self.now (Item.Program name) }
+    {
+        if self.has_program(name) {
+            return Err(ScenKind::Double);
+        }
+        if self.program_names.len() >= MOST_PROGRAMS {
+            return Err(ScenKind::TooMany);
+        }
+        Ok(())
+    }
+
+    #[tactic(auto, unfolding(crate::specs::Drafts::may_begin))]
+    fn may_begin_script(&self) -> Result<(), ScenKind>
+        ensures { result ≡ may_begin self.now Item.Script }
+    {
+        if self.controllers.len() >= MOST_CONTROLLERS {
+            return Err(ScenKind::TooMany);
+        }
+        Ok(())
+    }
+
+    /// Adds a program, whose name is its own.
     #[tactic(auto, unfolding(crate::specs::Drafts::with_program))]
-    fn end_program(&mut self, alloc: Global, name: Name) -> Result<(), Refused>
-        ensures { Gives (λ _. self.new) result (with_program self.old name) }
+    pub fn add_program(&mut self, name: Name, program: Program) -> Result<(), NoMemory>
+        requires fresh { place_of self.old.program_names name ≡ None }
+        requires few { length self.old.program_names < 256 }
+        ensures { OnOk result (self.new ≡ with_program self.old name program) }
     {
-        if !self.code.ends_in_exit() {
-            return Err(Refused::Kind(ScenKind::NotBuilt));
+        self.program_names.add(name)?;
+        self.programs.push(program)
+    }
+
+    /// Adds a line of a script.
+    fn add_line(&mut self, line: ScriptLine) -> Result<(), NoMemory>
+        ensures { OnOk result (self.new ≡ with_line self.old line) }
+    {
+        self.lines.push(line)
+    }
+
+    /// Adds a `list` line of a script.
+    #[tactic(auto, unfolding(crate::specs::Drafts::call_added))]
+    fn add_list(&mut self) -> Result<(), Refused<ScenKind>>
+        ensures { Gives (λ _. self.new) result (call_added self.old ScriptLine.List) }
+    {
+        if self.lists >= MOST_LISTS {
+            return Err(Refused::Kind(ScenKind::TooMany));
         }
-        let code = mem::replace(&mut self.code, Code::new(alloc));
-        self.programs.push(code.into_program(alloc, name))?;
-        self.inside = Inside::Outside;
+        self.add_line(ScriptLine::List)?;
+        self.lists += 1;
         Ok(())
     }
 
-    #[tactic(auto, unfolding(crate::specs::Drafts::with_program_line))]
-    fn add_program_line(
-        &mut self,
-        alloc: Global,
-        name: Name,
-        line: &ProgramLine,
-    ) -> Result<(), Refused>
-        ensures { Gives (λ _. self.new) result (with_program_line self.old name line.now) }
+    /// Adds a call of a script, which spawns a program whose block has ended above, if it spawns one.
+    #[tactic(auto, unfolding(crate::specs::Drafts::call_added))]
+    fn add_call(&mut self, line: ScriptLine) -> Result<(), Refused<ScenKind>>
+        ensures { Gives (λ _. self.new) result (call_added self.old line) }
     {
-        match line {
-            ProgramLine::Blank => Ok(()),
-            ProgramLine::Code(instruction) => self.add_code(*instruction),
-            ProgramLine::End => self.end_program(alloc, name),
+        if let ScriptLine::Spawn { program, .. } = &line {
+            if !self.has_program(*program) {
+                return Err(Refused::Kind(ScenKind::UnknownName));
+            }
         }
+        if let ScriptLine::List = &line {
+            return self.add_list();
+        }
+        self.add_line(line)?;
+        Ok(())
     }
 
-    /// One line of a script more.
-    #[tactic(auto, unfolding(crate::specs::Drafts::with_line, crate::specs::Drafts::with_open, crate::specs::Drafts::with_call))]
-    fn add_call(&mut self, line: ScriptLine) -> Result<(), Refused>
-        ensures { Gives (λ _. self.new) result (with_line self.old line) }
+    /// Adds what a line of a script block says, whose form may not be built.
+    #[tactic(auto, unfolding(crate::specs::Drafts::script_line_added))]
+    pub fn add_script_line(&mut self, number: u32, line: InScript) -> Result<(), Refused<ScenKind>>
+        ensures { Gives (λ _. self.new) result (script_line_added number self.old line) }
     {
-        let opens = is_open(&line);
-        if opens && self.opens >= MAX_OPENS {
-            return Err(Refused::Kind(ScenKind::NotBuilt));
-        }
-        self.lines.push(line)?;
-        if opens {
-            self.opens += 1;
-        }
+        let InScript::Line(line) = line else {
+            return Ok(());
+        };
+        let built = is_built_line(&line);
+        self.add_call(line)?;
+        self.note(number, built);
         Ok(())
     }
 
     /// The script block ends, and the script is whole.
     #[tactic(auto, unfolding(crate::specs::Drafts::with_script))]
-    fn end_script(&mut self, alloc: Global) -> Result<(), NoMemory>
+    pub fn end_script(&mut self, alloc: Global) -> Result<(), NoMemory>
         ensures { OnOk result (self.new ≡ with_script self.old) }
     {
         let lines = mem::replace(&mut self.lines, Table::new(alloc));
-        self.scripts.push(lines)?;
-        self.inside = Inside::Outside;
-        Ok(())
+        let script = Script::new(alloc, lines)?;
+        self.controllers.push(Plan::Script(script))
     }
 
-    #[tactic(auto, unfolding(crate::specs::Drafts::with_script_line))]
-    fn add_script_line(&mut self, alloc: Global, line: InScript) -> Result<(), Refused>
-        ensures { Gives (λ _. self.new) result (with_script_line self.old line) }
+    /// What was read, as a scenario.
+    #[tactic(auto, unfolding(crate::specs::Drafts::made))]
+    pub fn make(self) -> Scenario
+        ensures { result ≡ made self }
     {
-        match line {
-            InScript::Blank => Ok(()),
-            InScript::Line(line) => self.add_call(line),
-            InScript::End => Ok(self.end_script(alloc)?),
+        Scenario {
+            turns: self.turns.unwrap_or(DEFAULT_TURNS),
+            programs: self.programs.into_vec(),
+            files: self.files.into_vec(),
+            spawns: self.spawns.into_vec(),
+            controllers: self.controllers.into_vec(),
+            schedule: self.schedule.into_vec(),
         }
     }
+}
 
-    /// A line outside blocks.
-    fn add_outside(&mut self, ended: bool, line: &[u8]) -> Result<(), Refused>
-        ensures { Gives (λ _. self.new) result (with_outer_words ended self.old (texts_of line.now)) }
-    {
-        let item = item_of(line)?;
-        self.add_item(ended, &item)
-    }
-
-    /// A line in the block of the program of this name.
-    fn add_in_program(&mut self, alloc: Global, name: Name, line: &[u8]) -> Result<(), Refused>
-        ensures { Gives (λ _. self.new) result (with_program_words self.old name (texts_of line.now)) }
-    {
-        let read = program_line_of(alloc, line)?;
-        self.add_program_line(alloc, name, &read)
-    }
-
-    /// A line in a script block.
-    fn add_in_script(&mut self, alloc: Global, line: &[u8]) -> Result<(), Refused>
-        ensures { Gives (λ _. self.new) result (with_script_words self.old (texts_of line.now)) }
-    {
-        let read = script_line_of(alloc, line)?;
-        self.add_script_line(alloc, read)
-    }
-
-    /// Adds what one more line says. `ended` tells whether the end of a block stands below it.
-    #[tactic(auto, unfolding(crate::specs::Drafts::line_added, crate::specs::Drafts::with_words))]
-    pub fn add_line(&mut self, alloc: Global, ended: bool, line: &[u8]) -> Result<(), Refused>
-        ensures { Gives (λ _. self.new) result (line_added ended self.old line.now) }
-    {
-        if !is_readable(line) {
-            return Err(Refused::Kind(ScenKind::NotBuilt));
+/// Whether these are so many turns at most.
+fn are_within(turns: &[Turns], most: u64) -> bool
+    ensures { result ≡ nat_le (turn_count turns.now) most }
+{
+    let mut left = most;
+    for t in turns {
+        if t.times > left {
+            return false;
         }
-        match &self.inside {
-            Inside::Outside => self.add_outside(ended, line),
-            Inside::Program(name) => {
-                let name = *name;
-                self.add_in_program(alloc, name, line)
-            }
-            Inside::Script => self.add_in_script(alloc, line),
-        }
+        left -= t.times;
     }
+    true
+}
+
+/// Adds so many turns of an actor.
+fn put_times(schedule: &mut Table<Actor>, actor: Actor, times: u64) -> Result<(), NoMemory>
+    ensures { OnOk result (schedule.new ≡ schedule.old ++ replicate times actor) }
+{
+    for _turn in 0..times {
+        schedule.push(actor)?;
+    }
+    Ok(())
+}
+
+/// Adds the actors of turns.
+fn put_turns(schedule: &mut Table<Actor>, turns: &[Turns]) -> Result<(), NoMemory>
+    ensures { OnOk result (schedule.new ≡ schedule.old ++ actors_of turns.now) }
+{
+    for t in turns {
+        put_times(schedule, t.actor, t.times)?;
+    }
+    Ok(())
 }

@@ -1,15 +1,19 @@
 //! The lines outside blocks, each read on its own.
-ghost use Rattle.std.specs.Prelude.{◌≡◌, ◌≤◌};
+ghost use Rattle.std.specs.Prelude.{◌≡◌, ◌<◌, ◌≤◌, ◌^◌, [], ◌∷◌, length, IfOk, if◌then◌else◌};
+ghost use Rattle.pr_line.specs.Reading.{has_bad_option};
+ghost use Rattle.pr_text.specs.Reads.{Gives};
 ghost use Rattle.pr_text.specs.Words.{texts_of};
-ghost use Rattle.pr_scen.specs.Items.{turns_of, program_of, spawn_of, script_of, item_with, item_of};
+ghost use Rattle.pr_scen.specs.Items.{turns_of, file_of, program_of, spawn_of, script_of, truss_of, tool_line_of, schedule_of, item_with, item_of};
 
 use crate::ScenKind;
-use crate::parts::{begins_comment, none, one};
-use pr_asm::{Tokens, name_of, number_of};
-use pr_num::Name;
-
-/// The most entries that a scenario can ask for.
-pub const MAX_TURNS: u64 = 100_000;
+use crate::files::tool_of;
+use crate::lines::begins_comment;
+use crate::schedules::{Turns, all_turns_of};
+use pr_line::{Options, has_bad_option, read_words};
+use pr_model::ToolKind;
+use pr_num::{Bytes, Name, NoMemory, Table};
+use pr_text::{Refused, Tokens, id_of, name_of, none, number_of, one, quoted_bytes, two};
+use std::alloc::Global;
 
 /// What a line outside blocks says.
 #[derive(Drop)]
@@ -17,13 +21,18 @@ pub enum Item {
     /// Nothing: a comment, or a line without words.
     Blank,
     /// The history may have so many entries.
-    Turns(u32),
+    Turns(u64),
+    /// A file with these bytes.
+    File(Name, Bytes),
     /// A program block begins.
     Program(Name),
     /// A process of a program.
     Spawn(Name),
     /// A script block begins.
     Script,
+    Truss(Options),
+    Tool(ToolKind, u32),
+    Schedule(Table<Turns>),
 }
 
 /// `turns N`.
@@ -31,11 +40,22 @@ pub enum Item {
 fn turns_of(operands: Tokens) -> Result<Item, ScenKind>
     ensures { result ≡ turns_of operands.entry }
 {
-    let n = number_of(one(operands)?).ok_or(ScenKind::NotBuilt)?;
-    if n == 0 || n > MAX_TURNS {
-        return Err(ScenKind::NotBuilt);
+    let n = number_of(one(operands, ScenKind::BadOperand)?).ok_or(ScenKind::BadOperand)?;
+    if n == 0 {
+        return Err(ScenKind::BadOperand);
     }
-    Ok(Item::Turns(n as u32))
+    Ok(Item::Turns(n))
+}
+
+/// `file NAME "..."`.
+#[tactic(auto, unfolding(crate::specs::Items::file_of))]
+fn file_of(alloc: Global, operands: Tokens) -> Result<Item, Refused<ScenKind>>
+    ensures { Gives (λ item. item) result (file_of operands.entry) }
+{
+    let (name, text) = two(operands, ScenKind::BadOperand)?;
+    let name = name_of(name).ok_or(ScenKind::BadOperand)?;
+    let bytes = quoted_bytes(alloc, text)?.ok_or(ScenKind::BadOperand)?;
+    Ok(Item::File(name, bytes))
 }
 
 /// `program NAME`.
@@ -43,7 +63,7 @@ fn turns_of(operands: Tokens) -> Result<Item, ScenKind>
 fn program_of(operands: Tokens) -> Result<Item, ScenKind>
     ensures { result ≡ program_of operands.entry }
 {
-    let name = name_of(one(operands)?).ok_or(ScenKind::NotBuilt)?;
+    let name = name_of(one(operands, ScenKind::BadOperand)?).ok_or(ScenKind::BadOperand)?;
     Ok(Item::Program(name))
 }
 
@@ -52,7 +72,7 @@ fn program_of(operands: Tokens) -> Result<Item, ScenKind>
 fn spawn_of(operands: Tokens) -> Result<Item, ScenKind>
     ensures { result ≡ spawn_of operands.entry }
 {
-    let name = name_of(one(operands)?).ok_or(ScenKind::NotBuilt)?;
+    let name = name_of(one(operands, ScenKind::BadOperand)?).ok_or(ScenKind::BadOperand)?;
     Ok(Item::Spawn(name))
 }
 
@@ -61,34 +81,137 @@ fn spawn_of(operands: Tokens) -> Result<Item, ScenKind>
 fn script_of(operands: Tokens) -> Result<Item, ScenKind>
     ensures { result ≡ script_of operands.entry }
 {
-    none(operands)?;
+    none(operands, ScenKind::BadOperand)?;
     Ok(Item::Script)
+}
+
+/// The words that are left, each as bytes of its own. A line has fewer words than bytes.
+fn words_of(alloc: Global, words: Tokens) -> Result<Vec<Bytes>, NoMemory>
+    ensures { IfOk result (λ v. v.items ≡ words.entry) }
+{
+    let mut words = words;
+    let mut texts = Vec::new(alloc);
+    while let Some(word) = words.next() {
+        texts.push(Bytes::from_vec(Vec::from_slice(alloc, word)?))?;
+    }
+    Ok(texts)
+}
+
+/// `truss WORDS`.
+#[tactic(auto, unfolding(crate::specs::Items::truss_of))]
+fn truss_of(alloc: Global, operands: Tokens) -> Result<Item, Refused<ScenKind>>
+    requires { length operands < 2 ^ 32 }
+    ensures { Gives (λ item. item) result (truss_of operands.entry) }
+{
+    let words = words_of(alloc, operands)?;
+    match read_words(alloc, &words) {
+        Ok(options) => Ok(Item::Truss(options)),
+        Err(Refused::Kind(_)) => Err(Refused::Kind(truss_kind(alloc, &words)?)),
+        Err(Refused::NoMemory(error)) => Err(Refused::NoMemory(error)),
+    }
+}
+
+/// The kind of a truss line that is refused: a bad option comes before a name that is in no table.
+fn truss_kind(alloc: Global, words: &[Bytes]) -> Result<ScenKind, NoMemory>
+    requires { length words.now < 2 ^ 32 }
+    ensures { IfOk result (λ kind. kind ≡ (if has_bad_option words.now then ScenKind.BadOperand else ScenKind.UnknownName)) }
+{
+    if has_bad_option(alloc, words)? {
+        Ok(ScenKind::BadOperand)
+    } else {
+        Ok(ScenKind::UnknownName)
+    }
+}
+
+/// `tool TOOL PID`, `tool ptree`.
+#[tactic(auto, unfolding(crate::specs::Items::tool_line_of))]
+fn tool_line_of(mut operands: Tokens) -> Result<Item, ScenKind>
+    ensures { result ≡ tool_line_of operands.entry }
+{
+    let word = operands.next().ok_or(ScenKind::BadOperand)?;
+    let Some(id) = operands.next() else {
+        return ptree_line(word);
+    };
+    none(operands, ScenKind::BadOperand)?;
+    process_tool(word, id)
+}
+
+/// A tool that has no process.
+#[tactic(auto, unfolding(crate::specs::Items::tool_line_of))]
+fn ptree_line(word: &[u8]) -> Result<Item, ScenKind>
+    ensures { result ≡ tool_line_of (word.now ∷ []) }
+{
+    if word == b"ptree".as_slice() {
+        Ok(Item::Tool(ToolKind::Ptree, 0))
+    } else {
+        Err(ScenKind::BadOperand)
+    }
+}
+
+/// A tool of a process.
+#[tactic(auto, unfolding(crate::specs::Items::tool_line_of))]
+fn process_tool(word: &[u8], id: &[u8]) -> Result<Item, ScenKind>
+    ensures { result ≡ tool_line_of (word.now ∷ id.now ∷ []) }
+{
+    name_of(word).ok_or(ScenKind::BadOperand)?;
+    let pid = id_of(id).ok_or(ScenKind::BadOperand)?;
+    if word == b"ptree".as_slice() {
+        return Err(ScenKind::BadOperand);
+    }
+    let kind = tool_of(word).ok_or(ScenKind::UnknownName)?;
+    Ok(Item::Tool(kind, pid))
+}
+
+/// `schedule ACTORS`.
+#[tactic(auto, unfolding(crate::specs::Items::schedule_of))]
+fn schedule_of(alloc: Global, operands: Tokens) -> Result<Item, Refused<ScenKind>>
+    ensures { Gives (λ item. item) result (schedule_of operands.entry) }
+{
+    let turns = all_turns_of(alloc, operands)?;
+    if turns.is_empty() {
+        return Err(Refused::Kind(ScenKind::BadOperand));
+    }
+    Ok(Item::Schedule(turns))
 }
 
 /// A line that is neither empty nor a comment, by its first word.
 #[tactic(auto, unfolding(crate::specs::Items::item_with))]
-fn item_with(first: &[u8], operands: Tokens) -> Result<Item, ScenKind>
-    ensures { result ≡ item_with first.now operands.entry }
+fn item_with(alloc: Global, first: &[u8], operands: Tokens) -> Result<Item, Refused<ScenKind>>
+    requires { length operands < 2 ^ 32 }
+    ensures { Gives (λ item. item) result (item_with first.now operands.entry) }
 {
     if first == b"turns".as_slice() {
-        return turns_of(operands);
+        return Ok(turns_of(operands)?);
+    }
+    if first == b"file".as_slice() {
+        return file_of(alloc, operands);
     }
     if first == b"program".as_slice() {
-        return program_of(operands);
+        return Ok(program_of(operands)?);
     }
     if first == b"spawn".as_slice() {
-        return spawn_of(operands);
+        return Ok(spawn_of(operands)?);
     }
     if first == b"script".as_slice() {
-        return script_of(operands);
+        return Ok(script_of(operands)?);
     }
-    Err(ScenKind::NotBuilt)
+    if first == b"truss".as_slice() {
+        return truss_of(alloc, operands);
+    }
+    if first == b"tool".as_slice() {
+        return Ok(tool_line_of(operands)?);
+    }
+    if first == b"schedule".as_slice() {
+        return schedule_of(alloc, operands);
+    }
+    Err(Refused::Kind(ScenKind::UnknownWord))
 }
 
 /// What a line outside blocks says.
 #[tactic(auto, unfolding(crate::specs::Items::item_of))]
-pub fn item_of(line: &[u8]) -> Result<Item, ScenKind>
-    ensures { result ≡ item_of (texts_of line.now) }
+pub fn item_of(alloc: Global, line: &[u8]) -> Result<Item, Refused<ScenKind>>
+    requires { length line.now ≤ 4096 }
+    ensures { Gives (λ item. item) result (item_of (texts_of line.now)) }
 {
     let mut words = Tokens::of(line);
     let Some(first) = words.next() else {
@@ -97,5 +220,5 @@ pub fn item_of(line: &[u8]) -> Result<Item, ScenKind>
     if begins_comment(first) {
         return Ok(Item::Blank);
     }
-    item_with(first, words)
+    item_with(alloc, first, words)
 }

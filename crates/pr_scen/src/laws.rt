@@ -1,50 +1,46 @@
 //! Laws of scenarios. Each function does nothing: its clauses are what is proved.
-ghost use Rattle.std.specs.Prelude.{◌≡◌, ℕ, List, Ok, Err, Some};
-ghost use Rattle.std.specs.List.{AllByRecursion};
-ghost use Rattle.pr_model.specs.declared.calls.Call.{Call};
-ghost use Rattle.pr_model.specs.declared.calls.Reply.{Reply};
-ghost use Rattle.pr_scen.specs.BuiltScripts.{AreBuiltLines, IsBuiltScript, TakesMessages, WritesBuilt};
-ghost use Rattle.pr_scen.specs.Spelling.{IsPlainScenario, HasSpelling};
-ghost use Rattle.pr_scen.specs.Scenarios.{IsWithinLimits};
-ghost use Rattle.pr_scen.specs.Scripts.{ScriptState, first_script, next_call_of, fed};
-ghost use Rattle.pr_scen.specs.declared.script_lines.ScriptLine.{ScriptLine};
-ghost use Rattle.pr_scen.specs.Faults.{IsFirstFault, IsAccepted};
-ghost use Rattle.pr_scen.specs.Grammar.{SpellScenario};
-ghost use Rattle.pr_scen.specs.Reading.{lines_of, scenario_of};
+ghost use Rattle.std.specs.Prelude.{◌≡◌, ℕ, List, Ok, Err};
+ghost use Rattle.pr_model.specs.Built.{is_built_call};
+ghost use Rattle.pr_model.specs.State.{TracedState};
+ghost use Rattle.pr_scen.specs.Built.{is_built_line};
+ghost use Rattle.pr_scen.specs.Division.{EncodeScenario, IsFirstFault};
+ghost use Rattle.pr_asm.specs.Spelling.{spaced};
+ghost use Rattle.pr_text.specs.Words.{texts_of};
+ghost use Rattle.pr_scen.specs.Encoding.{IsItem, IsLine, item_words, line_words};
+ghost use Rattle.pr_scen.specs.Items.{item_of};
+ghost use Rattle.pr_scen.specs.Reading.{scenario_in};
+ghost use Rattle.pr_scen.specs.ScriptLines.{script_line_of};
+ghost use Rattle.pr_scen.specs.declared.items.Item.{Item};
+ghost use Rattle.pr_scen.specs.declared.script_blocks.InScript.TheVariants as InScript;
+ghost use Rattle.pr_scen.specs.Scenarios.{Scenario};
+ghost use Rattle.pr_scen.specs.Scripts.{ScriptState, call_of};
 ghost use Rattle.pr_scen.specs.declared.refusals.ScenFault.{ScenFault};
-ghost use Rattle.pr_scen.specs.declared.scenarios.Scenario.{Scenario};
+ghost use Rattle.pr_scen.specs.declared.script_lines.ScriptLine.{ScriptLine};
 
-/// A text is refused exactly where one of its lines is the first that cannot follow those above it, and the refusal
-/// names that line; else all its lines are accepted one after another.
+/// Lines are read as a scenario exactly where they encode it: they are lines outside blocks and whole blocks, one after
+/// another, each is accepted after those above it, and together they make the scenario.
+pub fn what_encodes_a_scenario_is_read()
+    ensures read { (lines : List (List ℕ)) (s : Scenario) → EncodeScenario lines s → scenario_in lines ≡ Ok s }
+    ensures encoded { (lines : List (List ℕ)) (s : Scenario) → scenario_in lines ≡ Ok s → EncodeScenario lines s }
+{}
+
+/// Lines are refused exactly where one of their parts is the first that cannot follow those above it, and the refusal
+/// names a line of it; or, where every part is accepted, at the first line of a form that is not built.
 pub fn a_refusal_names_the_first_line()
-    ensures refused { (text : List ℕ) (fault : ScenFault) → scenario_of text ≡ Err fault → IsFirstFault text fault }
-    ensures refuses { (text : List ℕ) (fault : ScenFault) → IsFirstFault text fault → scenario_of text ≡ Err fault }
-    ensures accepted { (text : List ℕ) (s : Scenario) → scenario_of text ≡ Ok s → IsAccepted text s }
+    ensures refused { (lines : List (List ℕ)) (fault : ScenFault) → scenario_in lines ≡ Err fault → IsFirstFault lines fault }
+    ensures refuses { (lines : List (List ℕ)) (fault : ScenFault) → IsFirstFault lines fault → scenario_in lines ≡ Err fault }
 {}
 
-/// The scripts that are read write `dstop`, `wstop` and `run` alone, and a script of such lines goes on so: as long as
-/// replies tell the length of the message that was taken, what it writes next begins with one of these messages.
-pub fn scripts_write_built_messages()
-    ensures read { (text : List ℕ) (s : Scenario) → scenario_of text ≡ Ok s → AllByRecursion AreBuiltLines s.scripts }
-    ensures first { (lines : List ScriptLine) → AreBuiltLines lines → IsBuiltScript (first_script lines) }
-    ensures kept { (s : ScriptState) (r : Reply) → IsBuiltScript s → TakesMessages s r → IsBuiltScript (fed s r) }
-    ensures written { (s : ScriptState) (c : Call) → IsBuiltScript s → next_call_of s ≡ Some c → WritesBuilt c }
+/// A line of a script is built exactly where the kernel has a body for the call that it makes, whatever the machine is.
+pub fn a_built_line_makes_a_built_call()
+    ensures { (l : ScriptLine) (c : ScriptState) (s : TracedState) (by : ℕ)
+        → is_built_line l ≡ is_built_call s by (call_of c l) }
 {}
 
-/// A text is read as a scenario exactly where its lines spell it: each can be read, those that mean something are parts
-/// one behind the other, a line or a block each, and the parts make the scenario.
-pub fn what_spells_a_scenario_is_read()
-    ensures read { (text : List ℕ) (s : Scenario) → SpellScenario (lines_of text) s → scenario_of text ≡ Ok s }
-    ensures spelt { (text : List ℕ) (s : Scenario) → scenario_of text ≡ Ok s → SpellScenario (lines_of text) s }
-{}
-
-/// Each scenario of the forms that are built has a spelling: words for its lines, with which a text is read as it,
-/// whatever stands between these words and whatever comments and lines without words stand among these lines.
-pub fn each_scenario_has_a_spelling()
-    ensures { (s : Scenario) → IsPlainScenario s → HasSpelling s }
-{}
-
-/// A scenario that was read keeps its limits.
-pub fn a_scenario_keeps_its_limits()
-    ensures { (text : List ℕ) (s : Scenario) → scenario_of text ≡ Ok s → IsWithinLimits s }
+/// A line is read as what it was encoded from: the lines outside blocks, but for those of truss, tools and schedules, and
+/// all lines of scripts, with their messages as bytes.
+pub fn lines_are_read_as_they_are_encoded()
+    ensures outside { (i : Item) → IsItem i → item_of (texts_of (spaced (item_words i))) ≡ Ok i }
+    ensures in_scripts { (l : ScriptLine) → IsLine l
+        → script_line_of (texts_of (spaced (line_words l))) ≡ Ok (InScript.Line l) }
 {}

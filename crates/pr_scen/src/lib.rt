@@ -1,29 +1,39 @@
-//! Scenarios: the text that asks for programs, processes and scripts, and the script as a controller of the kernel.
+//! Scenarios: the text that asks for programs, files, processes and controllers, and the script as a controller of the
+//! kernel.
 #![tactic(auto)]
 
 mod bindings;
-mod codes;
+mod blocks;
+mod built;
 mod drafts;
+mod few_names;
+mod files;
 mod items;
 mod laws;
-mod parts;
-mod program_blocks;
+mod limits;
+mod lines;
+mod message_lists;
+mod message_words;
+mod name_indexes;
+mod plans;
 mod reading;
 mod refusals;
 mod scenarios;
+mod schedules;
 mod script_blocks;
 mod script_lines;
 mod scripts;
+mod writes;
 
-pub use bindings::Binding;
 pub use laws::{
-    a_refusal_names_the_first_line, a_scenario_keeps_its_limits, each_scenario_has_a_spelling,
-    scripts_write_built_messages, what_spells_a_scenario_is_read,
+    a_built_line_makes_a_built_call, a_refusal_names_the_first_line,
+    lines_are_read_as_they_are_encoded, what_encodes_a_scenario_is_read,
 };
+pub use plans::Plan;
 pub use reading::read_scenario;
 pub use refusals::{ScenFault, ScenKind, ScenRefusal};
-pub use scenarios::{Lines, Scenario};
-pub use script_lines::ScriptLine;
+pub use scenarios::Scenario;
+pub use script_lines::{Lines, ScriptLine};
 pub use scripts::Script;
 
 #[cfg(test)]

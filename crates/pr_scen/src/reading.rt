@@ -1,21 +1,18 @@
 //! Scenarios as text.
-ghost use Rattle.std.specs.Prelude.{◌≡◌, ◌+◌, ◌<◌, ◌≤◌, ◌^◌, ℕ, length, map, drop, nat_lt, IfOk};
-ghost use Rattle.std.specs.List.{list_any};
-ghost use Rattle.pr_scen.specs.Drafts.{line_added};
-ghost use Rattle.pr_scen.specs.Parts.{is_end};
-ghost use Rattle.pr_scen.specs.Reading.{lines_of, numbered, with_lines, scenario_in, scenario_of, finished};
-ghost use Rattle.pr_scen.specs.Reads.{Answers, LineGave};
-ghost use Rattle.pr_scen.specs.Scenarios.{IsWithinLimits};
+ghost use Rattle.std.specs.Prelude.{◌≡◌, ◌+◌, ◌<◌, ◌≤◌, ◌^◌, ◌∷◌, true, drop, length, map, IfOk, IfSome};
+ghost use Rattle.std.specs.List.{position_from};
+ghost use Rattle.pr_scen.specs.Lines.{is_end};
+ghost use Rattle.pr_scen.specs.Parts.{begins_block};
+ghost use Rattle.pr_scen.specs.Reading.{lines_of, draft_in, finished, scenario_in, scenario_of};
+ghost use Rattle.pr_scen.specs.Reads.{Answers};
+ghost use Rattle.pr_scen.specs.Scenarios.{IsBuilt, IsWithinLimits};
+ghost use Rattle.pr_scen.specs.Taken.{PartTaken};
 
 use crate::drafts::Draft;
-use crate::parts::is_end;
-use crate::refusals::Refused;
-use crate::{ScenFault, ScenRefusal, Scenario};
+use crate::lines::{begins_block, is_end};
+use crate::{ScenFault, ScenKind, ScenRefusal, Scenario};
 use pr_num::NoMemory;
 use std::alloc::{AllocError, Global};
-
-/// How many entries a history may have where no line says so.
-pub const DEFAULT_TURNS: u32 = 10_000;
 
 /// The lines of a text: a newline ends a line, and the last line may lack it.
 fn lines_of(alloc: Global, text: &[u8]) -> Result<Vec<&[u8]>, AllocError>
@@ -24,7 +21,7 @@ fn lines_of(alloc: Global, text: &[u8]) -> Result<Vec<&[u8]>, AllocError>
     text.split(|b| *b == b'\n').collect(alloc)
 }
 
-/// The same, where want of memory is this repository's own.
+/// The same, where out of memory is this repository's own.
 fn split_lines(alloc: Global, text: &[u8]) -> Result<Vec<&[u8]>, NoMemory>
     ensures { IfOk result (λ lines. map (λ line. line.now) lines.items ≡ lines_of text.now) }
 {
@@ -32,90 +29,123 @@ fn split_lines(alloc: Global, text: &[u8]) -> Result<Vec<&[u8]>, NoMemory>
     Ok(lines)
 }
 
-/// The number of the last line that ends a block, counted from 1; 0 where none does. So the end of a block stands below
-/// just the lines above it.
-fn last_end(lines: &[&[u8]]) -> usize
-    ensures { (k : ℕ) → list_any is_end (drop k (map (λ line. line.now) lines.now)) ≡ nat_lt k result }
+/// Which of these lines ends a block first.
+fn end_of(lines: &[&[u8]]) -> Option<usize>
+    ensures value { result ≡ position_from is_end 0 (map (λ line. line.now) lines.now) }
+    ensures within { IfSome result (λ k. k < length lines.now) }
 {
-    let mut last = 0;
     for (i, line) in lines.iter().enumerate() {
         if is_end(line) {
-            last = i + 1;
+            return Some(i);
         }
     }
-    last
-}
-
-/// What a line answered, with the number of the line where it is refused.
-fn at_line(line: u32, answer: Result<(), Refused>) -> Result<(), ScenRefusal>
-    ensures { LineGave line answer result }
-{
-    match answer {
-        Ok(()) => Ok(()),
-        Err(Refused::Kind(kind)) => Err(ScenRefusal::Fault(ScenFault { line, kind })),
-        Err(Refused::NoMemory(error)) => Err(ScenRefusal::from(error)),
-    }
+    None
 }
 
 impl Draft {
-    /// Adds what the line of this number says, or names it as refused.
-    fn add_numbered(
+    /// Adds the block that a line of this number begins, where these lines stand below it, and answers how many lines it
+    /// has.
+    fn take_block(
         &mut self,
         alloc: Global,
         number: u32,
-        ended: bool,
-        line: &[u8],
-    ) -> Result<(), ScenRefusal>
-        ensures { Answers (λ _. self.new) result (numbered number (line_added ended self.old line.now)) }
+        first: &[u8],
+        below: &[&[u8]],
+    ) -> Result<usize, ScenRefusal>
+        requires few { number + length below.now + 1 < 2 ^ 32 }
+        requires begins { begins_block first.now ≡ true }
+        ensures { PartTaken number self.old self.new (first.now ∷ map (λ line. line.now) below.now) result }
     {
-        let added = self.add_line(alloc, ended, line);
-        at_line(number, added)
+        let Some(end) = end_of(below) else {
+            return Err(self.refuse_endless(alloc, number, first));
+        };
+        self.add_block(alloc, number, first, &below[..end], below[end])?;
+        Ok(end + 2)
     }
 
-    /// What was read, as a scenario.
-    #[tactic(auto, unfolding(crate::specs::Reading::finished))]
-    fn finish(self) -> Scenario
-        ensures { result ≡ finished self }
+    /// Adds the part that a line of this number begins, where these lines stand below it, and answers how many lines it
+    /// has.
+    fn take_part(
+        &mut self,
+        alloc: Global,
+        number: u32,
+        first: &[u8],
+        below: &[&[u8]],
+    ) -> Result<usize, ScenRefusal>
+        requires { number + length below.now + 1 < 2 ^ 32 }
+        ensures { PartTaken number self.old self.new (first.now ∷ map (λ line. line.now) below.now) result }
     {
-        Scenario {
-            turns: self.turns.unwrap_or(DEFAULT_TURNS),
-            programs: self.programs,
-            spawns: self.spawns,
-            scripts: self.scripts,
+        if begins_block(first) {
+            return self.take_block(alloc, number, first, below);
         }
+        self.add_outer_line(alloc, number, first)?;
+        Ok(1)
+    }
+
+    /// What was read, as a scenario, unless a line of it is not built.
+    #[tactic(auto, unfolding(crate::specs::Reading::finished))]
+    fn finish(self) -> Result<Scenario, ScenRefusal>
+        ensures { Answers (λ s. s) result (finished self) }
+    {
+        if let Some(line) = self.unbuilt {
+            let kind = ScenKind::NotBuilt;
+            return Err(ScenRefusal::Fault(ScenFault { line, kind }));
+        }
+        Ok(self.make())
     }
 }
 
+/// The lines from a place on.
+fn lines_from<'a, 'b>(lines: &'a [&'b [u8]], place: usize) -> &'a [&'b [u8]]
+    requires { place ≤ length lines.now }
+    ensures { result.now ≡ drop place lines.now }
+{
+    &lines[place..]
+}
+
+/// What lines make, one part after another.
+fn read_parts(alloc: Global, lines: &[&[u8]]) -> Result<Draft, ScenRefusal>
+    requires { length lines.now + 1 < 2 ^ 32 }
+    ensures { Answers (λ d. d) result (draft_in (map (λ line. line.now) lines.now)) }
+{
+    let mut draft = Draft::new(alloc);
+    let mut number = 1;
+    let mut rest = lines;
+    while let Some((first, below)) = rest.split_first() {
+        let taken = draft.take_part(alloc, number, first, below)?;
+        number += taken as u32;
+        rest = lines_from(rest, taken);
+    }
+    Ok(draft)
+}
+
 /// The scenario that lines spell, or the first line that is refused.
+#[tactic(auto, unfolding(crate::specs::Reading::scenario_in))]
 fn read_lines(alloc: Global, lines: &[&[u8]]) -> Result<Scenario, ScenRefusal>
-    requires { length lines.now < 2 ^ 32 }
+    requires { length lines.now + 1 < 2 ^ 32 }
     ensures { Answers (λ s. s) result (scenario_in (map (λ line. line.now) lines.now)) }
 {
-    let last = last_end(lines);
-    let mut draft = Draft::new(alloc);
-    for (i, line) in lines.iter().enumerate() {
-        draft.add_numbered(alloc, i as u32 + 1, i + 1 < last, line)?;
-    }
-    Ok(draft.finish())
+    read_parts(alloc, lines)?.finish()
 }
 
 /// The scenario that a text spells, or its first line that is refused.
 fn read_text(alloc: Global, text: &[u8]) -> Result<Scenario, ScenRefusal>
-    requires { length text.now + 1 < 2 ^ 32 }
+    requires { length text.now + 2 < 2 ^ 32 }
     ensures { Answers (λ s. s) result (scenario_of text.now) }
 {
     let lines = split_lines(alloc, text)?;
     read_lines(alloc, &lines)
 }
 
-/// The scenario that a text spells, or its first line that is refused. Lines count from 1. What is read keeps the
-/// limits of a scenario.
+/// The scenario that a text spells, or its first line that is refused. Lines count from 1. What is read keeps each limit of
+/// a scenario, and has only forms that are built.
 ///
-/// Takes time linear in the text.
+/// Takes time linear in the text, but for the logarithm of the number of names.
 pub fn read_scenario(alloc: Global, text: &[u8]) -> Result<Scenario, ScenRefusal>
-    requires { length text.now + 1 < 2 ^ 32 }
+    requires { length text.now + 2 < 2 ^ 32 }
     ensures read { Answers (λ s. s) result (scenario_of text.now) }
     ensures limits { IfOk result (λ s. IsWithinLimits s) }
+    ensures built { IfOk result (λ s. IsBuilt s) }
 {
     read_text(alloc, text)
 }

@@ -1,10 +1,29 @@
 use pr_num::NoMemory;
+use pr_text::Refused;
 use thiserror::Error;
 
-/// Why a line of a scenario is refused.
+/// Why a line of a scenario is refused. Of several kinds of one line the first is named.
 #[derive(Clone, Copy, Debug, PartialEq, Eq)]
 pub enum ScenKind {
-    /// The line is of no form that is built, or its form is not for this place.
+    /// The line has more than 4,096 bytes.
+    TooLong,
+    /// The line has a byte that is not of ASCII.
+    NotAscii,
+    /// The first word begins no line of this place.
+    UnknownWord,
+    /// The operands are too many or too few, or one of them has not the form that it needs.
+    BadOperand,
+    /// An operand is a name that stands for nothing.
+    UnknownName,
+    /// A name is given twice, or `turns` is.
+    Double,
+    /// The line goes past a limit on how many there may be.
+    TooMany,
+    /// The line goes past a limit on size.
+    TooBig,
+    /// The line begins a block that has no end.
+    NoEnd,
+    /// The line is accepted, and uses a form that is not built.
     NotBuilt,
 }
 
@@ -35,31 +54,24 @@ impl From<NoMemory> for ScenRefusal {
     }
 }
 
-/// Why one line is refused.
-#[derive(Clone, Copy)]
-pub enum Refused {
-    Kind(ScenKind),
-    NoMemory(NoMemory),
-}
-
-impl From<ScenKind> for Refused {
+impl From<ScenKind> for Refused<ScenKind> {
     ghost use Rattle.std.specs.Prelude.{◌≡◌};
-    ghost use Rattle.pr_scen.specs.declared.refusals.Refused.TheVariants as variants;
+    ghost use Rattle.pr_text.specs.declared.refusals.Refused.TheVariants as variants;
 
     ghost from_gives = { λ kind e. e ≡ variants.Kind kind };
 
-    fn from(kind: ScenKind) -> Refused {
+    fn from(kind: ScenKind) -> Refused<ScenKind> {
         Refused::Kind(kind)
     }
 }
 
-impl From<NoMemory> for Refused {
+impl From<ScenFault> for ScenRefusal {
     ghost use Rattle.std.specs.Prelude.{◌≡◌};
-    ghost use Rattle.pr_scen.specs.declared.refusals.Refused.TheVariants as variants;
+    ghost use Rattle.pr_scen.specs.declared.refusals.ScenRefusal.TheVariants as variants;
 
-    ghost from_gives = { λ error e. e ≡ variants.NoMemory error };
+    ghost from_gives = { λ fault e. e ≡ variants.Fault fault };
 
-    fn from(error: NoMemory) -> Refused {
-        Refused::NoMemory(error)
+    fn from(fault: ScenFault) -> ScenRefusal {
+        ScenRefusal::Fault(fault)
     }
 }

@@ -1,19 +1,28 @@
-use crate::ScriptLine;
+use crate::Plan;
 use pr_asm::Program;
-use pr_num::Table;
+use pr_model::Actor;
+use pr_num::{Bytes, Name};
+use std::marker::Model;
 
-/// The lines of a script, in order.
-pub type Lines = Table<ScriptLine>;
-
-/// What a scenario asks for.
+/// What a scenario asks for, seen by contracts as a plain record.
 #[derive(Drop)]
 pub struct Scenario {
     /// How many entries the history may have, 1 to 100,000.
     pub turns: u32,
-    pub programs: Table<Program>,
+    pub programs: Vec<Program>,
+    pub files: Vec<(Name, Bytes)>,
     /// The processes that are made before the first turn, in order: the place of each one's program in `programs`,
     /// counted from 0.
-    pub spawns: Table<u32>,
-    /// The scripts, in order; each is a controller.
-    pub scripts: Table<Lines>,
+    pub spawns: Vec<u32>,
+    pub controllers: Vec<Plan>,
+    /// Who moves first.
+    pub schedule: Vec<Actor>,
+}
+
+impl Model for Scenario {
+    ghost use Rattle.pr_scen.specs.Scenarios as plain;
+
+    ghost Value = { plain.Scenario };
+
+    ghost view = { λ s. record { turns = s.turns; programs = s.programs.items; files = s.files.items; spawns = s.spawns.items; controllers = s.controllers.items; schedule = s.schedule.items } };
 }

@@ -1,18 +1,17 @@
 //! The lines of a script block, each read on its own.
-ghost use Rattle.std.specs.Prelude.{◌≡◌, ◌++◌, [], IfOk};
-ghost use Rattle.pr_num.specs.Messages.{tail_length};
+ghost use Rattle.std.specs.Prelude.{◌≡◌, ◌==◌, [], map, IfOk};
+ghost use Rattle.std.specs.List.{slice_split};
+ghost use Rattle.pr_text.specs.Reads.{Gives};
 ghost use Rattle.pr_text.specs.Words.{texts_of};
-ghost use Rattle.pr_scen.specs.ScriptBlocks.{opening, open_of, close_of, read_of, message_of, with_message, with_messages, write_of, call_with, script_line_with, script_line_of};
-ghost use Rattle.pr_scen.specs.Reads.{Gives};
+ghost use Rattle.pr_scen.specs.ScriptLines.{place_from, place_of_word, open_of, close_of, read_of, with_names, poll_of, write_of, interrupt_of, spawn_of, kill_of, until_of, list_of, call_with, script_line_of};
 
-use crate::parts::{begins_comment, four, is_end_word, none, one, three};
-use crate::refusals::Refused;
+use crate::files::{file_of, mode_of};
+use crate::lines::begins_comment;
+use crate::writes::messages_of;
 use crate::{ScenKind, ScriptLine};
-use pr_asm::{Tokens, name_of, number_of};
-use pr_model::{File, Mode};
-use pr_msg::{Message, encode};
-use pr_num::{Bytes, Name, NoMemory};
-use std::alloc::Global;
+use pr_num::{Name, NoMemory, Table};
+use pr_text::{Refused, Tokens, four, id_of, name_of, none, number_of, one, some, three, two};
+use std::alloc::{AllocError, Global};
 
 /// What a line of a script block says.
 #[derive(Drop)]
@@ -20,138 +19,179 @@ pub enum InScript {
     /// Nothing: a comment, or a line without words.
     Blank,
     Line(ScriptLine),
-    /// The block ends.
-    End,
 }
 
-/// The file that an open names and its mode.
-#[tactic(auto, unfolding(crate::specs::ScriptBlocks::opening))]
-fn opening(name: &Name, file: &[u8], how: &[u8]) -> Result<ScriptLine, ScenKind>
-    ensures { result ≡ opening name.now file.now how.now }
+fn split_ids(alloc: Global, word: &[u8]) -> Result<Vec<&[u8]>, AllocError>
+    ensures { IfOk result (λ ids. map (λ id. id.now) ids.items ≡ slice_split (λ b. b == 47) word.now) }
 {
-    let (file, mode) = if file == b"ctl".as_slice() && how == b"w".as_slice() {
-        (File::Ctl, Mode::Write)
-    } else if file == b"status".as_slice() && how == b"r".as_slice() {
-        (File::Status, Mode::Read)
-    } else {
-        return Err(ScenKind::NotBuilt);
-    };
+    word.split(|b| *b == b'/').collect(alloc)
+}
+
+/// The process of one id, or the lwp of two; lwp 0 stands for the process.
+fn place_from(ids: &[&[u8]]) -> Option<(u32, u32)>
+    ensures { result ≡ place_from (map (λ id. id.now) ids.now) }
+{
+    match ids {
+        [pid] => Some((id_of(pid)?, 0)),
+        [pid, lwp] => Some((id_of(pid)?, id_of(lwp)?)),
+        _ => None,
+    }
+}
+
+/// The process and the lwp that a word names: `P`, or `P/L`.
+#[tactic(auto, unfolding(crate::specs::ScriptLines::place_of_word))]
+fn place_of_word(alloc: Global, word: &[u8]) -> Result<Option<(u32, u32)>, NoMemory>
+    ensures { IfOk result (λ place. place ≡ place_of_word word.now) }
+{
+    let ids = split_ids(alloc, word)?;
+    Ok(place_from(&ids))
+}
+
+/// `open V PID FILE MODE`, `open V PID/LWP FILE MODE`.
+#[tactic(auto, unfolding(crate::specs::ScriptLines::open_of))]
+fn open_of(alloc: Global, operands: Tokens) -> Result<ScriptLine, Refused<ScenKind>>
+    ensures { Gives (λ line. line) result (open_of operands.entry) }
+{
+    let (name, place, file, mode) = four(operands, ScenKind::BadOperand)?;
+    let name = name_of(name).ok_or(ScenKind::BadOperand)?;
+    let (pid, lwp) = place_of_word(alloc, place)?.ok_or(ScenKind::BadOperand)?;
+    let mode = mode_of(mode).ok_or(ScenKind::BadOperand)?;
+    name_of(file).ok_or(ScenKind::BadOperand)?;
+    let file = file_of(file).ok_or(ScenKind::UnknownName)?;
     Ok(ScriptLine::Open {
-        name: *name,
-        pid: 1,
-        lwp: 0,
+        name,
+        pid,
+        lwp,
         file,
         mode,
     })
 }
 
-/// `open V 1 FILE MODE`.
-#[tactic(auto, unfolding(crate::specs::ScriptBlocks::open_of))]
-fn open_of(operands: Tokens) -> Result<ScriptLine, ScenKind>
-    ensures { result ≡ open_of operands.entry }
-{
-    let (name, pid, file, how) = four(operands)?;
-    let name = name_of(name).ok_or(ScenKind::NotBuilt)?;
-    let pid = number_of(pid).ok_or(ScenKind::NotBuilt)?;
-    if pid != 1 {
-        return Err(ScenKind::NotBuilt);
-    }
-    opening(&name, file, how)
-}
-
 /// `close V`.
-#[tactic(auto, unfolding(crate::specs::ScriptBlocks::close_of))]
+#[tactic(auto, unfolding(crate::specs::ScriptLines::close_of))]
 fn close_of(operands: Tokens) -> Result<ScriptLine, ScenKind>
     ensures { result ≡ close_of operands.entry }
 {
-    let name = name_of(one(operands)?).ok_or(ScenKind::NotBuilt)?;
+    let name = name_of(one(operands, ScenKind::BadOperand)?).ok_or(ScenKind::BadOperand)?;
     Ok(ScriptLine::Close { name })
 }
 
 /// `read V AT LEN`.
-#[tactic(auto, unfolding(crate::specs::ScriptBlocks::read_of))]
+#[tactic(auto, unfolding(crate::specs::ScriptLines::read_of))]
 fn read_of(operands: Tokens) -> Result<ScriptLine, ScenKind>
     ensures { result ≡ read_of operands.entry }
 {
-    let (name, at, len) = three(operands)?;
-    let name = name_of(name).ok_or(ScenKind::NotBuilt)?;
-    let at = number_of(at).ok_or(ScenKind::NotBuilt)?;
-    let len = number_of(len).ok_or(ScenKind::NotBuilt)?;
+    let (name, at, len) = three(operands, ScenKind::BadOperand)?;
+    let name = name_of(name).ok_or(ScenKind::BadOperand)?;
+    let at = number_of(at).ok_or(ScenKind::BadOperand)?;
+    let len = number_of(len).ok_or(ScenKind::BadOperand)?;
     Ok(ScriptLine::Read { name, at, len })
 }
 
-/// The message of a word.
-#[tactic(auto, unfolding(crate::specs::ScriptBlocks::message_of, pr_num::specs::Messages::tail_length))]
-fn message_of(word: &[u8]) -> Result<Message, ScenKind>
-    ensures message { result ≡ message_of word.now }
-    ensures alone { IfOk result (λ m. tail_length m ≡ 0) }
-{
-    if word == b"dstop".as_slice() {
-        return Ok(Message::Dstop);
-    }
-    if word == b"wstop".as_slice() {
-        return Ok(Message::Wstop);
-    }
-    if word == b"run".as_slice() {
-        return Ok(Message::Run { flags: 0 });
-    }
-    Err(ScenKind::NotBuilt)
-}
-
-/// Adds more bytes at the end.
-fn append(bytes: &mut Vec<u8>, more: &[u8]) -> Result<(), NoMemory>
-    ensures { IfOk result (λ _. bytes.new.items ≡ bytes.old.items ++ more.now) }
-{
-    Ok(bytes.extend_from_slice(more)?)
-}
-
-/// Adds the bytes of the message of a word.
-#[tactic(auto, unfolding(crate::specs::ScriptBlocks::with_message))]
-fn put_message(alloc: Global, bytes: &mut Vec<u8>, word: &[u8]) -> Result<(), Refused>
-    ensures { Gives (λ _. bytes.new.items) result (with_message bytes.old.items word.now) }
-{
-    let message = message_of(word)?;
-    let spelt = encode(alloc, &message, &[])?;
-    Ok(append(bytes, spelt.as_slice())?)
-}
-
-/// The bytes of the messages of these words, one behind the other.
-#[tactic(auto, unfolding(crate::specs::ScriptBlocks::with_messages))]
-fn messages_of(alloc: Global, words: Tokens) -> Result<Vec<u8>, Refused>
-    ensures { Gives (λ bytes. bytes.items) result (with_messages [] words.entry) }
+/// The names that words are.
+#[tactic(auto, unfolding(crate::specs::ScriptLines::with_names))]
+fn names_of(alloc: Global, words: Tokens) -> Result<Table<Name>, Refused<ScenKind>>
+    ensures { Gives (λ names. names) result (with_names [] words.entry) }
 {
     let mut words = words;
-    let mut bytes = Vec::new(alloc);
+    let mut names = Table::new(alloc);
     while let Some(word) = words.next() {
-        put_message(alloc, &mut bytes, word)?;
+        let name = name_of(word).ok_or(ScenKind::BadOperand)?;
+        names.push(name)?;
     }
-    Ok(bytes)
+    Ok(names)
+}
+
+/// `poll V ..`.
+#[tactic(auto, unfolding(crate::specs::ScriptLines::poll_of))]
+fn poll_of(alloc: Global, operands: Tokens) -> Result<ScriptLine, Refused<ScenKind>>
+    ensures { Gives (λ line. line) result (poll_of operands.entry) }
+{
+    let names = names_of(alloc, operands)?;
+    if names.is_empty() {
+        return Err(Refused::Kind(ScenKind::BadOperand));
+    }
+    Ok(ScriptLine::Poll { names })
 }
 
 /// `write V MESSAGES`.
-#[tactic(auto, unfolding(crate::specs::ScriptBlocks::write_of))]
-fn write_of(alloc: Global, mut operands: Tokens) -> Result<ScriptLine, Refused>
+#[tactic(auto, unfolding(crate::specs::ScriptLines::write_of))]
+fn write_of(alloc: Global, operands: Tokens) -> Result<ScriptLine, Refused<ScenKind>>
     ensures { Gives (λ line. line) result (write_of operands.entry) }
 {
-    let name = operands.next().ok_or(ScenKind::NotBuilt)?;
-    let name = name_of(name).ok_or(ScenKind::NotBuilt)?;
-    let bytes = messages_of(alloc, operands)?;
-    if bytes.len() == 0 {
-        return Err(Refused::Kind(ScenKind::NotBuilt));
+    let (name, messages) = some(operands, ScenKind::BadOperand)?;
+    let name = name_of(name).ok_or(ScenKind::BadOperand)?;
+    let bytes = messages_of(alloc, messages)?;
+    Ok(ScriptLine::Write { name, bytes })
+}
+
+/// `interrupt K`.
+#[tactic(auto, unfolding(crate::specs::ScriptLines::interrupt_of))]
+fn interrupt_of(operands: Tokens) -> Result<ScriptLine, ScenKind>
+    ensures { result ≡ interrupt_of operands.entry }
+{
+    let controller = id_of(one(operands, ScenKind::BadOperand)?).ok_or(ScenKind::BadOperand)?;
+    Ok(ScriptLine::Interrupt { controller })
+}
+
+/// `spawn NAME`, `spawn NAME held`.
+#[tactic(auto, unfolding(crate::specs::ScriptLines::spawn_of))]
+fn spawn_of(mut operands: Tokens) -> Result<ScriptLine, ScenKind>
+    ensures { result ≡ spawn_of operands.entry }
+{
+    let word = operands.next().ok_or(ScenKind::BadOperand)?;
+    let how = operands.next();
+    none(operands, ScenKind::BadOperand)?;
+    let program = name_of(word).ok_or(ScenKind::BadOperand)?;
+    match how {
+        None => Ok(ScriptLine::Spawn {
+            program,
+            held: false,
+        }),
+        Some(how) if how == b"held".as_slice() => Ok(ScriptLine::Spawn {
+            program,
+            held: true,
+        }),
+        Some(_) => Err(ScenKind::BadOperand),
     }
-    Ok(ScriptLine::Write {
-        name,
-        bytes: Bytes::from_vec(bytes),
-    })
+}
+
+/// `kill PID SIGNUMBER`.
+#[tactic(auto, unfolding(crate::specs::ScriptLines::kill_of))]
+fn kill_of(operands: Tokens) -> Result<ScriptLine, ScenKind>
+    ensures { result ≡ kill_of operands.entry }
+{
+    let (pid, sig) = two(operands, ScenKind::BadOperand)?;
+    let pid = id_of(pid).ok_or(ScenKind::BadOperand)?;
+    let sig = number_of(sig).ok_or(ScenKind::BadOperand)?;
+    Ok(ScriptLine::Kill { pid, sig })
+}
+
+/// `until N`.
+#[tactic(auto, unfolding(crate::specs::ScriptLines::until_of))]
+fn until_of(operands: Tokens) -> Result<ScriptLine, ScenKind>
+    ensures { result ≡ until_of operands.entry }
+{
+    let moment = number_of(one(operands, ScenKind::BadOperand)?).ok_or(ScenKind::BadOperand)?;
+    Ok(ScriptLine::Until { moment })
+}
+
+/// `list`.
+#[tactic(auto, unfolding(crate::specs::ScriptLines::list_of))]
+fn list_of(operands: Tokens) -> Result<ScriptLine, ScenKind>
+    ensures { result ≡ list_of operands.entry }
+{
+    none(operands, ScenKind::BadOperand)?;
+    Ok(ScriptLine::List)
 }
 
 /// A line of a script by its first word.
-#[tactic(auto, unfolding(crate::specs::ScriptBlocks::call_with))]
-fn call_with(alloc: Global, first: &[u8], operands: Tokens) -> Result<ScriptLine, Refused>
+#[tactic(auto, unfolding(crate::specs::ScriptLines::call_with))]
+fn call_with(alloc: Global, first: &[u8], operands: Tokens) -> Result<ScriptLine, Refused<ScenKind>>
     ensures { Gives (λ line. line) result (call_with first.now operands.entry) }
 {
     if first == b"open".as_slice() {
-        return Ok(open_of(operands)?);
+        return open_of(alloc, operands);
     }
     if first == b"close".as_slice() {
         return Ok(close_of(operands)?);
@@ -159,27 +199,33 @@ fn call_with(alloc: Global, first: &[u8], operands: Tokens) -> Result<ScriptLine
     if first == b"read".as_slice() {
         return Ok(read_of(operands)?);
     }
+    if first == b"poll".as_slice() {
+        return poll_of(alloc, operands);
+    }
     if first == b"write".as_slice() {
         return write_of(alloc, operands);
     }
-    Err(Refused::Kind(ScenKind::NotBuilt))
-}
-
-/// A line that is neither empty nor a comment.
-#[tactic(auto, unfolding(crate::specs::ScriptBlocks::script_line_with))]
-fn script_line_with(alloc: Global, first: &[u8], operands: Tokens) -> Result<InScript, Refused>
-    ensures { Gives (λ x. x) result (script_line_with first.now operands.entry) }
-{
-    if is_end_word(first) {
-        none(operands)?;
-        return Ok(InScript::End);
+    if first == b"interrupt".as_slice() {
+        return Ok(interrupt_of(operands)?);
     }
-    Ok(InScript::Line(call_with(alloc, first, operands)?))
+    if first == b"spawn".as_slice() {
+        return Ok(spawn_of(operands)?);
+    }
+    if first == b"kill".as_slice() {
+        return Ok(kill_of(operands)?);
+    }
+    if first == b"until".as_slice() {
+        return Ok(until_of(operands)?);
+    }
+    if first == b"list".as_slice() {
+        return Ok(list_of(operands)?);
+    }
+    Err(Refused::Kind(ScenKind::UnknownWord))
 }
 
 /// What a line of a script block says.
-#[tactic(auto, unfolding(crate::specs::ScriptBlocks::script_line_of))]
-pub fn script_line_of(alloc: Global, line: &[u8]) -> Result<InScript, Refused>
+#[tactic(auto, unfolding(crate::specs::ScriptLines::script_line_of))]
+pub fn script_line_of(alloc: Global, line: &[u8]) -> Result<InScript, Refused<ScenKind>>
     ensures { Gives (λ x. x) result (script_line_of (texts_of line.now)) }
 {
     let mut words = Tokens::of(line);
@@ -189,5 +235,5 @@ pub fn script_line_of(alloc: Global, line: &[u8]) -> Result<InScript, Refused>
     if begins_comment(first) {
         return Ok(InScript::Blank);
     }
-    script_line_with(alloc, first, words)
+    Ok(InScript::Line(call_with(alloc, first, words)?))
 }

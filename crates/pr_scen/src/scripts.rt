@@ -1,11 +1,14 @@
 //! A script as a controller of the kernel.
-ghost use Rattle.std.specs.Prelude.{◌≡◌, ◌<◌, drop, length, slice_get, Ok, IfOk};
+ghost use Rattle.std.specs.Prelude.{◌≡◌, ◌<◌, [], drop, length, map, slice_get, Ok, IfOk};
+ghost use Rattle.pr_scen.specs.Bindings.{handle_of};
 ghost use Rattle.pr_scen.specs.Scripts.{first_script, next_call_of, call_of, write_call, fed, with_line_over, with_bound, with_taken, with_ctl_answered, with_wait_answered, with_write_answered, handle_in, present_of, with_answer};
 
-use crate::bindings::{Binding, NO_HANDLE, bind, handle_of, names_opened};
-use crate::{Lines, ScriptLine};
+use crate::ScriptLine;
+use crate::bindings::{Bindings, NO_HANDLE};
+use crate::script_lines::Lines;
+use pr_asm::Program;
 use pr_model::{Call, Reply};
-use pr_num::{Bytes, Name, NoMemory};
+use pr_num::{Bytes, Handles, Name, NoMemory};
 use std::alloc::Global;
 use std::marker::Model;
 
@@ -18,7 +21,7 @@ pub struct Script {
     place: usize,
     taken: usize,
     wait: Option<u64>,
-    bound: Vec<Binding>,
+    bindings: Bindings,
 }
 
 impl Model for Script {
@@ -26,7 +29,7 @@ impl Model for Script {
 
     ghost Value = { ScriptState };
 
-    ghost view = { λ s. record { lines = s.lines; place = s.place; taken = s.taken; wait = s.wait; bound = s.bound.items } };
+    ghost view = { λ s. record { lines = s.lines; place = s.place; taken = s.taken; wait = s.wait; bindings = s.bindings } };
 }
 
 /// The length of PCREAD, the one message that is answered with bytes.
@@ -45,7 +48,7 @@ enum Present {
     Other,
 }
 
-/// The bytes from a place on, none where the place is behind them.
+/// The bytes from a place on, none where the place is past them.
 fn bytes_from(bytes: &[u8], place: usize) -> &[u8]
     ensures { result.now ≡ drop place bytes.now }
 {
@@ -73,14 +76,25 @@ impl Script {
     pub fn new(alloc: Global, lines: Lines) -> Result<Script, NoMemory>
         ensures { IfOk result (λ script. script ≡ first_script lines) }
     {
-        let bound = names_opened(alloc, lines.as_slice())?;
+        let bindings = Bindings::of(alloc, lines.as_slice())?;
         Ok(Script {
             lines,
             place: 0,
             taken: 0,
             wait: None,
-            bound,
+            bindings,
         })
+    }
+
+    /// The handles that names stand for.
+    fn handles_of(&self, alloc: Global, names: &[Name]) -> Result<Handles, NoMemory>
+        ensures { IfOk result (λ handles. handles ≡ map (handle_of self.now.bindings) names.now) }
+    {
+        let mut handles = Vec::new(alloc);
+        for name in names {
+            handles.push(self.bindings.handle_of(*name))?;
+        }
+        Ok(Handles::from_vec(handles))
     }
 
     /// The call of a line of the script.
@@ -102,18 +116,34 @@ impl Script {
                 mode: *mode,
             },
             ScriptLine::Close { name } => Call::Close {
-                handle: handle_of(&self.bound, name),
+                handle: self.bindings.handle_of(*name),
             },
             ScriptLine::Read { name, at, len } => Call::Read {
-                handle: handle_of(&self.bound, name),
+                handle: self.bindings.handle_of(*name),
                 at: *at,
                 len: *len,
             },
+            ScriptLine::Poll { names } => Call::Poll {
+                handles: self.handles_of(alloc, names.as_slice())?,
+            },
             ScriptLine::Write { name, bytes } => self.write_call(
                 alloc,
-                handle_of(&self.bound, name),
+                self.bindings.handle_of(*name),
                 bytes.as_slice(),
             )?,
+            ScriptLine::Interrupt { controller } => Call::Interrupt {
+                controller: *controller,
+            },
+            ScriptLine::Spawn { program, held } => Call::Spawn {
+                program: *program,
+                held: *held,
+            },
+            ScriptLine::Kill { pid, sig } => Call::Kill {
+                pid: *pid,
+                sig: *sig,
+            },
+            ScriptLine::Until { moment } => Call::Until { moment: *moment },
+            ScriptLine::List => Call::List,
         })
     }
 
@@ -219,7 +249,7 @@ impl Script {
     fn bind(&mut self, name: &Name, handle: u32)
         ensures { self.new ≡ with_bound self.old name.now handle }
     {
-        bind(&mut self.bound, name, handle);
+        self.bindings.bind(*name, handle);
     }
 
     /// The reply to an open.
@@ -242,6 +272,13 @@ impl Script {
             Some(ScriptLine::Write { bytes, .. }) => Present::Writes(bytes.as_slice().len()),
             Some(_) => Present::Other,
         }
+    }
+
+    /// What a script has to say: nothing.
+    pub fn print(&self, alloc: Global, _programs: &[Program]) -> Result<Bytes, NoMemory>
+        ensures { IfOk result (λ text. text ≡ []) }
+    {
+        Ok(Bytes::from_vec(Vec::new(alloc)))
     }
 
     /// Takes the reply to the call that `next_call` gave. Takes no memory.

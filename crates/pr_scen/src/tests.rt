@@ -17,26 +17,25 @@ fn scenario(rt: &(impl Abort + Alloc<A = Global>), text: &[u8]) -> Scenario {
     }
 }
 
-// The line that is refused; 0 where the text is read.
-fn refused_line(rt: &(impl Abort + Alloc<A = Global>), text: &[u8]) -> u32 {
+// The line that is refused, and why.
+fn fault(rt: &(impl Abort + Alloc<A = Global>), text: &[u8]) -> ScenFault {
     match read(rt, text) {
-        Ok(_) => 0,
-        Err(ScenRefusal::Fault(fault)) => fault.line,
+        Err(ScenRefusal::Fault(fault)) => fault,
         Err(ScenRefusal::NoMemory) => panic!(rt; "out of memory"),
+        Ok(_) => panic!(rt; "read"),
     }
 }
 
-const ROW_1: &[u8] =
+const WORKED: &[u8] =
     b"turns 100\nprogram p\nsys getpid\nset r1, 0\nsys exit\nend\nspawn p\nscript\nopen a 1 ctl w\nwrite a dstop\nwrite a wstop\nopen s 1 status r\nread s 104 32\nwrite a run\nclose a\nend\n";
 
 // The worked scenario: its parts, one by one.
 #[test]
 fn reads_the_worked_scenario(rt: HostRuntime) {
-    let scenario = scenario(&rt, ROW_1);
+    let scenario = scenario(&rt, WORKED);
     assert_eq!(rt; scenario.turns, 100);
-    let programs = scenario.programs.as_slice();
-    assert_eq!(rt; programs.len(), 1);
-    assert_eq!(rt; programs[0].name().as_slice(), b"p".as_slice());
+    assert_eq!(rt; scenario.programs.len(), 1);
+    assert_eq!(rt; scenario.programs[0].name().as_slice(), b"p".as_slice());
     let want = [
         Instruction::Sys {
             call: Sysno::Getpid,
@@ -47,103 +46,73 @@ fn reads_the_worked_scenario(rt: HostRuntime) {
         },
         Instruction::Sys { call: Sysno::Exit },
     ];
-    assert_eq!(rt; programs[0].code(), want.as_slice());
+    assert_eq!(rt; scenario.programs[0].code(), want.as_slice());
     assert_eq!(rt; scenario.spawns.as_slice(), [0].as_slice());
-    let scripts = scenario.scripts.as_slice();
-    assert_eq!(rt; scripts.len(), 1);
-    assert_eq!(rt; scripts[0].as_slice().len(), 7);
+    assert_eq!(rt; scenario.controllers.len(), 1);
+    assert_eq!(rt; scenario.schedule.len(), 0);
 }
 
-// A scenario of nothing, and one in other spellings: comments, blanks, commas, hex, blocks in another order.
+// Several programs, files, processes and scripts, and who moves first, between comments and in other spellings.
 #[test]
-fn reads_other_spellings(rt: HostRuntime) {
-    let nothing = scenario(&rt, b"");
-    assert_eq!(rt; nothing.turns, 10_000);
-    assert!(rt; nothing.programs.is_empty());
-    assert!(rt; nothing.spawns.is_empty());
-    assert!(rt; nothing.scripts.is_empty());
-    let other = scenario(
+fn reads_every_line(rt: HostRuntime) {
+    let scenario = scenario(
         &rt,
-        b"# a comment\n\n \t,\nscript\n # in a block\n\nopen\tx 1,ctl w\nend\n,turns 0xFF\nprogram end\n#\nset r7 0x10\n\nsys exit\nend\nspawn end",
+        b"# a comment\n\n \t,\nfile motd \"hi\\n\"\nscript\n # in a block\n\nopen\tx 1/1,lwpctl wx\nend\n,turns 0xFF\nprogram end\n#\nnop\nend\nprogram q\na:\njmp a\ntext t \"x\"\nend\nspawn q\nspawn end\nschedule c0*2 1/1 clock*0x3\nscript\nend",
     );
-    assert_eq!(rt; other.turns, 255);
-    assert_eq!(rt; other.programs.as_slice().len(), 1);
-    assert_eq!(rt; other.spawns.as_slice().len(), 1);
-    assert_eq!(rt; other.scripts.as_slice().len(), 1);
+    assert_eq!(rt; scenario.turns, 255);
+    assert_eq!(rt; scenario.programs.len(), 2);
+    assert_eq!(rt; scenario.files.len(), 1);
+    assert_eq!(rt; scenario.files[0].1.as_slice(), b"hi\n".as_slice());
+    assert_eq!(rt; scenario.spawns.as_slice(), [1, 0].as_slice());
+    assert_eq!(rt; scenario.controllers.len(), 2);
+    assert_eq!(rt; scenario.schedule.len(), 6);
 }
 
-// A text, and the line at which it is refused.
+// A text, the line at which it is refused, and why: each kind, and kinds that meet.
 #[test]
-fn refuses_at_the_first_line(rt: HostRuntime) {
-    let rows: [(&[u8], u32); 35] = [
-        // outside blocks
-        (b"turns 1\nturns 1", 2),
-        (b"turns", 1),
-        (b"turns 1 1", 1),
-        (b"turns 0", 1),
-        (b"turns 01", 1),
-        (b"turns -1", 1),
-        (b"turns 0x", 1),
-        (b"turns 100000", 0),
-        (b"turns 100001", 1),
-        (b"turns 18446744073709551617", 1),
-        (b"\n#\nfile f \"x\"", 3),
-        (b"tool ptree", 1),
-        (b"end", 1),
-        (b"Turns 1", 1),
-        // program blocks
-        (b"program p\nsys exit\nend\nprogram q\nsys exit\nend", 4),
-        (b"program 9\nsys exit\nend", 1),
-        (b"program\nsys exit\nend", 1),
-        (b"program p q\nsys exit\nend", 1),
-        (b"program p\nend", 2),
-        (b"program p\nsys exit\nset r1, 0\nend", 4),
-        (b"program p\nsys exit\nsys getpid\nend", 4),
-        (b"program p\nsys getpit\nsys exit\nend", 2),
-        (b"program p\nsys kill\nsys exit\nend", 2),
-        (b"program p\nset r8, 0\nsys exit\nend", 2),
-        (b"program p\nset r1, x\nsys exit\nend", 2),
-        (b"program p\nset r1\nsys exit\nend", 2),
-        (b"program p\nx:\nsys exit\nend", 2),
-        (b"program p\nnop\nsys exit\nend", 2),
-        (b"program p\nsys exit\nend x", 3),
-        (b"program p\nbad\nsys exit", 1),
-        (b"turns 5\nprogram p\nsys getpit\nend\n", 3),
-        // spawns
-        (b"spawn p\nprogram p\nsys exit\nend", 1),
-        (b"program p\nsys exit\nend\nspawn q", 4),
-        (b"program p\nsys exit\nend\nspawn p\nspawn p", 5),
-        (b"program p\nspawn p\nsys exit\nend", 2),
+fn refuses_the_first_line(rt: HostRuntime) {
+    let rows: [(&[u8], u32, ScenKind); 20] = [
+        (b"#\n# caf\xc3\xa9", 2, ScenKind::NotAscii),
+        (b"turns 5\nspwan p", 2, ScenKind::UnknownWord),
+        (b"end", 1, ScenKind::UnknownWord),
+        (b"turns 0", 1, ScenKind::BadOperand),
+        (b"script\nwrite a frob\nend", 2, ScenKind::BadOperand),
+        (b"script\nend x", 2, ScenKind::BadOperand),
+        (b"spawn p\nprogram p\nnop\nend", 1, ScenKind::UnknownName),
+        (b"program p\nsys getpit\nend", 2, ScenKind::UnknownName),
+        (
+            b"script\nwrite a strace NO run x\nend",
+            2,
+            ScenKind::BadOperand,
+        ),
+        (b"program p\nend\nprogram p\nbad\nend", 3, ScenKind::Double),
+        (
+            b"program p\njmp a\nend\nturns 1\nturns 2",
+            2,
+            ScenKind::UnknownName,
+        ),
+        (b"turns 1\nturns 100001", 2, ScenKind::Double),
+        (b"turns 100001", 1, ScenKind::TooMany),
+        (b"schedule clock*100000 c0", 1, ScenKind::TooMany),
+        (
+            b"program p\nspace a 65536\nspace b 1\nend",
+            3,
+            ScenKind::TooBig,
+        ),
+        (b"turns 5\nscript\nbad\n", 2, ScenKind::NoEnd),
+        (b"tool ptree\nturns 0", 2, ScenKind::BadOperand),
+        (b"tool ptree\ntruss -p 1", 1, ScenKind::NotBuilt),
+        (b"truss -t frob -z", 1, ScenKind::BadOperand),
+        (b"truss -t frob p", 1, ScenKind::UnknownName),
     ];
-    for (text, line) in rows {
-        assert_eq!(rt; refused_line(&rt, text), line, "at {text:?}");
+    for (text, line, kind) in rows {
+        let got = fault(&rt, text);
+        assert_eq!(rt; got.line, line, "at {text:?}");
+        assert_eq!(rt; got.kind, kind, "at {text:?}");
     }
 }
 
-// The same in script blocks, and lines that are not ASCII.
-#[test]
-fn refuses_script_lines(rt: HostRuntime) {
-    let rows: [(&[u8], u32); 13] = [
-        (b"script\nend\nscript\nend", 3),
-        (b"script x\nend", 1),
-        (b"script\nclose v\nbad\n#end", 1),
-        (b"script\nopen v 2 ctl w\nend", 2),
-        (b"script\nopen v 1 ctl r\nend", 2),
-        (b"script\nopen v 1 status w\nend", 2),
-        (b"script\nopen 1 1 ctl w\nend", 2),
-        (b"script\nread v 1\nend", 2),
-        (b"script\nread v 0x 1\nend", 2),
-        (b"script\nwrite v\nend", 2),
-        (b"script\nwrite v run prstop\nend", 2),
-        (b"script\nwrite v dstop stop\nend", 2),
-        (b"#\xc3\xa9\n", 1),
-    ];
-    for (text, line) in rows {
-        assert_eq!(rt; refused_line(&rt, text), line, "at {text:?}");
-    }
-}
-
-// So many lines of a kind between others.
+// So many lines between others.
 fn repeated(
     rt: &(impl Abort + Alloc<A = Global>),
     above: &[u8],
@@ -159,22 +128,17 @@ fn repeated(
     Ok(text)
 }
 
-// 4,096 instructions, 16 opens and lines of 4,096 bytes are read, and one more of each is not.
+// 64 controllers and lines of 4,096 bytes are read, and one more of each is not.
 #[test]
 fn keeps_its_limits(rt: HostRuntime) -> Result<(), Fail> {
-    let rows: [(&[u8], &[u8], usize, &[u8], u32); 7] = [
-        (b"program p\n", b"set r1, 1\n", 4095, b"sys exit\nend", 0),
-        (b"program p\n", b"set r1, 1\n", 4096, b"sys exit\nend", 4098),
-        (b"script\n", b"open v 1 ctl w\n", 16, b"end", 0),
-        (b"script\n", b"open v 1 ctl w\n", 17, b"end", 18),
-        (b"#\n#", b"x", 4095, b"\n", 0),
-        (b"#\n#", b"x", 4096, b"\n", 2),
-        (b"program p\n", b" ", 4096, b"\nsys exit\nend", 0),
-    ];
-    for (above, line, count, below, refused) in rows {
-        let text = repeated(&rt, above, line, count, below)?;
-        assert_eq!(rt; refused_line(&rt, &text), refused, "{count} of {line:?}");
-    }
+    let scripts = repeated(&rt, b"", b"script\nend\n", 64, b"")?;
+    assert_eq!(rt; scenario(&rt, &scripts).controllers.len(), 64);
+    let scripts = repeated(&rt, b"", b"script\nend\n", 64, b"script")?;
+    assert_eq!(rt; fault(&rt, &scripts).kind, ScenKind::TooMany);
+    let comment = repeated(&rt, b"#", b"x", 4095, b"\n")?;
+    assert_eq!(rt; scenario(&rt, &comment).turns, 10_000);
+    let comment = repeated(&rt, b"\n#", b"x", 4096, b"\n")?;
+    assert_eq!(rt; fault(&rt, &comment).line, 2);
     Ok(())
 }
 
@@ -233,17 +197,17 @@ fn follow(
     text: &[u8],
     rows: &[([u64; 5], u8, u32)],
 ) -> Result<(), Fail> {
-    let mut scripts = scenario(rt, text).scripts.into_vec();
-    let Some(lines) = scripts.pop() else {
+    let mut controllers = scenario(rt, text).controllers;
+    let Some(Plan::Script(mut script)) = controllers.pop() else {
         panic!(rt; "no script");
     };
-    let mut script = Script::new(rt.alloc(), lines)?;
     for (want, kind, n) in rows {
         script.prepare()?;
         let call = script.next_call(rt.alloc())?;
         assert_eq!(rt; told(&call), *want);
         script.feed(&reply_of(*kind, *n));
     }
+    assert_eq!(rt; script.print(rt.alloc(), &[])?.as_slice().len(), 0);
     Ok(())
 }
 
@@ -262,7 +226,7 @@ fn makes_the_worked_calls(rt: HostRuntime) -> Result<(), Fail> {
         ([0; 5], 2, 0),
         ([0; 5], 2, 0),
     ];
-    follow(&rt, ROW_1, &rows)
+    follow(&rt, WORKED, &rows)
 }
 
 // A write of three messages of 8, 8 and 16 bytes goes on with its rest, and a refusal drops it; a name that is bound to

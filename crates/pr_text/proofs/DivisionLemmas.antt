@@ -45,7 +45,7 @@ skipped : (line : List ℕ) (at : ℕ) (ws : List Word) → parts_words (slice_i
 skipped line at [] parts rest = parts_before line at (length line) parts rest
 skipped line at (w ∷ ws) parts rest = (omega (arith, rest.0), parts_before line at w.start parts rest.1, rest.2, rest.3)
 
--- a word, and the rest behind it
+-- a word, and the rest after it
 first : (line : List ℕ) (w : Word) (ws : List Word) → (IsPlainWord line w ⊎ IsQuotedWord line w) → DividesFrom line w.end ws → DividesFrom line w.start (w ∷ ws)
 first line w ws is rest = (omega arith, (λ k after before. absurd (omega arith)), is, rest)
 

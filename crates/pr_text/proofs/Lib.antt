@@ -1,5 +1,9 @@
+pub mod CountLemmas
 pub mod DigitLemmas
-pub mod QuoteLemmas
-pub mod WordSteps
 pub mod DivisionLemmas
+pub mod QuoteLemmas
+pub mod QuotedLemmas
+pub mod StepLemmas
 pub mod TextLemmas
+pub mod TokenLemmas
+pub mod WordSteps

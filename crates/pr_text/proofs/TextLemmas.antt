@@ -47,7 +47,7 @@ glyph_cases : (d : ℕ) → d < 16 → ((d < 10) × (digit_glyph false d ≡ 48 
 glyph_cases d small =
     ⊎_elim (λ (low : d < 10). inl (low, cond-true (ltb d 10) (48 + d) (87 + d) (lt-ltb d 10 low))) (λ (high : 10 ≤ d). inr (high, cond-false (ltb d 10) (48 + d) (87 + d) (le-ltb d 10 high))) (cases_lt d 10)
 
--- how a byte stands between quotes: behind a backslash, as it is, or by its digits
+-- how a byte stands between quotes: after a backslash, as it is, or by its digits
 data Quoting (b : ℕ) : Type 0 where
   escaped : (b ≡ 34) ⊎ (b ≡ 92) → quoted_byte b ≡ 92 ∷ b ∷ [] → Quoting b
   plain : b ≢ 34 → b ≢ 92 → 32 ≤ b → b ≤ 126 → quoted_byte b ≡ b ∷ [] → Quoting b
@@ -72,7 +72,7 @@ flat_short [] = omega arith
 flat_short (b ∷ bytes) =
     omega (arith, length-append (quoted_byte b) (flat_map quoted_byte bytes), length-quoted_byte b, flat_short bytes)
 
--- what stands behind the closing quote
+-- what stands after the closing quote
 abbrev dots : Bool → List ℕ
 dots t = cond t (46 ∷ 46 ∷ []) []
 

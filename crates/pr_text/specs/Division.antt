@@ -25,7 +25,7 @@ pub record IsQuotedWord (line : List ℕ) (w : Word) : Type 0 where
   pub closed : w.end < length line → (k : ℕ) × (w.start ≤ k) × (k + 2 ≡ w.end) × (closes_quotes (slice_index line k) (slice_index line (k + 1)) ≡ true)
 
 -- from a place on, a line is these words in this order, with nothing but blanks, tabs and commas before, between and
--- behind them
+-- after them
 abbrev pub DividesFrom : List ℕ → ℕ → List Word → Type 0
 DividesFrom line at [] = OnlyParts line at (length line)
 DividesFrom line at (w ∷ ws) = (at ≤ w.start) × OnlyParts line at w.start × (IsPlainWord line w ⊎ IsQuotedWord line w) × DividesFrom line w.end ws

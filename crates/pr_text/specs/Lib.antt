@@ -1,5 +1,11 @@
 pub mod Bytes
-pub mod Numerals
-pub mod Quotes
-pub mod Words
 pub mod Division
+pub mod Lists
+pub mod Names
+pub mod NumberWords
+pub mod Numerals
+pub mod QuotedWords
+pub mod Quotes
+pub mod Reads
+pub mod Steps
+pub mod Words

@@ -11,7 +11,7 @@ quoted_byte b =
     if b == quote || b == backslash then backslash ∷ b ∷ []
     else (if nat_le blank b && nat_le b tilde then b ∷ [] else backslash ∷ letter_x ∷ digit_glyph false (b / 16) ∷ digit_glyph false (b % 16) ∷ [])
 
--- whether .. stands behind the quotes: the bytes are more than 64, or are known to go on
+-- whether .. stands after the quotes: the bytes are more than 64, or are known to go on
 abbrev pub has_dots : List ℕ → Bool → Bool
 has_dots bytes more = more || nat_lt 64 (length bytes)
 

@@ -14,7 +14,7 @@ is_quote b = b == quote
 abbrev pub closes_quotes : ℕ → ℕ → Bool
 closes_quotes before b = is_quote b && not (before == backslash)
 
--- The words that begin in the bytes that stand from `at` on. A word that begins with a quote ends behind the next
+-- The words that begin in the bytes that stand from `at` on. A word that begins with a quote ends after the next
 -- quote that has no backslash before it, or at the line's end; any other word ends before the next blank, tab or
 -- comma, or at the line's end.
 unfoldable mutual

@@ -10,7 +10,7 @@ pub fn hex_digit(d: u8) -> u8
     if d < 10 { b'0' + d } else { b'a' + (d - 10) }
 }
 
-/// The hex digits of a number, behind zeros that make them 16, and the place of the first.
+/// The hex digits of a number, after zeros that make them 16, and the place of the first.
 pub fn hex_digits(n: u64) -> ([u8; 16], usize)
     ensures place { result.1 < 16 }
     ensures zeros { take result.1 result.0 ≡ replicate result.1 digit_zero }

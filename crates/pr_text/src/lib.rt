@@ -1,19 +1,35 @@
-//! Lines of text: a builder of a line, and the words of a line.
+//! Lines of text: a builder of a line, the words of a line, and what words can be read as.
 #![tactic(auto)]
 
 mod digits;
+mod keys;
 mod laws;
 mod lines;
+mod lists;
+mod names;
+mod number_words;
+mod operands;
+mod quoted_words;
 mod quotes;
+mod refusals;
 mod scanning;
 mod spans;
 mod splitting;
+mod tokens;
 
+pub use keys::Key;
 pub use laws::{a_line_is_its_words, numbers_are_their_digits, quoted_text_tells_its_bytes};
 pub use lines::{LINE_LIMIT, Line, TooLong};
+pub use lists::parts_of;
+pub use names::name_of;
+pub use number_words::{digit_of, id_of, number_of};
+pub use operands::{four, none, one, some, three, two};
+pub use quoted_words::quoted_bytes;
 pub use quotes::QUOTED_LIMIT;
+pub use refusals::Refused;
 pub use spans::{Word, Words};
 pub use splitting::{word_texts, words};
+pub use tokens::Tokens;
 
 #[cfg(test)]
 mod tests;

@@ -29,7 +29,7 @@ fn front(b: &[u8], most: usize) -> &[u8]
 }
 
 impl Line {
-    /// Appends bytes in quotes, the first 64 at most, and `..` behind the closing quote where there are more
+    /// Appends bytes in quotes, the first 64 at most, and `..` after the closing quote where there are more
     /// or `more` says that they go on. A quote and a backslash have a backslash before them, and a byte that
     /// ASCII does not print is `\x` and two hex digits (truss(1)).
     pub fn quoted(&mut self, b: &[u8], more: bool) -> Result<(), TooLong>

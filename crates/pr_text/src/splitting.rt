@@ -6,7 +6,7 @@ use pr_num::NoMemory;
 use std::alloc::Global;
 
 /// The words of a line, in order, none left out. Blanks, tabs and commas part words. A word that begins with
-/// a quote ends behind the next quote that has no backslash before it, or at the line's end, and what follows
+/// a quote ends after the next quote that has no backslash before it, or at the line's end, and what follows
 /// begins a new word; elsewhere a quote is a byte like others.
 ///
 /// Takes time linear in the line, and no memory.

@@ -105,7 +105,7 @@ fn quotes_bytes(rt: HostRuntime) -> Result<(), Fail> {
     Ok(())
 }
 
-// Each row is a line, and its words with a bar behind each.
+// Each row is a line, and its words with a bar after each.
 #[test]
 fn finds_words(rt: HostRuntime) -> Result<(), Fail> {
     for (line, want) in [

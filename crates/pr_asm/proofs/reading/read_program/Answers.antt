@@ -1,7 +1,8 @@
-use Rattle.std.proofs.Common.{arith, ap, ◌∙◌, length}
-use Rattle.pr_asm.proofs.ReadingLemmas.{few_reads}
+use Rattle.std.proofs.Common.{arith, ap, ◌∙◌, sym, length}
+use Rattle.std.proofs.lemmas.List.{length-map}
+use Rattle.pr_asm.proofs.ReadingLemmas.{few_lines}
 use Rattle.pr_asm.proofs.reading.read_program.Goals as goal
 
-pub assemble-requires : goal.assemble-requires
-assemble-requires c =
-    omega (arith, ap length (c.deref.ensures.value ∙ c.in_ok-reads.ensures), few_reads c.args.text.now)
+pub read_lines-requires : goal.read_lines-requires
+read_lines-requires c =
+    omega (arith, ap length c.deref.ensures.value, length-map c.in_ok-lines.lines.items (λ line. line.now), ap length c.in_ok-lines.ensures, few_lines c.args.text.now)

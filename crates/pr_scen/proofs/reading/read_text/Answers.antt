@@ -1,8 +1,9 @@
 use Rattle.std.proofs.Common.{arith, ap, length}
 use Rattle.std.proofs.lemmas.List.{length-map}
-use Rattle.pr_scen.proofs.LineLemmas.{bytes_of, few_lines}
+use Rattle.pr_asm.proofs.ReadingLemmas.{few_lines}
+use Rattle.pr_scen.proofs.LineLemmas.{bytes_of}
 use Rattle.pr_scen.proofs.reading.read_text.Goals as goal
 
 pub read_lines-requires : goal.read_lines-requires
 read_lines-requires c =
-    omega (arith, ap length c.deref.ensures.value, length-map c.in_ok-lines.lines.items bytes_of, ap length (c.in_ok-lines.ensures {u = tt}), few_lines c.args.text.now)
+    omega (arith, ap length c.deref.ensures.value, length-map c.in_ok-lines.lines.items bytes_of, ap length c.in_ok-lines.ensures, few_lines c.args.text.now)

@@ -1,0 +1,76 @@
+-- Names and their places.
+use Rattle.std.proofs.Common.{◌≡◌, ℕ, ◌+◌, ◌<◌, Bool, true, false, cond, Option, Some, None, List, [], ◌∷◌, ◌++◌, length, refl, sym, ◌∙◌, ap, arith}
+use Rattle.std.specs.BTreeMap.{BTreeMap, IsEmpty, Updates, get}
+use Rattle.std.specs.Bool.{one_answer}
+use Rattle.std.specs.Cmp.Lexicographic.{slice_cmp, texts_ties}
+use Rattle.std.specs.List.{position_from}
+use Rattle.std.specs.Map.{lookup}
+use Rattle.std.specs.Option.{IfSome}
+use Rattle.std.specs.Ordering.{is_eq, nat_cmp}
+use Rattle.std.specs.Str.{bytes_eq}
+use Rattle.std.proofs.lemmas.Bool.Decides.{Decides-like}
+use Rattle.std.proofs.lemmas.Slice.Eq.{bytes_eq-Decides}
+use Rattle.pr_scen.specs.Names.{place_of, key_cmp, IsIndex}
+use Rattle.pr_text.specs.declared.keys.Key.{Key}
+
+eq_back : (a b : List ℕ) → bytes_eq a b ≡ bytes_eq b a
+eq_back a b = one_answer (bytes_eq a b) (bytes_eq b a) (bytes_eq-Decides a b) (Decides-like (bytes_eq b a) sym sym (bytes_eq-Decides b a))
+
+-- a key is at another where their bytes are the same
+same_key : (a b : List ℕ) → is_eq (slice_cmp nat_cmp a b) ≡ bytes_eq b a
+same_key a b = sym (texts_ties a b) ∙ eq_back a b
+
+-- an option, or else another
+abbrev or_else : {A : Type 0} → Option A → Option A → Option A
+or_else None y = y
+or_else (Some x) y = Some x
+
+-- the first place at which one of more elements passes
+place-push : {X : Type 0} (p : X → Bool) (i : ℕ) (xs : List X) (y : X) → position_from p i (xs ++ y ∷ []) ≡ or_else (position_from p i xs) (cond (p y) (Some (i + length xs)) None)
+place-push p i [] y = ap (λ n. cond (p y) (Some n) None) (omega arith)
+place-push p i (x ∷ xs) y =
+    ap (cond (p x) (Some i)) (place-push p (i + 1) xs y ∙ ap (λ n. or_else (position_from p (i + 1) xs) (cond (p y) (Some n) None)) (omega arith)) ∙ out (p x) i (position_from p (i + 1) xs) _
+  where
+    out : (b : Bool) (i : ℕ) (rest other : Option ℕ) → cond b (Some i) (or_else rest other) ≡ or_else (cond b (Some i) rest) other
+    out true i rest other = refl
+    out false i rest other = refl
+
+pub index-empty : (places : BTreeMap Key ℕ) → IsEmpty places → IsIndex [] places
+unfolding place_of
+index-empty places empty = record { found = λ name. ap (lookup (λ k. is_eq (key_cmp (record { name = name }) k))) empty }
+
+-- one name more, which is not among them
+with_one : (b : Bool) (was : Option ℕ) (n : ℕ) → (b ≡ true → was ≡ None) → cond b (Some n) was ≡ or_else was (cond b (Some n) None)
+with_one true was n fresh = ap (λ o. or_else o (Some n)) (sym (fresh refl))
+with_one false None n fresh = refl
+with_one false (Some i) n fresh = refl
+
+pub index-push : (names : List (List ℕ)) (old new : BTreeMap Key ℕ) (name : List ℕ) (n : ℕ) → IsIndex names old → place_of names name ≡ None → n ≡ length names → Updates key_cmp old new (record { name = name }) (Some n) → IsIndex (names ++ name ∷ []) new
+unfolding place_of
+index-push names old new name n index fresh at u = record {
+  found = λ other.
+      u.0 (record { name = other })
+      ∙ ap (λ b. cond b (Some n) (get key_cmp old (record { name = other }))) (same_key name other)
+      ∙ ap (cond (bytes_eq other name) (Some n)) (index.found other)
+      ∙ with_one (bytes_eq other name) (position_from (bytes_eq other) 0 names) n (λ same. ap (λ q. position_from (bytes_eq q) 0 names) ((bytes_eq-Decides other name).0 same) ∙ fresh)
+      ∙ ap (λ m. or_else (position_from (bytes_eq other) 0 names) (cond (bytes_eq other name) (Some m) None)) (omega (arith, at))
+      ∙ sym (place-push (bytes_eq other) 0 names name);
+}
+
+-- a place that was found is one of them
+from_inside : {X : Type 0} (p : X → Bool) (i : ℕ) (xs : List X) → IfSome (position_from p i xs) (λ k. k < i + length xs)
+from_inside p i [] = tt
+from_inside p i (x ∷ xs) = at (p x) (position_from p (i + 1) xs) (from_inside p (i + 1) xs)
+  where
+    at : (b : Bool) (o : Option ℕ) → IfSome o (λ k. k < i + 1 + length xs) → IfSome (cond b (Some i) o) (λ k. k < i + length (x ∷ xs))
+    at true o h = omega arith
+    at false None h = tt
+    at false (Some k) h = omega arith
+
+pub place_inside : (names : List (List ℕ)) (name : List ℕ) → IfSome (place_of names name) (λ place. place < length names)
+unfolding place_of
+place_inside names name = at (position_from (bytes_eq name) 0 names) (from_inside (bytes_eq name) 0 names)
+  where
+    at : (o : Option ℕ) → IfSome o (λ k. k < 0 + length names) → IfSome o (λ k. k < length names)
+    at None h = tt
+    at (Some k) h = omega arith

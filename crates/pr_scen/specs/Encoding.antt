@@ -1,0 +1,83 @@
+-- Words that encode the lines of a scenario.
+use Rattle.std.specs.Prelude.{◌≡◌, ◌≤◌, ◌<◌, ◌^◌, ◌/◌, ◌%◌, ℕ, true, false, List, [], ◌∷◌, ◌++◌, codes, decimal, slice_index}
+use Rattle.std.specs.List.{AllByRecursion, flat_map}
+use Rattle.pr_asm.specs.Spelling.{quoted}
+use Rattle.pr_text.specs.Names.{is_name}
+use Rattle.pr_scen.specs.Files.{file_name, mode_name}
+use Rattle.pr_scen.specs.declared.items.Item.{Item}
+use Rattle.pr_scen.specs.declared.items.Item.TheVariants as item
+use Rattle.pr_scen.specs.declared.script_lines.ScriptLine.{ScriptLine}
+use Rattle.pr_scen.specs.declared.script_lines.ScriptLine.TheVariants as line
+
+-- bytes in hex, two digits in lower case each
+abbrev pub hex_digit : ℕ → ℕ
+hex_digit d = slice_index (codes "0123456789abcdef") d
+
+abbrev pub hex_byte : ℕ → List ℕ
+hex_byte b = hex_digit (b / 16) ∷ hex_digit (b % 16) ∷ []
+
+abbrev pub hex_word : List ℕ → List ℕ
+hex_word bytes = flat_map hex_byte bytes
+
+-- ---- lines outside blocks, but for those of truss, tools and schedules
+
+unfoldable pub item_words : Item → List (List ℕ)
+item_words item.Blank = []
+item_words (item.Turns n) = codes "turns" ∷ decimal n ∷ []
+item_words (item.File name bytes) = codes "file" ∷ name ∷ quoted bytes ∷ []
+item_words (item.Program name) = codes "program" ∷ name ∷ []
+item_words (item.Spawn name) = codes "spawn" ∷ name ∷ []
+item_words item.Script = codes "script" ∷ []
+item_words _ = []
+
+-- what can be encoded: names have their form, and numbers are words
+unfoldable pub IsItem : Item → Type 0
+IsItem item.Blank = Unit {0}
+IsItem (item.Turns n) = (1 ≤ n) × (n < 2 ^ 64)
+IsItem (item.File name bytes) = is_name name ≡ true
+IsItem (item.Program name) = is_name name ≡ true
+IsItem (item.Spawn name) = is_name name ≡ true
+IsItem item.Script = Unit {0}
+IsItem _ = ⊥
+
+-- ---- lines of scripts
+
+abbrev pub IsId : ℕ → Type 0
+IsId n = n < 2 ^ 32
+
+-- an lwp of a process; lwp 0 stands for the process
+abbrev pub place_word : ℕ → ℕ → List ℕ
+place_word pid lwp = decimal pid ++ 47 ∷ decimal lwp
+
+unfoldable pub line_words : ScriptLine → List (List ℕ)
+line_words (line.Open name pid lwp file mode) = codes "open" ∷ name ∷ place_word pid lwp ∷ file_name file ∷ mode_name mode ∷ []
+line_words (line.Close name) = codes "close" ∷ name ∷ []
+line_words (line.Read name at len) = codes "read" ∷ name ∷ decimal at ∷ decimal len ∷ []
+line_words (line.Poll names) = codes "poll" ∷ names
+line_words (line.Write name bytes) = codes "write" ∷ name ∷ codes "raw" ∷ hex_word bytes ∷ []
+line_words (line.Interrupt controller) = codes "interrupt" ∷ decimal controller ∷ []
+line_words (line.Spawn program false) = codes "spawn" ∷ program ∷ []
+line_words (line.Spawn program true) = codes "spawn" ∷ program ∷ codes "held" ∷ []
+line_words (line.Kill pid sig) = codes "kill" ∷ decimal pid ∷ decimal sig ∷ []
+line_words (line.Until moment) = codes "until" ∷ decimal moment ∷ []
+line_words line.List = codes "list" ∷ []
+
+abbrev pub SomeNames : List (List ℕ) → Type 0
+SomeNames [] = ⊥
+SomeNames (name ∷ names) = AllByRecursion (λ n. is_name n ≡ true) (name ∷ names)
+
+abbrev pub SomeBytes : List ℕ → Type 0
+SomeBytes [] = ⊥
+SomeBytes (b ∷ bytes) = AllByRecursion (λ x. x < 256) (b ∷ bytes)
+
+unfoldable pub IsLine : ScriptLine → Type 0
+IsLine (line.Open name pid lwp file mode) = (is_name name ≡ true) × IsId pid × IsId lwp
+IsLine (line.Close name) = is_name name ≡ true
+IsLine (line.Read name at len) = (is_name name ≡ true) × (at < 2 ^ 64) × (len < 2 ^ 64)
+IsLine (line.Poll names) = SomeNames names
+IsLine (line.Write name bytes) = (is_name name ≡ true) × SomeBytes bytes
+IsLine (line.Interrupt controller) = IsId controller
+IsLine (line.Spawn program held) = is_name program ≡ true
+IsLine (line.Kill pid sig) = IsId pid × (sig < 2 ^ 64)
+IsLine (line.Until moment) = moment < 2 ^ 64
+IsLine line.List = Unit {0}

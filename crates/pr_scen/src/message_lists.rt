@@ -1,0 +1,165 @@
+//! Operands of messages: bytes in hex, sets, modes and run flags.
+ghost use Rattle.std.specs.Prelude.{◌≡◌, ◌<◌, ◌≤◌, ◌∷◌, length, map, option_map, IfOk, IfSome, MatchOption};
+ghost use Rattle.std.specs.List.{list_all};
+ghost use Rattle.std.specs.Result.{result_map_both};
+ghost use Rattle.pr_text.specs.Names.{is_name};
+ghost use Rattle.pr_scen.specs.MessageLists.{low_digit, byte_of, hex_of, named_set, set_of, mode_word, with_modes, modes_of, flag_of};
+
+use crate::ScenKind;
+use pr_line::{Entries, named_entries};
+use pr_msg::RunFlags;
+use pr_num::{Modes, NoMemory};
+use pr_text::{digit_of, name_of, parts_of};
+use std::alloc::Global;
+
+/// The value of a hex digit in lower case.
+#[tactic(auto, unfolding(crate::specs::MessageLists::low_digit))]
+fn low_digit(b: u8) -> Option<u8>
+    ensures value { result ≡ low_digit b }
+    ensures range { IfSome result (λ d. d < 16) }
+{
+    if matches!(b, b'A'..=b'F') {
+        return None;
+    }
+    digit_of(b)
+}
+
+/// The byte of two hex digits.
+#[tactic(auto, unfolding(crate::specs::MessageLists::byte_of))]
+fn byte_of(high: u8, low: u8) -> Option<u8>
+    ensures { result ≡ byte_of high low }
+{
+    Some(low_digit(high)? * 16 + low_digit(low)?)
+}
+
+/// The first two bytes of a text, and those after them.
+fn two_digits(text: &[u8]) -> Option<(u8, u8, &[u8])>
+    ensures { MatchOption result (length text.now ≤ 1) (λ x. text.now ≡ x.0 ∷ x.1 ∷ x.2.now) }
+{
+    let (high, rest) = text.split_first()?;
+    let (low, rest) = rest.split_first()?;
+    Some((*high, *low, rest))
+}
+
+/// The bytes of a word in hex, two digits in lower case each.
+#[tactic(auto, unfolding(crate::specs::MessageLists::hex_of, crate::specs::MessageLists::hex_from))]
+pub fn hex_of(alloc: Global, word: &[u8]) -> Result<Option<Vec<u8>>, NoMemory>
+    ensures { IfOk result (λ bytes. option_map (λ v. v.items) bytes ≡ hex_of word.now) }
+{
+    let mut bytes = Vec::new(alloc);
+    let mut rest = word;
+    while let Some((high, low, after)) = two_digits(rest) {
+        let Some(byte) = byte_of(high, low) else {
+            return Ok(None);
+        };
+        bytes.push(byte)?;
+        rest = after;
+    }
+    if rest.is_empty() {
+        Ok(Some(bytes))
+    } else {
+        Ok(None)
+    }
+}
+
+/// Whether each of these words has the form of a name.
+fn are_names(words: &[&[u8]]) -> bool
+    ensures { result ≡ list_all is_name (map (λ word. word.now) words.now) }
+{
+    for word in words {
+        if name_of(word).is_none() {
+            return false;
+        }
+    }
+    true
+}
+
+/// The set of names that are joined.
+#[tactic(auto, unfolding(crate::specs::MessageLists::named_set))]
+fn named_set<S: Entries>(names: &[&[u8]]) -> Result<S, ScenKind>
+    ensures { result_map_both S.word (λ kind. kind) result ≡ named_set S.named (map (λ name. name.now) names.now) }
+{
+    if !are_names(names) {
+        return Err(ScenKind::BadOperand);
+    }
+    named_entries(names).ok_or(ScenKind::UnknownName)
+}
+
+/// The set of a list: `none`, `all`, or names joined by `+`.
+#[tactic(auto, unfolding(crate::specs::MessageLists::set_of))]
+pub fn set_of<S: Entries>(alloc: Global, word: &[u8]) -> Result<Result<S, ScenKind>, NoMemory>
+    ensures { IfOk result (λ set. result_map_both S.word (λ kind. kind) set ≡ set_of S.named S.every word.now) }
+{
+    if word == b"none".as_slice() {
+        return Ok(Ok(S::nothing()));
+    }
+    if word == b"all".as_slice() {
+        return Ok(Ok(S::everything()));
+    }
+    let names = parts_of(alloc, word)?;
+    Ok(named_set(&names))
+}
+
+/// The mode of a name (proc(4), "PCSET").
+#[tactic(auto, unfolding(crate::specs::MessageLists::mode_word))]
+fn mode_word(name: &[u8]) -> Option<Modes>
+    ensures { result ≡ mode_word name.now }
+{
+    if name == b"fork".as_slice() {
+        return Some(Modes::FORK);
+    }
+    if name == b"rlc".as_slice() {
+        return Some(Modes::RLC);
+    }
+    if name == b"klc".as_slice() {
+        return Some(Modes::KLC);
+    }
+    if name == b"async".as_slice() {
+        return Some(Modes::ASYNC);
+    }
+    None
+}
+
+/// The modes of names.
+#[tactic(auto, unfolding(crate::specs::MessageLists::with_modes))]
+fn named_modes(names: &[&[u8]]) -> Option<Modes>
+    ensures { result ≡ with_modes 0 (map (λ name. name.now) names.now) }
+{
+    let mut modes = Modes::empty();
+    for name in names {
+        modes = modes.union(mode_word(name)?);
+    }
+    Some(modes)
+}
+
+/// The modes of names that `+` joins.
+#[tactic(auto, unfolding(crate::specs::MessageLists::modes_of))]
+pub fn modes_of(alloc: Global, word: &[u8]) -> Result<Option<Modes>, NoMemory>
+    ensures { IfOk result (λ modes. modes ≡ modes_of word.now) }
+{
+    let names = parts_of(alloc, word)?;
+    Ok(named_modes(&names))
+}
+
+/// The run flag of a word (proc(4), "PCRUN").
+#[tactic(auto, unfolding(crate::specs::MessageLists::flag_of))]
+pub fn flag_of(word: &[u8]) -> Option<RunFlags>
+    ensures { result ≡ flag_of word.now }
+{
+    if word == b"prcsig".as_slice() {
+        return Some(RunFlags::CSIG);
+    }
+    if word == b"prcfault".as_slice() {
+        return Some(RunFlags::CFAULT);
+    }
+    if word == b"prstep".as_slice() {
+        return Some(RunFlags::STEP);
+    }
+    if word == b"prsabort".as_slice() {
+        return Some(RunFlags::SABORT);
+    }
+    if word == b"prstop".as_slice() {
+        return Some(RunFlags::STOP);
+    }
+    None
+}

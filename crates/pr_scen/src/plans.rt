@@ -1,0 +1,12 @@
+use crate::Script;
+use pr_line::Options;
+use pr_model::ToolKind;
+
+/// A controller of a scenario.
+#[derive(Drop)]
+pub enum Plan {
+    Script(Script),
+    Truss(Options),
+    /// A tool of a process; `ptree` goes with process 0.
+    Tool(ToolKind, u32),
+}
