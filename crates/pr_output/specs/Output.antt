@@ -1,7 +1,9 @@
 use Rattle.std.specs.Prelude.{◌≡◌, ℕ, Bool, true, false, List, [], ◌++◌, Option, codes, decimal, length, take}
 use Rattle.pr_io.specs.Known.{with_end}
 use Rattle.pr_model.specs.declared.events.Entry.{Entry}
+use Rattle.pr_model.specs.declared.steps.Step.{Step}
 use Rattle.pr_plain.specs.HistoryText.{heading_text, entries_text, status_text}
+use Rattle.pr_plain.specs.PlainText.{plain_text}
 
 -- What the program writes.
 
@@ -13,6 +15,10 @@ history_text false h = heading_text (length h) ++ entries_text 0 h
 -- a run: its history, or not where that is left out, and the status with which the program ends
 unfoldable pub run_text : Bool → List Entry → ℕ → List ℕ
 run_text quiet h status = history_text quiet h ++ status_text status
+
+-- a run as the machine without controllers makes it: its steps, its trace, and the status with which the program ends
+unfoldable pub plain_run_text : List Step → List Step → ℕ → List ℕ
+plain_run_text steps trace status = plain_text steps trace ++ status_text status
 
 -- an input that is refused: the first line at fault, and why
 unfoldable pub refusal_text : ℕ → List ℕ → List ℕ

@@ -3,9 +3,11 @@
 
 mod cuts;
 mod lines;
+mod plains;
 mod refusals;
 mod runs;
 
 pub use cuts::Cut;
+pub use plains::write_plain;
 pub use refusals::write_refusal;
 pub use runs::write_run;

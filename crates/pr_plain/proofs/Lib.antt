@@ -14,7 +14,6 @@ pub mod NameLemmas
 pub mod PieceLemmas
 pub mod RowLemmas
 pub mod TextLaws
-pub mod TraceLemmas
 pub mod TurnLaws
 pub mod WordLaws
 pub mod WordLemmas

@@ -15,7 +15,7 @@ use Rattle.pr_num.specs.Faults.{fault_name, fault_of_name}
 use Rattle.pr_num.specs.Signals.{signal_name, signal_of_name}
 use Rattle.pr_num.specs.Syscalls.{syscall_name, syscall_of_name}
 use Rattle.pr_num.proofs.EntryLemmas.{errno_of_name-name, errno_name-of_name, fault_of_name-name, fault_name-of_name, signal_of_name-name, syscall_of_name-name, syscall_name-of_name}
-use Rattle.pr_asm.specs.Names.{is_name, name_of}
+use Rattle.pr_text.specs.Names.{is_name, name_of}
 use Rattle.pr_plain.specs.DecimalWords.{number_of, id_of}
 use Rattle.pr_plain.specs.EntryForms.{is_number, is_id, is_byte}
 use Rattle.pr_plain.specs.FileNames.{file_name, file_of_name, mode_name, mode_of_name}

@@ -2,7 +2,7 @@
 -- names have the form of a scenario's. An entry that the program holds has all of that but the last.
 use Rattle.std.specs.Prelude.{ℕ, ◌^◌, ◌&&◌, nat_lt, Bool, true}
 use Rattle.std.specs.List.{list_all}
-use Rattle.pr_asm.specs.Names.{is_name}
+use Rattle.pr_text.specs.Names.{is_name}
 use Rattle.pr_model.specs.declared.calls.Call.{Call}
 use Rattle.pr_model.specs.declared.calls.Call.TheVariants as call
 use Rattle.pr_model.specs.declared.calls.Reply.{Reply}

@@ -10,7 +10,7 @@ use Rattle.pr_num.specs.Errnos.{errno_of_name}
 use Rattle.pr_num.specs.Faults.{fault_of_name}
 use Rattle.pr_num.specs.Signals.{signal_name, signal_of_name}
 use Rattle.pr_num.specs.Syscalls.{syscall_of_name}
-use Rattle.pr_asm.specs.Names.{name_of}
+use Rattle.pr_text.specs.Names.{name_of}
 use Rattle.pr_model.specs.declared.calls.File.{File}
 use Rattle.pr_model.specs.declared.calls.Mode.{Mode}
 use Rattle.pr_plain.specs.DecimalWords.{number_of, id_of}

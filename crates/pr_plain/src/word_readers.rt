@@ -8,9 +8,9 @@ use crate::name_readers::{file_of_name, mode_of_name};
 use crate::numerals::{id_of, number_of};
 use crate::pieces::Pieces;
 use crate::refusals::Refused;
-use pr_asm::name_of;
 use pr_model::{File, Mode};
 use pr_num::{Bytes, Errno, Flt, Name, NoMemory, Sig, Sysno};
+use pr_text::name_of;
 use std::alloc::Global;
 
 /// Takes this word, if it is the next.

@@ -33,7 +33,7 @@ fn trace_of(entry: &Entry) -> Option<Step>
     }
 }
 
-/// Puts what an entry is in a trace behind what stands there.
+/// Puts what an entry is in a trace after what stands there.
 fn push_trace(steps: &mut Vec<Step>, entry: &Entry) -> Result<(), AllocError>
     ensures { OnOk result (steps.new.items ≡ steps.old.items ++ trace_of entry.now) }
 {

@@ -1,0 +1,4 @@
+pub mod JudgementLemmas
+pub mod PlayLemmas
+pub mod ReplyLemmas
+pub mod TurnLemmas

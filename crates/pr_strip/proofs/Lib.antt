@@ -1,0 +1,4 @@
+pub mod EntryLemmas
+pub mod PastLemmas
+pub mod StepLemmas
+pub mod TraceLemmas
