@@ -1,7 +1,7 @@
 use Rattle.std.proofs.Common.{◌≡◌, ℕ, length, refl, sym, subst}
 use Rattle.pr_api.specs.Views.{kernel_of}
 use Rattle.pr_erasure.proofs.HistoryLemmas.{transparent-first}
-use Rattle.pr_scen.specs.declared.scenarios.Scenario.{Scenario}
+use Rattle.pr_scen.specs.Scenarios.{Scenario}
 use Rattle.pr_world.proofs.RunLemmas.{moves-came}
 use Rattle.pr_world.specs.Runs.{CameFrom, IsFresh, IsMachineRun, IsTold}
 use Rattle.pr_world.specs.Worlds.{WorldState}

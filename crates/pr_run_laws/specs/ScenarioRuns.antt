@@ -1,16 +1,16 @@
-use Rattle.std.specs.Prelude.{ℕ, List, [], None, length, map}
+use Rattle.std.specs.Prelude.{ℕ, List, [], ◌∷◌, None, length, map}
+use Rattle.std.specs.List.{flat_map}
 use Rattle.pr_api.specs.Views.{kernel_of}
 use Rattle.pr_erasure.specs.Transparency.{IsTransparent}
 use Rattle.pr_model.specs.FirstState.{first_state}
 use Rattle.pr_model.specs.Legal.{IsLegal}
 use Rattle.pr_model.specs.Passive.{IsPassive}
 use Rattle.pr_model.specs.State.{TracedState}
-use Rattle.pr_model.specs.declared.events.Actor.{Actor}
 use Rattle.pr_model.specs.declared.events.Entry.{Entry}
 use Rattle.pr_num.specs.declared.files.StoredFile.{StoredFile}
-use Rattle.pr_scen.specs.Scripts.{first_script}
-use Rattle.pr_scen.specs.declared.scenarios.Scenario.{Scenario}
-use Rattle.pr_scen.specs.declared.script_lines.ScriptLine.{ScriptLine}
+use Rattle.pr_scen.specs.Scenarios.{Scenario, stored_file}
+use Rattle.pr_scen.specs.declared.plans.Plan.{Plan}
+use Rattle.pr_scen.specs.declared.plans.Plan.TheVariants as plan
 use Rattle.pr_world.specs.Protocol.{Follows}
 use Rattle.pr_world.specs.Runs.{after_moves}
 use Rattle.pr_world.specs.Worlds.{WorldState}
@@ -19,31 +19,31 @@ use Rattle.pr_world.specs.declared.controllers.Controller.TheVariants.{Script}
 
 -- The runs of a scenario.
 
--- the files that it begins with; a scenario names none yet
+-- the files that it begins with, as the system keeps them
 abbrev pub files_of : Scenario → List StoredFile
-files_of s = []
+files_of s = map stored_file s.files
 
 -- the state of the machine before the first move: the processes that the scenario spawns, of its programs, and its files
 abbrev pub first_state_of : Scenario → TracedState
 first_state_of s = first_state s.programs (files_of s) s.spawns
 
--- its controllers before their first calls: its scripts
-abbrev pub controller_of : List ScriptLine → Core
-controller_of lines = Script (first_script lines)
+-- The controller of a plan before its first call, a row a kind. A truss or a tool is none yet: a scenario with such a
+-- line is refused.
+abbrev pub controller_in : Plan → List Core
+controller_in (plan.Script script) = Script script ∷ []
+controller_in (plan.Truss options) = []
+controller_in (plan.Tool kind pid) = []
 
+-- its controllers before their first calls, in order
 abbrev pub controllers_of : Scenario → List Core
-controllers_of s = map controller_of s.scripts
-
--- the actors that move first, in order; a scenario names none yet
-abbrev pub schedule_of : Scenario → List Actor
-schedule_of s = []
+controllers_of s = flat_map controller_in s.controllers
 
 -- The world before the first move; the history has as many places as the scenario has turns.
 unfoldable pub first_world : Scenario → WorldState
 first_world s = record {
   kernel = kernel_of (first_state_of s) [] s.turns;
   controllers = controllers_of s;
-  schedule = schedule_of s;
+  schedule = s.schedule;
   last = None;
 }
 

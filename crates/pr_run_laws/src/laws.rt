@@ -1,7 +1,7 @@
 ghost use Rattle.std.specs.Prelude.{◌≤◌, ℕ};
-ghost use Rattle.pr_run_laws.specs.Fronts.{IsFront};
+ghost use Rattle.pr_run_laws.specs.Prefixes.{IsPrefix};
 ghost use Rattle.pr_run_laws.specs.ScenarioRuns.{IsKept, first_world, history_after};
-ghost use Rattle.pr_scen.specs.declared.scenarios.Scenario.{Scenario};
+ghost use Rattle.pr_scen.specs.Scenarios.{Scenario};
 ghost use Rattle.pr_world.specs.Runs.{CameFrom};
 ghost use Rattle.pr_world.specs.Worlds.{WorldState};
 
@@ -16,5 +16,5 @@ pub fn histories_of_runs_are_kept()
 /// On one thread a run grows at its end: its history after some moves is a prefix of the one after more of them.
 #[tactic(auto, using(crate::proofs::GrowthLemmas::growth))]
 pub fn runs_grow()
-    ensures { (s : Scenario) (m n : ℕ) → m ≤ n → IsFront (history_after m s) (history_after n s) }
+    ensures { (s : Scenario) (m n : ℕ) → m ≤ n → IsPrefix (history_after m s) (history_after n s) }
 {}

@@ -1,9 +1,8 @@
 use Rattle.std.proofs.Common.{◌≡◌, ◌<◌, ◌≤◌, ◌+◌, ◌-◌, ◌&&◌, ◌⊎◌, inl, inr, ℕ, zero, suc, Bool, true, false, Option, Some, None, is_some, List, [], ◌∷◌, length, cond, find, nat_lt, refl, sym, ◌∙◌, ap, arith}
 use Rattle.std.proofs.lemmas.Option.{same_Some}
 use Rattle.std.specs.List.{range_with_len, slice_index_or}
-use Rattle.std.specs.Option.{option_map}
+use Rattle.std.specs.Option.{option_map, option_or}
 use Rattle.pr_api.specs.Views.{IsLawful, KernelView, is_after, next_of, turns_after}
-use Rattle.pr_model.specs.Stops.{or_else}
 use Rattle.pr_model.specs.declared.events.Actor.{Actor}
 use Rattle.pr_model.specs.declared.events.Actor.TheVariants.{Controller, Lwp, Clock}
 use Rattle.pr_world.specs.declared.ends.End.{End}
@@ -21,7 +20,7 @@ found-passes q (y ∷ ys) x e = by (q y) refl (found-passes q ys x) e
     by true passes later here = ap q (sym (same_Some y x here)) ∙ passes
     by false fails later here = later here
 
-either : (a b : Option Actor) (x : Actor) (P : Actor → Type 0) → or_else a b ≡ Some x → (a ≡ Some x → P x) → (b ≡ Some x → P x) → P x
+either : (a b : Option Actor) (x : Actor) (P : Actor → Type 0) → option_or a b ≡ Some x → (a ≡ Some x → P x) → (b ≡ Some x → P x) → P x
 either (Some y) b x P e left right = left e
 either None b x P e left right = right e
 
@@ -83,7 +82,7 @@ scheduled-next w (a ∷ rest) p e = of (can_act w a) refl e (scheduled-next w re
     of true acts here later = ap (λ (q : Pick). can_act w q.actor) (sym (same_Some _ p here)) ∙ acts
     of false rests here later = later here
 
-either_pick : (a b : Option Pick) (p : Pick) (P : Pick → Type 0) → or_else a b ≡ Some p → (a ≡ Some p → P p) → (b ≡ Some p → P p) → P p
+either_pick : (a b : Option Pick) (p : Pick) (P : Pick → Type 0) → option_or a b ≡ Some p → (a ≡ Some p → P p) → (b ≡ Some p → P p) → P p
 either_pick (Some q) b p P e left right = left e
 either_pick None b p P e left right = right e
 
@@ -106,7 +105,7 @@ next-acts w a e =
 -- Where no actor is next, none can move: the actors were all looked at.
 
 -- neither of two
-neither : (a b : Option Actor) → or_else a b ≡ None → (a ≡ None) × (b ≡ None)
+neither : (a b : Option Actor) → option_or a b ≡ None → (a ≡ None) × (b ≡ None)
 neither None b e = (refl, e)
 neither (Some x) b e = cc
 
@@ -114,7 +113,7 @@ not_mapped : {X Y : Type 0} (f : X → Y) (o : Option X) → option_map f o ≡ 
 not_mapped f None e = refl
 not_mapped f (Some x) e = cc
 
--- What a search that found nothing has passed fails its test: the first, and those behind it.
+-- What a search that found nothing has passed fails its test: the first, and those after it.
 none-first : {X : Type 0} (q : X → Bool) (x : X) (xs : List X) → find q (x ∷ xs) ≡ None → (q x ≡ false) × (find q xs ≡ None)
 none-first q x xs e = by (q x) refl e
   where
@@ -198,7 +197,7 @@ unfolding first_scheduled
 scheduled-rests w [] rests = refl
 scheduled-rests w (a ∷ rest) rests = ap (λ (b : Bool). cond b (Some (let q : Pick = record { actor = a; schedule = rest; last = w.last } in q)) (first_scheduled w rest)) (rests a) ∙ scheduled-rests w rest rests
 
-neither_pick : (a b : Option Pick) → or_else a b ≡ None → (a ≡ None) × (b ≡ None)
+neither_pick : (a b : Option Pick) → option_or a b ≡ None → (a ≡ None) × (b ≡ None)
 neither_pick None b e = (refl, e)
 neither_pick (Some x) b e = cc
 
@@ -214,14 +213,14 @@ module _ (w : WorldState) (lawful : IsLawful w.kernel) where
   pub next-none : next_in_rounds w ≡ None → next_actor w ≡ None
   unfolding next_actor next_pick
   next-none e =
-      ap (λ (o : Option Pick). option_map actor_of (or_else o (option_map in_rounds (next_in_rounds w)))) (scheduled-rests w w.schedule (λ a. rounds-rest w a lawful e))
+      ap (λ (o : Option Pick). option_map actor_of (option_or o (option_map in_rounds (next_in_rounds w)))) (scheduled-rests w w.schedule (λ a. rounds-rest w a lawful e))
       ∙ ap (λ (o : Option Actor). option_map actor_of (option_map in_rounds o)) e
 
   pub next-some : (a : Actor) → next_in_rounds w ≡ Some a → is_some (next_actor w) ≡ true
   unfolding next_actor next_pick
   next-some a e = of (first_scheduled w w.schedule)
     where
-      of : (o : Option Pick) → is_some (option_map actor_of (or_else o (option_map in_rounds (next_in_rounds w)))) ≡ true
+      of : (o : Option Pick) → is_some (option_map actor_of (option_or o (option_map in_rounds (next_in_rounds w)))) ≡ true
       of (Some p) = refl
       of None = ap (λ (o : Option Actor). is_some (option_map actor_of (option_map in_rounds o))) e
 

@@ -1,7 +1,6 @@
 use Rattle.std.proofs.Common.{◌≡◌, ◌<◌, ◌≤◌, ◌+◌, ◌-◌, ℕ, suc, Bool, true, false, Option, Some, None, [], ◌∷◌, length, cond, find, ◌∙◌, ap, arith}
 use Rattle.std.specs.List.{range_with_len}
-use Rattle.std.specs.Option.{option_map}
-use Rattle.pr_model.specs.Stops.{or_else}
+use Rattle.std.specs.Option.{option_map, option_or}
 use Rattle.pr_model.specs.declared.events.Actor.TheVariants.{Controller}
 use Rattle.pr_world.specs.Worlds.{WorldState, controller_acts, first_controller, from_controller, from_lwp}
 
@@ -29,6 +28,6 @@ pub ruleset searches = (search-here, search-on, search-end)
 -- Behind the last controller the lwps come.
 pub no_more-controllers : (w : WorldState) (k : ℕ) → length w.controllers ≤ k → from_controller w k ≡ from_lwp w None
 unfolding from_controller first_controller
-no_more-controllers w k past = ap (λ (o : Option ℕ). or_else (option_map Controller o) (from_lwp w None)) (search-end (controller_acts w) k (length w.controllers) past)
+no_more-controllers w k past = ap (λ (o : Option ℕ). option_or (option_map Controller o) (from_lwp w None)) (search-end (controller_acts w) k (length w.controllers) past)
 
 pub ruleset rounds = (no_more-controllers)

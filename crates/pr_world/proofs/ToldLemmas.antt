@@ -1,4 +1,4 @@
-use Rattle.std.proofs.Common.{◌≡◌, ◌+◌, ℕ, Bool, true, Option, Some, None, IfSome, is_some, List, [], ◌∷◌, ◌++◌, length, cond, refl, sym, ◌∙◌, ap, subst}
+use Rattle.std.proofs.Common.{◌≡◌, ◌+◌, ℕ, Bool, true, false, Option, Some, None, IfSome, is_some, List, [], ◌∷◌, ◌++◌, length, cond, refl, sym, ◌∙◌, ap, subst}
 use Rattle.std.specs.Option.{option_map}
 use Rattle.pr_api.proofs.ShapeLemmas.{machine-shaped}
 use Rattle.pr_api.specs.Entries.{call_entry, tick_entry, turn_entry}
@@ -8,8 +8,8 @@ use Rattle.pr_api.specs.Steps.{IsCalled, IsTicked, IsTurned}
 use Rattle.pr_api.specs.Views.{IsLawful, KernelView, kernel_of}
 use Rattle.pr_model.specs.Calls.{Answer, answer_to}
 use Rattle.pr_model.specs.Legal.{IsLegalEntry, after, after_call, after_turn, ticked}
-use Rattle.pr_model.specs.LwpTurns.{LwpTurn, can_move, turn_of}
-use Rattle.pr_model.specs.State.{TracedState, TracedSystem, with_system}
+use Rattle.pr_model.specs.LwpTurns.{LwpTurn, can_move, may_turn, may_turn_in, may_turn_of, turn_of, turn_of_lwp, turn_of_process}
+use Rattle.pr_model.specs.State.{TracedState, TracedSystem, TracedProcess, TracedLwp, live_process, lwp_of, with_system}
 use Rattle.pr_model.specs.declared.calls.Call.{Call}
 use Rattle.pr_model.specs.declared.events.Act.{Act}
 use Rattle.pr_model.specs.declared.events.Act.TheVariants.{Call as Called, Turn, Tick}
@@ -24,6 +24,24 @@ use Rattle.pr_world.specs.declared.controllers.Controller.{Controller as Core}
 use Rattle.pr_world.proofs.MoveLemmas.{acts-call, clock-moves, told-clock, controller-moves, last-reply, lwp-moves}
 
 -- Over a machine that is told a move is a function of the world.
+
+-- ---- an lwp has a turn exactly where it can move
+
+pub turns-move : (s : TracedSystem) (pid id : ℕ) → is_some (turn_of s pid id) ≡ can_move s pid id
+unfolding turn_of can_move
+turns-move s pid id = of_process (live_process s pid)
+  where
+    if_may : (t : LwpTurn) (b : Bool) → is_some (cond b (Some t) None) ≡ b
+    if_may t true = refl
+    if_may t false = refl
+
+    of_lwp : (p : TracedProcess) (l : Option TracedLwp) → is_some (turn_of_lwp s pid id p l) ≡ may_turn_in s pid id p l
+    of_lwp p None = refl
+    of_lwp p (Some l) = if_may _ (may_turn s pid p id l)
+
+    of_process : (o : Option TracedProcess) → is_some (turn_of_process s pid id o) ≡ may_turn_of s pid id o
+    of_process None = refl
+    of_process (Some p) = of_lwp p (lwp_of p id)
 
 -- ---- what a move led to is what the function says
 
@@ -184,5 +202,5 @@ module _ (s : TracedState) (w : WorldState) (is : w.kernel ≡ kernel_of s w.ker
   pub acts-goes : (actor : Actor) → can_act w actor ≡ true → Goes s w actor
   unfolding can_act
   acts-goes (Controller k) h = let call = acts-call w k h in controller-goes k call.call (answer_to s k call.call) h call.next refl (sym (is-ready k call.call) ∙ call.ready)
-  acts-goes (Lwp pid id) h = lwp-goes pid id (turn_of s.system pid id) h refl (sym (turns pid id) ∙ h)
+  acts-goes (Lwp pid id) h = lwp-goes pid id (turn_of s.system pid id) h refl (turns-move s.system pid id ∙ (sym (turns pid id) ∙ h))
   acts-goes Clock h = clock-goes h

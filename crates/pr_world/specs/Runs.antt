@@ -42,7 +42,7 @@ unfoldable pub RunsFor : ℕ → WorldState → WorldState → Type 0
 RunsFor zero w v = v ≡ w
 RunsFor (suc n) w v = (u : WorldState) × RunsFor n w u × Steps u v
 
--- A run that was stopped for want of memory: so many steps were made, at most as many as there were places left, and
+-- A run that was stopped where memory ran out: so many steps were made, at most as many as there were places left, and
 -- after them an actor may have been picked.
 pub record StoppedIn (first w : WorldState) : Type 0 where
   pub made : ℕ

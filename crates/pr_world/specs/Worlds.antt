@@ -1,6 +1,6 @@
 use Rattle.std.specs.Prelude.{◌&&◌, ◌+◌, ◌-◌, ℕ, Bool, true, false, List, [], ◌∷◌, Option, Some, None, is_some, find, length, nat_lt, option_map, if◌then◌else◌}
 use Rattle.std.specs.List.{list_all, range_with_len}
-use Rattle.pr_model.specs.Stops.{or_else}
+use Rattle.std.specs.Option.{option_or}
 use Rattle.pr_model.specs.declared.calls.Call.{Call}
 use Rattle.pr_model.specs.declared.events.Actor.{Actor}
 use Rattle.pr_model.specs.declared.events.Actor.TheVariants.{Controller, Lwp, Clock}
@@ -44,7 +44,7 @@ can_act w Clock = is_clock_awaited w.kernel.clock w.kernel.has_sleeper w.control
 -- ---- rounds
 
 -- In rounds the actors come in the order: controllers by number, lwps by process and lwp id, the clock. Next is the
--- first that can move behind the one that was picked last; where none is left in the round, the first of a new round.
+-- first that can move after the one that was picked last; where none is left in the round, the first of a new round.
 
 -- whether a controller can move
 unfoldable pub controller_acts : WorldState → ℕ → Bool
@@ -67,10 +67,10 @@ clock_if_awaited w = if can_act w Clock then Some Clock else None
 
 -- who moves next in a round from an lwp on, and from a controller on
 unfoldable pub from_lwp : WorldState → Option (ℕ × ℕ) → Option Actor
-from_lwp w after = or_else (first_lwp w after) (clock_if_awaited w)
+from_lwp w after = option_or (first_lwp w after) (clock_if_awaited w)
 
 unfoldable pub from_controller : WorldState → ℕ → Option Actor
-from_controller w k = or_else (first_controller w k) (from_lwp w None)
+from_controller w k = option_or (first_controller w k) (from_lwp w None)
 
 -- who moves next in the round in which an actor was picked, a row a kind
 unfoldable pub next_in_round : WorldState → Option Actor → Option Actor
@@ -81,7 +81,7 @@ next_in_round w (Some Clock) = None
 
 -- who moves next in the rounds
 unfoldable pub next_in_rounds : WorldState → Option Actor
-next_in_rounds w = or_else (next_in_round w w.last) (from_controller w 0)
+next_in_rounds w = option_or (next_in_round w w.last) (from_controller w 0)
 
 -- ---- who moves next
 
@@ -103,7 +103,7 @@ in_rounds a = record { actor = a; schedule = []; last = Some a }
 
 -- The schedule's actors come first, and then the rounds.
 unfoldable pub next_pick : WorldState → Option Pick
-next_pick w = or_else (first_scheduled w w.schedule) (option_map in_rounds (next_in_rounds w))
+next_pick w = option_or (first_scheduled w w.schedule) (option_map in_rounds (next_in_rounds w))
 
 abbrev pub actor_of : Pick → Actor
 actor_of p = p.actor

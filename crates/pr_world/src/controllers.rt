@@ -49,9 +49,8 @@ impl Controller {
     pub fn print(&self, alloc: Global, programs: &[Program]) -> Result<Bytes, NoMemory>
         ensures { IfOk result (λ text. text ≡ printed self.now programs.now) }
     {
-        let _ = programs;
         match self {
-            Controller::Script(_) => Ok(Bytes::from_vec(Vec::new(alloc))),
+            Controller::Script(script) => script.print(alloc, programs),
         }
     }
 }

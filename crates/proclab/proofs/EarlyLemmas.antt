@@ -1,24 +1,24 @@
-use Rattle.std.proofs.Common.{◌≡◌, ◌≤◌, ◌⊎◌, inl, inr, ℕ, true, List, [], Option, Some, None, Result, Ok, Err, refl, sym, ◌∙◌, ap, subst}
+use Rattle.std.proofs.Common.{◌≡◌, ◌≤◌, inl, inr, ℕ, true, List, [], Option, Some, Ok, sym, subst}
 use Rattle.pr_model.specs.declared.events.Entry.{Entry}
-use Rattle.pr_run_laws.specs.Fronts.{IsFront}
-use Rattle.pr_run_laws.specs.ScenarioRuns.{first_world, history_after}
+use Rattle.pr_run_laws.specs.Prefixes.{IsPrefix}
+use Rattle.pr_run_laws.specs.ScenarioRuns.{history_after}
 use Rattle.pr_run_laws.proofs.GrowthLemmas.{run-grows}
 use Rattle.pr_scen.specs.Reading.{scenario_of}
-use Rattle.pr_scen.specs.declared.scenarios.Scenario.{Scenario}
-use Rattle.proclab.specs.Histories.{IsAfterMoves, IsOnTheWay, RanOutEarly}
-use Rattle.proclab.specs.Made.{IsBroughtSoFar, IsWorldsWay, StoppedRun}
+use Rattle.pr_scen.specs.Scenarios.{Scenario}
+use Rattle.proclab.specs.Histories.{IsOnTheWay, RanOutEarly}
+use Rattle.proclab.specs.Made.{IsBroughtSoFar, StoppedRun}
 use Rattle.proclab.proofs.RunLemmas.{first_world-places}
 
--- A run that was stopped for want of memory is on the way of its text.
+-- A run that was stopped since memory ran out is on the way of its text.
 on_the_way : (input : List ℕ) (s : Scenario) (h : List Entry) → scenario_of input ≡ Ok s → IsBroughtSoFar s h → IsOnTheWay (Some input) h
-on_the_way input s h spelt (inl none) = inl none
-on_the_way input s h spelt (inr way) =
+on_the_way input s h read (inl none) = inl none
+on_the_way input s h read (inr way) =
     let within : way.moves ≤ s.turns = subst (λ (n : ℕ). way.moves ≤ n) (first_world-places s) way.within in
-    let front : IsFront h (history_after s.turns s) = subst (λ (x : List Entry). IsFront x (history_after s.turns s)) (sym way.is) (run-grows s way.moves s.turns within) in
-    inr (record { scenario = s; spelt = spelt; moves = way.moves; within = within; is = way.is; front = front })
+    let prefix : IsPrefix h (history_after s.turns s) = subst (λ (x : List Entry). IsPrefix x (history_after s.turns s)) (sym way.is) (run-grows s way.moves s.turns within) in
+    inr (record { scenario = s; read = read; moves = way.moves; within = within; is = way.is; prefix = prefix })
 
 pub stopped-early : (input : List ℕ) (s : Scenario) (h : List Entry) (old new : Option (List ℕ)) → scenario_of input ≡ Ok s → StoppedRun s h old new → RanOutEarly true (Some input) h old new
-stopped-early input s h old new spelt stopped = record { unwritten = stopped.unwritten; left = on_the_way input s h spelt stopped.so_far }
+stopped-early input s h old new read stopped = record { unwritten = stopped.unwritten; left = on_the_way input s h read stopped.so_far }
 
 -- Where nothing was made of it, too.
 pub lost-early : (input : List ℕ) (h : List Entry) (old new : Option (List ℕ)) → h ≡ [] → new ≡ old → RanOutEarly true (Some input) h old new

@@ -1,5 +1,5 @@
 -- How an answer is given, from what came of writing its text.
-use Rattle.std.proofs.Common.{◌≡◌, ◌≢◌, ◌⊎◌, inl, inr, ⊎_elim, ℕ, List, [], Option, Result, Ok, Err, OnOk, OnErr, refl, sym, ◌∙◌, subst}
+use Rattle.std.proofs.Common.{◌≡◌, inl, inr, ⊎_elim, ℕ, List, [], Option, Result, Ok, Err, OnOk, OnErr, refl, sym, ◌∙◌, subst}
 use Rattle.pr_io.specs.Faults.{Rose}
 use Rattle.pr_io.specs.Known.{with_end}
 use Rattle.pr_io.specs.Writing.{AppendsFront}
@@ -10,12 +10,11 @@ use Rattle.pr_output.specs.declared.cuts.Cut.{Cut}
 use Rattle.pr_output.specs.declared.cuts.Cut.TheVariants as cut
 use Rattle.pr_world.specs.declared.ends.End.{End}
 use Rattle.pr_world.specs.declared.ends.End.TheVariants as end
-use Rattle.proclab.specs.Answers.{Answer, end_status, explained}
-use Rattle.proclab.specs.Giving.{IsGiven, IsCutShort, RanOutLate, Responds, status_after}
+use Rattle.proclab.specs.Answers.{Answer, end_status}
+use Rattle.proclab.specs.Giving.{Responds, status_after}
 use Rattle.proclab.specs.Statuses.{IsWhole}
-use Rattle.proclab.specs.Usage.{usage_line}
 use Rattle.proclab.specs.declared.outcomes.Status.{Status}
-use Rattle.proclab.specs.declared.outcomes.Status.TheVariants.{Usage, Refused, ReadFailed, WriteFailed, OutOfMemory}
+use Rattle.proclab.specs.declared.outcomes.Status.TheVariants.{Done, Usage, Refused, WriteFailed, OutOfMemory}
 
 -- the statuses of runs, and of inputs that are refused, tell of no failure
 pub whole-end : (e : End) → IsWhole (end_status e)
@@ -80,19 +79,24 @@ gives-else a b early other status h old new before after same f r = subst (λ (x
   read = r.read;
 })
 
--- The usage line was written, or not.
-pub gives-usage : (w : Result Unit Failed) (status : Status) (h : List Entry) (old new : Option (List ℕ)) (before after : ℕ) → OnOk w (status ≡ Usage) → OnErr w (status ≡ WriteFailed) → h ≡ []
-    → OnOk w (new ≡ with_end old usage_line) → OnErr w (AppendsFront old new usage_line) → OnErr w (Rose before after) → OnOk w (after ≡ before) → Responds explained ⊥ status h old new before after
-unfolding explained
-gives-usage (Ok done) status h old new before after ok err none all front rose same = record {
+pub whole-usage : IsWhole Usage
+whole-usage = record { read = λ is. cc; wrote = λ is. cc; had_memory = λ is. cc }
+
+pub whole-done : IsWhole Done
+whole-done = record { read = λ is. cc; wrote = λ is. cc; had_memory = λ is. cc }
+
+-- A text that takes no memory was written, or not.
+pub gives-said : (w : Result Unit Failed) (answer : Answer) (status : Status) (h : List Entry) (old new : Option (List ℕ)) (before after : ℕ) → IsWhole answer.status → OnOk w (status ≡ answer.status) → OnErr w (status ≡ WriteFailed) → h ≡ answer.history
+    → OnOk w (new ≡ with_end old answer.text) → OnErr w (AppendsFront old new answer.text) → OnErr w (Rose before after) → OnOk w (after ≡ before) → Responds answer ⊥ status h old new before after
+gives-said (Ok done) answer status h old new before after end ok err none all front rose same = record {
   whole = λ a b. record { status_is = ok; history_is = none; written = all };
-  cut = λ s. let no : ⊥ = cc in absurd no;
-  rose = λ s. let no : ⊥ = cc in absurd no;
-  memory = λ s. let no : ⊥ = cc in absurd no;
+  cut = λ s. absurd (end.wrote (sym ok ∙ s));
+  rose = λ s. absurd (end.wrote (sym ok ∙ s));
+  memory = λ s. absurd (end.had_memory (sym ok ∙ s));
   no_fault = λ s. same;
-  read = λ s. cc;
+  read = λ s. end.read (sym ok ∙ s);
 }
-gives-usage (Err failed) status h old new before after ok err none all front rose same = record {
+gives-said (Err failed) answer status h old new before after end ok err none all front rose same = record {
   whole = λ a b. absurd (a err);
   cut = λ s. record { history_is = none; written = front };
   rose = λ s. rose;

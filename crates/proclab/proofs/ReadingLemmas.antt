@@ -1,5 +1,5 @@
 -- How a command that reads an input ends.
-use Rattle.std.proofs.Common.{◌≡◌, ◌≢◌, ◌≤◌, ◌<◌, ◌+◌, ◌⊎◌, inl, inr, ⊎_elim, ℕ, Bool, true, false, List, [], ◌++◌, Option, Some, None, is_some, Result, Ok, Err, length, nat_le, cond, IfOk, IfSome, refl, sym, ◌∙◌, ap, subst, arith, length-append}
+use Rattle.std.proofs.Common.{◌≡◌, ◌≢◌, ◌≤◌, ◌<◌, inl, inr, ℕ, Bool, true, false, List, [], ◌++◌, Option, Some, None, length, nat_le, cond, IfSome, refl, sym, ◌∙◌, ap, subst, arith, length-append}
 use Rattle.std.proofs.lemmas.Bool.Decides.{nat_tests}
 use Rattle.std.proofs.lemmas.Option.{same_Some}
 use Rattle.pr_io.specs.Faults.{Rose}
@@ -8,13 +8,12 @@ use Rattle.pr_model.specs.declared.events.Entry.{Entry}
 use Rattle.proclab.specs.Answers.{Answer}
 use Rattle.proclab.specs.Giving.{IsGiven, Responds}
 use Rattle.proclab.specs.Histories.{RanOutEarly}
-use Rattle.proclab.specs.Inputs.{Took, TookAll, taken_of}
-use Rattle.proclab.specs.Rows.{Ends, Reads, LeftNothing}
-use Rattle.proclab.specs.Statuses.{IsWhole}
+use Rattle.proclab.specs.Inputs.{Took, taken_of}
+use Rattle.proclab.specs.Rows.{Ends, Reads}
 use Rattle.proclab.specs.declared.inputs.Unread.{Unread}
 use Rattle.proclab.specs.declared.inputs.Unread.TheVariants as unread
 use Rattle.proclab.specs.declared.outcomes.Status.{Status}
-use Rattle.proclab.specs.declared.outcomes.Status.TheVariants.{ReadFailed, WriteFailed, OutOfMemory}
+use Rattle.proclab.specs.declared.outcomes.Status.TheVariants.{ReadFailed, OutOfMemory}
 
 -- ---- the answer is a function of the input
 

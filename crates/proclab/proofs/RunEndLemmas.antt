@@ -1,44 +1,45 @@
 -- What is kept of a run, and how its status is caused.
-use Rattle.std.proofs.Common.{◌≡◌, ◌≢◌, ◌⊎◌, inl, inr, ⊎_elim, ℕ, Bool, true, false, List, [], Option, Some, None, is_some, Result, Ok, Err, IfOk, IfSome, refl, sym, ◌∙◌, ap, subst, arith}
+use Rattle.std.proofs.Common.{◌≡◌, ◌⊎◌, inl, inr, ⊎_elim, ℕ, Bool, true, false, List, [], Option, Some, None, is_some, Result, Ok, Err, IfOk, IfSome, refl, sym, ◌∙◌, ap, subst, arith}
 use Rattle.std.proofs.lemmas.List.{append-nil}
 use Rattle.pr_api.specs.MachineLaws.{machine-lawful}
 use Rattle.pr_api.specs.Views.{IsLawful}
 use Rattle.pr_model.specs.declared.events.Actor.{Actor}
 use Rattle.pr_model.specs.declared.events.Entry.{Entry}
-use Rattle.pr_run_laws.specs.Fronts.{IsFront}
+use Rattle.pr_run_laws.specs.Prefixes.{IsPrefix}
 use Rattle.pr_run_laws.specs.ScenarioRuns.{IsKept, first_world, run_of}
 use Rattle.pr_run_laws.proofs.KeptLemmas.{first-fresh, first-told, run-kept}
 use Rattle.pr_scen.specs.Reading.{scenario_of}
 use Rattle.pr_scen.specs.declared.refusals.ScenFault.{ScenFault}
-use Rattle.pr_scen.specs.declared.scenarios.Scenario.{Scenario}
+use Rattle.pr_scen.specs.Scenarios.{Scenario}
 use Rattle.pr_world.specs.Runs.{IsFresh, IsTold, after_moves}
 use Rattle.pr_world.specs.Worlds.{WorldState, all_finished, end_of, end_with, next_actor, quiet_end}
 use Rattle.pr_world.proofs.RestLemmas.{all-rest, next-acts}
 use Rattle.pr_world.proofs.RunLemmas.{moves-counted, moves-told}
-use Rattle.proclab.specs.Answers.{Answer, answer_of, answer_to, end_status, input_limit, ran, ran_so, refused_at}
+use Rattle.proclab.specs.Answers.{answer_of, answer_to, end_status, input_limit, ran, ran_so, refused_at}
 use Rattle.proclab.specs.Ends.{EndsAs}
 use Rattle.proclab.specs.Giving.{IsGiven, RanOutLate}
 use Rattle.proclab.specs.Histories.{HistoryIsKept, IsAfterMoves, RanOutEarly}
 use Rattle.proclab.specs.Inputs.{Took, TookAll, taken_of}
-use Rattle.proclab.specs.Rows.{Ends, Reads, LeftNothing, RanOutAfter, Says}
+use Rattle.proclab.specs.Rows.{Ends, Reads, LeftNothing, RanOutAfter}
 use Rattle.proclab.specs.Statuses.{IsWhole}
+use Rattle.proclab.specs.declared.commands.Showing.{Showing}
 use Rattle.proclab.specs.declared.outcomes.Status.{Status}
 use Rattle.proclab.specs.declared.outcomes.Status.TheVariants.{Done, Usage, Refused, Spent, Stuck, ReadFailed, WriteFailed, OutOfMemory}
 
 -- ---- the history is kept
 
-of_scenario : (quiet : Bool) (old new : Option (List ℕ)) (input : List ℕ) (s : Result Scenario ScenFault) → scenario_of input ≡ s → TookAll input_limit old new input → (h : List Entry) → h ≡ (answer_of quiet s).history → HistoryIsKept old new h
+of_scenario : (showing : Showing) (old new : Option (List ℕ)) (input : List ℕ) (s : Result Scenario ScenFault) → scenario_of input ≡ s → TookAll input_limit old new input → (h : List Entry) → h ≡ (answer_of showing s).history → HistoryIsKept old new h
 unfolding answer_of refused_at ran ran_so
-of_scenario quiet old new input (Err fault) spelt took h is = inl is
-of_scenario quiet old new input (Ok s) spelt took h is =
-    let front : IsFront h (run_of s).kernel.history = record { more = []; is = sym is ∙ sym (append-nil h) } in
-    let run : IsAfterMoves input h = record { scenario = s; spelt = spelt; moves = s.turns; within = omega arith; is = is; front = front } in
+of_scenario showing old new input (Err fault) read took h is = inl is
+of_scenario showing old new input (Ok s) read took h is =
+    let prefix : IsPrefix h (run_of s).kernel.history = record { more = []; is = sym is ∙ sym (append-nil h) } in
+    let run : IsAfterMoves input h = record { scenario = s; read = read; moves = s.turns; within = omega arith; is = is; prefix = prefix } in
     inr (record { input = input; took = took; run = run; kept = subst (λ (x : List Entry). IsKept s x) (sym is) (run-kept s s.turns) })
 
-of_answer : (quiet : Bool) (old new : Option (List ℕ)) (input : Option (List ℕ)) (h : List Entry) → Took input_limit old new input → h ≡ (answer_to quiet input).history → HistoryIsKept old new h
+of_answer : (showing : Showing) (old new : Option (List ℕ)) (input : Option (List ℕ)) (h : List Entry) → Took input_limit old new input → h ≡ (answer_to showing input).history → HistoryIsKept old new h
 unfolding answer_to refused_at
-of_answer quiet old new None h took is = inl is
-of_answer quiet old new (Some input) h took is = of_scenario quiet old new input (scenario_of input) refl took h is
+of_answer showing old new None h took is = inl is
+of_answer showing old new (Some input) h took is = of_scenario showing old new input (scenario_of input) refl took h is
 
 of_way : (old new : Option (List ℕ)) (input : List ℕ) (h : List Entry) → TookAll input_limit old new input → (h ≡ []) ⊎ IsAfterMoves input h → HistoryIsKept old new h
 of_way old new input h took (inl none) = inl none
@@ -49,12 +50,12 @@ of_early : (old new : Option (List ℕ)) (input : Option (List ℕ)) (h : List E
 of_early old new None h w v took early = inl early.left
 of_early old new (Some input) h w v took early = of_way old new input h took early.left
 
-of_memory : (quiet : Bool) (old new : Ends) (h : List Entry) → LeftNothing old new h ⊎ RanOutAfter input_limit (answer_to quiet) true old new h → HistoryIsKept old.left new.left h
-of_memory quiet old new h (inl nothing) = inl nothing.no_history
-of_memory quiet old new h (inr after) =
+of_memory : (showing : Showing) (old new : Ends) (h : List Entry) → LeftNothing old new h ⊎ RanOutAfter input_limit (answer_to showing) true old new h → HistoryIsKept old.left new.left h
+of_memory showing old new h (inl nothing) = inl nothing.no_history
+of_memory showing old new h (inr after) =
     ⊎_elim
     (λ (early : RanOutEarly true after.input h old.written new.written). of_early old.left new.left after.input h old.written new.written after.took early)
-    (λ (late : RanOutLate (answer_to quiet after.input) h old.written new.written). of_answer quiet old.left new.left after.input h after.took late.history_is)
+    (λ (late : RanOutLate (answer_to showing after.input) h old.written new.written). of_answer showing old.left new.left after.input h after.took late.history_is)
     after.ran_out
 
 -- Nothing failed, or one thing did.
@@ -69,14 +70,14 @@ status_cases WriteFailed = inr (inr (inl refl))
 status_cases OutOfMemory = inr (inr (inr refl))
 
 -- Whatever the status is, the history is kept.
-pub history-kept : (quiet : Bool) (old new : Ends) (status : Status) (h : List Entry) → Reads input_limit (answer_to quiet) true old new status h → HistoryIsKept old.left new.left h
-history-kept quiet old new status h r = by (status_cases status)
+pub history-kept : (showing : Showing) (old new : Ends) (status : Status) (h : List Entry) → Reads input_limit (answer_to showing) true old new status h → HistoryIsKept old.left new.left h
+history-kept showing old new status h r = by (status_cases status)
   where
     by : IsWhole status ⊎ ((status ≡ ReadFailed) ⊎ ((status ≡ WriteFailed) ⊎ (status ≡ OutOfMemory))) → HistoryIsKept old.left new.left h
-    by (inl s) = let a = r.answered s in of_answer quiet old.left new.left a.input h a.took a.given.history_is
+    by (inl s) = let a = r.answered s in of_answer showing old.left new.left a.input h a.took a.given.history_is
     by (inr (inl s)) = inl (r.unread s).no_history
-    by (inr (inr (inl s))) = let c = r.cut s in of_answer quiet old.left new.left c.input h c.took c.cut.history_is
-    by (inr (inr (inr s))) = of_memory quiet old new h (r.memory s)
+    by (inr (inr (inl s))) = let c = r.cut s in of_answer showing old.left new.left c.input h c.took c.cut.history_is
+    by (inr (inr (inr s))) = of_memory showing old new h (r.memory s)
 
 -- ---- a scenario is run
 
@@ -97,21 +98,21 @@ run_ended : (s : Scenario) → EndsAs s.turns (run_of s) (end_status (end_of (ru
 unfolding end_of
 run_ended s = ended (first_world s) s.turns (first-told s) (first-fresh s) (next_actor (run_of s)) refl
 
-run_given : (quiet : Bool) (s : Result Scenario ScenFault) (status : Status) → (IsWhole status → status ≡ (answer_of quiet s).status) → IfOk s (λ scenario. IsWhole status → EndsAs scenario.turns (run_of scenario) status)
+run_given : (showing : Showing) (s : Result Scenario ScenFault) (status : Status) → (IsWhole status → status ≡ (answer_of showing s).status) → IfOk s (λ scenario. IsWhole status → EndsAs scenario.turns (run_of scenario) status)
 unfolding answer_of ran ran_so
-run_given quiet (Err fault) status is = tt
-run_given quiet (Ok s) status is = λ whole. subst (EndsAs s.turns (run_of s)) (sym (is whole)) (run_ended s)
+run_given showing (Err fault) status is = tt
+run_given showing (Ok s) status is = λ whole. subst (EndsAs s.turns (run_of s)) (sym (is whole)) (run_ended s)
 
-run_taken : (quiet : Bool) (input : Option (List ℕ)) (status : Status) → (IsWhole status → status ≡ (answer_to quiet input).status) → IfSome input (λ text. IfOk (scenario_of text) (λ scenario. IsWhole status → EndsAs scenario.turns (run_of scenario) status))
+run_taken : (showing : Showing) (input : Option (List ℕ)) (status : Status) → (IsWhole status → status ≡ (answer_to showing input).status) → IfSome input (λ text. IfOk (scenario_of text) (λ scenario. IsWhole status → EndsAs scenario.turns (run_of scenario) status))
 unfolding answer_to
-run_taken quiet None status is = tt
-run_taken quiet (Some text) status is = run_given quiet (scenario_of text) status is
+run_taken showing None status is = tt
+run_taken showing (Some text) status is = run_given showing (scenario_of text) status is
 
-runs-told : (quiet : Bool) (left : Option (List ℕ)) (status : Status) (h : List Entry) (w v : Option (List ℕ)) → (IsWhole status → IfSome left (λ input. IsGiven (answer_to quiet (taken_of input_limit input)) status h w v))
+runs-told : (showing : Showing) (left : Option (List ℕ)) (status : Status) (h : List Entry) (w v : Option (List ℕ)) → (IsWhole status → IfSome left (λ input. IsGiven (answer_to showing (taken_of input_limit input)) status h w v))
     → IfSome left (λ input. IfSome (taken_of input_limit input) (λ text. IfOk (scenario_of text) (λ scenario. IsWhole status → EndsAs scenario.turns (run_of scenario) status)))
-runs-told quiet None status h w v answers = tt
-runs-told quiet (Some left) status h w v answers = run_taken quiet (taken_of input_limit left) status (λ whole. let given = answers whole in given.status_is)
+runs-told showing None status h w v answers = tt
+runs-told showing (Some left) status h w v answers = run_taken showing (taken_of input_limit left) status (λ whole. let given = answers whole in given.status_is)
 
-pub runs-scenario : (quiet : Bool) (old new : Ends) (status : Status) (h : List Entry) → Reads input_limit (answer_to quiet) true old new status h
+pub runs-scenario : (showing : Showing) (old new : Ends) (status : Status) (h : List Entry) → Reads input_limit (answer_to showing) true old new status h
     → IfSome old.left (λ input. IfSome (taken_of input_limit input) (λ text. IfOk (scenario_of text) (λ scenario. IsWhole status → EndsAs scenario.turns (run_of scenario) status)))
-runs-scenario quiet old new status h r = runs-told quiet old.left status h old.written new.written r.answers
+runs-scenario showing old new status h r = runs-told showing old.left status h old.written new.written r.answers

@@ -1,16 +1,26 @@
 -- The run of a scenario: its first world, and what the driver says of the last.
-use Rattle.std.proofs.Common.{◌≡◌, ◌<◌, ◌≤◌, ◌+◌, ◌-◌, ◌^◌, ℕ, Bool, true, false, List, [], ◌∷◌, Option, Some, None, Result, Ok, Err, IfOk, OnOk, OnErr, length, map, refl, sym, ◌∙◌, ap, subst, arith, ⊎_elim}
+use Rattle.std.proofs.Common.{◌≡◌, ◌<◌, ◌≤◌, ◌+◌, ◌-◌, ◌^◌, ℕ, Bool, true, false, List, [], ◌∷◌, Option, Some, None, Result, Ok, Err, IfOk, OnOk, OnErr, length, map, refl, sym, ◌∙◌, ap, subst, arith, length-append}
+use Rattle.std.specs.List.{flat_map, slice_get, sum_by}
+use Rattle.std.proofs.lemmas.List.Sums.{sum_by-cons}
 use Rattle.pr_api.specs.Views.{KernelView, kernel_of}
 use Rattle.pr_kern.specs.Kernels.{Kernel}
+use Rattle.pr_kern.specs.Starts.{stored, stored_file}
+use Rattle.pr_model.specs.FirstState.{first_state}
 use Rattle.pr_model.specs.State.{TracedState}
 use Rattle.pr_model.specs.declared.events.Actor.{Actor}
 use Rattle.pr_model.specs.declared.events.Entry.{Entry}
+use Rattle.pr_num.specs.Limits.{all_mappings_limit, process_limit}
+use Rattle.pr_num.specs.Programs.{Program}
 use Rattle.pr_num.specs.declared.memory.NoMemory.{NoMemory}
+use Rattle.pr_parts.specs.FileTables.{names_differ}
+use Rattle.pr_lawful.specs.Starts.{size_at_start}
 use Rattle.pr_run.specs.OneRuns.{end_of_run}
-use Rattle.pr_run_laws.specs.ScenarioRuns.{controllers_of, first_state_of, first_world, run_of}
+use Rattle.pr_run_laws.specs.ScenarioRuns.{controller_in, controllers_of, first_state_of, first_world, run_of}
 use Rattle.pr_run_laws.proofs.KeptLemmas.{first-fresh, first-told}
-use Rattle.pr_scen.specs.Scenarios.{IsWithinLimits}
-use Rattle.pr_scen.specs.declared.scenarios.Scenario.{Scenario}
+use Rattle.pr_scen.specs.Scenarios as plain
+use Rattle.pr_scen.specs.Scenarios.{IsWithinLimits, Scenario, space_size}
+use Rattle.pr_scen.specs.declared.plans.Plan.{Plan}
+use Rattle.pr_scen.specs.declared.plans.Plan.TheVariants as plan
 use Rattle.pr_world.proofs.RunLemmas.{run-function, run-longer, run-places}
 use Rattle.pr_world.specs.Runs.{IsFresh, IsTold, StoppedIn, after_moves}
 use Rattle.pr_world.specs.Worlds.{WorldOf, WorldState, end_of, ended_as, goes_on, seen}
@@ -22,23 +32,69 @@ pub first_world-places : (s : Scenario) → (first_world s).kernel.places ≡ s.
 unfolding first_world kernel_of
 first_world-places s = refl
 
--- A scenario within its limits spawns a process at most, and has one script at most.
-pub spawns-few : (s : Scenario) → IsWithinLimits s → length s.spawns + 1 < 2 ^ 32
-spawns-few s limits = ⊎_elim (λ none. let few = ap length none in omega arith) (λ one. let few = ap length one.0 in omega arith) limits.spawns
+-- ---- spawns: a scenario within its limits has room for what it spawns
+
+pub spawns-few : (s : Scenario) → IsWithinLimits s → length s.spawns + 1 ≤ process_limit
+spawns-few s limits = omega (arith, limits.spawns)
+
+size-same : (o : Option Program) → plain.size_of o ≡ size_at_start o
+unfolding space_size
+size-same None = refl
+size-same (Some program) = refl
+
+mapped-same : (programs : List Program) (spawns : List ℕ) → plain.mapped_by programs spawns ≡ sum_by (λ place. size_at_start (slice_get programs place)) spawns
+mapped-same programs [] = refl
+mapped-same programs (place ∷ spawns) =
+    omega (arith, sum_by-cons (λ at. plain.size_of (slice_get programs at)) place spawns, sum_by-cons (λ at. size_at_start (slice_get programs at)) place spawns, size-same (slice_get programs place), mapped-same programs spawns)
+
+pub spawns-map : (s : Scenario) → IsWithinLimits s → sum_by (λ place. size_at_start (slice_get s.programs place)) s.spawns ≤ all_mappings_limit
+spawns-map s limits = omega (arith, limits.mapped, mapped-same s.programs s.spawns)
+
+-- ---- files: the kernel takes them as the scenario has them
+
+stored-same : (files : List (List ℕ × List ℕ)) → stored files ≡ map plain.stored_file files
+unfolding stored_file
+stored-same files = refl
+
+pub own-names : (s : Scenario) → IsWithinLimits s → names_differ (stored s.files) ≡ true
+own-names s limits = ap names_differ (stored-same s.files) ∙ limits.own_names
+
+-- ---- controllers: one of a plan at most
+
+at_most_one : (p : Plan) → length (controller_in p) ≤ 1
+at_most_one (plan.Script script) = omega arith
+at_most_one (plan.Truss options) = omega arith
+at_most_one (plan.Tool kind pid) = omega arith
+
+pub controllers-few : (plans : List Plan) → length (flat_map controller_in plans) ≤ length plans
+controllers-few [] = omega arith
+controllers-few (p ∷ plans) =
+    omega (arith, length-append (controller_in p) (flat_map controller_in plans), at_most_one p, controllers-few plans)
+
+-- ---- the first world
 
 -- A world that is made of the parts of a scenario's first world is seen as that.
 made : TracedState → List Entry → ℕ → List Core → List Actor → Option Actor → WorldState
 made s h n controllers schedule last = record { kernel = kernel_of s h n; controllers = controllers; schedule = schedule; last = last }
 
-pub first-seen : (s : Scenario) (w : WorldOf Kernel) → w.kernel.state ≡ first_state_of s → w.kernel.history ≡ [] → w.kernel.places ≡ s.turns → w.controllers ≡ controllers_of s → w.schedule ≡ [] → w.last ≡ None → seen kern_view w ≡ first_world s
+pub first-seen : (s : Scenario) (w : WorldOf Kernel) → w.kernel.state ≡ first_state s.programs (stored s.files) s.spawns → w.kernel.history ≡ [] → w.kernel.places ≡ s.turns → w.controllers ≡ controllers_of s → w.schedule ≡ s.schedule → w.last ≡ None → seen kern_view w ≡ first_world s
 unfolding first_world made
 first-seen s w state history places controllers schedule last =
-    ap (λ x. made x w.kernel.history w.kernel.places w.controllers w.schedule w.last) state
+    ap (λ x. made x w.kernel.history w.kernel.places w.controllers w.schedule w.last) (state ∙ ap (λ x. first_state s.programs x s.spawns) (stored-same s.files))
     ∙ ap (λ x. made (first_state_of s) x w.kernel.places w.controllers w.schedule w.last) history
     ∙ ap (λ x. made (first_state_of s) [] x w.controllers w.schedule w.last) places
     ∙ ap (λ x. made (first_state_of s) [] s.turns x w.schedule w.last) controllers
     ∙ ap (λ x. made (first_state_of s) [] s.turns (controllers_of s) x w.last) schedule
-    ∙ ap (λ x. made (first_state_of s) [] s.turns (controllers_of s) [] x) last
+    ∙ ap (λ x. made (first_state_of s) [] s.turns (controllers_of s) s.schedule x) last
+
+-- The world that is made of a kernel and the parts of a scenario is its first world.
+pub first-made : (r : Result (WorldOf Kernel) NoMemory) (s : Scenario) (k : Kernel) (controllers : List Core) (schedule : List Actor) → k.state ≡ first_state s.programs (stored s.files) s.spawns → k.history ≡ [] → k.places ≡ s.turns → controllers ≡ controllers_of s → schedule ≡ s.schedule
+    → IfOk r (λ world. world ≡ record { kernel = k; controllers = controllers; schedule = schedule; last = None }) → IfOk r (λ world. seen kern_view world ≡ first_world s)
+first-made (Ok w) s k controllers schedule state history places all acts is =
+    first-seen s w
+    (ap (λ (x : WorldOf Kernel). x.kernel.state) is ∙ state) (ap (λ (x : WorldOf Kernel). x.kernel.history) is ∙ history) (ap (λ (x : WorldOf Kernel). x.kernel.places) is ∙ places)
+    (ap (λ (x : WorldOf Kernel). x.controllers) is ∙ all) (ap (λ (x : WorldOf Kernel). x.schedule) is ∙ acts) (ap (λ (x : WorldOf Kernel). x.last) is)
+first-made (Err e) s k controllers schedule state history places all acts is = tt
 
 pub seen-told : (s : Scenario) (w : WorldState) → w ≡ first_world s → IsTold w
 seen-told s w is = subst IsTold (sym is) (first-told s)
@@ -85,4 +141,4 @@ run-stopped (Err e) first w told s within =
       is = history ∙ ap (λ (x : WorldState). x.kernel.history) (run-function s.made first s.world told s.runs);
     }
 
-pub ruleset runs = (first_world-places, spawns-few)
+pub ruleset runs = (first_world-places, spawns-few, spawns-map, own-names, controllers-few)

@@ -1,17 +1,21 @@
-use Rattle.std.specs.Prelude.{ℕ, Bool, List, [], Option, Some, None, Result, Ok, Err, codes}
+use Rattle.std.specs.Prelude.{ℕ, true, false, List, [], Option, Some, None, Result, Ok, Err, codes}
+use Rattle.pr_model.specs.UntracedSteps.{untraced_steps, untraced_trace}
 use Rattle.pr_model.specs.declared.events.Entry.{Entry}
-use Rattle.pr_output.specs.Output.{run_text, refusal_text}
+use Rattle.pr_output.specs.Output.{plain_run_text, refusal_text, run_text}
+use Rattle.pr_plain.specs.Generated.{generated_text}
 use Rattle.pr_run_laws.specs.ScenarioRuns.{run_of}
 use Rattle.pr_scen.specs.Reading.{scenario_of}
 use Rattle.pr_scen.specs.declared.refusals.ScenFault.{ScenFault}
 use Rattle.pr_scen.specs.declared.refusals.ScenKind.{ScenKind}
-use Rattle.pr_scen.specs.declared.refusals.ScenKind.TheVariants.{NotBuilt}
-use Rattle.pr_scen.specs.declared.scenarios.Scenario.{Scenario}
+use Rattle.pr_scen.specs.declared.refusals.ScenKind.TheVariants as kind
+use Rattle.pr_scen.specs.Scenarios.{Scenario}
 use Rattle.pr_world.specs.Worlds.{WorldState, end_of}
 use Rattle.pr_world.specs.declared.ends.End.{End}
 use Rattle.pr_world.specs.declared.ends.End.TheVariants as end
 use Rattle.proclab.specs.Statuses.{number}
 use Rattle.proclab.specs.Usage.{usage_line}
+use Rattle.proclab.specs.declared.commands.Showing.{Showing}
+use Rattle.proclab.specs.declared.commands.Showing.TheVariants.{Whole, Quiet, Stripped}
 use Rattle.proclab.specs.declared.outcomes.Status.{Status}
 use Rattle.proclab.specs.declared.outcomes.Status.TheVariants.{Done, Usage, Refused, Spent, Stuck}
 
@@ -29,7 +33,16 @@ input_limit = 1048576
 
 -- kinds of refusals by name
 unfoldable pub kind_name : ScenKind → List ℕ
-kind_name NotBuilt = codes "NotBuilt"
+kind_name kind.TooLong = codes "TooLong"
+kind_name kind.NotAscii = codes "NotAscii"
+kind_name kind.UnknownWord = codes "UnknownWord"
+kind_name kind.BadOperand = codes "BadOperand"
+kind_name kind.UnknownName = codes "UnknownName"
+kind_name kind.Double = codes "Double"
+kind_name kind.TooMany = codes "TooMany"
+kind_name kind.TooBig = codes "TooBig"
+kind_name kind.NoEnd = codes "NoEnd"
+kind_name kind.NotBuilt = codes "NotBuilt"
 
 abbrev pub too_long : List ℕ
 too_long = codes "TooLong"
@@ -45,27 +58,40 @@ end_status end.Quiet = Done
 end_status end.Spent = Spent
 end_status end.Stuck = Stuck
 
--- ---- the command `run`
+-- ---- the commands `run` and `plain`
 
--- a run that ended so with this history, which is left out where the run is quiet
-unfoldable pub ran_so : Bool → End → List Entry → Answer
-ran_so quiet end history = record {
+-- what is written of a run with this history that ended with this status: the history, or not, and the status; or the
+-- untraced steps of the history, its trace, and the status
+unfoldable pub run_shown : Showing → List Entry → ℕ → List ℕ
+run_shown Whole history status = run_text false history status
+run_shown Quiet history status = run_text true history status
+run_shown Stripped history status = plain_run_text (untraced_steps history) (untraced_trace history) status
+
+-- a run that ended so with this history
+unfoldable pub ran_so : Showing → End → List Entry → Answer
+ran_so showing end history = record {
   status = end_status end;
   history = history;
-  text = run_text quiet history (number (end_status end));
+  text = run_shown showing history (number (end_status end));
 }
 
-unfoldable pub ran : Bool → WorldState → Answer
-ran quiet w = ran_so quiet (end_of w) w.kernel.history
+unfoldable pub ran : Showing → WorldState → Answer
+ran showing w = ran_so showing (end_of w) w.kernel.history
 
-unfoldable pub answer_of : Bool → Result Scenario ScenFault → Answer
-answer_of quiet (Err fault) = refused_at fault.line (kind_name fault.kind)
-answer_of quiet (Ok s) = ran quiet (run_of s)
+unfoldable pub answer_of : Showing → Result Scenario ScenFault → Answer
+answer_of showing (Err fault) = refused_at fault.line (kind_name fault.kind)
+answer_of showing (Ok s) = ran showing (run_of s)
 
 -- the answer to an input; none: it had more bytes than it may have
-unfoldable pub answer_to : Bool → Option (List ℕ) → Answer
-answer_to quiet None = refused_at 0 too_long
-answer_to quiet (Some input) = answer_of quiet (scenario_of input)
+unfoldable pub answer_to : Showing → Option (List ℕ) → Answer
+answer_to showing None = refused_at 0 too_long
+answer_to showing (Some input) = answer_of showing (scenario_of input)
+
+-- ---- the command `gen`
+
+-- the scenario for so many children is written
+unfoldable pub generated : ℕ → Answer
+generated children = record { status = Done; history = []; text = generated_text children }
 
 -- ---- other words
 

@@ -1,4 +1,6 @@
 use Rattle.std.specs.Prelude.{◌≡◌, ◌≢◌, ◌⊎◌, ℕ, List, Option, Result, Ok, Err}
+use Rattle.std.specs.Borrow.{Bor}
+use Rattle.std.specs.List.{flat_map}
 use Rattle.pr_io.specs.Faults.{Rose}
 use Rattle.pr_io.specs.Known.{with_end}
 use Rattle.pr_io.specs.Writing.{AppendsFront}
@@ -12,6 +14,10 @@ use Rattle.proclab.specs.declared.outcomes.Status.TheVariants.{ReadFailed, Write
 
 -- What becomes of an answer. The bytes that were written, and the count of faults of the sink, are known before and
 -- after.
+
+-- the text of pieces that stand one after another
+abbrev pub text_of : List (Bor (List ℕ)) → List ℕ
+text_of pieces = flat_map (λ piece. piece.now) pieces
 
 -- An answer was given whole: its status and history, and its text was written.
 pub record IsGiven (answer : Answer) (status : Status) (history : List Entry) (old new : Option (List ℕ)) : Type 0 where

@@ -1,9 +1,9 @@
 use Rattle.std.specs.Prelude.{◌≡◌, ◌≤◌, ◌⊎◌, ℕ, Bool, true, false, List, [], Option, Some, None, Ok}
 use Rattle.pr_model.specs.declared.events.Entry.{Entry}
-use Rattle.pr_run_laws.specs.Fronts.{IsFront}
+use Rattle.pr_run_laws.specs.Prefixes.{IsPrefix}
 use Rattle.pr_run_laws.specs.ScenarioRuns.{IsKept, history_after, run_of}
 use Rattle.pr_scen.specs.Reading.{scenario_of}
-use Rattle.pr_scen.specs.declared.scenarios.Scenario.{Scenario}
+use Rattle.pr_scen.specs.Scenarios.{Scenario}
 use Rattle.proclab.specs.Answers.{input_limit}
 use Rattle.proclab.specs.Inputs.{TookAll}
 
@@ -13,11 +13,11 @@ use Rattle.proclab.specs.Inputs.{TookAll}
 -- run.
 pub record IsAfterMoves (input : List ℕ) (history : List Entry) : Type 0 where
   pub scenario : Scenario
-  pub spelt : scenario_of input ≡ Ok scenario
+  pub read : scenario_of input ≡ Ok scenario
   pub moves : ℕ
   pub within : moves ≤ scenario.turns
   pub is : history ≡ history_after moves scenario
-  pub front : IsFront history (run_of scenario).kernel.history
+  pub prefix : IsPrefix history (run_of scenario).kernel.history
 
 abbrev pub IsOnTheWay : Option (List ℕ) → List Entry → Type 0
 IsOnTheWay None history = history ≡ []

@@ -1,7 +1,7 @@
 use Rattle.std.specs.Prelude.{◌≡◌, ◌≤◌, ◌⊎◌, ℕ, List, [], Option}
 use Rattle.pr_model.specs.declared.events.Entry.{Entry}
 use Rattle.pr_run_laws.specs.ScenarioRuns.{first_world}
-use Rattle.pr_scen.specs.declared.scenarios.Scenario.{Scenario}
+use Rattle.pr_scen.specs.Scenarios.{Scenario}
 use Rattle.pr_api.specs.Views.{KernelView, kernel_of}
 use Rattle.pr_kern.specs.Kernels.{Kernel}
 use Rattle.pr_world.specs.Runs.{after_moves}

@@ -1,16 +1,16 @@
-use Rattle.std.specs.Prelude.{◌≡◌, ◌≢◌, ◌⊎◌, ℕ, Bool, true, List, [], Option, IfSome, IfOk}
+use Rattle.std.specs.Prelude.{◌≡◌, ◌≢◌, ◌⊎◌, ℕ, Bool, true, false, List, [], Option, IfSome, IfOk}
 use Rattle.pr_io.specs.Faults.{Rose}
 use Rattle.pr_model.specs.declared.events.Entry.{Entry}
 use Rattle.pr_run_laws.specs.ScenarioRuns.{run_of}
 use Rattle.pr_scen.specs.Reading.{scenario_of}
-use Rattle.proclab.specs.Answers.{Answer, answer_to, explained, input_limit}
+use Rattle.proclab.specs.Answers.{Answer, answer_to, explained, generated, input_limit}
 use Rattle.proclab.specs.Ends.{EndsAs}
 use Rattle.proclab.specs.Giving.{IsGiven, IsCutShort, RanOutLate, Responds}
 use Rattle.proclab.specs.Histories.{RanOutEarly}
 use Rattle.proclab.specs.Inputs.{Took, taken_of}
 use Rattle.proclab.specs.Statuses.{IsWhole, number}
 use Rattle.proclab.specs.declared.commands.Work.{Work}
-use Rattle.proclab.specs.declared.commands.Work.TheVariants.{Explains, Runs}
+use Rattle.proclab.specs.declared.commands.Work.TheVariants.{Explains, Generates, Runs}
 use Rattle.proclab.specs.declared.outcomes.Status.{Status}
 use Rattle.proclab.specs.declared.outcomes.Status.TheVariants.{ReadFailed, WriteFailed, OutOfMemory}
 
@@ -24,7 +24,14 @@ pub data Row : Type 0 where
 
 unfoldable pub row_of : Work → Row
 row_of Explains = says explained
-row_of (Runs quiet) = reads input_limit (answer_to quiet) true
+row_of (Generates children) = says (generated children)
+row_of (Runs showing) = reads input_limit (answer_to showing) true
+
+-- whether a piece of work leaves the source alone
+abbrev pub reads_nothing : Work → Bool
+reads_nothing Explains = true
+reads_nothing (Generates children) = true
+reads_nothing (Runs showing) = false
 
 -- What the source and the sink tell at one moment: the bytes that are left and those that were written, where they are
 -- told, and the faults.
@@ -70,8 +77,9 @@ pub record RanOutAfter (limit : ℕ) (answer : Option (List ℕ) → Answer) (ru
 
 -- How it ends. Where nothing failed, the answer to what was read was given; and where the bytes that were left are
 -- known, status, history and text are a function of them. A read failed: nothing was written, and there is no history.
--- A write failed: the history is that of the answer, and a prefix of its text was written. Memory ran out in the reading,
--- or after it. Only a read that failed raises the count of the source, and only a write that failed that of the sink.
+-- A write failed: the history is that of the answer, and a prefix of its text was written. Memory ran out in the
+-- reading, or after it. Only a read that failed raises the count of the source, and only a write that failed that of
+-- the sink.
 pub record Reads (limit : ℕ) (answer : Option (List ℕ) → Answer) (runs : Bool) (old new : Ends) (status : Status) (history : List Entry) : Type 0 where
   pub answered : IsWhole status → Answered limit answer old new status history
   pub answers : IsWhole status → IfSome old.left (λ left. IsGiven (answer (taken_of limit left)) status history old.written new.written)
@@ -94,7 +102,8 @@ EndsBy (reads limit answer runs) old new status history = Reads limit answer run
 -- run, the status says how it ended.
 abbrev pub RunsScenario : Work → Option (List ℕ) → Status → Type 0
 RunsScenario Explains left status = Unit {0}
-RunsScenario (Runs quiet) left status =
+RunsScenario (Generates children) left status = Unit {0}
+RunsScenario (Runs showing) left status =
     IfSome left (λ input. IfSome (taken_of input_limit input) (λ text. IfOk (scenario_of text) (λ scenario. IsWhole status → EndsAs scenario.turns (run_of scenario) status)))
 
 -- How a call ends that does this work, by the number with which the process ends.

@@ -120,13 +120,25 @@ fn number_up_to(most: u32, word: &str) -> Option<u32>
     (1..most + 1).find(|n| Buffer::new().format(*n) == word)
 }
 
+/// What is written of a run, beside its status.
+#[derive(Clone, Copy, Debug, PartialEq, Eq)]
+pub enum Showing {
+    /// Its history.
+    Whole,
+    Quiet,
+    /// The untraced steps of its history, and its trace.
+    Stripped,
+}
+
 /// What is done for words.
 #[derive(Clone, Copy, Debug, PartialEq, Eq)]
 pub enum Work {
     /// They get the usage line.
     Explains,
-    /// The run of the scenario of the input is made on one thread. `quiet`: its history is not written.
-    Runs { quiet: bool },
+    /// The run of the scenario of the input is made on one thread, and written.
+    Runs { showing: Showing },
+    /// The scenario for so many children is written.
+    Generates { children: u32 },
 }
 
 /// What is done for words that ask for this: words whose command is not built get the usage line.
@@ -137,10 +149,24 @@ pub fn work_of(command: Option<Command>) -> Work
     match command {
         Some(
             Command::Run {
-                quiet,
+                quiet: false,
                 workers: None,
             },
-        ) => Work::Runs { quiet },
+        ) => Work::Runs {
+            showing: Showing::Whole,
+        },
+        Some(
+            Command::Run {
+                quiet: true,
+                workers: None,
+            },
+        ) => Work::Runs {
+            showing: Showing::Quiet,
+        },
+        Some(Command::Plain) => Work::Runs {
+            showing: Showing::Stripped,
+        },
+        Some(Command::Generate { children }) => Work::Generates { children },
         _ => Work::Explains,
     }
 }

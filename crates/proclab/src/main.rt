@@ -24,8 +24,8 @@ use std::io::ErrorKind;
 use std::process::ExitCode;
 use std::{env, io};
 
-// The words behind the program's name, in their order.
-fn words_behind_name(alloc: Global, arguments: Args) -> Result<Vec<String>, AllocError>
+// The words after the program's name, in their order.
+fn words_after_name(alloc: Global, arguments: Args) -> Result<Vec<String>, AllocError>
     ensures { IfOk result (λ words. words.items ≡ drop 1 (into_iter_items arguments)) }
 {
     arguments.skip(1).collect(alloc)
@@ -40,7 +40,7 @@ fn words_of(alloc: Global, given: io::Result<Args>) -> io::Result<Vec<String>>
     ensures memory { IfErr result (λ error. error_kind error ≡ OutOfMemory) }
 {
     match given {
-        Ok(arguments) => Ok(words_behind_name(alloc, arguments)?),
+        Ok(arguments) => Ok(words_after_name(alloc, arguments)?),
         Err(error) if error.kind() == ErrorKind::OutOfMemory => Err(error),
         Err(_) => Ok(Vec::new(alloc)),
     }

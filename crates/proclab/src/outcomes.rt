@@ -44,7 +44,7 @@ pub struct Ending {
     pub history: History,
 }
 
-/// What a call of the program leaves behind besides what it wrote.
+/// What a call of the program leaves besides what it wrote.
 #[derive(Drop)]
 pub struct Outcome {
     /// The status that the process ends with.

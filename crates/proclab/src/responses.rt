@@ -1,21 +1,26 @@
-//! What the command `run` answers to an input.
+//! What the commands `run` and `plain` answer to an input.
 ghost use Rattle.std.specs.Prelude.{◌≡◌, ◌≤◌, length, true, Some, IfSome};
+ghost use Rattle.pr_model.specs.UntracedSteps.{untraced_steps, untraced_trace};
+ghost use Rattle.pr_output.specs.Output.{plain_run_text};
+ghost use Rattle.pr_output.specs.Puts.{Puts};
 ghost use Rattle.pr_run_laws.specs.ScenarioRuns.{run_of};
 ghost use Rattle.pr_scen.specs.Reading.{scenario_of};
-ghost use Rattle.pr_scen.specs.Scenarios.{IsWithinLimits};
-ghost use Rattle.proclab.specs.Answers.{answer_of, answer_to, input_limit, kind_name, ran, ran_so, refused_at};
+ghost use Rattle.pr_scen.specs.Scenarios.{IsBuilt, IsWithinLimits};
+ghost use Rattle.proclab.specs.Answers.{answer_of, answer_to, input_limit, kind_name, ran, ran_so, refused_at, run_shown};
 ghost use Rattle.proclab.specs.Giving.{Responds};
 ghost use Rattle.proclab.specs.Histories.{RanOutEarly};
 ghost use Rattle.proclab.specs.Made.{StoppedRun};
 
 use crate::answers::status_after;
+use crate::commands::Showing;
 use crate::outcomes::{Ending, Status, end_status, number, out_of_memory, without_history};
 use crate::runs::make_run;
 use pr_io::Sink;
 use pr_model::History;
 use pr_num::Bytes;
-use pr_output::{write_refusal, write_run};
+use pr_output::{Cut, write_plain, write_refusal, write_run};
 use pr_scen::{ScenFault, ScenKind, ScenRefusal, Scenario, read_scenario};
+use pr_strip::{strip, trace};
 use pr_world::End;
 use std::alloc::Global;
 
@@ -27,6 +32,15 @@ fn kind_name(kind: ScenKind) -> &'static [u8]
     ensures { result.now ≡ kind_name kind }
 {
     match kind {
+        ScenKind::TooLong => b"TooLong",
+        ScenKind::NotAscii => b"NotAscii",
+        ScenKind::UnknownWord => b"UnknownWord",
+        ScenKind::BadOperand => b"BadOperand",
+        ScenKind::UnknownName => b"UnknownName",
+        ScenKind::Double => b"Double",
+        ScenKind::TooMany => b"TooMany",
+        ScenKind::TooBig => b"TooBig",
+        ScenKind::NoEnd => b"NoEnd",
         ScenKind::NotBuilt => b"NotBuilt",
     }
 }
@@ -40,13 +54,53 @@ fn refuse_input<K: Sink>(alloc: Global, line: u32, kind: &[u8], sink: &mut K) ->
     without_history(alloc, status_after(written, Status::Refused))
 }
 
+/// Writes a run as the machine without controllers makes it.
+fn write_stripped<K: Sink>(
+    alloc: Global,
+    history: &History,
+    status: u8,
+    sink: &mut K,
+) -> Result<(), Cut>
+    ensures { Puts result (K.written sink.old) (K.written sink.new) (K.faults sink.old) (K.faults sink.new)
+        (plain_run_text (untraced_steps history.now.entries) (untraced_trace history.now.entries) status) }
+{
+    let steps = strip(alloc, history)?;
+    let trace = trace(alloc, history)?;
+    write_plain(alloc, sink, steps.as_slice(), trace.as_slice(), status)
+}
+
+/// Writes a run with this history that ended with this status.
+#[tactic(auto, unfolding(crate::specs::Answers::run_shown))]
+fn show_run<K: Sink>(
+    alloc: Global,
+    showing: Showing,
+    history: &History,
+    status: u8,
+    sink: &mut K,
+) -> Result<(), Cut>
+    ensures { Puts result (K.written sink.old) (K.written sink.new) (K.faults sink.old) (K.faults sink.new)
+        (run_shown showing history.now.entries status) }
+{
+    match showing {
+        Showing::Whole => write_run(alloc, sink, false, history, status),
+        Showing::Quiet => write_run(alloc, sink, true, history, status),
+        Showing::Stripped => write_stripped(alloc, history, status, sink),
+    }
+}
+
 /// Reports a run that ended so.
-fn report<K: Sink>(alloc: Global, quiet: bool, end: End, history: History, sink: &mut K) -> Ending
-    ensures { Responds (ran_so quiet end history.entries) ⊥ result.status result.history.entries
+fn report<K: Sink>(
+    alloc: Global,
+    showing: Showing,
+    end: End,
+    history: History,
+    sink: &mut K,
+) -> Ending
+    ensures { Responds (ran_so showing end history.entries) ⊥ result.status result.history.entries
         (K.written sink.old) (K.written sink.new) (K.faults sink.old) (K.faults sink.new) }
 {
     let status = end_status(end);
-    let written = write_run(alloc, sink, quiet, &history, number(status));
+    let written = show_run(alloc, showing, &history, number(status), sink);
     Ending {
         status: status_after(written, status),
         history,
@@ -54,30 +108,36 @@ fn report<K: Sink>(alloc: Global, quiet: bool, end: End, history: History, sink:
 }
 
 /// Answers a scenario: its run is made, and written.
-fn run_scenario<K: Sink>(alloc: Global, quiet: bool, scenario: Scenario, sink: &mut K) -> Ending
-    requires { IsWithinLimits scenario }
-    ensures { Responds (ran quiet (run_of scenario))
+fn run_scenario<K: Sink>(
+    alloc: Global,
+    showing: Showing,
+    scenario: Scenario,
+    sink: &mut K,
+) -> Ending
+    requires limits { IsWithinLimits scenario }
+    requires built { IsBuilt scenario }
+    ensures { Responds (ran showing (run_of scenario))
         (StoppedRun scenario result.history.entries (K.written sink.old) (K.written sink.new))
         result.status result.history.entries
         (K.written sink.old) (K.written sink.new) (K.faults sink.old) (K.faults sink.new) }
 {
     let made = make_run(alloc, scenario);
     match made.end {
-        Ok(end) => report(alloc, quiet, end, made.history, sink),
+        Ok(end) => report(alloc, showing, end, made.history, sink),
         Err(error) => out_of_memory(error, made.history),
     }
 }
 
 /// Answers a text: it is refused, or the run of its scenario is made, and written.
-fn respond_to_text<K: Sink>(alloc: Global, quiet: bool, text: &[u8], sink: &mut K) -> Ending
+fn respond_to_text<K: Sink>(alloc: Global, showing: Showing, text: &[u8], sink: &mut K) -> Ending
     requires { length text.now ≤ input_limit }
-    ensures { Responds (answer_of quiet (scenario_of text.now))
+    ensures { Responds (answer_of showing (scenario_of text.now))
         (RanOutEarly true (Some text.now) result.history.entries (K.written sink.old) (K.written sink.new))
         result.status result.history.entries
         (K.written sink.old) (K.written sink.new) (K.faults sink.old) (K.faults sink.new) }
 {
     match read_scenario(alloc, text) {
-        Ok(scenario) => run_scenario(alloc, quiet, scenario, sink),
+        Ok(scenario) => run_scenario(alloc, showing, scenario, sink),
         Err(ScenRefusal::Fault(fault)) => refuse_at(alloc, fault, sink),
         Err(ScenRefusal::NoMemory) => without_history(alloc, Status::OutOfMemory),
     }
@@ -91,16 +151,21 @@ fn refuse_at<K: Sink>(alloc: Global, fault: ScenFault, sink: &mut K) -> Ending
     refuse_input(alloc, fault.line, kind_name(fault.kind), sink)
 }
 
-/// Answers an input; none: it had more bytes than it may have. `quiet`: the history of its run is not written.
-pub fn respond<K: Sink>(alloc: Global, quiet: bool, input: &Option<Bytes>, sink: &mut K) -> Ending
+/// Answers an input; none: it had more bytes than it may have. Its run is shown so.
+pub fn respond<K: Sink>(
+    alloc: Global,
+    showing: Showing,
+    input: &Option<Bytes>,
+    sink: &mut K,
+) -> Ending
     requires { IfSome input.now (λ bytes. length bytes ≤ input_limit) }
-    ensures { Responds (answer_to quiet input.now)
+    ensures { Responds (answer_to showing input.now)
         (RanOutEarly true input.now result.history.entries (K.written sink.old) (K.written sink.new))
         result.status result.history.entries
         (K.written sink.old) (K.written sink.new) (K.faults sink.old) (K.faults sink.new) }
 {
     match input {
         None => refuse_input(alloc, 0, TOO_LONG, sink),
-        Some(bytes) => respond_to_text(alloc, quiet, bytes.as_slice(), sink),
+        Some(bytes) => respond_to_text(alloc, showing, bytes.as_slice(), sink),
     }
 }

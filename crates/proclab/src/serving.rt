@@ -1,9 +1,8 @@
-ghost use Rattle.std.specs.Prelude.{◌≡◌, map, string_bytes};
+ghost use Rattle.std.specs.Prelude.{◌≡◌, map, string_bytes, true};
 ghost use Rattle.proclab.specs.Commands.{command_of, work_of};
 ghost use Rattle.proclab.specs.Histories.{HistoryIsKept};
-ghost use Rattle.proclab.specs.Rows.{Ends, EndsWith};
+ghost use Rattle.proclab.specs.Rows.{Ends, EndsWith, reads_nothing};
 ghost use Rattle.proclab.specs.Statuses.{number};
-ghost use Rattle.proclab.specs.declared.commands.Work.TheVariants.{Explains};
 
 use crate::commands::{command_of, work_of};
 use crate::outcomes::{Ending, Outcome, number};
@@ -16,7 +15,8 @@ use std::thread::Threads;
 /// Does what the words after the program's name ask for, from `source` to `sink`. A worker of a run on several
 /// threads passes `gate` before each of its turns.
 ///
-/// The words `run` and `run -q` alone are built: the run of a scenario on one thread. Status 0, 3 and 4: the run was
+/// The words `run`, `run -q` and `plain` are built, which make the run of a scenario on one thread, and `gen N`, which
+/// writes a scenario, reads nothing and takes no memory. Status 0, 3 and 4: the run was
 /// made and written; nobody could move and all controllers had finished, or the history had all its entries, or nobody
 /// could move and a controller had not finished. Status 2: the input was refused. Status 5: a read failed. Status 6: a
 /// write failed. Status 7: memory ran out. All other words get the usage line and status 1, or 6 where a write failed;
@@ -36,8 +36,8 @@ pub fn serve<R: Threads + Wait + Sync, S: Source, K: Sink, G: Gate + Sync>(
         (record { left = S.left source.new; read_faults = S.faults source.new; written = K.written sink.new; write_faults = K.faults sink.new })
         result.status result.history.entries }
 
-    // Words whose command is not built leave the source alone.
-    ensures unread { work_of (command_of (map string_bytes words.now)) ≡ Explains → source.new ≡ source.old }
+    // The usage line and a scenario that is written leave the source alone.
+    ensures unread { reads_nothing (work_of (command_of (map string_bytes words.now))) ≡ true → source.new ≡ source.old }
 
     // However the call ends: a legal history that follows the protocol, and in which, where it is passive, tracing is
     // transparent.

@@ -1,6 +1,5 @@
 use Rattle.std.proofs.Common.{◌∙◌, refl, ap}
-use Rattle.pr_output.specs.Output.{run_text}
-use Rattle.proclab.specs.Answers.{ran_so, end_status}
+use Rattle.proclab.specs.Answers.{ran_so, run_shown}
 use Rattle.proclab.specs.Giving.{status_after}
 use Rattle.proclab.specs.Statuses.{number}
 use Rattle.proclab.specs.declared.outcomes.Status.{Status}
@@ -10,8 +9,8 @@ use Rattle.proclab.proofs.responses.report.Goals as goal
 pub returns : goal.returns
 unfolding ran_so
 returns g c =
-    let written = c.write_run-written in
+    let written = c.show_run-written in
     let code = c.number.ensures ∙ ap number c.end_status-status.ensures in
-    gives written.result (ran_so c.args.quiet c.args.end c.args.history.entries) c.status_after.result c.args.history.entries _ _ _ _
+    gives written.result (ran_so c.args.showing c.args.end c.args.history.entries) c.status_after.result c.args.history.entries _ _ _ _
     (whole-end c.args.end) refl (c.status_after.ensures ∙ ap (λ (s : Status). status_after written.result s) c.end_status-status.ensures)
-    (puts-same _ _ _ _ _ _ _ (ap (run_text c.args.quiet c.args.history.entries) code) written.ensures)
+    (puts-same _ _ _ _ _ _ _ (ap (run_shown c.args.showing c.args.history.entries) code) written.ensures)

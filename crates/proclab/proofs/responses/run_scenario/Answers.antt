@@ -14,5 +14,5 @@ returns-in-Ok g c =
     let run = run_of c.args.scenario in
     let ended : c.in-Ok.end ≡ end_of run = rw c.in-Ok.is at made.ensures.ended in
     let history : made.result.history.entries ≡ run.kernel.history = rw c.in-Ok.is at made.ensures.history in
-    let same = ap (λ (e : End). ran_so c.args.quiet e made.result.history.entries) ended ∙ ap (λ (h : List Entry). ran_so c.args.quiet (end_of run) h) history in
-    gives-else (ran_so c.args.quiet c.in-Ok.end made.result.history.entries) (ran c.args.quiet run) ⊥ _ _ _ _ _ _ _ same (λ never. absurd never) c.report.ensures
+    let same = ap (λ (e : End). ran_so c.args.showing e made.result.history.entries) ended ∙ ap (λ (h : List Entry). ran_so c.args.showing (end_of run) h) history in
+    gives-else (ran_so c.args.showing c.in-Ok.end made.result.history.entries) (ran c.args.showing run) ⊥ _ _ _ _ _ _ _ same (λ never. absurd never) c.report.ensures

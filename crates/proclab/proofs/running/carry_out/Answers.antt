@@ -13,6 +13,16 @@ returns-in-Explains-clause-ends g c = rw c.in-Explains.is (record {
   no_read_fault = refl;
 })
 
+pub returns-in-Generates-clause-ends : goal.returns-in-Generates-clause-ends
+unfolding row_of
+returns-in-Generates-clause-ends g c = rw c.in-Generates.is (record {
+  responds = c.generate.ensures.responds;
+  had_memory = c.generate.ensures.had_memory;
+  no_history = c.generate.ensures.no_history;
+  unread = refl;
+  no_read_fault = refl;
+})
+
 pub returns-in-Runs-clause-ends : goal.returns-in-Runs-clause-ends
 unfolding row_of
 returns-in-Runs-clause-ends g c = rw c.in-Runs.is c.run.ensures

@@ -5,4 +5,4 @@ use Rattle.proclab.proofs.running.run.Goals as goal
 
 pub returns-in-Ok : goal.returns-in-Ok
 returns-in-Ok g c =
-    reads-answered input_limit (answer_to c.args.quiet) true _ _ _ _ c.in-Ok.input c.in-Ok.ensures.took (c.in-Ok.ensures.no_fault (λ is. cc)) c.respond.ensures
+    reads-answered input_limit (answer_to c.args.showing) true _ _ _ _ c.in-Ok.input c.in-Ok.ensures.took (c.in-Ok.ensures.no_fault (λ is. cc)) c.respond.ensures

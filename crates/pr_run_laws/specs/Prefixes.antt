@@ -2,6 +2,6 @@ use Rattle.std.specs.Prelude.{◌≡◌, List, ◌++◌}
 use Rattle.pr_model.specs.declared.events.Entry.{Entry}
 
 -- A history is a prefix of another: that is it, followed by more entries or by none.
-pub record IsFront (front whole : List Entry) : Type 0 where
+pub record IsPrefix (prefix whole : List Entry) : Type 0 where
   pub more : List Entry
-  pub is : whole ≡ front ++ more
+  pub is : whole ≡ prefix ++ more
