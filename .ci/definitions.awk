@@ -1,52 +1,59 @@
-# Prints each definition of crates/*/specs that docs/DEFINITIONS.md does not name, as `file: name`, and each name that it
-# has for a file without such a definition. A row of its tables has the names in the second column and their files in the
-# third, of the crates in the heading; in the last table the first column has the file, and the second the names. Read
-# docs/DEFINITIONS.md first, and then the files.
+# Prints each file of crates/*/specs that the index of docs/DEFINITIONS.md does not name, as `crate File`, each file that
+# it names and that is not there, and each name of its first tables that no file of its row defines. The tables of `##`
+# headings have names in the second column and their files, `crate File`, in the third; below `### crate` the first
+# column names a file of that crate. Read docs/DEFINITIONS.md first, and then the files.
 
-function names_in(text, file,  part, parts, i) {
-  parts = split(text, part, "`")
-  for (i = 2; i < parts; i += 2) named[file ": " part[i]] = 1
+FNR == 1 {
+  document = FILENAME ~ /DEFINITIONS\.md$/
+  file = FILENAME
+  sub(/^crates\//, "", file)
+  sub(/\/specs\//, " ", file)
+  sub(/\.antt$/, "", file)
+  if (!document && file !~ / Lib$/) there[file] = 1
 }
 
-FNR == 1 { document = FILENAME ~ /DEFINITIONS\.md$/; nested = 0 }
+document && /^### / { crate = $2; next }
+document && /^## / { crate = ""; next }
 
-document && /^## / {
-  by_file = /by file$/
-  heading = $0
-  gsub(/^## |:.*$/, "", heading)
-  crates = split(heading, crate, ", ")
-}
-
-document && /^\| / && !by_file {
-  split($0, column, " \\| ")
-  files = split(column[3], file, ", ")
-  for (f = 1; f <= files; f++) {
-    if (split(file[f], of, " ") == 2) names_in(column[2], "crates/" of[1] "/specs/" of[2] ".antt")
-    else for (c = 1; c <= crates; c++) names_in(column[2], "crates/" crate[c] "/specs/" file[f] ".antt")
+document && /^\| / && crate == "" {
+  if (split($0, column, " \\| ") < 4 || column[1] == "| Definition") next
+  names = split(column[2], part, "`")
+  files = split(column[3], of, ", ")
+  for (n = 2; n < names; n += 2) {
+    row = ++rows
+    name[row] = part[n]
+    for (f = 1; f <= files; f++) candidates[row] = candidates[row] "," of[f]
   }
+  next
 }
 
-document && /^\| `/ && by_file {
+document && /^\| / {
   split($0, column, " \\| ")
-  name = column[1]
-  gsub(/[|` ]/, "", name)
-  names_in(column[2], "crates/" name)
-  split(column[2], part, "`")
-  for (i = 2; i in part; i += 2) said["crates/" name ": " part[i]] = 1
+  sub(/^\| /, "", column[1])
+  if (column[1] != "File") named[crate " " column[1]] = 1
+  next
 }
 
 document { next }
 
-# what stands in a module or a mutual block is set in by two blanks, and the fields of records there by four
-/^[^ -]/ { nested = /^(module|mutual|unfoldable mutual|abbrev mutual)/ }
-{ line = $0; if (nested) sub(/^  /, "", line) }
+{ line = $0; sub(/^ +/, "", line) }
 
 line ~ /^(abbrev |unfoldable )?pub / && line !~ /^(abbrev |unfoldable )?pub (mod|ruleset|use) / {
   sub(/^(abbrev |unfoldable )?pub (record |data )?/, "", line)
-  match(line, /^[^ :({]+/)
-  it = FILENAME ": " substr(line, 1, RLENGTH)
-  there[it] = 1
-  if (!(it in named)) print it
+  sub(/[ :({].*/, "", line)
+  defined[file, line] = 1
 }
 
-END { for (it in said) if (!(it in there)) print it ": in the document alone" }
+# the constructors of a `data`
+line ~ /^[a-z_]+ :/ { sub(/ .*/, "", line); defined[file, line] = 1 }
+
+END {
+  for (f in there) if (!(f in named)) print f ": no row"
+  for (f in named) if (!(f in there)) print f ": no such file"
+  for (row = 1; row <= rows; row++) {
+    found = 0
+    files = split(substr(candidates[row], 2), of, ",")
+    for (f = 1; f <= files; f++) if ((of[f], name[row]) in defined) found = 1
+    if (!found) print candidates[row] ": no " name[row]
+  }
+}
