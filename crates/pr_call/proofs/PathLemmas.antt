@@ -4,7 +4,8 @@ use Rattle.pr_num.specs.declared.errnos.Errno.TheVariants.{Inval, Fault}
 use Rattle.pr_num.specs.declared.mappings.BadByte.{BadByte}
 use Rattle.pr_mem.specs.Answers.{text_answer, with_text}
 use Rattle.pr_mem.specs.declared.faults.MemFault.{MemFault}
-use Rattle.pr_model.specs.MemoryCalls.{path_at, path_limit}
+use Rattle.pr_num.specs.Limits.{path_limit}
+use Rattle.pr_model.specs.MemoryCalls.{path_at}
 use Rattle.pr_parts.specs.AddressSpaces.{text_at}
 use Rattle.pr_call.specs.Paths.{path_told}
 

@@ -1,6 +1,5 @@
 use Rattle.std.specs.Prelude.{◌||◌, Bool, length, nat_le, nat_lt}
-use Rattle.pr_num.specs.Limits.{lwp_limit}
-use Rattle.pr_model.specs.LwpCalls.{last_lwp}
+use Rattle.pr_num.specs.Limits.{last_lwp, lwp_limit}
 use Rattle.pr_model.specs.State.{TracedProcess}
 
 -- whether a process can have no lwp more

@@ -9,12 +9,9 @@ ghost use Rattle.pr_model.specs.State.{TracedLwp, live_process, lwp_of};
 use crate::ids::id_of;
 use crate::requests::{Change, Effect, Performed};
 use pr_model::Res;
-use pr_num::limits::LWP_LIMIT;
+use pr_num::limits::{LAST_LWP, LWP_LIMIT};
 use pr_num::{AGENT, Errno, NoMemory};
 use pr_proc::{Proc, Sys, live, make_lwp};
-
-/// The last id that an lwp gets which is no agent.
-const LAST_LWP: u32 = 65_534;
 
 /// The lwp that another one names by a whole word, if it stands; the agent cannot be named.
 fn named(process: &Proc, other: u64) -> Option<u32>

@@ -5,9 +5,7 @@ ghost use Rattle.pr_model.specs.MemoryCalls.{path_at};
 
 use pr_mem::Space;
 use pr_num::Errno;
-
-/// The most bytes of a path, with its zero byte.
-const PATH_LIMIT: usize = 32;
+use pr_num::limits::PATH_LIMIT;
 
 /// Reads the path at an address into the front of the buffer, and answers how long it is. EFAULT: a byte before its end
 /// cannot be read; EINVAL: it has no end among 32 bytes, or is empty.

@@ -10,11 +10,9 @@ ghost use Rattle.pr_model.specs.State.{TracedLwp, TracedProcess};
 use crate::requests::{Effect, Request};
 use crate::waits::is_waited;
 use pr_model::Res;
+use pr_num::limits::SLEEP_LIMIT;
 use pr_num::{Errno, Sysno};
 use pr_proc::Sys;
-
-/// The longest sleep, in milliseconds.
-const SLEEP_LIMIT: u64 = 1_000_000_000;
 
 /// sleep(3C) is over once so many milliseconds have passed since it began.
 #[tactic(auto, unfolding(pr_model::specs::ProcessCalls::sleep_effect))]

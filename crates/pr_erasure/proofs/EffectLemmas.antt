@@ -26,11 +26,12 @@ use Rattle.pr_parts.specs.declared.files.FileNo.{FileNo}
 use Rattle.pr_parts.specs.declared.files.FileNo.TheVariants.{BadFd, NoFile, NoPlace, TableFull, NoSpace, NotSeekable, BadOffset, NoReader, Sleep, NoMemory}
 use Rattle.pr_model.specs.CallEffects.{call_effect}
 use Rattle.pr_model.specs.Changes.{Change, files_are, space_is, signals, disposition_is, held_is, resumes, forks, reaps, becomes, makes_lwp, suspends, ends_process, Effect, does, sleeps, ends, gives, fails, is_over}
-use Rattle.pr_model.specs.FileCallRows.{transfer_limit, word_size, refusal_effect, file_effect, read_effect, write_effect, open_effect, close_effect, pipe_effect, dup_effect, lseek_effect, fstat_effect}
-use Rattle.pr_model.specs.LwpCalls.{last_lwp, lwp_create_effect, lwp_suspend_effect, lwp_continue_effect}
+use Rattle.pr_model.specs.FileCallRows.{word_size, refusal_effect, file_effect, read_effect, write_effect, open_effect, close_effect, pipe_effect, dup_effect, lseek_effect, fstat_effect}
+use Rattle.pr_num.specs.Limits.{last_lwp, sleep_limit, transfer_limit}
+use Rattle.pr_model.specs.LwpCalls.{lwp_create_effect, lwp_suspend_effect, lwp_continue_effect}
 use Rattle.pr_model.specs.LwpTurns.{is_ready}
 use Rattle.pr_model.specs.MemoryCalls.{can_write, path_at, unless_too_big, brk_effect, mmap_effect, munmap_effect, mprotect_effect}
-use Rattle.pr_model.specs.ProcessCalls.{exit_effect, fork_effect, wait_effect, program_named, exec_effect, sleep_limit, sleep_effect}
+use Rattle.pr_model.specs.ProcessCalls.{exit_effect, fork_effect, wait_effect, program_named, exec_effect, sleep_effect}
 use Rattle.pr_model.specs.Readers.{Children, no_child, all_live, first_zombie, children_of, life_of}
 use Rattle.pr_model.specs.SignalCalls.{Sending, refuses, sends_nothing, sends, sending, sent_effect, send_effect, sigaction_effect, sigmask_effect, sigreturn_effect}
 use Rattle.pr_model.specs.State.{TracedLwp, TracedProcess, TracedSystem}

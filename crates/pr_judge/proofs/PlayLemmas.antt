@@ -27,7 +27,7 @@ told None P f = tt
 told (Some x) P f = f x refl
 
 -- the same where something is known of it
-told-more : {X : Type 0} (o : Option X) (A P : X → Type 0) → IfSome o A → ((x : X) → o ≡ Some x → A x → P x) → IfSome o P
+pub told-more : {X : Type 0} (o : Option X) (A P : X → Type 0) → IfSome o A → ((x : X) → o ≡ Some x → A x → P x) → IfSome o P
 told-more None A P a f = tt
 told-more (Some x) A P a f = f x refl a
 

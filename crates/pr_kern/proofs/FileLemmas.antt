@@ -8,12 +8,13 @@ use Rattle.pr_num.specs.declared.files.StoredFile.{StoredFile}
 use Rattle.pr_parts.specs.FileCalls.{with_file}
 use Rattle.pr_parts.specs.FileTables.{file_named, has_name, names_differ}
 use Rattle.pr_proc.specs.FirstFiles.{stored_alone}
-use Rattle.pr_kern.specs.Starts.{stored, stored_file}
+use Rattle.pr_model.specs.FirstState.{stored_file}
+use Rattle.pr_kern.specs.Starts.{stored}
 
 -- Files that are stored one after another, each under a name of its own.
 
 pub stored-push : (files : List (List ℕ × List ℕ)) (name bytes : List ℕ) → with_file (stored_alone (stored files)) name bytes ≡ stored_alone (stored (files ++ (name, bytes) ∷ []))
-unfolding with_file stored_file
+unfolding with_file
 stored-push files name bytes = ap stored_alone (sym (map-append stored_file files ((name, bytes) ∷ [])))
 
 -- ---- a name that no file has yet
@@ -47,7 +48,7 @@ none_before (f ∷ fs) rest g differ =
     or_from (has_name g.name f) (list_any (has_name g.name) fs) (differs f g other) (none_before fs rest g parts.1)
 
 pub new_name : (files done rest : List (List ℕ × List ℕ)) (name bytes : List ℕ) → files ≡ done ++ (name, bytes) ∷ rest → names_differ (stored files) ≡ true → file_named (stored_alone (stored done)) name ≡ None
-unfolding file_named stored_file
+unfolding file_named
 new_name files done rest name bytes split differ =
     let whole : names_differ (stored done ++ stored_file (name, bytes) ∷ stored rest) ≡ true = sym (ap names_differ (ap stored split ∙ map-append stored_file done ((name, bytes) ∷ rest))) ∙ differ in
     position-none (has_name name) (stored done) (none_before (stored done) (stored rest) (stored_file (name, bytes)) whole)

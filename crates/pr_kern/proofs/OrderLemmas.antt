@@ -3,19 +3,11 @@ use Rattle.std.specs.List.{find, slice_get}
 use Rattle.std.specs.Option.{option_or}
 use Rattle.std.proofs.lemmas.List.{drop_all}
 use Rattle.std.proofs.lemmas.List.Folds.{find-append}
-use Rattle.std.proofs.lemmas.Option.{none-some, same_Some}
+use Rattle.pr_num.proofs.ListLemmas.{drop-at}
 use Rattle.pr_model.specs.Order.{lwps_among, lwps_in, pairs_of}
 use Rattle.pr_model.specs.State.{TracedLwp, TracedProcess}
 
 -- What a walk over lists by id finds, whatever it looks for.
-
--- what stands at a place, and what stands behind it
-drop-at : {X : Type 0} (xs : List X) (i : ℕ) (x : X) → slice_get xs i ≡ Some x → drop i xs ≡ x ∷ drop (i + 1) xs
-drop-at [] i x e = absurd (none-some x e)
-drop-at (y ∷ xs) zero x e = ap (λ z. z ∷ xs) (same_Some y x e)
-drop-at (y ∷ xs) (suc i) x e =
-    let step : suc (i + 1) ≡ suc i + 1 = omega arith in
-    drop-at xs i x e ∙ ap (λ n. x ∷ drop n (y ∷ xs)) step
 
 module _ (q : ℕ × ℕ → Bool) (pid : ℕ) (lwps : List (ℕ × TracedLwp)) (i : ℕ) (id : ℕ) (l : TracedLwp) where
   pub first-here : slice_get lwps i ≡ Some (id, l) → q (pid, id) ≡ true → find q (pairs_of pid (drop i lwps)) ≡ Some (pid, id)

@@ -7,7 +7,7 @@ use Rattle.pr_num.specs.Spaces.{Space, first_space, mapped_size, mapping_limit}
 use Rattle.pr_parts.proofs.FirstLemmas.{IsSpace-first, first_space-mappings}
 use Rattle.pr_model.specs.Lawful.{IsLawfulProgram}
 use Rattle.pr_proc.proofs.SpaceLemmas.{text-within}
-use Rattle.pr_lawful.specs.Starts.{size_at_start}
+use Rattle.pr_model.specs.FirstState.{size_at_start}
 
 -- How much is mapped at the start.
 

@@ -6,7 +6,7 @@ use Rattle.pr_num.specs.Limits.{all_mappings_limit, process_limit}
 use Rattle.pr_num.specs.Programs.{Program}
 use Rattle.pr_num.specs.declared.files.StoredFile.{StoredFile}
 use Rattle.pr_parts.specs.FileTables.{IsShortFile, names_differ}
-use Rattle.pr_model.specs.FirstState.{bare_system, spawned_at, system_process, with_spawns, first_state, first_system}
+use Rattle.pr_model.specs.FirstState.{bare_system, spawned_at, system_process, with_spawns, first_state, first_system, size_at_start, stored_file}
 use Rattle.pr_model.specs.Lawful.{IsLawful, IsLawfulProgram}
 use Rattle.pr_model.specs.Lives.{bare_process, new_process, with_spawned}
 use Rattle.pr_model.specs.Machines.{nothing_set, traced}
@@ -14,9 +14,8 @@ use Rattle.pr_model.specs.State.{TracedSystem}
 use Rattle.pr_proc.specs.Counts.{HasUsedAtMost}
 use Rattle.pr_kern.proofs.SoundLemmas.{sound-with_made, unused}
 use Rattle.pr_lawful.proofs.StartLemmas.{first-lawful}
-use Rattle.pr_lawful.specs.Starts.{size_at_start}
 use Rattle.pr_kern.specs.Soundness.{IsSound}
-use Rattle.pr_kern.specs.Starts.{stored, stored_file}
+use Rattle.pr_kern.specs.Starts.{stored}
 
 -- The first system is sound, and the first state lawful.
 
@@ -41,7 +40,6 @@ pub first-sound : (programs : List Program) (files : List StoredFile) (spawns : 
 first-sound programs files spawns = spawns-sound spawns (bare_system programs files) (bare-sound programs files)
 
 short-stored : (files : List (List ℕ × List ℕ)) → All (λ f. length f.1 ≤ 65536) files → All IsShortFile (stored files)
-unfolding stored_file
 short-stored files short = All-map IsShortFile stored_file files short
 
 pub start-lawful : (programs : List Program) (files : List (List ℕ × List ℕ)) (spawns : List ℕ) → All IsLawfulProgram programs → length files ≤ 256 → All (λ f. length f.1 ≤ 65536) files → names_differ (stored files) ≡ true

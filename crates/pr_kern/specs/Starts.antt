@@ -1,10 +1,8 @@
 use Rattle.std.specs.Prelude.{ℕ, List, map}
 use Rattle.pr_num.specs.declared.files.StoredFile.{StoredFile}
+use Rattle.pr_model.specs.FirstState.{stored_file}
 
 -- What a kernel starts with: files as the system keeps them, from their names and bytes.
-
-unfoldable pub stored_file : List ℕ × List ℕ → StoredFile
-stored_file f = record { name = f.0; bytes = f.1 }
 
 abbrev pub stored : List (List ℕ × List ℕ) → List StoredFile
 stored files = map stored_file files

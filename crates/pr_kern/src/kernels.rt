@@ -1,7 +1,7 @@
 ghost use Rattle.std.specs.Prelude.{◌≡◌, ◌≤◌, ◌<◌, ◌+◌, [], false, true, length, slice_get, sum_by, All, Some, IsOk, OnOk, IfOk, OnErr, is_some};
 ghost use Rattle.std.specs.Option.{option_copied};
 ghost use Rattle.pr_model.specs.Calls.{answer_to};
-ghost use Rattle.pr_model.specs.FirstState.{first_state};
+ghost use Rattle.pr_model.specs.FirstState.{first_state, size_at_start};
 ghost use Rattle.pr_model.specs.Legal.{clock_limit};
 ghost use Rattle.pr_kern.specs.Kernels.{after_call, after_tick, after_turn, last_reply_of, some_sleeper, takes_no_memory};
 ghost use Rattle.pr_model.specs.LwpTurns.{can_move};
@@ -9,7 +9,6 @@ ghost use Rattle.pr_kern.specs.Orders.{next_of};
 ghost use Rattle.pr_kern.specs.Starts.{stored};
 ghost use Rattle.pr_num.specs.Limits.{all_mappings_limit, process_limit};
 ghost use Rattle.pr_parts.specs.FileTables.{names_differ};
-ghost use Rattle.pr_lawful.specs.Starts.{size_at_start};
 ghost use Rattle.pr_turn.specs.CallTurns.{may_take_memory};
 
 use crate::Machine;

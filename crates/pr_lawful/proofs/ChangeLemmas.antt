@@ -10,7 +10,7 @@ use Rattle.pr_num.proofs.ByIdLemmas.{rises_from-inserted}
 use Rattle.pr_num.proofs.ByIdLaws.{All-under, All-inserted, length-inserted}
 use Rattle.pr_num.proofs.SetLemmas.{has_number-zero}
 use Rattle.std.proofs.lemmas.List.Elements.{All-weaker}
-use Rattle.pr_num.specs.Limits.{lwp_limit}
+use Rattle.pr_num.specs.Limits.{last_lwp, lwp_limit}
 use Rattle.pr_num.specs.Signals.{signal_number}
 use Rattle.pr_num.specs.declared.signals.Sig.{Sig}
 use Rattle.pr_num.specs.declared.signals.Sig.TheVariants.{Kill, Stop}
@@ -20,7 +20,6 @@ use Rattle.pr_file.proofs.UserLemmas.{IsFileTable-all_shared}
 use Rattle.pr_model.specs.Changes.{Change, files_are, space_is, signals, signals_itself, takes_shared, job_stops, disposition_is, held_is, resumes, forks, reaps, becomes, makes_lwp, suspends, with_fds, with_space, with_shared_taken, with_job_stop, with_disposition_of, with_held, resumed, with_suspended, changed, all_changed}
 use Rattle.pr_model.specs.Lawful.{IsHoldable, IsLawfulFrame, IsLawfulLwp, AreUncaught, IsLawfulProcess, IsLawfulSystem}
 use Rattle.pr_model.specs.Lives.{uncaught, new_lwp, forked_lwp, forked, with_child, started, with_program, with_new_lwp}
-use Rattle.pr_model.specs.LwpCalls.{last_lwp}
 use Rattle.pr_model.specs.Machines.{nothing_set, nothing_used, no_marks, child_control, exec_control, traced}
 use Rattle.pr_model.specs.Readers.{size_of}
 use Rattle.pr_model.specs.SignalCalls.{can_be_caught}

@@ -12,7 +12,7 @@ use Rattle.pr_num.specs.ById.{under, rises_from}
 use Rattle.pr_num.specs.Agents.{agent_id}
 use Rattle.pr_num.specs.Files.{FileTable, Descriptors}
 use Rattle.pr_num.specs.KeyedTables.{without_first}
-use Rattle.pr_num.specs.Limits.{lwp_limit, process_limit, signal_count}
+use Rattle.pr_num.specs.Limits.{last_lwp, lwp_limit, process_limit, signal_count, sleep_limit, transfer_limit}
 use Rattle.pr_num.specs.Programs.{Program, rounded}
 use Rattle.pr_num.specs.Signals.{signal_of_number}
 use Rattle.pr_num.specs.Spaces.{Space, bytes_for, first_space, mapped_size, mapping_limit}
@@ -39,13 +39,13 @@ use Rattle.pr_parts.proofs.SpaceLemmas.{mapped_size-with_bytes, mapped_size-with
 use Rattle.pr_file.proofs.PlaceLemmas.{at-All}
 use Rattle.pr_model.specs.CallEffects.{call_effect}
 use Rattle.pr_model.specs.Changes.{files_are, space_is, reaps, Effect, does, sleeps, ends, gives, fails, with_fds, changed}
-use Rattle.pr_model.specs.FileCallRows.{read_effect, write_effect, open_effect, close_effect, pipe_effect, dup_effect, lseek_effect, fstat_effect, refusal_effect, file_effect, transfer_limit, word_size}
+use Rattle.pr_model.specs.FileCallRows.{read_effect, write_effect, open_effect, close_effect, pipe_effect, dup_effect, lseek_effect, fstat_effect, refusal_effect, file_effect, word_size}
 use Rattle.pr_model.specs.Lawful.{IsLawfulFrame, IsLawfulLwp, IsLawfulProcess, IsLawfulSystem}
 use Rattle.pr_model.specs.Lives.{with_reaped}
-use Rattle.pr_model.specs.LwpCalls.{last_lwp, lwp_create_effect, lwp_suspend_effect, lwp_continue_effect, can_be_named}
+use Rattle.pr_model.specs.LwpCalls.{lwp_create_effect, lwp_suspend_effect, lwp_continue_effect, can_be_named}
 use Rattle.pr_model.specs.Machines.{traced}
 use Rattle.pr_model.specs.MemoryCalls.{can_write, path_at, brk_effect, mmap_effect, munmap_effect, mprotect_effect, unless_too_big, is_mapped_range, prot_limit}
-use Rattle.pr_model.specs.ProcessCalls.{exit_effect, fork_effect, wait_effect, exec_effect, sleep_effect, program_named, sleep_limit}
+use Rattle.pr_model.specs.ProcessCalls.{exit_effect, fork_effect, wait_effect, exec_effect, sleep_effect, program_named}
 use Rattle.pr_model.specs.Readers.{Life, Children, no_child, all_live, first_zombie, child_before, children_among, children_of, life_of, size_of, total_has_room}
 use Rattle.pr_model.specs.SignalCalls.{Sending, refuses, sends_nothing, sends, sending, sent_effect, send_effect, can_be_caught, sigaction_effect, sigmask_effect, sigreturn_effect}
 use Rattle.pr_model.specs.Signals.{is_kill}

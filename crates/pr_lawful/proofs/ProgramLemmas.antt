@@ -3,11 +3,9 @@ use Rattle.std.specs.List.{All, find, flat_map, slice_get}
 use Rattle.std.proofs.lemmas.Bool.{le-leb, or_right}
 use Rattle.std.proofs.lemmas.List.Elements.{All-head, All-tail}
 use Rattle.std.proofs.lemmas.Option.{same_Some, none-some}
-use Rattle.pr_num.specs.Instructions.{instruction_bytes}
+use Rattle.pr_num.proofs.ListLemmas.{length-text}
 use Rattle.pr_num.specs.Programs.{Program, text_of}
 use Rattle.pr_num.specs.Spaces.{Space, first_space}
-use Rattle.pr_num.specs.Words.{word_bytes}
-use Rattle.pr_num.specs.declared.instructions.Instruction.{Instruction}
 use Rattle.pr_parts.specs.AddressSpaces.{LeavesHeapPlace, break_limit, gap_base, gap_from, gap_in, heap_base, is_gap}
 use Rattle.pr_parts.proofs.FirstLemmas.{first_space-mappings}
 use Rattle.pr_mem.proofs.HeapPlaceLemmas.{LeavesHeapPlace-first}
@@ -37,16 +35,6 @@ placed-lawful (p ∷ programs) zero program all found = subst IsLawfulProgram (s
 placed-lawful (p ∷ programs) (suc place) program all found = placed-lawful programs place program (All-tail IsLawfulProgram p programs all) found
 
 -- ---- where a program begins
-
--- an instruction has 16 bytes
-length-instruction : (i : Instruction) → length (instruction_bytes i) ≡ 16
-unfolding word_bytes
-length-instruction i = refl
-
-length-text : (code : List Instruction) → length (flat_map instruction_bytes code) ≡ 16 * length code
-length-text [] = refl
-length-text (i ∷ code) =
-    omega (arith, length-append (instruction_bytes i) (flat_map instruction_bytes code), length-instruction i, length-text code)
 
 pub program-leaves : (program : Program) → IsLawfulProgram program → All LeavesHeapPlace (first_space program)
 program-leaves program h =

@@ -13,7 +13,7 @@ use Rattle.pr_num.specs.Spaces.{mapped_size}
 use Rattle.pr_num.specs.declared.files.StoredFile.{StoredFile}
 use Rattle.pr_num.specs.declared.signals.Sig.TheVariants.{Kill}
 use Rattle.pr_parts.specs.FileTables.{IsOpenPlace, IsPipePlace}
-use Rattle.pr_model.specs.FirstState.{system_process, bare_system, spawned_at, with_spawns, first_state}
+use Rattle.pr_model.specs.FirstState.{system_process, bare_system, spawned_at, with_spawns, first_state, size_at_start}
 use Rattle.pr_model.specs.Handles.{is_exclusive_writer}
 use Rattle.pr_model.specs.Lawful.{IsOfMade, IsLawfulLwp, IsLawfulProgram, IsLawfulProcess, IsNumberedBelow, HasParent, IsFitting, IsReleased, IsLawful}
 use Rattle.pr_model.specs.Lives.{bare_process, new_process, with_made, with_spawned}
@@ -21,7 +21,7 @@ use Rattle.pr_model.specs.Machines.{nothing_set, traced}
 use Rattle.pr_model.specs.Readers.{size_of, total_size}
 use Rattle.pr_model.specs.Signals.{disposition_of}
 use Rattle.pr_model.specs.State.{Places, TracedState, TracedSystem, nothing_open}
-use Rattle.pr_lawful.specs.Starts.{size_at_start, IsStart}
+use Rattle.pr_lawful.specs.Starts.{IsStart}
 use Rattle.pr_parts.specs.AddressSpaces.{LeavesHeapPlace}
 use Rattle.pr_lawful.proofs.InfoLemmas.{no-infos}
 use Rattle.pr_lawful.proofs.MadeLemmas.{handles-on, spawned-grows}

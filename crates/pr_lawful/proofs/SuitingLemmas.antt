@@ -1,7 +1,7 @@
 use Rattle.std.proofs.Common.{◌≡◌, ◌≢◌, ℕ, ◌+◌, ◌<◌, ◌≤◌, Bool, true, false, Some, None, List, [], ◌∷◌, length}
 use Rattle.std.specs.List.{All}
 use Rattle.pr_num.specs.Files.{FileTable, Descriptors}
-use Rattle.pr_num.specs.Limits.{lwp_limit, process_limit, descriptor_limit, all_mappings_limit}
+use Rattle.pr_num.specs.Limits.{all_mappings_limit, descriptor_limit, last_lwp, lwp_limit, process_limit}
 use Rattle.pr_num.specs.Programs.{Program}
 use Rattle.pr_num.specs.Spaces.{Space, first_space, mapped_size}
 use Rattle.pr_parts.specs.FileTables.{CountsUsers, IsFileTable, PipesHaveEnds}
@@ -9,7 +9,6 @@ use Rattle.pr_parts.specs.AddressSpaces.{LeavesHeapPlace}
 use Rattle.pr_rec.specs.InRange.{IsInfo}
 use Rattle.pr_model.specs.Changes.{Change, files_are, space_is, signals, signals_itself, takes_shared, job_stops, disposition_is, held_is, resumes, forks, reaps, becomes, makes_lwp, suspends, changed}
 use Rattle.pr_model.specs.Lawful.{IsHoldable, IsLawfulFrame}
-use Rattle.pr_model.specs.LwpCalls.{last_lwp}
 use Rattle.pr_model.specs.Machines.{traced}
 use Rattle.pr_model.specs.Moves.{Move, stays, stops, takes, catches}
 use Rattle.pr_model.specs.Readers.{size_of, total_size}

@@ -11,7 +11,7 @@ use Rattle.pr_parts.specs.FileTables.{HasRoom, users_at, stands_for}
 use Rattle.pr_file.proofs.CountLemmas.{HasRoom-from_users}
 use Rattle.pr_model.specs.Handles.{has_writer, is_writer}
 use Rattle.pr_model.specs.Lawful.{IsLawful, IsOfMade, IsLawfulLwp, IsLawfulProcess, IsNumberedBelow, IsLawfulSystem}
-use Rattle.pr_model.specs.LwpCalls.{last_lwp}
+use Rattle.pr_num.specs.Limits.{last_lwp}
 use Rattle.pr_model.specs.State.{Places, TracedState, TracedLwp, TracedProcess, TracedSystem, process_of, lwp_of, live_process}
 use Rattle.pr_lawful.proofs.EndLemmas.{found-live}
 use Rattle.pr_lawful.proofs.SumLemmas.{sum-most, count_in, all_users-sum}

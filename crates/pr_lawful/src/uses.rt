@@ -2,7 +2,7 @@ ghost use Rattle.std.specs.Prelude.{◌≡◌, ◌≤◌, ℕ, None, Some, false
 ghost use Rattle.pr_parts.specs.FileTables.{AreOpenIn, HasRoom};
 ghost use Rattle.pr_model.specs.Handles.{has_writer};
 ghost use Rattle.pr_model.specs.Lawful.{IsLawful, IsLawfulLwp, IsLawfulProcess, IsLawfulSystem};
-ghost use Rattle.pr_model.specs.LwpCalls.{last_lwp};
+ghost use Rattle.pr_num.specs.Limits.{last_lwp};
 ghost use Rattle.pr_model.specs.State.{TracedLwp, TracedProcess, TracedState, TracedSystem, live_process, lwp_of, process_of};
 
 /// What follows of a lawful system: the descriptors of a process stand for open files; an open file has room for all

@@ -8,7 +8,6 @@ use Rattle.pr_num.specs.Sets.{with_number}
 use Rattle.pr_num.specs.declared.errnos.Errno.{Errno}
 use Rattle.pr_num.specs.declared.errnos.Errno.TheVariants.{Inval, Noent, Badf, Mfile, Intr}
 use Rattle.pr_rec.specs.RecordBytes.{list_bytes}
-use Rattle.pr_model.specs.Built.{is_built_call}
 use Rattle.pr_model.specs.ControlMessages.{control_answer, wait_reply, target_of, target_stopped}
 use Rattle.pr_model.specs.Handles.{is_control, handle_of, open_refusal, with_opened, with_closed}
 use Rattle.pr_model.specs.Lives.{with_spawned}
@@ -171,20 +170,16 @@ kill_answer s pid number = record {
 
 -- What the machine answers to a call of a controller, a row a call. None: the call is not ready, which CtlWait, Poll
 -- and Until alone can be.
-unfoldable pub whole_answer : TracedState → ℕ → Call → Option Answer
-whole_answer s by (Open pid id file mode) = Some (open_answer s by pid id file mode)
-whole_answer s by (Close handle) = Some (close_answer s by handle)
-whole_answer s by (Ctl handle bytes) = Some (controlled s (control_answer s.system s.opens by handle bytes))
-whole_answer s by (CtlWait handle until bytes) =
-    option_map (waited s by) (wait_reply s.system s.opens by handle until (is_interrupted s by) bytes)
-whole_answer s by (Read handle from len) = Some (answered s (read_reply s by handle from len))
-whole_answer s by (Poll handles) = poll_answer s by handles
-whole_answer s by (Interrupt controller) = Some (interrupt_answer s controller)
-whole_answer s by (Spawn program held) = Some (spawn_answer s program held)
-whole_answer s by (Kill pid sig) = Some (kill_answer s pid sig)
-whole_answer s by (Until moment) = until_answer s by moment
-whole_answer s by ListProcesses = Some (answered s (Bytes (list_bytes (list_of s.system))))
-
--- The answer to a call of a controller. None: the call is not ready.
 unfoldable pub answer_to : TracedState → ℕ → Call → Option Answer
-answer_to s by call = if is_built_call s by call then whole_answer s by call else None
+answer_to s by (Open pid id file mode) = Some (open_answer s by pid id file mode)
+answer_to s by (Close handle) = Some (close_answer s by handle)
+answer_to s by (Ctl handle bytes) = Some (controlled s (control_answer s.system s.opens by handle bytes))
+answer_to s by (CtlWait handle until bytes) =
+    option_map (waited s by) (wait_reply s.system s.opens by handle until (is_interrupted s by) bytes)
+answer_to s by (Read handle from len) = Some (answered s (read_reply s by handle from len))
+answer_to s by (Poll handles) = poll_answer s by handles
+answer_to s by (Interrupt controller) = Some (interrupt_answer s controller)
+answer_to s by (Spawn program held) = Some (spawn_answer s program held)
+answer_to s by (Kill pid sig) = Some (kill_answer s pid sig)
+answer_to s by (Until moment) = until_answer s by moment
+answer_to s by ListProcesses = Some (answered s (Bytes (list_bytes (list_of s.system))))

@@ -9,8 +9,9 @@ use Rattle.pr_num.specs.declared.syscalls.ArgKind.TheVariants.{Dec, Hex, Text, B
 use Rattle.pr_num.specs.declared.syscalls.Sysno.{Sysno}
 use Rattle.pr_num.specs.declared.syscalls.Sysno.TheVariants.{Read}
 use Rattle.pr_num.specs.Spaces.{Space}
-use Rattle.pr_model.specs.FileCallRows.{transfer_limit}
+use Rattle.pr_num.specs.Limits.{transfer_limit}
 use Rattle.pr_model.specs.Legal.{after}
+use Rattle.pr_model.specs.Readers.{space_seen}
 use Rattle.pr_model.specs.Reads.{mapped_from}
 use Rattle.pr_model.specs.Registers.{arguments, pc_of}
 use Rattle.pr_model.specs.Signals.{disposition_of}
@@ -85,7 +86,7 @@ text_in space (Some asked) = unless_empty (mapped_from space asked.0 asked.1)
 
 abbrev pub text_of_process : Option TracedProcess → Option (ℕ × ℕ) → Option (List ℕ)
 text_of_process None asked = None
-text_of_process (Some p) asked = text_in p.space asked
+text_of_process (Some p) asked = text_in (space_seen p) asked
 
 -- ---- the events
 

@@ -1,6 +1,7 @@
 use Rattle.std.specs.Prelude.{◌*◌, ℕ, List, [], ◌∷◌, ◌++◌, Result, Ok, Err, is_none, length, nat_lt, if◌then◌else◌}
 use Rattle.pr_num.specs.Control.{prot_read}
 use Rattle.pr_num.specs.Files.{FileTable, Descriptors}
+use Rattle.pr_num.specs.Limits.{transfer_limit}
 use Rattle.pr_num.specs.Spaces.{Space, bytes_for}
 use Rattle.pr_num.specs.Words.{word_bytes}
 use Rattle.pr_num.specs.declared.errnos.Errno.{Errno}
@@ -49,11 +50,7 @@ file_effect e = of e.answer
     of (Ok value) = gives value (files_are e.files e.fds ∷ [])
     of (Err why) = refusal_effect why
 
--- how many bytes one call reads or writes at most
-abbrev pub transfer_limit : ℕ
-transfer_limit = 4096
-
--- how many bytes of memory hold a word, two words and three
+-- how many bytes of memory hold a word
 abbrev pub word_size : ℕ
 word_size = 8
 

@@ -1,5 +1,6 @@
-use Rattle.std.specs.Prelude.{ℕ, List, [], ◌∷◌, Option, Some, None, false, codes, slice_get}
+use Rattle.std.specs.Prelude.{ℕ, List, [], ◌∷◌, Option, Some, None, false, codes, slice_get, sum_by}
 use Rattle.pr_num.specs.Programs.{Program}
+use Rattle.pr_num.specs.Spaces.{first_space, mapped_size}
 use Rattle.pr_num.specs.declared.files.StoredFile.{StoredFile}
 use Rattle.pr_model.specs.Lives.{bare_process, with_spawned}
 use Rattle.pr_model.specs.Machines.{traced}
@@ -10,6 +11,22 @@ use Rattle.pr_model.specs.State.{TracedState, TracedSystem, TracedProcess, nothi
 -- process 0, the system process: it has no lwp, no memory and no descriptor, and is never stopped
 unfoldable pub system_process : TracedProcess
 system_process = bare_process traced 0 (codes "sched") 0
+
+-- a file as the system keeps it, of its name and its bytes
+abbrev pub stored_file : List ℕ × List ℕ → StoredFile
+stored_file f = record { name = f.0; bytes = f.1 }
+
+-- how many bytes the process of a program maps when it begins
+abbrev pub first_size : Program → ℕ
+first_size program = mapped_size (first_space program)
+
+abbrev pub size_at_start : Option Program → ℕ
+size_at_start None = 0
+size_at_start (Some program) = first_size program
+
+-- how many bytes the processes of the programs at these places map when they begin
+abbrev pub mapped_at_start : List Program → List ℕ → ℕ
+mapped_at_start programs spawns = sum_by (λ place. size_at_start (slice_get programs place)) spawns
 
 -- nothing but process 0, these programs and these files
 unfoldable pub bare_system : List Program → List StoredFile → TracedSystem

@@ -4,7 +4,7 @@ use Rattle.pr_num.specs.Agents.{agent_id}
 use Rattle.pr_num.specs.ById.{IsRising}
 use Rattle.pr_num.specs.Control.{has_flags, rlc_mode, klc_mode}
 use Rattle.pr_num.specs.Files.{no_descriptors}
-use Rattle.pr_num.specs.Limits.{lwp_limit, process_limit, descriptor_limit, all_mappings_limit, code_limit, data_limit}
+use Rattle.pr_num.specs.Limits.{all_mappings_limit, code_limit, data_limit, descriptor_limit, last_lwp, lwp_limit, process_limit}
 use Rattle.pr_num.specs.Programs.{Program}
 use Rattle.pr_num.specs.Sets.{has_number}
 use Rattle.pr_num.specs.Signals.{holdable_word, signal_number}
@@ -17,7 +17,6 @@ use Rattle.pr_parts.specs.declared.signals.Queued.{Queued}
 use Rattle.pr_rec.specs.InRange.{IsInfo}
 use Rattle.pr_model.specs.FirstState.{system_process}
 use Rattle.pr_model.specs.Handles.{fits_file, has_exclusive_writer, has_writer, is_writer}
-use Rattle.pr_model.specs.LwpCalls.{last_lwp}
 use Rattle.pr_model.specs.Readers.{total_size}
 use Rattle.pr_model.specs.Signals.{disposition_of}
 use Rattle.pr_model.specs.State.{Places, TracedControl, TracedLwp, TracedProcess, TracedState, TracedSystem, live_process, process_of}

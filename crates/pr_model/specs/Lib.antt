@@ -1,4 +1,3 @@
-pub mod Built
 pub mod CallEffects
 pub mod Calls
 pub mod Changes

@@ -1,16 +1,12 @@
 use Rattle.std.specs.Prelude.{◌==◌, ◌||◌, ℕ, Bool, true, false, List, [], ◌∷◌, length, is_some, nat_lt, nat_le, replicate, slice_set, if◌then◌else◌}
 use Rattle.pr_num.specs.Agents.{agent_id}
 use Rattle.pr_num.specs.declared.errnos.Errno.TheVariants.{Inval, Srch, Again, Notsup}
-use Rattle.pr_num.specs.Limits.{lwp_limit}
+use Rattle.pr_num.specs.Limits.{last_lwp, lwp_limit}
 use Rattle.pr_model.specs.Changes.{Effect, gives, fails, makes_lwp, suspends}
 use Rattle.pr_model.specs.Registers.{with_pc, with_sp}
 use Rattle.pr_model.specs.State.{ProcessOf, lwp_of}
 
 -- The system calls on lwps, a definition a call. Each tries its refusals in their order.
-
--- the last id that an lwp gets which is no agent
-abbrev pub last_lwp : ℕ
-last_lwp = 65534
 
 -- the registers of an lwp that is made: its pc, its sp and its r1 are given, and the others are 0
 abbrev pub made_registers : ℕ → ℕ → ℕ → List ℕ

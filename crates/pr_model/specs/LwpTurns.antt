@@ -2,7 +2,6 @@ use Rattle.std.specs.Prelude.{◌==◌, ◌||◌, ◌&&◌, ◌+◌, ℕ, Bool, 
 use Rattle.pr_num.specs.Agents.{agent_id}
 use Rattle.pr_num.specs.declared.syscalls.Sysno.{Sysno}
 use Rattle.pr_num.specs.declared.syscalls.Sysno.TheVariants.{Read, Write, Wait, Pause, Sleep}
-use Rattle.pr_model.specs.Built.{is_built_turn}
 use Rattle.pr_model.specs.CallEffects.{call_effect}
 use Rattle.pr_model.specs.Changes.{is_over}
 use Rattle.pr_model.specs.Machines.{traced}
@@ -53,7 +52,7 @@ module _ (s : TracedSystem) (pid : ℕ) (p : TracedProcess) (id : ℕ) (l : Trac
   may_go_on (AtFault f address) = true
 
   unfoldable pub may_turn : Bool
-  may_turn = not (is_held_back p id l) && (may_go_on l.phase && is_built_turn p l)
+  may_turn = not (is_held_back p id l) && may_go_on l.phase
 
 -- whether the lwp of an id, in the live process of an id, may have a turn
 abbrev pub may_turn_in : TracedSystem → ℕ → ℕ → TracedProcess → Option TracedLwp → Bool

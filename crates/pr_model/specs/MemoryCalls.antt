@@ -1,6 +1,7 @@
 use Rattle.std.specs.Prelude.{◌==◌, ◌||◌, ◌&&◌, ℕ, Bool, true, false, List, [], ◌∷◌, Option, Some, None, Result, Ok, Err, is_ok, nat_lt, nat_le, if◌then◌else◌}
 use Rattle.std.specs.List.{list_any}
 use Rattle.pr_num.specs.Control.{prot_read, prot_write}
+use Rattle.pr_num.specs.Limits.{path_limit}
 use Rattle.pr_num.specs.Programs.{rounded}
 use Rattle.pr_num.specs.Spaces.{Space, bytes_for, mapped_size, mapping_limit}
 use Rattle.pr_num.specs.declared.errnos.Errno.{Errno}
@@ -24,10 +25,6 @@ can_read space at size = is_ok (bytes_for prot_read space at size)
 
 abbrev pub can_write : Space → ℕ → ℕ → Bool
 can_write space at size = is_ok (bytes_for prot_write space at size)
-
--- how many bytes a path has at most, with its zero byte
-abbrev pub path_limit : ℕ
-path_limit = 32
 
 -- A path: the bytes up to the first zero. EFAULT: a byte before that cannot be read; EINVAL: there is none among 32, or
 -- it comes at once.

@@ -24,6 +24,7 @@ use Rattle.pr_model.specs.Running.{without_current, without_fault, run_lwp, lwp_
 use Rattle.pr_num.specs.Infos.{by_controller}
 use Rattle.pr_num.specs.Limits.{area_limit, lwp_limit}
 use Rattle.pr_model.specs.Signals.{generated, is_kill}
+use Rattle.pr_model.specs.Readers.{space_seen}
 use Rattle.pr_model.specs.State.{TracedSystem, TracedControl, TracedProcess, TracedLwp, has_agent, lwp_of, with_lwp, with_process}
 use Rattle.pr_model.specs.Stops.{directed, has_event_stop, representative, shown, with_all_directed}
 use Rattle.pr_model.specs.declared.calls.Reply.{Reply}
@@ -242,7 +243,7 @@ module _ (s : TracedSystem) (pid : ℕ) (p : TracedProcess) where
 
   -- a range that wraps at 2^64 is not mapped
   abbrev pub mapped_bytes : ℕ → ℕ → Result (List ℕ) BadByte
-  mapped_bytes at size = bytes_for 0 p.space at size
+  mapped_bytes at size = bytes_for 0 (space_seen p) at size
 
   unfoldable pub read_answer : ℕ → ℕ → Controlled
   read_answer at size = read_of (mapped_bytes at size)
@@ -250,7 +251,7 @@ module _ (s : TracedSystem) (pid : ℕ) (p : TracedProcess) where
   -- PCWRITE, whatever the protection. EIO: not all of the range is mapped.
   unfoldable pub write_answer : ℕ → List ℕ → ℕ → Controlled
   write_answer at bytes len =
-      if is_ok (mapped_bytes at (length bytes)) then with_process_changed len (with_space (with_bytes at bytes p.space))
+      if is_ok (mapped_bytes at (length bytes)) then with_process_changed len (with_space (with_bytes at bytes (space_seen p)))
       else refused s Io
 
   -- the moment at which a wait of so many milliseconds ends; 0 sets no end

@@ -6,7 +6,7 @@ use Rattle.pr_num.specs.Spaces.{Space, first_space, mapped_size}
 use Rattle.pr_num.specs.Words.{word_bytes}
 use Rattle.pr_num.specs.declared.errnos.Errno.{Errno}
 use Rattle.pr_num.specs.declared.errnos.Errno.TheVariants.{Inval, Noent, Again, Nomem, Child, Fault, Notsup}
-use Rattle.pr_num.specs.Limits.{process_limit}
+use Rattle.pr_num.specs.Limits.{process_limit, sleep_limit}
 use Rattle.pr_parts.specs.AddressSpaces.{with_bytes}
 use Rattle.pr_model.specs.Changes.{Effect, sleeps, ends, ends_process, gives, fails, forks, becomes, reaps, space_is}
 use Rattle.pr_model.specs.MemoryCalls.{can_write, path_at}
@@ -44,10 +44,6 @@ wait_effect space children at = of children
     of no_child = fails Child
     of all_live = sleeps
     of (first_zombie child status) = reaped child status
-
--- the longest sleep, in milliseconds
-abbrev pub sleep_limit : ℕ
-sleep_limit = 1000000000
 
 -- sleep(3C): is over once so many milliseconds have passed since it began. EINVAL: too many.
 unfoldable pub sleep_effect : ℕ → ℕ → ℕ → Effect

@@ -1,6 +1,6 @@
 use Rattle.std.specs.Prelude.{◌==◌, ◌+◌, ℕ, Bool, List, [], ◌∷◌, Option, Some, None, nat_le, if◌then◌else◌}
 use Rattle.pr_num.specs.Limits.{all_mappings_limit}
-use Rattle.pr_num.specs.Spaces.{mapped_size}
+use Rattle.pr_num.specs.Spaces.{Space, mapped_size}
 use Rattle.pr_parts.specs.PendingSignals.{Pending}
 use Rattle.pr_model.specs.State.{ProcessOf, SystemOf, process_of}
 
@@ -47,9 +47,14 @@ module _ {C H K : Type 0} where
   unfoldable pub children_of : SystemOf C H K → ℕ → Children
   children_of s pid = children_among pid s.processes
 
-  -- How many bytes a process has mapped, as every controller and every limit counts them.
+  -- The address space of a process as all that is not the process itself sees it: controllers through its files and
+  -- messages, the tracer, and what limits memory.
+  abbrev pub space_seen : ProcessOf C H K → Space
+  space_seen p = p.space
+
+  -- how many bytes a process has mapped, as every controller and every limit counts them
   unfoldable pub size_of : ProcessOf C H K → ℕ
-  size_of p = mapped_size p.space
+  size_of p = mapped_size (space_seen p)
 
   -- how many bytes all live processes have mapped; zombies have none
   abbrev pub sizes_of : List (ℕ × ProcessOf C H K) → ℕ

@@ -5,6 +5,7 @@ use Rattle.pr_num.specs.declared.errnos.Errno.TheVariants.{Inval, Noent, Badf, I
 use Rattle.pr_num.specs.declared.mappings.BadByte.{BadByte}
 use Rattle.pr_rec.specs.RecordBytes.{status_bytes, lwpstatus_bytes, lstatus_bytes, psinfo_bytes, map_bytes, usage_bytes, sigact_bytes, watch_bytes, fds_bytes}
 use Rattle.pr_model.specs.Handles.{is_control, handle_of, outlives}
+use Rattle.pr_model.specs.Readers.{space_seen}
 use Rattle.pr_model.specs.Records.{lstatus_of, psinfo_of, usage_of, map_of, watch_of, fds_of}
 use Rattle.pr_model.specs.State.{TracedState, TracedSystem, TracedProcess, TracedLwp, process_of, live_process, lwp_of}
 use Rattle.pr_model.specs.Statuses.{lwpstatus_of, status_of}
@@ -55,7 +56,7 @@ file_reply s pid p id from len Lstatus = part from len (lstatus_bytes (lstatus_o
 file_reply s pid p id from len Psinfo = part from len (psinfo_bytes (psinfo_of pid p))
 file_reply s pid p id from len Map = part from len (map_bytes (map_of p))
 file_reply s pid p id from len Usage = part from len (usage_bytes (usage_of pid p))
-file_reply s pid p id from len Mem = unless_none (mapped_from p.space from len)
+file_reply s pid p id from len Mem = unless_none (mapped_from (space_seen p) from len)
 file_reply s pid p id from len Sigact = part from len (sigact_bytes p.dispositions)
 file_reply s pid p id from len Watch = part from len (watch_bytes (watch_of p))
 file_reply s pid p id from len Fds = part from len (fds_bytes (fds_of s.files p))

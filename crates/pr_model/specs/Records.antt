@@ -11,15 +11,14 @@ use Rattle.pr_num.specs.declared.mappings.MappingKind.TheVariants.{Text, Data, H
 use Rattle.pr_parts.specs.FileCalls.{name_of}
 use Rattle.pr_parts.specs.FileTables.{at_place}
 use Rattle.pr_rec.specs.declared.entries.FdEntry.{FdEntry}
-use Rattle.pr_rec.specs.declared.entries.FdKind.{FdKind}
-use Rattle.pr_rec.specs.declared.entries.FdKind.TheVariants as kind
 use Rattle.pr_rec.specs.declared.entries.ListEntry.{ListEntry}
 use Rattle.pr_rec.specs.declared.entries.WatchEntry.{WatchEntry}
 use Rattle.pr_rec.specs.declared.lwps.LwpStatus.{LwpStatus}
 use Rattle.pr_rec.specs.declared.mappings.MapEntry.{MapEntry}
 use Rattle.pr_rec.specs.declared.processes.Psinfo.{Psinfo}
 use Rattle.pr_rec.specs.declared.usages.Usage.{Usage}
-use Rattle.pr_model.specs.Readers.{size_of}
+use Rattle.pr_rec.specs.Fields.{fd_kind_of}
+use Rattle.pr_model.specs.Readers.{size_of, space_seen}
 use Rattle.pr_model.specs.State.{TracedSystem, TracedProcess, TracedLwp}
 use Rattle.pr_model.specs.Statuses.{lwpstatus_of}
 
@@ -75,7 +74,7 @@ map_entry_of program m = record {
 }
 
 unfoldable pub map_of : TracedProcess → List MapEntry
-map_of p = map (map_entry_of p.program) p.space
+map_of p = map (map_entry_of p.program) (space_seen p)
 
 -- "watch"
 unfoldable pub watch_entry_of : Area → WatchEntry
@@ -85,11 +84,6 @@ unfoldable pub watch_of : TracedProcess → List WatchEntry
 watch_of p = map watch_entry_of p.control.areas
 
 -- "fds": each open descriptor, by its number
-abbrev pub fd_kind_of : Target → FdKind
-fd_kind_of (target.File place) = kind.File
-fd_kind_of (target.PipeReader place) = kind.PipeReader
-fd_kind_of (target.PipeWriter place) = kind.PipeWriter
-
 unfoldable pub fd_entry_of : FileTable → ℕ → OpenFile → FdEntry
 fd_entry_of files fd o = record {
   descriptor = fd;

@@ -1,6 +1,5 @@
 use Rattle.std.specs.Prelude.{◌==◌, ◌+◌, ℕ, Bool, true, false, List, Option, Some, None, is_some, length, replicate, if◌then◌else◌}
 use Rattle.pr_num.specs.Agents.{agent_id}
-use Rattle.pr_num.specs.Control.{stopped_flag, istop_flag, dstop_flag, step_flag, asleep_flag, agent_flag, issys_flag}
 use Rattle.pr_num.specs.Faults.{fault_number}
 use Rattle.pr_num.specs.Signals.{signal_number}
 use Rattle.pr_num.specs.Spaces.{heap_size}
@@ -14,12 +13,14 @@ use Rattle.pr_num.specs.declared.syscalls.Sysno.{Sysno}
 use Rattle.pr_parts.specs.AddressSpaces.{heap_base}
 use Rattle.pr_num.specs.Infos.{no_info}
 use Rattle.pr_num.specs.declared.infos.Info.{Info}
+use Rattle.pr_rec.specs.Fields.{disposition_of as class_of, flag_if, lwp_flags_of, process_flags_of}
 use Rattle.pr_rec.specs.NoLwp.{no_lwp}
 use Rattle.pr_rec.specs.declared.lwps.Disposition.{Disposition}
 use Rattle.pr_rec.specs.declared.lwps.Disposition.TheVariants as disposition
 use Rattle.pr_rec.specs.declared.lwps.LwpStatus.{LwpStatus}
 use Rattle.pr_rec.specs.declared.statuses.Status.{Status}
 use Rattle.pr_parts.specs.PendingSignals.{pending_set}
+use Rattle.pr_model.specs.Readers.{space_seen}
 use Rattle.pr_model.specs.Registers.{arguments}
 use Rattle.pr_model.specs.Running.{is_asleep}
 use Rattle.pr_model.specs.Signals.{disposition_of}
@@ -36,11 +37,6 @@ use Rattle.pr_model.specs.declared.stops.Shown.{Shown}
 use Rattle.pr_model.specs.declared.stops.Shown.TheVariants.{Event, Suspended, JobControl}
 
 -- The status of a process and of an lwp (proc(4), "status" and "lwpstatus"), filled from the state, a line a field.
-
--- a flag that is set or not
-abbrev pub flag : Bool → ℕ → ℕ
-flag true bit = bit
-flag false bit = 0
 
 -- ---- why an lwp is stopped, and what for
 
@@ -123,21 +119,22 @@ unfoldable pub info_in : Option Current → Info
 info_in None = no_info
 info_in (Some c) = c.info
 
--- what a process does with a signal: 0 default, 1 ignored, else caught
-abbrev pub disposition_class : ℕ → Disposition
-disposition_class d = if d == 0 then disposition.Default else (if d == 1 then disposition.Ignored else disposition.Caught)
-
 unfoldable pub disposition_in : List ℕ → Option Current → Disposition
 disposition_in dispositions None = disposition.Default
-disposition_in dispositions (Some c) = disposition_class (disposition_of dispositions c.signal)
+disposition_in dispositions (Some c) = class_of (disposition_of dispositions c.signal)
 
 -- ---- the records
 
 -- an lwp's flags
 unfoldable pub lwp_flags : Option Sig → ℕ → TracedLwp → ℕ
-lwp_flags job id l =
-    flag (is_some (shown job l)) stopped_flag + flag (has_event_stop l) istop_flag + flag l.control.directed dstop_flag
-    + flag l.control.step step_flag + flag (is_asleep l.phase) asleep_flag + flag (id == agent_id) agent_flag
+lwp_flags job id l = lwp_flags_of (record {
+  stopped = is_some (shown job l);
+  on_event = has_event_stop l;
+  directed = l.control.directed;
+  step = l.control.step;
+  asleep = is_asleep l.phase;
+  agent = id == agent_id;
+})
 
 -- the status of the lwp of an id in a process
 unfoldable pub lwpstatus_of : TracedProcess → ℕ → TracedLwp → LwpStatus
@@ -167,7 +164,7 @@ status_of_found p (Some e) = lwpstatus_of p e.0 e.1
 
 -- a process's flags: its modes, and whether it is the system process
 unfoldable pub process_flags : ℕ → TracedProcess → ℕ
-process_flags pid p = p.control.modes + flag (pid == 0) issys_flag
+process_flags pid p = process_flags_of p.control.modes (pid == 0)
 
 -- the status of the process of an id
 unfoldable pub status_of : ℕ → TracedProcess → Status
@@ -182,8 +179,8 @@ status_of pid p = record {
   traced_entries = p.control.traced_entries;
   traced_exits = p.control.traced_exits;
   heap_base = heap_base;
-  heap_size = heap_size p.space;
-  agent = flag (has_agent p) agent_id;
+  heap_size = heap_size (space_seen p);
+  agent = flag_if (has_agent p) agent_id;
   areas = length p.control.areas;
   lwp = status_of_found p (representative p);
 }

@@ -4,6 +4,7 @@ pub mod ByIdLemmas
 pub mod EntryLemmas
 pub mod FlagBounds
 pub mod InstructionLemmas
+pub mod ListLemmas
 pub mod NameLemmas
 pub mod NumberedLemmas
 pub mod SearchLemmas

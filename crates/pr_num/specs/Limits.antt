@@ -61,6 +61,10 @@ lwp_limit = 64
 abbrev pub register_count : ℕ
 register_count = 11
 
+-- the last id that an lwp gets which is no agent
+abbrev pub last_lwp : ℕ
+last_lwp = 65534
+
 -- frames of handlers of an lwp
 abbrev pub frame_limit : ℕ
 frame_limit = 32
@@ -110,6 +114,14 @@ pipe_size_limit = 4096
 abbrev pub name_limit : ℕ
 name_limit = 31
 
+-- bytes of a path that a system call is given, with its zero byte
+abbrev pub path_limit : ℕ
+path_limit = 32
+
+-- bytes that one system call reads or writes
+abbrev pub transfer_limit : ℕ
+transfer_limit = 4096
+
 -- ---- the process files
 
 -- open handles of all controllers
@@ -123,6 +135,10 @@ read_limit = 20480
 -- bytes that one message reads or writes of a process's memory
 abbrev pub message_bytes_limit : ℕ
 message_bytes_limit = 4096
+
+-- milliseconds that a sleep can last
+abbrev pub sleep_limit : ℕ
+sleep_limit = 1000000000
 
 -- milliseconds that a wait for a stop can last
 abbrev pub wait_limit : ℕ

@@ -1,7 +1,7 @@
 //! How much there can be of each thing. A number that limits is written here, and nowhere else in the code.
 
 ghost use Rattle.std.specs.Prelude.{◌≡◌, [], ◌∷◌};
-ghost use Rattle.pr_num.specs.Limits.{signal_count, standard_signal_count, fault_count, syscall_count, turn_limit, default_turns, controller_limit, worker_limit, scenario_limit, line_limit, checked_limit, list_line_limit, process_limit, lwp_limit, register_count, frame_limit, queue_limit, descriptor_limit, mapping_limit, all_mappings_limit, area_limit, code_limit, data_limit, file_limit, pipe_limit, file_size_limit, pipe_size_limit, name_limit, handle_limit, read_limit, message_bytes_limit, wait_limit};
+ghost use Rattle.pr_num.specs.Limits.{signal_count, standard_signal_count, fault_count, syscall_count, turn_limit, default_turns, controller_limit, worker_limit, scenario_limit, line_limit, checked_limit, list_line_limit, process_limit, lwp_limit, last_lwp, register_count, frame_limit, queue_limit, descriptor_limit, mapping_limit, all_mappings_limit, area_limit, code_limit, data_limit, file_limit, pipe_limit, file_size_limit, pipe_size_limit, name_limit, path_limit, transfer_limit, handle_limit, read_limit, message_bytes_limit, sleep_limit, wait_limit};
 
 /// Signals, whose numbers count from 1 to this one.
 pub const SIGNAL_COUNT: usize = 39;
@@ -33,6 +33,8 @@ pub const LIST_LINE_LIMIT: usize = 4_096;
 pub const PROCESS_LIMIT: usize = 4_096;
 /// Lwps of a process, an agent included.
 pub const LWP_LIMIT: usize = 64;
+/// The last id that an lwp gets which is no agent.
+pub const LAST_LWP: u32 = 65_534;
 /// Registers of an lwp: r0 to r7, sp, fp and pc.
 pub const REGISTER_COUNT: usize = 11;
 /// Frames of handlers of an lwp.
@@ -62,6 +64,10 @@ pub const FILE_SIZE_LIMIT: u64 = 65_536;
 pub const PIPE_SIZE_LIMIT: usize = 4_096;
 /// Bytes of a name of a program or a file.
 pub const NAME_LIMIT: usize = 31;
+/// Bytes of a path that a system call is given, with its zero byte.
+pub const PATH_LIMIT: usize = 32;
+/// Bytes that one system call reads or writes.
+pub const TRANSFER_LIMIT: u64 = 4_096;
 
 /// Open handles of all controllers.
 pub const HANDLE_LIMIT: usize = 1_024;
@@ -69,6 +75,8 @@ pub const HANDLE_LIMIT: usize = 1_024;
 pub const READ_LIMIT: u64 = 20_480;
 /// Bytes that one message reads or writes of a process's memory.
 pub const MESSAGE_BYTES_LIMIT: u64 = 4_096;
+/// Milliseconds that a sleep can last.
+pub const SLEEP_LIMIT: u64 = 1_000_000_000;
 /// Milliseconds that a wait for a stop can last.
 pub const WAIT_LIMIT: u64 = 1_000_000_000;
 
@@ -103,12 +111,13 @@ pub fn limits_of_runs() -> [u64; 8]
 }
 
 /// The limits of processes.
-pub fn limits_of_processes() -> [u64; 11]
-    ensures { result ≡ process_limit ∷ lwp_limit ∷ register_count ∷ frame_limit ∷ queue_limit ∷ descriptor_limit ∷ mapping_limit ∷ all_mappings_limit ∷ area_limit ∷ code_limit ∷ data_limit ∷ [] }
+pub fn limits_of_processes() -> [u64; 12]
+    ensures { result ≡ process_limit ∷ lwp_limit ∷ last_lwp ∷ register_count ∷ frame_limit ∷ queue_limit ∷ descriptor_limit ∷ mapping_limit ∷ all_mappings_limit ∷ area_limit ∷ code_limit ∷ data_limit ∷ [] }
 {
     [
         PROCESS_LIMIT as u64,
         LWP_LIMIT as u64,
+        LAST_LWP as u64,
         REGISTER_COUNT as u64,
         FRAME_LIMIT as u64,
         QUEUE_LIMIT as u64,
@@ -122,8 +131,8 @@ pub fn limits_of_processes() -> [u64; 11]
 }
 
 /// The limits of files, and of the process files.
-pub fn limits_of_files() -> [u64; 9]
-    ensures { result ≡ file_limit ∷ pipe_limit ∷ file_size_limit ∷ pipe_size_limit ∷ name_limit ∷ handle_limit ∷ read_limit ∷ message_bytes_limit ∷ wait_limit ∷ [] }
+pub fn limits_of_files() -> [u64; 12]
+    ensures { result ≡ file_limit ∷ pipe_limit ∷ file_size_limit ∷ pipe_size_limit ∷ name_limit ∷ path_limit ∷ transfer_limit ∷ handle_limit ∷ read_limit ∷ message_bytes_limit ∷ sleep_limit ∷ wait_limit ∷ [] }
 {
     [
         FILE_LIMIT as u64,
@@ -131,9 +140,12 @@ pub fn limits_of_files() -> [u64; 9]
         FILE_SIZE_LIMIT,
         PIPE_SIZE_LIMIT as u64,
         NAME_LIMIT as u64,
+        PATH_LIMIT as u64,
+        TRANSFER_LIMIT,
         HANDLE_LIMIT as u64,
         READ_LIMIT,
         MESSAGE_BYTES_LIMIT,
+        SLEEP_LIMIT,
         WAIT_LIMIT,
     ]
 }

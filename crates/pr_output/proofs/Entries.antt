@@ -6,6 +6,7 @@ use Rattle.std.proofs.lemmas.Option.{slice_get_within, get_or_from_slice_get, sl
 use Rattle.std.specs.List.{slice_get}
 use Rattle.std.specs.Option.{IsSome, option_copied}
 use Rattle.pr_model.specs.declared.events.Entry.{Entry}
+use Rattle.pr_num.proofs.ListLemmas.{drop-at, take-next}
 use Rattle.pr_plain.specs.HistoryText.{entry_text, entries_text}
 use Rattle.pr_plain.proofs.LineLemmas.{entries_text-end}
 
@@ -16,17 +17,6 @@ entries_text-append n [] ys = ap (λ k. entries_text k ys) {x = n} {y = n + 0} (
 entries_text-append n (x ∷ xs) ys =
     ap (λ text. entry_text n x ++ text) (entries_text-append (n + 1) xs ys ∙ ap (λ k. entries_text (n + 1) xs ++ entries_text k ys) {x = n + 1 + length xs} {y = n + length (x ∷ xs)} (omega arith))
     ∙ sym (append_assoc (entry_text n x) (entries_text (n + 1) xs) (entries_text (n + length (x ∷ xs)) ys))
-
--- from the entry at a place on, the history is that entry and the others
-drop-at : (i : ℕ) (h : List Entry) (e : Entry) → slice_get h i ≡ Some e → drop i h ≡ e ∷ drop (i + 1) h
-drop-at i h e is =
-    drop-cons h i e (slice_get_within h i e is)
-    ∙ ap (λ j. get_or h i e ∷ drop j h) {x = suc i} {y = i + 1} (omega arith)
-    ∙ ap (λ x. x ∷ drop (i + 1) h) (get_or_from_slice_get h i e e is)
-
--- what stands before the entry at a place, and that entry
-pub take-at : (i : ℕ) (h : List Entry) (e : Entry) → slice_get h i ≡ Some e → take (i + 1) h ≡ take i h ++ e ∷ []
-take-at i h e is = take-add i 1 h ∙ ap (λ xs. take i h ++ take 1 xs) (drop-at i h e is)
 
 -- as many entries stand before a place as it counts
 length-before : (i : ℕ) (h : List Entry) (e : Entry) → slice_get h i ≡ Some e → 0 + length (take i h) ≡ i
@@ -46,7 +36,7 @@ entries_text-block from to h block is =
 pub entries_text-next : (i : ℕ) (h : List Entry) (e : Entry) → slice_get h i ≡ Some e → entries_text 0 (take (i + 1) h) ≡ entries_text 0 (take i h) ++ entry_text i e
 unfolding entries_text
 entries_text-next i h e is =
-    ap (entries_text 0) (take-at i h e is) ∙ entries_text-end 0 (take i h) e
+    ap (entries_text 0) (take-next i h e is) ∙ entries_text-end 0 (take i h) e
     ∙ ap (λ k. entries_text 0 (take i h) ++ entry_text k e) (length-before i h e is)
 
 -- a line more in a block

@@ -1,5 +1,6 @@
 use Rattle.std.proofs.Common.{◌≡◌, ℕ, ◌*◌, ◌+◌, ◌≤◌, List, [], ◌∷◌, ◌++◌, length, refl, arith, length-append}
 use Rattle.std.specs.List.{flat_map}
+use Rattle.pr_num.proofs.ListLemmas.{length-text}
 use Rattle.pr_num.specs.Instructions.{instruction_bytes}
 use Rattle.pr_num.specs.Programs.{Program, text_of}
 use Rattle.pr_num.specs.Spaces.{first_mappings, first_space}
@@ -7,15 +8,6 @@ use Rattle.pr_num.specs.declared.instructions.Instruction.{Instruction}
 use Rattle.pr_num.specs.Words.{word_bytes}
 
 -- The space in which a program begins.
-
--- an instruction has 16 bytes
-length-instruction_bytes : (i : Instruction) → length (instruction_bytes i) ≡ 16
-unfolding word_bytes
-length-instruction_bytes i = refl
-
-length-text : (code : List Instruction) → length (flat_map instruction_bytes code) ≡ 16 * length code
-length-text [] = refl
-length-text (i ∷ code) = omega (arith, length-append (instruction_bytes i) (flat_map instruction_bytes code), length-instruction_bytes i, length-text code)
 
 pub text-within : (p : Program) → length p.code ≤ 4096 → length (text_of p) ≤ 0x10000
 text-within p within = omega (arith, length-text p.code)

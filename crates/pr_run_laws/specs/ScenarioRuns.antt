@@ -2,13 +2,13 @@ use Rattle.std.specs.Prelude.{ℕ, List, [], ◌∷◌, None, length, map}
 use Rattle.std.specs.List.{flat_map}
 use Rattle.pr_api.specs.Views.{kernel_of}
 use Rattle.pr_erasure.specs.Transparency.{IsTransparent}
-use Rattle.pr_model.specs.FirstState.{first_state}
+use Rattle.pr_model.specs.FirstState.{first_state, stored_file}
 use Rattle.pr_model.specs.Legal.{IsLegal}
 use Rattle.pr_model.specs.Passive.{IsPassive}
 use Rattle.pr_model.specs.State.{TracedState}
 use Rattle.pr_model.specs.declared.events.Entry.{Entry}
 use Rattle.pr_num.specs.declared.files.StoredFile.{StoredFile}
-use Rattle.pr_scen.specs.Scenarios.{Scenario, stored_file}
+use Rattle.pr_scen.specs.Scenarios.{Scenario}
 use Rattle.pr_scen.specs.declared.plans.Plan.{Plan}
 use Rattle.pr_scen.specs.declared.plans.Plan.TheVariants as plan
 use Rattle.pr_world.specs.Protocol.{Follows}

@@ -31,7 +31,8 @@ use Rattle.pr_scen.specs.Lines.{begins_comment, readable}
 use Rattle.pr_scen.specs.Names.{place_of}
 use Rattle.pr_scen.specs.Parts.{Part, line, block, endless}
 use Rattle.pr_scen.specs.Reading.{draft_in, unless_unbuilt, finished, scenario_in}
-use Rattle.pr_scen.specs.Scenarios.{stored_file, space_size, size_of, mapped_by, is_list, lists_in, IsWithinLimits}
+use Rattle.pr_model.specs.FirstState.{first_size, mapped_at_start, size_at_start, stored_file}
+use Rattle.pr_scen.specs.Scenarios.{is_list, lists_in, IsWithinLimits}
 use Rattle.pr_scen.specs.Schedules.{with_turns_of, turn_count, actors_of}
 use Rattle.pr_scen.specs.Scripts.{first_script}
 use Rattle.pr_scen.specs.ScriptLines.{script_line_of}
@@ -115,7 +116,7 @@ record AreSpawned (names : List (List ℕ)) (programs : List Program) (spawns : 
   few : length names ≤ 256
   some_spawns : length spawns ≤ 4095
   of_programs : All (λ place. place < length programs) spawns
-  sizes : mapped ≡ mapped_by programs spawns
+  sizes : mapped ≡ mapped_at_start programs spawns
   limit : mapped ≤ 67108864
 
 -- the lines `list` of the scripts
@@ -206,21 +207,21 @@ sound_file d name bytes s =
     if_ok IsSound (nat_le (length bytes) 65536) _ _ (λ small. record { turns_within = s.turns_within; files_within = files_more d.file_names d.files name bytes (no_place _ new) (ltb-true _ _ room) (leb-true _ _ small) s.files_within; spawned = s.spawned; few_controllers = s.few_controllers; listed = s.listed; few_turns = s.few_turns }) (λ _. tt)) (λ _. tt))
 
 -- one process more, of a program that stands
-size_some : (o : Option Program) (size : ℕ) → option_map space_size o ≡ Some size → size_of o ≡ size
+size_some : (o : Option Program) (size : ℕ) → option_map first_size o ≡ Some size → size_at_start o ≡ size
 size_some None size e = cc
 size_some (Some p) size e = cc
 
-spawned_more : (names : List (List ℕ)) (programs : List Program) (spawns : List ℕ) (mapped place size : ℕ) → place < length names → option_map space_size (slice_get programs place) ≡ Some size → length spawns < 4095 → mapped + size ≤ 67108864 → AreSpawned names programs spawns mapped → AreSpawned names programs (spawns ++ place ∷ []) (mapped + size)
+spawned_more : (names : List (List ℕ)) (programs : List Program) (spawns : List ℕ) (mapped place size : ℕ) → place < length names → option_map first_size (slice_get programs place) ≡ Some size → length spawns < 4095 → mapped + size ≤ 67108864 → AreSpawned names programs spawns mapped → AreSpawned names programs (spawns ++ place ∷ []) (mapped + size)
 spawned_more names programs spawns mapped place size stands has room within a = record {
   same = a.same;
   few = a.few;
   some_spawns = omega (arith, length-append spawns (place ∷ []));
   of_programs = All-push (λ p. p < length programs) spawns place a.of_programs (omega (arith, a.same));
-  sizes = omega (arith, a.sizes, sum_by_push (λ p. size_of (slice_get programs p)) spawns place, size_some (slice_get programs place) size has);
+  sizes = omega (arith, a.sizes, sum_by_push (λ p. size_at_start (slice_get programs p)) spawns place, size_some (slice_get programs place) size has);
   limit = within;
 }
 
-sound_process : (d : Draft) (place size : ℕ) → place < length d.program_names → option_map space_size (slice_get d.programs place) ≡ Some size → IsSound d → IfOk (with_process d place size) IsSound
+sound_process : (d : Draft) (place size : ℕ) → place < length d.program_names → option_map first_size (slice_get d.programs place) ≡ Some size → IsSound d → IfOk (with_process d place size) IsSound
 sound_process d place size stands has s =
     if_ok IsSound (nat_lt (length d.spawns) 4095) _ _ (λ room.
     if_ok IsSound (nat_le (d.mapped + size) 67108864) _ _ (λ within. record { turns_within = s.turns_within; files_within = s.files_within; spawned = spawned_more d.program_names d.programs d.spawns d.mapped place size stands has (ltb-true _ _ room) (leb-true _ _ within) s.spawned; few_controllers = s.few_controllers; listed = s.listed; few_turns = s.few_turns }) (λ _. tt)) (λ _. tt)
@@ -229,7 +230,7 @@ sound_spawn : (d : Draft) (name : List ℕ) → IsSound d → IfOk (with_spawn d
 unfolding with_spawn
 sound_spawn d name s =
     then_ok IsSound (ok_or UnknownName (place_of d.program_names name)) _ (λ place found.
-    then_ok IsSound (ok_or UnknownName (option_map space_size (slice_get d.programs place))) _ (λ size has.
+    then_ok IsSound (ok_or UnknownName (option_map first_size (slice_get d.programs place))) _ (λ size has.
     sound_process d place size (of_some (λ i. i < length d.program_names) (place_of d.program_names name) place (ok_some UnknownName _ place found) (place_inside d.program_names name)) (ok_some UnknownName _ size has) s))
 
 -- one controller more
@@ -290,12 +291,12 @@ get_more [] p place inside = absurd (omega arith)
 get_more (q ∷ programs) p zero inside = refl
 get_more (q ∷ programs) p (suc place) inside = get_more programs p place (omega arith)
 
-mapped_more : (programs : List Program) (p : Program) (spawns : List ℕ) → All (λ place. place < length programs) spawns → mapped_by (programs ++ p ∷ []) spawns ≡ mapped_by programs spawns
+mapped_more : (programs : List Program) (p : Program) (spawns : List ℕ) → All (λ place. place < length programs) spawns → mapped_at_start (programs ++ p ∷ []) spawns ≡ mapped_at_start programs spawns
 mapped_more programs p [] inside = refl
 mapped_more programs p (place ∷ spawns) inside =
-    let left : mapped_by (programs ++ p ∷ []) (place ∷ spawns) ≡ size_of (slice_get (programs ++ p ∷ []) place) + mapped_by (programs ++ p ∷ []) spawns = sum_by-cons (λ q. size_of (slice_get (programs ++ p ∷ []) q)) place spawns in
-    let right : mapped_by programs (place ∷ spawns) ≡ size_of (slice_get programs place) + mapped_by programs spawns = sum_by-cons (λ q. size_of (slice_get programs q)) place spawns in
-    omega (arith, left, right, ap size_of (get_more programs p place (All-head (λ q. q < length programs) place spawns inside)), mapped_more programs p spawns (All-tail (λ q. q < length programs) place spawns inside))
+    let left : mapped_at_start (programs ++ p ∷ []) (place ∷ spawns) ≡ size_at_start (slice_get (programs ++ p ∷ []) place) + mapped_at_start (programs ++ p ∷ []) spawns = sum_by-cons (λ q. size_at_start (slice_get (programs ++ p ∷ []) q)) place spawns in
+    let right : mapped_at_start programs (place ∷ spawns) ≡ size_at_start (slice_get programs place) + mapped_at_start programs spawns = sum_by-cons (λ q. size_at_start (slice_get programs q)) place spawns in
+    omega (arith, left, right, ap size_at_start (get_more programs p place (All-head (λ q. q < length programs) place spawns inside)), mapped_more programs p spawns (All-tail (λ q. q < length programs) place spawns inside))
 
 spawned_with : (names : List (List ℕ)) (programs : List Program) (spawns : List ℕ) (mapped : ℕ) (name : List ℕ) (p : Program) → length names < 256 → AreSpawned names programs spawns mapped → AreSpawned (names ++ name ∷ []) (programs ++ p ∷ []) spawns mapped
 spawned_with names programs spawns mapped name p room a = record {

@@ -19,6 +19,7 @@ use Rattle.pr_asm.specs.declared.statements.Statement.{Statement}
 use Rattle.pr_asm.specs.declared.statements.Statement.TheVariants as says
 use Rattle.pr_text.specs.Steps.{ok_or, folded}
 use Rattle.pr_text.specs.Words.{texts_of}
+use Rattle.pr_model.specs.FirstState.{first_size}
 use Rattle.pr_scen.proofs.StepLemmas.{if_ok, then_ok, of_ok, numbered_ok, folded_ok}
 use Rattle.pr_scen.specs.Blocks.{numbered, item_in, line_added, begun, ended, noting_at, all_readable, first_of_both, program_read, program_added, script_words_added, script_line_read, script_added, block_added, endless_kind, part_added, parts_added}
 use Rattle.pr_scen.specs.Built.{is_built_instruction, is_built_statement, is_built_read_line, first_unbuilt, is_built_item, is_built_line}
@@ -27,7 +28,7 @@ use Rattle.pr_scen.specs.Lines.{readable}
 use Rattle.pr_scen.specs.Names.{place_of}
 use Rattle.pr_scen.specs.Parts.{Part, line, block, endless}
 use Rattle.pr_scen.specs.Reading.{draft_in, unless_unbuilt, finished, scenario_in}
-use Rattle.pr_scen.specs.Scenarios.{space_size, IsBuiltPlan, IsBuiltProgram, IsBuilt}
+use Rattle.pr_scen.specs.Scenarios.{IsBuiltPlan, IsBuiltProgram, IsBuilt}
 use Rattle.pr_scen.specs.Schedules.{turn_count}
 use Rattle.pr_scen.specs.Scripts.{first_script}
 use Rattle.pr_scen.specs.ScriptLines.{script_line_of}
@@ -188,7 +189,7 @@ same_spawn : (d : Draft) (name : List ℕ) → IfOk (with_spawn d name) (IsSame 
 unfolding with_spawn
 same_spawn d name =
     then_ok (IsSame d) (ok_or UnknownName (place_of d.program_names name)) _ (λ place _.
-    then_ok (IsSame d) (ok_or UnknownName (option_map space_size (slice_get d.programs place))) _ (λ size _.
+    then_ok (IsSame d) (ok_or UnknownName (option_map first_size (slice_get d.programs place))) _ (λ size _.
     if_ok (IsSame d) (nat_lt (length d.spawns) 4095) _ _ (λ _. if_ok (IsSame d) (nat_le (d.mapped + size) 67108864) _ _ (λ _. same d _ refl refl refl refl) (λ _. tt)) (λ _. tt)))
 
 same_schedule : (d : Draft) (turns : _) → IfOk (with_schedule d turns) (IsSame d)

@@ -3,6 +3,7 @@ use Rattle.std.proofs.Common.{◌≡◌, ℕ, ◌+◌, ◌-◌, ◌*◌, List, [
 use Rattle.std.specs.List.{flat_map}
 use Rattle.std.proofs.lemmas.List.{length-append, length-replicate}
 use Rattle.std.proofs.lemmas.List.Sums.{sum_by-append}
+use Rattle.pr_num.proofs.ListLemmas.{length-text}
 use Rattle.pr_num.specs.Instructions.{instruction_bytes}
 use Rattle.pr_num.specs.Programs.{Program, rounded, text_of, whole_pages}
 use Rattle.pr_num.specs.Words.{word_bytes}
@@ -11,14 +12,6 @@ use Rattle.pr_num.specs.declared.instructions.Instruction.{Instruction}
 use Rattle.pr_num.specs.declared.mappings.Mapping.{Mapping}
 use Rattle.pr_num.specs.declared.mappings.MappingKind.{MappingKind}
 use Rattle.pr_num.specs.declared.mappings.MappingKind.TheVariants.{Text, Data, Stack}
-
-sixteen : (i : Instruction) → length (instruction_bytes i) ≡ 16
-unfolding word_bytes
-sixteen i = refl
-
-length-text : (code : List Instruction) → length (flat_map instruction_bytes code) ≡ 16 * length code
-length-text [] = refl
-length-text (i ∷ code) = omega (arith, length-append (instruction_bytes i) (flat_map instruction_bytes code), sixteen i, length-text code)
 
 length-pages : (bytes : List ℕ) → length (whole_pages bytes) ≡ rounded (length bytes)
 length-pages bytes = omega (arith, length-append bytes (replicate (rounded (length bytes) - length bytes) 0), length-replicate {A = ℕ} (rounded (length bytes) - length bytes) 0)

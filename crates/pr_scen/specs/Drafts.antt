@@ -3,10 +3,11 @@ use Rattle.std.specs.Prelude.{◌||◌, ◌+◌, ℕ, Bool, true, Some, None, Op
 use Rattle.pr_num.specs.Programs.{Program}
 use Rattle.pr_line.specs.declared.options.Options.{Options}
 use Rattle.pr_text.specs.Steps.{◌>>=◌, ok_or}
+use Rattle.pr_model.specs.FirstState.{first_size}
 use Rattle.pr_scen.specs.Built.{is_built_item, is_built_line}
 use Rattle.pr_scen.specs.Limits.{most_turns, default_turns, most_programs, most_files, most_file, most_spawns, most_mapped, most_controllers, most_lists, most_scheduled}
 use Rattle.pr_scen.specs.Names.{place_of}
-use Rattle.pr_scen.specs.Scenarios.{Scenario, space_size}
+use Rattle.pr_scen.specs.Scenarios.{Scenario}
 use Rattle.pr_scen.specs.Schedules.{turn_count, actors_of}
 use Rattle.pr_scen.specs.Scripts.{first_script}
 use Rattle.pr_scen.specs.declared.drafts.Draft.{Draft}
@@ -72,7 +73,7 @@ with_process d place size =
 unfoldable pub with_spawn : Draft → List ℕ → Result Draft ScenKind
 with_spawn d name = do
   place ← ok_or UnknownName (place_of d.program_names name)
-  size ← ok_or UnknownName (option_map space_size (slice_get d.programs place))
+  size ← ok_or UnknownName (option_map first_size (slice_get d.programs place))
   with_process d place size
 
 -- one controller more

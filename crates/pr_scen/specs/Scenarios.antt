@@ -2,9 +2,8 @@
 use Rattle.std.specs.Prelude.{◌≡◌, ◌≤◌, ◌<◌, ℕ, Bool, true, false, Option, Some, None, List, [], ◌∷◌, length, map, count_by, sum_by, slice_get, All}
 use Rattle.std.specs.List.{flat_map}
 use Rattle.pr_num.specs.Programs.{Program}
-use Rattle.pr_num.specs.Spaces.{first_space, mapped_size}
-use Rattle.pr_num.specs.declared.files.StoredFile.{StoredFile}
 use Rattle.pr_parts.specs.FileTables.{names_differ}
+use Rattle.pr_model.specs.FirstState.{mapped_at_start, stored_file}
 use Rattle.pr_model.specs.declared.events.Actor.{Actor}
 use Rattle.pr_scen.specs.Built.{is_built_instruction, is_built_line}
 use Rattle.pr_scen.specs.Limits.{most_turns, most_programs, most_files, most_file, most_spawns, most_mapped, most_controllers, most_lists, most_scheduled}
@@ -36,22 +35,6 @@ scripts_of s = flat_map script_in s.controllers
 
 -- ---- limits
 
--- a file as the system keeps it
-abbrev pub stored_file : List ℕ × List ℕ → StoredFile
-stored_file f = record { name = f.0; bytes = f.1 }
-
--- how many bytes a process of a program has mapped when it begins
-unfoldable pub space_size : Program → ℕ
-space_size p = mapped_size (first_space p)
-
-abbrev pub size_of : Option Program → ℕ
-size_of None = 0
-size_of (Some p) = space_size p
-
--- how many bytes processes have mapped when they begin, of the programs at these places
-abbrev pub mapped_by : List Program → List ℕ → ℕ
-mapped_by programs spawns = sum_by (λ place. size_of (slice_get programs place)) spawns
-
 abbrev pub is_list : ScriptLine → Bool
 is_list line.List = true
 is_list _ = false
@@ -73,7 +56,7 @@ pub record IsWithinLimits (s : Scenario) : Type 0 where
   pub own_names : names_differ (map stored_file s.files) ≡ true
   pub spawns : length s.spawns ≤ most_spawns
   pub of_programs : All (λ place. place < length s.programs) s.spawns
-  pub mapped : mapped_by s.programs s.spawns ≤ most_mapped
+  pub mapped : mapped_at_start s.programs s.spawns ≤ most_mapped
   pub controllers : length s.controllers ≤ most_controllers
   pub lists : sum_by lists_in s.controllers ≤ most_lists
   pub schedule : length s.schedule ≤ most_scheduled

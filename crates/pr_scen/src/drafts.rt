@@ -1,7 +1,7 @@
 //! What was read of a scenario so far, and what one line or block more makes of it.
 ghost use Rattle.std.specs.Prelude.{◌≡◌, ◌≤◌, ◌<◌, ◌++◌, ◌^◌, None, length, option_map, slice_get, IfSome, OnOk, nat_le, replicate};
 ghost use Rattle.pr_text.specs.Reads.{Gives};
-ghost use Rattle.pr_scen.specs.Scenarios.{space_size};
+ghost use Rattle.pr_model.specs.FirstState.{first_size};
 ghost use Rattle.pr_scen.specs.Drafts.{nothing, noting, with_turns, with_file, with_process, with_spawn, with_controller, has_program, knows_program, with_truss, with_schedule, with_item, item_added, may_begin, with_program, with_line, call_added, script_line_added, with_script, made};
 ghost use Rattle.pr_scen.specs.Names.{place_of};
 ghost use Rattle.pr_scen.specs.Schedules.{turn_count, actors_of};
@@ -50,9 +50,9 @@ pub struct Draft {
 
 /// How many bytes a process of a program has mapped when it begins: its text and its data, each a multiple of 4,096, and
 /// its stack.
-#[tactic(auto, using(crate::proofs::SizeLemmas::size_at_first), unfolding(crate::specs::Scenarios::space_size))]
-fn space_size(program: &Program) -> u64
-    ensures value { result ≡ space_size program.now }
+#[tactic(auto, using(crate::proofs::SizeLemmas::size_at_first))]
+fn first_size(program: &Program) -> u64
+    ensures value { result ≡ first_size program.now }
     ensures small { result ≤ 1048576 }
 {
     let text = (program.code().len() * 16).next_multiple_of(4096);
@@ -142,11 +142,11 @@ impl Draft {
 
     /// How many bytes a process of the program at a place has mapped when it begins.
     fn size_at(&self, place: usize) -> Option<u64>
-        ensures value { result ≡ option_map space_size (slice_get self.now.programs place) }
+        ensures value { result ≡ option_map first_size (slice_get self.now.programs place) }
         ensures small { IfSome result (λ size. size ≤ 1048576) }
     {
         let program = self.programs.as_slice().get(place)?;
-        Some(space_size(program))
+        Some(first_size(program))
     }
 
     #[tactic(auto, unfolding(crate::specs::Drafts::with_spawn))]

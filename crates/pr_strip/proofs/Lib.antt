@@ -1,4 +1,3 @@
-pub mod EntryLemmas
 pub mod PastLemmas
 pub mod StepLemmas
 pub mod TraceLemmas

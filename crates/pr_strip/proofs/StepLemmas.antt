@@ -1,10 +1,10 @@
 -- The untraced steps of a history, entry by entry.
 use Rattle.std.proofs.Common.{◌≡◌, ℕ, ◌+◌, Some, None, List, [], ◌∷◌, ◌++◌, take, refl, ◌∙◌, ap}
 use Rattle.std.specs.List.{slice_get}
+use Rattle.pr_num.proofs.ListLemmas.{take-next, take-past}
 use Rattle.pr_model.specs.declared.events.Entry.{Entry}
 use Rattle.pr_model.specs.UntracedSteps.{Memory, nothing_yet, remembered, remembered_all, steps_of, untraced_steps}
 use Rattle.pr_model.proofs.HistoryLemmas.{untraced_steps-push}
-use Rattle.pr_strip.proofs.EntryLemmas.{take-next, take-past}
 
 remembered_all-push : (m : Memory) (h : List Entry) (e : Entry) → remembered_all m (h ++ e ∷ []) ≡ remembered (remembered_all m h) e
 remembered_all-push m [] e = refl

@@ -3,9 +3,9 @@ use Rattle.std.proofs.Common.{◌≡◌, ℕ, ◌+◌, Some, None, List, [], ◌
 use Rattle.std.proofs.lemmas.List.{append-nil}
 use Rattle.std.proofs.lemmas.List.Concat.{flat_map-append}
 use Rattle.std.specs.List.{flat_map, slice_get}
+use Rattle.pr_num.proofs.ListLemmas.{take-next, take-past}
 use Rattle.pr_model.specs.declared.events.Entry.{Entry}
 use Rattle.pr_model.specs.UntracedSteps.{trace_of}
-use Rattle.pr_strip.proofs.EntryLemmas.{take-next, take-past}
 
 pub trace-next : (i : ℕ) (h : List Entry) (e : Entry) → slice_get h i ≡ Some e → flat_map trace_of (take (i + 1) h) ≡ flat_map trace_of (take i h) ++ trace_of e
 trace-next i h e is =

@@ -2,7 +2,7 @@ use Rattle.std.proofs.Common.{◌≡◌, ℕ, zero, suc, ◌+◌, ◌≤◌, eqb
 use Rattle.std.proofs.lemmas.Bool.{cases_Bool}
 use Rattle.std.specs.List.{slice_get}
 use Rattle.std.proofs.lemmas.List.{append-nil, drop_all}
-use Rattle.std.proofs.lemmas.Option.{none-some, same_Some}
+use Rattle.pr_num.proofs.ListLemmas.{drop-at}
 use Rattle.pr_model.specs.Records.{list_entries, statuses_of_lwps}
 use Rattle.pr_model.specs.State.{TracedLwp, TracedProcess}
 use Rattle.pr_model.specs.Statuses.{lwpstatus_of}
@@ -11,14 +11,6 @@ use Rattle.pr_rec.specs.declared.lwps.LwpStatus.{LwpStatus}
 use Rattle.pr_view.specs.Lists.{listed}
 
 -- Walks over what stands by id.
-
--- what stands at a place, and what stands behind it
-drop-at : {X : Type 0} (xs : List X) (i : ℕ) (x : X) → slice_get xs i ≡ Some x → drop i xs ≡ x ∷ drop (i + 1) xs
-drop-at [] i x e = absurd (none-some x e)
-drop-at (y ∷ xs) zero x e = ap (λ z. z ∷ xs) (same_Some y x e)
-drop-at (y ∷ xs) (suc i) x e =
-    let step : suc (i + 1) ≡ suc i + 1 = omega arith in
-    drop-at xs i x e ∙ ap (λ n. x ∷ drop n (y ∷ xs)) step
 
 -- ---- the status of each lwp
 

@@ -3,8 +3,9 @@ ghost use Rattle.std.specs.Prelude.{◌≡◌, ◌<◌, ◌^◌, length, if◌th
 ghost use Rattle.pr_num.specs.Agents.{agent_id};
 ghost use Rattle.pr_model.specs.State.{has_agent};
 ghost use Rattle.pr_model.specs.Stops.{representative};
-ghost use Rattle.pr_model.specs.Statuses.{arguments_in, call_in, disposition_class, disposition_in, errno_in, error_of, fault_address_in, fault_in, flag, info_in, lwp_flags, lwpstatus_of, process_flags, reason_of_stop, reason_shown, result_in, signal_in, status_of, status_of_found, value_of, what_of_stop, what_shown};
+ghost use Rattle.pr_model.specs.Statuses.{arguments_in, call_in, disposition_in, errno_in, error_of, fault_address_in, fault_in, info_in, lwp_flags, lwpstatus_of, process_flags, reason_of_stop, reason_shown, result_in, signal_in, status_of, status_of_found, value_of, what_of_stop, what_shown};
 ghost use Rattle.pr_num.specs.Spaces.{heap_size, is_heap};
+ghost use Rattle.pr_rec.specs.Fields.{flag_if};
 ghost use Rattle.pr_rec.specs.NoLwp.{no_lwp};
 
 use pr_mem::Space;
@@ -172,16 +173,6 @@ fn info_in(current: Option<Current>) -> Info
     }
 }
 
-fn disposition_class(disposition: u64) -> Disposition
-    ensures { result ≡ disposition_class disposition }
-{
-    match disposition {
-        0 => Disposition::Default,
-        1 => Disposition::Ignored,
-        _ => Disposition::Caught,
-    }
-}
-
 /// What the process does with the current signal.
 #[tactic(auto, unfolding(pr_model::specs::Statuses::disposition_in, pr_model::specs::Signals::disposition_of))]
 fn disposition_in(dispositions: &[u64; 39], current: Option<Current>) -> Disposition
@@ -189,7 +180,7 @@ fn disposition_in(dispositions: &[u64; 39], current: Option<Current>) -> Disposi
 {
     match current {
         None => Disposition::Default,
-        Some(current) => { disposition_class(dispositions[current.signal.number() as usize - 1]) }
+        Some(current) => Disposition::of(dispositions[current.signal.number() as usize - 1]),
     }
 }
 
@@ -279,7 +270,7 @@ fn heap_size(space: &Space) -> u64
 
 /// The agent's id, 0 where a process has none.
 fn agent_of(process: &Proc) -> u32
-    ensures { result ≡ flag (has_agent process.now) agent_id }
+    ensures { result ≡ flag_if (has_agent process.now) agent_id }
 {
     if has_agent(process) { AGENT } else { 0 }
 }

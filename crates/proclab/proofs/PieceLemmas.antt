@@ -1,25 +1,20 @@
 -- A text that is written piece by piece.
-use Rattle.std.proofs.Common.{◌≡◌, ℕ, ◌+◌, ◌<◌, arith, get_or, length, refl, Option, Some, List, [], ◌∷◌, ◌++◌, take, drop, zero, suc, sym, ap, subst, ◌∙◌, add-one, take-append-drop}
+use Rattle.std.proofs.Common.{◌≡◌, ℕ, ◌+◌, ◌<◌, arith, get_or, length, refl, Option, Some, List, [], ◌∷◌, ◌++◌, take, drop, sym, ap, subst, ◌∙◌, take-append-drop}
 use Rattle.std.proofs.lemmas.List.{append-nil}
 use Rattle.std.proofs.lemmas.List.Concat.{flat_map-append}
-use Rattle.std.proofs.lemmas.Option.{same_Some}
 use Rattle.std.specs.Borrow.{Bor}
 use Rattle.std.specs.List.{flat_map, slice_get}
+use Rattle.pr_num.proofs.ListLemmas.{take-next}
 use Rattle.pr_io.specs.Known.{with_end}
 use Rattle.pr_io.specs.Writing.{AppendsFront}
 use Rattle.pr_io.proofs.Fronts.{AppendsFront-first, AppendsFront-second}
 use Rattle.pr_io.proofs.Known.{with_end-nil, with_end-with_end}
 use Rattle.proclab.specs.Giving.{text_of}
 
-one-more : {X : Type 0} (i : ℕ) (xs : List X) (x : X) → slice_get xs i ≡ Some x → take (suc i) xs ≡ take i xs ++ x ∷ []
-one-more i [] x is = cc
-one-more zero (y ∷ ys) x is = ap (λ z. z ∷ []) (same_Some y x is)
-one-more (suc i) (y ∷ ys) x is = ap (λ zs. y ∷ zs) (one-more i ys x is)
-
 module _ (old mid new : Option (List ℕ)) (pieces : List (Bor (List ℕ))) (i : ℕ) (p : Bor (List ℕ)) (at : slice_get pieces i ≡ Some p) (so_far : mid ≡ with_end old (text_of (take i pieces))) where
   text-next : text_of (take (i + 1) pieces) ≡ text_of (take i pieces) ++ p.now
   text-next =
-      ap (λ k. text_of (take k pieces)) (add-one i) ∙ ap text_of (one-more i pieces p at)
+      ap text_of (take-next i pieces p at)
       ∙ flat_map-append (λ (q : Bor (List ℕ)). q.now) (take i pieces) (p ∷ []) ∙ ap (λ t. text_of (take i pieces) ++ t) (append-nil p.now)
 
   pub piece-next : new ≡ with_end mid p.now → new ≡ with_end old (text_of (take (i + 1) pieces))

@@ -4,8 +4,8 @@ use Rattle.std.specs.List.{flat_map, slice_get, sum_by}
 use Rattle.std.proofs.lemmas.List.Sums.{sum_by-cons}
 use Rattle.pr_api.specs.Views.{KernelView, kernel_of}
 use Rattle.pr_kern.specs.Kernels.{Kernel}
-use Rattle.pr_kern.specs.Starts.{stored, stored_file}
-use Rattle.pr_model.specs.FirstState.{first_state}
+use Rattle.pr_kern.specs.Starts.{stored}
+use Rattle.pr_model.specs.FirstState.{first_state, size_at_start, stored_file}
 use Rattle.pr_model.specs.State.{TracedState}
 use Rattle.pr_model.specs.declared.events.Actor.{Actor}
 use Rattle.pr_model.specs.declared.events.Entry.{Entry}
@@ -13,7 +13,6 @@ use Rattle.pr_num.specs.Limits.{all_mappings_limit, process_limit}
 use Rattle.pr_num.specs.Programs.{Program}
 use Rattle.pr_num.specs.declared.memory.NoMemory.{NoMemory}
 use Rattle.pr_parts.specs.FileTables.{names_differ}
-use Rattle.pr_lawful.specs.Starts.{size_at_start}
 use Rattle.pr_run.specs.OneRuns.{end_of_run}
 use Rattle.pr_run_laws.specs.ScenarioRuns.{controller_in, controllers_of, first_state_of, first_world, run_of}
 use Rattle.pr_run_laws.proofs.KeptLemmas.{first-fresh, first-told}

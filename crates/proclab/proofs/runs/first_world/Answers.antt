@@ -1,8 +1,7 @@
 use Rattle.std.proofs.Common.{◌≡◌, ◌∙◌, ◌≤◌, IfOk, List, ℕ, refl, sym, ap, subst}
 use Rattle.std.specs.List.{slice_get, sum_by}
 use Rattle.pr_kern.specs.Starts.{stored}
-use Rattle.pr_lawful.specs.Starts.{size_at_start}
-use Rattle.pr_model.specs.FirstState.{first_state}
+use Rattle.pr_model.specs.FirstState.{first_state, size_at_start}
 use Rattle.pr_num.specs.Limits.{all_mappings_limit}
 use Rattle.pr_run_laws.specs.ScenarioRuns.{first_world}
 use Rattle.pr_scen.specs.Scenarios.{IsWithinLimits, Scenario}
