@@ -22,6 +22,3 @@ pub use programs::Program;
 pub use reading::{read_lines, read_program};
 pub use refusals::{AsmFault, AsmKind, AsmRefusal};
 pub use statements::{Statement, statement_of};
-
-#[cfg(test)]
-mod tests;

@@ -7,8 +7,6 @@ mod files;
 mod laws;
 mod places;
 mod tables;
-#[cfg(test)]
-mod tests;
 
 pub use fds::Fds;
 pub use files::Files;

@@ -12,6 +12,3 @@ pub use entries::{Entries, named_entries};
 pub use faults::{OptFault, WordFault};
 pub use options::Options;
 pub use reading::{has_bad_option, read_options, read_words};
-
-#[cfg(test)]
-mod tests;

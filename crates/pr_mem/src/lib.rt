@@ -14,6 +14,3 @@ mod writes;
 pub use faults::{Map, MemFault};
 pub use laws::{a_gap_is_free_and_least, what_is_written_is_read};
 pub use spaces::Space;
-
-#[cfg(test)]
-mod tests;

@@ -27,6 +27,3 @@ pub use states::{State, System};
 pub use steps::{Step, Steps, Trace};
 pub use stops::{Point, Shown, Stop};
 pub use tools::ToolKind;
-
-#[cfg(test)]
-mod tests;

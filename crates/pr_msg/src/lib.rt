@@ -10,6 +10,3 @@ pub use decoding::{decode_one, tail_length};
 pub use encoding::encode;
 pub use pr_num::{Message, MsgFault};
 pub use run_flags::{RunFlags, words_of_run_flags};
-
-#[cfg(test)]
-mod tests;

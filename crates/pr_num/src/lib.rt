@@ -31,9 +31,6 @@ mod watch_flags;
 /// The lwp id of the agent: no other lwp ever gets it.
 pub const AGENT: u32 = 65_535;
 
-#[cfg(test)]
-mod tests;
-
 pub use by_id::ById;
 pub use bytes::{Bytes, Handles};
 pub use call_sets::SysSet;

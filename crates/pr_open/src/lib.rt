@@ -9,6 +9,3 @@ pub use laws::exclusive_handles_stay_alone;
 pub use opens::Opens;
 pub use pr_model::Held;
 pub use refusals::OpenNo;
-
-#[cfg(test)]
-mod tests;

@@ -34,6 +34,3 @@ pub use sizes::{size_of, total_has_room};
 pub use spawns::spawn;
 pub use stops::shows;
 pub use systems::{Lwp, Proc, Sys, has_agent, live};
-
-#[cfg(test)]
-mod tests;

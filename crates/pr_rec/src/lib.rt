@@ -37,6 +37,3 @@ pub use statuses::Status;
 pub use upgrades::upgrade;
 pub use usages::Usage;
 pub use whats::What;
-
-#[cfg(test)]
-mod tests;

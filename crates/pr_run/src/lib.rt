@@ -4,6 +4,3 @@
 mod one;
 
 pub use one::run_one;
-
-#[cfg(test)]
-mod tests;

@@ -35,6 +35,3 @@ pub use refusals::{ScenFault, ScenKind, ScenRefusal};
 pub use scenarios::Scenario;
 pub use script_lines::{Lines, ScriptLine};
 pub use scripts::Script;
-
-#[cfg(test)]
-mod tests;

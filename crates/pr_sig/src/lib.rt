@@ -6,8 +6,6 @@ mod laws;
 mod pending;
 mod places;
 mod rules;
-#[cfg(test)]
-mod tests;
 
 pub use laws::{
     early_signals, information_of_signals, pending_sets, stop_and_continue_delete_each_other,

@@ -8,6 +8,3 @@ mod traces;
 
 pub use strips::strip;
 pub use traces::trace;
-
-#[cfg(test)]
-mod tests;

@@ -30,6 +30,3 @@ pub use refusals::Refused;
 pub use spans::{Word, Words};
 pub use splitting::{word_texts, words};
 pub use tokens::Tokens;
-
-#[cfg(test)]
-mod tests;

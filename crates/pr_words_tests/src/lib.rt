@@ -1,10 +1,22 @@
-//! Tests of words in bytes, of sources and sinks, and of the lock. They stand apart from what they test, which is so
-//! proved once.
+//! Tests of words in bytes, tables, records, messages, programs and lines as text, of sources and sinks, and of the lock.
+//! They stand apart from what they test, which is so proved once.
 #![tactic(auto)]
 
 #[cfg(test)]
 mod ends;
 #[cfg(test)]
 mod locks;
+#[cfg(test)]
+mod messages;
+#[cfg(test)]
+mod options;
+#[cfg(test)]
+mod programs;
+#[cfg(test)]
+mod records;
+#[cfg(test)]
+mod tables;
+#[cfg(test)]
+mod texts;
 #[cfg(test)]
 mod words;

@@ -1,7 +1,7 @@
 //! What no clause says: a history that was worked out by hand, and memory that runs out.
-use crate::*;
 use pr_model::{Act, Actor, Call, Did, Entry, File, History, Mode, Reply, Res, Step, Turned};
 use pr_num::{Bytes, Flt, NoMemory, Sysno};
+use pr_strip::*;
 use std::alloc::Global;
 use std::test::Fail;
 

@@ -1,9 +1,9 @@
 //! What no clause says: the calls that take memory do their work where there is enough, and the numbers with which a
 //! process begins.
-use crate::{Proc, first_system, live, spawn};
 use pr_asm::{Program, read_program};
 use pr_file::Files;
 use pr_num::{Name, NoMemory, Table};
+use pr_proc::{Proc, first_system, live, spawn};
 use std::alloc::Global;
 use std::process::Abort;
 use std::test::Fail;

@@ -1,5 +1,5 @@
-use crate::{Action, Pendings, action, deletes, takeable};
 use pr_num::{Info, Sig, SigSet};
+use pr_sig::{Action, Pendings, action, deletes, takeable};
 use std::test::Fail;
 
 /// What is taken next, by the words of the lwp's own pending signals, its process's, and the held ones.

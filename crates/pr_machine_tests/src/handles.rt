@@ -1,6 +1,6 @@
 //! What no clause says: a table that fills up, and the texts of refusals.
-use crate::*;
 use pr_model::{File, Mode};
+use pr_open::*;
 use std::test::Fail;
 
 fn handle(controller: u32, pid: u32, file: File, mode: Mode) -> Held {

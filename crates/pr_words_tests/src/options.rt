@@ -1,4 +1,4 @@
-use super::*;
+use pr_line::*;
 use pr_num::{Bytes, Flt, Sig, Sysno};
 use std::alloc::Global;
 use std::process::Abort;

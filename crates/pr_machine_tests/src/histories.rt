@@ -1,5 +1,5 @@
 //! What no clause says: worked cases of the definitions, and calls that need memory.
-use crate::*;
+use pr_model::*;
 use pr_num::{Bytes, NoMemory, SigSet, Sysno};
 use std::alloc::Global;
 use std::test::Fail;

@@ -1,6 +1,6 @@
 //! What no clause says: each message as bytes written by hand, both ways, and bytes that are no message.
-use crate::*;
 use hex::FromHexError;
+use pr_msg::*;
 use std::alloc::{AllocError, Global};
 use std::test::Fail;
 

@@ -1,5 +1,5 @@
 //! What no clause says: that calls which take memory succeed where there is some, each once.
-use super::*;
+use pr_mem::*;
 use std::test::Fail;
 
 const READ: u8 = 4;

@@ -1,5 +1,5 @@
 //! What no clause says: that calls which take memory succeed where there is some, each once.
-use crate::{Fds, FileNo, Files};
+use pr_file::{Fds, FileNo, Files};
 use pr_num::{Bytes, Name};
 use std::test::Fail;
 

@@ -1,10 +1,10 @@
 //! What no clause says: that a kernel, a world and a run come about where there is memory.
 ghost use Rattle.std.specs.Prelude.{◌≡◌, ◌<◌, length};
 
-use super::*;
 use pr_api::{Kernel, TableKernel};
 use pr_model::{Actor, Call, File, Mode, Reply};
 use pr_num::Errno;
+use pr_run::*;
 use pr_world::{End, World};
 use std::alloc::Global;
 use std::test::Fail;

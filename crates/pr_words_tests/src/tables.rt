@@ -1,4 +1,4 @@
-use crate::{
+use pr_num::{
     ArgKind, ById, Bytes, DefAct, Errno, Flt, FltSet, Handles, Keyed, Modes, Name, NoMemory, Prot,
     Sig, SigSet, StopReason, SysSet, Sysno, Table, WatchFlags,
 };

@@ -1,6 +1,6 @@
-use super::*;
 use pr_model::{Call, Reply};
 use pr_num::{Bytes, Errno, Instruction, Reg, Sysno};
+use pr_scen::*;
 use std::alloc::Global;
 use std::process::Abort;
 use std::test::Fail;

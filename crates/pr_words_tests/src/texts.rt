@@ -1,5 +1,5 @@
-use super::*;
 use pr_num::NoMemory;
+use pr_text::*;
 use std::alloc::Global;
 use std::process::Abort;
 use std::test::Fail;

@@ -1,4 +1,4 @@
-use super::*;
+use pr_asm::*;
 use pr_num::{Instruction, Name, Reg, Sysno};
 use std::alloc::{AllocError, Global};
 use std::process::Abort;

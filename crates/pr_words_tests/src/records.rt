@@ -1,9 +1,9 @@
 //! What no clause says: each record as words written by hand, both ways, and words that are out of their range.
-use crate::*;
 use pr_num::{
     Access, Errno, Flt, FltSet, Info, MappingKind, Modes, Name, Prot, Sig, SigSet, StopReason,
     SysSet, Sysno, Target, WatchFlags,
 };
+use pr_rec::*;
 use std::alloc::{AllocError, Global};
 use std::test::Fail;
 
