@@ -1,10 +1,16 @@
-use Rattle.std.proofs.Common.{◌≡◌, ℕ, Bool, Option, Some, None, Result, Ok, Err, OnErr, is_some, is_none, position, eqb, leb, ltb, inl, inr, refl, sym, ap, ◌∙◌}
+use Rattle.std.proofs.Common.{◌≡◌, ◌+◌, ℕ, false, Option, Some, None, List, Result, Ok, Err, OnErr, cond, is_ok, is_some, is_none, length, position, eqb, leb, ltb, inl, inr, refl, sym, ap}
 use Rattle.std.proofs.lemmas.Bool.{cases_Bool}
 use Rattle.pr_num.specs.Files.{FileTable, Descriptors, pipe_of}
 use Rattle.pr_num.specs.declared.files.OpenFile.{OpenFile}
-use Rattle.pr_parts.specs.FileCalls.{FileEffect, closed, duplicated, sought}
+use Rattle.pr_num.specs.declared.files.Target.{Target}
+use Rattle.pr_num.specs.declared.files.Target.TheVariants.{File, PipeReader, PipeWriter}
+use Rattle.pr_parts.specs.FileCalls.{FileEffect, closed, duplicated, open_for_reading, open_for_writing, refused, sought, unless_no_memory}
 use Rattle.pr_parts.specs.FileTables.{open_of}
+use Rattle.pr_parts.specs.FileTransfers.{has_reader, has_writer, pipe_bytes, read_fd, read_file, read_pipe, write_fd, write_file, write_pipe}
 use Rattle.pr_parts.specs.declared.files.FileNo.{FileNo}
+use Rattle.pr_parts.specs.declared.files.FileNo.TheVariants.{NoMemory}
+use Rattle.pr_call.specs.FileAnswers.{lacks_memory}
+use Rattle.pr_call.specs.declared.answers.Refusal.TheVariants.{Files}
 
 -- A refused call leaves the files and the descriptors as they were.
 
@@ -38,6 +44,49 @@ module _ (t : FileTable) (fds : Descriptors) where
       by (Some found) e =
           elim (cases_Bool (is_some (pipe_of found.1.target))) [ inl pipe ↦ rw (e, pipe) (record { kept = (refl, refl) }) | inr file ↦ elim (cases_Bool (leb offset 65536)) [ inl within ↦ rw (e, file, within) (record { kept = tt }) | inr beyond ↦ rw (e, file, beyond) (record { kept = (refl, refl) }) ] ]
 
+  read_pipe-keeps : (pipe most : ℕ) → OnErr (read_pipe t pipe most).bytes ((read_pipe t pipe most).files ≡ t)
+  unfolding read_pipe
+  read_pipe-keeps pipe most =
+      elim (cases_Bool (eqb (length (pipe_bytes t pipe)) 0)) [
+        | inl empty ↦ elim (cases_Bool (has_writer t pipe)) [ inl written ↦ rw (empty, written) refl | inr unwritten ↦ rw (empty, unwritten) tt ]
+        | inr some ↦ rw some tt
+      ]
+
+  pub read-keeps : (fd most : ℕ) → OnErr (read_fd t fds fd most).bytes ((read_fd t fds fd most).files ≡ t)
+  unfolding read_fd read_file
+  read-keeps fd most = by (open_for_reading t fds fd) refl
+    where
+      into : (found : ℕ × OpenFile) (target : Target) → open_for_reading t fds fd ≡ Some found → found.1.target ≡ target → OnErr (read_fd t fds fd most).bytes ((read_fd t fds fd most).files ≡ t)
+      into found (File file) e is = rw e (rw is tt)
+      into found (PipeReader pipe) e is = rw e (rw is (read_pipe-keeps pipe most))
+      into found (PipeWriter pipe) e is = rw e (rw is (read_pipe-keeps pipe most))
+
+      by : (o : Option (ℕ × OpenFile)) → open_for_reading t fds fd ≡ o → OnErr (read_fd t fds fd most).bytes ((read_fd t fds fd most).files ≡ t)
+      by None e = rw e refl
+      by (Some found) e = into found found.1.target e refl
+
+  write_pipe-keeps : (pipe : ℕ) (bytes : List ℕ) → Keeps t fds (write_pipe t fds pipe bytes)
+  unfolding write_pipe
+  write_pipe-keeps pipe bytes =
+      elim (cases_Bool (has_reader t pipe)) [
+        | inl read ↦ elim (cases_Bool (ltb 4096 (length (pipe_bytes t pipe) + length bytes))) [ inl full ↦ rw (read, full) (record { kept = (refl, refl) }) | inr room ↦ rw (read, room) (record { kept = tt }) ]
+        | inr unread ↦ rw unread (record { kept = (refl, refl) })
+      ]
+
+  pub written-keeps : (fd : ℕ) (bytes : List ℕ) → Keeps t fds (write_fd t fds fd bytes)
+  unfolding write_fd write_file
+  written-keeps fd bytes = by (open_for_writing t fds fd) refl
+    where
+      into : (found : ℕ × OpenFile) (target : Target) → open_for_writing t fds fd ≡ Some found → found.1.target ≡ target → Keeps t fds (write_fd t fds fd bytes)
+      into found (File file) e is =
+          rw e (rw is (elim (cases_Bool (ltb 65536 (found.1.offset + length bytes))) [ inl long ↦ rw long (record { kept = (refl, refl) }) | inr short ↦ rw short (record { kept = tt }) ]))
+      into found (PipeReader pipe) e is = rw e (rw is (write_pipe-keeps pipe bytes))
+      into found (PipeWriter pipe) e is = rw e (rw is (write_pipe-keeps pipe bytes))
+
+      by : (o : Option (ℕ × OpenFile)) → open_for_writing t fds fd ≡ o → Keeps t fds (write_fd t fds fd bytes)
+      by None e = rw e (record { kept = (refl, refl) })
+      by (Some found) e = into found found.1.target e refl
+
 -- what a refused call was, by its effect
 module _ {A : Type 0} (t : FileTable) (fds : Descriptors) (f : FileTable) (d : Descriptors) (why : FileNo) (e : FileEffect A) where
   pub kept-files : Keeps t fds e → record { files = f; fds = d; answer = Err why } ≡ e → f ≡ t
@@ -45,3 +94,25 @@ module _ {A : Type 0} (t : FileTable) (fds : Descriptors) (f : FileTable) (d : D
 
   pub kept-fds : Keeps t fds e → record { files = f; fds = d; answer = Err why } ≡ e → d ≡ fds
   kept-fds keeps is = let kept = keeps.kept in (rw (sym is) at kept).1
+
+-- the same of a call that may have found no memory
+module _ {A : Type 0} (t : FileTable) (fds : Descriptors) (f : FileTable) (d : Descriptors) (e : FileEffect A) where
+  pub unless-files : (why : FileNo) → Keeps t fds e → record { files = f; fds = d; answer = Err why } ≡ unless_no_memory t fds (Err why) e → f ≡ t
+  unless-files NoMemory keeps is = by e.answer is
+    where
+      by : (r : Result A FileNo) → record { files = f; fds = d; answer = Err NoMemory } ≡ cond (is_ok r) (refused t fds NoMemory) e → f ≡ t
+      by (Ok value) made = ap (λ (x : FileEffect A). x.files) made
+      by (Err other) made = kept-files t fds f d NoMemory e keeps made
+  unless-files why keeps is = kept-files t fds f d why e keeps is
+
+  pub unless-fds : (why : FileNo) → Keeps t fds e → record { files = f; fds = d; answer = Err why } ≡ unless_no_memory t fds (Err why) e → d ≡ fds
+  unless-fds NoMemory keeps is = by e.answer is
+    where
+      by : (r : Result A FileNo) → record { files = f; fds = d; answer = Err NoMemory } ≡ cond (is_ok r) (refused t fds NoMemory) e → d ≡ fds
+      by (Ok value) made = ap (λ (x : FileEffect A). x.fds) made
+      by (Err other) made = kept-fds t fds f d NoMemory e keeps made
+  unless-fds why keeps is = kept-fds t fds f d why e keeps is
+
+  pub unless-refused : (why : FileNo) → lacks_memory (Err (Files why)) ≡ false → record { files = f; fds = d; answer = Err why } ≡ unless_no_memory t fds (Err why) e → record { files = f; fds = d; answer = Err why } ≡ e
+  unless-refused NoMemory other is = absurd (cc)
+  unless-refused why other is = is

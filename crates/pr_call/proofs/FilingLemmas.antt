@@ -1,7 +1,7 @@
 use Rattle.std.proofs.Common.{◌≡◌, ℕ, true, List, Option, Some, None, IsSome, subst, is_some, is_none, Result, Ok, Err, OnErr, [], ◌∷◌, refl, sym, ap, ◌∙◌}
 use Rattle.std.specs.Option.{option_map}
 use Rattle.std.proofs.lemmas.Option.{same_Some}
-use Rattle.pr_num.specs.ById.{change_under, put_under, under}
+use Rattle.pr_num.specs.ById.{put_under, under}
 use Rattle.pr_num.proofs.ByIdLaws.{change_under-change_under, put_under-found, put_under-same, under-change_under}
 use Rattle.pr_num.specs.Files.{FileTable, Descriptors}
 use Rattle.pr_num.specs.Spaces.{Space}
@@ -14,7 +14,7 @@ use Rattle.pr_parts.specs.FileTables.{HasRoom}
 use Rattle.pr_lawful.proofs.UseLemmas.{files-room-one}
 use Rattle.pr_proc.proofs.LifeLemmas.{live_process-found, live_process-live, live_process-made}
 use Rattle.pr_call.specs.Effects.{after_effect, outcome_of}
-use Rattle.pr_call.specs.FileAnswers.{answer_meant, refusal_meant, settled}
+use Rattle.pr_call.specs.FileAnswers.{answer_meant, lacks_memory, refusal_meant, settled}
 use Rattle.pr_call.specs.declared.answers.Refusal.{Refusal}
 
 -- What calls on files make of the system.
@@ -106,6 +106,13 @@ module _ (s : TracedSystem) (pid : ℕ) (q p : TracedProcess) (id : ℕ) (l : Tr
       ∙ space-settled s pid p id l answer m found (subst (λ (x : TracedProcess). OnErr answer (m ≡ x.space)) same em)
       ∙ ap (λ x. after_effect pid p id l x s) (effect (ap (λ (x : TracedProcess). x.fds) (sym same)) (ap (λ (x : TracedProcess). x.space) (sym same)))
 
+-- where memory ran out nothing changed
+pub files-kept : (s : TracedSystem) (pid : ℕ) (q : TracedProcess) (answer : Result ℕ Refusal) (f : FileTable) → under pid s.processes ≡ Some q → lacks_memory answer ≡ true → OnErr answer (f ≡ s.files) → record s { files = f; processes = put_under pid q s.processes } ≡ s
+files-kept s pid q (Ok value) f there lacks ef = absurd (cc)
+files-kept s pid q (Err why) f there lacks ef =
+    ap (λ t. record s { files = t; processes = put_under pid q s.processes }) ef
+    ∙ ap (λ ps. record s { processes = ps }) (put_under-same pid q s.processes there)
+
 -- the outcome of a call does not depend on what it changes
 outcome-same : (answer : Result ℕ Refusal) (cs : List changes.Change) → outcome_of (answer_meant answer []) ≡ outcome_of (answer_meant answer cs)
 outcome-same (Ok value) cs = refl
@@ -115,6 +122,18 @@ pub done-outcome : (s : TracedSystem) (pid : ℕ) (q p : TracedProcess) (answer 
 done-outcome s pid q p answer e cs there found effect =
     let same : q ≡ p = found-live s pid q p there found in
     outcome-same answer cs ∙ ap outcome_of (effect (ap (λ (x : TracedProcess). x.fds) (sym same)) (ap (λ (x : TracedProcess). x.space) (sym same)))
+
+-- where memory ran out nothing changed
+lacking-err : (answer : Result ℕ Refusal) (X : Type 0) → lacks_memory answer ≡ true → OnErr answer X → X
+lacking-err (Ok value) X lacks here = absurd (cc)
+lacking-err (Err why) X lacks here = here
+
+pub lacking-kept : (s : TracedSystem) (pid : ℕ) (q : TracedProcess) (answer : Result ℕ Refusal) (f : FileTable) (d : Descriptors) (m : Space) → lacks_memory answer ≡ true → under pid s.processes ≡ Some q → OnErr answer (f ≡ s.files) → OnErr answer (d ≡ q.fds) → OnErr answer (m ≡ q.space) → record s { files = f; processes = put_under pid (record q { fds = d; space = m }) s.processes } ≡ s
+lacking-kept s pid q answer f d m lacks there ef ed em =
+    ap (λ (t : FileTable). record s { files = t; processes = put_under pid (record q { fds = d; space = m }) s.processes }) (lacking-err answer (f ≡ s.files) lacks ef)
+    ∙ ap (λ (ds : Descriptors). record s { processes = put_under pid (record q { fds = ds; space = m }) s.processes }) (lacking-err answer (d ≡ q.fds) lacks ed)
+    ∙ ap (λ (space : Space). record s { processes = put_under pid (record q { space = space }) s.processes }) (lacking-err answer (m ≡ q.space) lacks em)
+    ∙ ap (λ ps. record s { processes = ps }) (put_under-same pid q s.processes there)
 
 -- each open file has room for one descriptor more
 pub room-one : (s : TracedSystem) → IsLawfulSystem s → HasRoom s.files 1
@@ -126,3 +145,8 @@ pub ruleset rooms = (room-one)
 pub on_err_refl : {X : Type 0} (answer : Result ℕ Refusal) (x : X) → OnErr answer (x ≡ x)
 on_err_refl (Ok value) x = tt
 on_err_refl (Err why) x = refl
+
+-- what holds anyway holds where there is an error
+pub on_err : {X Y P : Type 0} (r : Result X Y) → P → OnErr r P
+on_err (Ok x) holds = tt
+on_err (Err y) holds = holds

@@ -1,3 +1,4 @@
+pub mod Breaks
 pub mod Effects
 pub mod FileAnswers
 pub mod Lwps
@@ -5,5 +6,5 @@ pub mod Maps
 pub mod Memories
 pub mod Paths
 pub mod Processes
-pub mod Sendings
+pub mod Transfers
 pub mod Waits

@@ -1,5 +1,5 @@
 //! What calls on files answer, and what comes of that.
-ghost use Rattle.std.specs.Prelude.{◌≡◌, [], IsSome, Err};
+ghost use Rattle.std.specs.Prelude.{◌≡◌, [], IsSome, IfOk, Err, is_err};
 ghost use Rattle.pr_call.specs.Effects.{outcome_of};
 ghost use Rattle.pr_call.specs.FileAnswers.{answer_meant, lacks_memory, settled};
 ghost use Rattle.pr_model.specs.FileCallRows.{file_errno};
@@ -8,7 +8,7 @@ ghost use Rattle.pr_model.specs.State.{TracedLwp, TracedProcess, live_process};
 use crate::requests::Performed;
 use pr_file::FileNo;
 use pr_model::Res;
-use pr_num::{Errno, Info, Sig};
+use pr_num::{Errno, Info, NoMemory, Sig};
 use pr_proc::{Sys, generate};
 
 /// Why a call on files is refused.
@@ -28,6 +28,17 @@ pub fn lacks_memory(answer: Result<u64, Refusal>) -> bool
         Err(Refusal::Files(FileNo::NoMemory)) => true,
         _ => false,
     }
+}
+
+/// An answer of a call that may take memory, unless that ran out.
+pub fn unless_no_memory(answer: Result<u64, Refusal>) -> Result<Result<u64, Refusal>, NoMemory>
+    ensures ok { IfOk result (λ same. same ≡ answer) }
+    ensures lacks { is_err result ≡ lacks_memory answer }
+{
+    if lacks_memory(answer) {
+        return Err(NoMemory);
+    }
+    Ok(answer)
 }
 
 /// The errno of a refusal of files.

@@ -1,15 +1,17 @@
 //! The system calls on files and pipes as an lwp of a live process makes them.
-ghost use Rattle.std.specs.Prelude.{◌≡◌, ℕ, IsSome};
+ghost use Rattle.std.specs.Prelude.{◌≡◌, IfOk, IsSome, OnErr};
 ghost use Rattle.std.specs.Option.{ForSome};
 ghost use Rattle.pr_call.specs.Effects.{after_effect, outcome_of};
-ghost use Rattle.pr_model.specs.FileCallRows.{close_effect, dup_effect, lseek_effect};
+ghost use Rattle.pr_model.specs.FileCallRows.{close_effect, dup_effect, fstat_effect, lseek_effect, open_effect, pipe_effect};
 ghost use Rattle.pr_model.specs.Lawful.{IsLawfulSystem};
 ghost use Rattle.pr_model.specs.State.{TracedLwp, live_process};
 
-use crate::answers::settle;
+use crate::answers::{settle, unless_no_memory};
 use crate::files;
 use crate::requests::Performed;
+use pr_num::NoMemory;
 use pr_proc::Sys;
+use std::alloc::Global;
 
 /// close(2). EBADF. Takes no memory.
 #[tactic(auto, using(pr_proc::proofs::LifeLemmas::life_laws))]
@@ -44,4 +46,64 @@ pub fn lseek(sys: &mut Sys, pid: u32, id: u32, fd: u64, offset: u64) -> Performe
     let process = sys.processes.get_mut(pid);
     let answer = files::lseek(&mut sys.files, &process.fds, fd, offset);
     settle(sys, pid, id, answer)
+}
+
+/// fstat(2). EBADF, EFAULT. Takes no memory.
+#[tactic(auto, using(pr_proc::proofs::LifeLemmas::life_laws))]
+pub fn fstat(sys: &mut Sys, pid: u32, id: u32, fd: u64, at: u64) -> Performed
+    requires live { IsSome (live_process sys.old pid) }
+    ensures system { ForSome (live_process sys.old pid) (λ p. (l : TracedLwp) → sys.new ≡ after_effect pid p id l (fstat_effect sys.old.files p.fds p.space fd at) sys.old) }
+    ensures outcome { ForSome (live_process sys.old pid) (λ p. result ≡ outcome_of (fstat_effect sys.old.files p.fds p.space fd at)) }
+{
+    let process = sys.processes.get_mut(pid);
+    let answer = files::fstat(&sys.files, &process.fds, &mut process.space, fd, at);
+    settle(sys, pid, id, answer)
+}
+
+/// open(2). EFAULT, EINVAL, ENOENT, EMFILE, ENFILE. Where memory runs out, the system stays as it is.
+#[tactic(auto, using(pr_proc::proofs::LifeLemmas::life_laws))]
+pub fn open(
+    alloc: Global,
+    sys: &mut Sys,
+    pid: u32,
+    id: u32,
+    at: u64,
+    flags: u64,
+) -> Result<Performed, NoMemory>
+    requires live { IsSome (live_process sys.old pid) }
+    ensures system { IfOk result (λ outcome. ForSome (live_process sys.old pid) (λ p. (l : TracedLwp) → sys.new ≡ after_effect pid p id l (open_effect sys.old.files p.fds p.space at flags) sys.old)) }
+    ensures outcome { IfOk result (λ outcome. ForSome (live_process sys.old pid) (λ p. outcome ≡ outcome_of (open_effect sys.old.files p.fds p.space at flags))) }
+    ensures err { OnErr result (sys.new ≡ sys.old) }
+{
+    let process = sys.processes.get_mut(pid);
+    let answer = files::open(
+        alloc,
+        &mut sys.files,
+        &mut process.fds,
+        &process.space,
+        at,
+        flags,
+    );
+    let answer = unless_no_memory(answer)?;
+    Ok(settle(sys, pid, id, answer))
+}
+
+/// pipe(2). EFAULT, EMFILE, ENFILE. Where memory runs out, the system stays as it is.
+#[tactic(auto, using(pr_proc::proofs::LifeLemmas::life_laws))]
+pub fn pipe(alloc: Global, sys: &mut Sys, pid: u32, id: u32, at: u64) -> Result<Performed, NoMemory>
+    requires live { IsSome (live_process sys.old pid) }
+    ensures system { IfOk result (λ outcome. ForSome (live_process sys.old pid) (λ p. (l : TracedLwp) → sys.new ≡ after_effect pid p id l (pipe_effect sys.old.files p.fds p.space at) sys.old)) }
+    ensures outcome { IfOk result (λ outcome. ForSome (live_process sys.old pid) (λ p. outcome ≡ outcome_of (pipe_effect sys.old.files p.fds p.space at))) }
+    ensures err { OnErr result (sys.new ≡ sys.old) }
+{
+    let process = sys.processes.get_mut(pid);
+    let answer = files::pipe(
+        alloc,
+        &mut sys.files,
+        &mut process.fds,
+        &mut process.space,
+        at,
+    );
+    let answer = unless_no_memory(answer)?;
+    Ok(settle(sys, pid, id, answer))
 }

@@ -2,9 +2,9 @@
 #![tactic(auto)]
 
 mod answers;
+mod breaks;
 mod files;
 mod filing;
-mod ids;
 mod lwps;
 mod making;
 mod maps;
@@ -17,6 +17,8 @@ mod requests;
 mod sending;
 mod signals;
 mod sleeps;
+mod stores;
+mod transfers;
 mod waits;
 
 pub use performing::perform;

@@ -6,12 +6,11 @@ ghost use Rattle.pr_call.specs.Lwps.{is_full};
 ghost use Rattle.pr_model.specs.LwpCalls.{can_be_named, lwp_continue_effect, lwp_create_effect, lwp_suspend_effect, made_registers};
 ghost use Rattle.pr_model.specs.State.{TracedLwp, live_process, lwp_of};
 
-use crate::ids::id_of;
 use crate::requests::{Change, Effect, Performed};
 use pr_model::Res;
 use pr_num::limits::{LAST_LWP, LWP_LIMIT};
 use pr_num::{AGENT, Errno, NoMemory};
-use pr_proc::{Proc, Sys, live, make_lwp};
+use pr_proc::{Proc, Sys, id_of, live, make_lwp};
 
 /// The lwp that another one names by a whole word, if it stands; the agent cannot be named.
 fn named(process: &Proc, other: u64) -> Option<u32>

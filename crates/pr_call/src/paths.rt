@@ -4,8 +4,8 @@ ghost use Rattle.pr_call.specs.Paths.{path_meant};
 ghost use Rattle.pr_model.specs.MemoryCalls.{path_at};
 
 use pr_mem::Space;
-use pr_num::Errno;
 use pr_num::limits::PATH_LIMIT;
+use pr_num::{Errno, Name};
 
 /// Reads the path at an address into the front of the buffer, and answers how long it is. EFAULT: a byte before its end
 /// cannot be read; EINVAL: it has no end among 32 bytes, or is empty.
@@ -20,4 +20,14 @@ pub fn path_at(space: &Space, at: u64, out: &mut [u8; 32]) -> Result<usize, Errn
         Ok(Some(0)) => Err(Errno::Inval),
         Ok(Some(len)) => Ok(len),
     }
+}
+
+/// The path at an address as a name. It is refused as `path_at` refuses it.
+#[tactic(auto, using(crate::proofs::PathLemmas::path_sizes))]
+pub fn name_at(space: &Space, at: u64) -> Result<Name, Errno>
+    ensures { result ≡ path_at space.now at }
+{
+    let mut path = [0; 32];
+    let len = path_at(space, at, &mut path)?;
+    Ok(Name::from_slice(&path[..len]).unwrap())
 }

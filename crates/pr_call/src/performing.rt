@@ -2,11 +2,11 @@
 ghost use Rattle.std.specs.Prelude.{◌≡◌, true, false, IsSome, IsOk, IfOk, OnErr};
 ghost use Rattle.std.specs.Option.{ForSome};
 ghost use Rattle.pr_call.specs.Effects.{after_effect, effect_meant, effect_of, is_plain, outcome_of, takes_memory};
-ghost use Rattle.pr_model.specs.Built.{is_built_syscall};
 ghost use Rattle.pr_model.specs.Lawful.{IsLawfulSystem};
 ghost use Rattle.pr_model.specs.State.{live_process, lwp_of};
 
-use crate::filing::{close, dup, lseek};
+use crate::breaks::brk;
+use crate::filing::{close, dup, fstat, lseek, open, pipe};
 use crate::lwps::lwp_create;
 use crate::making::make;
 use crate::maps::mmap;
@@ -15,6 +15,7 @@ use crate::plain::{decide, is_plain};
 use crate::processes::{exec_by, fork_by};
 use crate::requests::{Effect, Performed, Request};
 use crate::sending::send;
+use crate::transfers::{read, write};
 use crate::waits::wait;
 use pr_num::{Info, NoMemory, Sysno};
 use pr_proc::{Sys, live};
@@ -44,13 +45,12 @@ fn perform_plain(sys: &mut Sys, request: &Request) -> Performed
     make(sys, request.pid, request.lwp, effect)
 }
 
-/// Performs the call of an lwp of a live process, as far as calls are built: the system is as the effect of the call
-/// leaves it, and the answer is what comes of it. The result is not stored yet, and the lwp stays where it was. Where
-/// memory runs out, the system stays as it is; only some calls take memory.
+/// Performs the call of an lwp of a live process: the system is as the effect of the call leaves it, and the answer is
+/// what comes of it. The result is not stored yet, and the lwp stays where it was. Where memory runs out, the system
+/// stays as it is; only some calls take memory.
 #[tactic(auto, unfolding(pr_model::specs::CallEffects::call_effect))]
 pub fn perform(alloc: Global, sys: &mut Sys, request: &Request) -> Result<Performed, NoMemory>
     requires lawful { IsLawfulSystem sys.old }
-    requires built { is_built_syscall request.now.call ≡ true }
     requires live { IsSome (live_process sys.old request.now.pid) }
     requires lwp { ForSome (live_process sys.old request.now.pid) (λ p. IsSome (lwp_of p request.now.lwp)) }
     ensures system { IfOk result (λ outcome. ForSome (live_process sys.old request.now.pid) (λ p. ForSome (lwp_of p request.now.lwp) (λ l. sys.new ≡ after_effect request.now.pid p request.now.lwp l (effect_of sys.old p l request.now) sys.old))) }
@@ -83,10 +83,24 @@ pub fn perform(alloc: Global, sys: &mut Sys, request: &Request) -> Result<Perfor
         Sysno::Close => Ok(close(sys, request.pid, request.lwp, args[0])),
         Sysno::Dup => Ok(dup(sys, request.pid, request.lwp, args[0])),
         Sysno::Lseek => Ok(lseek(sys, request.pid, request.lwp, args[0], args[1])),
+        Sysno::Fstat => Ok(fstat(sys, request.pid, request.lwp, args[0], args[1])),
+        Sysno::Open => open(alloc, sys, request.pid, request.lwp, args[0], args[1]),
+        Sysno::Pipe => pipe(alloc, sys, request.pid, request.lwp, args[0]),
+        Sysno::Brk => brk(alloc, sys, request.pid, args[0]),
         Sysno::Wait => Ok(wait(sys, request.pid, args[0])),
         Sysno::Fork => fork_by(alloc, sys, request.pid, request.lwp, args),
         Sysno::Exec => exec_by(alloc, sys, request.pid, request.lwp, args[0]),
         Sysno::LwpCreate => lwp_create(sys, request.pid, request.lwp, args),
+        Sysno::Read => Ok(read(sys, request.pid, request.lwp, args[0], args[1], args[2])),
+        Sysno::Write => write(
+            alloc,
+            sys,
+            request.pid,
+            request.lwp,
+            args[0],
+            args[1],
+            args[2],
+        ),
         _ => unreachable!(),
     }
 }

@@ -1,31 +1,18 @@
 //! fork(2) and exec(2).
-ghost use Rattle.std.specs.Prelude.{◌≡◌, ◌<◌, IfOk, IsSome, OnErr, Option, Some, length};
+ghost use Rattle.std.specs.Prelude.{◌≡◌, ◌<◌, IfOk, IsSome, OnErr, length};
 ghost use Rattle.std.specs.Option.{ForSome};
 ghost use Rattle.pr_call.specs.Effects.{after_effect, outcome_of};
 ghost use Rattle.pr_call.specs.Processes.{target_effect};
 ghost use Rattle.pr_model.specs.Lawful.{IsLawfulSystem};
 ghost use Rattle.pr_model.specs.ProcessCalls.{exec_effect, fork_effect};
 ghost use Rattle.pr_model.specs.State.{live_process, lwp_of};
-ghost use Rattle.pr_num.specs.declared.errnos.Errno.{Errno as AnyErrno};
-ghost use Rattle.pr_proc.specs.Refusals.{SaysOf};
 
 use crate::paths::path_at;
 use crate::requests::Performed;
 use pr_model::Res;
 use pr_num::{AGENT, Errno, NoMemory};
-use pr_proc::{ProcNo, Sys, exec, fork, live, program_named};
+use pr_proc::{Sys, errno_of, exec, fork, live, program_named};
 use std::alloc::Global;
-
-/// The errno of a refusal; memory that ran out has none.
-fn errno_of(reason: ProcNo) -> Result<Errno, NoMemory>
-    ensures { (refusal : Option AnyErrno) → SaysOf reason refusal → IfOk result (λ error. refusal ≡ Some error) }
-{
-    match reason {
-        ProcNo::Again => Ok(Errno::Again),
-        ProcNo::NoSpace => Ok(Errno::Nomem),
-        ProcNo::NoMemory => Err(NoMemory),
-    }
-}
 
 /// fork(2) by an lwp of a live process gives the child's id. ENOTSUP: by the agent; EAGAIN: as many processes were made
 /// as can be; ENOMEM: too much would be mapped. Where memory runs out, the system stays as it is.

@@ -1,55 +1,17 @@
 //! kill(2) and sigqueue(3C).
-ghost use Rattle.std.specs.Prelude.{◌≡◌, ℕ, IsSome, IsTrue};
+ghost use Rattle.std.specs.Prelude.{◌≡◌, ℕ, IsSome};
 ghost use Rattle.std.specs.Option.{ForSome};
 ghost use Rattle.pr_call.specs.Effects.{after_effect, outcome_of};
-ghost use Rattle.pr_call.specs.Sendings.{IsSent, sending_meant};
 ghost use Rattle.pr_model.specs.Readers.{life_of};
-ghost use Rattle.pr_model.specs.SignalCalls.{send_effect, sending, sends, sent_effect};
+ghost use Rattle.pr_model.specs.SignalCalls.{send_effect, sends, sent_effect};
 ghost use Rattle.pr_model.specs.Signals.{is_kill};
 ghost use Rattle.pr_model.specs.State.{TracedLwp, live_process};
-ghost use Rattle.pr_num.specs.declared.signals.Sig.{Sig as AnySig};
+ghost use Rattle.pr_proc.specs.Sendings.{IsSent};
 
-use crate::ids::id_of;
 use crate::requests::Performed;
 use pr_model::Res;
-use pr_num::limits::SIGNAL_COUNT;
-use pr_num::{Errno, Info, Sig};
-use pr_proc::{Sys, end, generate};
-
-/// What comes of sending a signal of a number to a process.
-#[derive(Clone, Copy, Debug, PartialEq, Eq)]
-pub enum Sending {
-    Refused(Errno),
-    Nothing,
-    /// This signal is sent to the process of this id.
-    Sent(u32, Sig),
-}
-
-/// What comes of sending a signal of a number to the process that another number names, in the order of the refusals.
-#[tactic(auto, using(crate::proofs::SendingLemmas::sending_laws))]
-fn sending_of(sys: &Sys, target: u64, number: u64) -> Sending
-    ensures value { sending_meant result ≡ sending target number (life_of sys.now target) }
-    ensures sent { (id : ℕ) (g : AnySig) → result ≡ Sending.Sent id g → IsSent sys.now target id g }
-{
-    if number > SIGNAL_COUNT as u64 {
-        return Sending::Refused(Errno::Inval);
-    }
-    if target == 0 {
-        return Sending::Refused(Errno::Perm);
-    }
-    let Some(id) = id_of(&sys.processes, target) else {
-        return Sending::Refused(Errno::Srch);
-    };
-    let process = sys.processes.get(id).unwrap();
-    if process.ended.is_some() {
-        return Sending::Nothing;
-    }
-    match Sig::from_number(number) {
-        None => Sending::Nothing,
-        Some(signal) if process.pending.room(signal) => Sending::Sent(id, signal),
-        Some(_) => Sending::Refused(Errno::Again),
-    }
-}
+use pr_num::{Info, Sig};
+use pr_proc::{Sending, Sys, end, generate, sending_of};
 
 /// Whether a signal is SIGKILL.
 fn is_kill(signal: Sig) -> bool

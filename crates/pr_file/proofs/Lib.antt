@@ -4,3 +4,4 @@ pub mod TableLemmas
 pub mod UserLemmas
 pub mod CountLemmas
 pub mod EndLemmas
+pub mod WaitLemmas

@@ -1,9 +1,10 @@
-ghost use Rattle.std.specs.Prelude.{◌≡◌, ◌<◌, ◌≤◌, ◌+◌, ◌^◌, ◌≢◌, ◌↔◌, IsTrue, true, None, Some, is_some, IfSome, OnOk, OnErr, length, option_map};
+ghost use Rattle.std.specs.Prelude.{◌≡◌, ◌<◌, ◌≤◌, ◌↔◌, IsTrue, true, None, Some, is_some, IfSome, OnOk, OnErr, length, option_map};
 ghost use Rattle.pr_num.specs.Files.{with_all_closed, no_descriptors};
 ghost use Rattle.pr_parts.specs.FileTables.{open_of, at_place, file_named, HasRoom, IsOpenFile};
 ghost use Rattle.pr_parts.specs.FileCalls.{name_of, unless_no_memory, no_files, with_file, closed, duplicated, with_all_shared, are_open_flags, access_of, opened_file, created_file, opened, piped, sought, described, reads, writes, open_for_reading, open_for_writing};
 
 mod transfers;
+mod waits;
 
 use crate::fds::Fds;
 use crate::tables::{Tables, pipe_of};

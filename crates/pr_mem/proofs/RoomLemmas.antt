@@ -1,5 +1,5 @@
 -- Whether there is room for a heap.
-use Rattle.std.proofs.Common.{◌≡◌, ℕ, ◌+◌, ◌-◌, ◌≤◌, true, leb, Option, Some, None, [], length, refl, sym, ◌∙◌, ap, arith, get_or}
+use Rattle.std.proofs.Common.{◌≡◌, ℕ, ◌+◌, ◌≤◌, true, Option, Some, None, [], length, refl, sym, ◌∙◌, ap, arith, get_or}
 use Rattle.std.specs.List.{All, find, position, remove, slice_get}
 use Rattle.std.proofs.lemmas.List.{length-replicate}
 use Rattle.std.proofs.lemmas.Option.{slice_get-get_or, slice_get_read}
@@ -18,10 +18,6 @@ mapped_size-heap size space = go (find is_break_heap space) refl
     go : (found : Option Mapping) → find is_break_heap space ≡ found → mapped_size (with_heap size space) + heap_bytes space ≡ mapped_size space + size
     go None e = let bytes = ap bytes_of e in omega (arith, mapped_size-none size space e)
     go (Some m) e = let bytes = ap bytes_of e in omega (arith, mapped_size-some size space m e)
-
--- one test is the other
-pub same_room : (size limit mapped heap made : ℕ) → heap ≤ mapped → mapped ≤ limit → made + heap ≡ mapped + size → leb size (limit - (mapped - heap)) ≡ leb made limit
-same_room size limit mapped heap made within kept e = grind arith
 
 -- the heap that is made, where there is none
 pub heap_made : (size : ℕ) (space : Space) (heap : Mapping) → position is_break_heap space ≡ None → (size ≡ 0 → ⊥) → heap ≡ zeros_at heap_base size read_write Heap → with_heap size space ≡ with_mapping heap space

@@ -1,10 +1,11 @@
-ghost use Rattle.std.specs.Prelude.{◌≡◌, ◌≤◌, ◌<◌, ◌+◌, ◌^◌, length, position, find, IfSome};
+ghost use Rattle.std.specs.Prelude.{◌≡◌, ◌≤◌, ◌<◌, ◌+◌, ◌-◌, ◌^◌, length, position, find, IfSome};
 ghost use Rattle.std.specs.List.{list_any, position_or_len};
 ghost use Rattle.std.specs.Option.{option_copied};
 ghost use Rattle.pr_num.specs.Control.{has_flags};
+ghost use Rattle.pr_num.specs.Programs.{rounded};
 ghost use Rattle.pr_num.specs.Spaces.{IsSpace, covers, mapped_size};
 ghost use Rattle.pr_parts.specs.ByAddress.{is_behind};
-ghost use Rattle.pr_parts.specs.AddressSpaces.{address_of, meets, is_break_heap, is_free, is_range};
+ghost use Rattle.pr_parts.specs.AddressSpaces.{address_of, break_limit, heap_base, meets, is_break_heap, is_free, is_range};
 ghost use Rattle.pr_mem.specs.Answers.{heap_bytes};
 ghost use Rattle.pr_mem.specs.Places.{IsPlace, ends_before};
 
@@ -144,4 +145,14 @@ pub fn heap_bytes(mappings: &[Mapping]) -> u64
         Some(heap) => heap.bytes.as_slice().len() as u64,
         None => 0,
     }
+}
+
+/// How many bytes the heap has where the break stands at an address.
+pub fn heap_size(end: u64) -> u64
+    requires least { heap_base ≤ end }
+    requires most { end ≤ break_limit }
+    ensures value { result ≡ rounded (end - heap_base) }
+    ensures within { heap_base + result ≤ break_limit }
+{
+    (end - HEAP + 4095) / 4096 * 4096
 }

@@ -1,4 +1,4 @@
-ghost use Rattle.std.specs.Prelude.{◌≡◌, ◌≤◌, ◌<◌, ◌+◌, ◌^◌, [], All, length, position, remove, true, Some, None, Ok, Err, OnOk, OnErr, IfOk, IfSome, IsSome, IsOkUnless, IsTrue};
+ghost use Rattle.std.specs.Prelude.{◌≡◌, ◌≤◌, ◌<◌, ◌+◌, ◌^◌, [], All, length, position, remove, true, Some, None, Ok, Err, OnOk, OnErr, IfOk, IfSome, IsSome, IsOkUnless, IsTrue, is_ok};
 ghost use Rattle.pr_num.specs.Programs.{rounded};
 ghost use Rattle.pr_num.specs.Spaces.{mapped_size, mapping_limit, bytes_for, first_mappings, kind_of_number};
 ghost use Rattle.pr_parts.specs.AddressSpaces.{LeavesHeapPlace, break_limit, gap_in, heap_base, is_break_heap, is_free, text_at, with_break, with_bytes, with_heap, with_mapping, with_protected, without_range, zeros_at};
@@ -34,6 +34,12 @@ impl Space {
 
     /// The most bytes that can be mapped.
     pub const LIMIT: u64 = 0x10_0000;
+
+    /// Where the heap begins.
+    pub const HEAP: u64 = ranges::HEAP;
+
+    /// The address that the break cannot pass.
+    pub const BREAK_LIMIT: u64 = 0x18_0000;
 
     /// A space in which nothing is mapped. Takes no memory.
     pub fn new(alloc: Global) -> Space
@@ -84,6 +90,14 @@ impl Space {
         accesses::check(&self.mappings, first, need, at, out.len())?;
         accesses::fill(&self.mappings, first, need, at, out)?;
         Ok(())
+    }
+
+    /// Whether so many bytes from an address on can be accessed, which needs these protections.
+    pub fn can_access(&self, at: u64, len: usize, need: u8) -> bool
+        ensures { result ≡ is_ok (bytes_for need self.now at len) }
+    {
+        let first = ranges::place_at(&self.mappings, at);
+        accesses::check(&self.mappings, first, need, at, len).is_ok()
     }
 
     /// Writes bytes from an address on, which need these protections. Where that fails at a byte, the first such byte
@@ -203,6 +217,15 @@ impl Space {
         self.protect_as(at, size, mappings::prot_of(prot))
     }
 
+    /// How many bytes would be mapped if the break stood at an address. Nothing is changed.
+    pub fn size_with_break(&self, end: u64) -> u64
+        requires least { heap_base ≤ end }
+        requires most { end ≤ break_limit }
+        ensures { result ≡ mapped_size (with_break end self.now) }
+    {
+        self.size_with_heap(ranges::heap_size(end))
+    }
+
     /// Moves the break, which ends the heap: the heap is as many bytes as lie below the break, rounded up to a multiple
     /// of 4,096. Bytes that come to it are zero. Where more than 1 MiB would be mapped, or where memory runs out, the
     /// space stays as it is.
@@ -216,7 +239,7 @@ impl Space {
         ensures err { OnErr result (self.new ≡ self.old) }
         ensures heap_place { All LeavesHeapPlace self.new }
     {
-        let size = (end - ranges::HEAP + 4095) / 4096 * 4096;
+        let size = ranges::heap_size(end);
         if !self.has_heap_room(size) {
             return Err(MemFault::TooBig);
         }
@@ -265,12 +288,20 @@ impl Space {
         Ok(())
     }
 
+    /// How many bytes are mapped where the heap has so many.
+    fn size_with_heap(&self, size: u64) -> u64
+        requires { heap_base + size ≤ break_limit }
+        ensures { result ≡ mapped_size (with_heap size self.now) }
+    {
+        self.mapped - ranges::heap_bytes(&self.mappings) + size
+    }
+
     /// Whether the heap can have so many bytes.
     fn has_heap_room(&self, size: u64) -> bool
+        requires { heap_base + size ≤ break_limit }
         ensures { result ≡ has_heap_room size self.now }
     {
-        let others = self.mapped - ranges::heap_bytes(&self.mappings);
-        size <= Space::LIMIT - others
+        self.size_with_heap(size) <= Space::LIMIT
     }
 
     /// Gives the heap so many bytes, for which there is room.

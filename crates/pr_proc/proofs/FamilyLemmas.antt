@@ -1,10 +1,10 @@
-use Rattle.std.proofs.Common.{◌≡◌, ℕ, ◌+◌, ◌≤◌, Bool, true, false, eqb, cond, Option, Some, None, List, [], ◌∷◌, length, drop, refl, sym, ap, ◌∙◌, arith}
+use Rattle.std.proofs.Common.{◌≡◌, ℕ, ◌+◌, ◌≤◌, Bool, true, false, eqb, cond, Some, None, List, length, drop, refl, ap, ◌∙◌}
 use Rattle.std.specs.List.{slice_get}
 use Rattle.std.proofs.lemmas.List.{drop_all}
+use Rattle.pr_num.proofs.ListLemmas.{drop-at}
 use Rattle.pr_model.specs.Readers.{Children, no_child, all_live, first_zombie, child_before, children_among}
 use Rattle.pr_model.specs.State.{TracedProcess}
 use Rattle.pr_proc.specs.Families.{told_behind}
-use Rattle.pr_proc.proofs.OrderLemmas.{drop-at}
 
 -- What a walk over processes tells of the children of one.
 

@@ -3,9 +3,11 @@ pub mod ExecLemmas
 pub mod FamilyLemmas
 pub mod FirstLemmas
 pub mod ForkLemmas
+pub mod IdLemmas
 pub mod LifeLemmas
 pub mod OrderLemmas
 pub mod ProgramLemmas
+pub mod SendingLemmas
 pub mod SignalLemmas
 pub mod SizeLemmas
 pub mod SpaceLemmas

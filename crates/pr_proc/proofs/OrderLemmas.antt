@@ -1,21 +1,13 @@
-use Rattle.std.proofs.Common.{◌≡◌, ℕ, zero, suc, ◌+◌, ◌≤◌, true, false, cond, Option, Some, None, List, [], ◌∷◌, ◌++◌, length, drop, refl, sym, ap, ◌∙◌, arith}
+use Rattle.std.proofs.Common.{◌≡◌, ℕ, ◌+◌, ◌≤◌, true, false, Option, Some, None, List, length, drop, refl, sym, ap, ◌∙◌}
 use Rattle.std.specs.List.{find, slice_get}
 use Rattle.std.specs.Option.{option_or}
 use Rattle.std.proofs.lemmas.List.{drop_all}
 use Rattle.std.proofs.lemmas.List.Folds.{find-append}
-use Rattle.std.proofs.lemmas.Option.{none-some, same_Some}
+use Rattle.pr_num.proofs.ListLemmas.{drop-at}
 use Rattle.pr_model.specs.Order.{is_after, lwps_among, lwps_in, pairs_of}
 use Rattle.pr_model.specs.State.{TracedLwp, TracedProcess}
 
 -- What a walk over lists by id finds.
-
--- what stands at a place, and what stands behind it
-pub drop-at : {X : Type 0} (xs : List X) (i : ℕ) (x : X) → slice_get xs i ≡ Some x → drop i xs ≡ x ∷ drop (i + 1) xs
-drop-at [] i x e = absurd (none-some x e)
-drop-at (y ∷ xs) zero x e = ap (λ z. z ∷ xs) (same_Some y x e)
-drop-at (y ∷ xs) (suc i) x e =
-    let step : suc (i + 1) ≡ suc i + 1 = omega arith in
-    drop-at xs i x e ∙ ap (λ n. x ∷ drop n (y ∷ xs)) step
 
 module _ (after : Option (ℕ × ℕ)) (pid : ℕ) (lwps : List (ℕ × TracedLwp)) (i : ℕ) (id : ℕ) (l : TracedLwp) where
   pub first-here : slice_get lwps i ≡ Some (id, l) → is_after after (pid, id) ≡ true → find (is_after after) (pairs_of pid (drop i lwps)) ≡ Some (pid, id)

@@ -1,11 +1,10 @@
-use Rattle.std.proofs.Common.{◌≡◌, ℕ, ◌+◌, ◌<◌, ◌≤◌, true, false, Some, List, [], ◌∷◌, length, drop, refl, ap, ◌∙◌, arith}
+use Rattle.std.proofs.Common.{◌≡◌, ℕ, ◌+◌, ◌≤◌, Some, List, length, drop, ap}
 use Rattle.std.specs.List.{slice_get}
-use Rattle.std.specs.Prelude.{nat_le}
 use Rattle.std.proofs.lemmas.List.{drop_all}
+use Rattle.pr_num.proofs.ListLemmas.{drop-at}
 use Rattle.pr_num.specs.Spaces.{IsSpace, Space, mapped_size, mapping_limit}
 use Rattle.pr_model.specs.Readers.{size_of, sizes_of}
 use Rattle.pr_model.specs.State.{TracedProcess}
-use Rattle.pr_proc.proofs.OrderLemmas.{drop-at}
 
 -- How many bytes processes have mapped.
 

@@ -1,11 +1,7 @@
-use Rattle.std.proofs.Common.{◌≡◌, ℕ, ◌*◌, ◌+◌, ◌≤◌, List, [], ◌∷◌, ◌++◌, length, refl, arith, length-append}
-use Rattle.std.specs.List.{flat_map}
+use Rattle.std.proofs.Common.{◌≡◌, ◌≤◌, length, refl, arith}
 use Rattle.pr_num.proofs.ListLemmas.{length-text}
-use Rattle.pr_num.specs.Instructions.{instruction_bytes}
 use Rattle.pr_num.specs.Programs.{Program, text_of}
 use Rattle.pr_num.specs.Spaces.{first_mappings, first_space}
-use Rattle.pr_num.specs.declared.instructions.Instruction.{Instruction}
-use Rattle.pr_num.specs.Words.{word_bytes}
 
 -- The space in which a program begins.
 

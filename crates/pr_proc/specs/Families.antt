@@ -1,4 +1,4 @@
-use Rattle.std.specs.Prelude.{ℕ, Bool, true, false, None}
+use Rattle.std.specs.Prelude.{Bool, true, false, None}
 use Rattle.pr_model.specs.Readers as readers
 use Rattle.pr_proc.specs.declared.families.Children.{Children}
 use Rattle.pr_proc.specs.declared.families.Children.TheVariants.{Nobody, Living, Zombie}

@@ -2,7 +2,7 @@ pub mod Counts
 pub mod Families
 pub mod FirstFiles
 pub mod Forks
-pub mod Lives
 pub mod Refusals
 pub mod Room
+pub mod Sendings
 pub mod Shows

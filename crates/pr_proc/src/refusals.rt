@@ -1,4 +1,8 @@
-use pr_num::NoMemory;
+ghost use Rattle.std.specs.Prelude.{◌≡◌, IfOk, Option, Some};
+ghost use Rattle.pr_num.specs.declared.errnos.Errno.{Errno as AnyErrno};
+ghost use Rattle.pr_proc.specs.Refusals.{SaysOf};
+
+use pr_num::{Errno, NoMemory};
 use thiserror::Error;
 
 /// Why no process is made, or no other program run, with the errno that it stands for (Intro(2)).
@@ -23,5 +27,16 @@ impl From<NoMemory> for ProcNo {
 
     fn from(_error: NoMemory) -> ProcNo {
         ProcNo::NoMemory
+    }
+}
+
+/// The errno of a refusal; memory that ran out has none.
+pub fn errno_of(reason: ProcNo) -> Result<Errno, NoMemory>
+    ensures { (refusal : Option AnyErrno) → SaysOf reason refusal → IfOk result (λ error. refusal ≡ Some error) }
+{
+    match reason {
+        ProcNo::Again => Ok(Errno::Again),
+        ProcNo::NoSpace => Ok(Errno::Nomem),
+        ProcNo::NoMemory => Err(NoMemory),
     }
 }

@@ -176,7 +176,7 @@ pub(crate) fn spawn_unlimited(
 /// stop before it runs. `Again` comes exactly where 4,096 processes were made, then `NoSpace` exactly where all
 /// processes together would map more than 64 MiB. After an error the system is as it was.
 #[tactic(auto, unfolding(pr_model::specs::Spawning::spawn_refusal))]
-pub fn spawn(alloc: Global, sys: &mut Sys, place: u32, held: bool) -> Result<u32, ProcNo>
+pub fn spawn(alloc: Global, sys: &mut Sys, place: usize, held: bool) -> Result<u32, ProcNo>
     requires program { place < length sys.old.programs }
     // no process has the next id
     requires free { process_of sys.old sys.old.made ≡ None }
@@ -189,7 +189,6 @@ pub fn spawn(alloc: Global, sys: &mut Sys, place: u32, held: bool) -> Result<u32
     if child >= PROCESS_LIMIT as u32 {
         return Err(ProcNo::Again);
     }
-    let place = place as usize;
     let space = first_space(alloc, sys.programs.at(place))?;
     if !total_has_room(sys, space.mapped(), 0) {
         return Err(ProcNo::NoSpace);

@@ -1,0 +1,23 @@
+use Rattle.std.proofs.Common.{◌≡◌, ℕ, true, is_ok, Result, Ok, Err, List, [], ◌∷◌, ◌++◌, ap}
+use Rattle.std.proofs.lemmas.List.{append-nil, append_assoc}
+use Rattle.pr_num.specs.Words.{word_bytes, words_bytes}
+use Rattle.pr_num.specs.declared.mappings.BadByte.{BadByte}
+use Rattle.pr_mem.specs.Answers.{access_answer}
+use Rattle.pr_mem.specs.declared.faults.MemFault.{MemFault}
+
+-- Words that calls store.
+
+-- an access that can be made is not refused
+pub access-can : (r : Result (List ℕ) BadByte) (fault : MemFault) → is_ok r ≡ true → Err fault ≡ access_answer r → ⊥
+access-can (Ok bytes) fault can e = cc
+access-can (Err bad) fault can e = cc
+
+pub ruleset storing = (access-can)
+
+pub two-words : (first second : ℕ) → words_bytes (first ∷ second ∷ []) ≡ word_bytes first ++ word_bytes second
+two-words first second = ap (λ (bytes : List ℕ). word_bytes first ++ bytes) (append-nil (word_bytes second))
+
+pub three-words : (first second third : ℕ) → words_bytes (first ∷ second ∷ third ∷ []) ≡ word_bytes first ++ word_bytes second ++ word_bytes third
+three-words first second third = rw append_assoc (ap (λ (bytes : List ℕ). word_bytes first ++ bytes) (two-words second third))
+
+pub ruleset words = (two-words, three-words)

@@ -1,0 +1,53 @@
+//! What calls store in memory: words, one after another.
+ghost use Rattle.std.specs.Prelude.{◌≡◌, ◌*◌, ◌++◌, true, length};
+ghost use Rattle.pr_model.specs.FileCallRows.{word_size};
+ghost use Rattle.pr_model.specs.MemoryCalls.{can_write};
+ghost use Rattle.pr_num.specs.Words.{word_bytes};
+ghost use Rattle.pr_parts.specs.AddressSpaces.{with_bytes};
+
+use pr_codec::put_words;
+use pr_mem::Space;
+
+/// The protection that a store needs.
+const WRITE: u8 = 2;
+
+/// Whether all of so many bytes can be written.
+pub fn can_write(space: &Space, at: u64, size: usize) -> bool
+    ensures { result ≡ can_write space.now at size }
+{
+    space.can_access(at, size, WRITE)
+}
+
+/// Stores bytes, all of which can be written.
+#[tactic(auto, using(crate::proofs::StoreLemmas::storing))]
+pub fn store(space: &mut Space, at: u64, bytes: &[u8])
+    requires { can_write space.old at (length bytes.now) ≡ true }
+    ensures { space.new ≡ with_bytes at bytes.now space.old }
+{
+    match space.write(at, bytes, WRITE) {
+        Ok(()) => {}
+        Err(_) => unreachable!(),
+    }
+}
+
+/// Stores two words, all of whose bytes can be written.
+#[tactic(auto, using(crate::proofs::StoreLemmas::words))]
+pub fn store_two(space: &mut Space, at: u64, first: u64, second: u64)
+    requires { can_write space.old at (2 * word_size) ≡ true }
+    ensures { space.new ≡ with_bytes at (word_bytes first ++ word_bytes second) space.old }
+{
+    let mut bytes = [0; 16];
+    put_words(&mut bytes, &[first, second]);
+    store(space, at, &bytes);
+}
+
+/// Stores three words, all of whose bytes can be written.
+#[tactic(auto, using(crate::proofs::StoreLemmas::words))]
+pub fn store_three(space: &mut Space, at: u64, first: u64, second: u64, third: u64)
+    requires { can_write space.old at (3 * word_size) ≡ true }
+    ensures { space.new ≡ with_bytes at (word_bytes first ++ word_bytes second ++ word_bytes third) space.old }
+{
+    let mut bytes = [0; 24];
+    put_words(&mut bytes, &[first, second, third]);
+    store(space, at, &bytes);
+}

@@ -1,0 +1,235 @@
+//! read(2) and write(2).
+ghost use Rattle.std.specs.Prelude.{◌≡◌, ◌≤◌, [], ◌∷◌, true, false, is_some, length, IfOk, IsSome, OnErr};
+ghost use Rattle.std.specs.Option.{ForSome};
+ghost use Rattle.pr_call.specs.Effects.{after_effect, outcome_of};
+ghost use Rattle.pr_call.specs.FileAnswers.{answer_meant, lacks_memory};
+ghost use Rattle.pr_model.specs.Changes.{files_are, is_over, space_is};
+ghost use Rattle.pr_model.specs.FileCallRows.{file_effect, read_effect, write_effect};
+ghost use Rattle.pr_model.specs.MemoryCalls.{can_write};
+ghost use Rattle.pr_model.specs.State.{TracedLwp, live_process};
+ghost use Rattle.pr_parts.specs.FileCalls.{open_for_reading, open_for_writing};
+ghost use Rattle.pr_parts.specs.FileTransfers.{write_fd};
+
+use crate::answers::{Refusal, settle, unless_no_memory};
+use crate::requests::Performed;
+use crate::stores::store;
+use pr_file::{Fds, Files};
+use pr_mem::Space;
+use pr_num::limits::TRANSFER_LIMIT;
+use pr_num::{Errno, NoMemory};
+use pr_proc::Sys;
+use std::alloc::Global;
+
+/// The protection that a load needs.
+const READ: u8 = 4;
+
+/// The protection that a store needs.
+const WRITE: u8 = 2;
+
+/// The most bytes of one call.
+const MOST: usize = TRANSFER_LIMIT as usize;
+
+/// Whether a read would not sleep.
+#[tactic(auto, using(crate::proofs::TransferLemmas::reads_over))]
+pub fn is_read(files: &Files, fds: &Fds, space: &Space, fd: u64, at: u64, size: u64) -> bool
+    ensures { result ≡ is_over (read_effect files.now fds.now space.now fd at size) }
+{
+    if !files.can_read(fds, fd) {
+        return true;
+    }
+    if size > TRANSFER_LIMIT {
+        return true;
+    }
+    if !space.can_access(at, size as usize, WRITE) {
+        return true;
+    }
+    !files.read_waits(fds, fd)
+}
+
+/// Whether a write would not sleep.
+#[tactic(auto, using(crate::proofs::TransferLemmas::writes_over))]
+pub fn is_written(files: &Files, fds: &Fds, space: &Space, fd: u64, at: u64, size: u64) -> bool
+    ensures { result ≡ is_over (write_effect files.now fds.now space.now fd at size) }
+{
+    if !files.can_write(fds, fd) {
+        return true;
+    }
+    if size > TRANSFER_LIMIT {
+        return true;
+    }
+    if !space.can_access(at, size as usize, READ) {
+        return true;
+    }
+    !files.write_waits(fds, fd, size as usize)
+}
+
+/// Reads through a descriptor that is open for reading, at most so many bytes as the buffer has, and stores them; memory
+/// can take as many.
+#[tactic(auto, using(crate::proofs::TransferLemmas::filling))]
+fn fill(
+    files: &mut Files,
+    fds: &Fds,
+    space: &mut Space,
+    fd: u64,
+    at: u64,
+    buffer: &mut [u8],
+) -> Result<u64, Refusal>
+    requires readable { is_some (open_for_reading files.old fds.now fd) ≡ true }
+    requires within { length buffer.old ≤ 4096 }
+    requires can { can_write space.old at (length buffer.old) ≡ true }
+    ensures effect { answer_meant result (files_are files.new fds.now ∷ space_is space.new ∷ []) ≡ read_effect files.old fds.now space.old fd at (length buffer.old) }
+    ensures files { OnErr result (files.new ≡ files.old) }
+    ensures space { OnErr result (space.new ≡ space.old) }
+{
+    match files.read(fds, fd, buffer) {
+        Ok(count) => {
+            store(space, at, &buffer[..count]);
+            Ok(count as u64)
+        }
+        Err(why) => Err(Refusal::Files(why)),
+    }
+}
+
+/// read(2) gives how many bytes were read. EBADF, EINVAL, EFAULT.
+#[tactic(auto, using(crate::proofs::TransferLemmas::reading))]
+fn read_into(
+    files: &mut Files,
+    fds: &Fds,
+    space: &mut Space,
+    fd: u64,
+    at: u64,
+    size: u64,
+) -> Result<u64, Refusal>
+    ensures effect { answer_meant result (files_are files.new fds.now ∷ space_is space.new ∷ []) ≡ read_effect files.old fds.now space.old fd at size }
+    ensures files { OnErr result (files.new ≡ files.old) }
+    ensures space { OnErr result (space.new ≡ space.old) }
+{
+    if !files.can_read(fds, fd) {
+        return Err(Refusal::Fails(Errno::Badf));
+    }
+    if size > TRANSFER_LIMIT {
+        return Err(Refusal::Fails(Errno::Inval));
+    }
+    if !space.can_access(at, size as usize, WRITE) {
+        return Err(Refusal::Fails(Errno::Fault));
+    }
+    let mut buffer = [0; MOST];
+    fill(files, fds, space, fd, at, &mut buffer[..size as usize])
+}
+
+/// Writes bytes through a descriptor.
+fn put(alloc: Global, files: &mut Files, fds: &Fds, fd: u64, bytes: &[u8]) -> Result<u64, Refusal>
+    requires { length bytes.now ≤ 4096 }
+    ensures effect { lacks_memory result ≡ false → answer_meant result (files_are files.new fds.now ∷ []) ≡ file_effect (write_fd files.old fds.now fd bytes.now) }
+    ensures files { OnErr result (files.new ≡ files.old) }
+{
+    match files.write(alloc, fds, fd, bytes) {
+        Ok(count) => Ok(count as u64),
+        Err(why) => Err(Refusal::Files(why)),
+    }
+}
+
+/// Writes through a descriptor that is open for writing, as many bytes as the buffer has, out of memory.
+fn drain(
+    alloc: Global,
+    files: &mut Files,
+    fds: &Fds,
+    space: &Space,
+    fd: u64,
+    at: u64,
+    buffer: &mut [u8],
+) -> Result<u64, Refusal>
+    requires writable { is_some (open_for_writing files.old fds.now fd) ≡ true }
+    requires within { length buffer.old ≤ 4096 }
+    ensures effect { lacks_memory result ≡ false → answer_meant result (files_are files.new fds.now ∷ []) ≡ write_effect files.old fds.now space.now fd at (length buffer.old) }
+    ensures files { OnErr result (files.new ≡ files.old) }
+{
+    match space.read(at, buffer, READ) {
+        Ok(()) => put(alloc, files, fds, fd, buffer),
+        Err(_) => Err(Refusal::Fails(Errno::Fault)),
+    }
+}
+
+/// write(2) gives how many bytes were written. EBADF, EINVAL, EFAULT; then what the file or the pipe refuses.
+#[tactic(auto, using(crate::proofs::TransferLemmas::writing))]
+fn write_from(
+    alloc: Global,
+    files: &mut Files,
+    fds: &Fds,
+    space: &Space,
+    fd: u64,
+    at: u64,
+    size: u64,
+) -> Result<u64, Refusal>
+    ensures effect { lacks_memory result ≡ false → answer_meant result (files_are files.new fds.now ∷ []) ≡ write_effect files.old fds.now space.now fd at size }
+    ensures files { OnErr result (files.new ≡ files.old) }
+{
+    if !files.can_write(fds, fd) {
+        return Err(Refusal::Fails(Errno::Badf));
+    }
+    if size > TRANSFER_LIMIT {
+        return Err(Refusal::Fails(Errno::Inval));
+    }
+    let mut buffer = [0; MOST];
+    drain(
+        alloc,
+        files,
+        fds,
+        space,
+        fd,
+        at,
+        &mut buffer[..size as usize],
+    )
+}
+
+/// read(2) by an lwp of the process of an id, with these arguments: a descriptor, the address of the buffer, and its
+/// length. EBADF, EINVAL, EFAULT; it sleeps where a pipe is empty that can still be written. Takes no memory.
+#[tactic(auto, using(pr_proc::proofs::LifeLemmas::life_laws))]
+pub fn read(sys: &mut Sys, pid: u32, id: u32, fd: u64, at: u64, size: u64) -> Performed
+    requires { IsSome (live_process sys.old pid) }
+    ensures system { ForSome (live_process sys.old pid) (λ p. (l : TracedLwp) → sys.new ≡ after_effect pid p id l (read_effect sys.old.files p.fds p.space fd at size) sys.old) }
+    ensures outcome { ForSome (live_process sys.old pid) (λ p. result ≡ outcome_of (read_effect sys.old.files p.fds p.space fd at size)) }
+{
+    let process = sys.processes.get_mut(pid);
+    let answer = read_into(
+        &mut sys.files,
+        &process.fds,
+        &mut process.space,
+        fd,
+        at,
+        size,
+    );
+    settle(sys, pid, id, answer)
+}
+
+/// write(2) by an lwp of the process of an id, with the same arguments. EBADF, EINVAL, EFAULT, ENOSPC; EPIPE, and
+/// SIGPIPE, where nothing can read a pipe any more; it sleeps where a pipe has no room for all bytes. Where memory runs
+/// out, the system stays as it is.
+#[tactic(auto, using(pr_proc::proofs::LifeLemmas::life_laws))]
+pub fn write(
+    alloc: Global,
+    sys: &mut Sys,
+    pid: u32,
+    id: u32,
+    fd: u64,
+    at: u64,
+    size: u64,
+) -> Result<Performed, NoMemory>
+    requires { IsSome (live_process sys.old pid) }
+    ensures system { IfOk result (λ outcome. ForSome (live_process sys.old pid) (λ p. (l : TracedLwp) → sys.new ≡ after_effect pid p id l (write_effect sys.old.files p.fds p.space fd at size) sys.old)) }
+    ensures outcome { IfOk result (λ outcome. ForSome (live_process sys.old pid) (λ p. outcome ≡ outcome_of (write_effect sys.old.files p.fds p.space fd at size))) }
+    ensures err { OnErr result (sys.new ≡ sys.old) }
+{
+    let process = sys.processes.get_mut(pid);
+    let answer = write_from(
+        alloc,
+        &mut sys.files,
+        &process.fds,
+        &process.space,
+        fd,
+        at,
+        size,
+    );
+    let answer = unless_no_memory(answer)?;
+    Ok(settle(sys, pid, id, answer))
+}
