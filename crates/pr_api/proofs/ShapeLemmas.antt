@@ -1,12 +1,16 @@
-use Rattle.std.proofs.Common.{◌≡◌, ◌||◌, ◌&&◌, ◌==◌, ◌+◌, ◌-◌, ◌/◌, ◌≤◌, ◌%◌, ◌^◌, ℕ, zero, suc, Bool, true, false, not, Option, Some, None, List, [], ◌∷◌, Result, Ok, Err, IfSome, IfOk, cond, eqb, ltb, length, drop, nat_le, nat_lt, refl, sym, ap, ◌∙◌, subst, arith}
-use Rattle.std.specs.List.{find, list_all, list_any, slice_range}
+use Rattle.std.proofs.Common.{◌≡◌, ◌||◌, ◌&&◌, ◌==◌, ◌+◌, ◌-◌, ◌/◌, ◌<◌, ◌≤◌, ◌%◌, ◌^◌, ℕ, zero, suc, Bool, true, false, not, Option, Some, None, List, [], ◌∷◌, Result, Ok, Err, IfSome, IfOk, cond, eqb, ltb, length, drop, nat_le, nat_lt, refl, sym, ap, ◌∙◌, subst, arith}
+use Rattle.std.specs.List.{All, find, list_all, list_any, slice_range}
 use Rattle.std.specs.Option.{option_map}
 use Rattle.std.specs.Prelude.{is_ok}
-use Rattle.std.proofs.lemmas.Bool.{eq-eqb, le-leb, leb-true}
+use Rattle.std.proofs.lemmas.Bool.{eq-eqb, eqb-false, le-leb, leb-true}
 use Rattle.std.proofs.lemmas.List.{length-take}
+use Rattle.std.proofs.lemmas.List.Elements.{All-head, All-tail}
 use Rattle.std.proofs.lemmas.Option.{same_Some}
+use Rattle.pr_num.proofs.ByIdLemmas.{rises_from-head, rises_from-tail}
+use Rattle.pr_num.specs.ById.{rises_from}
 use Rattle.pr_num.specs.Limits.{area_limit, controller_limit, handle_limit, lwp_limit, message_bytes_limit, read_limit}
 use Rattle.pr_num.specs.Messages.{bad_operand, encoded_length, first_message, in_columns, message_read, nth_word, unless_bad, unpadded_length, with_tail, ◌>>=◌}
+use Rattle.pr_num.specs.Programs.{Program}
 use Rattle.pr_num.specs.Sets.{with_number}
 use Rattle.pr_num.specs.Signals.{signal_of_number}
 use Rattle.pr_num.specs.Spaces.{Space, byte_for, bytes_for, one_more}
@@ -20,11 +24,16 @@ use Rattle.pr_num.specs.declared.messages.MsgFault.TheVariants.{Short, BadOperan
 use Rattle.pr_num.specs.declared.signals.Sig.{Sig}
 use Rattle.pr_parts.specs.PendingSignals.{has_room}
 use Rattle.pr_parts.specs.WatchedAreas.{is_taken}
-use Rattle.pr_model.specs.Built.{is_built_call}
-use Rattle.pr_model.specs.Calls.{Answer, answer_to, whole_answer, answered, close_answer, close_held, controlled, interrupt_answer, is_interrupted, is_open_by, is_polled_ready, kill_answer as call_kill_answer, open_answer, open_unless, opened, poll_answer, ready_answer, refused as call_refused, sent_reply, until_answer, waited}
+use Rattle.pr_rec.proofs.EntryLemmas.{length-entries}
+use Rattle.pr_rec.specs.RecordBytes.{list_bytes}
+use Rattle.pr_rec.specs.RecordWords.{list_entry_words_of}
+use Rattle.pr_rec.specs.declared.entries.ListEntry.{ListEntry}
+use Rattle.pr_model.specs.Calls.{Answer, answer_to, answered, close_answer, close_held, controlled, interrupt_answer, is_interrupted, is_open_by, is_polled_ready, kill_answer as call_kill_answer, open_answer, open_unless, opened, poll_answer, ready_answer, refused as call_refused, sent_reply, spawn_answer, spawn_found, spawn_unless, until_answer, waited}
 use Rattle.pr_model.specs.ControlMessages.{aim_of, control_answer, control_handle, decoded_answer, decoded_wait, held_answer, held_wait, system_refusal, tail_of, target_of, targeted_answer, targeted_wait, wait_over, wait_reply, waiting_reply, waits}
 use Rattle.pr_model.specs.Handles.{handle_of}
+use Rattle.pr_model.specs.Lawful.{IsLawfulSystem, IsNumberedBelow}
 use Rattle.pr_model.specs.Messages.{Controlled, refused, Aim, at_lwp, at_process, agent_answer, aimed_lwp, is_kill_of, kill_answer, kill_by, killed, lets_agent, mapped_bytes, message_answer, on_found, on_stopped_found, pending_at, read_answer, read_of, run_found, run_answer, ssig_answer, unkill_answer, unkill_by, watch_answer, with_address, with_held_set, with_process_changed, with_registers, with_signal_set, write_answer}
+use Rattle.pr_model.specs.Records.{list_entries, list_entry_of, list_of}
 use Rattle.pr_model.specs.Running.{lwp_run_refused, run_lwp, run_refused, with_run, without_current, without_fault}
 use Rattle.pr_model.specs.SignalCalls.{Sending, refuses as refuses_signal, sends_nothing, sends}
 use Rattle.pr_model.specs.Stops.{has_event_stop}
@@ -38,7 +47,7 @@ use Rattle.pr_model.specs.declared.calls.Mode.{Mode}
 use Rattle.pr_model.specs.declared.calls.Reply.{Reply}
 use Rattle.pr_model.specs.declared.calls.Reply.TheVariants.{Bytes, Done, Fail, Used}
 use Rattle.pr_model.specs.declared.handles.Held.{Held}
-use Rattle.pr_api.specs.Shapes.{answers_message, has_shape, is_at_most, is_done, is_failure, is_used}
+use Rattle.pr_api.specs.Shapes.{answers_message, has_shape, is_at_most, is_done, is_failure, is_used, longest_list}
 
 -- What the machine answers to a call has the shape of a reply to it.
 
@@ -320,6 +329,39 @@ held-reads s None from len = fails-reads len _
 held-reads s (Some h) from len =
     either (Reads len) (eqb len 0 || ltb read_limit len) (Fail Inval) (of_process s h.pid h.lwp from len h.file (read_process s h.pid h.file)) (fails-reads len _) (process-reads s h.pid h.lwp from len h.file (read_process s h.pid h.file))
 
+-- ---- the list of processes
+
+-- beyond process 0 there are no more entries than ids that were given out
+few-from : (made low : ℕ) (es : List (ℕ × TracedProcess)) → 1 ≤ low → rises_from low es ≡ true → All (IsNumberedBelow made) es → length (list_entries es) ≤ made - low
+few-from made low [] past rises all = omega arith
+few-from made low (e ∷ es) past rises all =
+    let below = (All-head (IsNumberedBelow made) e es all).id in
+    let first = rises_from-head low e es rises in
+    let rest = few-from made (e.0 + 1) es (omega arith) (rises_from-tail low e es rises) (All-tail (IsNumberedBelow made) e es all) in
+    either (λ (entries : List ListEntry). length entries ≤ made - low) (eqb e.0 0) (list_entries es) (list_entry_of e.0 e.1 ∷ list_entries es) (omega arith) (omega arith)
+
+few-listed : (made : ℕ) (es : List (ℕ × TracedProcess)) → rises_from 0 es ≡ true → All (IsNumberedBelow made) es → length (list_entries es) ≤ made - 1
+few-listed made [] rises all = omega arith
+few-listed made (e ∷ es) rises all = of (eqb e.0 0) refl
+  where
+    below : e.0 < made
+    below = (All-head (IsNumberedBelow made) e es all).id
+
+    rest : length (list_entries es) ≤ made - (e.0 + 1)
+    rest = few-from made (e.0 + 1) es (omega arith) (rises_from-tail 0 e es rises) (All-tail (IsNumberedBelow made) e es all)
+
+    of : (b : Bool) → eqb e.0 0 ≡ b → length (let entries : List ListEntry = cond b (list_entries es) (list_entry_of e.0 e.1 ∷ list_entries es) in entries) ≤ made - 1
+    of true zeroth = omega (arith, rest)
+    of false other = let above = eqb-false e.0 0 other in omega (arith, rest, below, above)
+
+list-within : (s : TracedSystem) → IsLawfulSystem s → length (list_bytes (list_of s)) ≤ longest_list
+unfolding list_bytes list_of
+list-within s h =
+    let bytes = length-entries list_entry_words_of 6 (λ _. refl) (list_entries s.processes) in
+    let few = few-listed s.made s.processes h.rising h.numbered in
+    let made = h.made in
+    omega (arith, bytes, few, made)
+
 -- ---- every call
 
 HaveShape : calls.Call → Option Answer → Type 0
@@ -330,7 +372,7 @@ module _ (s : TracedState) (by : ℕ) where
   unfolding HaveShape
   shaped c a h = h
 
-  -- a call that is not ready, or not built
+  -- a call that is not ready
   no_answer : (c : calls.Call) → HaveShape c None
   unfolding HaveShape
   no_answer c = tt
@@ -401,30 +443,40 @@ module _ (s : TracedState) (by : ℕ) where
   unfolding has_shape call_kill_answer
   kill-shaped pid number = shaped _ _ (sent-shape _)
 
-  unless-built : (c : calls.Call) (b : Bool) → is_built_call s by c ≡ b → (is_built_call s by c ≡ true → HaveShape c (whole_answer s by c)) → HaveShape c (cond b (whole_answer s by c) None)
-  unless-built c true built h = h built
-  unless-built c false built h = no_answer c
+  spawn_unless-shaped : (name : List ℕ) (held : Bool) (program : Program) (refusal : Option Errno) → HaveShape (call.Spawn name held) (Some (spawn_unless s program held refusal))
+  unfolding has_shape
+  spawn_unless-shaped name held program None = shaped _ _ refl
+  spawn_unless-shaped name held program (Some e) = shaped _ _ refl
 
-  whole-shaped : (c : calls.Call) → is_built_call s by c ≡ true → HaveShape c (whole_answer s by c)
-  unfolding whole_answer is_built_call close_answer wait_reply
-  whole-shaped (call.Open pid id f mode) built = open-shaped pid id f mode
-  whole-shaped (call.Close handle) built = close-shaped handle (handle_of s.opens by handle)
-  whole-shaped (call.Ctl handle bytes) built = control-shaped handle bytes
-  whole-shaped (call.CtlWait handle until bytes) built = wait-shaped handle until bytes _ (held-ends s.system (control_handle (handle_of s.opens by handle)) until (is_interrupted s by) bytes)
-  whole-shaped (call.Read handle from len) built = read-shaped handle from len
-  whole-shaped (call.Poll handles) built = poll-shaped handles
-  whole-shaped (call.Interrupt controller) built = interrupt-shaped controller
-  whole-shaped (call.Spawn program held) built = absurd (cc)
-  whole-shaped (call.Kill pid number) built = kill-shaped pid number
-  whole-shaped (call.Until moment) built = until-shaped moment
-  whole-shaped call.List built = absurd (cc)
+  spawn_found-shaped : (name : List ℕ) (held : Bool) (o : Option Program) → HaveShape (call.Spawn name held) (Some (spawn_found s held o))
+  unfolding has_shape
+  spawn_found-shaped name held None = shaped _ _ refl
+  spawn_found-shaped name held (Some program) = spawn_unless-shaped name held program _
 
-  answer-shaped : (c : calls.Call) → HaveShape c (answer_to s by c)
-  unfolding answer_to
-  answer-shaped c = unless-built c (is_built_call s by c) refl (whole-shaped c)
+  spawn-shaped : (name : List ℕ) (held : Bool) → HaveShape (call.Spawn name held) (Some (spawn_answer s name held))
+  unfolding spawn_answer
+  spawn-shaped name held = spawn_found-shaped name held _
 
-pub machine-shaped : (s : TracedState) (by : ℕ) (c : calls.Call) (a : Answer) → answer_to s by c ≡ Some a → has_shape c a.reply ≡ true
+  list-shaped : IsLawfulSystem s.system → HaveShape call.List (Some (answered s (Bytes (list_bytes (list_of s.system)))))
+  unfolding has_shape
+  list-shaped h = shaped _ _ (le-leb _ _ (list-within s.system h))
+
+  answer-shaped : IsLawfulSystem s.system → (c : calls.Call) → HaveShape c (answer_to s by c)
+  unfolding answer_to close_answer wait_reply
+  answer-shaped h (call.Open pid id f mode) = open-shaped pid id f mode
+  answer-shaped h (call.Close handle) = close-shaped handle (handle_of s.opens by handle)
+  answer-shaped h (call.Ctl handle bytes) = control-shaped handle bytes
+  answer-shaped h (call.CtlWait handle until bytes) = wait-shaped handle until bytes _ (held-ends s.system (control_handle (handle_of s.opens by handle)) until (is_interrupted s by) bytes)
+  answer-shaped h (call.Read handle from len) = read-shaped handle from len
+  answer-shaped h (call.Poll handles) = poll-shaped handles
+  answer-shaped h (call.Interrupt controller) = interrupt-shaped controller
+  answer-shaped h (call.Spawn name held) = spawn-shaped name held
+  answer-shaped h (call.Kill pid number) = kill-shaped pid number
+  answer-shaped h (call.Until moment) = until-shaped moment
+  answer-shaped h call.List = list-shaped h
+
+pub machine-shaped : (s : TracedState) (by : ℕ) (c : calls.Call) (a : Answer) → IsLawfulSystem s.system → answer_to s by c ≡ Some a → has_shape c a.reply ≡ true
 unfolding HaveShape
-machine-shaped s by c a is = let P : Option Answer → Type 0 = λ o. IfSome o (λ (x : Answer). has_shape c x.reply ≡ true) in subst P is (answer-shaped s by c)
+machine-shaped s by c a h is = let P : Option Answer → Type 0 = λ o. IfSome o (λ (x : Answer). has_shape c x.reply ≡ true) in subst P is (answer-shaped s by h c)
 
 pub ruleset shapes = (machine-shaped)

@@ -30,8 +30,7 @@ use Rattle.pr_model.specs.declared.calls.Reply.TheVariants.{Used}
 use Rattle.pr_model.specs.Lives.{with_this_ended}
 use Rattle.pr_model.specs.Machines.{traced}
 use Rattle.pr_model.specs.UntracedSteps.{steps_of_call}
-use Rattle.pr_model.specs.Calls.{Answer, refused, opened, open_unless, open_answer, close_held, close_answer, controlled, interrupted_answer, is_interrupted, waited, ready_answer, is_polled_ready, poll_answer, until_answer, interrupt_answer, spawn_unless, spawn_found, spawn_answer, sent_reply, kill_answer, whole_answer, answer_to}
-use Rattle.pr_model.specs.Built.{is_built_call}
+use Rattle.pr_model.specs.Calls.{Answer, refused, opened, open_unless, open_answer, close_held, close_answer, controlled, interrupted_answer, is_interrupted, waited, ready_answer, is_polled_ready, poll_answer, until_answer, interrupt_answer, spawn_unless, spawn_found, spawn_answer, sent_reply, kill_answer, answer_to}
 use Rattle.pr_model.specs.ControlMessages.{aim_of, system_refusal, tail_of, target_of, control_handle, decoded_answer, targeted_answer, held_answer, control_answer, wait_reply}
 use Rattle.pr_model.specs.Erasure.{erased_lwp, erased_process, erased_system}
 use Rattle.pr_model.specs.Handles.{handle_of, open_refusal, with_opened, was_last_writer, released_lwp, released_control, released, with_last_close, after_last_close, with_closed}
@@ -476,15 +475,15 @@ module _ (s : TracedState) (u : IsUntouched s.system) where
   sent-follows pid number sends_nothing is = kill-follows pid number sends_nothing s.system u is nothing
   sent-follows pid number (sends g) is = kill-follows pid number (sends g) s.system u is it
 
-  -- every call of a passive history
-  whole-follows : (by : ℕ) (c : calls.Call) (a : Answer) → whole_answer s by c ≡ Some a → is_passive_call c a.reply ≡ true → Follows s.system (steps_of_call c a.reply) a.state.system
-  unfolding whole_answer open_answer close_answer spawn_answer kill_answer HidesAnswer
-  whole-follows by (call.Open pid id file mode) a is passive = hidden (call.Open pid id file mode) a refl (subst (HidesAnswer s) (same_Some _ _ is) (open-hides _ (open_refusal s pid id file mode)))
-  whole-follows by (call.Close handle) a is passive = hidden (call.Close handle) a refl (subst (HidesAnswer s) (same_Some _ _ is) (close-hides handle (handle_of s.opens by handle)))
-  whole-follows by (call.Ctl handle bytes) a is passive =
+  -- Every call of a passive history that has an answer is followed by its steps.
+  pub call-follows : (by : ℕ) (c : calls.Call) (a : Answer) → answer_to s by c ≡ Some a → is_passive_call c a.reply ≡ true → Follows s.system (steps_of_call c a.reply) a.state.system
+  unfolding answer_to open_answer close_answer spawn_answer kill_answer HidesAnswer
+  call-follows by (call.Open pid id file mode) a is passive = hidden (call.Open pid id file mode) a refl (subst (HidesAnswer s) (same_Some _ _ is) (open-hides _ (open_refusal s pid id file mode)))
+  call-follows by (call.Close handle) a is passive = hidden (call.Close handle) a refl (subst (HidesAnswer s) (same_Some _ _ is) (close-hides handle (handle_of s.opens by handle)))
+  call-follows by (call.Ctl handle bytes) a is passive =
       let answer : controlled s (control_answer s.system s.opens by handle bytes) ≡ a = same_Some _ _ is in
       hidden (call.Ctl handle bytes) a refl (subst (HidesAnswer s) answer (control-hides s.system u s.opens by handle bytes (subst (λ (x : Answer). is_passive_call (call.Ctl handle bytes) x.reply ≡ true) (sym answer) passive)))
-  whole-follows by (call.CtlWait handle until bytes) a is passive = hidden (call.CtlWait handle until bytes) a refl (over (wait_reply s.system s.opens by handle until (is_interrupted s by) bytes) is)
+  call-follows by (call.CtlWait handle until bytes) a is passive = hidden (call.CtlWait handle until bytes) a refl (over (wait_reply s.system s.opens by handle until (is_interrupted s by) bytes) is)
     where
       over : (o : Option Reply) → option_map (waited s by) o ≡ Some a → HidesAnswer s a
       over None e = absurd (none e)
@@ -492,28 +491,16 @@ module _ (s : TracedState) (u : IsUntouched s.system) where
           none : None ≡ Some a → ⊥
           none e = cc
       over (Some r) e = subst (HidesAnswer s) (same_Some _ _ e) (wait-hides by r)
-  whole-follows by (call.Read handle from len) a is passive = hidden (call.Read handle from len) a refl (subst (HidesAnswer s) (same_Some _ _ is) (hides-nothing s.system u))
-  whole-follows by (call.Poll handles) a is passive = hidden (call.Poll handles) a refl (left-hides (poll_answer s by handles) a (poll-leaves by handles) is)
-  whole-follows by (call.Interrupt controller) a is passive =
+  call-follows by (call.Read handle from len) a is passive = hidden (call.Read handle from len) a refl (subst (HidesAnswer s) (same_Some _ _ is) (hides-nothing s.system u))
+  call-follows by (call.Poll handles) a is passive = hidden (call.Poll handles) a refl (left-hides (poll_answer s by handles) a (poll-leaves by handles) is)
+  call-follows by (call.Interrupt controller) a is passive =
       hidden (call.Interrupt controller) a refl (subst (HidesAnswer s) (same_Some (interrupt_answer s controller) a is) (same-hides (interrupt_answer s controller) (interrupt-leaves controller)))
-  whole-follows by (call.Spawn name held) a is passive =
+  call-follows by (call.Spawn name held) a is passive =
       subst (λ (x : Answer). Follows s.system (steps_of_call (call.Spawn name held) x.reply) x.state.system) (same_Some (spawn_found s held (program_named s.system.programs name)) a is)
       (spawn_found-follows name held (program_named s.system.programs name) refl)
-  whole-follows by (call.Kill pid number) a is passive =
+  call-follows by (call.Kill pid number) a is passive =
       let x = sending pid number (life_of s.system pid) in
       subst (λ (y : Answer). Follows s.system (steps_of_call (call.Kill pid number) y.reply) y.state.system) (same_Some (record { state = with_system (with_sent traced pid (killed_by 0) x) s; reply = sent_reply x }) a is)
       (sent-follows pid number x refl)
-  whole-follows by (call.Until moment) a is passive = hidden (call.Until moment) a refl (left-hides (until_answer s by moment) a (until-leaves by moment) is)
-  whole-follows by call.List a is passive = hidden call.List a refl (subst (HidesAnswer s) (same_Some _ _ is) (hides-nothing s.system u))
-
--- Every call of a passive history that has an answer is followed by its steps.
-pub call-follows : (s : TracedState) (by : ℕ) (c : calls.Call) (a : Answer) → answer_to s by c ≡ Some a → is_passive_call c a.reply ≡ true → IsUntouched s.system → Follows s.system (steps_of_call c a.reply) a.state.system
-unfolding answer_to
-call-follows s by c a is passive u = parts (is_built_call s by c) is
-  where
-    parts : (b : Bool) → cond b (whole_answer s by c) None ≡ Some a → Follows s.system (steps_of_call c a.reply) a.state.system
-    parts true e = whole-follows s u by c a e passive
-    parts false e = absurd (none e)
-      where
-        none : None ≡ Some a → ⊥
-        none e = cc
+  call-follows by (call.Until moment) a is passive = hidden (call.Until moment) a refl (left-hides (until_answer s by moment) a (until-leaves by moment) is)
+  call-follows by call.List a is passive = hidden call.List a refl (subst (HidesAnswer s) (same_Some _ _ is) (hides-nothing s.system u))

@@ -63,7 +63,7 @@ unfolding IsLegalEntry steps_of after
 entry-follows n s m (Controller k) (act.Call c r) u passive legal =
     let a : Answer = record { state = legal.1.0; reply = r } in
     let answer : answer_to s k c ≡ Some a = legal.1.1 in
-    rw answer (call-follows s k c a answer passive u)
+    rw answer (call-follows s u k c a answer passive)
 entry-follows n s m (Lwp p l) (act.Turn t) u passive legal =
     let turn : LwpTurn = record { system = legal.0; turned = t } in
     let taken : turn_of s.system p l ≡ Some turn = legal.1 in

@@ -2,7 +2,6 @@ use Rattle.std.proofs.Common.{◌≡◌, ℕ, Bool, true, false, not, ◌||◌, 
 use Rattle.std.proofs.lemmas.Option.{same_Some}
 use Rattle.pr_num.specs.declared.signals.Sig.{Sig}
 use Rattle.pr_num.specs.declared.syscalls.Sysno.{Sysno}
-use Rattle.pr_model.specs.Built.{is_built_turn}
 use Rattle.pr_model.specs.CallEffects.{call_effect}
 use Rattle.pr_model.specs.Erasure.{erased_phase, erased_pending}
 use Rattle.pr_model.specs.LwpTurns.{LwpTurn, is_held_back, is_ready, may_wake, may_go_on, may_turn, settled, turn_of_lwp, turn_of_process, turn_of}
@@ -131,7 +130,7 @@ turn-taken s pid id t turn = by_process (live_process s pid) refl turn
       live = live;
       there = there;
       free = not_true _ (and_left _ _ may);
-      goes = and_left _ (is_built_turn p l) (and_right _ _ may);
+      goes = and_right _ _ may;
       is = sym (same_Some _ _ is);
     }
     by_test p l live there false may is = absurd (none is)

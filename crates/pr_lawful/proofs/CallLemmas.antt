@@ -14,8 +14,7 @@ use Rattle.pr_num.specs.declared.errnos.Errno.{Errno}
 use Rattle.pr_num.specs.declared.errnos.Errno.TheVariants.{Intr, Again, Nomem}
 use Rattle.pr_num.specs.declared.messages.Message.{Message}
 use Rattle.pr_num.specs.declared.messages.MsgFault.{MsgFault}
-use Rattle.pr_model.specs.Built.{is_built_call}
-use Rattle.pr_model.specs.Calls.{Answer, opened, open_unless, open_answer, close_held, close_answer, is_interrupted, interrupted_answer, controlled, waited, is_open_by, is_polled_ready, ready_answer, poll_answer, until_answer, interrupt_answer, spawn_unless, spawn_found, spawn_answer, kill_answer, whole_answer, answer_to}
+use Rattle.pr_model.specs.Calls.{Answer, opened, open_unless, open_answer, close_held, close_answer, is_interrupted, interrupted_answer, controlled, waited, is_open_by, is_polled_ready, ready_answer, poll_answer, until_answer, interrupt_answer, spawn_unless, spawn_found, spawn_answer, kill_answer, answer_to}
 use Rattle.pr_model.specs.ControlMessages.{still_there, target_of, aim_of, control_handle, tail_of, decoded_answer, targeted_answer, held_answer, control_answer, wait_reply}
 use Rattle.pr_model.specs.Handles.{is_control, is_of_lwp, has_writer, handle_of, open_refusal}
 use Rattle.pr_model.specs.Lawful.{HasParent, IsLawfulProgram, IsLawfulProcess, IsLawful}
@@ -208,27 +207,22 @@ module _ (s : TracedState) (h : IsLawful s) where
 
   -- ---- the calls
 
-  whole-state : (by : ℕ) (c : Call) → IsLawfulAnswer (whole_answer s by c)
-  unfolding whole_answer Good
-  whole-state by (call.Open pid id file mode) = open-state by pid id file mode
-  whole-state by (call.Close handle) = close-state by handle
-  whole-state by (call.Ctl handle bytes) = ctl-state by handle bytes
-  whole-state by (call.CtlWait handle until bytes) = wait-state by (wait_reply s.system s.opens by handle until (is_interrupted s by) bytes)
-  whole-state by (call.Read handle from len) = h
-  whole-state by (call.Poll handles) = poll-state by handles
-  whole-state by (call.Interrupt controller) = interrupt-state controller
-  whole-state by (call.Spawn program held) = spawn-state program held
-  whole-state by (call.Kill pid sig) = kill-state pid sig
-  whole-state by (call.Until moment) = until-state by moment
-  whole-state by call.List = h
+  answer-state : (by : ℕ) (c : Call) → IsLawfulAnswer (answer_to s by c)
+  unfolding answer_to Good
+  answer-state by (call.Open pid id file mode) = open-state by pid id file mode
+  answer-state by (call.Close handle) = close-state by handle
+  answer-state by (call.Ctl handle bytes) = ctl-state by handle bytes
+  answer-state by (call.CtlWait handle until bytes) = wait-state by (wait_reply s.system s.opens by handle until (is_interrupted s by) bytes)
+  answer-state by (call.Read handle from len) = h
+  answer-state by (call.Poll handles) = poll-state by handles
+  answer-state by (call.Interrupt controller) = interrupt-state controller
+  answer-state by (call.Spawn program held) = spawn-state program held
+  answer-state by (call.Kill pid sig) = kill-state pid sig
+  answer-state by (call.Until moment) = until-state by moment
+  answer-state by call.List = h
 
   pub call-state : (by : ℕ) (c : Call) (a : Answer) → answer_to s by c ≡ Some a → IsLawful a.state
-  unfolding answer_to
-  call-state by c a is = subst IsLawfulAnswer (of (is_built_call s by c) is) (whole-state by c)
-    where
-      of : (b : Bool) → cond b (whole_answer s by c) None ≡ Some a → whole_answer s by c ≡ Some a
-      of true is = is
-      of false is = absurd (none-some a is)
+  call-state by c a is = subst IsLawfulAnswer is (answer-state by c)
 
   -- ---- the clock
 

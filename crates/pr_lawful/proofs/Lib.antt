@@ -21,3 +21,4 @@ pub mod HistoryLemmas
 pub mod InfoLemmas
 pub mod ProgramLemmas
 pub mod MadeLemmas
+pub mod RecordLemmas

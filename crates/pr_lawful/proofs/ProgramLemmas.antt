@@ -1,5 +1,5 @@
-use Rattle.std.proofs.Common.{◌≡◌, ℕ, zero, suc, ◌*◌, ◌+◌, ◌≤◌, true, false, leb, cond, Some, List, [], ◌∷◌, length, refl, sym, subst, arith, length-append}
-use Rattle.std.specs.List.{All, find, flat_map, slice_get}
+use Rattle.std.proofs.Common.{◌≡◌, ℕ, zero, suc, ◌+◌, ◌≤◌, true, false, leb, cond, Some, List, [], ◌∷◌, sym, subst, arith}
+use Rattle.std.specs.List.{All, find, slice_get}
 use Rattle.std.proofs.lemmas.Bool.{le-leb, or_right}
 use Rattle.std.proofs.lemmas.List.Elements.{All-head, All-tail}
 use Rattle.std.proofs.lemmas.Option.{same_Some, none-some}

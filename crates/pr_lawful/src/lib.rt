@@ -12,5 +12,6 @@ pub use states::{
 };
 pub use turns::turns_keep_systems_lawful;
 pub use uses::{
-    lawful_systems_have_room, new_processes_are_unopened, parts_of_lawful_systems_are_lawful,
+    infos_of_lawful_processes_are_in_range, lawful_systems_have_room, new_processes_are_unopened,
+    parts_of_lawful_systems_are_lawful,
 };

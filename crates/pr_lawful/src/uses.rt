@@ -1,8 +1,11 @@
-ghost use Rattle.std.specs.Prelude.{◌≡◌, ◌≤◌, ℕ, None, Some, false, length};
+ghost use Rattle.std.specs.Prelude.{◌≡◌, ◌≤◌, ℕ, All, None, Some, false, length};
 ghost use Rattle.pr_parts.specs.FileTables.{AreOpenIn, HasRoom};
 ghost use Rattle.pr_model.specs.Handles.{has_writer};
 ghost use Rattle.pr_model.specs.Lawful.{IsLawful, IsLawfulLwp, IsLawfulProcess, IsLawfulSystem};
+ghost use Rattle.pr_model.specs.Records.{lstatus_of};
 ghost use Rattle.pr_num.specs.Limits.{last_lwp};
+ghost use Rattle.pr_model.specs.Statuses.{lwpstatus_of, status_of};
+ghost use Rattle.pr_rec.specs.InRange.{IsInfo};
 ghost use Rattle.pr_model.specs.State.{TracedLwp, TracedProcess, TracedState, TracedSystem, live_process, lwp_of, process_of};
 
 /// What follows of a lawful system: the descriptors of a process stand for open files; an open file has room for all
@@ -29,4 +32,12 @@ pub fn parts_of_lawful_systems_are_lawful()
     ensures process { (s : TracedSystem) (pid : ℕ) (p : TracedProcess) → IsLawfulSystem s → process_of s pid ≡ Some p → IsLawfulProcess (pid, p) }
     ensures live { (s : TracedSystem) (pid : ℕ) (p : TracedProcess) → IsLawfulSystem s → live_process s pid ≡ Some p → IsLawfulProcess (pid, p) }
     ensures lwp { (pid id : ℕ) (p : TracedProcess) (l : TracedLwp) → IsLawfulProcess (pid, p) → lwp_of p id ≡ Some l → IsLawfulLwp p.next_lwp (id, l) }
+{}
+
+/// Records can hold what came with the signals of a lawful process: of the representative, of each lwp, and of the lwp of
+/// an id.
+pub fn infos_of_lawful_processes_are_in_range()
+    ensures status { (pid : ℕ) (p : TracedProcess) → IsLawfulProcess (pid, p) → IsInfo (status_of pid p).lwp.info }
+    ensures lstatus { (pid : ℕ) (p : TracedProcess) → IsLawfulProcess (pid, p) → All (λ l. IsInfo l.info) (lstatus_of p) }
+    ensures lwpstatus { (pid id : ℕ) (p : TracedProcess) (l : TracedLwp) → IsLawfulProcess (pid, p) → lwp_of p id ≡ Some l → IsInfo (lwpstatus_of p id l).info }
 {}

@@ -18,8 +18,7 @@ use Rattle.pr_num.specs.declared.signals.Sig.{Sig}
 use Rattle.pr_num.specs.declared.signals.Sig.TheVariants as sig
 use Rattle.pr_parts.specs.AddressSpaces.{with_bytes}
 use Rattle.pr_parts.specs.WatchedAreas.{with_area, without_area}
-use Rattle.pr_model.specs.Built.{is_built_call}
-use Rattle.pr_model.specs.Calls.{Answer, refused, answered, opened, open_unless, open_answer, close_held, close_answer, controlled, waited, is_interrupted, with_interrupt_seen, ready_answer, is_polled_ready, poll_answer, until_answer, interrupt_answer, spawn_unless, spawn_found, spawn_answer, sent_reply, kill_answer, whole_answer, answer_to}
+use Rattle.pr_model.specs.Calls.{Answer, refused, answered, opened, open_unless, open_answer, close_held, close_answer, controlled, waited, is_interrupted, with_interrupt_seen, ready_answer, is_polled_ready, poll_answer, until_answer, interrupt_answer, spawn_unless, spawn_found, spawn_answer, sent_reply, kill_answer, answer_to}
 use Rattle.pr_model.specs.Changes.{with_space}
 use Rattle.pr_model.specs.ControlMessages.{aim_of, tail_of, control_handle, target_of, system_refusal, decoded_answer, targeted_answer, held_answer, control_answer, wait_reply}
 use Rattle.pr_model.specs.Handles.{handle_of, open_refusal}
@@ -285,23 +284,19 @@ module _ (s : TracedState) (by : ℕ) where
   sent-leaves pid info (sends g) = tt
 
   -- every call
-  whole-leaves : (c : calls.Call) → Leaves (whole_answer s by c)
-  unfolding whole_answer open_answer close_answer interrupt_answer spawn_answer kill_answer
-  whole-leaves (call.Open pid id file mode) = some _ (open-leaves _ (open_refusal s pid id file mode))
-  whole-leaves (call.Close handle) = some _ (close-leaves handle (handle_of s.opens by handle))
-  whole-leaves (call.Ctl handle bytes) = some _ (controlled-leaves _ (control-leaves s.system s.opens by handle bytes))
-  whole-leaves (call.CtlWait handle until bytes) = wait-leaves (wait_reply s.system s.opens by handle until (is_interrupted s by) bytes)
-  whole-leaves (call.Read handle from len) = some _ (same-leaves (read_reply s by handle from len))
-  whole-leaves (call.Poll handles) = poll-leaves handles
-  whole-leaves (call.Interrupt controller) = some _ (interrupt-leaves (ltb controller controller_limit) (record { state = record s { interrupted = with_number s.interrupted (controller + 1) }; reply = Done }) Inval tt)
-  whole-leaves (call.Spawn program held) = some _ (spawn-leaves held (program_named s.system.programs program))
-  whole-leaves (call.Kill pid number) = some _ (sent-leaves pid (killed_by 0) (sending pid number (life_of s.system pid)))
-  whole-leaves (call.Until moment) = until-leaves moment
-  whole-leaves call.List = some _ tt
-
   answer-leaves : (c : calls.Call) → Leaves (answer_to s by c)
-  unfolding answer_to
-  answer-leaves c = choice (is_built_call s by c) _ _ (whole-leaves c) not_ready
+  unfolding answer_to open_answer close_answer interrupt_answer spawn_answer kill_answer
+  answer-leaves (call.Open pid id file mode) = some _ (open-leaves _ (open_refusal s pid id file mode))
+  answer-leaves (call.Close handle) = some _ (close-leaves handle (handle_of s.opens by handle))
+  answer-leaves (call.Ctl handle bytes) = some _ (controlled-leaves _ (control-leaves s.system s.opens by handle bytes))
+  answer-leaves (call.CtlWait handle until bytes) = wait-leaves (wait_reply s.system s.opens by handle until (is_interrupted s by) bytes)
+  answer-leaves (call.Read handle from len) = some _ (same-leaves (read_reply s by handle from len))
+  answer-leaves (call.Poll handles) = poll-leaves handles
+  answer-leaves (call.Interrupt controller) = some _ (interrupt-leaves (ltb controller controller_limit) (record { state = record s { interrupted = with_number s.interrupted (controller + 1) }; reply = Done }) Inval tt)
+  answer-leaves (call.Spawn program held) = some _ (spawn-leaves held (program_named s.system.programs program))
+  answer-leaves (call.Kill pid number) = some _ (sent-leaves pid (killed_by 0) (sending pid number (life_of s.system pid)))
+  answer-leaves (call.Until moment) = until-leaves moment
+  answer-leaves call.List = some _ tt
 
 -- a refused call leaves the state
 pub refused-leaves : (s : TracedState) (by : ℕ) (c : calls.Call) (a : Answer) → answer_to s by c ≡ Some a → LeavesIfRefused s by a

@@ -1,4 +1,4 @@
-use Rattle.std.proofs.Common.{◌≡◌, ◌≢◌, ℕ, suc, ◌+◌, Bool, true, false, eqb, Option, Some, None, List, [], ◌∷◌, ◌++◌, length, take, drop, refl, sym, ap, ◌∙◌}
+use Rattle.std.proofs.Common.{◌≡◌, Some, None, refl}
 use Rattle.pr_num.specs.Agents.{agent_id}
 use Rattle.pr_model.specs.State.{TracedLwp, TracedProcess, lwp_of}
 use Rattle.pr_model.specs.Stops.{representative}

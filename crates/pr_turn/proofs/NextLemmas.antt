@@ -1,10 +1,9 @@
-use Rattle.std.proofs.Common.{◌≡◌, ℕ, ◌||◌, Bool, true, false, Some, None, is_some, List, refl, sym, ap, ◌∙◌, subst}
+use Rattle.std.proofs.Common.{◌≡◌, ℕ, Bool, true, false, Some, None, List, refl, sym, ap, ◌∙◌, subst}
 use Rattle.std.proofs.lemmas.Option.{same_Some}
 use Rattle.pr_num.specs.declared.faults.Flt.{Flt}
 use Rattle.pr_num.specs.declared.syscalls.Sysno.{Sysno}
 use Rattle.pr_num.specs.Signals.{signal_number}
 use Rattle.pr_parts.specs.declared.actions.Action.TheVariants as act
-use Rattle.pr_model.specs.Built.{is_built_in, is_built_turn}
 use Rattle.pr_model.specs.CallEffects.{call_effect}
 use Rattle.pr_model.specs.Registers.{arguments}
 use Rattle.pr_model.specs.Rows.{Row, acted_row, call_row, caught_row, interrupted_row, performed_row, posted_row, posted_row_or, row_for, row_in, signal_row_or, taken_or}
@@ -81,22 +80,6 @@ module _ (s : TracedSystem) (pid : ℕ) (p : TracedProcess) (id : ℕ) (l : Trac
   unfolding row_of signal_row_or row_in
   in-faulted r f address at e = subst (λ ph. r ≡ signal_row_or s pid p id l ph (row_in s pid p id l ph)) (sym at) e
 
--- ---- what is built
-
-third : (d c x : Bool) → d ≡ false → c ≡ false → (d || (c || x)) ≡ true → x ≡ true
-third false false x off none e = e
-third true c x off none e = absurd (cc)
-third false true x off none e = absurd (cc)
-
-pub second : (t x : Bool) → t ≡ false → (t || x) ≡ true → x ≡ true
-second false x off e = e
-second true x off e = absurd (cc)
-
--- what is built of an lwp that is not directed and has no current signal
-pub built-in : (p : TracedProcess) (l : TracedLwp) → l.control.directed ≡ false → l.current ≡ None → is_built_turn p l ≡ true → is_built_in p l l.phase ≡ true
-unfolding is_built_turn
-built-in p l off current built = third l.control.directed (is_some l.current) (is_built_in p l l.phase) off (ap is_some current) built
-
 -- ---- the current signal
 
 module _ (p : TracedProcess) (l : TracedLwp) (c : Current) where
@@ -116,12 +99,10 @@ module _ (p : TracedProcess) (l : TracedLwp) (c : Current) where
   unfolding acted_row
   acted-caught handler e = rw e refl
 
-pub ruleset performing = (second, row-aborted, row-performed)
+pub ruleset performing = (row-aborted, row-performed)
 
-pub ruleset rows = (row-directed, row-posted, row-current, row-phase, built-in)
+pub ruleset rows = (row-directed, row-posted, row-current, row-phase)
 
 pub ruleset acting = (acted-ignored, acted-stopped, acted-died, acted-caught)
 
 pub ruleset phases = (in-user, in-entered, in-asleep, in-exiting, in-faulted)
-
-pub ruleset tests = (second)

@@ -1,16 +1,15 @@
-use Rattle.std.proofs.Common.{◌≡◌, ℕ, ◌&&◌, ◌||◌, not, Bool, true, false, cond, Some, None, IsSome, is_some, List, [], ◌∷◌, refl, sym, ap, ◌∙◌, subst}
+use Rattle.std.proofs.Common.{◌≡◌, ℕ, ◌||◌, not, Bool, true, false, cond, Some, None, IsSome, is_some, List, [], ◌∷◌, refl, sym, ap, ◌∙◌, subst}
 use Rattle.std.proofs.lemmas.Option.{same_Some}
 use Rattle.pr_num.specs.ById.{put_under, under}
 use Rattle.pr_num.proofs.ByIdLaws.{change_under-change_under, put_under-found, put_under-same}
 use Rattle.pr_num.specs.Spaces.{Space}
 use Rattle.pr_num.specs.declared.syscalls.Sysno.{Sysno}
 use Rattle.pr_num.specs.declared.signals.Sig.{Sig}
-use Rattle.pr_model.specs.Built.{is_built_in, is_built_syscall, is_built_turn}
 use Rattle.pr_model.specs.Signals.{has_takeable}
 use Rattle.pr_model.specs.Changes.{all_changed, changed, ended, ends_process, space_is, takes_shared, job_stops, with_space, with_shared_taken, with_job_stop}
 use Rattle.pr_model.specs.InstructionEffects.{InstructionEffect, instruction_effect, runs, calls, faults, runs_into_watch}
 use Rattle.pr_model.specs.Lives.{with_ended, with_this_ended}
-use Rattle.pr_model.specs.LwpTurns.{can_move, is_held_back, LwpTurn, may_go_on, is_ready, may_turn, may_wake, settled, turn_of, with_counted}
+use Rattle.pr_model.specs.LwpTurns.{can_move, LwpTurn, is_ready, may_turn, may_wake, settled, turn_of, with_counted}
 use Rattle.pr_model.specs.Machines.{traced}
 use Rattle.pr_model.specs.Moves.{Move, moved, stays}
 use Rattle.pr_model.specs.Points.{after_meeting, meets}
@@ -37,14 +36,6 @@ use Rattle.pr_turn.specs.declared.next.Next.TheVariants.{Requested, Posted, Gave
 
 -- ---- who may have a turn
 
-both : (a b : Bool) → (a && b) ≡ true → b ≡ true
-both true b e = e
-both false b e = absurd (cc)
-
--- what is built of a call in which an lwp sleeps, where nothing else wakes it
-pub built-last : (directed current takes aborted built : Bool) → directed ≡ false → current ≡ false → takes ≡ false → aborted ≡ false → (directed || (current || (takes || (aborted || built)))) ≡ true → built ≡ true
-built-last directed current takes aborted built d c t a e = rw (d, c, t, a) at e
-
 -- the first of five tests that holds, or the last
 module _ (d c t a r : Bool) where
   first-holds : d ≡ true → true ≡ (d || (c || (t || (a || r))))
@@ -63,12 +54,6 @@ module _ (d c t a r : Bool) where
   last-decides x y z w = rw (x, y, z, w) refl
 
 module _ (s : TracedSystem) (pid : ℕ) (p : TracedProcess) (id : ℕ) (l : TracedLwp) where
-  -- what an lwp that sleeps has to have in order to go on
-  pub built-asleep : (call : Sysno) (args : List ℕ) (since : ℕ) → l.phase ≡ phase.Asleep call args since → is_built_turn p l ≡ true → (l.control.directed || (is_some l.current || (has_takeable p l || (l.control.abort || is_built_syscall call)))) ≡ true
-  unfolding is_built_turn
-  built-asleep call args since at built =
-      subst (λ ph. (l.control.directed || (is_some l.current || is_built_in p l ph)) ≡ true) at built
-
   module _ (since : ℕ) (call : Sysno) (args : List ℕ) where
     pub wakes-directed : l.control.directed ≡ true → true ≡ may_wake s pid p id l since call args
     unfolding may_wake
@@ -90,34 +75,7 @@ module _ (s : TracedSystem) (pid : ℕ) (p : TracedProcess) (id : ℕ) (l : Trac
     unfolding may_wake
     wakes-ready = last-decides l.control.directed (is_some l.current) (has_takeable p l) l.control.abort (is_ready s pid p id l since call args)
 
-  pub may-held : is_held_back p id l ≡ true → false ≡ may_turn s pid p id l
-  unfolding may_turn
-  may-held held = rw held refl
-
-  pub may-unbuilt : is_built_turn p l ≡ false → false ≡ may_turn s pid p id l
-  unfolding may_turn
-  may-unbuilt off = rw off (none (not (is_held_back p id l)) (may_go_on s pid p id l l.phase))
-    where
-      none : (a b : Bool) → false ≡ (a && (b && false))
-      none true true = refl
-      none true false = refl
-      none false b = refl
-
-  pub may-on : is_held_back p id l ≡ false → is_built_turn p l ≡ true → may_go_on s pid p id l l.phase ≡ may_turn s pid p id l
-  unfolding may_turn
-  may-on free built = rw (free, built) (all (may_go_on s pid p id l l.phase))
-    where
-      all : (a : Bool) → a ≡ (a && true)
-      all true = refl
-      all false = refl
-
-  pub may-built : may_turn s pid p id l ≡ true → is_built_turn p l ≡ true
-  unfolding may_turn
-  may-built may = both _ _ (both _ _ may)
-
-pub ruleset wake_laws = (built-last, wakes-directed, wakes-current, wakes-takes, wakes-aborted, wakes-ready)
-
-pub ruleset may_laws = (may-held, may-unbuilt, may-on, built-asleep)
+pub ruleset wake_laws = (wakes-directed, wakes-current, wakes-takes, wakes-aborted, wakes-ready)
 
 module _ (s : TracedSystem) (pid id : ℕ) where
   -- an lwp that can move stands in a live process
@@ -133,9 +91,6 @@ module _ (s : TracedSystem) (pid id : ℕ) where
   unfolding can_move
   can_move-may p l found stands can = rw (found, stands) at can
 
-  pub can_move-built : (p : TracedProcess) (l : TracedLwp) → live_process s pid ≡ Some p → lwp_of p id ≡ Some l → can_move s pid id ≡ true → is_built_turn p l ≡ true
-  can_move-built p l found stands can = may-built s pid p id l (can_move-may p l found stands can)
-
   pub is-next : (p : TracedProcess) (l : TracedLwp) (next : NextTurn) → live_process s pid ≡ Some p → lwp_of p id ≡ Some l → can_move s pid id ≡ true → row_of_turn s pid p id l next ≡ row_for s pid p id l → turn_fits l next ≡ true → IsNext s pid id next
   is-next p l next found stands can row room = record { process = p; lwp = l; found = found; stands = stands; may = can_move-may p l found stands can; fits = room; row = row }
 
@@ -143,7 +98,7 @@ module _ (s : TracedSystem) (pid id : ℕ) where
   unfolding may_take_memory
   may_take-phase p l found stands none = rw (found, stands) at none
 
-pub ruleset turn_laws = (can_move-live, can_move-stands, can_move-built, is-next, may_take-phase)
+pub ruleset turn_laws = (can_move-live, can_move-stands, is-next, may_take-phase)
 
 -- ---- the transition
 

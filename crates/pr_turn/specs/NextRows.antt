@@ -2,11 +2,10 @@ use Rattle.std.specs.Prelude.{ℕ, Bool, false, true, [], Option, Some, None, le
 use Rattle.pr_num.specs.declared.faults.Flt.{Flt}
 use Rattle.pr_num.specs.declared.faults.Flt.TheVariants.{Trace, Watch}
 use Rattle.pr_num.specs.Limits.{frame_limit}
-use Rattle.pr_model.specs.Built.{is_built_syscall}
 use Rattle.pr_model.specs.CallEffects.{call_effect}
 use Rattle.pr_model.specs.Changes.{ends_process}
 use Rattle.pr_model.specs.InstructionEffects.{InstructionEffect, runs, calls, faults, runs_into_watch, instruction_effect}
-use Rattle.pr_model.specs.Moves.{Move, moved, stops, posts, returns, leaves, enters, incurs, traps, stays, takes, drops, catches}
+use Rattle.pr_model.specs.Moves.{Move, stops, posts, returns, leaves, enters, incurs, traps, stays, takes, drops, catches}
 use Rattle.pr_model.specs.Moves as move
 use Rattle.pr_model.specs.Registers.{pc_of}
 use Rattle.pr_model.specs.Rows.{Row, finished, requested_row, posted_row, returned_row, executed_row, own_taken_row, shared_taken_row, performed_row, point_row, quiet_row}
@@ -67,10 +66,10 @@ abbrev pub fits : TracedLwp → Next → Bool
 fits l (Caught c handler) = nat_lt (length l.frames) frame_limit
 fits l _ = true
 
--- the same of a turn: the call that is performed is built
+-- the same of a turn: any call may be performed
 abbrev pub turn_fits : TracedLwp → NextTurn → Bool
 turn_fits l (ThisRow next) = fits l next
-turn_fits l (Performs woken call args since) = is_built_syscall call
+turn_fits l (Performs woken call args since) = true
 
 -- the fault that an lwp incurred and whose signal is not posted yet
 abbrev pub fault_in : Phase → Option (Flt × ℕ)

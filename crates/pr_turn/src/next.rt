@@ -1,10 +1,9 @@
 //! Which row of the turn table is the next turn of an lwp.
-ghost use Rattle.std.specs.Prelude.{◌≡◌, ◌||◌, ℕ, true, false, is_some, IfSome};
+ghost use Rattle.std.specs.Prelude.{◌≡◌, ℕ, true, false, IfSome};
 ghost use Rattle.pr_call.specs.Effects.{takes_memory};
-ghost use Rattle.pr_model.specs.Built.{is_built_in, is_built_syscall, is_built_turn};
 ghost use Rattle.pr_model.specs.LwpTurns.{is_held_back};
 ghost use Rattle.pr_model.specs.Registers.{arguments};
-ghost use Rattle.pr_model.specs.Rows.{Row, acted_row, call_row, caught_row, current_row_or, finished, handler_row, interrupted_row, row_for, row_in, signal_row_or, taken_or};
+ghost use Rattle.pr_model.specs.Rows.{Row, acted_row, call_row, caught_row, finished, handler_row, interrupted_row, row_for, row_in, signal_row_or, taken_or};
 ghost use Rattle.pr_model.specs.Signals.{disposition_of, has_takeable, own_takeable, shared_takeable};
 ghost use Rattle.pr_model.specs.State.{TracedLwp, TracedProcess, TracedSystem};
 ghost use Rattle.pr_turn.specs.CallTurns.{phase_takes, turn_takes};
@@ -79,75 +78,12 @@ pub fn is_held_back(process: &Proc, id: u32, lwp: &Lwp) -> bool
     lwp.control.stop.is_some() || lwp.suspended || (process.job_stop.is_some() && id != AGENT)
 }
 
-// ---- what is built
-
 /// Whether a signal is pending for an lwp, or for its process, that the lwp does not hold.
 #[tactic(auto, unfolding(pr_model::specs::Signals::takeable))]
 pub fn has_takeable(process: &Proc, lwp: &Lwp) -> bool
     ensures { result ≡ has_takeable process.now lwp.now }
 {
     takeable(lwp.pending.set(), process.pending.set(), lwp.held).is_some()
-}
-
-/// Whether a system call is built.
-fn is_built_syscall(call: Sysno) -> bool
-    ensures { result ≡ is_built_syscall call }
-{
-    match call {
-        Sysno::Exit
-        | Sysno::Fork
-        | Sysno::Close
-        | Sysno::Wait
-        | Sysno::Getpid
-        | Sysno::Getppid
-        | Sysno::Exec
-        | Sysno::Dup
-        | Sysno::Lseek
-        | Sysno::Kill
-        | Sysno::Sigaction
-        | Sysno::Sigmask
-        | Sysno::Pause
-        | Sysno::Sigreturn
-        | Sysno::Mmap
-        | Sysno::Munmap
-        | Sysno::Mprotect
-        | Sysno::Time
-        | Sysno::Sleep
-        | Sysno::LwpCreate
-        | Sysno::LwpExit
-        | Sysno::LwpSuspend
-        | Sysno::LwpContinue
-        | Sysno::Sigqueue => true,
-        _ => false,
-    }
-}
-
-/// Whether what an lwp in a system call does is built: it was aborted, or its row stands.
-fn is_built_at(lwp: &Lwp, call: Sysno) -> bool
-    ensures { result ≡ (lwp.now.control.abort || is_built_syscall call) }
-{
-    lwp.control.abort || is_built_syscall(call)
-}
-
-/// What is built of each phase.
-fn is_built_in(process: &Proc, lwp: &Lwp) -> bool
-    ensures { result ≡ is_built_in process.now lwp.now lwp.now.phase }
-{
-    match lwp.phase {
-        Phase::User => true,
-        Phase::Entered(call) => is_built_at(lwp, call),
-        Phase::Asleep { call, .. } => has_takeable(process, lwp) || is_built_at(lwp, call),
-        Phase::Exiting { .. } => true,
-        Phase::Faulted { .. } => true,
-    }
-}
-
-/// Whether the turn of an lwp is built: only some system calls are not.
-#[tactic(auto, unfolding(pr_model::specs::Built::is_built_turn))]
-pub fn is_built_turn(process: &Proc, lwp: &Lwp) -> bool
-    ensures { result ≡ is_built_turn process.now lwp.now }
-{
-    lwp.control.directed || lwp.current.is_some() || is_built_in(process, lwp)
 }
 
 // ---- an lwp in a system call
@@ -187,7 +123,6 @@ fn interrupted(woken: bool, call: Sysno, args: [u64; 6]) -> Next
 /// An lwp in a system call, since some moment, performs it; one whose call was aborted gets EINTR.
 #[tactic(auto, using(crate::proofs::NextLemmas::performing))]
 fn at_call(lwp: &Lwp, woken: bool, call: Sysno, args: [u64; 6], since: u64) -> NextTurn
-    requires { (lwp.now.control.abort || is_built_syscall call) ≡ true }
     ensures row { (s : TracedSystem) (pid : ℕ) (p : TracedProcess) (id : ℕ) → row_of_turn s pid p id lwp.now result ≡ call_row s pid p id lwp.now woken call args since }
     ensures fits { turn_fits lwp.now result ≡ true }
     ensures sure { takes_memory call ≡ false → turn_takes result ≡ false }
@@ -268,7 +203,6 @@ fn acted(process: &Proc, lwp: &Lwp, current: Current) -> Next
 fn taken(process: &Proc, lwp: &Lwp) -> Option<Next>
     ensures row { (s : TracedSystem) (pid id : ℕ) (otherwise : Row) → row_or process.now lwp.now result otherwise ≡ taken_or s pid process.now id lwp.now (own_takeable lwp.now) (shared_takeable process.now lwp.now) otherwise }
     ensures fits { IfSome result (λ next. fits lwp.now next ≡ true) }
-    ensures some { is_some result ≡ has_takeable process.now lwp.now }
 {
     if let Some(signal) = lwp.pending.set().minus(lwp.held).first() {
         return Some(Next::TookOwn(signal));
@@ -291,9 +225,7 @@ fn taken_or(process: &Proc, lwp: &Lwp, otherwise: Next) -> Next
 }
 
 /// An lwp that sleeps takes a signal, or its call is over.
-#[tactic(auto, using(crate::proofs::NextLemmas::tests))]
 fn asleep(process: &Proc, lwp: &Lwp, call: Sysno, args: [u64; 6], since: u64) -> NextTurn
-    requires { (has_takeable process.now lwp.now || (lwp.now.control.abort || is_built_syscall call)) ≡ true }
     ensures row { (s : TracedSystem) (pid id : ℕ) → row_of_turn s pid process.now id lwp.now result ≡ taken_or s pid process.now id lwp.now (own_takeable lwp.now) (shared_takeable process.now lwp.now) (call_row s pid process.now id lwp.now true call args since) }
     ensures fits { turn_fits lwp.now result ≡ true }
     ensures sure { takes_memory call ≡ false → turn_takes result ≡ false }
@@ -323,7 +255,6 @@ fn leaving(process: &Proc, lwp: &Lwp, call: Sysno) -> Next
 /// An lwp takes a signal, or its phase decides; one at a call that it has not made takes none.
 #[tactic(auto, using(crate::proofs::NextLemmas::phases))]
 fn in_phase(clock: u64, process: &Proc, lwp: &Lwp) -> NextTurn
-    requires { is_built_in process.now lwp.now lwp.now.phase ≡ true }
     ensures row { (s : TracedSystem) (pid id : ℕ) → s.clock ≡ clock → row_of_turn s pid process.now id lwp.now result ≡ signal_row_or s pid process.now id lwp.now lwp.now.phase (row_in s pid process.now id lwp.now lwp.now.phase) }
     ensures fits { turn_fits lwp.now result ≡ true }
     ensures sure { phase_takes lwp.now.phase ≡ false → turn_takes result ≡ false }
@@ -351,7 +282,6 @@ fn fault_in(phase: Phase) -> Option<(Flt, u64)>
 /// current signal is acted on; a signal is taken; and then the phase decides.
 #[tactic(auto, using(crate::proofs::NextLemmas::rows))]
 pub fn next_row(clock: u64, process: &Proc, lwp: &Lwp) -> NextTurn
-    requires { is_built_turn process.now lwp.now ≡ true }
     ensures row { (s : TracedSystem) (pid id : ℕ) → s.clock ≡ clock → row_of_turn s pid process.now id lwp.now result ≡ row_for s pid process.now id lwp.now }
     ensures fits { turn_fits lwp.now result ≡ true }
     ensures sure { phase_takes lwp.now.phase ≡ false → turn_takes result ≡ false }

@@ -1,12 +1,9 @@
 //! One turn of an lwp, as it changes the whole system.
-ghost use Rattle.std.specs.Prelude.{◌≡◌, ℕ, ◌+◌, ◌-◌, ◌^◌, ◌||◌, true, false, is_some, Some, IsSome, IfOk, IsOk, OnErr};
-ghost use Rattle.std.specs.Option.{ForSome};
-ghost use Rattle.pr_num.specs.ById.{change_under, under};
+ghost use Rattle.std.specs.Prelude.{◌≡◌, ℕ, ◌+◌, ◌-◌, ◌^◌, true, false, is_some, Some, IfOk, IsOk, OnErr};
+ghost use Rattle.pr_num.specs.ById.{change_under};
 ghost use Rattle.pr_model.specs.LwpTurns.{can_move, counted, may_go_on, may_turn, may_wake, turn_of, with_counted};
 ghost use Rattle.pr_model.specs.Points.{after_meeting, stopped_at, with_stop_at};
-ghost use Rattle.pr_model.specs.Built.{is_built_syscall, is_built_turn};
 ghost use Rattle.pr_model.specs.Lawful.{IsLawfulSystem};
-ghost use Rattle.pr_model.specs.Signals.{has_takeable};
 ghost use Rattle.pr_model.specs.State.{with_process};
 ghost use Rattle.pr_proc.specs.Counts.{AllUsedAtMost, UsedAtMost};
 ghost use Rattle.pr_turn.specs.CallTurns.{may_take_memory, turn_takes};
@@ -15,7 +12,7 @@ ghost use Rattle.pr_turn.specs.Turns.{IsNext, Makes};
 
 use crate::calls::perform_next;
 use crate::making::{Made, make_and_ask, quiet};
-use crate::next::{Next, NextTurn, has_takeable, is_built_turn, is_held_back, next_row};
+use crate::next::{Next, NextTurn, has_takeable, is_held_back, next_row};
 use pr_call::{Request, is_ready};
 use pr_model::{Did, Phase, Point, Turned, Usage};
 use pr_num::{ById, NoMemory};
@@ -90,7 +87,6 @@ fn meet(process: &mut Proc, id: u32, point: Option<Point>)
 /// call was aborted or is ready.
 #[tactic(auto, using(crate::proofs::TurnLemmas::wake_laws))]
 fn may_wake(sys: &Sys, process: &Proc, lwp: &Lwp, request: &Request) -> bool
-    requires { (lwp.now.control.directed || (is_some lwp.now.current || (has_takeable process.now lwp.now || (lwp.now.control.abort || is_built_syscall request.now.call)))) ≡ true }
     ensures { result ≡ may_wake sys.now request.now.pid process.now request.now.lwp lwp.now request.now.since request.now.call request.now.args }
 {
     if lwp.control.directed {
@@ -105,13 +101,11 @@ fn may_wake(sys: &Sys, process: &Proc, lwp: &Lwp, request: &Request) -> bool
     if lwp.control.abort {
         return true;
     }
-    is_ready(sys, request)
+    is_ready(sys, process, request)
 }
 
-/// Whether an lwp may go on, whose turn is built; only one that is asleep may not.
-#[tactic(auto, using(crate::proofs::TurnLemmas::may_laws))]
+/// Whether an lwp may go on; only one that is asleep may not.
 fn may_go_on(sys: &Sys, pid: u32, process: &Proc, id: u32, lwp: &Lwp) -> bool
-    requires { is_built_turn process.now lwp.now ≡ true }
     ensures { result ≡ may_go_on sys.now pid process.now id lwp.now lwp.now.phase }
 {
     match lwp.phase {
@@ -132,21 +126,15 @@ fn may_go_on(sys: &Sys, pid: u32, process: &Proc, id: u32, lwp: &Lwp) -> bool
     }
 }
 
-/// Whether an lwp, with its id, may have a turn: it is not held back, its turn is built, and it may go on.
-#[tactic(auto, using(crate::proofs::TurnLemmas::may_laws))]
+/// Whether an lwp, with its id, may have a turn: it is not held back, and it may go on.
+#[tactic(auto, unfolding(pr_model::specs::LwpTurns::may_turn))]
 fn may_turn(sys: &Sys, pid: u32, process: &Proc, id: u32, lwp: &Lwp) -> bool
     ensures { result ≡ may_turn sys.now pid process.now id lwp.now }
 {
-    if is_held_back(process, id, lwp) {
-        return false;
-    }
-    if !is_built_turn(process, lwp) {
-        return false;
-    }
-    may_go_on(sys, pid, process, id, lwp)
+    !is_held_back(process, id, lwp) && may_go_on(sys, pid, process, id, lwp)
 }
 
-/// Whether an lwp can have a turn: its process is live, it is not held back, and what it would do is built.
+/// Whether an lwp can have a turn: its process is live, and it is not held back and may go on.
 #[tactic(auto, unfolding(pr_model::specs::LwpTurns::can_move))]
 pub fn movable(sys: &Sys, pid: u32, lwp: u32) -> bool
     ensures { result ≡ can_move sys.now pid lwp }
