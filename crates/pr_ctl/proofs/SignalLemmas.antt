@@ -1,16 +1,11 @@
-use Rattle.std.proofs.Common.{◌≡◌, ◌==◌, ℕ, ◌≤◌, ◌<◌, Bool, true, false, cond, IsTrue, Option, Some, None, List, [], ◌∷◌, filter, length, not, ltb, option_map, refl, inl, inr, arith}
-use Rattle.std.proofs.lemmas.Bool.{cases_Bool, ltb-true, lt-ltb}
-use Rattle.pr_num.proofs.ByIdLaws.{under-map_each}
-use Rattle.pr_num.specs.Limits.{queue_limit}
-use Rattle.pr_num.specs.Sets.{has_number}
-use Rattle.pr_num.specs.Signals.{signal_number, signal_of_number}
+use Rattle.std.proofs.Common.{◌≡◌, ℕ, true, false, IsTrue, Option, Some, None, refl}
+use Rattle.pr_num.specs.Signals.{signal_of_number}
 use Rattle.pr_num.specs.declared.signals.Sig.{Sig}
-use Rattle.pr_parts.specs.PendingSignals.{Pending, has_room, is_standard, without_signals}
-use Rattle.pr_parts.specs.declared.signals.Queued.{Queued}
-use Rattle.pr_parts.specs.SignalRules.{deleted_by}
-use Rattle.pr_model.specs.Generation.{ends_job_stop, lwp_without_pending, with_deletions, without_job_stop, without_pending}
+use Rattle.pr_parts.specs.PendingSignals.{has_room}
+use Rattle.pr_model.specs.Generation.{with_deletions}
 use Rattle.pr_model.specs.Messages.{Aim, is_kill_of, kill_by, killed, ssig_answer, unkill_by, with_process_changed, with_signal_set}
 use Rattle.pr_model.specs.State.{TracedLwp, TracedProcess, TracedSystem, lwp_of}
+use Rattle.pr_proc.proofs.SignalLemmas.{room-deletions}
 use Rattle.pr_proc.specs.Room.{has_room_for, has_room_in, has_room_of}
 use Rattle.pr_ctl.proofs.AimLemmas.{aimed-on_lwp}
 use Rattle.pr_ctl.specs.Aims.{aim_at}
@@ -45,58 +40,16 @@ ssig-set s pid p lwp number len o e other = rw (← e, other) (aimed-on_lwp s pi
 
 -- ---- a signal that has room has it after what its generation deletes
 
-shorter : {X : Type 0} (q : X → Bool) (xs : List X) → length (filter q xs) ≤ length xs
-shorter q [] = omega arith
-shorter q (x ∷ xs) = elim (cases_Bool (q x)) [ inl e ↦ rw e (omega (arith, shorter q xs)) | inr e ↦ rw e (omega (arith, shorter q xs)) ]
-
-room-less : (g : Sig) (w : ℕ) (p : Pending) → has_room g p ≡ true → has_room g (without_signals w p) ≡ true
-unfolding has_room without_signals
-room-less g w p room = of (is_standard g) room
-  where
-    left : List Queued
-    left = filter (λ q. not (has_number w (signal_number q.signal))) p.queued
-
-    of : (b : Bool) → cond b true (ltb (length p.queued) queue_limit) ≡ true → cond b true (ltb (length left) queue_limit) ≡ true
-    of true e = refl
-    of false e =
-        let less : length p.queued < queue_limit = ltb-true (length p.queued) queue_limit e in
-        let short : length left ≤ length p.queued = shorter (λ q. not (has_number w (signal_number q.signal))) p.queued in
-        lt-ltb (length left) queue_limit (omega arith)
-
 room-of : (g : Sig) (p : TracedProcess) (o : Option TracedLwp) → has_room g (pending_found p o) ≡ true → has_room_of g o ≡ true
 room-of g p None room = refl
 room-of g p (Some l) room = room
-
-room-of_less : (g : Sig) (w : ℕ) (p : TracedProcess) (o : Option TracedLwp) → has_room g (pending_found p o) ≡ true → has_room_of g (option_map (lwp_without_pending w) o) ≡ true
-unfolding lwp_without_pending
-room-of_less g w p None room = refl
-room-of_less g w p (Some l) room = room-less g w l.pending room
 
 room-kept : (id : Option ℕ) (g : Sig) (p : TracedProcess) → has_room g (pending_for p id) ≡ true → has_room_for id g p ≡ true
 unfolding pending_for has_room_for has_room_in
 room-kept None g p room = room
 room-kept (Some id) g p room = room-of g p (lwp_of p id) room
 
-room-without : (id : Option ℕ) (g : Sig) (w : ℕ) (p : TracedProcess) → has_room g (pending_for p id) ≡ true → has_room_for id g (without_pending w p) ≡ true
-unfolding pending_for has_room_for has_room_in without_pending
-room-without None g w p room = room-less g w p.pending room
-room-without (Some id) g w p room = rw (under-map_each id (lwp_without_pending w) p.lwps) (room-of_less g w p (lwp_of p id) room)
+pub room-kill : (id : Option ℕ) (g : Sig) (p : TracedProcess) → has_room g (pending_for p id) ≡ true → IsTrue (has_room_for id g (with_deletions g p))
+room-kill id g p room = room-deletions id g p (room-kept id g p room)
 
-room-no_stop : (id : Option ℕ) (g : Sig) (p : TracedProcess) → has_room_for id g p ≡ true → has_room_for id g (record p { job_stop = None }) ≡ true
-unfolding has_room_for
-room-no_stop None g p room = room
-room-no_stop (Some id) g p room = room
-
-pub room-deletions : (id : Option ℕ) (g : Sig) (p : TracedProcess) → has_room g (pending_for p id) ≡ true → IsTrue (has_room_for id g (with_deletions g p))
-unfolding with_deletions without_job_stop
-room-deletions id g p room = of (deleted_by g == 0) (ends_job_stop g)
-  where
-    less : has_room_for id g (without_pending (deleted_by g) p) ≡ true
-    less = room-without id g (deleted_by g) p room
-
-    of : (none ends : Bool) → has_room_for id g (cond none p (cond ends (record (without_pending (deleted_by g) p) { job_stop = None }) (without_pending (deleted_by g) p))) ≡ true
-    of true ends = room-kept id g p room
-    of false true = room-no_stop id g (without_pending (deleted_by g) p) less
-    of false false = less
-
-pub ruleset signal_laws = (kill-by_id, unkill-by_id, room-deletions)
+pub ruleset signal_laws = (kill-by_id, unkill-by_id, room-kill)

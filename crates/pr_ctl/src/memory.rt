@@ -1,13 +1,12 @@
 //! Messages that read and write memory, whatever its protection (proc(4), "PCREAD", "PCWRITE").
 ghost use Rattle.std.specs.Prelude.{◌≡◌, ◌≤◌, ℕ, List, Option, None, IsSome, IfOk, is_ok, length};
 ghost use Rattle.std.specs.Bool.{OnFalse, OnTrue};
-ghost use Rattle.std.specs.Option.{ForSome};
 ghost use Rattle.pr_num.specs.Messages.{bad_operand};
 ghost use Rattle.pr_num.specs.Spaces.{bytes_for};
 ghost use Rattle.pr_num.specs.declared.messages.Message.TheVariants as message;
 ghost use Rattle.pr_parts.specs.AddressSpaces.{with_bytes};
 ghost use Rattle.pr_model.specs.Changes.{with_space};
-ghost use Rattle.pr_model.specs.State.{live_process, with_process};
+ghost use Rattle.pr_model.specs.State.{live_process};
 ghost use Rattle.pr_ctl.specs.Answers.{Answers};
 ghost use Rattle.pr_ctl.specs.Memory.{memory_reply};
 

@@ -1,13 +1,11 @@
 //! Messages that send a signal, or take one back (proc(4), "PCSSIG", "PCKILL", "PCUNKILL").
 ghost use Rattle.std.specs.Prelude.{◌≡◌, ℕ, List, None, IsSome};
 ghost use Rattle.std.specs.Option.{ForSome};
-ghost use Rattle.pr_num.specs.Messages.{bad_operand};
 ghost use Rattle.pr_num.specs.declared.messages.Message.TheVariants as message;
 ghost use Rattle.pr_parts.specs.PendingSignals.{has_room};
 ghost use Rattle.pr_model.specs.Messages.{is_kill_of, killed, process_without_one};
 ghost use Rattle.pr_model.specs.State.{TracedProcess, TracedSystem, live_process, with_process};
 ghost use Rattle.pr_ctl.specs.Answers.{Answers};
-ghost use Rattle.pr_ctl.specs.Changes.{lwp_changed};
 ghost use Rattle.pr_ctl.specs.Signals.{kill_by_id, pending_for, unkilled};
 
 use crate::aims::set_signal;

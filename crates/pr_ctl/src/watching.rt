@@ -4,7 +4,7 @@ ghost use Rattle.pr_num.specs.Messages.{bad_operand};
 ghost use Rattle.pr_num.specs.declared.messages.Message.TheVariants as message;
 ghost use Rattle.pr_parts.specs.WatchedAreas.{with_area, without_area};
 ghost use Rattle.pr_model.specs.Messages.{with_areas, with_control};
-ghost use Rattle.pr_model.specs.State.{live_process, with_process};
+ghost use Rattle.pr_model.specs.State.{live_process};
 ghost use Rattle.pr_watch.specs.Setting.{done_unless, set_refusal};
 ghost use Rattle.pr_ctl.specs.Answers.{Answers};
 ghost use Rattle.pr_ctl.specs.Watching.{errno_of};

@@ -23,8 +23,7 @@ use Rattle.pr_num.specs.Signals.{signal_number, signal_of_number}
 use Rattle.pr_parts.specs.AddressSpaces.{with_bytes}
 use Rattle.pr_parts.specs.PendingSignals.{has_room}
 use Rattle.pr_parts.specs.WatchedAreas.{is_taken, with_area, without_area}
-use Rattle.pr_model.specs.Built.{is_built_call}
-use Rattle.pr_model.specs.Calls.{Answer, answer_to, close_answer, close_held, interrupt_answer, is_interrupted, is_open_by, is_polled_ready, kill_answer as call_kill_answer, open_answer, open_unless, opened, poll_answer, ready_answer, refused as call_refused, spawn_answer, spawn_found, spawn_unless, until_answer, waited, whole_answer}
+use Rattle.pr_model.specs.Calls.{Answer, answer_to, close_answer, close_held, interrupt_answer, is_interrupted, is_open_by, is_polled_ready, kill_answer as call_kill_answer, open_answer, open_unless, opened, poll_answer, ready_answer, refused as call_refused, spawn_answer, spawn_found, spawn_unless, until_answer, waited}
 use Rattle.pr_model.specs.Changes.{with_space}
 use Rattle.pr_model.specs.ControlMessages.{aim_of, control_answer, control_handle, decoded_answer, held_answer, system_refusal, tail_of, target_of, targeted_answer}
 use Rattle.pr_model.specs.Handles.{after_last_close, handle_of, released, released_control, was_last_writer, with_closed, with_last_close, with_opened}
@@ -324,23 +323,19 @@ module _ (n : ℕ) (s : TracedState) (by : ℕ) (sound : IsSound n s.system) whe
   spawn-sound name held = spawn_found-sound held _
 
   -- every call
-  whole-leaves : (c : calls.Call) → Leaves (whole_answer s by c)
-  unfolding whole_answer open_answer close_answer
-  whole-leaves (call.Open pid id file mode) = leaves _ (open-sound _ _)
-  whole-leaves (call.Close handle) = leaves _ (close-sound handle (handle_of s.opens by handle))
-  whole-leaves (call.Ctl handle bytes) = leaves _ (control-leaves handle bytes)
-  whole-leaves (call.CtlWait handle until bytes) = wait-leaves _
-  whole-leaves (call.Read handle from len) = leaves _ sound
-  whole-leaves (call.Poll handles) = poll-leaves handles
-  whole-leaves (call.Interrupt controller) = leaves _ (interrupt-sound controller)
-  whole-leaves (call.Spawn program held) = leaves _ (spawn-sound program held)
-  whole-leaves (call.Kill pid sig) = leaves _ (kill-sound pid sig)
-  whole-leaves (call.Until moment) = until-leaves moment
-  whole-leaves call.List = leaves _ sound
-
   answer-leaves : (c : calls.Call) → Leaves (answer_to s by c)
-  unfolding answer_to
-  answer-leaves c = leaves-either (is_built_call s by c) (whole_answer s by c) None (whole-leaves c) no_answer
+  unfolding answer_to open_answer close_answer
+  answer-leaves (call.Open pid id file mode) = leaves _ (open-sound _ _)
+  answer-leaves (call.Close handle) = leaves _ (close-sound handle (handle_of s.opens by handle))
+  answer-leaves (call.Ctl handle bytes) = leaves _ (control-leaves handle bytes)
+  answer-leaves (call.CtlWait handle until bytes) = wait-leaves _
+  answer-leaves (call.Read handle from len) = leaves _ sound
+  answer-leaves (call.Poll handles) = poll-leaves handles
+  answer-leaves (call.Interrupt controller) = leaves _ (interrupt-sound controller)
+  answer-leaves (call.Spawn program held) = leaves _ (spawn-sound program held)
+  answer-leaves (call.Kill pid sig) = leaves _ (kill-sound pid sig)
+  answer-leaves (call.Until moment) = until-leaves moment
+  answer-leaves call.List = leaves _ sound
 
 -- an answer leaves a sound system sound
 pub answer-sound : (n : ℕ) (s : TracedState) (by : ℕ) (c : calls.Call) (a : Answer) → answer_to s by c ≡ Some a → IsSound n s.system → IsSound n a.state.system

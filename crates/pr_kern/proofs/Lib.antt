@@ -6,6 +6,7 @@ pub mod OrderLemmas
 pub mod SendingLemmas
 pub mod SizeLemmas
 pub mod SoundLemmas
+pub mod SpawnLemmas
 pub mod StartLemmas
 pub mod StepLemmas
 pub mod TurnedLemmas

@@ -1,4 +1,4 @@
-use Rattle.std.proofs.Common.{◌≡◌, ℕ, ◌+◌, ◌≤◌, true, false, Option, Some, None, List, [], ◌∷◌, length, refl, arith}
+use Rattle.std.proofs.Common.{◌≡◌, ℕ, ◌+◌, ◌≤◌, true, false, Option, Some, None, List, [], ◌∷◌, length, refl, sym, subst, arith}
 use Rattle.std.specs.List.{All, slice_get, sum_by}
 use Rattle.std.proofs.lemmas.List.{length-map}
 use Rattle.std.proofs.lemmas.List.Elements.{All-cons, All-map, All-nil}
@@ -10,7 +10,7 @@ use Rattle.pr_model.specs.FirstState.{bare_system, spawned_at, system_process, w
 use Rattle.pr_model.specs.Lawful.{IsLawful, IsLawfulProgram}
 use Rattle.pr_model.specs.Lives.{bare_process, new_process, with_spawned}
 use Rattle.pr_model.specs.Machines.{nothing_set, traced}
-use Rattle.pr_model.specs.State.{TracedSystem}
+use Rattle.pr_model.specs.State.{TracedState, TracedSystem}
 use Rattle.pr_proc.specs.Counts.{HasUsedAtMost}
 use Rattle.pr_kern.proofs.SoundLemmas.{sound-with_made, unused}
 use Rattle.pr_lawful.proofs.StartLemmas.{first-lawful}
@@ -54,3 +54,9 @@ start-lawful programs files spawns within few short own_names room mapped =
       room = room;
       mapped = mapped;
     })
+
+-- the state that a kernel begins with is lawful
+pub started-lawful : (m : TracedState) (slice programs : List Program) (files : List (List ℕ × List ℕ)) (spawns : List ℕ) → All IsLawfulProgram slice → slice ≡ programs → length files ≤ 256 → All (λ f. length f.1 ≤ 65536) files → names_differ (stored files) ≡ true
+    → length spawns + 1 ≤ process_limit → sum_by (λ place. size_at_start (slice_get programs place)) spawns ≤ all_mappings_limit → m ≡ first_state programs (stored files) spawns → IsLawful m
+started-lawful m slice programs files spawns within same few short own_names room mapped is =
+    subst IsLawful (sym is) (start-lawful programs files spawns (subst (All IsLawfulProgram) same within) few short own_names room mapped)

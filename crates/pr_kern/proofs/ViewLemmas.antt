@@ -4,6 +4,7 @@ use Rattle.pr_api.proofs.ShapeLemmas.{machine-shaped}
 use Rattle.pr_api.specs.Steps.{IsCalled, IsTicked, IsTurned}
 use Rattle.pr_api.specs.Views.{KernelView, kernel_of, next_of, turns_after}
 use Rattle.pr_model.specs.Calls.{Answer, answer_to}
+use Rattle.pr_model.specs.Lawful.{IsLawfulSystem}
 use Rattle.pr_model.specs.LwpTurns.{LwpTurn, turn_of}
 use Rattle.pr_model.specs.declared.calls.Call.{Call}
 use Rattle.pr_model.specs.declared.events.Turned.{Turned}
@@ -22,23 +23,23 @@ same_kernel k m e = cc
 same_turned : (k m : TurnedKernel) → Some k ≡ Some m → k ≡ m
 same_turned k m e = cc
 
-answered : (by : ℕ) (c : Call) (k : Kernel) (a : Answer) → answer_to k.state by c ≡ Some a → IsCalled by c (seen k) (seen (after_answer by c k a))
+answered : (by : ℕ) (c : Call) (k : Kernel) (a : Answer) → IsLawfulSystem k.state.system → answer_to k.state by c ≡ Some a → IsCalled by c (seen k) (seen (after_answer by c k a))
 unfolding kernel_of
-answered by c k a made = record {
+answered by c k a lawful made = record {
   reply = a.reply;
-  shaped = machine-shaped k.state by c a made;
+  shaped = machine-shaped k.state by c a lawful made;
   history = refl;
   places = refl;
   machine = (a.state, made, refl);
 }
 
-pub kern-called : (by : ℕ) (c : Call) (k new : Kernel) → after_call by c k ≡ Some new → IsCalled by c (seen k) (seen new)
+pub kern-called : (by : ℕ) (c : Call) (k new : Kernel) → IsLawfulSystem k.state.system → after_call by c k ≡ Some new → IsCalled by c (seen k) (seen new)
 unfolding after_call
-kern-called by c k new made = of (answer_to k.state by c) refl made
+kern-called by c k new lawful made = of (answer_to k.state by c) refl made
   where
     of : (o : Option Answer) → answer_to k.state by c ≡ o → option_map (after_answer by c k) o ≡ Some new → IsCalled by c (seen k) (seen new)
     of None none e = absurd (cc)
-    of (Some a) some e = let Q : Kernel → Type 0 = λ n. IsCalled by c (seen k) (seen n) in subst Q (same_kernel _ new e) (answered by c k a some)
+    of (Some a) some e = let Q : Kernel → Type 0 = λ n. IsCalled by c (seen k) (seen n) in subst Q (same_kernel _ new e) (answered by c k a lawful some)
 
 turned : (pid id : ℕ) (k : Kernel) (t : LwpTurn) → turn_of k.state.system pid id ≡ Some t → IsTurned pid id t.turned (seen k) (seen (after_lwp_turn pid id k t).kernel)
 unfolding kernel_of

@@ -28,8 +28,7 @@ with_entry s e k = record k { state = s; history = k.history ++ e ∷ [] }
 abbrev pub after_answer : ℕ → Call → Kernel → Answer → Kernel
 after_answer by call k a = with_entry a.state (call_entry by call a.reply) k
 
--- The kernel after a call: the answer that the machine gives, and its entry. None: the call is not ready, or not built
--- yet.
+-- The kernel after a call: the answer that the machine gives, and its entry. None: the call is not ready.
 unfoldable pub after_call : ℕ → Call → Kernel → Option Kernel
 after_call by call k = option_map (after_answer by call k) (answer_to k.state by call)
 

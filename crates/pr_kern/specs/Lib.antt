@@ -1,7 +1,6 @@
 pub mod Kernels
 pub mod Openings
 pub mod Orders
-pub mod Sendings
 pub mod Soundness
 pub mod Starts
 pub mod Steps

@@ -3,6 +3,7 @@ ghost use Rattle.std.specs.Prelude.{◌≡◌, ◌≤◌, ◌<◌, true, Some, i
 ghost use Rattle.pr_num.specs.Messages.{first_message};
 ghost use Rattle.pr_model.specs.Calls.{Answer, answer_to, controlled, is_interrupted};
 ghost use Rattle.pr_model.specs.ControlMessages.{control_answer, wait_reply};
+ghost use Rattle.pr_model.specs.Lawful.{IsLawfulSystem};
 ghost use Rattle.pr_model.specs.Legal.{clock_limit};
 ghost use Rattle.pr_ctl.specs.Memory.{begins_in_place};
 ghost use Rattle.pr_kern.specs.Kernels.{takes_no_memory};
@@ -11,6 +12,7 @@ use crate::Machine;
 use crate::closes::close;
 use crate::interrupts::{finish, interrupt, is_interrupted, poll_reply, until_reply};
 use crate::opens::open;
+use crate::processes::{list, spawn};
 use crate::reads::read;
 use crate::sending::kill;
 use pr_ctl::{control, control_wait};
@@ -52,7 +54,7 @@ fn wait_reply(state: &Machine, by: u32, handle: u32, until: u64, bytes: &[u8]) -
 }
 
 /// Whether a call of a controller, of any number, is ready: the machine has an answer to it. Takes no memory.
-#[tactic(auto, using(crate::proofs::WaitLemmas::wait_laws), unfolding(pr_model::specs::Calls::answer_to, pr_model::specs::Calls::whole_answer, pr_model::specs::Built::is_built_call))]
+#[tactic(auto, using(crate::proofs::WaitLemmas::wait_laws), unfolding(pr_model::specs::Calls::answer_to))]
 pub fn ready(state: &Machine, by: u32, call: &Call) -> bool
     ensures { result ≡ is_some (answer_to state.now by call.now) }
 {
@@ -64,17 +66,17 @@ pub fn ready(state: &Machine, by: u32, call: &Call) -> bool
         } => wait_reply(state, by, *handle, *until, bytes.as_slice()).is_some(),
         Call::Poll { handles } => poll_reply(state, by, handles.as_slice()).is_some(),
         Call::Until { moment } => until_reply(state, by, *moment).is_some(),
-        Call::Spawn { .. } | Call::List => false,
         _ => true,
     }
 }
 
 /// Answers a call that is ready. Where memory runs out, the state is as it was.
-#[tactic(auto, using(crate::proofs::WaitLemmas::wait_laws), unfolding(pr_model::specs::Calls::answer_to, pr_model::specs::Calls::whole_answer, pr_model::specs::Built::is_built_call))]
+#[tactic(auto, using(crate::proofs::WaitLemmas::wait_laws), unfolding(pr_model::specs::Calls::answer_to))]
 pub fn answer(state: &mut Machine, alloc: Global, by: u32, call: &Call) -> Result<Reply, NoMemory>
     requires by { by < 64 }
     requires clock { state.old.system.clock ≤ clock_limit }
     requires ready { is_some (answer_to state.old by call.now) ≡ true }
+    requires lawful { IsLawfulSystem state.old.system }
     ensures ok { IfOk result (λ reply. answer_to state.old by call.now ≡ Some (record { state = state.new; reply = reply })) }
     ensures err { OnErr result (state.new ≡ state.old) }
     ensures sure { takes_no_memory call.now ≡ true → IsOk result }
@@ -111,11 +113,12 @@ pub fn answer(state: &mut Machine, alloc: Global, by: u32, call: &Call) -> Resul
             Ok(finish(state, by, reply))
         }
         Call::Interrupt { controller } => Ok(interrupt(state, *controller)),
+        Call::Spawn { program, held } => spawn(state, alloc, program, *held),
         Call::Kill { pid, sig } => Ok(kill(state, *pid, *sig)),
         Call::Until { moment } => {
             let reply = until_reply(state, by, *moment).unwrap();
             Ok(finish(state, by, reply))
         }
-        Call::Spawn { .. } | Call::List => unreachable!(),
+        Call::List => list(state, alloc),
     }
 }

@@ -2,6 +2,7 @@ ghost use Rattle.std.specs.Prelude.{◌≡◌, ◌≤◌, ◌<◌, ◌+◌, [], 
 ghost use Rattle.std.specs.Option.{option_copied};
 ghost use Rattle.pr_model.specs.Calls.{answer_to};
 ghost use Rattle.pr_model.specs.FirstState.{first_state, size_at_start};
+ghost use Rattle.pr_model.specs.Lawful.{IsLawful};
 ghost use Rattle.pr_model.specs.Legal.{clock_limit};
 ghost use Rattle.pr_kern.specs.Kernels.{after_call, after_tick, after_turn, last_reply_of, some_sleeper, takes_no_memory};
 ghost use Rattle.pr_model.specs.LwpTurns.{can_move};
@@ -47,8 +48,8 @@ impl Model for Kern {
 
 impl Kern {
     /// A kernel with these programs and files, in the state before the first step, with a process of each program that
-    /// is spawned, by its place among the programs: 4,095 at most, which together map 64 MiB at most. It has places for so
-    /// many entries.
+    /// is spawned, by its place among the programs: 4,095 at most, which together map 64 MiB at most. That state is
+    /// lawful. It has places for so many entries.
     pub fn new(
         alloc: Global,
         programs: Vec<Program>,
@@ -64,6 +65,7 @@ impl Kern {
         ensures state { IfOk result (λ kernel. kernel.state ≡ first_state programs.items (stored files.items) spawns.now) }
         ensures history { IfOk result (λ kernel. kernel.history ≡ []) }
         ensures places { IfOk result (λ kernel. kernel.places ≡ places) }
+        ensures lawful { IfOk result (λ kernel. IsLawful kernel.state) }
     {
         // their type keeps the programs within their limits, so that the first state is lawful
         keep_limits(&programs);
@@ -86,7 +88,8 @@ impl Kern {
     }
 
     /// Makes a call of a controller: the machine answers it, and its entry is added. Reads, lists, the making of
-    /// processes, PCREAD and PCAGENT alone take memory; where it runs out, the kernel is as it was.
+    /// processes, PCREAD and PCAGENT alone take memory; where it runs out, the kernel is as it was. The state that it
+    /// finds is lawful.
     #[tactic(auto, unfolding(crate::specs::Kernels::after_call))]
     pub fn call(&mut self, by: u32, call: Call) -> Result<(), NoMemory>
         requires by { by < 64 }
@@ -95,6 +98,7 @@ impl Kern {
         ensures ok { OnOk result (after_call by call self.old ≡ Some self.new) }
         ensures err { OnErr result (self.new ≡ self.old) }
         ensures sure { takes_no_memory call ≡ true → IsOk result }
+        ensures lawful { IsLawful self.old.state }
     {
         let reply = answer(&mut self.state, self.alloc, by, &call)?;
         self.history.push(Entry {

@@ -8,6 +8,7 @@ mod interrupts;
 mod kernels;
 mod laws;
 mod opens;
+mod processes;
 mod reads;
 mod sending;
 mod sleepers;

@@ -3,9 +3,9 @@ use Rattle.std.proofs.lemmas.List.{append_assoc, append-nil}
 use Rattle.pr_api.specs.Views.{KernelView}
 use Rattle.pr_model.specs.declared.events.Entry.{Entry}
 use Rattle.pr_scen.specs.Scenarios.{Scenario}
-use Rattle.pr_world.proofs.RunLemmas.{moves-told, next-steps, picked-kernel, stuck-next}
+use Rattle.pr_world.proofs.RunLemmas.{moves-told, next-leads, picked-kernel, stuck-next}
 use Rattle.pr_world.specs.Moves.{entry_of}
-use Rattle.pr_world.specs.Runs.{IsTold, Steps, after_moves, after_next}
+use Rattle.pr_world.specs.Runs.{IsTold, StepLeads, after_moves, after_next}
 use Rattle.pr_world.specs.Worlds.{Pick, WorldState, next_pick}
 use Rattle.pr_run_laws.proofs.KeptLemmas.{first-told}
 use Rattle.pr_run_laws.specs.Prefixes.{IsPrefix}
@@ -24,15 +24,15 @@ prefix-of-prefix a b c first second = record {
 }
 
 -- a step adds its entry
-step-prefix : (w v : WorldState) → Steps w v → IsPrefix w.kernel.history v.kernel.history
+step-prefix : (w v : WorldState) → StepLeads w v → IsPrefix w.kernel.history v.kernel.history
 step-prefix w v step = record {
-  more = entry_of step.pick.actor step.moves.act ∷ [];
-  is = step.moves.history ∙ ap (λ (k : KernelView). k.history ++ entry_of step.pick.actor step.moves.act ∷ []) (picked-kernel step.pick w);
+  more = entry_of step.pick.actor step.leads.act ∷ [];
+  is = step.leads.history ∙ ap (λ (k : KernelView). k.history ++ entry_of step.pick.actor step.leads.act ∷ []) (picked-kernel step.pick w);
 }
 
 next-prefix : (w : WorldState) (next : Option Pick) → next_pick w ≡ next → IsTold w → IsPrefix w.kernel.history (after_next w).kernel.history
 next-prefix w None e t = subst (λ (v : WorldState). IsPrefix w.kernel.history v.kernel.history) (sym (stuck-next w e)) (prefix-same w.kernel.history)
-next-prefix w (Some p) e t = step-prefix w (after_next w) (next-steps w p t e)
+next-prefix w (Some p) e t = step-prefix w (after_next w) (next-leads w p t e)
 
 -- so many moves after so many others
 more-prefix : (first : WorldState) (m k : ℕ) → IsTold first → IsPrefix (after_moves m first).kernel.history (after_moves (k + m) first).kernel.history

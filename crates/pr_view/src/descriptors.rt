@@ -1,9 +1,11 @@
 //! The record of a process's open descriptors, filled from the state.
 ghost use Rattle.std.specs.Prelude.{◌≡◌, [], IfOk, unwrap_or};
-ghost use Rattle.pr_num.specs.Records.{name_field};
+ghost use Rattle.pr_num.specs.Records.{fd_entry_ranges, name_field};
 ghost use Rattle.pr_model.specs.Records.{fd_entries_from, fd_entry_of};
 ghost use Rattle.pr_parts.specs.FileCalls.{name_of};
 ghost use Rattle.pr_rec.specs.RecordBytes.{fds_bytes};
+ghost use Rattle.pr_rec.specs.RecordWords.{fd_entry_words_of};
+ghost use Rattle.pr_view.specs.Entries.{HasEntries};
 
 use pr_file::{Fds, Files};
 use pr_num::limits::DESCRIPTOR_LIMIT;
@@ -49,9 +51,10 @@ fn fds_of(alloc: Global, files: &Files, fds: &Fds) -> Result<Vec<FdEntry>, NoMem
     Ok(entries)
 }
 
-/// The bytes of the open descriptors of a process.
+/// The bytes of the open descriptors of a process. They decode to these.
 pub fn fds_bytes(alloc: Global, files: &Files, fds: &Fds) -> Result<Bytes, NoMemory>
-    ensures { IfOk result (λ bytes. bytes ≡ fds_bytes (fd_entries_from files.now 0 fds.now)) }
+    ensures bytes { IfOk result (λ bytes. bytes ≡ fds_bytes (fd_entries_from files.now 0 fds.now)) }
+    ensures decodes { IfOk result (λ bytes. HasEntries fd_entry_ranges fd_entry_words_of (fd_entries_from files.now 0 fds.now) bytes) }
 {
     let entries = fds_of(alloc, files, fds)?;
     write_fds(alloc, &entries)

@@ -10,6 +10,6 @@ mod views;
 
 pub use descriptors::fds_bytes;
 pub use lists::{list_bytes, lstatus_bytes, map_bytes, watch_bytes};
-pub use processes::{psinfo_of, usage_of};
+pub use processes::{psinfo_bytes, psinfo_of, usage_bytes, usage_of};
 pub use statuses::{lwpstatus_of, status_of};
-pub use views::{outlives, status_bytes, view_record};
+pub use views::{lwpstatus_bytes, outlives, status_bytes, view_record};

@@ -1,9 +1,12 @@
 //! The records that are lists, filled from the state (proc(4), "lstatus", "map", "watch"; and the list of processes).
-ghost use Rattle.std.specs.Prelude.{◌≡◌, ◌++◌, IfOk, OnOk};
+ghost use Rattle.std.specs.Prelude.{◌≡◌, ◌++◌, All, IfOk, OnOk, drop};
 ghost use Rattle.pr_model.specs.Records.{list_entry_of, list_of, lstatus_of, map_entry_of, map_of, mapping_name, watch_entry_of, watch_of};
-ghost use Rattle.pr_num.specs.Records.{name_field};
+ghost use Rattle.pr_num.specs.Records.{list_entry_ranges, lwpstatus_ranges, map_entry_ranges, name_field, watch_entry_ranges};
+ghost use Rattle.pr_view.specs.Entries.{HasEntries};
 ghost use Rattle.pr_view.specs.Lists.{listed};
+ghost use Rattle.pr_rec.specs.InRange.{IsInfo};
 ghost use Rattle.pr_rec.specs.RecordBytes.{list_bytes, lstatus_bytes, map_bytes, watch_bytes};
+ghost use Rattle.pr_rec.specs.RecordWords.{list_entry_words_of, lwpstatus_words_of, map_entry_words_of, watch_entry_words_of};
 
 use crate::statuses::lwpstatus_of;
 use pr_num::{Area, Bytes, Mapping, MappingKind, Name, NoMemory};
@@ -27,9 +30,11 @@ fn lstatus_of(alloc: Global, process: &Proc) -> Result<Vec<LwpStatus>, NoMemory>
     Ok(statuses)
 }
 
-/// The bytes of the statuses of all lwps of a process.
+/// The bytes of the statuses of all lwps of a process, after their number. They decode to these, where the information of
+/// each current signal is one that a record can hold.
 pub fn lstatus_bytes(alloc: Global, process: &Proc) -> Result<Bytes, NoMemory>
-    ensures { IfOk result (λ bytes. bytes ≡ lstatus_bytes (lstatus_of process.now)) }
+    ensures bytes { IfOk result (λ bytes. bytes ≡ lstatus_bytes (lstatus_of process.now)) }
+    ensures decodes { IfOk result (λ bytes. All (λ l. IsInfo l.info) (lstatus_of process.now) → HasEntries lwpstatus_ranges lwpstatus_words_of (lstatus_of process.now) (drop 8 bytes)) }
 {
     let statuses = lstatus_of(alloc, process)?;
     write_lstatus(alloc, &statuses)
@@ -70,9 +75,10 @@ fn map_of(alloc: Global, process: &Proc) -> Result<Vec<MapEntry>, NoMemory>
     Ok(entries)
 }
 
-/// The bytes of the mappings of a process.
+/// The bytes of the mappings of a process. They decode to these.
 pub fn map_bytes(alloc: Global, process: &Proc) -> Result<Bytes, NoMemory>
-    ensures { IfOk result (λ bytes. bytes ≡ map_bytes (map_of process.now)) }
+    ensures bytes { IfOk result (λ bytes. bytes ≡ map_bytes (map_of process.now)) }
+    ensures decodes { IfOk result (λ bytes. HasEntries map_entry_ranges map_entry_words_of (map_of process.now) bytes) }
 {
     let entries = map_of(alloc, process)?;
     write_map(alloc, &entries)
@@ -101,9 +107,10 @@ fn watch_of(alloc: Global, process: &Proc) -> Result<Vec<WatchEntry>, NoMemory>
     Ok(entries)
 }
 
-/// The bytes of the watched areas of a process.
+/// The bytes of the watched areas of a process. They decode to these.
 pub fn watch_bytes(alloc: Global, process: &Proc) -> Result<Bytes, NoMemory>
-    ensures { IfOk result (λ bytes. bytes ≡ watch_bytes (watch_of process.now)) }
+    ensures bytes { IfOk result (λ bytes. bytes ≡ watch_bytes (watch_of process.now)) }
+    ensures decodes { IfOk result (λ bytes. HasEntries watch_entry_ranges watch_entry_words_of (watch_of process.now) bytes) }
 {
     let entries = watch_of(alloc, process)?;
     write_watch(alloc, &entries)
@@ -145,9 +152,10 @@ fn list_of(alloc: Global, sys: &Sys) -> Result<Vec<ListEntry>, NoMemory>
     Ok(entries)
 }
 
-/// The bytes of the list of processes.
+/// The bytes of the list of processes. They decode to it.
 pub fn list_bytes(alloc: Global, sys: &Sys) -> Result<Bytes, NoMemory>
-    ensures { IfOk result (λ bytes. bytes ≡ list_bytes (list_of sys.now)) }
+    ensures bytes { IfOk result (λ bytes. bytes ≡ list_bytes (list_of sys.now)) }
+    ensures decodes { IfOk result (λ bytes. HasEntries list_entry_ranges list_entry_words_of (list_of sys.now) bytes) }
 {
     let entries = list_of(alloc, sys)?;
     write_list(alloc, &entries)

@@ -1,6 +1,10 @@
 //! What ps(1) shows of a process and what it has used, filled from the state (proc(4), "psinfo" and "usage").
 ghost use Rattle.std.specs.Prelude.{◌≡◌};
 ghost use Rattle.pr_model.specs.Records.{psinfo_of, usage_of};
+ghost use Rattle.pr_num.specs.Records.{psinfo_ranges, usage_ranges};
+ghost use Rattle.pr_rec.specs.Reading.{BeginsWith};
+ghost use Rattle.pr_rec.specs.RecordBytes.{psinfo_bytes, usage_bytes};
+ghost use Rattle.pr_rec.specs.RecordWords.{psinfo_words_of, usage_words_of};
 
 use pr_proc::Proc;
 use pr_rec::{Psinfo, Usage, name_field};
@@ -23,6 +27,14 @@ pub fn psinfo_of(pid: u32, process: &Proc) -> Psinfo
     }
 }
 
+/// The bytes of what ps(1) shows of the process of an id. They decode to it.
+pub fn psinfo_bytes(pid: u32, process: &Proc) -> [u8; 96]
+    ensures bytes { result ≡ psinfo_bytes (psinfo_of pid process.now) }
+    ensures decodes { BeginsWith psinfo_ranges result (psinfo_words_of (psinfo_of pid process.now)) }
+{
+    psinfo_of(pid, process).encode()
+}
+
 /// What the process of an id has used, also a zombie.
 #[tactic(auto, unfolding(pr_model::specs::Records::usage_of))]
 pub fn usage_of(pid: u32, process: &Proc) -> Usage
@@ -36,4 +48,12 @@ pub fn usage_of(pid: u32, process: &Proc) -> Usage
         faults: used.faults,
         instructions: used.instructions,
     }
+}
+
+/// The bytes of what the process of an id has used. They decode to it.
+pub fn usage_bytes(pid: u32, process: &Proc) -> [u8; 40]
+    ensures bytes { result ≡ usage_bytes (usage_of pid process.now) }
+    ensures decodes { BeginsWith usage_ranges result (usage_words_of (usage_of pid process.now)) }
+{
+    usage_of(pid, process).encode()
 }

@@ -3,10 +3,9 @@ ghost use Rattle.std.specs.Prelude.{◌≡◌, ◌<◌, ◌^◌, length, if◌th
 ghost use Rattle.pr_num.specs.Agents.{agent_id};
 ghost use Rattle.pr_model.specs.State.{has_agent};
 ghost use Rattle.pr_model.specs.Stops.{representative};
-ghost use Rattle.pr_model.specs.Statuses.{arguments_in, call_in, disposition_in, errno_in, error_of, fault_address_in, fault_in, info_in, lwp_flags, lwpstatus_of, process_flags, reason_of_stop, reason_shown, result_in, signal_in, status_of, status_of_found, value_of, what_of_stop, what_shown};
+ghost use Rattle.pr_model.specs.Statuses.{arguments_in, call_in, disposition_in, errno_in, error_of, fault_address_in, fault_in, info_in, lwp_flags, lwpstatus_of, reason_of_stop, reason_shown, result_in, signal_in, status_of, status_of_found, value_of, what_of_stop, what_shown};
 ghost use Rattle.pr_num.specs.Spaces.{heap_size, is_heap};
 ghost use Rattle.pr_rec.specs.Fields.{flag_if};
-ghost use Rattle.pr_rec.specs.NoLwp.{no_lwp};
 
 use pr_mem::Space;
 use pr_model::{Current, Phase, Res, Shown, Stop};

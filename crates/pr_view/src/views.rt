@@ -1,24 +1,24 @@
 //! What a read of each file of a process gives (proc(4)).
-ghost use Rattle.std.specs.Prelude.{◌≡◌, IfOk, IfSome, is_some};
+ghost use Rattle.std.specs.Prelude.{◌≡◌, IfOk};
 ghost use Rattle.std.specs.Option.{option_copied};
-ghost use Rattle.pr_num.specs.Records.{status_ranges};
+ghost use Rattle.pr_num.specs.Records.{lwpstatus_ranges, status_ranges};
 ghost use Rattle.pr_model.specs.Handles.{outlives};
-ghost use Rattle.pr_model.specs.Reads.{file_reply, of_lwp, of_process, part, part_read, read_process};
-ghost use Rattle.pr_model.specs.State.{TracedSystem, lwp_of};
+ghost use Rattle.pr_model.specs.Reads.{file_reply, of_lwp, of_process, part, read_process};
+ghost use Rattle.pr_model.specs.State.{lwp_of};
 ghost use Rattle.pr_model.specs.Statuses.{lwpstatus_of, status_of};
 ghost use Rattle.pr_rec.specs.InRange.{IsInfo};
 ghost use Rattle.pr_rec.specs.Reading.{BeginsWith};
-ghost use Rattle.pr_rec.specs.RecordBytes.{status_bytes};
-ghost use Rattle.pr_rec.specs.RecordWords.{status_words_of};
+ghost use Rattle.pr_rec.specs.RecordBytes.{lwpstatus_bytes, status_bytes};
+ghost use Rattle.pr_rec.specs.RecordWords.{lwpstatus_words_of, status_words_of};
 
 use crate::descriptors::fds_bytes;
 use crate::lists::{lstatus_bytes, map_bytes, watch_bytes};
 use crate::memory::read_space;
-use crate::processes::{psinfo_of, usage_of};
+use crate::processes::{psinfo_bytes, usage_bytes};
 use crate::statuses::{lwpstatus_of, status_of};
 use pr_model::{File, Reply};
 use pr_num::{Bytes, Errno, NoMemory};
-use pr_proc::{Proc, Sys, live};
+use pr_proc::{Lwp, Proc, Sys, live};
 use pr_rec::encode_sigact;
 use std::alloc::Global;
 
@@ -42,13 +42,22 @@ pub fn status_bytes(pid: u32, process: &Proc) -> [u8; 368]
     status_of(pid, process).encode()
 }
 
+/// The bytes of the status of an lwp of a process, with its id. They decode to that status, where the information of its
+/// current signal is one that a record can hold.
+pub fn lwpstatus_bytes(process: &Proc, id: u32, lwp: &Lwp) -> [u8; 264]
+    ensures bytes { result ≡ lwpstatus_bytes (lwpstatus_of process.now id lwp.now) }
+    ensures decodes { IsInfo (lwpstatus_of process.now id lwp.now).info → BeginsWith lwpstatus_ranges result (lwpstatus_words_of (lwpstatus_of process.now id lwp.now)) }
+{
+    lwpstatus_of(process, id, lwp).encode()
+}
+
 /// What a read of the status of the lwp of an id gives (ENOENT where it has ended).
 fn read_lwp(alloc: Global, process: &Proc, id: u32, at: u64, len: u64) -> Result<Reply, NoMemory>
     ensures { IfOk result (λ reply. reply ≡ of_lwp process.now id at len (lwp_of process.now id)) }
 {
     match process.lwps.get(id) {
         None => Ok(Reply::Fail(Errno::Noent)),
-        Some(lwp) => part_of(alloc, &lwpstatus_of(process, id, lwp).encode(), at, len),
+        Some(lwp) => part_of(alloc, &lwpstatus_bytes(process, id, lwp), at, len),
     }
 }
 
@@ -70,9 +79,9 @@ fn read_file(
         File::Ctl | File::Lwpctl => Ok(Reply::Fail(Errno::Badf)),
         File::Status => part_of(alloc, &status_bytes(pid, process), at, len),
         File::Lstatus => part_of(alloc, lstatus_bytes(alloc, process)?.as_slice(), at, len),
-        File::Psinfo => part_of(alloc, &psinfo_of(pid, process).encode(), at, len),
+        File::Psinfo => part_of(alloc, &psinfo_bytes(pid, process), at, len),
         File::Map => part_of(alloc, map_bytes(alloc, process)?.as_slice(), at, len),
-        File::Usage => part_of(alloc, &usage_of(pid, process).encode(), at, len),
+        File::Usage => part_of(alloc, &usage_bytes(pid, process), at, len),
         File::Mem => read_space(alloc, &process.space, at, len),
         File::Sigact => part_of(alloc, &encode_sigact(&process.dispositions), at, len),
         File::Watch => part_of(alloc, watch_bytes(alloc, process)?.as_slice(), at, len),

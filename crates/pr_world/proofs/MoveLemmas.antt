@@ -15,7 +15,7 @@ use Rattle.pr_model.specs.declared.events.Actor.TheVariants.{Controller, Lwp, Cl
 use Rattle.pr_model.specs.declared.events.Entry.{Entry}
 use Rattle.pr_model.specs.declared.events.Turned.{Turned}
 use Rattle.pr_world.specs.Controllers.{after_reply, call_by, feed_at, is_clock_awaited, next_call, with_fed}
-use Rattle.pr_world.specs.Moves.{Does, IsMachines, Moves}
+use Rattle.pr_world.specs.Moves.{Does, IsMachines, IsShaped, Leads, Moves}
 use Rattle.pr_world.specs.Protocol.{controllers_after}
 use Rattle.pr_world.specs.Worlds.{WorldOf, WorldState, can_act, is_answered, seen}
 use Rattle.pr_world.specs.declared.controllers.Controller.{Controller as Core}
@@ -96,23 +96,29 @@ answer-machines n k c r now s within made = record {
   state = made.2 ∙ ap Some (sym (ap (after_call s) made.1));
 }
 
+pub controller-leads : (w v : WorldState) (k : ℕ) (c : Call) (r : Reply) → can_act w (Controller k) ≡ true → call_by w.controllers k ≡ Some c → v.kernel.history ≡ w.kernel.history ++ call_entry k c r ∷ [] → v.kernel.places ≡ w.kernel.places
+    → IfSome w.kernel.machine (IsAnswer k c r v.kernel.machine) → v.controllers ≡ with_fed k r w.controllers → v.schedule ≡ w.schedule → v.last ≡ w.last → IsLawful v.kernel → Leads w (Controller k) v
+unfolding Does controllers_after
+controller-leads w v k c r acts next history places machine fed schedule last lawful = record {
+  act = Called c r;
+  acts = acts;
+  does = next;
+  history = history;
+  places = places;
+  controllers = fed;
+  schedule = schedule;
+  last = last;
+  machine = told w.kernel.machine _ _ (λ s is made. answer-machines (length w.controllers) k c r v.kernel.machine s (with_call w.controllers k c next) made) machine;
+  lawful = lawful;
+}
+
 pub controller-moves : (w v : WorldState) (k : ℕ) (c : Call) (r : Reply) → can_act w (Controller k) ≡ true → call_by w.controllers k ≡ Some c → IsCalled k c w.kernel v.kernel → last_reply_of v.kernel.history ≡ Some r → v.controllers ≡ with_fed k r w.controllers
     → v.schedule ≡ w.schedule → v.last ≡ w.last → IsLawful v.kernel → Moves w (Controller k) v
-unfolding Does controllers_after
+unfolding controller-leads IsShaped
 controller-moves w v k c r acts next called reply fed schedule last lawful =
     let same : called.reply ≡ r = same_Some called.reply r (sym (called-reply k c w.kernel v.kernel called) ∙ reply) in
-    record {
-      act = Called c called.reply;
-      acts = acts;
-      does = (next, called.shaped);
-      history = called.history;
-      places = called.places;
-      controllers = fed ∙ ap (λ (x : Reply). with_fed k x w.controllers) (sym same);
-      schedule = schedule;
-      last = last;
-      machine = told w.kernel.machine _ _ (λ s is made. answer-machines (length w.controllers) k c called.reply v.kernel.machine s (with_call w.controllers k c next) made) called.machine;
-      lawful = lawful;
-    }
+    let feeds : v.controllers ≡ with_fed k called.reply w.controllers = fed ∙ ap (λ (x : Reply). with_fed k x w.controllers) (sym same) in
+    record { leads = controller-leads w v k c called.reply acts next called.history called.places called.machine feeds schedule last lawful; shaped = called.shaped }
 
 turn-machines : (n pid id : ℕ) (t : Turned) (now : Option TracedState) (s : TracedState) → IsTurnOf pid id t now s → IsMachines n (turn_entry pid id t) now s
 unfolding IsLegalEntry after
@@ -121,9 +127,9 @@ turn-machines n pid id t now s made = record {
   state = made.2 ∙ ap Some (sym (ap (after_turn s) made.1));
 }
 
-pub lwp-moves : (w v : WorldState) (pid id : ℕ) (t : Turned) → can_act w (Lwp pid id) ≡ true → IsTurned pid id t w.kernel v.kernel → v.controllers ≡ w.controllers → v.schedule ≡ w.schedule → v.last ≡ w.last → IsLawful v.kernel → Moves w (Lwp pid id) v
+pub lwp-leads : (w v : WorldState) (pid id : ℕ) (t : Turned) → can_act w (Lwp pid id) ≡ true → IsTurned pid id t w.kernel v.kernel → v.controllers ≡ w.controllers → v.schedule ≡ w.schedule → v.last ≡ w.last → IsLawful v.kernel → Leads w (Lwp pid id) v
 unfolding Does controllers_after
-lwp-moves w v pid id t acts turned controllers schedule last lawful = record {
+lwp-leads w v pid id t acts turned controllers schedule last lawful = record {
   act = Turn t;
   acts = acts;
   does = tt;
@@ -135,6 +141,10 @@ lwp-moves w v pid id t acts turned controllers schedule last lawful = record {
   machine = told w.kernel.machine _ _ (λ s is made. turn-machines (length w.controllers) pid id t v.kernel.machine s made) turned.machine;
   lawful = lawful;
 }
+
+pub lwp-moves : (w v : WorldState) (pid id : ℕ) (t : Turned) → can_act w (Lwp pid id) ≡ true → IsTurned pid id t w.kernel v.kernel → v.controllers ≡ w.controllers → v.schedule ≡ w.schedule → v.last ≡ w.last → IsLawful v.kernel → Moves w (Lwp pid id) v
+unfolding lwp-leads IsShaped
+lwp-moves w v pid id t acts turned controllers schedule last lawful = record { leads = lwp-leads w v pid id t acts turned controllers schedule last lawful; shaped = tt }
 
 -- the clock is awaited below its last moment alone
 pub awaited-early : (clock : ℕ) (sleeper : Bool) (controllers : List Core) → is_clock_awaited clock sleeper controllers ≡ true → clock < clock_limit
@@ -161,9 +171,9 @@ tick-machines n clock now s same early made = record {
   state = made;
 }
 
-pub clock-moves : (w v : WorldState) → can_act w Clock ≡ true → IsTicked w.kernel v.kernel → v.controllers ≡ w.controllers → v.schedule ≡ w.schedule → v.last ≡ w.last → IsLawful w.kernel → IsLawful v.kernel → Moves w Clock v
+pub clock-leads : (w v : WorldState) → can_act w Clock ≡ true → IsTicked w.kernel v.kernel → v.controllers ≡ w.controllers → v.schedule ≡ w.schedule → v.last ≡ w.last → IsLawful w.kernel → IsLawful v.kernel → Leads w Clock v
 unfolding Does controllers_after
-clock-moves w v acts made controllers schedule last before lawful = record {
+clock-leads w v acts made controllers schedule last before lawful = record {
   act = Tick (w.kernel.clock + 1);
   acts = acts;
   does = (refl, made.clock);
@@ -175,6 +185,10 @@ clock-moves w v acts made controllers schedule last before lawful = record {
   machine = told w.kernel.machine _ _ (λ s is now. tick-machines (length w.controllers) w.kernel.clock v.kernel.machine s (told-clock w.kernel s before is) (acts-early w acts) now) made.machine;
   lawful = lawful;
 }
+
+pub clock-moves : (w v : WorldState) → can_act w Clock ≡ true → IsTicked w.kernel v.kernel → v.controllers ≡ w.controllers → v.schedule ≡ w.schedule → v.last ≡ w.last → IsLawful w.kernel → IsLawful v.kernel → Moves w Clock v
+unfolding clock-leads IsShaped
+clock-moves w v acts made controllers schedule last before lawful = record { leads = clock-leads w v acts made controllers schedule last before lawful; shaped = tt }
 
 -- ---- the world of any kernel, whose fields are these
 

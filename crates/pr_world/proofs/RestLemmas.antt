@@ -1,7 +1,9 @@
 use Rattle.std.proofs.Common.{◌≡◌, ◌<◌, ◌≤◌, ◌+◌, ◌-◌, ◌&&◌, ◌⊎◌, inl, inr, ℕ, zero, suc, Bool, true, false, Option, Some, None, is_some, List, [], ◌∷◌, length, cond, find, nat_lt, refl, sym, ◌∙◌, ap, arith}
+use Rattle.std.proofs.lemmas.Bool.{and_parts}
 use Rattle.std.proofs.lemmas.Option.{same_Some}
 use Rattle.std.specs.List.{range_with_len, slice_index_or}
 use Rattle.std.specs.Option.{option_map, option_or}
+use Rattle.pr_num.proofs.SearchLemmas.{find-passes}
 use Rattle.pr_api.specs.Views.{IsLawful, KernelView, is_after, next_of, turns_after}
 use Rattle.pr_model.specs.declared.events.Actor.{Actor}
 use Rattle.pr_model.specs.declared.events.Actor.TheVariants.{Controller, Lwp, Clock}
@@ -11,14 +13,6 @@ use Rattle.pr_world.specs.Worlds.{Pick, WorldState, actor_of, as_lwp, can_act, c
 use Rattle.pr_world.proofs.MoveLemmas.{acts-call, with_call}
 
 -- ---- who is next, can move
-
-pub found-passes : {X : Type 0} (q : X → Bool) (xs : List X) (x : X) → find q xs ≡ Some x → q x ≡ true
-found-passes q [] x e = cc
-found-passes q (y ∷ ys) x e = by (q y) refl (found-passes q ys x) e
-  where
-    by : (b : Bool) → q y ≡ b → (find q ys ≡ Some x → q x ≡ true) → cond b (Some y) (find q ys) ≡ Some x → q x ≡ true
-    by true passes later here = ap q (sym (same_Some y x here)) ∙ passes
-    by false fails later here = later here
 
 either : (a b : Option Actor) (x : Actor) (P : Actor → Type 0) → option_or a b ≡ Some x → (a ≡ Some x → P x) → (b ≡ Some x → P x) → P x
 either (Some y) b x P e left right = left e
@@ -36,17 +30,13 @@ unfolding first_controller controller_acts
 controller-next w from a e =
     let numbers = range_with_len from (length w.controllers - from) in
     let found = mapped-back Controller (find (controller_acts w) numbers) a e in
-    ap (can_act w) found.1.1 ∙ found-passes (controller_acts w) numbers found.0 found.1.0
-
-and_right : (a b : Bool) → (a && b) ≡ true → b ≡ true
-and_right true b h = h
-and_right false b h = cc
+    ap (can_act w) found.1.1 ∙ find-passes (controller_acts w) numbers found.0 found.1.0
 
 lwp-next : (w : WorldState) (after : Option (ℕ × ℕ)) (a : Actor) → first_lwp w after ≡ Some a → can_act w a ≡ true
 unfolding first_lwp next_of turns_after can_act
 lwp-next w after a e =
     let found = mapped-back as_lwp (find (turns_after w.kernel after) w.kernel.lwps) a e in
-    ap (can_act w) found.1.1 ∙ and_right _ _ (found-passes (turns_after w.kernel after) w.kernel.lwps found.0 found.1.0)
+    ap (can_act w) found.1.1 ∙ (and_parts _ _ (find-passes (turns_after w.kernel after) w.kernel.lwps found.0 found.1.0)).1
 
 clock-next : (w : WorldState) (b : Bool) (a : Actor) → can_act w Clock ≡ b → cond b (Some Clock) None ≡ Some a → can_act w a ≡ true
 clock-next w true a is e = ap (can_act w) (sym (same_Some Clock a e)) ∙ is

@@ -1,10 +1,9 @@
 use Rattle.std.proofs.Common.{◌≡◌, ◌+◌, ℕ, Bool, true, false, Option, Some, None, IfSome, is_some, List, [], ◌∷◌, ◌++◌, length, cond, refl, sym, ◌∙◌, ap, subst}
 use Rattle.std.specs.Option.{option_map}
-use Rattle.pr_api.proofs.ShapeLemmas.{machine-shaped}
 use Rattle.pr_api.specs.Entries.{call_entry, tick_entry, turn_entry}
 use Rattle.pr_api.specs.MachineLaws.{machine-lawful}
 use Rattle.pr_api.specs.Sleepers.{some_sleeper}
-use Rattle.pr_api.specs.Steps.{IsCalled, IsTicked, IsTurned}
+use Rattle.pr_api.specs.Steps.{IsAnswer, IsTicked, IsTurned}
 use Rattle.pr_api.specs.Views.{IsLawful, KernelView, kernel_of}
 use Rattle.pr_model.specs.Calls.{Answer, answer_to}
 use Rattle.pr_model.specs.Legal.{IsLegalEntry, after, after_call, after_turn, ticked}
@@ -17,11 +16,11 @@ use Rattle.pr_model.specs.declared.events.Actor.{Actor}
 use Rattle.pr_model.specs.declared.events.Actor.TheVariants.{Controller, Lwp, Clock}
 use Rattle.pr_model.specs.declared.events.Entry.{Entry}
 use Rattle.pr_world.specs.Controllers.{call_by, is_clock_awaited, with_fed}
-use Rattle.pr_world.specs.Moves.{Does, IsMachines, Moves, after_call_by, entry_of, move_in, with_answer, with_entry, with_tick, with_turn}
+use Rattle.pr_world.specs.Moves.{Does, IsMachines, Leads, after_call_by, entry_of, move_in, with_answer, with_entry, with_tick, with_turn}
 use Rattle.pr_world.specs.Protocol.{controllers_after}
 use Rattle.pr_world.specs.Worlds.{WorldState, can_act}
 use Rattle.pr_world.specs.declared.controllers.Controller.{Controller as Core}
-use Rattle.pr_world.proofs.MoveLemmas.{acts-call, clock-moves, told-clock, controller-moves, last-reply, lwp-moves}
+use Rattle.pr_world.proofs.MoveLemmas.{acts-call, clock-leads, controller-leads, lwp-leads, told-clock}
 
 -- Over a machine that is told a move is a function of the world.
 
@@ -57,7 +56,7 @@ module _ (s : TracedState) (w : WorldState) where
   later : Actor → Act → WorldState
   later actor act = record w { kernel = kernel_of (after s (entry_of actor act)) (w.kernel.history ++ entry_of actor act ∷ []) w.kernel.places; controllers = controllers_after w.controllers (entry_of actor act) }
 
-  led : (v : WorldState) (actor : Actor) (m : Moves w actor v) → IsMachines (length w.controllers) (entry_of actor m.act) v.kernel.machine s → v ≡ later actor m.act
+  led : (v : WorldState) (actor : Actor) (m : Leads w actor v) → IsMachines (length w.controllers) (entry_of actor m.act) v.kernel.machine s → v ≡ later actor m.act
   unfolding later
   led v actor m made =
       let e = entry_of actor m.act in
@@ -69,7 +68,7 @@ module _ (s : TracedState) (w : WorldState) where
   unfolding later Does IsLegalEntry move_in after controllers_after with_answer with_turn with_tick with_entry can_act
   row v (Controller k) (Called c r) clock sleeper acts does legal =
       let a : Answer = record { state = legal.1.0; reply = r } in
-      ap (after_call_by s w k) does.0 ∙ ap (option_map (with_answer w k c)) legal.1.1
+      ap (after_call_by s w k) does ∙ ap (option_map (with_answer w k c)) legal.1.1
       ∙ ap (λ (t : TracedState). Some (let v : WorldState = record w { kernel = kernel_of t (w.kernel.history ++ call_entry k c r ∷ []) w.kernel.places; controllers = with_fed k r w.controllers } in v)) (sym (ap (after_call s) legal.1.1))
   row v (Lwp pid id) (Turn t) clock sleeper acts does legal =
       ap (option_map (with_turn s w pid id)) legal.1
@@ -83,10 +82,11 @@ pub told-sleeper : (k : KernelView) (s : TracedState) → IsLawful k → k.machi
 unfolding kernel_of
 told-sleeper k s lawful is = ap (λ (x : KernelView). x.has_sleeper) (lawful.told s is)
 
-told-at : {X : Type 0} (o : Option X) (P : X → Type 0) (x : X) → o ≡ Some x → IfSome o P → P x
+-- what holds of a value that may stand there holds of the one that does
+pub told-at : {X : Type 0} (o : Option X) (P : X → Type 0) (x : X) → o ≡ Some x → IfSome o P → P x
 told-at o P x e h = let Q : Option _ → Type 0 = λ q. IfSome q P in subst Q e h
 
-pub move-is : (s : TracedState) (w v : WorldState) (actor : Actor) → IsLawful w.kernel → w.kernel.machine ≡ Some s → Moves w actor v → move_in s w actor ≡ Some v
+pub move-is : (s : TracedState) (w v : WorldState) (actor : Actor) → IsLawful w.kernel → w.kernel.machine ≡ Some s → Leads w actor v → move_in s w actor ≡ Some v
 move-is s w v actor lawful is m =
     let made : IsMachines (length w.controllers) (entry_of actor m.act) v.kernel.machine s = told-at w.kernel.machine _ s is m.machine in
     row s w v actor m.act (told-clock w.kernel s lawful is) (told-sleeper w.kernel s lawful is) m.acts m.does made.legal ∙ ap Some (sym (led s w v actor m made))
@@ -97,7 +97,7 @@ move-is s w v actor lawful is m =
 pub record Goes (s : TracedState) (w : WorldState) (actor : Actor) : Type 0 where
   pub to : WorldState
   pub led : move_in s w actor ≡ Some to
-  pub moves : Moves w actor to
+  pub leads : Leads w actor to
 
 module _ (s : TracedState) (w : WorldState) (is : w.kernel ≡ kernel_of s w.kernel.history w.kernel.places) where
   -- what is seen of the kernel is what the machine says
@@ -123,20 +123,13 @@ module _ (s : TracedState) (w : WorldState) (is : w.kernel ≡ kernel_of s w.ker
 
   -- ---- the moves of the kinds
 
-  called : (k : ℕ) (c : Call) (a : Answer) → answer_to s k c ≡ Some a → IsCalled k c w.kernel (with_answer w k c a).kernel
-  unfolding with_answer with_entry kernel_of
-  called k c a made = record {
-    reply = a.reply;
-    shaped = machine-shaped s k c a made;
-    history = refl;
-    places = refl;
-    machine = let P : Option TracedState → Type 0 = λ o. IfSome o (λ t. (u : TracedState) × (answer_to t k c ≡ Some (record { state = u; reply = a.reply })) × (Some a.state ≡ Some u)) in subst P (sym is-told) (a.state, made, refl);
-  }
+  answers : (k : ℕ) (c : Call) (a : Answer) → answer_to s k c ≡ Some a → IfSome w.kernel.machine (IsAnswer k c a.reply (Some a.state))
+  answers k c a made = let P : Option TracedState → Type 0 = λ o. IfSome o (IsAnswer k c a.reply (Some a.state)) in subst P (sym is-told) (a.state, made, refl)
 
-  controller-led : (k : ℕ) (c : Call) (a : Answer) → can_act w (Controller k) ≡ true → call_by w.controllers k ≡ Some c → answer_to s k c ≡ Some a → Moves w (Controller k) (with_answer w k c a)
+  controller-led : (k : ℕ) (c : Call) (a : Answer) → can_act w (Controller k) ≡ true → call_by w.controllers k ≡ Some c → answer_to s k c ≡ Some a → Leads w (Controller k) (with_answer w k c a)
   unfolding with_answer with_entry kernel_of
   controller-led k c a acts next made =
-      controller-moves w (with_answer w k c a) k c a.reply acts next (called k c a made) (last-reply w.kernel.history k c a.reply) refl refl refl (machine-lawful a.state _ _)
+      controller-leads w (with_answer w k c a) k c a.reply acts next refl refl (answers k c a made) refl refl refl (machine-lawful a.state _ _)
 
   turned : (pid id : ℕ) (t : LwpTurn) → turn_of s.system pid id ≡ Some t → IsTurned pid id t.turned w.kernel (with_turn s w pid id t).kernel
   unfolding with_turn with_entry kernel_of
@@ -146,10 +139,10 @@ module _ (s : TracedState) (w : WorldState) (is : w.kernel ≡ kernel_of s w.ker
     machine = let P : Option TracedState → Type 0 = λ o. IfSome o (λ x. (u : TracedSystem) × (turn_of x.system pid id ≡ Some (record { system = u; turned = t.turned })) × (Some (record s { system = t.system }) ≡ Some (record x { system = u }))) in subst P (sym is-told) (t.system, made, refl);
   }
 
-  lwp-led : (pid id : ℕ) (t : LwpTurn) → can_act w (Lwp pid id) ≡ true → turn_of s.system pid id ≡ Some t → Moves w (Lwp pid id) (with_turn s w pid id t)
+  lwp-led : (pid id : ℕ) (t : LwpTurn) → can_act w (Lwp pid id) ≡ true → turn_of s.system pid id ≡ Some t → Leads w (Lwp pid id) (with_turn s w pid id t)
   unfolding with_turn with_entry
   lwp-led pid id t acts made =
-      lwp-moves w (with_turn s w pid id t) pid id t.turned acts (turned pid id t made) refl refl refl (machine-lawful (record s { system = t.system }) _ _)
+      lwp-leads w (with_turn s w pid id t) pid id t.turned acts (turned pid id t made) refl refl refl (machine-lawful (record s { system = t.system }) _ _)
 
   ticks : IsTicked w.kernel (with_tick s w).kernel
   unfolding with_tick with_entry kernel_of
@@ -163,9 +156,9 @@ module _ (s : TracedState) (w : WorldState) (is : w.kernel ≡ kernel_of s w.ker
   own-lawful : IsLawful w.kernel
   own-lawful = subst IsLawful (sym is) (machine-lawful s w.kernel.history w.kernel.places)
 
-  clock-led : can_act w Clock ≡ true → Moves w Clock (with_tick s w)
+  clock-led : can_act w Clock ≡ true → Leads w Clock (with_tick s w)
   unfolding with_tick with_entry
-  clock-led acts = clock-moves w (with_tick s w) acts ticks refl refl refl own-lawful (machine-lawful (with_system ticked s) _ _)
+  clock-led acts = clock-leads w (with_tick s w) acts ticks refl refl refl own-lawful (machine-lawful (with_system ticked s) _ _)
 
   -- ---- whoever can move, moves
 
@@ -175,7 +168,7 @@ module _ (s : TracedState) (w : WorldState) (is : w.kernel ≡ kernel_of s w.ker
   controller-goes k c (Some a) acts next made h = record {
     to = with_answer w k c a;
     led = ap (after_call_by s w k) next ∙ ap (option_map (with_answer w k c)) made;
-    moves = controller-led k c a acts next made;
+    leads = controller-led k c a acts next made;
   }
 
   lwp-goes : (pid id : ℕ) (o : Option LwpTurn) → can_act w (Lwp pid id) ≡ true → turn_of s.system pid id ≡ o → is_some o ≡ true → Goes s w (Lwp pid id)
@@ -184,7 +177,7 @@ module _ (s : TracedState) (w : WorldState) (is : w.kernel ≡ kernel_of s w.ker
   lwp-goes pid id (Some t) acts made h = record {
     to = with_turn s w pid id t;
     led = ap (option_map (with_turn s w pid id)) made;
-    moves = lwp-led pid id t acts made;
+    leads = lwp-led pid id t acts made;
   }
 
   clock-awaited : can_act w Clock ≡ true → is_clock_awaited s.system.clock (some_sleeper s.system) w.controllers ≡ true
@@ -196,7 +189,7 @@ module _ (s : TracedState) (w : WorldState) (is : w.kernel ≡ kernel_of s w.ker
   clock-goes h = record {
     to = with_tick s w;
     led = ap (λ (b : Bool). cond b (Some (with_tick s w)) None) (clock-awaited h);
-    moves = clock-led h;
+    leads = clock-led h;
   }
 
   pub acts-goes : (actor : Actor) → can_act w actor ≡ true → Goes s w actor

@@ -21,13 +21,18 @@ use Rattle.pr_world.specs.Worlds.{WorldState, can_act}
 
 -- ---- over any kernel
 
--- What an actor does in its move, a row a kind: a controller makes its next call, whose reply has the call's shape; an
--- lwp has a turn; the clock goes on by a millisecond. Nobody does anything else.
+-- What an actor does in its move, a row a kind: a controller makes its next call; an lwp has a turn; the clock goes on
+-- by a millisecond. Nobody does anything else.
 unfoldable pub Does : WorldState → WorldState → Actor → Act → Type 0
-Does w v (Controller k) (Called c r) = (call_by w.controllers k ≡ Some c) × (has_shape c r ≡ true)
+Does w v (Controller k) (Called c r) = call_by w.controllers k ≡ Some c
 Does w v (Lwp pid id) (Turn t) = Unit {0}
 Does w v Clock (Tick n) = (n ≡ w.kernel.clock + 1) × (v.kernel.clock ≡ n)
 Does w v _ _ = ⊥
+
+-- the reply to a call has the call's shape
+unfoldable pub IsShaped : Act → Type 0
+IsShaped (Called c r) = has_shape c r ≡ true
+IsShaped _ = Unit {0}
 
 -- An entry is what the machine does, and leads to its state.
 pub record IsMachines (controllers : ℕ) (e : Entry) (now : Option TracedState) (s : TracedState) : Type 0 where
@@ -37,10 +42,10 @@ pub record IsMachines (controllers : ℕ) (e : Entry) (now : Option TracedState)
 abbrev pub entry_of : Actor → Act → Entry
 entry_of actor act = record { actor = actor; act = act }
 
--- A move of an actor that can move, from one world to another: its one entry is added, and a controller gets its reply.
--- The places, the schedule and the round stay. Of a machine that is told the entry is legal, and the state becomes the
--- one after it.
-pub record Moves (w : WorldState) (actor : Actor) (v : WorldState) : Type 0 where
+-- A move of an actor that can move leads from one world to another: its one entry is added, and a controller gets its
+-- reply. The places, the schedule and the round stay. Of a machine that is told the entry is legal, and the state becomes
+-- the one after it.
+pub record Leads (w : WorldState) (actor : Actor) (v : WorldState) : Type 0 where
   pub act : Act
   pub acts : can_act w actor ≡ true
   pub does : Does w v actor act
@@ -51,6 +56,11 @@ pub record Moves (w : WorldState) (actor : Actor) (v : WorldState) : Type 0 wher
   pub last : v.last ≡ w.last
   pub machine : IfSome w.kernel.machine (IsMachines (length w.controllers) (entry_of actor act) v.kernel.machine)
   pub lawful : IsLawful v.kernel
+
+-- A move, whatever the kernel: a reply also has the shape of its call. A machine's replies have it in each lawful state.
+pub record Moves (w : WorldState) (actor : Actor) (v : WorldState) : Type 0 where
+  pub leads : Leads w actor v
+  pub shaped : IsShaped leads.act
 
 -- ---- over a machine
 

@@ -3,7 +3,7 @@ use Rattle.pr_api.specs.Views.{kernel_of}
 use Rattle.pr_model.specs.Legal.{IsLegal, state_after}
 use Rattle.pr_model.specs.State.{TracedState}
 use Rattle.pr_model.specs.declared.events.Entry.{Entry}
-use Rattle.pr_world.specs.Moves.{Moves, after_move}
+use Rattle.pr_world.specs.Moves.{Leads, Moves, after_move}
 use Rattle.pr_world.specs.Protocol.{AreNextCalls, Follows, controllers_at}
 use Rattle.pr_world.specs.Worlds.{Pick, WorldState, next_pick, with_pick}
 use Rattle.pr_world.specs.declared.controllers.Controller.{Controller as Core}
@@ -19,15 +19,19 @@ pub record IsMachineRun (controllers : List Core) (h : List Entry) (now : Option
   pub follows : Follows controllers first h
   pub state : now ≡ Some (state_after first h)
 
--- A world came from another by these entries, in whatever order its actors moved: each controller made its next calls,
--- and of a machine that is told the entries are a legal history.
-pub record CameFrom (first w : WorldState) : Type 0 where
+-- A world was led to from another by these entries, in whatever order its actors moved: of a machine that is told they
+-- are a legal history.
+pub record LedFrom (first w : WorldState) : Type 0 where
   pub entries : List Entry
   pub history : w.kernel.history ≡ first.kernel.history ++ entries
   pub places : w.kernel.places ≡ first.kernel.places
   pub controllers : w.controllers ≡ controllers_at first.controllers entries
-  pub calls : AreNextCalls first.controllers entries
   pub machine : IfSome first.kernel.machine (IsMachineRun first.controllers entries w.kernel.machine)
+
+-- It came from there, whatever the kernel: each controller made its next calls, and got replies of their shapes.
+pub record CameFrom (first w : WorldState) : Type 0 where
+  pub led : LedFrom first w
+  pub calls : AreNextCalls first.controllers led.entries
 
 -- ---- one move after another
 
@@ -36,6 +40,12 @@ pub record Steps (w v : WorldState) : Type 0 where
   pub pick : Pick
   pub next : next_pick w ≡ Some pick
   pub moves : Moves (with_pick pick w) pick.actor v
+
+-- the same, whatever the shape of a reply
+pub record StepLeads (w v : WorldState) : Type 0 where
+  pub pick : Pick
+  pub next : next_pick w ≡ Some pick
+  pub leads : Leads (with_pick pick w) pick.actor v
 
 -- a run of so many steps
 unfoldable pub RunsFor : ℕ → WorldState → WorldState → Type 0

@@ -1,5 +1,5 @@
 //! A controller, and the call that it makes next, which is made once after each reply.
-ghost use Rattle.std.specs.Prelude.{◌≡◌, true, IfOk, OnErr};
+ghost use Rattle.std.specs.Prelude.{◌≡◌, IfOk};
 ghost use Rattle.pr_world.specs.Controllers.{after_reply, awaits_clock, has_finished, next_call, wait_end_of};
 ghost use Rattle.pr_world.specs.Worlds.{is_answered};
 

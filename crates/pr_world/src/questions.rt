@@ -1,5 +1,5 @@
 //! Who can move, and which controllers have finished.
-ghost use Rattle.std.specs.Prelude.{◌≡◌, ◌≤◌, ◌<◌, true, Some, length, slice_get, IfOk};
+ghost use Rattle.std.specs.Prelude.{◌≡◌, ◌<◌, true, length, slice_get, IfOk};
 ghost use Rattle.std.specs.Option.{ForSome};
 ghost use Rattle.std.specs.List.{list_all, list_any};
 ghost use Rattle.pr_world.specs.Controllers.{awaits_clock, call_by, has_finished, is_clock_awaited};
