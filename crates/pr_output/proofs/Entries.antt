@@ -1,12 +1,11 @@
 -- The lines of entries, cut at one of them.
-use Rattle.std.proofs.Common.{rules, ◌≡◌, ℕ, ◌+◌, List, [], ◌∷◌, ◌++◌, Some, suc, None, Option, Bor, ◌<◌, length, get_or, take, drop, sym, ap, ◌∙◌, arith, append_assoc, drop-cons}
-use Rattle.std.proofs.Math.Seq.{take-add}
+use Rattle.std.proofs.Common.{rules, ◌≡◌, ℕ, ◌+◌, List, [], ◌∷◌, ◌++◌, Some, None, Option, Bor, ◌<◌, length, get_or, take, drop, sym, ap, ◌∙◌, arith, append_assoc}
 use Rattle.std.proofs.lemmas.List.{take-append-drop, length-take-le}
-use Rattle.std.proofs.lemmas.Option.{slice_get_within, get_or_from_slice_get, slice_get-get_or}
+use Rattle.std.proofs.lemmas.Option.{slice_get_within, slice_get-get_or}
 use Rattle.std.specs.List.{slice_get}
 use Rattle.std.specs.Option.{IsSome, option_copied}
 use Rattle.pr_model.specs.declared.events.Entry.{Entry}
-use Rattle.pr_num.proofs.ListLemmas.{drop-at, take-next}
+use Rattle.pr_num.proofs.ListLemmas.{take-next}
 use Rattle.pr_plain.specs.HistoryText.{entry_text, entries_text}
 use Rattle.pr_plain.proofs.LineLemmas.{entries_text-end}
 

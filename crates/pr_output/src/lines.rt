@@ -1,5 +1,5 @@
 //! Texts put into a sink one after another, each first written into a buffer.
-ghost use Rattle.std.specs.Prelude.{◌≡◌, ◌<◌, ◌≤◌, length, IfOk};
+ghost use Rattle.std.specs.Prelude.{◌<◌, length, IfOk};
 ghost use Rattle.pr_output.specs.Blocks.{IsNextBlock};
 ghost use Rattle.pr_output.specs.Puts.{Puts};
 ghost use Rattle.pr_plain.specs.HistoryText.{heading_text, entries_text, status_text};

@@ -9,13 +9,15 @@ use Rattle.std.proofs.lemmas.List.Splits.{slice_split_none, slice_split_at}
 use Rattle.std.proofs.lemmas.List.Splits.{join_with_byte-slice_split}
 use Rattle.std.proofs.lemmas.Option.{same_Some, none-some}
 use Rattle.std.specs.List.{join_with_byte}
+use Rattle.pr_text.specs.NumberWords.{digit_of, with_digit, number_from}
+use Rattle.pr_text.specs.NumberWords as number_words
 use Rattle.pr_text.specs.Names.{is_name}
 use Rattle.pr_model.specs.declared.calls.Call.{Call}
 use Rattle.pr_model.specs.declared.calls.Call.TheVariants as call
 use Rattle.pr_model.specs.declared.calls.Reply.{Reply}
 use Rattle.pr_model.specs.declared.calls.Reply.TheVariants as reply
 use Rattle.pr_plain.specs.CallReading.{slash, is_slash, lwp_of, target_of, target_at, held_at, arrow, handles_at, open_at, close_at, ctl_at, ctl_wait_at, read_at, poll_at, interrupt_at, spawn_at, kill_at, until_at, call_behind, call_at, handle_at, used_at, half_at, reply_bytes_at, pid_at, ready_at, fail_at, plain_reply_behind, reply_behind, reply_at}
-use Rattle.pr_plain.specs.DecimalWords.{with_digit, number_from, number_of, id_of}
+use Rattle.pr_plain.specs.DecimalWords.{id_of}
 use Rattle.pr_plain.specs.EntryForms.{is_number, is_id, is_byte, call_form, reply_form}
 use Rattle.pr_plain.specs.FileNames.{file_name, mode_name}
 use Rattle.pr_plain.specs.HexWords.{hex_word}
@@ -226,7 +228,7 @@ handles_taken (w ∷ ws) hs rest e =
         })
 
 no_id_arrow : id_of arrow ≡ None
-unfolding id_of number_of number_from with_digit
+unfolding id_of number_words.id_of number_words.number_of number_from with_digit digit_of
 no_id_arrow = refl
 
 id_no_arrow : (h : ℕ) → is_id h ≡ true → bytes_eq (decimal h) arrow ≡ false

@@ -9,6 +9,8 @@ use Rattle.std.proofs.lemmas.List.{append-nil}
 use Rattle.std.proofs.lemmas.List.Splits.{join_with_byte-slice_split}
 use Rattle.std.proofs.lemmas.Option.{none-some, same_Some, cond_some}
 use Rattle.std.proofs.lemmas.Slice.Eq.{bytes_eq-Decides}
+use Rattle.pr_text.specs.NumberWords.{digit_of, with_digit, number_from}
+use Rattle.pr_text.specs.NumberWords as number_words
 use Rattle.pr_text.specs.Names.{is_letter, is_name_byte, is_name}
 use Rattle.pr_model.specs.declared.calls.Call.{Call}
 use Rattle.pr_model.specs.declared.calls.Call.TheVariants as call
@@ -22,7 +24,7 @@ use Rattle.pr_model.specs.declared.events.Did.TheVariants.{Stopped}
 use Rattle.pr_model.specs.declared.events.Entry.{Entry}
 use Rattle.pr_model.specs.declared.events.Turned.{Turned}
 use Rattle.pr_plain.specs.CallReading.{arrow, lwp_of, begins_call, call_at, reply_at}
-use Rattle.pr_plain.specs.DecimalWords.{with_digit, number_from, number_of, id_of}
+use Rattle.pr_plain.specs.DecimalWords.{number_of, id_of}
 use Rattle.pr_plain.specs.EntryForms.{is_number, is_id, actor_form, did_form, call_form, reply_form, act_form, has_form}
 use Rattle.pr_plain.specs.EntryReading.{controller_or_lwp, actor_of, exchange_of, tick_of, act_by, act_of, entry_of, heading_of, entry_in, heading_in}
 use Rattle.pr_plain.specs.Histories.{heading_line}
@@ -80,7 +82,7 @@ starts_low (b ∷ bs) rest h some =
     (b, bs ++ rest, refl, leb-true b 57 (and_parts (leb 48 b) (leb b 57) (and_parts (leb 48 b && leb b 57) (are_digits bs) h).0).1)
 
 not_empty : (n : ℕ) → is_number n ≡ true → decimal n ≢ []
-unfolding number_of
+unfolding number_of number_words.number_of
 not_empty n form e = none-some n (sym (ap number_of e) ∙ number_of-decimal n form)
 
 low_actor : (b : ℕ) (bs : List ℕ) → b ≤ 57 → actor_of (b ∷ bs) ≡ (lwp_of (b ∷ bs) >>= λ l. Some (Lwp l.0 l.1))
@@ -96,7 +98,7 @@ low_actor b bs low = by (bytes_eq (b ∷ bs) (codes "clock")) refl
     by false is = ap (λ t. cond t (id_of bs >>= λ k. Some (Controller k)) (lwp_of (b ∷ bs) >>= λ l. Some (Lwp l.0 l.1))) (ne_eqb b 99 (λ e. omega arith))
 
 no_id_lock : id_of (codes "lock") ≡ None
-unfolding id_of number_of number_from with_digit
+unfolding id_of number_words.id_of number_words.number_of number_from with_digit digit_of
 no_id_lock = refl
 
 lwp_back : (p l : ℕ) → is_id p ≡ true → is_id l ≡ true → (b : ℕ) × (bs : List ℕ) × (decimal p ++ (codes "/" ++ decimal l) ≡ b ∷ bs) × (b ≤ 57) → actor_of (lwp_text p l) ≡ Some (Lwp p l)
@@ -190,12 +192,12 @@ act_is ws a e =
     by w rest words None is h = choice w (begins_call w) h
 
 call_dispatch : (c : Call) (more : Words) → act_of (call_words c ++ more) ≡ exchange_of (call_words c ++ more)
-unfolding act_of call_words word_at number_of number_from with_digit begins_call
+unfolding act_of call_words word_at number_of number_words.number_of number_from with_digit digit_of begins_call
 call_dispatch call.List more = refl
 call_dispatch _ more = refl
 
 turn_dispatch : (d : Did) (more : Words) → act_of (did_words d ++ more) ≡ (turn_of (did_words d ++ more) >>= λ t. Some (act.Turn t))
-unfolding act_of did_words word_at number_of number_from with_digit begins_call
+unfolding act_of did_words word_at number_of number_words.number_of number_from with_digit digit_of begins_call
 turn_dispatch Stopped more = refl
 turn_dispatch _ more = refl
 

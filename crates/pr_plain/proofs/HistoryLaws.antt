@@ -183,6 +183,10 @@ few_entries : (text : List ℕ) (es : List Entry) → BeginsWith text es → len
 few_entries text es b =
     omega (arith, ap length b.lines, length-append (history_lines es) b.below, length-entry_lines 0 es, length-slice_split is_newline text, count_by-le-length is_newline text)
 
+pub read_few : {X : Type 0} (view : X → List Entry) (text : List ℕ) (r : Result X HistRefusal) → IfOk r (λ h. BeginsWith text (view h)) → IfOk r (λ h. length (view h) ≤ length text)
+read_few view text (Ok h) begins = few_entries text (view h) begins
+read_few view text (Err e) begins = tt
+
 pub read_only : {X : Type 0} (view : X → List Entry) (first : ℕ) (text : List ℕ) (r : Result X HistRefusal) → length text < 2 ^ 32 → Answers view r (history_of first text) → (es : List Entry) → BeginsWith text es → Answers view r (Ok es)
 read_only view first text r fits answer es b =
     subst (Answers view r) (ap (history_in first) b.lines ∙ history_again first es b.below (lt-ltb (length es) (2 ^ 64) (let few = few_entries text es b in omega arith)) b.formed) answer

@@ -1,6 +1,7 @@
 -- Texts are told apart by lines, and lines by words.
 use Rattle.std.specs.Prelude.{not, ◌&&◌}
 use Rattle.std.proofs.Common.{◌≡◌, ℕ, ◌+◌, Bool, true, false, List, [], ◌∷◌, ◌++◌, length, refl, sym, ap, ◌∙◌, arith, append_assoc}
+use Rattle.std.proofs.lemmas.Bool.{and_parts}
 use Rattle.std.proofs.lemmas.List.{append-nil}
 use Rattle.std.proofs.lemmas.List.Elements.{All-nil, All-cons, All-append, All-weaker}
 use Rattle.std.proofs.lemmas.List.Splits.{slice_split_none, slice_split_at}
@@ -9,7 +10,7 @@ use Rattle.std.specs.List.{All, list_all, slice_split}
 use Rattle.pr_model.specs.declared.events.Entry.{Entry}
 use Rattle.pr_plain.specs.HistoryText.{blank, newline, behind_blank, spaced, joined, actor_text, act_words, entry_words, entry_line, entry_text, entries_text}
 use Rattle.pr_plain.specs.Lines.{is_blank, is_newline, is_word_byte, is_word, has_words, entry_lines}
-use Rattle.pr_plain.proofs.WordLemmas.{left_of, right_of, entry_words-words}
+use Rattle.pr_plain.proofs.WordLemmas.{entry_words-words}
 
 -- ---- bytes of words
 
@@ -33,10 +34,10 @@ no_newline w h = All-weaker (λ b. is_word_byte b ≡ true) (λ b. is_newline b 
 pub joined-words : (w : List ℕ) (ws : List (List ℕ)) → list_all is_word (w ∷ ws) ≡ true → slice_split is_blank (joined (w ∷ ws)) ≡ w ∷ ws
 unfolding joined behind_blank
 joined-words w [] h =
-    ap (slice_split is_blank) (append-nil w) ∙ slice_split_none is_blank w (no_blank w (left_of (is_word w) true h))
+    ap (slice_split is_blank) (append-nil w) ∙ slice_split_none is_blank w (no_blank w (and_parts (is_word w) true h).0)
 joined-words w (v ∷ vs) h =
-    slice_split_at is_blank w blank (v ++ spaced vs) (no_blank w (left_of (is_word w) (list_all is_word (v ∷ vs)) h)) refl
-    ∙ ap (λ ps. w ∷ ps) (joined-words v vs (right_of (is_word w) (list_all is_word (v ∷ vs)) h))
+    slice_split_at is_blank w blank (v ++ spaced vs) (no_blank w (and_parts (is_word w) (list_all is_word (v ∷ vs)) h).0) refl
+    ∙ ap (λ ps. w ∷ ps) (joined-words v vs (and_parts (is_word w) (list_all is_word (v ∷ vs)) h).1)
 
 pub entry_line-words : (n : ℕ) (e : Entry) → has_words e ≡ true → slice_split is_blank (entry_line n e) ≡ entry_words n e
 unfolding entry_line entry_words
@@ -48,12 +49,12 @@ spaced-newline : (ws : List (List ℕ)) → list_all is_word ws ≡ true → All
 unfolding behind_blank
 spaced-newline [] h = All-nil (λ b. is_newline b ≡ false)
 spaced-newline (w ∷ ws) h =
-    All-append (λ b. is_newline b ≡ false) (behind_blank w) (spaced ws) (All-cons (λ b. is_newline b ≡ false) blank w refl (no_newline w (left_of (is_word w) (list_all is_word ws) h))) (spaced-newline ws (right_of (is_word w) (list_all is_word ws) h))
+    All-append (λ b. is_newline b ≡ false) (behind_blank w) (spaced ws) (All-cons (λ b. is_newline b ≡ false) blank w refl (no_newline w (and_parts (is_word w) (list_all is_word ws) h).0)) (spaced-newline ws (and_parts (is_word w) (list_all is_word ws) h).1)
 
 pub joined-newline : (w : List ℕ) (ws : List (List ℕ)) → list_all is_word (w ∷ ws) ≡ true → All (λ b. is_newline b ≡ false) (joined (w ∷ ws))
 unfolding joined
 joined-newline w ws h =
-    All-append (λ b. is_newline b ≡ false) w (spaced ws) (no_newline w (left_of (is_word w) (list_all is_word ws) h)) (spaced-newline ws (right_of (is_word w) (list_all is_word ws) h))
+    All-append (λ b. is_newline b ≡ false) w (spaced ws) (no_newline w (and_parts (is_word w) (list_all is_word ws) h).0) (spaced-newline ws (and_parts (is_word w) (list_all is_word ws) h).1)
 
 pub entry_line-newline : (n : ℕ) (e : Entry) → has_words e ≡ true → All (λ b. is_newline b ≡ false) (entry_line n e)
 unfolding entry_line entry_words
@@ -64,8 +65,8 @@ unfolding entries_text entry_lines entry_text
 entries_text-lines n [] h = refl
 entries_text-lines n (e ∷ es) h =
     ap (slice_split is_newline) (append_assoc (entry_line n e) (newline ∷ []) (entries_text (n + 1) es))
-    ∙ slice_split_at is_newline (entry_line n e) newline (entries_text (n + 1) es) (entry_line-newline n e (left_of (has_words e) (list_all has_words es) h)) refl
-    ∙ ap (λ ls. entry_line n e ∷ ls) (entries_text-lines (n + 1) es (right_of (has_words e) (list_all has_words es) h))
+    ∙ slice_split_at is_newline (entry_line n e) newline (entries_text (n + 1) es) (entry_line-newline n e (and_parts (has_words e) (list_all has_words es) h).0) refl
+    ∙ ap (λ ls. entry_line n e ∷ ls) (entries_text-lines (n + 1) es (and_parts (has_words e) (list_all has_words es) h).1)
 
 -- ---- entries one by one
 

@@ -1,24 +1,13 @@
 -- The names of files and of the ways to open them are told from one another.
-use Rattle.std.proofs.Common.{◌≡◌, ◌≢◌, ℕ, Bool, true, false, cond, Some, None, List, [], ◌∷◌, refl, sym, ◌∙◌, ap}
-use Rattle.std.specs.List.{find}
-use Rattle.std.specs.Str.{bytes_eq}
-use Rattle.std.proofs.lemmas.Option.{same_Some, none-some}
+use Rattle.std.proofs.Common.{◌≡◌, ◌≢◌, ℕ, Some, None, List, refl, sym, ◌∙◌, ap}
+use Rattle.std.proofs.lemmas.Option.{none-some}
 use Rattle.std.proofs.lemmas.Slice.Eq.{bytes_eq-Decides}
+use Rattle.pr_num.proofs.SearchLemmas.{find-passes}
 use Rattle.pr_model.specs.declared.calls.File.{File}
 use Rattle.pr_model.specs.declared.calls.File.TheVariants.{Ctl}
 use Rattle.pr_model.specs.declared.calls.Mode.{Mode}
 use Rattle.pr_model.specs.declared.calls.Mode.TheVariants.{Read}
 use Rattle.pr_plain.specs.FileNames.{files, file_name, is_file_named, file_of_name, modes, mode_name, is_mode_named, mode_of_name}
-
--- ---- a search in a table
-
-find-passes : {T : Type 0} (p : T → Bool) (xs : List T) (x : T) → find p xs ≡ Some x → p x ≡ true
-find-passes p [] x found = cc
-find-passes p (y ∷ ys) x found =
-    elim (p y) as (λ b. p y ≡ b → cond b (Some y) (find p ys) ≡ Some x → p x ≡ true) [ true ↦ λ here e. ap p (sym (same_Some y x e)) ∙ here | false ↦ λ _ e. find-passes p ys x e ] refl found
-
-same_bytes : (a b : List ℕ) → bytes_eq a b ≡ true → a ≡ b
-same_bytes a b e = (bytes_eq-Decides a b).0 e
 
 -- ---- files
 
@@ -29,7 +18,7 @@ file_of_name-name _ = refl
 
 pub file_name-of_name : (bytes : List ℕ) (f : File) → file_of_name bytes ≡ Some f → bytes ≡ file_name f
 unfolding file_of_name
-file_name-of_name bytes f e = same_bytes bytes (file_name f) (find-passes (is_file_named bytes) files f e)
+file_name-of_name bytes f e = (bytes_eq-Decides bytes (file_name f)).0 (find-passes (is_file_named bytes) files f e)
 
 pub file_name-none : (bytes : List ℕ) (f : File) → file_of_name bytes ≡ None → bytes ≢ file_name f
 file_name-none bytes f none same = none-some f (sym none ∙ ap file_of_name same ∙ file_of_name-name f)
@@ -43,7 +32,7 @@ mode_of_name-name _ = refl
 
 pub mode_name-of_name : (bytes : List ℕ) (m : Mode) → mode_of_name bytes ≡ Some m → bytes ≡ mode_name m
 unfolding mode_of_name
-mode_name-of_name bytes m e = same_bytes bytes (mode_name m) (find-passes (is_mode_named bytes) modes m e)
+mode_name-of_name bytes m e = (bytes_eq-Decides bytes (mode_name m)).0 (find-passes (is_mode_named bytes) modes m e)
 
 pub mode_name-none : (bytes : List ℕ) (m : Mode) → mode_of_name bytes ≡ None → bytes ≢ mode_name m
 mode_name-none bytes m none same = none-some m (sym none ∙ ap mode_of_name same ∙ mode_of_name-name m)

@@ -81,9 +81,6 @@ one_word {A} read write form u = record { taken = taken; again = λ x rest h. wo
 
 -- ---- a word that is given
 
-same_bytes : (v w : List ℕ) → bytes_eq v w ≡ true → v ≡ w
-same_bytes v w e = (bytes_eq-Decides v w).0 e
-
 pub bytes_eq-self : (w : List ℕ) → bytes_eq w w ≡ true
 bytes_eq-self w = (bytes_eq-Decides w w).1 refl
 
@@ -93,7 +90,7 @@ behind_word-is k [] rest e = cc
 behind_word-is k (w ∷ ws) rest e = by (bytes_eq w k) refl e
   where
     by : (t : Bool) → bytes_eq w k ≡ t → cond t (Some ws) None ≡ Some rest → w ∷ ws ≡ k ∷ rest
-    by true is same = let others : ws ≡ rest = cc in ap (λ v. v ∷ ws) (same_bytes w k is) ∙ ap (λ vs. k ∷ vs) others
+    by true is same = let others : ws ≡ rest = cc in ap (λ v. v ∷ ws) ((bytes_eq-Decides w k).0 is) ∙ ap (λ vs. k ∷ vs) others
     by false is same = cc
 
 pub behind_word-again : (k : List ℕ) (rest : Words) → behind_word k (k ∷ rest) ≡ Some rest
@@ -105,7 +102,7 @@ pub by_word : {A : Type 0} (w k : List ℕ) (x y : Option A) (v : A) (P : Type 0
 by_word {A} w k x y v P e here other = by (bytes_eq w k) refl e
   where
     by : (t : Bool) → bytes_eq w k ≡ t → cond t x y ≡ Some v → P
-    by true is found = here (same_bytes w k is) found
+    by true is found = here ((bytes_eq-Decides w k).0 is) found
     by false is found = other found
 
 -- ---- rows: values behind one another, and what is made of them

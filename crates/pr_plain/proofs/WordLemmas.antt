@@ -1,7 +1,6 @@
 -- Every word that is written is a word: it has bytes, and neither a blank nor a newline.
-use Rattle.std.specs.Prelude.{◌&&◌}
-use Rattle.std.proofs.Common.{◌≡◌, ℕ, zero, suc, ◌/◌, ◌%◌, Bool, true, false, cond, eqb, List, [], ◌∷◌, ◌++◌, map, codes, refl, ap, ◌∙◌, arith}
-use Rattle.std.proofs.lemmas.Bool.{false≢true}
+use Rattle.std.proofs.Common.{◌≡◌, ℕ, zero, suc, ◌/◌, ◌%◌, Bool, true, false, cond, eqb, List, [], ◌∷◌, ◌++◌, map, codes, refl, ◌∙◌, arith}
+use Rattle.std.proofs.lemmas.Bool.{and_from, false≢true}
 use Rattle.std.proofs.lemmas.Bool.Decides.{nat_tests}
 use Rattle.std.proofs.lemmas.List.Folds.{list_all-append}
 use Rattle.std.specs.List.{list_all}
@@ -54,26 +53,15 @@ pub record AllWords (ws : List (List ℕ)) : Type 0 where
 pub record IsWord (w : List ℕ) : Type 0 where
   pub is : is_word w ≡ true
 
-both : (a b : Bool) → a ≡ true → b ≡ true → (a && b) ≡ true
-both a b p q = ap (λ t. t && b) p ∙ q
-
-pub left_of : (a b : Bool) → (a && b) ≡ true → a ≡ true
-left_of true b h = refl
-left_of false b h = h
-
-pub right_of : (a b : Bool) → (a && b) ≡ true → b ≡ true
-right_of true b h = h
-right_of false b h = cc
-
 no_bytes : AllBytes []
 no_bytes = record { each = refl }
 
 bytes_cons : (b : ℕ) (bs : List ℕ) → is_word_byte b ≡ true → AllBytes bs → AllBytes (b ∷ bs)
-bytes_cons b bs p q = record { each = both (is_word_byte b) (list_all is_word_byte bs) p q.each }
+bytes_cons b bs p q = record { each = and_from (is_word_byte b) (list_all is_word_byte bs) p q.each }
 
 bytes_append : (xs ys : List ℕ) → AllBytes xs → AllBytes ys → AllBytes (xs ++ ys)
 bytes_append xs ys p q = record {
-  each = list_all-append is_word_byte xs ys ∙ both (list_all is_word_byte xs) (list_all is_word_byte ys) p.each q.each;
+  each = list_all-append is_word_byte xs ys ∙ and_from (list_all is_word_byte xs) (list_all is_word_byte ys) p.each q.each;
 }
 
 -- a word has bytes of words
@@ -97,11 +85,11 @@ none : AllWords []
 none = record { each = refl }
 
 words_cons : (w : List ℕ) (ws : List (List ℕ)) → IsWord w → AllWords ws → AllWords (w ∷ ws)
-words_cons w ws p q = record { each = both (is_word w) (list_all is_word ws) p.is q.each }
+words_cons w ws p q = record { each = and_from (is_word w) (list_all is_word ws) p.is q.each }
 
 words_append : (xs ys : List (List ℕ)) → AllWords xs → AllWords ys → AllWords (xs ++ ys)
 words_append xs ys p q = record {
-  each = list_all-append is_word xs ys ∙ both (list_all is_word xs) (list_all is_word ys) p.each q.each;
+  each = list_all-append is_word xs ys ∙ and_from (list_all is_word xs) (list_all is_word ys) p.each q.each;
 }
 
 one : (w : List ℕ) → IsWord w → AllWords (w ∷ [])

@@ -1,8 +1,7 @@
 //! Calls of controllers, and what the kernel answers.
 ghost use Rattle.std.specs.Prelude.{◌≡◌, ◌++◌, [], ◌∷◌, decimal, OnOk};
 ghost use Rattle.pr_plain.specs.Buffers.{StartsWith};
-ghost use Rattle.pr_plain.specs.HistoryText.{spaced, target_text, held_words, call_words, reply_words};
-ghost use Rattle.pr_plain.specs.HexWords.{hex_word};
+ghost use Rattle.pr_plain.specs.HistoryText.{spaced, held_words, call_words, reply_words};
 
 use crate::names::{file_name, mode_name};
 use crate::words::{write_hex, write_number, write_numbers, write_target, write_word};

@@ -1,5 +1,5 @@
 //! Histories, read from their text.
-ghost use Rattle.std.specs.Prelude.{◌≡◌, ◌+◌, ◌<◌, ◌^◌, List, length, IfOk, IfErr};
+ghost use Rattle.std.specs.Prelude.{◌+◌, ◌<◌, ◌≤◌, ◌^◌, List, length, IfOk, IfErr};
 ghost use Rattle.pr_model.specs.declared.events.Entry.{Entry as AnyEntry};
 ghost use Rattle.pr_plain.specs.Histories.{BeginsWith, Refuses};
 ghost use Rattle.pr_plain.specs.EntryReading.{or_line, next_entry, next_heading, entries_in, history_of};
@@ -104,6 +104,9 @@ pub fn read_history(alloc: Global, text: &[u8], first_line: u32) -> Result<Histo
     ensures only { (es : List AnyEntry) → BeginsWith text.now es → Answers (λ h. h.entries) result (Ok es) }
     // What is refused names the first line that is wrong.
     ensures refused { IfErr result (Refuses first_line text.now) }
+    // Both are a function of the text, and a history has no more entries than its text has bytes.
+    ensures same { Answers (λ h. h.entries) result (history_of first_line text.now) }
+    ensures few { IfOk result (λ h. length h.entries ≤ length text.now) }
 {
     read_text(alloc, text, first_line)
 }

@@ -1,5 +1,4 @@
 //! What the kernel answered, read from the words of a line.
-ghost use Rattle.std.specs.Prelude.{◌≡◌};
 ghost use Rattle.pr_plain.specs.CallReading.{reply_bytes_at, fail_at, plain_reply_behind, reply_behind, reply_at};
 ghost use Rattle.pr_plain.specs.Readings.{Says, Gives};
 

@@ -1,5 +1,5 @@
 //! Steps of the untraced machine and of traces, as text.
-ghost use Rattle.std.specs.Prelude.{◌≡◌, ◌++◌, [], ◌∷◌, decimal, OnOk};
+ghost use Rattle.std.specs.Prelude.{◌≡◌, ◌++◌, [], ◌∷◌, OnOk};
 ghost use Rattle.pr_plain.specs.HistoryText.{spaced, joined, result_words, lwp_text};
 ghost use Rattle.pr_num.specs.Syscalls.{syscall_name};
 ghost use Rattle.pr_plain.specs.PlainText.{step_words, step_text, plain_heading, trace_heading};

@@ -102,7 +102,7 @@ no_parts : (n : ℕ) → parts_from n [] ≡ []
 unfolding parts_from
 no_parts n = refl
 
-joined : (n : ℕ) (parts : List Part) → ArePartsFrom n parts → parts_from n (flat_map lines_in parts) ≡ parts
+pub joined : (n : ℕ) (parts : List Part) → ArePartsFrom n parts → parts_from n (flat_map lines_in parts) ≡ parts
 unfolding ArePartsFrom
 joined n [] are = no_parts n
 joined n (line m this ∷ parts) are =

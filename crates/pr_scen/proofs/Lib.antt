@@ -1,5 +1,5 @@
 pub mod AnswerLemmas
-pub mod BuiltCallLemmas
+pub mod BlockFaultLemmas
 pub mod DivisionLemmas
 pub mod DraftLemmas
 pub mod EncodingLemmas
@@ -9,5 +9,8 @@ pub mod LineLemmas
 pub mod NameLemmas
 pub mod NotedLemmas
 pub mod PartLemmas
+pub mod ScenarioTextLemmas
 pub mod SizeLemmas
 pub mod StepLemmas
+pub mod TextLemmas
+pub mod TrussLemmas

@@ -21,8 +21,8 @@ use Rattle.pr_text.specs.Steps.{ok_or, none, one, two, folded}
 use Rattle.pr_text.specs.Words.{texts_of}
 use Rattle.pr_scen.proofs.NameLemmas.{place_inside}
 use Rattle.pr_scen.proofs.StepLemmas.{if_ok, then_ok, of_ok, numbered_ok, folded_ok, ok_some, of_some}
-use Rattle.pr_scen.specs.Blocks.{numbered, item_in, line_added, begun, ended, noting_at, program_read, program_added, script_words_added, script_line_read, script_added, block_added, endless_kind, part_added, parts_added}
-use Rattle.pr_scen.specs.Built.{first_unbuilt, is_built_item, is_built_line}
+use Rattle.pr_scen.specs.Blocks.{numbered, item_in, line_added, begun, ended, program_read, program_added, script_words_added, script_line_read, script_added, block_added, endless_kind, part_added, parts_added}
+use Rattle.pr_scen.specs.Built.{is_built_item}
 use Rattle.pr_scen.specs.Drafts.{nothing, noting, with_turns, with_file, with_process, with_spawn, with_controller, knows_program, has_program, with_truss, with_schedule, with_item, item_added, may_begin, with_program, with_line, call_added, script_line_added, with_script, made}
 use Rattle.pr_scen.specs.Files.{tool_of}
 use Rattle.pr_scen.specs.Items.{turns_of, file_of, program_of, spawn_of, script_of, truss_read, truss_of, tool_line_of, unless_none, schedule_of, item_with, item_of}
@@ -150,10 +150,6 @@ sound_noting : (n : ℕ) (built : Bool) (d : Draft) → IsSound d → IsSound (n
 unfolding noting
 sound_noting n built d s = sound_marked (built || is_some d.unbuilt) n d s
 
-sound_noting_at : (o : Option ℕ) (d : Draft) → IsSound d → IsSound (noting_at o d)
-sound_noting_at None d s = s
-sound_noting_at (Some n) d s = sound_noting n false d s
-
 -- ---- lines outside blocks
 
 sound_turns : (d : Draft) (n : ℕ) → 1 ≤ n → IsSound d → IfOk (with_turns d n) IsSound
@@ -170,11 +166,11 @@ any_more p (x ∷ xs) y none new = at (p x) (list_any p xs) none (any_more p xs 
     at true c e f = cc
     at false c e f = f e new
 
-not_true : (b : Bool) → not b ≡ true → b ≡ false
+pub not_true : (b : Bool) → not b ≡ true → b ≡ false
 not_true true e = cc
 not_true false e = refl
 
-not_found : (b : Bool) (i : ℕ) (rest : Option ℕ) → cond b (Some i) rest ≡ None → (b ≡ false) × (rest ≡ None)
+pub not_found : (b : Bool) (i : ℕ) (rest : Option ℕ) → cond b (Some i) rest ≡ None → (b ≡ false) × (rest ≡ None)
 not_found true i rest e = cc
 not_found false i rest e = (refl, e)
 
@@ -317,20 +313,12 @@ unfolding program_added
 sound_program_block n d name body last room s =
     then_ok IsSound (program_read name (n + 1) body) _ (λ p _.
     then_ok IsSound (numbered (n + (length body + 1)) (ended last)) _ (λ _ _.
-    sound_noting_at (first_unbuilt (n + 1) body) (with_program d name p) (sound_program d name p room s)))
+    sound_program d name p room s))
 
 -- one line of a script more, where there is room for the script
 record IsInScript (d : Draft) : Type 0 where
   sound : IsSound d
   room : length d.controllers < 64
-
-in_marked : (b : Bool) (n : ℕ) (d : Draft) → IsInScript d → IsInScript (cond b d (record d { unbuilt = Some n }))
-in_marked true n d s = s
-in_marked false n d s = record { sound = sound_marked false n d s.sound; room = s.room }
-
-in_noting : (n : ℕ) (built : Bool) (d : Draft) → IsInScript d → IsInScript (noting n built d)
-unfolding noting
-in_noting n built d s = in_marked (built || is_some d.unbuilt) n d s
 
 line_more : (d : Draft) (l : ScriptLine) → is_list l ≡ false → IsInScript d → IsInScript (with_line d l)
 line_more d l other s =
@@ -361,16 +349,15 @@ in_call d (call.Kill pid sig) s = line_more d _ refl s
 in_call d (call.Until moment) s = line_more d _ refl s
 in_call d call.List s = if_ok IsInScript (nat_lt d.lists 4096) _ _ (λ few. list_more d (ltb-true _ _ few) s) (λ _. tt)
 
-in_line : (n : ℕ) (d : Draft) (l : InScript) → IsInScript d → IfOk (script_line_added n d l) IsInScript
+in_line : (d : Draft) (l : InScript) → IsInScript d → IfOk (script_line_added d l) IsInScript
 unfolding script_line_added
-in_line n d in_script.Blank s = s
-in_line n d (in_script.Line l) s =
-    then_ok IsInScript (call_added d l) _ (λ e is. in_noting n (is_built_line l) e (of_ok IsInScript (call_added d l) e is (in_call d l s)))
+in_line d in_script.Blank s = s
+in_line d (in_script.Line l) s = in_call d l s
 
 in_words : (n : ℕ) (d : Draft) (this : List ℕ) → IsInScript d → IfOk (script_line_read n d this) IsInScript
 unfolding script_line_read
 in_words n d this s =
-    numbered_ok IsInScript n (script_words_added n d this) (then_ok IsInScript (readable this) _ (λ _ _. then_ok IsInScript (script_line_of (texts_of this)) (script_line_added n d) (λ l _. in_line n d l s)))
+    numbered_ok IsInScript n (script_words_added d this) (then_ok IsInScript (readable this) _ (λ _ _. then_ok IsInScript (script_line_of (texts_of this)) (script_line_added d) (λ l _. in_line d l s)))
 
 -- the script is whole
 sound_script : (d : Draft) → IsInScript d → IsSound (with_script d)

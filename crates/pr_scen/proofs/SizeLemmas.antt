@@ -1,14 +1,10 @@
 -- How many bytes a process has mapped when it begins.
 use Rattle.std.proofs.Common.{◌≡◌, ℕ, ◌+◌, ◌-◌, ◌*◌, List, [], ◌∷◌, ◌++◌, length, replicate, refl, arith}
-use Rattle.std.specs.List.{flat_map}
 use Rattle.std.proofs.lemmas.List.{length-append, length-replicate}
 use Rattle.std.proofs.lemmas.List.Sums.{sum_by-append}
 use Rattle.pr_num.proofs.ListLemmas.{length-text}
-use Rattle.pr_num.specs.Instructions.{instruction_bytes}
 use Rattle.pr_num.specs.Programs.{Program, rounded, text_of, whole_pages}
-use Rattle.pr_num.specs.Words.{word_bytes}
 use Rattle.pr_num.specs.Spaces.{first_mappings, first_space, mapped_size, unless_empty, read_execute, read_write}
-use Rattle.pr_num.specs.declared.instructions.Instruction.{Instruction}
 use Rattle.pr_num.specs.declared.mappings.Mapping.{Mapping}
 use Rattle.pr_num.specs.declared.mappings.MappingKind.{MappingKind}
 use Rattle.pr_num.specs.declared.mappings.MappingKind.TheVariants.{Text, Data, Stack}

@@ -1,5 +1,5 @@
 -- What one part of a text more makes of what was read, or the first of its lines that is refused.
-use Rattle.std.specs.Prelude.{◌+◌, ℕ, false, Option, Some, None, List, [], ◌∷◌, length, nat_le, Result, Ok, Err, if◌then◌else◌}
+use Rattle.std.specs.Prelude.{◌+◌, ℕ, List, [], ◌∷◌, length, nat_le, Result, Ok, Err, if◌then◌else◌}
 use Rattle.pr_num.specs.Programs.{Program}
 use Rattle.pr_asm.specs.Assembly.{program_in}
 use Rattle.pr_asm.specs.declared.refusals.AsmFault.{AsmFault}
@@ -7,8 +7,7 @@ use Rattle.pr_asm.specs.declared.refusals.AsmKind.{AsmKind}
 use Rattle.pr_asm.specs.declared.refusals.AsmKind.TheVariants as asm
 use Rattle.pr_text.specs.Steps.{◌>>=◌, none, folded}
 use Rattle.pr_text.specs.Words.{texts_of}
-use Rattle.pr_scen.specs.Built.{first_unbuilt}
-use Rattle.pr_scen.specs.Drafts.{item_added, may_begin, with_program, script_line_added, with_script, noting}
+use Rattle.pr_scen.specs.Drafts.{item_added, may_begin, with_program, script_line_added, with_script}
 use Rattle.pr_scen.specs.Items.{item_of}
 use Rattle.pr_scen.specs.Lines.{readable}
 use Rattle.pr_scen.specs.Parts.{Part, line, block, endless}
@@ -72,26 +71,22 @@ first_of_both (Err unreadable) (Err fault) =
 unfoldable pub program_read : List ℕ → ℕ → List (List ℕ) → Result Program ScenFault
 program_read name n body = first_of_both (all_readable n body) (program_in name body n)
 
-abbrev pub noting_at : Option ℕ → Draft → Draft
-noting_at None d = d
-noting_at (Some n) d = noting n false d
-
 -- the block of a program of this name, whose first line is n
 unfoldable pub program_added : ℕ → Draft → List ℕ → List (List ℕ) → List ℕ → Result Draft ScenFault
 program_added n d name body last = do
   program ← program_read name (n + 1) body
   _ ← numbered (n + (length body + 1)) (ended last)
-  Ok (noting_at (first_unbuilt (n + 1) body) (with_program d name program))
+  Ok (with_program d name program)
 
 -- ---- script blocks
 
--- what line n of a script block makes of it
-abbrev pub script_words_added : ℕ → Draft → List ℕ → Result Draft ScenKind
-script_words_added n d this = readable this >>= λ _. script_line_of (texts_of this) >>= script_line_added n d
+-- what a line of a script block makes of it
+abbrev pub script_words_added : Draft → List ℕ → Result Draft ScenKind
+script_words_added d this = readable this >>= λ _. script_line_of (texts_of this) >>= script_line_added d
 
 -- the same, with the number of the line where it is refused
 unfoldable pub script_line_read : ℕ → Draft → List ℕ → Result Draft ScenFault
-script_line_read n d this = numbered n (script_words_added n d this)
+script_line_read n d this = numbered n (script_words_added d this)
 
 -- the block of a script, whose first line is n
 unfoldable pub script_added : ℕ → Draft → List (List ℕ) → List ℕ → Result Draft ScenFault

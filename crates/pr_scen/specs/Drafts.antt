@@ -4,7 +4,7 @@ use Rattle.pr_num.specs.Programs.{Program}
 use Rattle.pr_line.specs.declared.options.Options.{Options}
 use Rattle.pr_text.specs.Steps.{◌>>=◌, ok_or}
 use Rattle.pr_model.specs.FirstState.{first_size}
-use Rattle.pr_scen.specs.Built.{is_built_item, is_built_line}
+use Rattle.pr_scen.specs.Built.{is_built_item}
 use Rattle.pr_scen.specs.Limits.{most_turns, default_turns, most_programs, most_files, most_file, most_spawns, most_mapped, most_controllers, most_lists, most_scheduled}
 use Rattle.pr_scen.specs.Names.{place_of}
 use Rattle.pr_scen.specs.Scenarios.{Scenario}
@@ -140,10 +140,10 @@ call_added d (line.Spawn program held) = if has_program d program then Ok (with_
 call_added d line.List = if nat_lt d.lists most_lists then Ok (record (with_line d line.List) { lists = d.lists + 1 }) else Err TooMany
 call_added d l = Ok (with_line d l)
 
--- what line n of a script block makes of it
-unfoldable pub script_line_added : ℕ → Draft → InScript → Result Draft ScenKind
-script_line_added n d in_script.Blank = Ok d
-script_line_added n d (in_script.Line l) = call_added d l >>= λ e. Ok (noting n (is_built_line l) e)
+-- what a line of a script block makes of it
+unfoldable pub script_line_added : Draft → InScript → Result Draft ScenKind
+script_line_added d in_script.Blank = Ok d
+script_line_added d (in_script.Line l) = call_added d l
 
 -- the script is whole
 unfoldable pub with_script : Draft → Draft

@@ -1,11 +1,16 @@
 -- Words that encode the lines of a scenario.
-use Rattle.std.specs.Prelude.{◌≡◌, ◌≤◌, ◌<◌, ◌^◌, ◌/◌, ◌%◌, ℕ, true, false, List, [], ◌∷◌, ◌++◌, codes, decimal, slice_index}
+use Rattle.std.specs.Prelude.{◌≡◌, ◌≤◌, ◌<◌, ◌^◌, ◌/◌, ◌%◌, ℕ, true, false, List, [], ◌∷◌, ◌++◌, codes, decimal, map, slice_index}
 use Rattle.std.specs.List.{AllByRecursion, flat_map}
 use Rattle.pr_asm.specs.Spelling.{quoted}
+use Rattle.pr_model.specs.declared.events.Actor.{Actor}
+use Rattle.pr_model.specs.declared.events.Actor.TheVariants.{Controller, Lwp, Clock}
+use Rattle.pr_model.specs.declared.tools.ToolKind.{ToolKind}
+use Rattle.pr_model.specs.declared.tools.ToolKind.TheVariants.{Ptree}
 use Rattle.pr_text.specs.Names.{is_name}
-use Rattle.pr_scen.specs.Files.{file_name, mode_name}
+use Rattle.pr_scen.specs.Files.{file_name, mode_name, tool_name}
 use Rattle.pr_scen.specs.declared.items.Item.{Item}
 use Rattle.pr_scen.specs.declared.items.Item.TheVariants as item
+use Rattle.pr_scen.specs.declared.schedules.Turns.{Turns}
 use Rattle.pr_scen.specs.declared.script_lines.ScriptLine.{ScriptLine}
 use Rattle.pr_scen.specs.declared.script_lines.ScriptLine.TheVariants as line
 
@@ -19,7 +24,48 @@ hex_byte b = hex_digit (b / 16) ∷ hex_digit (b % 16) ∷ []
 abbrev pub hex_word : List ℕ → List ℕ
 hex_word bytes = flat_map hex_byte bytes
 
--- ---- lines outside blocks, but for those of truss, tools and schedules
+abbrev pub IsId : ℕ → Type 0
+IsId n = n < 2 ^ 32
+
+-- an lwp of a process; in an `open` lwp 0 stands for the process
+abbrev pub place_word : ℕ → ℕ → List ℕ
+place_word pid lwp = decimal pid ++ 47 ∷ decimal lwp
+
+-- ---- turns at the beginning
+
+unfoldable pub actor_word : Actor → List ℕ
+actor_word (Controller k) = 99 ∷ decimal k
+actor_word (Lwp pid lwp) = place_word pid lwp
+actor_word Clock = codes "clock"
+
+unfoldable pub IsActor : Actor → Type 0
+IsActor (Controller k) = IsId k
+IsActor (Lwp pid lwp) = IsId pid × IsId lwp
+IsActor Clock = Unit {0}
+
+-- an actor, and how many turns it has
+abbrev pub turns_word : Turns → List ℕ
+turns_word t = actor_word t.actor ++ 42 ∷ decimal t.times
+
+abbrev pub AreTurns : Turns → Type 0
+AreTurns t = IsActor t.actor × (t.times < 2 ^ 64)
+
+abbrev pub SomeTurns : List Turns → Type 0
+SomeTurns [] = ⊥
+SomeTurns (t ∷ turns) = AllByRecursion AreTurns (t ∷ turns)
+
+-- ---- tools
+
+-- the words of a tool and its process; `ptree` has none
+unfoldable pub tool_words : ToolKind → ℕ → List (List ℕ)
+tool_words Ptree pid = codes "ptree" ∷ []
+tool_words kind pid = tool_name kind ∷ decimal pid ∷ []
+
+unfoldable pub IsTool : ToolKind → ℕ → Type 0
+IsTool Ptree pid = pid ≡ 0
+IsTool kind pid = IsId pid
+
+-- ---- lines outside blocks, but for those of truss
 
 unfoldable pub item_words : Item → List (List ℕ)
 item_words item.Blank = []
@@ -28,7 +74,9 @@ item_words (item.File name bytes) = codes "file" ∷ name ∷ quoted bytes ∷ [
 item_words (item.Program name) = codes "program" ∷ name ∷ []
 item_words (item.Spawn name) = codes "spawn" ∷ name ∷ []
 item_words item.Script = codes "script" ∷ []
-item_words _ = []
+item_words (item.Truss options) = []
+item_words (item.Tool kind pid) = codes "tool" ∷ tool_words kind pid
+item_words (item.Schedule turns) = codes "schedule" ∷ map turns_word turns
 
 -- what can be encoded: names have their form, and numbers are words
 unfoldable pub IsItem : Item → Type 0
@@ -38,16 +86,11 @@ IsItem (item.File name bytes) = is_name name ≡ true
 IsItem (item.Program name) = is_name name ≡ true
 IsItem (item.Spawn name) = is_name name ≡ true
 IsItem item.Script = Unit {0}
-IsItem _ = ⊥
+IsItem (item.Truss options) = ⊥
+IsItem (item.Tool kind pid) = IsTool kind pid
+IsItem (item.Schedule turns) = SomeTurns turns
 
 -- ---- lines of scripts
-
-abbrev pub IsId : ℕ → Type 0
-IsId n = n < 2 ^ 32
-
--- an lwp of a process; lwp 0 stands for the process
-abbrev pub place_word : ℕ → ℕ → List ℕ
-place_word pid lwp = decimal pid ++ 47 ∷ decimal lwp
 
 unfoldable pub line_words : ScriptLine → List (List ℕ)
 line_words (line.Open name pid lwp file mode) = codes "open" ∷ name ∷ place_word pid lwp ∷ file_name file ∷ mode_name mode ∷ []

@@ -1,4 +1,5 @@
 pub mod Bindings
+pub mod BlockFaults
 pub mod Blocks
 pub mod Built
 pub mod Division
@@ -15,8 +16,11 @@ pub mod Names
 pub mod Parts
 pub mod Reading
 pub mod Reads
+pub mod ScenarioText
 pub mod Scenarios
 pub mod Schedules
 pub mod ScriptLines
 pub mod Scripts
 pub mod Taken
+pub mod TextEncoding
+pub mod TrussWords

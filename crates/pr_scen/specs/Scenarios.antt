@@ -1,11 +1,10 @@
 -- A scenario as contracts see it, and what is so of each that was read.
-use Rattle.std.specs.Prelude.{◌≡◌, ◌≤◌, ◌<◌, ℕ, Bool, true, false, Option, Some, None, List, [], ◌∷◌, length, map, count_by, sum_by, slice_get, All}
+use Rattle.std.specs.Prelude.{◌≡◌, ◌≤◌, ◌<◌, ℕ, Bool, true, false, List, [], ◌∷◌, length, map, count_by, sum_by, All}
 use Rattle.std.specs.List.{flat_map}
 use Rattle.pr_num.specs.Programs.{Program}
 use Rattle.pr_parts.specs.FileTables.{names_differ}
 use Rattle.pr_model.specs.FirstState.{mapped_at_start, stored_file}
 use Rattle.pr_model.specs.declared.events.Actor.{Actor}
-use Rattle.pr_scen.specs.Built.{is_built_instruction, is_built_line}
 use Rattle.pr_scen.specs.Limits.{most_turns, most_programs, most_files, most_file, most_spawns, most_mapped, most_controllers, most_lists, most_scheduled}
 use Rattle.pr_scen.specs.Scripts.{ScriptState}
 use Rattle.pr_scen.specs.declared.plans.Plan.{Plan}
@@ -63,17 +62,12 @@ pub record IsWithinLimits (s : Scenario) : Type 0 where
 
 -- ---- what is built
 
--- a script of lines that are built
+-- a controller that is neither a truss nor a tool
 abbrev pub IsBuiltPlan : Plan → Type 0
-IsBuiltPlan (Script s) = All (λ l. is_built_line l ≡ true) s.lines
+IsBuiltPlan (Script s) = Unit {0}
 IsBuiltPlan (Truss options) = ⊥
 IsBuiltPlan (Tool kind pid) = ⊥
 
--- each instruction of a program is built, so that of system calls it has only those that the kernel has a body for
-abbrev pub IsBuiltProgram : Program → Type 0
-IsBuiltProgram p = All (λ i. is_built_instruction i ≡ true) p.code
-
--- What also holds of every scenario that was read: each of its forms is built.
+-- What also holds of every scenario that was read: no controller is a truss or a tool.
 pub record IsBuilt (s : Scenario) : Type 0 where
-  pub programs : All IsBuiltProgram s.programs
   pub controllers : All IsBuiltPlan s.controllers

@@ -2,13 +2,12 @@
 ghost use Rattle.std.specs.Prelude.{◌≡◌, ◌≤◌, ◌<◌, ◌+◌, ◌^◌, length, map, None, Ok, Err, IfOk};
 ghost use Rattle.pr_text.specs.Reads.{Gives};
 ghost use Rattle.pr_text.specs.Steps.{folded};
-ghost use Rattle.pr_scen.specs.Blocks.{numbered, item_in, line_added, begun, ended, kind_of, all_readable, first_of_both, program_read, noting_at, program_added, script_words_added, script_line_read, script_added, part_added};
+ghost use Rattle.pr_scen.specs.Blocks.{numbered, item_in, line_added, begun, ended, kind_of, all_readable, first_of_both, program_read, program_added, script_words_added, script_line_read, script_added, part_added};
 ghost use Rattle.pr_scen.specs.Drafts.{may_begin};
 ghost use Rattle.pr_scen.specs.Parts.{line, block, endless};
 ghost use Rattle.pr_scen.specs.Reads.{Answers, LineGave, Stops};
 ghost use Rattle.pr_scen.specs.Names.{place_of};
 
-use crate::built::first_unbuilt;
 use crate::drafts::Draft;
 use crate::items::{Item, item_of};
 use crate::lines::readable;
@@ -194,15 +193,6 @@ impl Draft {
         }
     }
 
-    /// Remembers a line that is not built, if there is one.
-    fn note_at(&mut self, line: Option<u32>)
-        ensures { self.new ≡ noting_at line self.old }
-    {
-        if let Some(line) = line {
-            self.note(line, false);
-        }
-    }
-
     /// Adds the block of the program of this name, whose first line has this number.
     #[tactic(auto, unfolding(crate::specs::Blocks::program_added))]
     fn add_program_block(
@@ -221,24 +211,17 @@ impl Draft {
         let program = program_read(alloc, name, number + 1, body)?;
         let end = number + body.len() as u32 + 1;
         ended_at(end, last)?;
-        let unbuilt = first_unbuilt(alloc, number + 1, body)?;
         self.add_program(name, program)?;
-        self.note_at(unbuilt);
         Ok(())
     }
 
     /// Adds a line of a script block.
-    fn add_script_words(
-        &mut self,
-        alloc: Global,
-        number: u32,
-        line: &[u8],
-    ) -> Result<(), Refused<ScenKind>>
-        ensures { Gives (λ _. self.new) result (script_words_added number self.old line.now) }
+    fn add_script_words(&mut self, alloc: Global, line: &[u8]) -> Result<(), Refused<ScenKind>>
+        ensures { Gives (λ _. self.new) result (script_words_added self.old line.now) }
     {
         readable(line)?;
         let read = script_line_of(alloc, line)?;
-        self.add_script_line(number, read)
+        self.add_script_line(read)
     }
 
     /// Adds a line of a script block, or names it as refused.
@@ -246,7 +229,7 @@ impl Draft {
     fn add_inner_line(&mut self, alloc: Global, number: u32, line: &[u8]) -> Result<(), ScenRefusal>
         ensures { Answers (λ _. self.new) result (script_line_read number self.old line.now) }
     {
-        let added = self.add_script_words(alloc, number, line);
+        let added = self.add_script_words(alloc, line);
         at_line(number, added)
     }
 

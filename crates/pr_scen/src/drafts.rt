@@ -6,7 +6,7 @@ ghost use Rattle.pr_scen.specs.Drafts.{nothing, noting, with_turns, with_file, w
 ghost use Rattle.pr_scen.specs.Names.{place_of};
 ghost use Rattle.pr_scen.specs.Schedules.{turn_count, actors_of};
 
-use crate::built::{is_built_item, is_built_line};
+use crate::built::is_built_item;
 use crate::few_names::FewNames;
 use crate::items::Item;
 use crate::limits::{
@@ -83,7 +83,7 @@ impl Draft {
 
     /// Remembers the first line of a form that is not built.
     #[tactic(auto, unfolding(crate::specs::Drafts::noting))]
-    pub fn note(&mut self, line: u32, built: bool)
+    fn note(&mut self, line: u32, built: bool)
         ensures { self.new ≡ noting line built self.old }
     {
         if !built && self.unbuilt.is_none() {
@@ -321,18 +321,15 @@ impl Draft {
         Ok(())
     }
 
-    /// Adds what a line of a script block says, whose form may not be built.
+    /// Adds what a line of a script block says.
     #[tactic(auto, unfolding(crate::specs::Drafts::script_line_added))]
-    pub fn add_script_line(&mut self, number: u32, line: InScript) -> Result<(), Refused<ScenKind>>
-        ensures { Gives (λ _. self.new) result (script_line_added number self.old line) }
+    pub fn add_script_line(&mut self, line: InScript) -> Result<(), Refused<ScenKind>>
+        ensures { Gives (λ _. self.new) result (script_line_added self.old line) }
     {
         let InScript::Line(line) = line else {
             return Ok(());
         };
-        let built = is_built_line(&line);
-        self.add_call(line)?;
-        self.note(number, built);
-        Ok(())
+        self.add_call(line)
     }
 
     /// The script block ends, and the script is whole.

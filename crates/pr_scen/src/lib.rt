@@ -26,8 +26,9 @@ mod scripts;
 mod writes;
 
 pub use laws::{
-    a_built_line_makes_a_built_call, a_refusal_names_the_first_line,
-    lines_are_read_as_they_are_encoded, what_encodes_a_scenario_is_read,
+    a_refusal_in_a_block_names_its_least_line, a_refusal_names_the_first_line,
+    each_scenario_has_a_text, lines_are_read_as_they_are_encoded,
+    texts_are_read_as_they_are_encoded, what_encodes_a_scenario_is_read,
 };
 pub use plans::Plan;
 pub use reading::read_scenario;

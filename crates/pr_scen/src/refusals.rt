@@ -23,7 +23,7 @@ pub enum ScenKind {
     TooBig,
     /// The line begins a block that has no end.
     NoEnd,
-    /// The line is accepted, and uses a form that is not built.
+    /// The line is accepted, and its controller is a truss or a tool, which are not built.
     NotBuilt,
 }
 

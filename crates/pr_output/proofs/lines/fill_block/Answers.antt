@@ -1,6 +1,5 @@
-use Rattle.std.proofs.Common.{rules, ◌≡◌, ◌+◌, ◌++◌, Some, take, arith}
+use Rattle.std.proofs.Common.{rules, ◌≡◌, Some, arith}
 use Rattle.std.specs.List.{slice_get}
-use Rattle.pr_plain.specs.HistoryText.{entries_text}
 use Rattle.pr_output.proofs.Entries.{found-value, block-more}
 use Rattle.pr_output.proofs.lines.fill_block.Goals as goal
 

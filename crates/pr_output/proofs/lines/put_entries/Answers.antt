@@ -1,4 +1,4 @@
-use Rattle.std.proofs.Common.{rules, arith, ◌≡◌, sym, ap, ◌∙◌, length}
+use Rattle.std.proofs.Common.{rules, arith, ◌∙◌}
 use Rattle.pr_io.proofs.Known.{with_end-nil}
 use Rattle.pr_plain.proofs.LineLemmas.{entries_text-none}
 use Rattle.pr_output.proofs.Entries.{entries_text-parts, entries_text-block}

@@ -1,6 +1,5 @@
-use Rattle.std.proofs.Common.{rules, sym, ap, subst, ◌≡◌, true, false, Ok, List, ℕ, Bool}
+use Rattle.std.proofs.Common.{rules}
 use Rattle.pr_output.specs.Output.{history_text}
-use Rattle.pr_output.specs.Puts.{Puts}
 use Rattle.pr_output.proofs.Joined.{Puts-second, Puts-cut, Puts-none}
 use Rattle.pr_output.proofs.runs.put_history.Goals as goal
 
