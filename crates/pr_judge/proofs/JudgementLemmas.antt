@@ -3,7 +3,6 @@ use Rattle.std.proofs.Common.{◌≡◌, ◌<◌, ◌≤◌, ◌+◌, ℕ, Bool,
 use Rattle.std.proofs.lemmas.List.{append_assoc, append-nil}
 use Rattle.std.proofs.lemmas.Option.{same_Some, slice_get_within}
 use Rattle.std.specs.List.{slice_get}
-use Rattle.std.specs.Option.{ForSome}
 use Rattle.pr_num.proofs.ListLemmas.{take-next}
 use Rattle.pr_api.specs.Views.{KernelView}
 use Rattle.pr_model.specs.Legal.{IsLegal, IsLegalEntry, after, state_after}
@@ -11,10 +10,8 @@ use Rattle.pr_model.specs.State.{TracedState}
 use Rattle.pr_model.specs.declared.events.Entry.{Entry}
 use Rattle.pr_model.proofs.HistoryLemmas.{IsLegal-push, state_after-push}
 use Rattle.pr_judge.proofs.PlayLemmas.{told-more}
-use Rattle.pr_judge.specs.Judgements.{HasPlayed, IsFirstIllegal, IsIllegalEntry, IsPlayed, Judges, Plays}
-
-told-at : {X : Type 0} (o : Option X) (P : X → Type 0) (x : X) → o ≡ Some x → IfSome o P → P x
-told-at o P x e h = let Q : Option _ → Type 0 = λ q. IfSome q P in subst Q e h
+use Rattle.pr_world.proofs.ToldLemmas.{told-at}
+use Rattle.pr_judge.specs.Judgements.{HasPlayed, IsIllegalEntry, IsPlayed, Judges, Plays}
 
 module _ (n : ℕ) (first : KernelView) where
   pub played-none : HasPlayed n [] first first

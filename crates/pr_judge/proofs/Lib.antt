@@ -1,3 +1,4 @@
+pub mod FirstLemmas
 pub mod JudgementLemmas
 pub mod PlayLemmas
 pub mod ReplyLemmas

@@ -1,6 +1,6 @@
 -- Turns are compared with all that they say.
-use Rattle.std.proofs.Common.{◌≡◌, ◌≢◌, ◌==◌, ◌&&◌, ℕ, Bool, true, false, refl, sym, ◌∙◌, ap, rules}
-use Rattle.std.proofs.lemmas.Bool.{eqb-true}
+use Rattle.std.proofs.Common.{◌≡◌, ◌==◌, ℕ, Bool, true, refl, sym, ◌∙◌, ap, rules}
+use Rattle.std.proofs.lemmas.Bool.{and_from, and_parts, eqb-true}
 use Rattle.std.proofs.lemmas.Option.{same_Some}
 use Rattle.pr_num.specs.Errnos.{errno_number, errno_of_number}
 use Rattle.pr_num.specs.Faults.{fault_number, fault_of_number}
@@ -36,18 +36,6 @@ syscall-is a b h = same_Some a b (sym (syscall_of_number-number a) ∙ ap syscal
 
 -- ---- both of two
 
-pub and-first : (a b : Bool) → (a && b) ≡ true → a ≡ true
-and-first true b h = refl
-and-first false b h = cc
-
-pub and-second : (a b : Bool) → (a && b) ≡ true → b ≡ true
-and-second true b h = h
-and-second false b h = cc
-
-pub and-both : (a b : Bool) → a ≡ true → b ≡ true → (a && b) ≡ true
-and-both true b f h = h
-and-both false b f h = f
-
 pub equal-self : (n : ℕ) → (n == n) ≡ true
 equal-self n = search rules
 
@@ -73,14 +61,14 @@ unfolding same_did
 did-is Stopped Stopped h = refl
 did-is Ran Ran h = refl
 did-is (Entered a) (Entered b) h = ap Entered (syscall-is a b h)
-did-is (Made a r) (Made b q) h = ap (λ c. Made c r) (syscall-is a b (and-first _ _ h)) ∙ ap (Made b) (result-is r q (and-second _ _ h))
+did-is (Made a r) (Made b q) h = ap (λ c. Made c r) (syscall-is a b (and_parts _ _ h).0) ∙ ap (Made b) (result-is r q (and_parts _ _ h).1)
 did-is (Slept a) (Slept b) h = ap Slept (syscall-is a b h)
-did-is (Woke a r) (Woke b q) h = ap (λ c. Woke c r) (syscall-is a b (and-first _ _ h)) ∙ ap (Woke b) (result-is r q (and-second _ _ h))
+did-is (Woke a r) (Woke b q) h = ap (λ c. Woke c r) (syscall-is a b (and_parts _ _ h).0) ∙ ap (Woke b) (result-is r q (and_parts _ _ h).1)
 did-is (Returned a) (Returned b) h = ap Returned (syscall-is a b h)
 did-is (Faulted a) (Faulted b) h = ap Faulted (fault-is a b h)
 did-is (Posted a) (Posted b) h = ap Posted (fault-is a b h)
 did-is (Took a) (Took b) h = ap Took (signal-is a b h)
-did-is (Acted a how) (Acted b other) h = ap (λ s. Acted s how) (signal-is a b (and-first _ _ h)) ∙ ap (Acted b) (how-is how other (and-second _ _ h))
+did-is (Acted a how) (Acted b other) h = ap (λ s. Acted s how) (signal-is a b (and_parts _ _ h).0) ∙ ap (Acted b) (how-is how other (and_parts _ _ h).1)
 did-is _ _ h = cc
 
 -- ---- what is equal is the same
@@ -103,14 +91,14 @@ unfolding same_did
 did-self Stopped = refl
 did-self Ran = refl
 did-self (Entered a) = equal-self (syscall_number a)
-did-self (Made a r) = and-both _ _ (equal-self (syscall_number a)) (result-self r)
+did-self (Made a r) = and_from _ _ (equal-self (syscall_number a)) (result-self r)
 did-self (Slept a) = equal-self (syscall_number a)
-did-self (Woke a r) = and-both _ _ (equal-self (syscall_number a)) (result-self r)
+did-self (Woke a r) = and_from _ _ (equal-self (syscall_number a)) (result-self r)
 did-self (Returned a) = equal-self (syscall_number a)
 did-self (Faulted a) = equal-self (fault_number a)
 did-self (Posted a) = equal-self (fault_number a)
 did-self (Took a) = equal-self (signal_number a)
-did-self (Acted a how) = and-both _ _ (equal-self (signal_number a)) (how-self how)
+did-self (Acted a how) = and_from _ _ (equal-self (signal_number a)) (how-self how)
 
 pub ruleset turns = (did-is, did-self)
 

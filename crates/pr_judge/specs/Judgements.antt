@@ -1,13 +1,19 @@
-use Rattle.std.specs.Prelude.{◌≡◌, ◌<◌, ◌++◌, ℕ, Bool, true, false, List, [], ◌∷◌, Option, Some, None, IfSome, length, slice_get, take}
+use Rattle.std.specs.Prelude.{◌≡◌, ◌==◌, ◌<◌, ◌+◌, ◌++◌, ◌&&◌, ℕ, Bool, true, false, List, [], ◌∷◌, Option, Some, None, IfSome, if◌then◌else◌, length, nat_lt, option_map, slice_get, suc, take}
 use Rattle.std.specs.Option.{ForSome}
 use Rattle.pr_api.specs.Views.{KernelView}
-use Rattle.pr_model.specs.Legal.{IsLegal, IsLegalEntry, after, state_after}
+use Rattle.pr_model.specs.Calls.{Answer, answer_to}
+use Rattle.pr_model.specs.Legal.{IsLegal, IsLegalEntry, after, clock_limit, state_after}
+use Rattle.pr_model.specs.LwpTurns.{LwpTurn, turn_of}
 use Rattle.pr_model.specs.State.{TracedState}
+use Rattle.pr_model.specs.declared.calls.Reply.{Reply}
 use Rattle.pr_model.specs.declared.events.Act.{Act}
 use Rattle.pr_model.specs.declared.events.Act.TheVariants.{Call, Turn, Tick}
 use Rattle.pr_model.specs.declared.events.Actor.{Actor}
 use Rattle.pr_model.specs.declared.events.Actor.TheVariants.{Controller, Lwp, Clock}
 use Rattle.pr_model.specs.declared.events.Entry.{Entry}
+use Rattle.pr_model.specs.declared.events.Turned.{Turned}
+use Rattle.pr_judge.specs.Replies.{same_reply}
+use Rattle.pr_judge.specs.Turns.{same_turn}
 
 -- Which entry of a history is the first that is not legal, where a machine starts in a state and there are so many
 -- controllers.
@@ -33,6 +39,33 @@ pub record IsFirstIllegal (controllers : ℕ) (s : TracedState) (history : List 
 abbrev pub Judges : ℕ → TracedState → List Entry → Option ℕ → Type 0
 Judges controllers s history None = IsLegal controllers s history
 Judges controllers s history (Some place) = IsFirstIllegal controllers s history place
+
+-- ---- the judgement is a function
+
+-- whether the machine answers a call so, and a turn of an lwp goes so
+abbrev pub answers_so : Option Answer → Reply → Bool
+answers_so None r = false
+answers_so (Some a) r = same_reply a.reply r
+
+abbrev pub turns_so : Option LwpTurn → Turned → Bool
+turns_so None t = false
+turns_so (Some made) t = same_turn made.turned t
+
+-- whether an entry is a legal one in a state
+unfoldable pub is_legal_entry : ℕ → TracedState → Entry → Bool
+is_legal_entry controllers s e = by e.actor e.act
+  where
+    by : Actor → Act → Bool
+    by (Controller k) (Call c r) = nat_lt k controllers && answers_so (answer_to s k c) r
+    by (Lwp p l) (Turn t) = turns_so (turn_of s.system p l) t
+    by Clock (Tick n) = nat_lt s.system.clock clock_limit && (n == s.system.clock + 1)
+    by _ _ = false
+
+-- the place of the first entry of a history that is not legal
+unfoldable pub first_illegal : ℕ → TracedState → List Entry → Option ℕ
+first_illegal controllers s [] = None
+first_illegal controllers s (e ∷ es) =
+    if is_legal_entry controllers s e then option_map (λ place. suc place) (first_illegal controllers (after s e) es) else Some 0
 
 -- ---- entries that a kernel is made to play
 

@@ -1,4 +1,4 @@
-use Rattle.std.specs.Prelude.{◌==◌, ◌&&◌, Bool, true, false}
+use Rattle.std.specs.Prelude.{◌==◌, ◌&&◌, Bool, true, false, not, if◌then◌else◌}
 use Rattle.pr_num.specs.Errnos.{errno_number}
 use Rattle.pr_num.specs.Faults.{fault_number}
 use Rattle.pr_num.specs.Signals.{signal_number}
@@ -9,6 +9,7 @@ use Rattle.pr_model.specs.declared.events.How.{How}
 use Rattle.pr_model.specs.declared.events.How.TheVariants.{Caught, Ignored, JobStop, Died}
 use Rattle.pr_model.specs.declared.events.Res.{Res}
 use Rattle.pr_model.specs.declared.events.Res.TheVariants.{Value, Error, Ended}
+use Rattle.pr_model.specs.declared.events.Turned.{Turned}
 
 -- whether two results of calls are one, and two ways to act on a signal
 unfoldable pub same_result : Res → Res → Bool
@@ -38,3 +39,7 @@ same_did (Posted a) (Posted b) = fault_number a == fault_number b
 same_did (Took a) (Took b) = signal_number a == signal_number b
 same_did (Acted a how) (Acted b other) = (signal_number a == signal_number b) && same_how how other
 same_did _ _ = false
+
+-- whether two turns are one: they did the same, and met a point that stopped the lwp, or both did not
+unfoldable pub same_turn : Turned → Turned → Bool
+same_turn one other = (if one.stop then other.stop else not other.stop) && same_did one.did other.did

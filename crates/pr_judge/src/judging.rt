@@ -1,5 +1,5 @@
 //! Whether a history is legal.
-ghost use Rattle.std.specs.Prelude.{◌≡◌, ◌≤◌, ◌<◌, ◌+◌, length, IfOk, IfSome};
+ghost use Rattle.std.specs.Prelude.{◌≤◌, ◌<◌, ◌+◌, length, IfOk, IfSome};
 ghost use Rattle.pr_judge.specs.Judgements.{Judges};
 
 use crate::plays::play;

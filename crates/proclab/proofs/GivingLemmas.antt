@@ -14,7 +14,7 @@ use Rattle.proclab.specs.Answers.{Answer, end_status}
 use Rattle.proclab.specs.Giving.{Responds, status_after}
 use Rattle.proclab.specs.Statuses.{IsWhole}
 use Rattle.proclab.specs.declared.outcomes.Status.{Status}
-use Rattle.proclab.specs.declared.outcomes.Status.TheVariants.{Done, Usage, Refused, WriteFailed, OutOfMemory}
+use Rattle.proclab.specs.declared.outcomes.Status.TheVariants.{Done, Usage, Refused, WriteFailed, OutOfMemory, NotLegal}
 
 -- the statuses of runs, and of inputs that are refused, tell of no failure
 pub whole-end : (e : End) → IsWhole (end_status e)
@@ -84,6 +84,9 @@ whole-usage = record { read = λ is. cc; wrote = λ is. cc; had_memory = λ is. 
 
 pub whole-done : IsWhole Done
 whole-done = record { read = λ is. cc; wrote = λ is. cc; had_memory = λ is. cc }
+
+pub whole-not-legal : IsWhole NotLegal
+whole-not-legal = record { read = λ is. cc; wrote = λ is. cc; had_memory = λ is. cc }
 
 -- A text that takes no memory was written, or not.
 pub gives-said : (w : Result Unit Failed) (answer : Answer) (status : Status) (h : List Entry) (old new : Option (List ℕ)) (before after : ℕ) → IsWhole answer.status → OnOk w (status ≡ answer.status) → OnErr w (status ≡ WriteFailed) → h ≡ answer.history

@@ -1,5 +1,7 @@
+pub mod CheckLemmas
 pub mod EarlyLemmas
 pub mod GivingLemmas
+pub mod MarkLemmas
 pub mod PieceLemmas
 pub mod ReadingLemmas
 pub mod RunEndLemmas

@@ -1,5 +1,5 @@
 -- A text that is written piece by piece.
-use Rattle.std.proofs.Common.{◌≡◌, ℕ, ◌+◌, ◌<◌, arith, get_or, length, refl, Option, Some, List, [], ◌∷◌, ◌++◌, take, drop, sym, ap, subst, ◌∙◌, take-append-drop}
+use Rattle.std.proofs.Common.{◌≡◌, ℕ, ◌+◌, ◌<◌, arith, decimal, get_or, length, refl, Option, Some, List, [], ◌∷◌, ◌++◌, take, drop, suc, sym, ap, subst, ◌∙◌, take-append-drop, zero}
 use Rattle.std.proofs.lemmas.List.{append-nil}
 use Rattle.std.proofs.lemmas.List.Concat.{flat_map-append}
 use Rattle.std.specs.Borrow.{Bor}
@@ -38,3 +38,7 @@ pub piece-at : {X : Type 0} (xs : List X) (i : ℕ) (d : X) → i < length xs �
 piece-at [] i d h = absurd (omega (arith, h))
 piece-at (x ∷ xs) zero d h = refl
 piece-at (x ∷ xs) (suc i) d h = piece-at xs i d (omega (arith, h))
+
+-- a number between two texts, in pieces
+pub numbered : (before digits behind : Bor (List ℕ)) (n : ℕ) → digits.now ≡ decimal n → text_of (before ∷ digits ∷ behind ∷ []) ≡ before.now ++ (decimal n ++ behind.now)
+numbered before digits behind n is = ap (λ (t : List ℕ). before.now ++ (t ++ (behind.now ++ []))) is ∙ ap (λ (t : List ℕ). before.now ++ (decimal n ++ t)) (append-nil behind.now)

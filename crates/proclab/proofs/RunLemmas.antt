@@ -1,23 +1,20 @@
 -- The run of a scenario: its first world, and what the driver says of the last.
-use Rattle.std.proofs.Common.{◌≡◌, ◌<◌, ◌≤◌, ◌+◌, ◌-◌, ◌^◌, ℕ, Bool, true, false, List, [], ◌∷◌, Option, Some, None, Result, Ok, Err, IfOk, OnOk, OnErr, length, map, refl, sym, ◌∙◌, ap, subst, arith, length-append}
+use Rattle.std.proofs.Common.{◌≡◌, ◌≤◌, ◌+◌, ◌-◌, ℕ, Bool, true, false, List, [], ◌∷◌, Option, Some, None, Result, Ok, Err, IfOk, OnOk, OnErr, length, refl, sym, ◌∙◌, ap, subst, arith, length-append}
 use Rattle.std.specs.List.{flat_map, slice_get, sum_by}
-use Rattle.std.proofs.lemmas.List.Sums.{sum_by-cons}
 use Rattle.pr_api.specs.Views.{KernelView, kernel_of}
 use Rattle.pr_kern.specs.Kernels.{Kernel}
 use Rattle.pr_kern.specs.Starts.{stored}
-use Rattle.pr_model.specs.FirstState.{first_state, size_at_start, stored_file}
+use Rattle.pr_model.specs.FirstState.{first_state, size_at_start}
 use Rattle.pr_model.specs.State.{TracedState}
 use Rattle.pr_model.specs.declared.events.Actor.{Actor}
 use Rattle.pr_model.specs.declared.events.Entry.{Entry}
 use Rattle.pr_num.specs.Limits.{all_mappings_limit, process_limit}
-use Rattle.pr_num.specs.Programs.{Program}
 use Rattle.pr_num.specs.declared.memory.NoMemory.{NoMemory}
 use Rattle.pr_parts.specs.FileTables.{names_differ}
 use Rattle.pr_run.specs.OneRuns.{end_of_run}
 use Rattle.pr_run_laws.specs.ScenarioRuns.{controller_in, controllers_of, first_state_of, first_world, run_of}
 use Rattle.pr_run_laws.proofs.KeptLemmas.{first-fresh, first-told}
-use Rattle.pr_scen.specs.Scenarios as plain
-use Rattle.pr_scen.specs.Scenarios.{IsWithinLimits, Scenario, space_size}
+use Rattle.pr_scen.specs.Scenarios.{IsWithinLimits, Scenario}
 use Rattle.pr_scen.specs.declared.plans.Plan.{Plan}
 use Rattle.pr_scen.specs.declared.plans.Plan.TheVariants as plan
 use Rattle.pr_world.proofs.RunLemmas.{run-function, run-longer, run-places}
@@ -36,27 +33,13 @@ first_world-places s = refl
 pub spawns-few : (s : Scenario) → IsWithinLimits s → length s.spawns + 1 ≤ process_limit
 spawns-few s limits = omega (arith, limits.spawns)
 
-size-same : (o : Option Program) → plain.size_of o ≡ size_at_start o
-unfolding space_size
-size-same None = refl
-size-same (Some program) = refl
-
-mapped-same : (programs : List Program) (spawns : List ℕ) → plain.mapped_by programs spawns ≡ sum_by (λ place. size_at_start (slice_get programs place)) spawns
-mapped-same programs [] = refl
-mapped-same programs (place ∷ spawns) =
-    omega (arith, sum_by-cons (λ at. plain.size_of (slice_get programs at)) place spawns, sum_by-cons (λ at. size_at_start (slice_get programs at)) place spawns, size-same (slice_get programs place), mapped-same programs spawns)
-
 pub spawns-map : (s : Scenario) → IsWithinLimits s → sum_by (λ place. size_at_start (slice_get s.programs place)) s.spawns ≤ all_mappings_limit
-spawns-map s limits = omega (arith, limits.mapped, mapped-same s.programs s.spawns)
+spawns-map s limits = omega (arith, limits.mapped)
 
 -- ---- files: the kernel takes them as the scenario has them
 
-stored-same : (files : List (List ℕ × List ℕ)) → stored files ≡ map plain.stored_file files
-unfolding stored_file
-stored-same files = refl
-
 pub own-names : (s : Scenario) → IsWithinLimits s → names_differ (stored s.files) ≡ true
-own-names s limits = ap names_differ (stored-same s.files) ∙ limits.own_names
+own-names s limits = limits.own_names
 
 -- ---- controllers: one of a plan at most
 
@@ -79,7 +62,7 @@ made s h n controllers schedule last = record { kernel = kernel_of s h n; contro
 pub first-seen : (s : Scenario) (w : WorldOf Kernel) → w.kernel.state ≡ first_state s.programs (stored s.files) s.spawns → w.kernel.history ≡ [] → w.kernel.places ≡ s.turns → w.controllers ≡ controllers_of s → w.schedule ≡ s.schedule → w.last ≡ None → seen kern_view w ≡ first_world s
 unfolding first_world made
 first-seen s w state history places controllers schedule last =
-    ap (λ x. made x w.kernel.history w.kernel.places w.controllers w.schedule w.last) (state ∙ ap (λ x. first_state s.programs x s.spawns) (stored-same s.files))
+    ap (λ x. made x w.kernel.history w.kernel.places w.controllers w.schedule w.last) state
     ∙ ap (λ x. made (first_state_of s) x w.kernel.places w.controllers w.schedule w.last) history
     ∙ ap (λ x. made (first_state_of s) [] x w.controllers w.schedule w.last) places
     ∙ ap (λ x. made (first_state_of s) [] s.turns x w.schedule w.last) controllers

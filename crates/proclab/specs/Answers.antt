@@ -1,9 +1,10 @@
-use Rattle.std.specs.Prelude.{ℕ, true, false, List, [], Option, Some, None, Result, Ok, Err, codes}
+use Rattle.std.specs.Prelude.{ℕ, true, false, List, [], ◌++◌, Option, Some, None, Result, Ok, Err, codes, decimal, length}
+use Rattle.pr_judge.specs.Judgements.{first_illegal}
 use Rattle.pr_model.specs.UntracedSteps.{untraced_steps, untraced_trace}
 use Rattle.pr_model.specs.declared.events.Entry.{Entry}
 use Rattle.pr_output.specs.Output.{plain_run_text, refusal_text, run_text}
 use Rattle.pr_plain.specs.Generated.{generated_text}
-use Rattle.pr_run_laws.specs.ScenarioRuns.{run_of}
+use Rattle.pr_run_laws.specs.ScenarioRuns.{first_state_of, run_of}
 use Rattle.pr_scen.specs.Reading.{scenario_of}
 use Rattle.pr_scen.specs.declared.refusals.ScenFault.{ScenFault}
 use Rattle.pr_scen.specs.declared.refusals.ScenKind.{ScenKind}
@@ -12,12 +13,15 @@ use Rattle.pr_scen.specs.Scenarios.{Scenario}
 use Rattle.pr_world.specs.Worlds.{WorldState, end_of}
 use Rattle.pr_world.specs.declared.ends.End.{End}
 use Rattle.pr_world.specs.declared.ends.End.TheVariants as end
+use Rattle.proclab.specs.Checks.{checked_of}
 use Rattle.proclab.specs.Statuses.{number}
 use Rattle.proclab.specs.Usage.{usage_line}
+use Rattle.proclab.specs.declared.checks.Wrong.{Wrong}
+use Rattle.proclab.specs.declared.checks.Wrong.TheVariants as wrong
 use Rattle.proclab.specs.declared.commands.Showing.{Showing}
 use Rattle.proclab.specs.declared.commands.Showing.TheVariants.{Whole, Quiet, Stripped}
 use Rattle.proclab.specs.declared.outcomes.Status.{Status}
-use Rattle.proclab.specs.declared.outcomes.Status.TheVariants.{Done, Usage, Refused, Spent, Stuck}
+use Rattle.proclab.specs.declared.outcomes.Status.TheVariants.{Done, Usage, Refused, Spent, Stuck, NotLegal}
 
 -- What a command answers to an input, where nothing fails. It is a function of the input.
 
@@ -26,10 +30,6 @@ pub record Answer : Type 0 where
   pub status : Status
   pub history : List Entry
   pub text : List ℕ
-
--- the most bytes that a scenario may have
-abbrev pub input_limit : ℕ
-input_limit = 1048576
 
 -- kinds of refusals by name
 unfoldable pub kind_name : ScenKind → List ℕ
@@ -46,6 +46,9 @@ kind_name kind.NotBuilt = codes "NotBuilt"
 
 abbrev pub too_long : List ℕ
 too_long = codes "TooLong"
+
+abbrev pub bad_history : List ℕ
+bad_history = codes "BadHistory"
 
 -- the input is refused, at a line for a reason
 unfoldable pub refused_at : ℕ → List ℕ → Answer
@@ -86,6 +89,35 @@ answer_of showing (Ok s) = ran showing (run_of s)
 unfoldable pub answer_to : Showing → Option (List ℕ) → Answer
 answer_to showing None = refused_at 0 too_long
 answer_to showing (Some input) = answer_of showing (scenario_of input)
+
+-- ---- the command `check`
+
+-- the first entry of a history that is not legal from the first state of a scenario, with its controllers
+unfoldable pub first_illegal_of : Scenario → List Entry → Option ℕ
+first_illegal_of s history = first_illegal (length s.controllers) (first_state_of s) history
+
+-- a status, and a number between two texts
+abbrev pub said : Status → List ℕ → ℕ → List ℕ → Answer
+said status before number behind = record { status = status; history = []; text = before ++ (decimal number ++ behind) }
+
+-- what is said of a history of so many entries: it is legal; or this entry is the first that is not
+unfoldable pub judged : ℕ → Option ℕ → Answer
+judged entries None = said Done (codes "legal ") entries (codes "\n")
+judged entries (Some place) = said NotLegal (codes "entry ") place (codes ": not legal\n")
+
+-- what is said of a line that is refused
+unfoldable pub refused_for : Wrong → Answer
+refused_for (wrong.Scenario fault) = refused_at fault.line (kind_name fault.kind)
+refused_for (wrong.History line) = refused_at line bad_history
+
+unfoldable pub judgement_of : Result (Scenario × List Entry) Wrong → Answer
+judgement_of (Err w) = refused_for w
+judgement_of (Ok read) = judged (length read.1) (first_illegal_of read.0 read.1)
+
+-- the answer to an input; none: it had more bytes than it may have
+unfoldable pub check_of : Option (List ℕ) → Answer
+check_of None = refused_at 0 too_long
+check_of (Some input) = judgement_of (checked_of input)
 
 -- ---- the command `gen`
 

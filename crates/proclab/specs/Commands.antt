@@ -5,7 +5,7 @@ use Rattle.proclab.specs.declared.commands.Command.{Command}
 use Rattle.proclab.specs.declared.commands.Command.TheVariants.{Run, Check, Plain, Generate}
 use Rattle.proclab.specs.declared.commands.Showing.TheVariants.{Whole, Quiet, Stripped}
 use Rattle.proclab.specs.declared.commands.Work.{Work}
-use Rattle.proclab.specs.declared.commands.Work.TheVariants.{Explains, Generates, Runs}
+use Rattle.proclab.specs.declared.commands.Work.TheVariants.{Checks, Explains, Generates, Runs}
 
 -- What the words after the program's name ask for. The shapes are run, run -q, run -j N, run -q -j N, run -j N -q,
 -- check, plain and gen N; words of no other shape ask for anything.
@@ -54,11 +54,12 @@ command_of (a ∷ b ∷ c ∷ d ∷ []) = of_four_words a b c d
 command_of _ = None
 
 -- What is done for words: the run of a scenario on one thread, of which the history is written, or not, or what the
--- machine without controllers makes of it; the writing of a scenario for so many children; or they get the usage line,
--- as all words whose command is not built.
+-- machine without controllers makes of it; the judging of a history; the writing of a scenario for so many children; or
+-- they get the usage line, as all words whose command is not built.
 unfoldable pub work_of : Option Command → Work
 work_of (Some (Run false None)) = Runs Whole
 work_of (Some (Run true None)) = Runs Quiet
 work_of (Some Plain) = Runs Stripped
+work_of (Some Check) = Checks
 work_of (Some (Generate children)) = Generates children
 work_of _ = Explains

@@ -1,10 +1,10 @@
 use Rattle.std.specs.Prelude.{◌≡◌, ◌≤◌, ◌⊎◌, ℕ, Bool, true, false, List, [], Option, Some, None, Ok}
 use Rattle.pr_model.specs.declared.events.Entry.{Entry}
+use Rattle.pr_num.specs.Limits.{scenario_limit}
 use Rattle.pr_run_laws.specs.Prefixes.{IsPrefix}
 use Rattle.pr_run_laws.specs.ScenarioRuns.{IsKept, history_after, run_of}
 use Rattle.pr_scen.specs.Reading.{scenario_of}
 use Rattle.pr_scen.specs.Scenarios.{Scenario}
-use Rattle.proclab.specs.Answers.{input_limit}
 use Rattle.proclab.specs.Inputs.{TookAll}
 
 -- The histories that a call may leave.
@@ -38,7 +38,7 @@ pub record RanOutEarly (runs : Bool) (input : Option (List ℕ)) (history : List
 -- It is legal and follows the protocol, and where it is passive, tracing is transparent in it.
 pub record IsHistoryOfRun (left_old left_new : Option (List ℕ)) (history : List Entry) : Type 0 where
   pub input : List ℕ
-  pub took : TookAll input_limit left_old left_new input
+  pub took : TookAll scenario_limit left_old left_new input
   pub run : IsAfterMoves input history
   pub kept : IsKept run.scenario history
 

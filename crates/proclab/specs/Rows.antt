@@ -1,16 +1,20 @@
-use Rattle.std.specs.Prelude.{◌≡◌, ◌≢◌, ◌⊎◌, ℕ, Bool, true, false, List, [], Option, IfSome, IfOk}
+use Rattle.std.specs.Prelude.{◌≡◌, ◌≢◌, ◌⊎◌, ℕ, Bool, true, false, List, [], Option, IfSome, IfOk, length}
 use Rattle.pr_io.specs.Faults.{Rose}
+use Rattle.pr_judge.specs.Judgements.{Judges}
 use Rattle.pr_model.specs.declared.events.Entry.{Entry}
-use Rattle.pr_run_laws.specs.ScenarioRuns.{run_of}
+use Rattle.pr_num.specs.Limits.{checked_limit, scenario_limit}
+use Rattle.pr_run_laws.specs.ScenarioRuns.{first_state_of, run_of}
 use Rattle.pr_scen.specs.Reading.{scenario_of}
-use Rattle.proclab.specs.Answers.{Answer, answer_to, explained, generated, input_limit}
+use Rattle.pr_scen.specs.Scenarios.{Scenario}
+use Rattle.proclab.specs.Answers.{Answer, answer_to, check_of, explained, generated, judged}
+use Rattle.proclab.specs.Checks.{checked_of}
 use Rattle.proclab.specs.Ends.{EndsAs}
 use Rattle.proclab.specs.Giving.{IsGiven, IsCutShort, RanOutLate, Responds}
 use Rattle.proclab.specs.Histories.{RanOutEarly}
 use Rattle.proclab.specs.Inputs.{Took, taken_of}
 use Rattle.proclab.specs.Statuses.{IsWhole, number}
 use Rattle.proclab.specs.declared.commands.Work.{Work}
-use Rattle.proclab.specs.declared.commands.Work.TheVariants.{Explains, Generates, Runs}
+use Rattle.proclab.specs.declared.commands.Work.TheVariants.{Checks, Explains, Generates, Runs}
 use Rattle.proclab.specs.declared.outcomes.Status.{Status}
 use Rattle.proclab.specs.declared.outcomes.Status.TheVariants.{ReadFailed, WriteFailed, OutOfMemory}
 
@@ -25,13 +29,15 @@ pub data Row : Type 0 where
 unfoldable pub row_of : Work → Row
 row_of Explains = says explained
 row_of (Generates children) = says (generated children)
-row_of (Runs showing) = reads input_limit (answer_to showing) true
+row_of (Runs showing) = reads scenario_limit (answer_to showing) true
+row_of Checks = reads checked_limit check_of false
 
 -- whether a piece of work leaves the source alone
 abbrev pub reads_nothing : Work → Bool
 reads_nothing Explains = true
 reads_nothing (Generates children) = true
 reads_nothing (Runs showing) = false
+reads_nothing Checks = false
 
 -- What the source and the sink tell at one moment: the bytes that are left and those that were written, where they are
 -- told, and the faults.
@@ -103,8 +109,24 @@ EndsBy (reads limit answer runs) old new status history = Reads limit answer run
 abbrev pub RunsScenario : Work → Option (List ℕ) → Status → Type 0
 RunsScenario Explains left status = Unit {0}
 RunsScenario (Generates children) left status = Unit {0}
+RunsScenario Checks left status = Unit {0}
 RunsScenario (Runs showing) left status =
-    IfSome left (λ input. IfSome (taken_of input_limit input) (λ text. IfOk (scenario_of text) (λ scenario. IsWhole status → EndsAs scenario.turns (run_of scenario) status)))
+    IfSome left (λ input. IfSome (taken_of scenario_limit input) (λ text. IfOk (scenario_of text) (λ scenario. IsWhole status → EndsAs scenario.turns (run_of scenario) status)))
+
+-- The judgement of a history was given: it is legal from the first state of the scenario, with its controllers, or this
+-- entry is the first that is not.
+pub record IsJudged (s : Scenario) (entries : List Entry) (old new : Ends) (status : Status) (history : List Entry) : Type 0 where
+  pub first : Option ℕ
+  pub judges : Judges (length s.controllers) (first_state_of s) entries first
+  pub given : IsGiven (judged (length entries) first) status history old.written new.written
+
+-- Exactness: an input that is a scenario and a history is judged, unless a read or a write failed or memory ran out.
+abbrev pub JudgesHistory : Work → Ends → Ends → Status → List Entry → Type 0
+JudgesHistory Explains old new status history = Unit {0}
+JudgesHistory (Generates children) old new status history = Unit {0}
+JudgesHistory (Runs showing) old new status history = Unit {0}
+JudgesHistory Checks old new status history =
+    IfSome old.left (λ input. IfSome (taken_of checked_limit input) (λ text. IfOk (checked_of text) (λ read. IsWhole status → IsJudged read.0 read.1 old new status history)))
 
 -- How a call ends that does this work, by the number with which the process ends.
 pub record EndsWith (work : Work) (old new : Ends) (code : ℕ) (history : List Entry) : Type 0 where
@@ -112,3 +134,4 @@ pub record EndsWith (work : Work) (old new : Ends) (code : ℕ) (history : List 
   pub code_is : code ≡ number status
   pub ends : EndsBy (row_of work) old new status history
   pub runs_scenario : RunsScenario work old.left status
+  pub judges_history : JudgesHistory work old new status history

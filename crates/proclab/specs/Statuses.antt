@@ -1,6 +1,6 @@
 use Rattle.std.specs.Prelude.{◌≢◌, ℕ}
 use Rattle.proclab.specs.declared.outcomes.Status.{Status}
-use Rattle.proclab.specs.declared.outcomes.Status.TheVariants.{Done, Usage, Refused, Spent, Stuck, ReadFailed, WriteFailed, OutOfMemory}
+use Rattle.proclab.specs.declared.outcomes.Status.TheVariants.{Done, Usage, Refused, Spent, Stuck, ReadFailed, WriteFailed, OutOfMemory, NotLegal}
 
 -- the number of a status, with which the process ends
 unfoldable pub number : Status → ℕ
@@ -12,6 +12,7 @@ number Stuck = 4
 number ReadFailed = 5
 number WriteFailed = 6
 number OutOfMemory = 7
+number NotLegal = 8
 
 -- Nothing failed, so that the answer to the input was given whole.
 pub record IsWhole (status : Status) : Type 0 where

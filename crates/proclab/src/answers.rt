@@ -39,7 +39,7 @@ pub fn explain<K: Sink>(alloc: Global, sink: &mut K) -> Ending
 }
 
 /// Writes the pieces of a text, one after another. Takes no memory.
-fn write_pieces<K: Sink>(sink: &mut K, pieces: &[&[u8]]) -> Result<(), Failed>
+pub fn write_pieces<K: Sink>(sink: &mut K, pieces: &[&[u8]]) -> Result<(), Failed>
     ensures all { OnOk result (K.written sink.new ≡ with_end (K.written sink.old) (text_of pieces.now)) }
     ensures front { OnErr result (AppendsFront (K.written sink.old) (K.written sink.new) (text_of pieces.now)) }
     ensures failed { OnErr result (Rose (K.faults sink.old) (K.faults sink.new)) }
@@ -64,8 +64,8 @@ pub fn generate<K: Sink>(alloc: Global, children: u32, sink: &mut K) -> Ending
     without_history(alloc, status_said(written, Status::Done))
 }
 
-// The status where a text that takes no memory was written, or was not.
-fn status_said(written: Result<(), Failed>, said: Status) -> Status
+/// The status where a text that takes no memory was written, or was not.
+pub fn status_said(written: Result<(), Failed>, said: Status) -> Status
     ensures whole { OnOk written (result ≡ said) }
     ensures failed { OnErr written (result ≡ Status.WriteFailed) }
 {

@@ -137,6 +137,8 @@ pub enum Work {
     Explains,
     /// The run of the scenario of the input is made on one thread, and written.
     Runs { showing: Showing },
+    /// The history of the input is judged by the scenario above it.
+    Checks,
     /// The scenario for so many children is written.
     Generates { children: u32 },
 }
@@ -166,6 +168,7 @@ pub fn work_of(command: Option<Command>) -> Work
         Some(Command::Plain) => Work::Runs {
             showing: Showing::Stripped,
         },
+        Some(Command::Check) => Work::Checks,
         Some(Command::Generate { children }) => Work::Generates { children },
         _ => Work::Explains,
     }

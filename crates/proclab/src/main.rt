@@ -7,8 +7,10 @@ ghost use Rattle.std.specs.Vec.Iter.{into_iter_items};
 ghost use Rattle.std.specs.declared.io.ErrorKind.TheVariants.{OutOfMemory};
 
 mod answers;
+mod checks;
 mod commands;
 mod inputs;
+mod judgements;
 mod outcomes;
 mod responses;
 mod running;

@@ -27,6 +27,8 @@ pub enum Status {
     WriteFailed = 6,
     /// Memory ran out.
     OutOfMemory = 7,
+    /// An entry of a history that was judged is not legal.
+    NotLegal = 8,
 }
 
 /// The number of a status.

@@ -1,12 +1,13 @@
 //! What the commands `run` and `plain` answer to an input.
 ghost use Rattle.std.specs.Prelude.{◌≡◌, ◌≤◌, length, true, Some, IfSome};
 ghost use Rattle.pr_model.specs.UntracedSteps.{untraced_steps, untraced_trace};
+ghost use Rattle.pr_num.specs.Limits.{scenario_limit};
 ghost use Rattle.pr_output.specs.Output.{plain_run_text};
 ghost use Rattle.pr_output.specs.Puts.{Puts};
 ghost use Rattle.pr_run_laws.specs.ScenarioRuns.{run_of};
 ghost use Rattle.pr_scen.specs.Reading.{scenario_of};
 ghost use Rattle.pr_scen.specs.Scenarios.{IsBuilt, IsWithinLimits};
-ghost use Rattle.proclab.specs.Answers.{answer_of, answer_to, input_limit, kind_name, ran, ran_so, refused_at, run_shown};
+ghost use Rattle.proclab.specs.Answers.{answer_of, answer_to, kind_name, ran, ran_so, refused_at, run_shown};
 ghost use Rattle.proclab.specs.Giving.{Responds};
 ghost use Rattle.proclab.specs.Histories.{RanOutEarly};
 ghost use Rattle.proclab.specs.Made.{StoppedRun};
@@ -24,7 +25,7 @@ use pr_strip::{strip, trace};
 use pr_world::End;
 use std::alloc::Global;
 
-const TOO_LONG: &[u8] = b"TooLong";
+pub const TOO_LONG: &[u8] = b"TooLong";
 
 /// The name of a kind of refusal.
 #[tactic(auto, unfolding(crate::specs::Answers::kind_name))]
@@ -46,7 +47,7 @@ fn kind_name(kind: ScenKind) -> &'static [u8]
 }
 
 /// Answers an input that is refused, at a line for a reason.
-fn refuse_input<K: Sink>(alloc: Global, line: u32, kind: &[u8], sink: &mut K) -> Ending
+pub fn refuse_input<K: Sink>(alloc: Global, line: u32, kind: &[u8], sink: &mut K) -> Ending
     ensures { Responds (refused_at line kind.now) ⊥ result.status result.history.entries
         (K.written sink.old) (K.written sink.new) (K.faults sink.old) (K.faults sink.new) }
 {
@@ -130,7 +131,7 @@ fn run_scenario<K: Sink>(
 
 /// Answers a text: it is refused, or the run of its scenario is made, and written.
 fn respond_to_text<K: Sink>(alloc: Global, showing: Showing, text: &[u8], sink: &mut K) -> Ending
-    requires { length text.now ≤ input_limit }
+    requires { length text.now ≤ scenario_limit }
     ensures { Responds (answer_of showing (scenario_of text.now))
         (RanOutEarly true (Some text.now) result.history.entries (K.written sink.old) (K.written sink.new))
         result.status result.history.entries
@@ -144,7 +145,7 @@ fn respond_to_text<K: Sink>(alloc: Global, showing: Showing, text: &[u8], sink: 
 }
 
 /// Answers a text of which a line is refused.
-fn refuse_at<K: Sink>(alloc: Global, fault: ScenFault, sink: &mut K) -> Ending
+pub fn refuse_at<K: Sink>(alloc: Global, fault: ScenFault, sink: &mut K) -> Ending
     ensures { Responds (refused_at fault.line (kind_name fault.kind)) ⊥ result.status result.history.entries
         (K.written sink.old) (K.written sink.new) (K.faults sink.old) (K.faults sink.new) }
 {
@@ -158,7 +159,7 @@ pub fn respond<K: Sink>(
     input: &Option<Bytes>,
     sink: &mut K,
 ) -> Ending
-    requires { IfSome input.now (λ bytes. length bytes ≤ input_limit) }
+    requires { IfSome input.now (λ bytes. length bytes ≤ scenario_limit) }
     ensures { Responds (answer_to showing input.now)
         (RanOutEarly true input.now result.history.entries (K.written sink.old) (K.written sink.new))
         result.status result.history.entries

@@ -15,12 +15,13 @@ use std::thread::Threads;
 /// Does what the words after the program's name ask for, from `source` to `sink`. A worker of a run on several
 /// threads passes `gate` before each of its turns.
 ///
-/// The words `run`, `run -q` and `plain` are built, which make the run of a scenario on one thread, and `gen N`, which
-/// writes a scenario, reads nothing and takes no memory. Status 0, 3 and 4: the run was
-/// made and written; nobody could move and all controllers had finished, or the history had all its entries, or nobody
-/// could move and a controller had not finished. Status 2: the input was refused. Status 5: a read failed. Status 6: a
-/// write failed. Status 7: memory ran out. All other words get the usage line and status 1, or 6 where a write failed;
-/// nothing is read then, and no memory taken.
+/// The words `run`, `run -q` and `plain` are built, which make the run of a scenario on one thread; `check`, which says
+/// whether a history is legal; and `gen N`, which writes a scenario, reads nothing and takes no memory. Status 0, 3 and 4
+/// of a run: it was made and written; nobody could move and all controllers had finished, or the history had all its
+/// entries, or nobody could move and a controller had not finished. Status 0 and 8 of `check`: all entries are legal, or
+/// one is not. Status 2: the input was refused. Status 5: a read failed. Status 6: a write failed. Status 7: memory ran
+/// out. All other words get the usage line and status 1, or 6 where a write failed; nothing is read then, and no memory
+/// taken.
 pub fn serve<R: Threads + Wait + Sync, S: Source, K: Sink, G: Gate + Sync>(
     rt: &R,
     alloc: Global,
@@ -30,7 +31,7 @@ pub fn serve<R: Threads + Wait + Sync, S: Source, K: Sink, G: Gate + Sync>(
     gate: &G,
 ) -> Outcome
     // What was read and written, the status and the history are those of the row of the command. An input that is a
-    // scenario is run, and the status says how that ended.
+    // scenario is run, and the status says how that ended; one that is a scenario and a history is judged.
     ensures ends { EndsWith (work_of (command_of (map string_bytes words.now)))
         (record { left = S.left source.old; read_faults = S.faults source.old; written = K.written sink.old; write_faults = K.faults sink.old })
         (record { left = S.left source.new; read_faults = S.faults source.new; written = K.written sink.new; write_faults = K.faults sink.new })

@@ -1,4 +1,4 @@
-use Rattle.std.proofs.Common.{◌≡◌, ◌<◌, ◌≤◌, ◌∙◌, sym, subst, arith}
+use Rattle.std.proofs.Common.{◌∙◌, sym, subst, arith}
 use Rattle.pr_api.specs.Steps.{IsCalled}
 use Rattle.pr_judge.proofs.PlayLemmas.{called-so, no-controller, not-ready}
 use Rattle.pr_model.specs.declared.calls.Call.{Call}

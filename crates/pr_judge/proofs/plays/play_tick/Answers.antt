@@ -1,4 +1,4 @@
-use Rattle.std.proofs.Common.{◌≡◌, ◌<◌, ◌≤◌, ◌==◌, ◌∙◌, ℕ, sym, ap, subst, arith}
+use Rattle.std.proofs.Common.{◌==◌, ℕ, sym, subst, arith}
 use Rattle.pr_api.specs.Entries.{tick_entry}
 use Rattle.pr_judge.specs.Judgements.{Plays}
 use Rattle.pr_judge.proofs.PlayLemmas.{clock-ended, ticked-so}

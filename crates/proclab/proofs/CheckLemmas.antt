@@ -1,0 +1,100 @@
+-- What the command `check` answers.
+use Rattle.std.proofs.Common.{◌≡◌, ◌⊎◌, inl, inr, ⊎_elim, ℕ, false, List, [], Option, Some, None, Result, Ok, Err, IfOk, IfSome, length, refl, ◌∙◌, ap}
+use Rattle.pr_judge.proofs.FirstLemmas.{first-judges, judged-first}
+use Rattle.pr_judge.specs.Judgements.{Judges, first_illegal}
+use Rattle.pr_model.specs.State.{TracedState}
+use Rattle.pr_model.specs.declared.events.Entry.{Entry}
+use Rattle.pr_num.specs.Limits.{checked_limit}
+use Rattle.pr_num.specs.declared.memory.NoMemory.{NoMemory}
+use Rattle.pr_run_laws.specs.ScenarioRuns.{first_state_of}
+use Rattle.pr_scen.specs.Scenarios.{Scenario}
+use Rattle.proclab.proofs.RunEndLemmas.{status_cases}
+use Rattle.proclab.specs.Answers.{check_of, first_illegal_of, judged, judgement_of, refused_at, refused_for}
+use Rattle.proclab.specs.Checks.{checked_of}
+use Rattle.proclab.specs.Giving.{IsGiven, RanOutLate}
+use Rattle.proclab.specs.Histories.{RanOutEarly}
+use Rattle.proclab.specs.Inputs.{taken_of}
+use Rattle.proclab.specs.Rows.{Ends, IsJudged, LeftNothing, RanOutAfter, Reads}
+use Rattle.proclab.specs.Statuses.{IsWhole}
+use Rattle.proclab.specs.declared.checks.Wrong.{Wrong}
+use Rattle.proclab.specs.declared.checks.Wrong.TheVariants as wrong
+use Rattle.proclab.specs.declared.outcomes.Status.{Status}
+use Rattle.proclab.specs.declared.outcomes.Status.TheVariants.{ReadFailed, WriteFailed, OutOfMemory}
+
+-- ---- what the kernel finds is the answer
+
+pub first-found : (r : Result (Option ℕ) NoMemory) (controllers : ℕ) (state : TracedState) (s : Scenario) (h : List Entry) → controllers ≡ length s.controllers → state ≡ first_state_of s → IfOk r (λ first. Judges controllers state h first) → IfOk r (λ first. first ≡ first_illegal_of s h)
+unfolding first_illegal_of
+first-found (Ok first) controllers state s h count start judges =
+    judged-first controllers state h first judges ∙ ap (λ (x : TracedState). first_illegal controllers x h) start ∙ ap (λ (n : ℕ). first_illegal n (first_state_of s) h) count
+first-found (Err e) controllers state s h count start judges = tt
+
+-- ---- no history is left
+
+judged-nothing : (entries : ℕ) (first : Option ℕ) → (judged entries first).history ≡ []
+unfolding judged
+judged-nothing entries None = refl
+judged-nothing entries (Some place) = refl
+
+read-nothing : (r : Result (Scenario × List Entry) Wrong) → (judgement_of r).history ≡ []
+unfolding judgement_of refused_for refused_at
+read-nothing (Err (wrong.Scenario fault)) = refl
+read-nothing (Err (wrong.History line)) = refl
+read-nothing (Ok read) = judged-nothing (length read.1) (first_illegal_of read.0 read.1)
+
+check-nothing : (input : Option (List ℕ)) → (check_of input).history ≡ []
+unfolding check_of refused_at
+check-nothing None = refl
+check-nothing (Some input) = read-nothing (checked_of input)
+
+-- Whatever the status is, there is no history.
+pub leaves-nothing : (old new : Ends) (status : Status) (h : List Entry) → Reads checked_limit check_of false old new status h → h ≡ []
+leaves-nothing old new status h r = by (status_cases status)
+  where
+    by : IsWhole status ⊎ ((status ≡ ReadFailed) ⊎ ((status ≡ WriteFailed) ⊎ (status ≡ OutOfMemory))) → h ≡ []
+    by (inl s) = let a = r.answered s in a.given.history_is ∙ check-nothing a.input
+    by (inr (inl s)) = (r.unread s).no_history
+    by (inr (inr (inl s))) = let c = r.cut s in c.cut.history_is ∙ check-nothing c.input
+    by (inr (inr (inr s))) = of_memory (r.memory s)
+      where
+        of_memory : LeftNothing old new h ⊎ RanOutAfter checked_limit check_of false old new h → h ≡ []
+        of_memory (inl nothing) = nothing.no_history
+        of_memory (inr after) =
+            ⊎_elim
+            (λ (early : RanOutEarly false after.input h old.written new.written). early.left)
+            (λ (late : RanOutLate (check_of after.input) h old.written new.written). late.history_is ∙ check-nothing after.input)
+            after.ran_out
+
+-- Memory ran out before the text was begun.
+pub lost-check : (input : Option (List ℕ)) (h : List Entry) (old new : Option (List ℕ)) → h ≡ [] → new ≡ old → RanOutEarly false input h old new
+lost-check input h old new none same = record { unwritten = same; left = none }
+
+-- whichever the input is
+pub lost-any : (a b : Option (List ℕ)) (h : List Entry) (old new : Option (List ℕ)) → RanOutEarly false a h old new → RanOutEarly false b h old new
+lost-any a b h old new early = record { unwritten = early.unwritten; left = early.left }
+
+-- ---- the judgement is given
+
+module _ (old new : Ends) (status : Status) (h : List Entry) where
+  of_read : (r : Result (Scenario × List Entry) Wrong) → (IsWhole status → IsGiven (judgement_of r) status h old.written new.written) → IfOk r (λ read. IsWhole status → IsJudged read.0 read.1 old new status h)
+  unfolding judgement_of first_illegal_of
+  of_read (Err w) given = tt
+  of_read (Ok read) given = λ whole. record {
+    first = first_illegal_of read.0 read.1;
+    judges = first-judges (length read.0.controllers) (first_state_of read.0) read.1;
+    given = given whole;
+  }
+
+  of_taken : (input : Option (List ℕ)) → (IsWhole status → IsGiven (check_of input) status h old.written new.written) → IfSome input (λ text. IfOk (checked_of text) (λ read. IsWhole status → IsJudged read.0 read.1 old new status h))
+  unfolding check_of
+  of_taken None given = tt
+  of_taken (Some text) given = of_read (checked_of text) given
+
+  of_left : (left : Option (List ℕ)) → (IsWhole status → IfSome left (λ input. IsGiven (check_of (taken_of checked_limit input)) status h old.written new.written))
+      → IfSome left (λ input. IfSome (taken_of checked_limit input) (λ text. IfOk (checked_of text) (λ read. IsWhole status → IsJudged read.0 read.1 old new status h)))
+  of_left None given = tt
+  of_left (Some input) given = of_taken (taken_of checked_limit input) given
+
+  pub judges-history : Reads checked_limit check_of false old new status h
+      → IfSome old.left (λ input. IfSome (taken_of checked_limit input) (λ text. IfOk (checked_of text) (λ read. IsWhole status → IsJudged read.0 read.1 old new status h)))
+  judges-history r = of_left old.left r.answers
