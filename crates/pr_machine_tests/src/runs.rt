@@ -1,5 +1,5 @@
 //! What no clause says: that a kernel, a world and a run come about where there is memory.
-ghost use Rattle.std.specs.Prelude.{◌≡◌, ◌<◌, length};
+ghost use Rattle.std.specs.Prelude.{◌<◌};
 
 use pr_api::{Kernel, TableKernel};
 use pr_model::{Actor, Call, File, Mode, Reply};
