@@ -1,7 +1,8 @@
 #!/usr/bin/env bash
 # What the gate costs from nothing: processor seconds of each crate for its proofs, its tests and its must-fail edits,
-# and their sums. The last commit is measured, in a copy that has no work of earlier runs, a crate after those that it
-# stands on. Words are the crates to measure, or all; those that they stand on are proved first and not measured.
+# and their sums. The last commit is measured, in a copy that has no work of its own, a crate after those that it stands
+# on. `rt check` takes over what other checkouts on this machine proved of the same files: for the whole cost no other one
+# may have proved them. Words are the crates to measure, or all; those that they stand on are proved first and not measured.
 set -eu
 top=$(cd "$(dirname "${BASH_SOURCE[0]}")/.." && pwd)
 copy=$(mktemp -d)
@@ -51,7 +52,7 @@ seconds() {
 
 prove() { (cd "crates/$1" && rt check); }
 try_tests() { (cd "crates/$1" && rt test); }
-try_edits() { rt must-fail "$1"; }
+try_edits() { rt must-fail --anew "$1"; }
 
 has_tests() { grep -q '^#\[test\]' "crates/$1"/src/*.rt; }
 

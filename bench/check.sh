@@ -1,0 +1,50 @@
+#!/usr/bin/env bash
+# Time and memory of `check` against those of the `run` whose history it judges, at 10,000 and 100,000 entries: a program
+# calls getpid in a loop, and a script reads its status again and again. `run` writes its history to a file, and `check`
+# reads the scenario and that file. Prints the seconds of both and their ratio, and the greatest memory of both.
+#
+# Words are programs to compare, as in turns.sh.
+set -eu
+. "$(dirname "${BASH_SOURCE[0]}")/measure.bash"
+programs_of "$@"
+both=$(mktemp)
+judgement=$(mktemp)
+measured=$(mktemp)
+trap 'rm -f "$input" "$output" "$both" "$judgement" "$measured"' EXIT
+
+# scenario TURNS: more turns than these, and a read of the status for every twentieth
+scenario() {
+  printf 'turns %s\nprogram p\nagain:\nsys getpid\nset r1, 1\njnz r1, again\nend\nspawn p\nscript\nopen a 1 status r\n' "$1"
+  yes 'read a 0 368' | head -n $(($1 / 20))
+  echo end
+}
+
+# used STATUS PROGRAM WORD IN OUT: the seconds and the KiB of a run, which is to end so
+used() {
+  local status=0
+  /usr/bin/time -f '%e %M' -o "$measured" "$2" "$3" <"$4" >"$5" || status=$?
+  [ "$status" = "$1" ] || { echo "status $status of $2 $3" >&2; return 1; }
+  tail -n 1 "$measured"
+}
+
+# least LINE LINE: the one with less seconds; the first may be empty
+least() { printf '%s\n' "$@" | grep . | sort -n | head -n 1; }
+
+for turns in 10000 100000; do
+  scenario "$turns" >"$input"
+  declare -A run=() check=()
+  for ((try = 0; try < tries; try++)); do
+    for program in "${programs[@]}"; do
+      run[$program]=$(least "${run[$program]-}" "$(used 3 "$program" run "$input" "$output")")
+      { cat "$input"; echo %history; cat "$output"; } >"$both"
+      check[$program]=$(least "${check[$program]-}" "$(used 0 "$program" check "$both" "$judgement")")
+      [ "$(cat "$judgement")" = "legal $turns" ] || { echo "not legal" >&2; exit 1; }
+    done
+  done
+  for program in "${programs[@]}"; do
+    awk -v n="$turns" -v r="${run[$program]}" -v c="${check[$program]}" -v p="$program" 'BEGIN {
+      split(r, ran, " "); split(c, judged, " ")
+      printf "%d entries: run %s s, %d KiB; check %s s, %d KiB; ratio %.2f  %s\n", n, ran[1], ran[2], judged[1], judged[2], (ran[1] > 0 ? judged[1] / ran[1] : 0), p
+    }'
+  done
+done

@@ -1,0 +1,59 @@
+# Sourced by the measures beside it; it does nothing by itself. A measure sets `programs` by `programs_of`, and may set
+# `words`, with which a program is run, and `ends`, the statuses that a run may end with. It has a function `scenario SIZE`,
+# which writes the input of a size.
+
+words=(run -q)
+ends=(0)
+tries=3
+input=$(mktemp)
+output=$(mktemp)
+trap 'rm -f "$input" "$output"' EXIT
+
+# programs_of WORD..: the programs to time, or without words the proved program of this state
+programs_of() {
+  local program
+  programs=("$@")
+  [ "$#" -gt 0 ] || programs=("$(cd "$(dirname "${BASH_SOURCE[0]}")/.." && pwd)/crates/proclab/out/proclab")
+  for program in "${programs[@]}"; do
+    [ -x "$program" ] || { echo "no program $program: run ./proclab once" >&2; return 1; }
+  done
+}
+
+# timed PROGRAM: the seconds that a run takes for the input; what it writes goes to the output
+timed() {
+  local start end status=0
+  start=$(date +%s.%N)
+  "$1" "${words[@]}" <"$input" >"$output" || status=$?
+  end=$(date +%s.%N)
+  [[ " ${ends[*]} " = *" $status "* ]] || { echo "status $status of $1" >&2; return 1; }
+  awk -v a="$start" -v b="$end" 'BEGIN { printf "%.4f", b - a }'
+}
+
+# least_times: the least time of some runs of each program for the input, in `least`; the programs take turns
+least_times() {
+  local try program
+  declare -gA least=()
+  for ((try = 0; try < tries; try++)); do
+    for program in "${programs[@]}"; do
+      least[$program]=$(printf '%s\n' ${least[$program]-} "$(timed "$program")" | sort -n | head -n 1)
+    done
+  done
+}
+
+# measure UNIT SIZE..: times each program at each size. Beside the ratio of its time to that at the first size stands the
+# ratio of the sizes; where time is linear the first is not above the second.
+measure() {
+  local unit=$1 size program
+  local -A first=()
+  shift
+  local smallest=$1
+  for size in "$@"; do
+    scenario "$size" >"$input"
+    least_times
+    for program in "${programs[@]}"; do
+      : "${first[$program]:=${least[$program]}}"
+      awk -v n="$size" -v u="$unit" -v m="$smallest" -v s="${least[$program]}" -v f="${first[$program]}" -v p="$program" \
+        'BEGIN { printf "%d %s: %.3f s, ratio %.2f of %.2f  %s\n", n, u, s, (f > 0 ? s / f : 0), n / m, p }'
+    done
+  done
+}
