@@ -140,6 +140,10 @@ impl SigSet {
         ensures value { result ≡ least_signal self }
         ensures none { IsNone result ↔ (self ≡ 0) }
     {
+        // most sets that are asked are empty
+        if self.word == 0 {
+            return None;
+        }
         SigSet::least_of(self.word)
     }
 
