@@ -8,13 +8,13 @@ use Rattle.pr_asm.specs.declared.statements.Statement.{Statement}
 use Rattle.pr_asm.specs.Assembly.{read_added, numbered, with_lines, assembled, reads_of, program_of}
 use Rattle.pr_asm.specs.Faults.{StopsAt, IsFirstFault}
 use Rattle.pr_asm.specs.Limits.{program}
-use Rattle.pr_asm.specs.Parts.{◌>>=◌}
+use Rattle.pr_text.specs.Steps.{◌>>=◌, folded}
 use Rattle.pr_asm.specs.Placing.{place_in}
 
 module _ (place_of : List ℕ → Option Place) where
   -- the line is refused
   here : (line : ℕ) (p : Program) (read : Result Statement AsmKind) (rest : List (Result Statement AsmKind)) (fault : AsmFault) (kind : AsmKind) → read_added place_of line p read ≡ Err kind → (err : Result Program AsmFault) → err ≡ Err (record { line = line; kind = kind }) → err ≡ Err fault → StopsAt place_of line p (read ∷ rest) fault
-  unfolding with_lines
+  unfolding folded
   here line p read rest fault kind refused err is e =
       let same : fault ≡ record { line = line; kind = kind } = cc in
       record {
@@ -29,7 +29,7 @@ module _ (place_of : List ℕ → Option Place) where
 
   -- a line below it is refused
   below : (line : ℕ) (p q : Program) (read : Result Statement AsmKind) (rest : List (Result Statement AsmKind)) (fault : AsmFault) → read_added place_of line p read ≡ Ok q → StopsAt place_of (line + 1) q rest fault → StopsAt place_of line p (read ∷ rest) fault
-  unfolding with_lines
+  unfolding folded
   below line p q read rest fault added s =
       let at = s.numbered in
       record {
@@ -49,7 +49,7 @@ module _ (place_of : List ℕ → Option Place) where
       here line p read rest fault kind same (Err (record { line = line; kind = kind })) refl (ap (λ x. numbered line x >>= (λ y. with_lines place_of (line + 1) y rest)) (sym same) ∙ e)
 
   stops_at : (line : ℕ) (p : Program) (reads : List (Result Statement AsmKind)) (fault : AsmFault) → with_lines place_of line p reads ≡ Err fault → StopsAt place_of line p reads fault
-  unfolding with_lines
+  unfolding folded
   stops_at line p [] fault e = cc
   stops_at line p (read ∷ rest) fault e =
       by_line line p read rest fault (read_added place_of line p read) refl e (λ q on. stops_at (line + 1) q rest fault on)

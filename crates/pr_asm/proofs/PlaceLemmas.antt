@@ -1,11 +1,7 @@
 -- Where names are placed.
 use Rattle.std.proofs.Common.{◌≡◌, ℕ, ◌+◌, ◌≤◌, Bool, not, true, false, cond, Option, Some, None, is_some, List, ◌∷◌, length, drop, Result, Ok, Err, refl, sym, ◌∙◌, ap}
-use Rattle.std.specs.Bool.{one_answer}
 use Rattle.std.specs.Str.{bytes_eq}
-use Rattle.std.specs.Ordering.{is_eq, nat_cmp}
-use Rattle.std.specs.Cmp.Lexicographic.{slice_cmp, texts_ties}
 use Rattle.std.specs.BTreeMap.{Updates}
-use Rattle.std.proofs.lemmas.Bool.Decides.{Decides-like}
 use Rattle.std.proofs.lemmas.List.{drop_all}
 use Rattle.std.proofs.lemmas.Slice.Eq.{bytes_eq-Decides}
 use Rattle.pr_asm.specs.declared.layouts.Layout.{Layout}
@@ -13,14 +9,9 @@ use Rattle.pr_asm.specs.declared.places.Place.{Place}
 use Rattle.pr_asm.specs.declared.places.Places.{Places}
 use Rattle.pr_asm.specs.declared.refusals.AsmKind.{AsmKind}
 use Rattle.pr_asm.specs.declared.statements.Statement.{Statement}
-use Rattle.pr_asm.specs.Placing.{key_cmp, found, first_of, placed, placed_from, place_among, place_in, layout_after, nothing_above, and_then_all, SeesLine}
-
-eq_back : (a b : List ℕ) → bytes_eq a b ≡ bytes_eq b a
-eq_back a b = one_answer (bytes_eq a b) (bytes_eq b a) (bytes_eq-Decides a b) (Decides-like (bytes_eq b a) sym sym (bytes_eq-Decides b a))
-
--- a key is at another where their bytes are the same
-same_key : (a b : List ℕ) → is_eq (slice_cmp nat_cmp a b) ≡ bytes_eq b a
-same_key a b = sym (texts_ties a b) ∙ eq_back a b
+use Rattle.pr_asm.specs.Placing.{found, first_of, placed, placed_from, place_among, place_in, layout_after, nothing_above, and_then_all, SeesLine}
+use Rattle.pr_text.specs.Keys.{key_cmp}
+use Rattle.pr_text.proofs.KeyLemmas.{same_key}
 
 first_of-none : {A : Type 0} (x : Option A) → first_of x None ≡ x
 first_of-none None = refl

@@ -1,7 +1,8 @@
 -- The program that statements make, and the first line that is refused.
 use Rattle.std.specs.Prelude.{◌==◌, ◌+◌, ◌-◌, ℕ, Bool, false, Option, Some, None, List, [], ◌∷◌, ◌++◌, length, replicate, map, Result, Ok, Err, nat_lt, if◌then◌else◌}
-use Rattle.std.specs.List.{slice_split}
+use Rattle.pr_num.specs.Limits.{code_limit}
 use Rattle.pr_num.specs.Programs.{Program}
+use Rattle.pr_text.specs.TextLines.{lines_of}
 use Rattle.pr_num.specs.declared.instructions.Instruction.{Instruction}
 use Rattle.pr_num.specs.declared.instructions.Instruction.TheVariants.{Bpt, Nop, Set, Mov, Add, Sub, Mul, Div, Ld, St, Ldb, Stb, Jmp, Jz, Jnz, Jlt, Call, Ret, Sys}
 use Rattle.pr_asm.specs.declared.places.Place.{Place}
@@ -12,7 +13,7 @@ use Rattle.pr_asm.specs.declared.refusals.AsmFault.{AsmFault}
 use Rattle.pr_asm.specs.declared.refusals.AsmKind.{AsmKind}
 use Rattle.pr_asm.specs.declared.refusals.AsmKind.TheVariants.{UnknownName, Double, TooBig}
 use Rattle.pr_asm.specs.Limits.{program}
-use Rattle.pr_asm.specs.Parts.{◌>>=◌, ok_or}
+use Rattle.pr_text.specs.Steps.{◌>>=◌, ok_or, folded}
 use Rattle.pr_asm.specs.Placing.{aligned, has_room, place_in}
 use Rattle.pr_asm.specs.Statements.{statement_of}
 
@@ -79,7 +80,7 @@ data_added place_of line p name bytes zeros =
 
 unfoldable pub code_added : (List ℕ → Option Place) → Program → Instruction → Option (List ℕ) → Result Program AsmKind
 code_added place_of p i name =
-    filled place_of i name >>= λ j. if nat_lt (length p.code) 4096 then Ok (with_code p j) else Err TooBig
+    filled place_of i name >>= λ j. if nat_lt (length p.code) code_limit then Ok (with_code p j) else Err TooBig
 
 -- a program with one more statement, which stands on this line
 unfoldable pub with_statement : (List ℕ → Option Place) → ℕ → Program → Statement → Result Program AsmKind
@@ -97,15 +98,13 @@ abbrev pub numbered : {A : Type 0} → ℕ → Result A AsmKind → Result A Asm
 numbered line (Ok x) = Ok x
 numbered line (Err kind) = Err (record { line = line; kind = kind })
 
--- A program with the statements of more lines, which count from `line`, or the first of these lines that is refused.
-unfoldable pub with_lines : (List ℕ → Option Place) → ℕ → Program → List (Result Statement AsmKind) → Result Program AsmFault
-with_lines place_of line p [] = Ok p
-with_lines place_of line p (read ∷ rest) =
-    numbered line (read_added place_of line p read) >>= λ q. with_lines place_of (line + 1) q rest
+-- a program with what was read on line n, or that line
+abbrev pub read_added_at : (List ℕ → Option Place) → ℕ → Program → Result Statement AsmKind → Result Program AsmFault
+read_added_at place_of line p read = numbered line (read_added place_of line p read)
 
--- the lines of a text: a newline ends a line, and the last line may lack it
-abbrev pub lines_of : List ℕ → List (List ℕ)
-lines_of text = slice_split (λ b. b == 10) text
+-- A program with the statements of more lines, which count from `line`, or the first of these lines that is refused.
+abbrev pub with_lines : (List ℕ → Option Place) → ℕ → Program → List (Result Statement AsmKind) → Result Program AsmFault
+with_lines place_of line p reads = folded (read_added_at place_of) line p reads
 
 -- what each line of a text says on its own
 abbrev pub reads_of : List ℕ → List (Result Statement AsmKind)

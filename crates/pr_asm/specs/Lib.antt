@@ -4,7 +4,6 @@ pub mod Limits
 pub mod Mnemonics
 pub mod Names
 pub mod Operands
-pub mod Parts
 pub mod Placing
 pub mod Reading
 pub mod Spelling

@@ -6,7 +6,7 @@ use Rattle.pr_num.specs.declared.instructions.Reg.{Reg}
 use Rattle.pr_num.specs.declared.syscalls.Sysno.{Sysno}
 use Rattle.pr_text.specs.Names.{is_name}
 use Rattle.pr_text.specs.NumberWords.{number_of}
-use Rattle.pr_asm.specs.Parts.{◌>>=◌, ok_or, one, two, three}
+use Rattle.pr_text.specs.Steps.{◌>>=◌, ok_or, one, two, three}
 use Rattle.pr_asm.specs.declared.operands.Immediate.{Immediate}
 use Rattle.pr_asm.specs.declared.refusals.AsmKind.{AsmKind}
 use Rattle.pr_asm.specs.declared.refusals.AsmKind.TheVariants.{BadOperand, UnknownName}
@@ -33,21 +33,21 @@ call word = if is_name word then ok_or UnknownName (syscall_of_name word) else E
 -- operands: two registers; a register and an immediate; two registers and an immediate; an immediate; a system call
 unfoldable pub two_registers : List (List ℕ) → Result (Reg × Reg) AsmKind
 two_registers operands = do
-  words ← two operands
+  words ← two BadOperand operands
   a ← register words.0
   b ← register words.1
   Ok (a, b)
 
 unfoldable pub register_and_immediate : List (List ℕ) → Result (Reg × Immediate) AsmKind
 register_and_immediate operands = do
-  words ← two operands
+  words ← two BadOperand operands
   a ← register words.0
   b ← immediate words.1
   Ok (a, b)
 
 unfoldable pub registers_and_immediate : List (List ℕ) → Result (Reg × Reg × Immediate) AsmKind
 registers_and_immediate operands = do
-  words ← three operands
+  words ← three BadOperand operands
   a ← register words.0
   b ← register words.1
   c ← immediate words.2
@@ -55,10 +55,10 @@ registers_and_immediate operands = do
 
 unfoldable pub one_immediate : List (List ℕ) → Result Immediate AsmKind
 one_immediate operands = do
-  word ← one operands
+  word ← one BadOperand operands
   immediate word
 
 unfoldable pub one_call : List (List ℕ) → Result Sysno AsmKind
 one_call operands = do
-  word ← one operands
+  word ← one BadOperand operands
   call word

@@ -1,12 +1,10 @@
 -- Where the names of a program stand.
 use Rattle.std.specs.Prelude.{◌≡◌, ◌+◌, ◌*◌, ◌/◌, ℕ, Bool, true, Option, Some, None, List, [], ◌∷◌, length, Result, Ok, Err, nat_le, nat_lt, if◌then◌else◌}
 use Rattle.std.specs.Str.{bytes_eq}
-use Rattle.std.specs.Ordering.{nat_cmp}
-use Rattle.std.specs.declared.cmp.Ordering.{Ordering}
-use Rattle.std.specs.Cmp.Lexicographic.{slice_cmp}
 use Rattle.std.specs.Map.{lookup}
 use Rattle.std.specs.BTreeMap.{get}
-use Rattle.pr_text.specs.declared.keys.Key.{Key}
+use Rattle.pr_num.specs.Limits.{code_limit, data_limit}
+use Rattle.pr_text.specs.Keys.{key_cmp}
 use Rattle.pr_asm.specs.declared.places.Place.{Place}
 use Rattle.pr_asm.specs.declared.places.Places.{Places}
 use Rattle.pr_asm.specs.declared.layouts.Layout.{Layout}
@@ -20,14 +18,14 @@ aligned n = (n + 7) / 8 * 8
 
 -- whether so many bytes and zeros stay within 65,536 bytes of data, after so many
 abbrev pub has_room : ℕ → ℕ → ℕ → Bool
-has_room above len zeros = nat_le (aligned above + len + zeros) 65536
+has_room above len zeros = nat_le (aligned above + len + zeros) data_limit
 
 -- whether a statement stays within 4,096 instructions and 65,536 bytes of data, below what stands above it
 unfoldable pub fits : Layout → Statement → Bool
 fits above Blank = true
 fits above (Label name) = true
 fits above (Data name bytes zeros) = has_room above.bytes (length bytes) zeros
-fits above (Code i name) = nat_lt above.code 4096
+fits above (Code i name) = nat_lt above.code code_limit
 
 -- what stands above the next line
 unfoldable pub grown : Layout → Statement → Layout
@@ -70,10 +68,6 @@ nothing_above = record { code = 0; bytes = 0 }
 -- where each name of a program is placed, by what its lines say
 unfoldable pub place_in : ℕ → List (Result Statement AsmKind) → List ℕ → Option Place
 place_in first reads name = place_among (placed_from nothing_above first reads) name
-
--- names in the order of their bytes
-abbrev pub key_cmp : Key → Key → Ordering
-key_cmp a b = slice_cmp nat_cmp a.name b.name
 
 -- where a table of places has a name
 unfoldable pub found : Places → List ℕ → Option Place

@@ -1,7 +1,8 @@
 -- How the statements of a program are spelled, one on a line.
-use Rattle.std.specs.Prelude.{◌≡◌, ◌==◌, ◌+◌, ◌≤◌, ◌<◌, ◌^◌, ℕ, true, Option, Some, None, List, [], ◌∷◌, ◌++◌, codes, decimal, map, if◌then◌else◌}
-use Rattle.std.specs.List.{flat_map, join_with_byte}
+use Rattle.std.specs.Prelude.{◌≡◌, ◌+◌, ◌≤◌, ◌<◌, ◌^◌, ℕ, true, Option, Some, None, List, [], ◌∷◌, ◌++◌, codes, decimal, map}
+use Rattle.std.specs.List.{join_with_byte}
 use Rattle.pr_num.specs.Instructions.{register_number}
+use Rattle.pr_num.specs.Limits.{data_limit}
 use Rattle.pr_num.specs.Syscalls.{syscall_name}
 use Rattle.pr_num.specs.declared.instructions.Instruction.{Instruction}
 use Rattle.pr_num.specs.declared.instructions.Instruction.TheVariants.{Bpt, Nop, Set, Mov, Add, Sub, Mul, Div, Ld, St, Ldb, Stb, Jmp, Jz, Jnz, Jlt, Call, Ret, Sys}
@@ -9,6 +10,9 @@ use Rattle.pr_num.specs.declared.instructions.Reg.{Reg}
 use Rattle.pr_asm.specs.declared.statements.Statement.{Statement}
 use Rattle.pr_asm.specs.declared.statements.Statement.TheVariants.{Blank, Label, Data, Code}
 use Rattle.pr_text.specs.Names.{is_name}
+use Rattle.pr_text.specs.QuotedWords.{quoted}
+use Rattle.pr_text.specs.SpacedWords.{spaced}
+use Rattle.pr_text.specs.TextLines.{newline}
 
 -- a register is r and its digit
 abbrev pub register_text : Reg → List ℕ
@@ -41,18 +45,6 @@ code_words (Call i) name = codes "call" ∷ immediate_text name i ∷ []
 code_words Ret name = codes "ret" ∷ []
 code_words (Sys call) name = codes "sys" ∷ syscall_name call ∷ []
 
--- A byte between quotes: a newline, a quote and a backslash as \x and two hex digits, any other byte as it is.
-unfoldable pub escaped : ℕ → List ℕ
-escaped b =
-    if b == 10 then codes "\\x0a"
-    else (if b == 34 then codes "\\x22"
-    else (if b == 92 then codes "\\x5c"
-    else b ∷ []))
-
--- a text in quotes
-abbrev pub quoted : List ℕ → List ℕ
-quoted bytes = 34 ∷ flat_map escaped bytes ++ 34 ∷ []
-
 -- the words of a statement
 unfoldable pub statement_words : Statement → List (List ℕ)
 statement_words Blank = []
@@ -61,11 +53,7 @@ statement_words (Data name [] zeros) = codes "space" ∷ name ∷ decimal zeros 
 statement_words (Data name (b ∷ bs) zeros) = codes "text" ∷ name ∷ quoted (b ∷ bs) ∷ []
 statement_words (Code i name) = code_words i name
 
--- words on a line, each with a blank before it
-unfoldable pub spaced : List (List ℕ) → List ℕ
-spaced [] = []
-spaced (w ∷ ws) = 32 ∷ w ++ spaced ws
-
+-- the line of a statement
 abbrev pub spelled : Statement → List ℕ
 spelled s = spaced (statement_words s)
 
@@ -99,10 +87,10 @@ IsCode (Sys call) name = name ≡ None
 unfoldable pub IsStatement : Statement → Type 0
 IsStatement Blank = Unit {0}
 IsStatement (Label name) = is_name name ≡ true
-IsStatement (Data name [] zeros) = (is_name name ≡ true) × (1 ≤ zeros) × (zeros ≤ 65536)
+IsStatement (Data name [] zeros) = (is_name name ≡ true) × (1 ≤ zeros) × (zeros ≤ data_limit)
 IsStatement (Data name (b ∷ bs) zeros) = (is_name name ≡ true) × (zeros ≡ 1)
 IsStatement (Code i name) = IsCode i name
 
 -- the text of statements, one on a line
 abbrev pub text_of_statements : List Statement → List ℕ
-text_of_statements ss = join_with_byte 10 (map spelled ss)
+text_of_statements ss = join_with_byte newline (map spelled ss)

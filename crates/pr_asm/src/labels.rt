@@ -1,6 +1,7 @@
 ghost use Rattle.std.specs.Prelude.{◌≡◌, ◌≤◌};
 ghost use Rattle.pr_asm.specs.Symbols.{label_address};
 
+use crate::layouts::TEXT;
 use pr_num::Name;
 use std::marker::Model;
 
@@ -46,6 +47,6 @@ impl Label {
         requires { self.now.place ≤ 4096 }
         ensures { result ≡ label_address self.now }
     {
-        0x10000 + 16 * self.place as u64
+        TEXT + 16 * self.place as u64
     }
 }

@@ -8,7 +8,7 @@ use crate::statements::Statement;
 use pr_num::Name;
 
 /// Where the text of a process begins.
-const TEXT: u64 = 0x10000;
+pub const TEXT: u64 = 0x10000;
 
 /// Where its data begins.
 const DATA: u64 = 0x80000;

@@ -14,6 +14,7 @@ use crate::layouts::{Layout, aligned};
 use crate::places::Places;
 use crate::statements::Statement;
 use crate::{AsmKind, AsmRefusal, Label};
+use pr_num::limits::{CODE_LIMIT, DATA_LIMIT};
 use pr_num::{Instruction, Name, NoMemory};
 use pr_text::Refused;
 use std::alloc::Global;
@@ -42,10 +43,10 @@ impl Model for Program {
 
 impl Program {
     /// The most instructions of a program.
-    pub const MAX_CODE: usize = 4096;
+    pub const MAX_CODE: usize = CODE_LIMIT;
 
     /// The most bytes of data of a program.
-    pub const MAX_DATA: usize = 65_536;
+    pub const MAX_DATA: usize = DATA_LIMIT;
 
     /// The program of these parts. Takes no memory.
     pub fn new(name: Name, code: Vec<Instruction>, bytes: Vec<u8>, labels: Vec<Label>) -> Program

@@ -1,6 +1,6 @@
 //! Programs as text.
 ghost use Rattle.std.specs.Prelude.{◌≡◌, ◌+◌, ◌<◌, ◌≤◌, ◌^◌, length, map, IfOk};
-ghost use Rattle.pr_asm.specs.Assembly.{assembled, lines_of, program_in, program_of};
+ghost use Rattle.pr_asm.specs.Assembly.{assembled, program_in, program_of};
 ghost use Rattle.pr_asm.specs.Reading.{Answers};
 ghost use Rattle.pr_asm.specs.Statements.{statement_of};
 
@@ -8,8 +8,8 @@ use crate::places::Places;
 use crate::statements::{Statement, statement_of};
 use crate::{AsmKind, AsmRefusal, Program};
 use pr_num::{Name, NoMemory};
-use pr_text::Refused;
-use std::alloc::{AllocError, Global};
+use pr_text::{Refused, split_lines};
+use std::alloc::Global;
 
 /// What a line says on its own, or the kind for which it is refused.
 fn read_line(alloc: Global, line: &[u8]) -> Result<Result<Statement, AsmKind>, NoMemory>
@@ -20,13 +20,6 @@ fn read_line(alloc: Global, line: &[u8]) -> Result<Result<Statement, AsmKind>, N
         Err(Refused::Kind(kind)) => Ok(Err(kind)),
         Err(Refused::NoMemory(error)) => Err(error),
     }
-}
-
-/// The lines of a text: a newline ends a line, and the last line may lack it.
-fn lines_of(alloc: Global, text: &[u8]) -> Result<Vec<&[u8]>, AllocError>
-    ensures { IfOk result (λ lines. map (λ line. line.now) lines.items ≡ lines_of text.now) }
-{
-    text.split(|b| *b == b'\n').collect(alloc)
 }
 
 /// What each of these lines says on its own.
@@ -72,14 +65,6 @@ pub fn read_lines(
 {
     let reads = reads_of(alloc, lines)?;
     assemble(alloc, name, &reads, first_line)
-}
-
-/// The lines of a text, where out of memory is this repository's own.
-fn split_lines(alloc: Global, text: &[u8]) -> Result<Vec<&[u8]>, NoMemory>
-    ensures { IfOk result (λ lines. map (λ line. line.now) lines.items ≡ lines_of text.now) }
-{
-    let lines = lines_of(alloc, text)?;
-    Ok(lines)
 }
 
 /// The program of this name that a text spells, or its first line that is refused. The lines of the text count from

@@ -1,5 +1,5 @@
 //! The statements of a program, each read on its own line.
-ghost use Rattle.std.specs.Prelude.{◌≡◌, ◌==◌, Some, None, slice_index};
+ghost use Rattle.std.specs.Prelude.{◌≡◌, Some, None};
 ghost use Rattle.pr_text.specs.Reads.{Gives};
 ghost use Rattle.pr_asm.specs.Statements.{code_of, text_of, space_of, statement_with, statement_of};
 
@@ -7,8 +7,9 @@ use crate::mnemonics::Mnemonic;
 use crate::names::label_of;
 use crate::operands::{one_call, two_registers};
 use crate::{AsmKind, immediate_forms};
+use pr_num::limits::DATA_LIMIT;
 use pr_num::{Bytes, Instruction, Name};
-use pr_text::{Refused, Tokens, name_of, none, number_of, quoted_bytes, two};
+use pr_text::{Refused, Tokens, begins_comment, name_of, none, number_of, quoted_bytes, two};
 use std::alloc::Global;
 
 /// What a line of a program says.
@@ -108,7 +109,7 @@ fn space_of(alloc: Global, operands: Tokens) -> Result<Statement, AsmKind>
     let (name, size) = two(operands, AsmKind::BadOperand)?;
     let name = name_of(name).ok_or(AsmKind::BadOperand)?;
     let zeros = number_of(size).ok_or(AsmKind::BadOperand)?;
-    if zeros == 0 || zeros > 65_536 {
+    if zeros == 0 || zeros > DATA_LIMIT as u64 {
         return Err(AsmKind::BadOperand);
     }
     Ok(Statement::Data {
@@ -137,15 +138,6 @@ fn statement_with(
     Ok(code_of(mnemonic, operands)?)
 }
 
-fn is_comment(first: &[u8]) -> bool
-    ensures { result ≡ (slice_index first.now 0 == 35) }
-{
-    match first.first() {
-        Some(b) => *b == b'#',
-        None => false,
-    }
-}
-
 /// What a line says on its own.
 #[tactic(auto, unfolding(crate::specs::Statements::statement_of, crate::specs::Statements::statement_in, crate::specs::Statements::label_or))]
 pub fn statement_of(alloc: Global, line: &[u8]) -> Result<Statement, Refused<AsmKind>>
@@ -155,7 +147,7 @@ pub fn statement_of(alloc: Global, line: &[u8]) -> Result<Statement, Refused<Asm
     let Some(first) = words.next() else {
         return Ok(Statement::Blank);
     };
-    if is_comment(first) {
+    if begins_comment(first) {
         return Ok(Statement::Blank);
     }
     if let Some(name) = label_of(first) {

@@ -50,7 +50,7 @@ abbrev pub each_of : ℕ → (ℕ → ℕ) → List ℕ
 each_of zero f = []
 each_of (suc n) f = f 0 ∷ each_of n (λ k. f (suc k))
 
-each_of-elements : (xs : List ℕ) (f : ℕ → ℕ) → ((k : ℕ) → k < length xs → f k ≡ get_or xs k 0) → each_of (length xs) f ≡ xs
+pub each_of-elements : (xs : List ℕ) (f : ℕ → ℕ) → ((k : ℕ) → k < length xs → f k ≡ get_or xs k 0) → each_of (length xs) f ≡ xs
 each_of-elements [] f each = refl
 each_of-elements (x ∷ xs) f each =
     let here : f 0 ≡ x = each 0 (omega arith) in

@@ -1,19 +1,15 @@
-use Rattle.std.specs.Prelude.{◌==◌, ◌+◌, ℕ, List, [], ◌∷◌, ◌++◌, Option, Some, None, min, nat_lt, slice_index, if◌then◌else◌}
+use Rattle.std.specs.Prelude.{ℕ, List, [], ◌∷◌, ◌++◌, Option, Some, None}
 use Rattle.pr_num.specs.Infos.{no_info}
-use Rattle.pr_num.specs.Syscalls.{syscall_args}
 use Rattle.pr_num.specs.declared.faults.Flt.{Flt}
 use Rattle.pr_num.specs.declared.infos.Info.{Info}
 use Rattle.pr_num.specs.declared.signals.Sig.{Sig}
-use Rattle.pr_num.specs.declared.syscalls.ArgKind.{ArgKind}
-use Rattle.pr_num.specs.declared.syscalls.ArgKind.TheVariants.{Dec, Hex, Text, Buf}
 use Rattle.pr_num.specs.declared.syscalls.Sysno.{Sysno}
-use Rattle.pr_num.specs.declared.syscalls.Sysno.TheVariants.{Read}
 use Rattle.pr_num.specs.Spaces.{Space}
-use Rattle.pr_num.specs.Limits.{transfer_limit}
 use Rattle.pr_model.specs.Legal.{after}
 use Rattle.pr_model.specs.Readers.{space_seen}
 use Rattle.pr_model.specs.Reads.{mapped_from}
 use Rattle.pr_model.specs.Registers.{arguments, pc_of}
+use Rattle.pr_model.specs.ShownBytes.{shown_range}
 use Rattle.pr_model.specs.Signals.{disposition_of}
 use Rattle.pr_model.specs.State.{TracedState, TracedProcess, TracedLwp, live_process, lwp_of}
 use Rattle.pr_model.specs.Statuses.{arguments_in, info_in}
@@ -47,32 +43,15 @@ pub record Logged : Type 0 where
 
 -- ---- the text of an event
 
--- how many bytes are read for a text: one more than is shown
-abbrev pub text_length : ℕ
-text_length = 65
-
--- which bytes of memory an event shows: from an address on, so many
-abbrev pub bytes_shown : ℕ → ℕ → Option (ℕ × ℕ)
-bytes_shown address size = if size == 0 then None else Some (address, min size text_length)
-
--- A buffer is shown with as many bytes as were read into it, and as were to be written from it.
-abbrev pub buffer_shown : Sysno → List ℕ → Res → ℕ → Option (ℕ × ℕ)
-buffer_shown Read args (Value n) address = bytes_shown address n
-buffer_shown Read args result address = None
-buffer_shown call args result address =
-    if nat_lt transfer_limit (slice_index args 2) then None else bytes_shown address (slice_index args 2)
-
--- the first argument that is a text or a buffer, of those from a place on
-abbrev pub argument_shown : Sysno → List ℕ → Res → List ArgKind → ℕ → Option (ℕ × ℕ)
-argument_shown call args result [] place = None
-argument_shown call args result (Dec ∷ kinds) place = argument_shown call args result kinds (place + 1)
-argument_shown call args result (Hex ∷ kinds) place = argument_shown call args result kinds (place + 1)
-argument_shown call args result (Text ∷ kinds) place = Some (slice_index args place, text_length)
-argument_shown call args result (Buf ∷ kinds) place = buffer_shown call args result (slice_index args place)
+-- what a call gave, none where it failed
+abbrev pub value_of : Res → Option ℕ
+value_of (Value v) = Some v
+value_of (Error e) = None
+value_of Ended = None
 
 -- which bytes of memory the line of an event asks for; only the exit of a call has any
 unfoldable pub text_asked : Event → Option (ℕ × ℕ)
-text_asked (exit call args result) = argument_shown call args result (syscall_args call) 0
+text_asked (exit call args result) = shown_range call args (value_of result)
 text_asked _ = None
 
 -- those bytes, up to the first that is not mapped

@@ -5,6 +5,7 @@ pub mod ControlMessages
 pub mod Erasure
 pub mod Events
 pub mod FileCallRows
+pub mod FileNames
 pub mod FirstState
 pub mod Generation
 pub mod Handles
@@ -27,14 +28,17 @@ pub mod Readers
 pub mod Reads
 pub mod Records
 pub mod Registers
+pub mod Replies
 pub mod Rows
 pub mod Running
+pub mod ShownBytes
 pub mod SignalCalls
 pub mod Signals
 pub mod Spawning
 pub mod State
 pub mod Statuses
 pub mod Stops
+pub mod ToolNames
 pub mod Transitions
 pub mod UntracedMachine
 pub mod UntracedSteps

@@ -1,4 +1,5 @@
 ghost use Rattle.std.specs.Prelude.{◌≡◌, IfOk};
+ghost use Rattle.pr_model.specs.Handles.{is_writable};
 
 use pr_num::{Bytes, Errno, Handles, Name, NoMemory};
 use std::alloc::Global;
@@ -41,6 +42,18 @@ pub enum Mode {
     Write,
     /// For writing, while nobody else has the process open for writing.
     WriteExcl,
+}
+
+impl Mode {
+    /// Whether a file that is opened so can be written.
+    pub fn is_writable(self) -> bool
+        ensures { result ≡ is_writable self }
+    {
+        match self {
+            Mode::Read => false,
+            Mode::Write | Mode::WriteExcl => true,
+        }
+    }
 }
 
 /// A call that a controller makes of the kernel.

@@ -4,12 +4,14 @@
 
 mod calls;
 mod events;
+mod file_words;
 mod frames;
 mod handles;
 mod histories;
 mod laws;
 mod lwps;
 mod processes;
+mod replies;
 mod states;
 mod steps;
 mod stops;
@@ -17,13 +19,15 @@ mod tools;
 
 pub use calls::{Call, File, Mode, Reply};
 pub use events::{Act, Actor, Did, Entry, How, Res, Turned};
+pub use file_words::{file_name, file_of_name, mode_name, mode_of_name};
 pub use frames::{Frame, Frames};
 pub use handles::Held;
 pub use histories::History;
-pub use laws::{history_grows_at_its_end, trace_is_that_of_the_steps};
+pub use laws::{file_names, history_grows_at_its_end, mode_names, trace_is_that_of_the_steps};
 pub use lwps::{Current, Lwp, LwpControl, LwpOf, PC, Phase};
 pub use processes::{Control, Process, ProcessOf, Usage};
+pub use replies::{NO_HANDLE, bytes_in, handle_in, number_of, opened_in, until_in};
 pub use states::{State, System};
 pub use steps::{Step, Steps, Trace};
 pub use stops::{Point, Shown, Stop};
-pub use tools::ToolKind;
+pub use tools::{ToolKind, process_tool_of_name, tool_name};

@@ -1,5 +1,4 @@
-ghost use Rattle.std.specs.Prelude.{◌≡◌, ◌↔◌, ◌==◌, ◌+◌, ◌*◌, ◌≤◌, ℕ, length, Some, None, Ok, IfOk, if◌then◌else◌};
-ghost use Rattle.std.specs.List.{list_all};
+ghost use Rattle.std.specs.Prelude.{◌≡◌, ◌↔◌, ◌+◌, ◌*◌, ◌≤◌, ℕ, length, Some, None, Ok, IfOk, if◌then◌else◌};
 ghost use Rattle.pr_num.specs.declared.messages.Message.{Message};
 ghost use Rattle.pr_msg.specs.Beginnings.{BeginsWith};
 ghost use Rattle.pr_num.specs.Messages.{nth_word, one_word, two_words, three_words, eleven_words, message_read, bad_operand, in_columns, tail_length, operand_count, unpadded_length, encoded_length, with_tail, first_message};
@@ -7,7 +6,7 @@ ghost use Rattle.pr_num.specs.Messages.{nth_word, one_word, two_words, three_wor
 use crate::paddings::padding;
 use pr_codec::{WORD, word};
 use pr_num::limits::{FAULT_COUNT, MESSAGE_BYTES_LIMIT, SIGNAL_COUNT, SYSCALL_COUNT, WAIT_LIMIT};
-use pr_num::{Message, MsgFault, Sig};
+use pr_num::{Message, MsgFault, Sig, are_zeros};
 
 /// The greatest number of a signal.
 const LAST_SIGNAL: u64 = SIGNAL_COUNT as u64;
@@ -260,12 +259,6 @@ fn first_message(bytes: &[u8]) -> Result<(Message, usize), MsgFault>
     let message = message_read(nth_word(bytes, 0), bytes)?;
     let message = in_columns(message)?;
     with_tail(bytes, message)
-}
-
-fn are_zeros(bytes: &[u8]) -> bool
-    ensures { result ≡ list_all (λ b. b == 0) bytes.now }
-{
-    bytes.iter().all(|byte| *byte == 0)
 }
 
 #[tactic(auto, unfolding(pr_num::specs::Messages::with_tail, pr_num::specs::Messages::encoded_length, pr_num::specs::Messages::unpadded_length))]

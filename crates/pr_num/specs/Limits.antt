@@ -43,9 +43,21 @@ line_limit = 4096
 abbrev pub checked_limit : ℕ
 checked_limit = 268435456
 
--- lines of a scenario that list the handles of a controller
+-- `list` lines of all scripts
 abbrev pub list_line_limit : ℕ
 list_line_limit = 4096
+
+-- programs of a scenario
+abbrev pub program_limit : ℕ
+program_limit = 256
+
+-- processes that are made before the first turn: all that there can be but process 0
+abbrev pub spawn_limit : ℕ
+spawn_limit = 4095
+
+-- turns of all schedule lines
+abbrev pub schedule_limit : ℕ
+schedule_limit = 100000
 
 -- ---- processes
 

@@ -1,4 +1,5 @@
-ghost use Rattle.std.specs.Prelude.{◌≡◌, ℕ, List, IfOk};
+ghost use Rattle.std.specs.Prelude.{◌≡◌, ◌==◌, ℕ, List, IfOk};
+ghost use Rattle.std.specs.List.{list_all};
 
 use crate::NoMemory;
 use std::alloc::Global;
@@ -85,4 +86,11 @@ impl Handles {
     {
         &self.items
     }
+}
+
+/// Whether all these bytes are 0.
+pub fn are_zeros(bytes: &[u8]) -> bool
+    ensures { result ≡ list_all (λ b. b == 0) bytes.now }
+{
+    bytes.iter().all(|byte| *byte == 0)
 }

@@ -1,8 +1,8 @@
-ghost use Rattle.std.specs.Prelude.{◌≡◌, ◌==◌};
-ghost use Rattle.std.specs.List.{list_all};
+ghost use Rattle.std.specs.Prelude.{◌≡◌};
 ghost use Rattle.pr_num.specs.Instructions.{register_number, register_of, fields, fields_of, immediate_alone, one_register, two_registers, registers_alone, with_no_field, instruction_bytes, instruction_with, instruction_in};
 
 use crate::Sysno;
+use crate::bytes::are_zeros;
 
 /// A general register of the machine.
 #[derive(Clone, Copy, Debug, PartialEq, Eq)]
@@ -126,13 +126,6 @@ impl Instruction {
         }
         .instruction()
     }
-}
-
-/// Whether all these bytes are 0.
-fn are_zeros(bytes: &[u8]) -> bool
-    ensures { result ≡ list_all (λ b. b == 0) bytes.now }
-{
-    bytes.iter().all(|byte| *byte == 0)
 }
 
 /// The fields of an instruction's bytes.

@@ -32,7 +32,7 @@ mod watch_flags;
 pub const AGENT: u32 = 65_535;
 
 pub use by_id::ById;
-pub use bytes::{Bytes, Handles};
+pub use bytes::{Bytes, Handles, are_zeros};
 pub use call_sets::SysSet;
 pub use errnos::Errno;
 pub use fault_sets::FltSet;
@@ -47,7 +47,7 @@ pub use memory::NoMemory;
 pub use messages::{Message, MsgFault};
 pub use modes::Modes;
 pub use names::Name;
-pub use protections::Prot;
+pub use protections::{PROT_EXEC, PROT_READ, PROT_WRITE, Prot};
 pub use signal_sets::SigSet;
 pub use signals::{DefAct, Sig};
 pub use stop_reasons::StopReason;

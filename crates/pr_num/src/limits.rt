@@ -1,7 +1,7 @@
 //! How much there can be of each thing. A number that limits is written here, and nowhere else in the code.
 
 ghost use Rattle.std.specs.Prelude.{◌≡◌, [], ◌∷◌};
-ghost use Rattle.pr_num.specs.Limits.{signal_count, standard_signal_count, fault_count, syscall_count, turn_limit, default_turns, controller_limit, worker_limit, scenario_limit, line_limit, checked_limit, list_line_limit, process_limit, lwp_limit, last_lwp, register_count, frame_limit, queue_limit, descriptor_limit, mapping_limit, all_mappings_limit, area_limit, code_limit, data_limit, file_limit, pipe_limit, file_size_limit, pipe_size_limit, name_limit, path_limit, transfer_limit, handle_limit, read_limit, message_bytes_limit, sleep_limit, wait_limit};
+ghost use Rattle.pr_num.specs.Limits.{signal_count, standard_signal_count, fault_count, syscall_count, turn_limit, default_turns, controller_limit, worker_limit, scenario_limit, line_limit, checked_limit, list_line_limit, program_limit, spawn_limit, schedule_limit, process_limit, lwp_limit, last_lwp, register_count, frame_limit, queue_limit, descriptor_limit, mapping_limit, all_mappings_limit, area_limit, code_limit, data_limit, file_limit, pipe_limit, file_size_limit, pipe_size_limit, name_limit, path_limit, transfer_limit, handle_limit, read_limit, message_bytes_limit, sleep_limit, wait_limit};
 
 /// Signals, whose numbers count from 1 to this one.
 pub const SIGNAL_COUNT: usize = 39;
@@ -26,8 +26,14 @@ pub const SCENARIO_LIMIT: usize = 1_048_576;
 pub const LINE_LIMIT: usize = 4_096;
 /// Bytes of all that is given to a check of a history.
 pub const CHECKED_LIMIT: usize = 268_435_456;
-/// Lines of a scenario that list the handles of a controller.
-pub const LIST_LINE_LIMIT: usize = 4_096;
+/// `list` lines of all scripts.
+pub const LIST_LINE_LIMIT: u32 = 4_096;
+/// Programs of a scenario.
+pub const PROGRAM_LIMIT: usize = 256;
+/// Processes that are made before the first turn: all that there can be but process 0.
+pub const SPAWN_LIMIT: usize = 4_095;
+/// Turns of all schedule lines.
+pub const SCHEDULE_LIMIT: usize = 100_000;
 
 /// Processes ever made, process 0 included.
 pub const PROCESS_LIMIT: usize = 4_096;
@@ -95,8 +101,8 @@ pub fn sizes_of_tables() -> [usize; 4]
 }
 
 /// The limits of a run.
-pub fn limits_of_runs() -> [u64; 8]
-    ensures { result ≡ turn_limit ∷ default_turns ∷ controller_limit ∷ worker_limit ∷ scenario_limit ∷ line_limit ∷ checked_limit ∷ list_line_limit ∷ [] }
+pub fn limits_of_runs() -> [u64; 11]
+    ensures { result ≡ turn_limit ∷ default_turns ∷ controller_limit ∷ worker_limit ∷ scenario_limit ∷ line_limit ∷ checked_limit ∷ list_line_limit ∷ program_limit ∷ spawn_limit ∷ schedule_limit ∷ [] }
 {
     [
         TURN_LIMIT,
@@ -107,6 +113,9 @@ pub fn limits_of_runs() -> [u64; 8]
         LINE_LIMIT as u64,
         CHECKED_LIMIT as u64,
         LIST_LINE_LIMIT as u64,
+        PROGRAM_LIMIT as u64,
+        SPAWN_LIMIT as u64,
+        SCHEDULE_LIMIT as u64,
     ]
 }
 

@@ -5,6 +5,15 @@ ghost use Rattle.pr_num.specs.Control.{has_flags};
 use bitflags::{Flag, Flags, bitflag_items};
 use std::marker::Model;
 
+/// The protection that running an instruction needs, as a word (mmap(2)).
+pub const PROT_EXEC: u8 = 1;
+
+/// The protection that a store needs.
+pub const PROT_WRITE: u8 = 2;
+
+/// The protection that a load needs.
+pub const PROT_READ: u8 = 4;
+
 /// Any bits of a word, also such as are no protection: what `bitflags` works on.
 #[derive(Clone, Copy, Debug, PartialEq, Eq)]
 struct ProtBits(u64);

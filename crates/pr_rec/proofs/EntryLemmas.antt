@@ -1,8 +1,8 @@
 -- Entries of one length stand one after the other in the bytes of a record that is a list.
-use Rattle.std.proofs.Common.{◌≡◌, ◌+◌, ◌*◌, ℕ, zero, suc, List, [], ◌∷◌, ◌++◌, length, drop, map, slice_get, Some, refl, sym, ap, ◌∙◌, arith}
+use Rattle.std.proofs.Common.{◌≡◌, ◌+◌, ◌*◌, ℕ, zero, suc, List, [], ◌∷◌, ◌++◌, length, drop, map, slice_get, Some, sym, ap, ◌∙◌, arith}
 use Rattle.std.proofs.lemmas.List.{drop_at, drop-drop, length-append}
 use Rattle.std.proofs.lemmas.Option.{same_Some}
-use Rattle.pr_num.specs.Records.{Range, entries_words}
+use Rattle.pr_num.specs.Records.{entries_words}
 use Rattle.pr_num.specs.Words.{words_bytes}
 use Rattle.pr_codec.proofs.WordLemmas.{length-words_bytes}
 use Rattle.pr_rec.proofs.ReadLemmas.{words_bytes-append}

@@ -20,8 +20,7 @@ use Rattle.pr_num.specs.declared.errnos.Errno.{Errno}
 use Rattle.pr_num.specs.declared.errnos.Errno.TheVariants.{Perm}
 use Rattle.pr_num.specs.declared.stop_reasons.StopReason.{StopReason}
 use Rattle.pr_num.proofs.EntryLemmas.{signal_of_number-number, signal_number-of_number, signal_numbers-range, fault_of_number-number, fault_number-of_number, fault_numbers-range, syscall_of_number-number, syscall_number-of_number, syscall_numbers-range, errno_of_number-number, errno_number-of_number, reason_of_number-number, reason_number-of_number, reason_numbers-range}
-use Rattle.pr_num.proofs.NumberedLemmas.{IsSome-entry_at}
-use Rattle.pr_rec.specs.Fields.{number_or_zero, truth_word, disposition_number}
+use Rattle.pr_rec.specs.Fields.{number_or_zero, truth_word, disposition_number, disposition_of}
 use Rattle.pr_rec.specs.declared.lwps.Disposition.{Disposition}
 use Rattle.pr_rec.specs.declared.lwps.Disposition.TheVariants.{Default, Ignored, Caught}
 
@@ -204,4 +203,11 @@ mapping_kind-from w ok = leb-true 1 w (and_parts (leb 1 w) (leb w 5) ok).0
 pub mapping_kind-to : (w : ℕ) → a_mapping_kind w ≡ true → w ≤ 5
 mapping_kind-to w ok = leb-true w 5 (and_parts (leb 1 w) (leb w 5) ok).1
 
-pub ruleset numbers_back = (signal_back, fault_back, call_back, reason_back, errno_back)
+-- the disposition of a number is that of a word which is no handler's address
+pub disposition_of-back : (w : ℕ) → w < 3 → disposition_number (disposition_of w) ≡ w
+disposition_of-back zero small = refl
+disposition_of-back (suc zero) small = refl
+disposition_of-back (suc (suc zero)) small = refl
+disposition_of-back (suc (suc (suc w))) small = absurd (omega arith)
+
+pub ruleset numbers_back = (signal_back, fault_back, call_back, reason_back, errno_back, disposition_of-back)

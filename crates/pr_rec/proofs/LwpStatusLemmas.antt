@@ -1,5 +1,5 @@
 -- The record of an lwp's status.
-use Rattle.std.proofs.Common.{take, drop, ◌≡◌, ◌↔◌, ◌^◌, ◌<◌, ℕ, List, [], ◌∷◌, length, get_or, All, Option, Result, Ok, Err, IfOk, IfErr, refl, sym, ap, subst, ◌∙◌, arith}
+use Rattle.std.proofs.Common.{take, drop, ◌≡◌, ◌↔◌, ◌^◌, ◌<◌, ℕ, List, [], ◌∷◌, length, get_or, All, Option, Result, Ok, Err, IfOk, IfErr, sym, ap, subst, ◌∙◌, arith}
 use Rattle.std.proofs.lemmas.Bool.{lt-ltb, ltb-true}
 use Rattle.std.proofs.lemmas.List.Elements.{All-take, All-drop, All-get_or}
 use Rattle.pr_num.specs.Words.{IsByte, IsWord}
@@ -11,7 +11,7 @@ use Rattle.pr_num.specs.declared.signals.Sig.{Sig}
 use Rattle.pr_num.specs.declared.stop_reasons.StopReason.{StopReason}
 use Rattle.pr_num.specs.declared.syscalls.Sysno.{Sysno}
 use Rattle.pr_rec.proofs.FieldLemmas.{same_reason, reason_small, same_signal, signal_small, same_fault, fault_small, same_call, call_small, same_errno, an_errno-field, errno-word, same_disposition, disposition_small}
-use Rattle.pr_rec.proofs.RecordLemmas.{AreRanged, AreRanged-at, TakeWords, each_of-elements, decoded, below-word, any-word, word-any, element-word}
+use Rattle.pr_rec.proofs.RecordLemmas.{AreRanged, AreRanged-at, TakeWords, elements_of, decoded, below-word, any-word, word-any, element-word}
 use Rattle.pr_rec.specs.InRange.{HasArraySizes, HasLwpStatusFields, IsInfo, IsLwpStatus}
 use Rattle.pr_rec.specs.Reading.{BeginsWith, record_read}
 use Rattle.pr_rec.specs.RecordWords.{lwpstatus_words_of}
@@ -32,11 +32,11 @@ lwpstatus-typed l sizes flags id what held pending fit info =
       id = id;
       what = what;
       fault_address = All-get_or IsWord words 6 0 (omega arith) fit;
-      arguments = subst (All IsWord) (each_of-elements 6 l.arguments sizes.arguments) (All-take IsWord 6 (drop 8 words) (All-drop IsWord 8 words fit));
+      arguments = subst (All IsWord) (elements_of 6 l.arguments sizes.arguments) (All-take IsWord 6 (drop 8 words) (All-drop IsWord 8 words fit));
       result = All-get_or IsWord words 14 0 (omega arith) fit;
       held = held;
       pending = pending;
-      regs = subst (All IsWord) (each_of-elements 11 l.regs sizes.regs) (All-take IsWord 11 (drop 18 words) (All-drop IsWord 18 words fit));
+      regs = subst (All IsWord) (elements_of 11 l.regs sizes.regs) (All-take IsWord 11 (drop 18 words) (All-drop IsWord 18 words fit));
       info = info;
       info_value = All-get_or IsWord words 32 0 (omega arith) fit;
       sizes = sizes;
@@ -45,7 +45,7 @@ lwpstatus-typed l sizes flags id what held pending fit info =
 -- 33 words of which some are known in another way
 pub lwpstatus_elements : (ws : List ℕ) (flags why what signal fault call errno held pending disposition : ℕ) → length ws ≡ 33 → flags ≡ get_or ws 0 0 → why ≡ get_or ws 2 0 → what ≡ get_or ws 3 0 → signal ≡ get_or ws 4 0 → fault ≡ get_or ws 5 0 → call ≡ get_or ws 7 0 → errno ≡ get_or ws 15 0 → held ≡ get_or ws 16 0 → pending ≡ get_or ws 17 0 → disposition ≡ get_or ws 29 0 → flags ∷ get_or ws 1 0 ∷ why ∷ what ∷ signal ∷ fault ∷ get_or ws 6 0 ∷ call ∷ get_or ws 8 0 ∷ get_or ws 9 0 ∷ get_or ws 10 0 ∷ get_or ws 11 0 ∷ get_or ws 12 0 ∷ get_or ws 13 0 ∷ get_or ws 14 0 ∷ errno ∷ held ∷ pending ∷ get_or ws 18 0 ∷ get_or ws 19 0 ∷ get_or ws 20 0 ∷ get_or ws 21 0 ∷ get_or ws 22 0 ∷ get_or ws 23 0 ∷ get_or ws 24 0 ∷ get_or ws 25 0 ∷ get_or ws 26 0 ∷ get_or ws 27 0 ∷ get_or ws 28 0 ∷ disposition ∷ get_or ws 30 0 ∷ get_or ws 31 0 ∷ get_or ws 32 0 ∷ [] ≡ ws
 lwpstatus_elements ws flags why what signal fault call errno held pending disposition size flags_is why_is what_is signal_is fault_is call_is errno_is held_is pending_is disposition_is =
-    rw (flags_is, why_is, what_is, signal_is, fault_is, call_is, errno_is, held_is, pending_is, disposition_is) (each_of-elements 33 ws size)
+    rw (flags_is, why_is, what_is, signal_is, fault_is, call_is, errno_is, held_is, pending_is, disposition_is) (elements_of 33 ws size)
 
 pub lwpstatus_take : TakeWords lwpstatus_ranges
 lwpstatus_take = (below-word _ (omega arith), (below-word _ (omega arith), (below-word _ (omega arith), (below-word _ (omega arith), (below-word _ (omega arith), (below-word _ (omega arith), (any-word, (below-word _ (omega arith), (any-word, (any-word, (any-word, (any-word, (any-word, (any-word, (any-word, (errno-word, (below-word _ (omega arith), (below-word _ (omega arith), (any-word, (any-word, (any-word, (any-word, (any-word, (any-word, (any-word, (any-word, (any-word, (any-word, (any-word, (below-word _ (omega arith), (below-word _ (omega arith), (below-word _ (omega arith), (any-word, tt)))))))))))))))))))))))))))))))))
@@ -82,10 +82,10 @@ same_lwpstatus x y x_sizes y_sizes e =
     let fault : x.fault ≡ y.fault = same_fault x.fault y.fault (ap (λ ws. get_or ws 5 0) e) in
     let call : x.call ≡ y.call = same_call x.call y.call (ap (λ ws. get_or ws 7 0) e) in
     let arguments : x.arguments ≡ y.arguments =
-    sym (each_of-elements 6 x.arguments x_sizes.arguments) ∙ ap (λ ws. take 6 (drop 8 ws)) e ∙ each_of-elements 6 y.arguments y_sizes.arguments in
+    sym (elements_of 6 x.arguments x_sizes.arguments) ∙ ap (λ ws. take 6 (drop 8 ws)) e ∙ elements_of 6 y.arguments y_sizes.arguments in
     let errno : x.errno ≡ y.errno = same_errno x.errno y.errno (ap (λ ws. get_or ws 15 0) e) in
     let regs : x.regs ≡ y.regs =
-    sym (each_of-elements 11 x.regs x_sizes.regs) ∙ ap (λ ws. take 11 (drop 18 ws)) e ∙ each_of-elements 11 y.regs y_sizes.regs in
+    sym (elements_of 11 x.regs x_sizes.regs) ∙ ap (λ ws. take 11 (drop 18 ws)) e ∙ elements_of 11 y.regs y_sizes.regs in
     let disposition : x.disposition ≡ y.disposition = same_disposition x.disposition y.disposition (ap (λ ws. get_or ws 29 0) e) in
     let info : x.info ≡ y.info = same_info x.info y.info (ap (λ ws. get_or ws 30 0) e) (ap (λ ws. get_or ws 31 0) e) (ap (λ ws. get_or ws 32 0) e) in
     by (λ flags id why what signal fault fault_address call arguments result errno held pending regs disposition info. record { flags = flags; id = id; why = why; what = what; signal = signal; fault = fault; fault_address = fault_address; call = call; arguments = arguments; result = result; errno = errno; held = held; pending = pending; regs = regs; disposition = disposition; info = info })

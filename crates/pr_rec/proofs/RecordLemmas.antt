@@ -1,10 +1,11 @@
 -- What holds of each record: its ranges, and that its words are of one value.
 use Rattle.std.proofs.Common.{◌≡◌, ◌↔◌, ◌+◌, ◌*◌, ◌^◌, ◌≤◌, ℕ, zero, suc, Bool, true, false, cond, ltb, List, [], ◌∷◌, ◌++◌, length, take, drop, replicate, get_or, All, Option, None, Some, Result, Ok, Err, IfOk, IfErr, refl, sym, ap, subst, ◌∙◌, arith, ltb-false, length-drop, length-take, ⊎_elim}
 use Rattle.std.proofs.lemmas.Bool.{lt-ltb, ltb-true, cases_lt}
-use Rattle.std.proofs.lemmas.List.Elements.{All-nil, All-cons, All-head, All-tail, All-take, All-drop, All-get_or}
+use Rattle.std.proofs.lemmas.List.Elements.{All-nil, All-cons, All-take, All-drop, All-get_or}
 use Rattle.std.proofs.Math.Seq.{take-add}
 use Rattle.pr_num.specs.Words.{IsByte, IsWord, word_bytes, words_bytes, word_of}
 use Rattle.pr_num.specs.Records.{Range, below, first_out_from, first_out_of_range, any_word, EncodesRecord}
+use Rattle.pr_codec.proofs.MessageLemmas.{each_of, each_of-elements}
 use Rattle.pr_codec.proofs.WordLemmas.{word_bytes-word_of, word_of-below, length-words_bytes}
 use Rattle.pr_rec.proofs.ReadLemmas.{words-front_words, front_words-take, record_read-whole}
 use Rattle.pr_rec.specs.Fields.{front_words}
@@ -45,16 +46,10 @@ same_Ok xs ys e = cc
 ok-err : (xs : List ℕ) (fault : RecFault) → (let r : Result (List ℕ) RecFault = Ok xs in r ≡ Err fault) → ⊥
 ok-err xs fault e = cc
 
--- the elements of a list, up to its length
-abbrev pub each_of : ℕ → (ℕ → ℕ) → List ℕ
-each_of zero f = []
-each_of (suc n) f = f 0 ∷ each_of n (λ k. f (suc k))
-
-pub each_of-elements : (n : ℕ) (xs : List ℕ) → length xs ≡ n → each_of n (λ k. get_or xs k 0) ≡ xs
-each_of-elements zero [] size = refl
-each_of-elements zero (x ∷ xs) size = absurd (omega arith)
-each_of-elements (suc n) [] size = absurd (omega arith)
-each_of-elements (suc n) (x ∷ xs) size = ap (λ ys. x ∷ ys) (each_of-elements n xs (omega arith))
+-- the elements of a list of so many
+pub elements_of : (n : ℕ) (xs : List ℕ) → length xs ≡ n → each_of n (λ k. get_or xs k 0) ≡ xs
+elements_of n xs size =
+    ap (λ m. each_of m (λ k. get_or xs k 0)) (sym size) ∙ each_of-elements xs (λ k. get_or xs k 0) (λ k inside. refl)
 
 -- the range of a place
 abbrev pub range_at : List Range → ℕ → Range

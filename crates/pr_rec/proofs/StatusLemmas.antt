@@ -1,11 +1,12 @@
 -- The record of a process's status.
-use Rattle.std.proofs.Common.{◌≡◌, ◌↔◌, ◌^◌, ◌<◌, ℕ, List, [], ◌∷◌, ◌++◌, length, drop, get_or, All, Result, Ok, Err, IfOk, IfErr, refl, sym, ap, ◌∙◌, arith}
+use Rattle.std.proofs.Common.{◌≡◌, ◌↔◌, ◌^◌, ◌<◌, ℕ, List, [], ◌∷◌, ◌++◌, length, drop, get_or, All, Result, Ok, Err, IfOk, IfErr, sym, ap, arith}
 use Rattle.std.proofs.lemmas.Bool.{lt-ltb}
 use Rattle.std.proofs.lemmas.List.Elements.{All-get_or}
 use Rattle.pr_num.specs.Words.{IsByte, IsWord}
 use Rattle.pr_num.specs.Records.{status_ranges}
+use Rattle.pr_codec.proofs.MessageLemmas.{each_of}
 use Rattle.pr_rec.proofs.LwpStatusLemmas.{lwpstatus-ranged, lwpstatus_take, same_lwpstatus}
-use Rattle.pr_rec.proofs.RecordLemmas.{AreRanged, TakeWords, each_of, each_of-elements, decoded, below-word, any-word, word-any}
+use Rattle.pr_rec.proofs.RecordLemmas.{AreRanged, TakeWords, elements_of, decoded, below-word, any-word, word-any}
 use Rattle.pr_rec.specs.InRange.{HasArraySizes, IsLwpStatus, IsStatus}
 use Rattle.pr_rec.specs.Reading.{BeginsWith, record_read}
 use Rattle.pr_rec.specs.RecordWords.{status_words_of, own_words_of}
@@ -41,7 +42,7 @@ status-typed s flags id parent pending signals faults entries exits agent fit lw
 -- 46 words of which some, and the last 33, are known in another way
 pub status_elements : (ws : List ℕ) (flags pending signals faults entries exits : ℕ) (lwp : List ℕ) → length ws ≡ 46 → flags ≡ get_or ws 0 0 → pending ≡ get_or ws 4 0 → signals ≡ get_or ws 5 0 → faults ≡ get_or ws 6 0 → entries ≡ get_or ws 7 0 → exits ≡ get_or ws 8 0 → lwp ≡ drop 13 ws → (flags ∷ get_or ws 1 0 ∷ get_or ws 2 0 ∷ get_or ws 3 0 ∷ pending ∷ signals ∷ faults ∷ entries ∷ exits ∷ get_or ws 9 0 ∷ get_or ws 10 0 ∷ get_or ws 11 0 ∷ get_or ws 12 0 ∷ []) ++ lwp ≡ ws
 status_elements ws flags pending signals faults entries exits lwp size flags_is pending_is signals_is faults_is entries_is exits_is lwp_is =
-    let all : each_of 46 (λ k. get_or ws k 0) ≡ ws = each_of-elements 46 ws size in
+    let all : each_of 46 (λ k. get_or ws k 0) ≡ ws = elements_of 46 ws size in
     let behind : drop 13 ws ≡ drop 13 (each_of 46 (λ k. get_or ws k 0)) = ap (drop 13) (sym all) in
     rw (flags_is, pending_is, signals_is, faults_is, entries_is, exits_is, lwp_is, behind) all
 

@@ -197,15 +197,12 @@ pub(crate) fn disposition_word(disposition: Disposition) -> u64
     disposition as u64
 }
 
+#[tactic(auto, using(crate::proofs::FieldLemmas::numbers_back))]
 pub(crate) fn disposition_of(word: u64) -> Disposition
     requires { word < 3 }
     ensures { disposition_number result ≡ word }
 {
-    match word {
-        0 => Disposition::Default,
-        1 => Disposition::Ignored,
-        _ => Disposition::Caught,
-    }
+    Disposition::of(word)
 }
 
 /// The words of a name and the zeros after it.

@@ -1,4 +1,5 @@
-ghost use Rattle.std.specs.Prelude.{◌≡◌, ◌↔◌, ◌<◌, ◌^◌, Ok, Err, IfOk, IfErr, drop, length, slice_index};
+ghost use Rattle.std.specs.Prelude.{◌≡◌, ◌↔◌, ◌<◌, ◌^◌, Ok, Err, IfOk, IfErr, drop, length, map, slice_index};
+ghost use Rattle.pr_rec.specs.Columns.{range_of};
 ghost use Rattle.pr_num.specs.Records.{EncodesRecord, status_ranges};
 ghost use Rattle.pr_rec.specs.InRange.{HasArraySizes, HasLwpStatusFields, IsInfo, IsStatus};
 ghost use Rattle.pr_rec.specs.Reading.{BeginsWith, record_read};
@@ -8,7 +9,7 @@ ghost use Rattle.pr_rec.specs.declared.statuses.Status.{Status as Decoded};
 
 use crate::columns::{Column, put_two, read_record};
 use crate::fields::{calls_of, faults_of, process_flags_of, signals_of};
-use crate::{LwpStatus, ProcessFlags, RecFault};
+use crate::{LwpStatus, ProcessFlags, RecFault, lwps};
 use pr_num::{FltSet, SigSet, SysSet};
 
 /// The status of a process and of its representative lwp (proc(4), "status").
@@ -40,8 +41,8 @@ pub struct Status {
     pub lwp: LwpStatus,
 }
 
-/// What each word may hold.
-const COLUMNS: [Column; 46] = [
+/// What each word of the process itself may hold.
+const OWN_COLUMNS: [Column; 13] = [
     Column::PROCESS_FLAGS,
     Column::ID,
     Column::ID,
@@ -55,41 +56,17 @@ const COLUMNS: [Column; 46] = [
     Column::Any,
     Column::ID,
     Column::Any,
-    // The status of an lwp.
-    Column::LWP_FLAGS,
-    Column::ID,
-    Column::REASON,
-    Column::MATTER,
-    Column::SIGNAL,
-    Column::FAULT,
-    Column::Any,
-    Column::CALL,
-    Column::Any,
-    Column::Any,
-    Column::Any,
-    Column::Any,
-    Column::Any,
-    Column::Any,
-    Column::Any,
-    Column::ErrnoOrNone,
-    Column::SIGNALS,
-    Column::SIGNALS,
-    Column::Any,
-    Column::Any,
-    Column::Any,
-    Column::Any,
-    Column::Any,
-    Column::Any,
-    Column::Any,
-    Column::Any,
-    Column::Any,
-    Column::Any,
-    Column::Any,
-    Column::DISPOSITION,
-    Column::ORIGIN,
-    Column::ID,
-    Column::Any,
 ];
+
+/// What each word may hold: those of the process, and then those of its representative lwp.
+fn columns() -> [Column; 46]
+    ensures { map range_of result ≡ status_ranges }
+{
+    let mut columns = [Column::Any; 46];
+    columns[..13].copy_from_slice(&OWN_COLUMNS);
+    columns[13..].copy_from_slice(&lwps::COLUMNS);
+    columns
+}
 
 impl Status {
     /// The bytes of the record. Its fields are in their ranges, save for the information of the representative's signal,
@@ -121,7 +98,7 @@ impl Status {
         ensures sizes { IfOk result (λ s. HasArraySizes s.lwp) }
     {
         let mut words = [0; 46];
-        read_record(&COLUMNS, bytes, &mut words)?;
+        read_record(&columns(), bytes, &mut words)?;
         Ok(Status::from_words(&words))
     }
 

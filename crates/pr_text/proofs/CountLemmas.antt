@@ -1,5 +1,5 @@
 -- A line has no more words than bytes.
-use Rattle.std.proofs.Common.{◌≡◌, ℕ, ◌+◌, ◌≤◌, Bool, true, false, cond, List, [], ◌∷◌, length, arith}
+use Rattle.std.proofs.Common.{ℕ, ◌+◌, ◌≤◌, Bool, true, false, cond, List, [], ◌∷◌, length, arith}
 use Rattle.std.proofs.lemmas.List.{length-map}
 use Rattle.pr_text.specs.Words.{parts_words, is_quote, closes_quotes, words_from, plain_word, quoted_word, words_of, text_of, texts_of}
 use Rattle.pr_text.specs.declared.spans.Word.{Word}

@@ -1,8 +1,15 @@
 pub mod CountLemmas
 pub mod DigitLemmas
 pub mod DivisionLemmas
+pub mod EscapeLemmas
+pub mod HexLemmas
+pub mod KeyLemmas
+pub mod LineLemmas
+pub mod NumberLemmas
+pub mod PlainLemmas
 pub mod QuoteLemmas
 pub mod QuotedLemmas
+pub mod SpacedLemmas
 pub mod StepLemmas
 pub mod TextLemmas
 pub mod TokenLemmas

@@ -1,11 +1,17 @@
 pub mod Bytes
+pub mod Comments
 pub mod Division
+pub mod HexWords
+pub mod Keys
 pub mod Lists
+pub mod LwpWords
 pub mod Names
 pub mod NumberWords
 pub mod Numerals
 pub mod QuotedWords
 pub mod Quotes
 pub mod Reads
+pub mod SpacedWords
 pub mod Steps
+pub mod TextLines
 pub mod Words

@@ -1,5 +1,5 @@
 -- Names as they stand in a line.
-use Rattle.std.specs.Prelude.{◌==◌, ◌&&◌, ◌||◌, ◌-◌, ℕ, Bool, Option, Some, None, List, length, take, slice_index, nat_le, if◌then◌else◌}
+use Rattle.std.specs.Prelude.{◌==◌, ◌&&◌, ◌||◌, ℕ, Bool, Option, Some, None, List, length, slice_index, nat_le, if◌then◌else◌}
 use Rattle.std.specs.List.{list_all}
 
 abbrev pub is_letter : ℕ → Bool

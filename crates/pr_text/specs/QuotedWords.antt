@@ -1,5 +1,6 @@
--- Texts in quotes.
-use Rattle.std.specs.Prelude.{◌==◌, ◌&&◌, ◌+◌, ◌-◌, ◌*◌, ℕ, Option, Some, None, List, [], ◌∷◌, ◌++◌, length, take, drop, slice_index, nat_le, option_map, option_and_then, if◌then◌else◌}
+-- Texts in quotes, as the lines of programs and scenarios have them.
+use Rattle.std.specs.Prelude.{◌==◌, ◌&&◌, ◌+◌, ◌-◌, ◌*◌, ℕ, Option, Some, None, List, [], ◌∷◌, ◌++◌, length, take, drop, slice_index, nat_le, option_map, option_and_then, codes, if◌then◌else◌}
+use Rattle.std.specs.List.{flat_map}
 use Rattle.pr_text.specs.NumberWords.{digit_of}
 
 -- a byte before others, if there are others
@@ -62,3 +63,17 @@ first_byte (b ∷ bs) = if b == 92 then escaped_byte bs else (if b == 34 then No
 -- bytes before others, if there are others
 abbrev pub in_front : List ℕ → Option (List ℕ) → Option (List ℕ)
 in_front front others = option_map (λ bytes. front ++ bytes) others
+
+-- ---- how a text is spelled
+
+-- A byte between quotes: a newline, a quote and a backslash as \x and two hex digits, any other byte as it is.
+unfoldable pub escaped : ℕ → List ℕ
+escaped b =
+    if b == 10 then codes "\\x0a"
+    else (if b == 34 then codes "\\x22"
+    else (if b == 92 then codes "\\x5c"
+    else b ∷ []))
+
+-- a text in quotes
+abbrev pub quoted : List ℕ → List ℕ
+quoted bytes = 34 ∷ flat_map escaped bytes ++ 34 ∷ []

@@ -3,12 +3,10 @@ ghost use Rattle.pr_text.specs.Numerals.{hex_text, hex8_text};
 
 use crate::digits::hex_digits;
 use pr_num::NoMemory;
+use pr_num::limits::LINE_LIMIT;
 use std::alloc::Global;
 use std::marker::Model;
 use thiserror::Error;
-
-/// The longest line, in bytes.
-pub const LINE_LIMIT: usize = 4096;
 
 /// A line would pass its limit of 4,096 bytes.
 #[derive(Clone, Copy, Debug, PartialEq, Eq, Error)]
@@ -26,7 +24,7 @@ pub struct Line {
 
 impl Model for Line {
     ghost use Rattle.std.specs.Prelude.{ℕ, ◌≤◌, List, vec_len, vec_capacity};
-    ghost use Rattle.pr_text.specs.declared.lines.TheConstants.{LINE_LIMIT};
+    ghost use Rattle.pr_num.specs.declared.limits.TheConstants.{LINE_LIMIT};
 
     ghost Value = { List ℕ };
 

@@ -2,19 +2,13 @@
 ghost use Rattle.std.specs.Prelude.{◌≡◌, map, IfOk};
 ghost use Rattle.pr_text.specs.Lists.{parts_of};
 
+use crate::cuts::pieces_of;
 use pr_num::NoMemory;
-use std::alloc::{AllocError, Global};
-
-fn split_parts(alloc: Global, word: &[u8]) -> Result<Vec<&[u8]>, AllocError>
-    ensures { IfOk result (λ parts. map (λ part. part.now) parts.items ≡ parts_of word.now) }
-{
-    word.split(|b| *b == b'+').collect(alloc)
-}
+use std::alloc::Global;
 
 /// The parts of a word, which `+` joins; an empty part is a part.
 pub fn parts_of(alloc: Global, word: &[u8]) -> Result<Vec<&[u8]>, NoMemory>
     ensures { IfOk result (λ parts. map (λ part. part.now) parts.items ≡ parts_of word.now) }
 {
-    let parts = split_parts(alloc, word)?;
-    Ok(parts)
+    pieces_of(alloc, word, b'+')
 }

@@ -3,7 +3,8 @@ ghost use Rattle.std.specs.List.{flat_map};
 ghost use Rattle.pr_text.specs.Quotes.{quoted_byte, quoted_text};
 
 use crate::digits::hex_digit;
-use crate::lines::{LINE_LIMIT, Line, TooLong};
+use crate::lines::{Line, TooLong};
+use pr_num::limits::LINE_LIMIT;
 
 /// How many bytes a quoted text shows at most.
 pub const QUOTED_LIMIT: usize = 64;

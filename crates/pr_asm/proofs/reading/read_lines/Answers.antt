@@ -1,4 +1,4 @@
-use Rattle.std.proofs.Common.{arith, ap, ◌∙◌, length}
+use Rattle.std.proofs.Common.{arith, ◌∙◌}
 use Rattle.pr_asm.proofs.ReadingLemmas.{few_read}
 use Rattle.pr_asm.proofs.reading.read_lines.Goals as goal
 

@@ -1,6 +1,6 @@
-use Rattle.std.proofs.Common.{arith, ap, ◌∙◌, sym, length}
+use Rattle.std.proofs.Common.{arith, ap, length}
 use Rattle.std.proofs.lemmas.List.{length-map}
-use Rattle.pr_asm.proofs.ReadingLemmas.{few_lines}
+use Rattle.pr_text.proofs.LineLemmas.{few_lines}
 use Rattle.pr_asm.proofs.reading.read_program.Goals as goal
 
 pub read_lines-requires : goal.read_lines-requires

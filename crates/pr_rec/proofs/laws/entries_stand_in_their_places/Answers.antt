@@ -1,4 +1,4 @@
-use Rattle.std.proofs.Common.{◌≡◌, ◌+◌, ◌*◌, ℕ, List, ◌++◌, length, map, take, drop, refl, sym, ap, ◌∙◌, arith, length-append}
+use Rattle.std.proofs.Common.{◌≡◌, ◌+◌, ◌*◌, ℕ, List, ◌++◌, length, map, drop, refl, sym, ap, ◌∙◌, arith, length-append}
 use Rattle.std.proofs.lemmas.List.{drop_at, take_at, drop-drop, length-map}
 use Rattle.pr_num.specs.Records.{entries_words, lwpstatus_ranges, map_entry_ranges, watch_entry_ranges, fd_entry_ranges, list_entry_ranges}
 use Rattle.pr_num.specs.Words.{word_bytes, word_of, words_bytes}

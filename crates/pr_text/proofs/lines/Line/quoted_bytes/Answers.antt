@@ -1,7 +1,7 @@
 use Rattle.std.proofs.Common.{◌<◌, ◌+◌, arith, refl, ap, length, ℕ}
 use Rattle.std.specs.List.{flat_map}
 use Rattle.std.proofs.lemmas.List.{length-append}
-use Rattle.pr_text.specs.declared.lines.TheConstants.{LINE_LIMIT}
+use Rattle.pr_num.specs.declared.limits.TheConstants.{LINE_LIMIT}
 use Rattle.pr_text.specs.Quotes.{quoted_byte}
 use Rattle.pr_text.proofs.QuoteLemmas.{quoted_front}
 use Rattle.pr_text.proofs.lines.Line.quoted_bytes.Goals as goal

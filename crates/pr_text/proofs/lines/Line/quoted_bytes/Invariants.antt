@@ -1,6 +1,6 @@
 use Rattle.std.proofs.Common.{◌≡◌, ◌≤◌, ◌++◌, length, take}
 use Rattle.std.specs.List.{flat_map}
-use Rattle.pr_text.specs.declared.lines.TheConstants.{LINE_LIMIT}
+use Rattle.pr_num.specs.declared.limits.TheConstants.{LINE_LIMIT}
 use Rattle.pr_text.specs.Quotes.{quoted_byte}
 use Rattle.pr_text.proofs.lines.Line.quoted_bytes.Given as goal
 
