@@ -47,6 +47,7 @@ use Rattle.pr_model.specs.declared.calls.Mode.{Mode}
 use Rattle.pr_model.specs.declared.calls.Reply.{Reply}
 use Rattle.pr_model.specs.declared.calls.Reply.TheVariants.{Bytes, Done, Fail, Used}
 use Rattle.pr_model.specs.declared.handles.Held.{Held}
+use Rattle.pr_proc.proofs.ByteLemmas.{length-bytes_for}
 use Rattle.pr_api.specs.Shapes.{answers_message, has_shape, is_at_most, is_done, is_failure, is_used, longest_list}
 
 -- What the machine answers to a call has the shape of a reply to it.
@@ -57,17 +58,6 @@ either P true x y h k = h
 either P false x y h k = k
 
 -- ---- what is read of memory and of messages
-
-length-bytes_for : (need : ℕ) (space : Space) (at size : ℕ) (bytes : List ℕ) → bytes_for need space at size ≡ Ok bytes → length bytes ≡ size
-unfolding bytes_for
-length-bytes_for need space at zero bytes is = let none : [] ≡ bytes = cc in ap length (sym none)
-length-bytes_for need space at (suc n) bytes is =
-    of (byte_for need space at) (bytes_for need space ((at + 1) % 2 ^ 64) n) (λ others rest. length-bytes_for need space ((at + 1) % 2 ^ 64) n others rest) is
-  where
-    of : (b : Result ℕ BadByte) (r : Result (List ℕ) BadByte) → ((others : List ℕ) → r ≡ Ok others → length others ≡ n) → one_more b r ≡ Ok bytes → length bytes ≡ suc n
-    of (Err bad) r rest e = absurd (cc)
-    of (Ok byte) (Err bad) rest e = absurd (cc)
-    of (Ok byte) (Ok others) rest e = let whole : byte ∷ others ≡ bytes = cc in ap length (sym whole) ∙ ap suc (rest others refl)
 
 read-within : (at size : ℕ) → bad_operand (message.Read at size) ≡ None → size ≤ message_bytes_limit
 unfolding bad_operand

@@ -1,11 +1,10 @@
-use Rattle.std.proofs.Common.{◌≡◌, ℕ, Option, Some, None, true, IsTrue, IfSome, Ok, Err, [], refl}
+use Rattle.std.proofs.Common.{◌≡◌, ℕ, Option, Some, None, true, IsTrue, IfSome, Err, refl}
 use Rattle.pr_num.specs.ById.{under}
 use Rattle.pr_num.specs.Infos.{of_broken_pipe}
 use Rattle.pr_num.specs.Signals as numbers
 use Rattle.pr_num.specs.declared.signals.Sig.TheVariants.{Pipe as SigPipe}
 use Rattle.pr_num.specs.declared.errnos.Errno.{Errno}
 use Rattle.pr_parts.specs.PendingSignals.{has_room}
-use Rattle.pr_parts.specs.declared.files.FileNo.{FileNo}
 use Rattle.pr_parts.specs.declared.files.FileNo.TheVariants.{BadFd, NoFile, NoPlace, TableFull, NoSpace, NotSeekable, BadOffset, NoReader, Sleep, NoMemory}
 use Rattle.pr_model.specs.Changes.{all_changed, changed}
 use Rattle.pr_model.specs.Generation.{with_deletions}

@@ -1,9 +1,9 @@
-use Rattle.std.proofs.Common.{◌≡◌, ℕ, Option, Some, None, Result, Ok, Err, [], ◌∷◌, refl, sym}
+use Rattle.std.proofs.Common.{◌≡◌, ℕ, Ok, Err, [], ◌∷◌, refl, sym}
 use Rattle.pr_num.specs.Files.{FileTable, Descriptors}
 use Rattle.pr_num.specs.Spaces.{Space}
-use Rattle.pr_parts.specs.FileCalls.{FileEffect, closed, duplicated, sought}
+use Rattle.pr_parts.specs.FileCalls.{closed, duplicated, sought}
 use Rattle.pr_parts.specs.declared.files.FileNo.{FileNo}
-use Rattle.pr_model.specs.Changes.{gives, files_are, space_is}
+use Rattle.pr_model.specs.Changes.{gives, files_are}
 use Rattle.pr_model.specs.FileCallRows.{close_effect, dup_effect, file_effect, lseek_effect, refusal_effect}
 use Rattle.pr_call.proofs.FileKeptLemmas.{closed-keeps, duplicated-keeps, sought-keeps, kept-fds, kept-files}
 

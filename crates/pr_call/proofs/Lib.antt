@@ -11,6 +11,7 @@ pub mod MemoryLemmas
 pub mod OpenLemmas
 pub mod PathLemmas
 pub mod ProgramLemmas
+pub mod RequestLemmas
 pub mod SendingLemmas
 pub mod SignalCallLemmas
 pub mod StatLemmas

@@ -1,5 +1,5 @@
-use Rattle.std.proofs.Common.{◌≡◌, ◌≢◌, ◌≤◌, ◌<◌, ◌+◌, ◌^◌, ◌&&◌, ◌||◌, ℕ, Bool, true, false, eqb, leb, ltb, Some, None, Ok, [], ◌∷◌, length, replicate, refl, sym, ap, ◌∙◌, arith}
-use Rattle.std.proofs.lemmas.Bool.{leb-true, le-leb, and_parts, eqb-false, ltb-false}
+use Rattle.std.proofs.Common.{◌≡◌, ◌≢◌, ◌≤◌, ◌+◌, ℕ, true, false, leb, Some, None, Ok, [], ◌∷◌, length, refl, sym, ap, ◌∙◌, arith}
+use Rattle.std.proofs.lemmas.Bool.{and_parts, or_parts, eqb-false, ltb-false}
 use Rattle.std.proofs.lemmas.List.{length-replicate}
 use Rattle.std.proofs.lemmas.Option.{same_Some}
 use Rattle.pr_num.specs.ById.{put_under, under}
@@ -11,7 +11,6 @@ use Rattle.pr_num.specs.declared.mappings.MappingKind.TheVariants.{Mapped}
 use Rattle.pr_parts.proofs.SpaceLemmas.{mapped_size-with_mapping}
 use Rattle.pr_parts.specs.AddressSpaces.{gap_in, with_mapping, zeros_at}
 use Rattle.pr_mem.proofs.LawLemmas.{gap_in-least}
-use Rattle.pr_mem.specs.Answers.{map_refusal}
 use Rattle.pr_model.specs.Changes.{all_changed, fails, gives, space_is}
 use Rattle.pr_model.specs.MemoryCalls.{mmap_effect, prot_limit}
 use Rattle.pr_model.specs.Readers.{size_of, total_has_room}
@@ -22,10 +21,6 @@ use Rattle.pr_call.specs.Effects.{after_effect}
 use Rattle.pr_call.specs.Maps.{CanMap, are_bad, can_grow}
 
 -- Where mmap maps.
-
-or_false : (a b : Bool) → (a || b) ≡ false → (a ≡ false) × (b ≡ false)
-or_false false b e = (refl, e)
-or_false true b e = absurd (cc)
 
 module _ (s : TracedSystem) (p : TracedProcess) (len prot : ℕ) where
   pub mmap-bad : are_bad len prot ≡ true → fails Inval ≡ mmap_effect s p len prot
@@ -54,8 +49,8 @@ module _ (s : TracedSystem) (p : TracedProcess) (len prot : ℕ) where
     pub mmap-can : are_bad len prot ≡ false → gap_in (rounded len) p.space ≡ Some at → can_grow s p (rounded len) ≡ true → CanMap p.space len prot at
     unfolding size_of
     mmap-can good found room =
-        let parts = or_false _ _ good in
-        let others = or_false _ _ parts.1 in
+        let parts = or_parts _ _ good in
+        let others = or_parts _ _ parts.1 in
         let some : len ≢ 0 = eqb-false len 0 parts.0 in
         let short : len ≤ mapping_limit = ltb-false mapping_limit len others.0 in
         let within : prot ≤ prot_limit = ltb-false prot_limit prot others.1 in
@@ -72,7 +67,7 @@ module _ (s : TracedSystem) (p : TracedProcess) (len prot : ℕ) where
         }
 
 pub good-short : (len prot : ℕ) → are_bad len prot ≡ false → len ≤ 0x100000
-good-short len prot good = ltb-false mapping_limit len (or_false _ _ (or_false _ _ good).1).0
+good-short len prot good = ltb-false mapping_limit len (or_parts _ _ (or_parts _ _ good).1).0
 
 pub ruleset mmap_laws = (mmap-bad, mmap-no_gap, mmap-fits, mmap-big, mmap-can, good-short)
 

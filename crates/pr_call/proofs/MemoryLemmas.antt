@@ -1,8 +1,9 @@
-use Rattle.std.proofs.Common.{◌≡◌, ◌≤◌, ◌<◌, ◌+◌, ◌&&◌, ◌||◌, ℕ, Bool, true, false, eqb, Some, [], ◌∷◌, Result, Ok, Err, OnErr, length, refl, sym, ap, ◌∙◌, inl, inr, arith}
+use Rattle.std.proofs.Common.{◌≡◌, ◌≤◌, ◌<◌, ◌+◌, ℕ, true, false, eqb, Some, [], ◌∷◌, Result, Ok, Err, OnErr, length, refl, sym, ap, ◌∙◌, inl, inr, arith}
 use Rattle.std.specs.List.{list_any}
 use Rattle.std.proofs.lemmas.Bool.{cases_Bool, eqb-true, le-leb, lt-leb, and_parts}
 use Rattle.std.proofs.lemmas.List.Sums.{sum_by-cons}
 use Rattle.std.proofs.lemmas.Option.{same_Some}
+use Rattle.pr_num.proofs.BoolLemmas.{and_false}
 use Rattle.pr_num.specs.ById.{put_under, under}
 use Rattle.pr_num.proofs.ByIdLaws.{put_under-found, put_under-same}
 use Rattle.pr_num.specs.Programs.{rounded}
@@ -22,16 +23,12 @@ use Rattle.pr_call.specs.Memories.{memory_effect}
 
 -- ---- ranges
 
-or_parts : (a b : Bool) → (a || b) ≡ true → a ≡ false → b ≡ true
-or_parts false b e f = e
-or_parts true b e f = absurd (cc)
-
 -- a mapping is no longer than all of them together
 range-within : (at size : ℕ) (space : Space) → list_any (is_range at size) space ≡ true → size ≤ mapped_size space
 range-within at size [] any = absurd (cc)
 range-within at size (m ∷ space) any =
     let whole : mapped_size (m ∷ space) ≡ length m.bytes + mapped_size space = sum_by-cons size_of m space in
-    elim (cases_Bool (is_range at size m)) [ inl here ↦ let same = eqb-true (length m.bytes) size (and_parts (eqb m.at at) (eqb (length m.bytes) size) here).1 in omega arith | inr other ↦ let rest = range-within at size space (or_parts _ _ any other) in omega arith ]
+    elim (cases_Bool (is_range at size m)) [ inl here ↦ let same = eqb-true (length m.bytes) size (and_parts (eqb m.at at) (eqb (length m.bytes) size) here).1 in omega arith | inr other ↦ let rest = range-within at size space (rw other at any) in omega arith ]
 
 -- a range that mmap mapped is a range
 pub mapped-range : (at size : ℕ) (space : Space) → list_any (is_mapped_range at size) space ≡ true → list_any (is_range at size) space ≡ true
@@ -48,10 +45,6 @@ too_long-mapped at size space of beyond =
     elim (cases_Bool (list_any (is_mapped_range at size) space)) [ inl any ↦ absurd (let wrong = mapped-range at size space any in let none = too_long at size space of beyond in cc) | inr none ↦ none ]
 
 -- ---- munmap and mprotect
-
-and_false : (b : Bool) → (b && false) ≡ false
-and_false true = refl
-and_false false = refl
 
 module _ (s : TracedSystem) (p : TracedProcess) (space : Space) (at len : ℕ) where
   pub munmap-long : p.space ≡ space → IsSpace space → mapping_limit < rounded len → fails Inval ≡ munmap_effect s p at len

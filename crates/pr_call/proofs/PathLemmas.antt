@@ -1,5 +1,6 @@
 use Rattle.std.proofs.Common.{◌≡◌, ◌≢◌, ◌≤◌, ◌<◌, ◌+◌, ◌%◌, ◌^◌, ℕ, zero, suc, eqb, inl, inr, Option, Some, None, Result, Ok, Err, List, [], ◌∷◌, ◌++◌, length, take, drop, refl, sym, ap, ◌∙◌, arith, length-append}
 use Rattle.std.proofs.lemmas.Bool.{cases_Bool}
+use Rattle.std.proofs.lemmas.List.{take_at}
 use Rattle.pr_num.specs.Control.{prot_read}
 use Rattle.pr_num.specs.Spaces.{Space, byte_for}
 use Rattle.pr_num.specs.declared.errnos.Errno.TheVariants.{Inval, Fault}
@@ -39,17 +40,13 @@ told-empty (Ok None) e = absurd (cc)
 told-empty (Ok (Some [])) e = refl
 told-empty (Ok (Some (b ∷ bytes))) e = absurd (let wrong : 0 ≡ length (b ∷ bytes) = cc in omega arith)
 
-take-front : (xs ys : List ℕ) → take (length xs) (xs ++ ys) ≡ xs
-take-front [] ys = refl
-take-front (x ∷ xs) ys = ap (λ zs. x ∷ zs) (take-front xs ys)
-
 told-some : (r : Result (Option (List ℕ)) BadByte) (n : ℕ) (old new : List ℕ) → Ok (Some n) ≡ text_answer r → n ≢ 0 → new ≡ with_text r old → Ok (take n new) ≡ path_told r
 told-some (Err bad) n old new e some is = absurd (cc)
 told-some (Ok None) n old new e some is = absurd (cc)
 told-some (Ok (Some [])) n old new e some is = absurd (some (cc))
 told-some (Ok (Some (b ∷ bytes))) n old new e some is =
     let long : n ≡ length (b ∷ bytes) = cc in
-    rw (is, long) (ap Ok (take-front (b ∷ bytes) (drop (length (b ∷ bytes)) old)))
+    rw (is, long) (ap Ok (take_at (b ∷ bytes) (drop (length (b ∷ bytes)) old) (length (b ∷ bytes)) refl))
 
 told-within : (r : Result (Option (List ℕ)) BadByte) (n : ℕ) (old new : List ℕ) → Ok (Some n) ≡ text_answer r → new ≡ with_text r old → length new ≡ 32 → n ≤ 32
 told-within (Err bad) n old new e is long = absurd (cc)

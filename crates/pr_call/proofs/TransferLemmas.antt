@@ -6,6 +6,7 @@ use Rattle.pr_num.specs.Control.{prot_read, prot_write}
 use Rattle.pr_num.specs.Files.{FileTable, Descriptors}
 use Rattle.pr_num.specs.Limits.{transfer_limit}
 use Rattle.pr_num.specs.Spaces.{Space, byte_for, bytes_for, one_more}
+use Rattle.pr_num.specs.declared.errnos.Errno.{Errno}
 use Rattle.pr_num.specs.declared.errnos.Errno.TheVariants.{Badf, Fault, Inval}
 use Rattle.pr_num.specs.declared.mappings.BadByte.{BadByte}
 use Rattle.pr_file.specs.Waits.{waits}
@@ -16,29 +17,16 @@ use Rattle.pr_parts.specs.FileCalls.{FileEffect, open_for_reading, open_for_writ
 use Rattle.pr_parts.specs.FileTransfers.{ReadEffect, count_of, filled, read_fd, write_fd}
 use Rattle.pr_parts.specs.declared.files.FileNo.{FileNo}
 use Rattle.pr_parts.specs.declared.files.FileNo.TheVariants.{BadFd, NoFile, NoPlace, TableFull, NoSpace, NotSeekable, BadOffset, NoReader, Sleep, NoMemory}
-use Rattle.pr_model.specs.Changes.{fails, files_are, gives, is_over, space_is}
+use Rattle.pr_model.specs.Changes.{Effect, fails, files_are, gives, is_over, space_is}
 use Rattle.pr_model.specs.FileCallRows.{file_effect, read_effect, refusal_effect, write_effect}
 use Rattle.pr_model.specs.MemoryCalls.{can_read, can_write}
+use Rattle.pr_proc.proofs.ByteLemmas.{length-bytes_for}
 use Rattle.pr_call.specs.FileAnswers.{lacks_memory}
 use Rattle.pr_call.specs.Transfers.{read_meant}
 use Rattle.pr_call.specs.declared.answers.Refusal.TheVariants.{Files}
 use Rattle.pr_call.proofs.FileKeptLemmas.{read-keeps, unless-files, unless-refused, written-keeps}
 
 -- What reads and writes do.
-
--- ---- bytes of memory
-
--- as many bytes as were asked for
-length-bytes_for : (need : ℕ) (space : Space) (at size : ℕ) (bytes : List ℕ) → bytes_for need space at size ≡ Ok bytes → length bytes ≡ size
-unfolding bytes_for
-length-bytes_for need space at zero bytes is = let none : [] ≡ bytes = cc in ap length (sym none)
-length-bytes_for need space at (suc n) bytes is =
-    of (byte_for need space at) (bytes_for need space ((at + 1) % 2 ^ 64) n) (λ others rest. length-bytes_for need space ((at + 1) % 2 ^ 64) n others rest) is
-  where
-    of : (b : Result ℕ BadByte) (r : Result (List ℕ) BadByte) → ((others : List ℕ) → r ≡ Ok others → length others ≡ n) → one_more b r ≡ Ok bytes → length bytes ≡ suc n
-    of (Err bad) r rest e = absurd (cc)
-    of (Ok byte) (Err bad) rest e = absurd (cc)
-    of (Ok byte) (Ok others) rest e = let whole : byte ∷ others ≡ bytes = cc in ap length (sym whole) ∙ ap suc (rest others refl)
 
 -- ---- what is refused
 
@@ -49,6 +37,10 @@ none-some (Some x) e = cc
 some-none : {X : Type 0} (o : Option X) → is_some o ≡ true → is_none o ≡ false
 some-none None e = cc
 some-none (Some x) e = refl
+
+-- a call that fails does not sleep
+pub over-fails : (e : Errno) (x : Effect) → fails e ≡ x → true ≡ is_over x
+over-fails e x is = ap is_over is
 
 -- a refused call sleeps where it has to wait
 over-refusal : (why : FileNo) → is_over (refusal_effect why) ≡ not (waits {A = ℕ} (Err why))
@@ -100,22 +92,13 @@ module _ (t : FileTable) (fds : Descriptors) (space : Space) (fd at size : ℕ) 
       rw (some-none _ ready, le-ltb transfer_limit size within, can, whole (read_fd t fds fd size) (Err why) is) refl
 
   -- which reads would not sleep
-  pub read_over-closed : is_some (open_for_reading t fds fd) ≡ false → true ≡ is_over (read_effect t fds space fd at size)
-  read_over-closed closed = rw (read-closed closed) refl
-
-  pub read_over-long : is_some (open_for_reading t fds fd) ≡ true → transfer_limit < size → true ≡ is_over (read_effect t fds space fd at size)
-  read_over-long ready beyond = rw (read-long ready beyond) refl
-
-  pub read_over-faulty : is_some (open_for_reading t fds fd) ≡ true → size ≤ transfer_limit → can_write space at size ≡ false → true ≡ is_over (read_effect t fds space fd at size)
-  read_over-faulty ready within cannot = rw (read-faulty ready within cannot) refl
-
   pub read_over-made : (w : Bool) → is_some (open_for_reading t fds fd) ≡ true → size ≤ transfer_limit → can_write space at size ≡ true → w ≡ waits (read_fd t fds fd size).bytes → not w ≡ is_over (read_effect t fds space fd at size)
   read_over-made w ready within can is =
       ap not is
       ∙ sym (over-read fds space at (read_fd t fds fd size).files (read_fd t fds fd size).bytes)
       ∙ ap is_over (sym (read-made (read_fd t fds fd size).bytes ready within can refl))
 
-pub ruleset reads_over = (read_over-closed, read_over-long, read_over-faulty, read_over-made)
+pub ruleset reads_over = (over-fails, read_over-made)
 
 -- ---- writes
 
@@ -142,15 +125,6 @@ module _ (t : FileTable) (fds : Descriptors) (space : Space) (fd at size : ℕ) 
   write-made bytes ready within is = rw (some-none _ ready, le-ltb transfer_limit size within, is) refl
 
   -- which writes would not sleep
-  pub write_over-closed : is_some (open_for_writing t fds fd) ≡ false → true ≡ is_over (write_effect t fds space fd at size)
-  write_over-closed closed = rw (write-closed closed) refl
-
-  pub write_over-long : is_some (open_for_writing t fds fd) ≡ true → transfer_limit < size → true ≡ is_over (write_effect t fds space fd at size)
-  write_over-long ready beyond = rw (write-long ready beyond) refl
-
-  pub write_over-faulty : is_some (open_for_writing t fds fd) ≡ true → size ≤ transfer_limit → can_read space at size ≡ false → true ≡ is_over (write_effect t fds space fd at size)
-  write_over-faulty ready within cannot = rw (write-faulty ready within cannot) refl
-
   pub write_over-made : (w : Bool) → is_some (open_for_writing t fds fd) ≡ true → size ≤ transfer_limit → can_read space at size ≡ true → ((bytes : List ℕ) → length bytes ≡ size → w ≡ waits (write_fd t fds fd bytes).answer) → not w ≡ is_over (write_effect t fds space fd at size)
   write_over-made w ready within can is = by (bytes_for prot_read space at size) refl can
     where
@@ -161,7 +135,7 @@ module _ (t : FileTable) (fds : Descriptors) (space : Space) (fd at size : ℕ) 
           ∙ ap is_over (sym (write-made bytes ready within read))
       by (Err bad) read e = absurd (cc)
 
-pub ruleset writes_over = (write_over-closed, write_over-long, write_over-faulty, write_over-made)
+pub ruleset writes_over = (over-fails, write_over-made)
 
 -- ---- a read that is made
 
@@ -263,4 +237,4 @@ pub write-unread : (t : FileTable) (fds : Descriptors) (space : Space) (fd at si
 write-unread t fds space fd at size fault ready within is =
     sym (write-faulty t fds space fd at size ready within (cannot-read (bytes_for prot_read space at size) fault is))
 
-pub ruleset writing = (write-closed, write-long)
+pub ruleset writing = (write-closed, write-long, write-faulty)

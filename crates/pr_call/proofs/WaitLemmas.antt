@@ -1,4 +1,4 @@
-use Rattle.std.proofs.Common.{◌≡◌, ◌≢◌, ◌==◌, is_ok, ℕ, true, false, eqb, Some, Result, Ok, Err, List, [], ◌∷◌, refl, sym, ap, ◌∙◌, inl, inr}
+use Rattle.std.proofs.Common.{◌≡◌, ◌≢◌, ◌==◌, ℕ, true, false, eqb, Some, List, [], ◌∷◌, refl, sym, ap, ◌∙◌, inl, inr}
 use Rattle.std.proofs.lemmas.Bool.{cases_Bool, eqb-true, eq-eqb, ne_eqb}
 use Rattle.std.proofs.lemmas.Option.{same_Some}
 use Rattle.pr_num.specs.ById.{change_under, put_under, under, without_id}
@@ -6,8 +6,6 @@ use Rattle.pr_num.proofs.ByIdLaws.{put_under-found, put_under-same}
 use Rattle.pr_num.specs.Spaces.{Space}
 use Rattle.pr_num.specs.Words.{word_bytes}
 use Rattle.pr_num.specs.declared.errnos.Errno.TheVariants.{Child, Fault}
-use Rattle.pr_num.specs.declared.mappings.BadByte.{BadByte}
-use Rattle.pr_mem.specs.Answers.{access_answer}
 use Rattle.pr_parts.specs.AddressSpaces.{with_bytes}
 use Rattle.pr_model.specs.Changes.{all_changed, changed, fails, gives, is_over, reaps, space_is, with_space}
 use Rattle.pr_model.specs.FileCallRows.{word_size}
@@ -25,12 +23,6 @@ use Rattle.pr_call.specs.declared.requests.Performed.TheVariants as performed
 -- What wait makes of the system.
 
 -- ---- the status that is stored
-
-pub access-ok : (r : Result (List ℕ) BadByte) → is_ok (access_answer r) ≡ is_ok r
-access-ok (Ok bytes) = refl
-access-ok (Err bad) = refl
-
-pub ruleset storing = (access-ok)
 
 module _ (s : TracedSystem) (pid : ℕ) (q p : TracedProcess) (new : Space) where
   pub stored-live : under pid s.processes ≡ Some q → live_process s pid ≡ Some p → q ≡ p

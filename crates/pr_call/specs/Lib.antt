@@ -6,5 +6,6 @@ pub mod Maps
 pub mod Memories
 pub mod Paths
 pub mod Processes
+pub mod Requests
 pub mod Transfers
 pub mod Waits

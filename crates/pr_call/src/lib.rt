@@ -2,6 +2,7 @@
 #![tactic(auto)]
 
 mod answers;
+mod askings;
 mod breaks;
 mod files;
 mod filing;
@@ -21,6 +22,7 @@ mod stores;
 mod transfers;
 mod waits;
 
+pub use askings::arguments_of;
 pub use performing::perform;
 pub use requests::{Performed, Request};
 pub use sleeps::is_ready;

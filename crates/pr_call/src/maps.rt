@@ -17,8 +17,8 @@ use pr_num::{Errno, MappingKind, NoMemory, Prot};
 use pr_proc::{Proc, Sys, live, size_of, total_has_room};
 use std::alloc::Global;
 
-/// The greatest protection.
-const PROT_LIMIT: u64 = 7;
+/// The greatest protection: all three.
+pub const PROT_LIMIT: u64 = 7;
 
 /// Whether a length is 0 or above 1 MiB, or a word is no protection.
 fn are_bad(len: u64, prot: u64) -> bool

@@ -10,14 +10,12 @@ ghost use Rattle.pr_num.specs.ById.{under};
 ghost use Rattle.pr_num.specs.Programs.{rounded};
 ghost use Rattle.pr_num.specs.Spaces.{mapping_limit, Space as AnySpace};
 
+use crate::maps::PROT_LIMIT;
 use crate::requests::Performed;
 use pr_mem::Space;
 use pr_model::Res;
 use pr_num::{Errno, Mapping, MappingKind};
 use pr_proc::Sys;
-
-/// The greatest protection.
-const PROT_LIMIT: u64 = 7;
 
 /// A length rounded up to a multiple of 4,096; `None` where no mapping is that long.
 fn rounded(len: u64) -> Option<u64>

@@ -2,9 +2,11 @@
 ghost use Rattle.std.specs.Prelude.{◌≡◌, true, false, IsSome, IsOk, IfOk, OnErr};
 ghost use Rattle.std.specs.Option.{ForSome};
 ghost use Rattle.pr_call.specs.Effects.{after_effect, effect_meant, effect_of, is_plain, outcome_of, takes_memory};
+ghost use Rattle.pr_call.specs.Requests.{request_of};
 ghost use Rattle.pr_model.specs.Lawful.{IsLawfulSystem};
 ghost use Rattle.pr_model.specs.State.{live_process, lwp_of};
 
+use crate::askings::request_of;
 use crate::breaks::brk;
 use crate::filing::{close, dup, fstat, lseek, open, pipe};
 use crate::lwps::lwp_create;
@@ -45,11 +47,9 @@ fn perform_plain(sys: &mut Sys, request: &Request) -> Performed
     make(sys, request.pid, request.lwp, effect)
 }
 
-/// Performs the call of an lwp of a live process: the system is as the effect of the call leaves it, and the answer is
-/// what comes of it. The result is not stored yet, and the lwp stays where it was. Where memory runs out, the system
-/// stays as it is; only some calls take memory.
+/// Performs this call of an lwp of a live process.
 #[tactic(auto, unfolding(pr_model::specs::CallEffects::call_effect))]
-pub fn perform(alloc: Global, sys: &mut Sys, request: &Request) -> Result<Performed, NoMemory>
+fn perform_request(alloc: Global, sys: &mut Sys, request: &Request) -> Result<Performed, NoMemory>
     requires lawful { IsLawfulSystem sys.old }
     requires live { IsSome (live_process sys.old request.now.pid) }
     requires lwp { ForSome (live_process sys.old request.now.pid) (λ p. IsSome (lwp_of p request.now.lwp)) }
@@ -103,4 +103,20 @@ pub fn perform(alloc: Global, sys: &mut Sys, request: &Request) -> Result<Perfor
         ),
         _ => unreachable!(),
     }
+}
+
+/// Performs the call at whose entry an lwp of a live process is, or in which it sleeps: the system is as the effect of
+/// the call leaves it, and the answer is what comes of it. The result is not stored yet, and the lwp stays where it was.
+/// Where memory runs out, the system stays as it is; only some calls take memory.
+pub fn perform(alloc: Global, sys: &mut Sys, pid: u32, lwp: u32) -> Result<Performed, NoMemory>
+    requires lawful { IsLawfulSystem sys.old }
+    requires call { IsSome (request_of sys.old pid lwp) }
+    ensures system { IfOk result (λ outcome. ForSome (request_of sys.old pid lwp) (λ request. ForSome (live_process sys.old pid) (λ p. ForSome (lwp_of p lwp) (λ l. sys.new ≡ after_effect pid p lwp l (effect_of sys.old p l request) sys.old)))) }
+    ensures outcome { IfOk result (λ outcome. ForSome (request_of sys.old pid lwp) (λ request. ForSome (live_process sys.old pid) (λ p. ForSome (lwp_of p lwp) (λ l. outcome ≡ outcome_of (effect_of sys.old p l request))))) }
+    ensures sure { ForSome (request_of sys.old pid lwp) (λ request. takes_memory request.call ≡ false → IsOk result) }
+    ensures err { OnErr result (sys.new ≡ sys.old) }
+{
+    let request = request_of(sys, pid, lwp).unwrap();
+    let outcome = perform_request(alloc, sys, &request)?;
+    Ok(outcome)
 }

@@ -2,21 +2,12 @@
 ghost use Rattle.std.specs.Prelude.{◌≡◌};
 ghost use Rattle.pr_call.specs.Effects.{effect_meant};
 ghost use Rattle.pr_model.specs.SignalCalls.{can_be_caught, sigaction_effect, sigmask_effect, sigreturn_effect};
-ghost use Rattle.pr_model.specs.Signals.{disposition_of};
 ghost use Rattle.pr_model.specs.State.{TracedLwp};
 
 use crate::requests::{Change, Effect};
 use pr_model::Res;
 use pr_num::{Errno, Sig, SigSet};
-use pr_proc::Lwp;
-
-/// What a process does with a signal.
-#[tactic(auto, unfolding(pr_model::specs::Signals::disposition_of))]
-fn disposition_of(dispositions: &[u64; 39], signal: Sig) -> u64
-    ensures { result ≡ disposition_of dispositions.now signal }
-{
-    dispositions[signal.number() as usize - 1]
-}
+use pr_proc::{Lwp, disposition_of};
 
 /// Whether the disposition of a signal can be changed: all but those of SIGKILL and SIGSTOP.
 fn can_be_caught(signal: Sig) -> bool

@@ -7,15 +7,13 @@ ghost use Rattle.pr_parts.specs.AddressSpaces.{with_bytes};
 
 use pr_codec::put_words;
 use pr_mem::Space;
-
-/// The protection that a store needs.
-const WRITE: u8 = 2;
+use pr_num::PROT_WRITE;
 
 /// Whether all of so many bytes can be written.
 pub fn can_write(space: &Space, at: u64, size: usize) -> bool
     ensures { result ≡ can_write space.now at size }
 {
-    space.can_access(at, size, WRITE)
+    space.can_access(at, size, PROT_WRITE)
 }
 
 /// Stores bytes, all of which can be written.
@@ -24,7 +22,7 @@ pub fn store(space: &mut Space, at: u64, bytes: &[u8])
     requires { can_write space.old at (length bytes.now) ≡ true }
     ensures { space.new ≡ with_bytes at bytes.now space.old }
 {
-    match space.write(at, bytes, WRITE) {
+    match space.write(at, bytes, PROT_WRITE) {
         Ok(()) => {}
         Err(_) => unreachable!(),
     }

@@ -1,11 +1,11 @@
 //! read(2) and write(2).
-ghost use Rattle.std.specs.Prelude.{◌≡◌, ◌≤◌, [], ◌∷◌, true, false, is_some, length, IfOk, IsSome, OnErr};
+ghost use Rattle.std.specs.Prelude.{◌≡◌, ◌≤◌, [], ◌∷◌, true, false, is_some, length, IfNone, IfOk, IfSome, IsSome, OnErr};
 ghost use Rattle.std.specs.Option.{ForSome};
 ghost use Rattle.pr_call.specs.Effects.{after_effect, outcome_of};
 ghost use Rattle.pr_call.specs.FileAnswers.{answer_meant, lacks_memory};
-ghost use Rattle.pr_model.specs.Changes.{files_are, is_over, space_is};
+ghost use Rattle.pr_model.specs.Changes.{fails, files_are, is_over, space_is};
 ghost use Rattle.pr_model.specs.FileCallRows.{file_effect, read_effect, write_effect};
-ghost use Rattle.pr_model.specs.MemoryCalls.{can_write};
+ghost use Rattle.pr_model.specs.MemoryCalls.{can_read, can_write};
 ghost use Rattle.pr_model.specs.State.{TracedLwp, live_process};
 ghost use Rattle.pr_parts.specs.FileCalls.{open_for_reading, open_for_writing};
 ghost use Rattle.pr_parts.specs.FileTransfers.{write_fd};
@@ -16,34 +16,76 @@ use crate::stores::store;
 use pr_file::{Fds, Files};
 use pr_mem::Space;
 use pr_num::limits::TRANSFER_LIMIT;
-use pr_num::{Errno, NoMemory};
+use pr_num::{Errno, NoMemory, PROT_READ, PROT_WRITE};
 use pr_proc::Sys;
 use std::alloc::Global;
 
-/// The protection that a load needs.
-const READ: u8 = 4;
-
-/// The protection that a store needs.
-const WRITE: u8 = 2;
-
 /// The most bytes of one call.
 const MOST: usize = TRANSFER_LIMIT as usize;
+
+/// Why a read is refused before the files are asked: EBADF, EINVAL, EFAULT, in this order. `None`: it is not.
+#[tactic(auto, using(crate::proofs::TransferLemmas::reading))]
+fn read_refusal(
+    files: &Files,
+    fds: &Fds,
+    space: &Space,
+    fd: u64,
+    at: u64,
+    size: u64,
+) -> Option<Errno>
+    ensures refused { IfSome result (λ error. fails error ≡ read_effect files.now fds.now space.now fd at size) }
+    ensures readable { IfNone result (is_some (open_for_reading files.now fds.now fd) ≡ true) }
+    ensures within { IfNone result (size ≤ 4096) }
+    ensures can { IfNone result (can_write space.now at size ≡ true) }
+{
+    if !files.can_read(fds, fd) {
+        return Some(Errno::Badf);
+    }
+    if size > TRANSFER_LIMIT {
+        return Some(Errno::Inval);
+    }
+    if !space.can_access(at, size as usize, PROT_WRITE) {
+        return Some(Errno::Fault);
+    }
+    None
+}
+
+/// Why a write is refused before the files are asked: EBADF, EINVAL, EFAULT, in this order. `None`: it is not.
+#[tactic(auto, using(crate::proofs::TransferLemmas::writing))]
+fn write_refusal(
+    files: &Files,
+    fds: &Fds,
+    space: &Space,
+    fd: u64,
+    at: u64,
+    size: u64,
+) -> Option<Errno>
+    ensures refused { IfSome result (λ error. fails error ≡ write_effect files.now fds.now space.now fd at size) }
+    ensures writable { IfNone result (is_some (open_for_writing files.now fds.now fd) ≡ true) }
+    ensures within { IfNone result (size ≤ 4096) }
+    ensures can { IfNone result (can_read space.now at size ≡ true) }
+{
+    if !files.can_write(fds, fd) {
+        return Some(Errno::Badf);
+    }
+    if size > TRANSFER_LIMIT {
+        return Some(Errno::Inval);
+    }
+    if !space.can_access(at, size as usize, PROT_READ) {
+        return Some(Errno::Fault);
+    }
+    None
+}
 
 /// Whether a read would not sleep.
 #[tactic(auto, using(crate::proofs::TransferLemmas::reads_over))]
 pub fn is_read(files: &Files, fds: &Fds, space: &Space, fd: u64, at: u64, size: u64) -> bool
     ensures { result ≡ is_over (read_effect files.now fds.now space.now fd at size) }
 {
-    if !files.can_read(fds, fd) {
-        return true;
+    match read_refusal(files, fds, space, fd, at, size) {
+        Some(_) => true,
+        None => !files.read_waits(fds, fd),
     }
-    if size > TRANSFER_LIMIT {
-        return true;
-    }
-    if !space.can_access(at, size as usize, WRITE) {
-        return true;
-    }
-    !files.read_waits(fds, fd)
 }
 
 /// Whether a write would not sleep.
@@ -51,16 +93,10 @@ pub fn is_read(files: &Files, fds: &Fds, space: &Space, fd: u64, at: u64, size: 
 pub fn is_written(files: &Files, fds: &Fds, space: &Space, fd: u64, at: u64, size: u64) -> bool
     ensures { result ≡ is_over (write_effect files.now fds.now space.now fd at size) }
 {
-    if !files.can_write(fds, fd) {
-        return true;
+    match write_refusal(files, fds, space, fd, at, size) {
+        Some(_) => true,
+        None => !files.write_waits(fds, fd, size as usize),
     }
-    if size > TRANSFER_LIMIT {
-        return true;
-    }
-    if !space.can_access(at, size as usize, READ) {
-        return true;
-    }
-    !files.write_waits(fds, fd, size as usize)
 }
 
 /// Reads through a descriptor that is open for reading, at most so many bytes as the buffer has, and stores them; memory
@@ -91,7 +127,6 @@ fn fill(
 }
 
 /// read(2) gives how many bytes were read. EBADF, EINVAL, EFAULT.
-#[tactic(auto, using(crate::proofs::TransferLemmas::reading))]
 fn read_into(
     files: &mut Files,
     fds: &Fds,
@@ -104,14 +139,8 @@ fn read_into(
     ensures files { OnErr result (files.new ≡ files.old) }
     ensures space { OnErr result (space.new ≡ space.old) }
 {
-    if !files.can_read(fds, fd) {
-        return Err(Refusal::Fails(Errno::Badf));
-    }
-    if size > TRANSFER_LIMIT {
-        return Err(Refusal::Fails(Errno::Inval));
-    }
-    if !space.can_access(at, size as usize, WRITE) {
-        return Err(Refusal::Fails(Errno::Fault));
+    if let Some(error) = read_refusal(files, fds, space, fd, at, size) {
+        return Err(Refusal::Fails(error));
     }
     let mut buffer = [0; MOST];
     fill(files, fds, space, fd, at, &mut buffer[..size as usize])
@@ -144,14 +173,13 @@ fn drain(
     ensures effect { lacks_memory result ≡ false → answer_meant result (files_are files.new fds.now ∷ []) ≡ write_effect files.old fds.now space.now fd at (length buffer.old) }
     ensures files { OnErr result (files.new ≡ files.old) }
 {
-    match space.read(at, buffer, READ) {
+    match space.read(at, buffer, PROT_READ) {
         Ok(()) => put(alloc, files, fds, fd, buffer),
         Err(_) => Err(Refusal::Fails(Errno::Fault)),
     }
 }
 
 /// write(2) gives how many bytes were written. EBADF, EINVAL, EFAULT; then what the file or the pipe refuses.
-#[tactic(auto, using(crate::proofs::TransferLemmas::writing))]
 fn write_from(
     alloc: Global,
     files: &mut Files,
@@ -164,11 +192,8 @@ fn write_from(
     ensures effect { lacks_memory result ≡ false → answer_meant result (files_are files.new fds.now ∷ []) ≡ write_effect files.old fds.now space.now fd at size }
     ensures files { OnErr result (files.new ≡ files.old) }
 {
-    if !files.can_write(fds, fd) {
-        return Err(Refusal::Fails(Errno::Badf));
-    }
-    if size > TRANSFER_LIMIT {
-        return Err(Refusal::Fails(Errno::Inval));
+    if let Some(error) = write_refusal(files, fds, space, fd, at, size) {
+        return Err(Refusal::Fails(error));
     }
     let mut buffer = [0; MOST];
     drain(

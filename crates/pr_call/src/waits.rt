@@ -14,33 +14,36 @@ ghost use Rattle.pr_model.specs.Readers.{children_of, first_zombie};
 ghost use Rattle.pr_model.specs.State.{TracedLwp, live_process, with_process};
 
 use crate::requests::Performed;
+use crate::stores::{can_write, store};
 use pr_mem::Space;
 use pr_model::Res;
 use pr_num::Errno;
-use pr_proc::{Children, Sys, children_of, reap};
+use pr_proc::{Children, Sys, children, reap};
 
-/// The protection that a store needs.
-const WRITE: u8 = 2;
-
-/// Stores a word, if all of it can be written; else the space stays as it is.
-#[tactic(auto, using(crate::proofs::WaitLemmas::storing), unfolding(pr_num::specs::Words::word_bytes))]
-fn store(space: &mut Space, at: u64, word: u64) -> bool
+/// Stores a wait status, if all of it can be written; else the space stays as it is.
+#[tactic(auto, unfolding(pr_num::specs::Words::word_bytes))]
+fn store_status(space: &mut Space, at: u64, status: u64) -> bool
     ensures can { result ≡ can_write space.old at word_size }
-    ensures stored { result ≡ true → space.new ≡ with_bytes at (word_bytes word) space.old }
+    ensures stored { result ≡ true → space.new ≡ with_bytes at (word_bytes status) space.old }
     ensures kept { result ≡ false → space.new ≡ space.old }
 {
-    space.write(at, &word.to_le_bytes(), WRITE).is_ok()
+    let bytes = status.to_le_bytes();
+    if !can_write(space, at, bytes.len()) {
+        return false;
+    }
+    store(space, at, &bytes);
+    true
 }
 
 /// The same in the memory of the live process of an id.
 #[tactic(auto, using(crate::proofs::WaitLemmas::storing_in, pr_proc::proofs::LifeLemmas::life_laws))]
-fn store_in(sys: &mut Sys, pid: u32, at: u64, word: u64) -> bool
+fn store_in(sys: &mut Sys, pid: u32, at: u64, status: u64) -> bool
     requires { IsSome (live_process sys.old pid) }
     ensures can { ForSome (live_process sys.old pid) (λ p. result ≡ can_write p.space at word_size) }
-    ensures stored { ForSome (live_process sys.old pid) (λ p. result ≡ true → sys.new ≡ with_process pid (with_space (with_bytes at (word_bytes word) p.space)) sys.old) }
+    ensures stored { ForSome (live_process sys.old pid) (λ p. result ≡ true → sys.new ≡ with_process pid (with_space (with_bytes at (word_bytes status) p.space)) sys.old) }
     ensures kept { result ≡ false → sys.new ≡ sys.old }
 {
-    store(&mut sys.processes.get_mut(pid).space, at, word)
+    store_status(&mut sys.processes.get_mut(pid).space, at, status)
 }
 
 /// Reaps a child of the process of an id, which is none of its own.
@@ -74,7 +77,7 @@ pub fn wait(sys: &mut Sys, pid: u32, at: u64) -> Performed
     ensures system { ForSome (live_process sys.old pid) (λ p. (id : ℕ) (l : TracedLwp) → sys.new ≡ after_effect pid p id l (wait_effect p.space (children_of sys.old pid) at) sys.old) }
     ensures outcome { ForSome (live_process sys.old pid) (λ p. result ≡ outcome_of (wait_effect p.space (children_of sys.old pid) at)) }
 {
-    match children_of(sys, pid) {
+    match children(sys, pid) {
         Children::Nobody => Performed::Done(Res::Error(Errno::Child)),
         Children::Living => Performed::Sleep,
         Children::Zombie(child, status) => give(sys, pid, child, status, at),
@@ -86,7 +89,7 @@ pub fn wait(sys: &mut Sys, pid: u32, at: u64) -> Performed
 pub fn is_waited(sys: &Sys, pid: u32) -> bool
     ensures { (space : AnySpace) (at : ℕ) → result ≡ is_over (wait_effect space (children_of sys.now pid) at) }
 {
-    match children_of(sys, pid) {
+    match children(sys, pid) {
         Children::Nobody => true,
         Children::Living => false,
         Children::Zombie(..) => true,

@@ -1,5 +1,5 @@
-use Rattle.std.proofs.Common.{◌≡◌, ◌==◌, ◌+◌, ◌-◌, ◌^◌, ◌&&◌, ◌||◌, not, ℕ, Bool, true, false, eqb, ltb, bit_and, IfSome, inl, inr, arith, is_none, Option, Some, None, Result, Ok, Err, List, [], cond, refl, sym, subst, ◌∙◌, ap}
-use Rattle.std.proofs.lemmas.Bool.{eqb-true, cases_Bool}
+use Rattle.std.proofs.Common.{◌≡◌, ◌==◌, ◌+◌, ◌-◌, ◌^◌, ◌&&◌, ◌||◌, ℕ, Bool, true, false, eqb, ltb, bit_and, IfSome, inl, inr, arith, is_none, Option, Some, None, Result, Ok, Err, List, [], cond, refl, sym, subst, ◌∙◌, ap}
+use Rattle.std.proofs.lemmas.Bool.{eqb-true, cases_Bool, not-true}
 use Rattle.std.proofs.lemmas.Option.{same_Some}
 use Rattle.std.specs.List.{All, find, list_all}
 use Rattle.std.specs.Option.{option_map, option_and_then}
@@ -42,6 +42,7 @@ use Rattle.pr_model.specs.SignalCalls.{Sending, refuses, sends_nothing, sends, s
 use Rattle.pr_model.specs.Spawning.{spawn_refusal}
 use Rattle.pr_model.specs.UntracedMachine.{UntracedRun, ends_here, nothing, it}
 use Rattle.pr_laws.proofs.RefusalLemmas.{control-leaves, refused-system}
+use Rattle.pr_laws.proofs.RunLemmas.{no_flags}
 use Rattle.pr_erasure.proofs.OutsideLemmas.{Follows, follows-nothing, spawn-follows, kill-follows, refused_sent}
 use Rattle.pr_model.specs.Running.{let_go, run_lwp, lwp_run_refused, with_directive, with_one_run, with_cleared, with_aborted, with_flags_on, without_directive, with_request, without_request, was_requested, if_all_requested, shows_run, run_refused, with_representative_run, with_all_run, with_run}
 use Rattle.pr_model.specs.State.{Places, TracedControl, TracedLwp, TracedProcess, TracedSystem, TracedState, process_of, if_live, live_process, lwp_of, with_process, with_lwp, with_system}
@@ -60,10 +61,6 @@ active e = absurd (clash e)
   where
     clash : false ≡ true → ⊥
     clash e = cc
-
-not_true : (b : Bool) → not b ≡ true → b ≡ false
-not_true true e = cc
-not_true false e = refl
 
 -- a change of the system that programs do not see, and that leaves it untouched
 pub record Hides (s t : TracedSystem) : Type 0 where
@@ -109,10 +106,6 @@ released_lwp-hidden l = refl
 released_lwp-keeps : KeepsLwps released_lwp
 unfolding released_lwp
 released_lwp-keeps id x u = record { no_step = refl; no_abort = u.no_abort; no_agent = u.no_agent }
-
-no_flags : (l : TracedLwp) → with_flags_on 0 l ≡ l
-unfolding with_flags_on with_cleared with_aborted has_flags common_word
-no_flags l = refl
 
 -- ---- the lwps of a process that is run
 
@@ -311,7 +304,7 @@ module _ (s : TracedSystem) (u : IsUntouched s) where
     message-hides aim (message.Sfault set) tail len passive = set-hides (tracing_faults set) (λ c. refl) (λ c none. none)
     message-hides aim (message.Sentry set) tail len passive = set-hides (tracing_entries set) (λ c. refl) (λ c none. none)
     message-hides aim (message.Sexit set) tail len passive = set-hides (tracing_exits set) (λ c. refl) (λ c none. none)
-    message-hides aim (message.Set modes) tail len passive = set-hides (with_modes modes) (λ c. refl) (λ c none. no_klc-union c.modes modes none (not_true (has_flags modes klc_mode) passive))
+    message-hides aim (message.Set modes) tail len passive = set-hides (with_modes modes) (λ c. refl) (λ c none. no_klc-union c.modes modes none (not-true (has_flags modes klc_mode) passive))
     message-hides aim (message.Unset modes) tail len passive = set-hides (without_modes modes) (λ c. refl) (λ c none. no_klc-minus c.modes modes none)
     message-hides aim (message.Sreg regs) tail len passive = active passive
     message-hides aim (message.Svaddr pc) tail len passive = active passive

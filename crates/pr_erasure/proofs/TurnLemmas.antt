@@ -1,5 +1,6 @@
-use Rattle.std.proofs.Common.{◌≡◌, ℕ, Bool, true, false, not, ◌||◌, ◌&&◌, is_some, Option, Some, None, List, cond, refl, sym, subst, ◌∙◌, ap}
+use Rattle.std.proofs.Common.{◌≡◌, ℕ, Bool, true, false, ◌||◌, is_some, Option, Some, None, List, cond, refl, sym, subst, ◌∙◌, ap}
 use Rattle.std.proofs.lemmas.Option.{same_Some}
+use Rattle.std.proofs.lemmas.Bool.{and_parts, not-true}
 use Rattle.pr_num.specs.declared.signals.Sig.{Sig}
 use Rattle.pr_num.specs.declared.syscalls.Sysno.{Sysno}
 use Rattle.pr_model.specs.CallEffects.{call_effect}
@@ -34,21 +35,9 @@ clash false h e = absurd (no h)
     no : false ≡ true → ⊥
     no e = cc
 
-and_left : (a b : Bool) → (a && b) ≡ true → a ≡ true
-and_left true b e = refl
-and_left false b e = cc
-
-and_right : (a b : Bool) → (a && b) ≡ true → b ≡ true
-and_right true b e = e
-and_right false b e = cc
-
 or_right : (a b : Bool) → (a || b) ≡ true → a ≡ false → b ≡ true
 or_right true b e other = clash true refl other
 or_right false b e other = e
-
-not_true : (b : Bool) → not b ≡ true → b ≡ false
-not_true true e = cc
-not_true false e = refl
 
 module _ (s : TracedSystem) (pid : ℕ) (p : TracedProcess) (id : ℕ) (l : TracedLwp) (h : HasTurn s pid p id l) where
   current-runs : (o : Option Current) → l.current ≡ o → HasNoFault l.phase → (rest : Row) → (l.current ≡ None → RowRuns s pid p id l rest) → RowRuns s pid p id l (current_row_or s pid p id l o rest)
@@ -129,8 +118,8 @@ turn-taken s pid id t turn = by_process (live_process s pid) refl turn
       lwp = l;
       live = live;
       there = there;
-      free = not_true _ (and_left _ _ may);
-      goes = and_right _ _ may;
+      free = not-true _ (and_parts _ _ may).0;
+      goes = (and_parts _ _ may).1;
       is = sym (same_Some _ _ is);
     }
     by_test p l live there false may is = absurd (none is)

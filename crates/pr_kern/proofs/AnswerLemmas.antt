@@ -46,7 +46,7 @@ use Rattle.pr_kern.specs.Soundness.{IsSound}
 
 -- ---- changes of a process
 
-pub lwp-keeps : (id : ℕ) (f : TracedLwp → TracedLwp) → KeepsUsage (with_lwp id f)
+lwp-keeps : (id : ℕ) (f : TracedLwp → TracedLwp) → KeepsUsage (with_lwp id f)
 unfolding KeepsUsage with_lwp
 lwp-keeps id f p = refl
 

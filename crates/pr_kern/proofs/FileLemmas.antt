@@ -1,6 +1,6 @@
-use Rattle.std.proofs.Common.{◌≡◌, ℕ, ◌||◌, Bool, true, false, not, None, List, [], ◌∷◌, ◌++◌, length, refl, sym, ap, ◌∙◌, inl, inr, arith}
+use Rattle.std.proofs.Common.{◌≡◌, ℕ, Bool, true, false, not, None, List, [], ◌∷◌, ◌++◌, length, refl, sym, ap, ◌∙◌, inl, inr, arith}
 use Rattle.std.specs.List.{list_any, position, position_or_len}
-use Rattle.std.proofs.lemmas.Bool.{cases_Bool, false≢true, and_parts, not-true, or_from, le-ltb}
+use Rattle.std.proofs.lemmas.Bool.{cases_Bool, false≢true, and_parts, not-true, or_from, or_parts, le-ltb}
 use Rattle.std.proofs.lemmas.Slice.Eq.{bytes_eq-Decides}
 use Rattle.std.proofs.lemmas.List.{map-append}
 use Rattle.std.proofs.lemmas.List.Folds.{list_any-append}
@@ -19,14 +19,10 @@ stored-push files name bytes = ap stored_alone (sym (map-append stored_file file
 
 -- ---- a name that no file has yet
 
-neither : (a b : Bool) → (a || b) ≡ false → (a ≡ false) × (b ≡ false)
-neither true b e = absurd (cc)
-neither false b e = (refl, e)
-
 position_or_len-none : {X : Type 0} (p : X → Bool) (xs : List X) → list_any p xs ≡ false → position_or_len p xs ≡ length xs
 position_or_len-none p [] none = refl
 position_or_len-none p (x ∷ xs) none =
-    let here = neither (p x) (list_any p xs) none in
+    let here = or_parts (p x) (list_any p xs) none in
     rw here.0 (omega (arith, position_or_len-none p xs here.1))
 
 position-none : {X : Type 0} (p : X → Bool) (xs : List X) → list_any p xs ≡ false → position p xs ≡ None
@@ -43,8 +39,8 @@ none_before [] rest g differ = refl
 none_before (f ∷ fs) rest g differ =
     let parts = and_parts (not (list_any (has_name f.name) (fs ++ g ∷ rest))) (names_differ (fs ++ g ∷ rest)) differ in
     let none : list_any (has_name f.name) (fs ++ g ∷ rest) ≡ false = not-true (list_any (has_name f.name) (fs ++ g ∷ rest)) parts.0 in
-    let behind = neither (list_any (has_name f.name) fs) _ (sym (list_any-append (has_name f.name) fs (g ∷ rest)) ∙ none) in
-    let other : has_name f.name g ≡ false = (neither (has_name f.name g) (list_any (has_name f.name) rest) behind.1).0 in
+    let behind = or_parts (list_any (has_name f.name) fs) _ (sym (list_any-append (has_name f.name) fs (g ∷ rest)) ∙ none) in
+    let other : has_name f.name g ≡ false = (or_parts (has_name f.name g) (list_any (has_name f.name) rest) behind.1).0 in
     or_from (has_name g.name f) (list_any (has_name g.name) fs) (differs f g other) (none_before fs rest g parts.1)
 
 pub new_name : (files done rest : List (List ℕ × List ℕ)) (name bytes : List ℕ) → files ≡ done ++ (name, bytes) ∷ rest → names_differ (stored files) ≡ true → file_named (stored_alone (stored done)) name ≡ None

@@ -5,6 +5,7 @@ use Rattle.pr_model.specs.Legal.{ticked}
 use Rattle.pr_model.specs.State.{TracedState, TracedSystem}
 use Rattle.pr_model.specs.declared.events.Entry.{Entry}
 use Rattle.pr_proc.proofs.CountLemmas.{AllUsedAtMost-more}
+use Rattle.pr_proc.specs.Counts.{AllUsedAtMost}
 use Rattle.pr_kern.specs.Soundness.{IsSound, HasRoom, IsKept}
 
 -- What the kernel keeps while its history grows.
@@ -35,6 +36,10 @@ kept-start s h places none reserved fits sound lawful =
       lawful = lawful;
       room = record { within = omega (arith, n); room = omega (arith, n, reserved); fits = fits };
     }
+
+-- a turn is one step more: it leaves the clock, and adds at most 1 to each count
+pub turned-sound : (n : ℕ) (s e : TracedSystem) → IsSound n s → e.clock ≡ s.clock → AllUsedAtMost (n + 1) e → IsSound (n + 1) e
+turned-sound n s e sound same used = record { clock = omega (arith, sound.clock, same); counts = used }
 
 -- a millisecond more is one step more
 pub ticked-sound : (n : ℕ) (s : TracedSystem) → IsSound n s → IsSound (n + 1) (ticked s)

@@ -2,13 +2,11 @@ pub mod AnswerLemmas
 pub mod FileLemmas
 pub mod InterruptLemmas
 pub mod KeptLemmas
-pub mod OrderLemmas
 pub mod SendingLemmas
 pub mod SizeLemmas
 pub mod SoundLemmas
 pub mod SpawnLemmas
 pub mod StartLemmas
 pub mod StepLemmas
-pub mod TurnedLemmas
 pub mod ViewLemmas
 pub mod WaitLemmas

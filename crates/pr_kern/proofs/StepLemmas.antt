@@ -1,5 +1,6 @@
 use Rattle.std.proofs.Common.{◌≡◌, ℕ, ◌<◌, ◌+◌, Option, Some, None, refl, sym, ap, subst}
 use Rattle.std.specs.Option.{option_map}
+use Rattle.std.proofs.lemmas.Option.{same_Some}
 use Rattle.pr_model.specs.Calls.{Answer, answer_to}
 use Rattle.pr_model.specs.Legal.{IsLegalEntry, after, after_call as state_after_call, after_turn as state_after_turn, clock_limit}
 use Rattle.pr_model.specs.LwpTurns.{LwpTurn, turn_of}
@@ -8,12 +9,6 @@ use Rattle.pr_kern.specs.Kernels.{Kernel, TurnedKernel, after_answer, after_call
 use Rattle.pr_kern.specs.Steps.{Adds}
 
 -- The entries of the kernel's steps are legal.
-
-same_kernel : (k m : Kernel) → Some k ≡ Some m → k ≡ m
-same_kernel k m e = cc
-
-same_turned : (k m : TurnedKernel) → Some k ≡ Some m → k ≡ m
-same_turned k m e = cc
 
 answered : (n by : ℕ) (c : Call) (k : Kernel) (a : Answer) → by < n → answer_to k.state by c ≡ Some a → Adds n k (after_answer by c k a)
 unfolding IsLegalEntry after
@@ -31,7 +26,7 @@ call-adds n by c k new here made = of (answer_to k.state by c) refl made
   where
     of : (o : Option Answer) → answer_to k.state by c ≡ o → option_map (after_answer by c k) o ≡ Some new → Adds n k new
     of None none e = absurd (cc)
-    of (Some a) some e = let Q : Kernel → Type 0 = Adds n k in subst Q (same_kernel _ new e) (answered n by c k a here some)
+    of (Some a) some e = let Q : Kernel → Type 0 = Adds n k in subst Q (same_Some _ new e) (answered n by c k a here some)
 
 turned : (n pid id : ℕ) (k : Kernel) (t : LwpTurn) → turn_of k.state.system pid id ≡ Some t → Adds n k (after_lwp_turn pid id k t).kernel
 unfolding IsLegalEntry after
@@ -49,7 +44,7 @@ turn-adds n pid id k new made = of (turn_of k.state.system pid id) refl made
   where
     of : (o : Option LwpTurn) → turn_of k.state.system pid id ≡ o → option_map (after_lwp_turn pid id k) o ≡ Some new → Adds n k new.kernel
     of None none e = absurd (cc)
-    of (Some t) some e = let Q : TurnedKernel → Type 0 = λ m. Adds n k m.kernel in subst Q (same_turned _ new e) (turned n pid id k t some)
+    of (Some t) some e = let Q : TurnedKernel → Type 0 = λ m. Adds n k m.kernel in subst Q (same_Some _ new e) (turned n pid id k t some)
 
 pub tick-adds : (n : ℕ) (k : Kernel) → k.state.system.clock < clock_limit → Adds n k (after_tick k)
 unfolding IsLegalEntry after after_tick

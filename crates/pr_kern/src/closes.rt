@@ -5,7 +5,6 @@ ghost use Rattle.pr_model.specs.Handles.{after_last_close, released, was_last_wr
 ghost use Rattle.pr_model.specs.State.{live_process, with_process};
 
 use crate::Machine;
-use crate::opens::is_writable;
 use pr_model::{Held, Reply};
 use pr_num::{Errno, Modes, Sig};
 use pr_open::Opens;
@@ -42,7 +41,7 @@ fn end_tracing(sys: &mut Sys, pid: u32)
 fn was_last_writer(held: Held, others: &Opens) -> bool
     ensures { result ≡ was_last_writer held others.now }
 {
-    is_writable(held.mode) && !others.writable(held.pid)
+    held.mode.is_writable() && !others.writable(held.pid)
 }
 
 /// Closes a handle of a controller, or refuses it with EBADF; where no other handle for writing is left on its process,

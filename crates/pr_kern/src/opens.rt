@@ -2,7 +2,7 @@
 ghost use Rattle.std.specs.Prelude.{◌≡◌, ◌==◌, ◌&&◌, ◌||◌, not};
 ghost use Rattle.std.specs.Option.{option_copied};
 ghost use Rattle.pr_model.specs.Calls.{Answer, open_answer};
-ghost use Rattle.pr_model.specs.Handles.{fits_file, has_file, is_writable};
+ghost use Rattle.pr_model.specs.Handles.{fits_file, has_file};
 ghost use Rattle.pr_kern.specs.Openings.{errno_of};
 
 use crate::Machine;
@@ -13,21 +13,11 @@ use pr_open::{OpenNo, Opens};
 use pr_proc::Proc;
 use pr_view::outlives;
 
-/// Whether a mode is for writing.
-pub fn is_writable(mode: Mode) -> bool
-    ensures { result ≡ is_writable mode }
-{
-    match mode {
-        Mode::Read => false,
-        Mode::Write | Mode::WriteExcl => true,
-    }
-}
-
 /// Whether a file can be opened in this mode, with this lwp named for it; 0 names none.
 pub fn fits_file(file: File, mode: Mode, lwp: u32) -> bool
     ensures { result ≡ fits_file file mode lwp }
 {
-    is_control(file) == is_writable(mode) && is_of_lwp(file) == (lwp != 0)
+    is_control(file) == mode.is_writable() && is_of_lwp(file) == (lwp != 0)
 }
 
 /// Whether a process, if there is one, has the file that is asked for.

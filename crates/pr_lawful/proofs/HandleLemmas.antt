@@ -5,6 +5,7 @@ use Rattle.std.proofs.lemmas.List.Elements.{All-nil, All-cons, All-head, All-tai
 use Rattle.std.proofs.lemmas.List.Quantifiers.{position-Some}
 use Rattle.std.proofs.lemmas.List.Sums.{sum_by-cons, sum_by-set}
 use Rattle.std.proofs.lemmas.Option.{get_or_from_slice_get, same_Some, none-some, slice_get-get_or, slice_get_within}
+use Rattle.pr_num.proofs.BoolLemmas.{or_false}
 use Rattle.pr_num.specs.ById.{under, change_under, rises_from}
 use Rattle.pr_num.proofs.ByIdLemmas.{rises_from-head, rises_from-tail}
 use Rattle.pr_file.proofs.PlaceLemmas.{at-All}
@@ -136,10 +137,6 @@ one_more false n m is none counted = cc
 none_more : (b : Bool) (n m : ℕ) → b ≡ false → n + 0 ≡ m + cond b 1 0 → n ≡ m
 none_more true n m is counted = cc
 none_more false n m is counted = omega arith
-
-or_false : (b : Bool) → (b || false) ≡ b
-or_false true = refl
-or_false false = refl
 
 module _ (opens : Places) (place : ℕ) (h : Held) (free : slice_get opens place ≡ Some None) where
   abbrev pub taken : Places

@@ -3,6 +3,7 @@ use Rattle.std.specs.List.{list_all}
 use Rattle.std.proofs.lemmas.Bool.{or_parts, leb-false}
 use Rattle.std.proofs.lemmas.List.Elements.{All-nil}
 use Rattle.std.proofs.lemmas.Option.{none-some}
+use Rattle.pr_num.proofs.BoolLemmas.{and_false}
 use Rattle.pr_num.proofs.ByIdLemmas.{rises_from-inserted}
 use Rattle.pr_num.proofs.ByIdLaws.{All-inserted, length-inserted}
 use Rattle.pr_num.proofs.SetLemmas.{has_number-without}
@@ -213,11 +214,7 @@ control-kept f pid x traced_too = record {
 -- SIGKILL is not traced
 signals-traced : (signals : ℕ) (c : TracedControl) → has_number (tracing_signals signals c).traced_signals (signal_number Kill) ≡ false
 unfolding tracing_signals signal_number
-signals-traced signals c = has_number-without signals 9 9 (lit≤ tt) (lit≤ tt) (lit≤ tt) (lit≤ tt) ∙ neither (has_number signals 9)
-  where
-    neither : (b : Bool) → (b && false) ≡ false
-    neither true = refl
-    neither false = refl
+signals-traced signals c = has_number-without signals 9 9 (lit≤ tt) (lit≤ tt) (lit≤ tt) (lit≤ tt) ∙ and_false (has_number signals 9)
 
 shared_one-keeps : (s : TracedSystem) (q : ℕ) (p : TracedProcess) (g : Sig) → Keeps (process_without_one s q p g)
 unfolding process_without_one

@@ -4,6 +4,7 @@ use Rattle.std.specs.Option.{option_and_then}
 use Rattle.std.proofs.lemmas.Bool.{cases_eq, false≢true, ne_eqb}
 use Rattle.std.proofs.lemmas.List.Elements.{All-set, All-nil, All-cons, All-weaker}
 use Rattle.std.proofs.lemmas.Option.{same_Some, none-some}
+use Rattle.pr_num.proofs.BoolLemmas.{and_false}
 use Rattle.pr_num.specs.ById.{map_each}
 use Rattle.pr_num.proofs.ByIdLaws.{All-under}
 use Rattle.pr_num.proofs.SetLemmas.{has_number-zero}
@@ -256,16 +257,12 @@ closed-state s number h lawful there = record {
     one true false left alone = cc
     one false a left alone = refl
 
-    both-false : (b : Bool) → (b && false) ≡ false
-    both-false true = refl
-    both-false false = refl
-
     none-left : (pid : ℕ) → was_last_writer h (slice_set s.opens number None) ≡ false → has_writer pid (slice_set s.opens number None) ≡ false → is_writer pid (Some h) ≡ false
     none-left pid left alone =
         elim (cases_eq pid h.pid) [
           | inl same ↦
               let writes = one (is_writable h.mode) (has_writer h.pid (slice_set s.opens number None)) left (ap (λ n. has_writer n (slice_set s.opens number None)) (sym same) ∙ alone) in
-              rw (writes) (both-false (eqb h.pid pid))
+              rw (writes) (and_false (eqb h.pid pid))
           | inr apart ↦ not-writer h pid apart
         ]
 

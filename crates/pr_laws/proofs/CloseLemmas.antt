@@ -1,6 +1,7 @@
-use Rattle.std.proofs.Common.{◌≡◌, ◌&&◌, not, ℕ, Bool, true, false, is_none, Option, Some, None, List, [], ◌∷◌, cond, refl, sym, ◌∙◌, ap}
+use Rattle.std.proofs.Common.{◌≡◌, ℕ, Bool, true, false, is_none, Option, Some, None, List, [], ◌∷◌, cond, refl, sym, ◌∙◌, ap}
 use Rattle.std.proofs.lemmas.List.Elements.{All-nil, All-cons}
 use Rattle.std.proofs.lemmas.Option.{same_Some}
+use Rattle.std.proofs.lemmas.Bool.{and_parts, not-true}
 use Rattle.std.specs.List.{All, slice_set}
 use Rattle.std.specs.Option.{option_map, option_and_then}
 use Rattle.pr_num.specs.ById.{map_each}
@@ -13,17 +14,9 @@ use Rattle.pr_laws.specs.LastCloses.{HasNoMark, IsReleased}
 
 -- What the last close for writing leaves.
 
-not_true : (b : Bool) → not b ≡ true → b ≡ false
-not_true true e = cc
-not_true false e = refl
-
-right : (a b : Bool) → (a && b) ≡ true → b ≡ true
-right true b e = e
-right false b e = cc
-
 pub no_writer-left : (s : TracedState) (h : Held) (number : ℕ) → was_last_writer h (slice_set s.opens number None) ≡ true → has_writer h.pid (with_closed h number s).opens ≡ false
 unfolding with_closed
-no_writer-left s h number last = not_true _ (right (is_writable h.mode) _ last)
+no_writer-left s h number last = not-true _ (and_parts (is_writable h.mode) _ last).1
 
 unmarked : (ls : List (ℕ × TracedLwp)) → All HasNoMark (map_each released_lwp ls)
 unfolding released_lwp

@@ -1,5 +1,5 @@
 use Rattle.std.proofs.Common.{◌≡◌, ◌&&◌, ◌||◌, not, ◌+◌, ℕ, Bool, true, false, eqb, Option, Some, None, List, [], ◌∷◌, ◌++◌, cond, refl, sym, subst, ◌∙◌, ap, inl, inr, arith}
-use Rattle.std.proofs.lemmas.Bool.{eqb-true, eq-eqb, cases_Bool}
+use Rattle.std.proofs.lemmas.Bool.{and_parts, eqb-true, eq-eqb, cases_Bool}
 use Rattle.std.proofs.lemmas.List.Elements.{All-nil, All-cons}
 use Rattle.std.proofs.lemmas.Option.{same_Some}
 use Rattle.std.specs.List.{All, find, list_all}
@@ -87,7 +87,7 @@ representative-stands p e rising is =
 
 -- ---- what becomes of each lwp
 
-no_flags : (l : TracedLwp) → with_flags_on 0 l ≡ l
+pub no_flags : (l : TracedLwp) → with_flags_on 0 l ≡ l
 unfolding with_flags_on with_cleared with_aborted has_flags common_word
 no_flags l = refl
 
@@ -136,14 +136,6 @@ all-requested job id l (e ∷ es) found stands =
 
 -- ---- all lwps go on
 
-left : (a b : Bool) → (a && b) ≡ true → a ≡ true
-left true b e = refl
-left false b e = cc
-
-right : (a b : Bool) → (a && b) ≡ true → b ≡ true
-right true b e = e
-right false b e = cc
-
 -- a requested stop ends, and there is no other where the process is let run
 ends-requested : (job : Option Sig) (id : ℕ) (l : TracedLwp) → shows_run job (id, l) ≡ true → without_request (without_directive l) ≡ let_go l
 unfolding shown without_request without_directive let_go
@@ -175,7 +167,7 @@ ends-representative l stands = rw stands refl
 
 ends-others : (job : Option Sig) (ls : List (ℕ × TracedLwp)) → list_all (shows_run job) ls ≡ true → map_each without_request (map_each without_directive ls) ≡ map_each let_go ls
 ends-others job [] all = refl
-ends-others job (e ∷ es) all = rw (ends-requested job e.0 e.1 (left _ _ all)) (ap (λ ds. (e.0, let_go e.1) ∷ ds) (ends-others job es (right _ _ all)))
+ends-others job (e ∷ es) all = rw (ends-requested job e.0 e.1 (and_parts _ _ all).0) (ap (λ ds. (e.0, let_go e.1) ∷ ds) (ends-others job es (and_parts _ _ all).1))
 
 ends-all : (job : Option Sig) (id : ℕ) (l : TracedLwp) (ls : List (ℕ × TracedLwp)) → under id ls ≡ Some l → has_event_stop l ≡ true → list_all (shows_run job) (without_id id ls) ≡ true → map_each without_request (requested id ls) ≡ map_each let_go ls
 unfolding requested
@@ -187,7 +179,7 @@ ends-all job id l (e ∷ es) found stands all =
           rw here (ap (λ x. (e.0, x) ∷ map_each without_request (map_each without_directive es)) (ends-representative e.1 (ap has_event_stop is ∙ stands)) ∙ ap (λ ds. (e.0, let_go e.1) ∷ ds) (ends-others job es (rw here at all)))
       | inr other ↦
           let rest = rw other at all in
-          rw other (ap (λ x. (e.0, x) ∷ map_each without_request (change_under id with_request (map_each without_directive es))) (ends-requested job e.0 e.1 (left _ _ rest)) ∙ ap (λ ds. (e.0, let_go e.1) ∷ ds) (ends-all job id l es (rw other at found) stands (right _ _ rest)))
+          rw other (ap (λ x. (e.0, x) ∷ map_each without_request (change_under id with_request (map_each without_directive es))) (ends-requested job e.0 e.1 (and_parts _ _ rest).0) ∙ ap (λ ds. (e.0, let_go e.1) ∷ ds) (ends-all job id l es (rw other at found) stands (and_parts _ _ rest).1))
     ]
 
 go_on-lwps : (p : TracedProcess) (r : ℕ × TracedLwp) → IsRising p.lwps → representative p ≡ Some r → has_event_stop r.1 ≡ true → others_let_run p r.0 ≡ true → (with_run 0 p).lwps ≡ map_each let_go p.lwps

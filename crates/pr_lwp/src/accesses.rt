@@ -11,14 +11,7 @@ ghost use Rattle.pr_lwp.specs.Plain.{stored_bytes};
 use crate::decoding::{Store, Stored};
 use pr_codec::put_words;
 use pr_mem::{MemFault, Space};
-use pr_num::BadByte;
-
-/// The protections that a fetch, a store and a load need.
-const EXEC: u8 = 1;
-
-const WRITE: u8 = 2;
-
-const READ: u8 = 4;
+use pr_num::{BadByte, PROT_EXEC, PROT_READ, PROT_WRITE};
 
 /// The byte at which an access failed; `None` for a fault that no access has.
 fn bad_byte(fault: MemFault) -> Option<BadByte>
@@ -48,14 +41,14 @@ fn bytes_at<const N: usize>(space: &Space, at: u64, need: u8) -> Result<[u8; N],
 pub fn fetch(space: &Space, at: u64) -> Result<[u8; 16], BadByte>
     ensures { result ≡ bytes_for prot_exec space.now at 16 }
 {
-    bytes_at(space, at, EXEC)
+    bytes_at(space, at, PROT_EXEC)
 }
 
 /// Bytes that an instruction reads.
 pub fn load<const N: usize>(space: &Space, at: u64) -> Result<[u8; N], BadByte>
     ensures { result ≡ bytes_for prot_read space.now at N }
 {
-    bytes_at(space, at, READ)
+    bytes_at(space, at, PROT_READ)
 }
 
 /// The first byte that cannot be written, where a store cannot be made.
@@ -64,9 +57,9 @@ pub fn bad_store(space: &Space, store: Store) -> Option<BadByte>
     ensures { result ≡ result_err (bytes_for prot_write space.now store.at (length (stored_bytes store.bytes))) }
 {
     match store.bytes {
-        Stored::Byte(_) => bytes_at::<1>(space, store.at, WRITE).err(),
-        Stored::Word(_) => bytes_at::<8>(space, store.at, WRITE).err(),
-        Stored::Frame { .. } => bytes_at::<16>(space, store.at, WRITE).err(),
+        Stored::Byte(_) => bytes_at::<1>(space, store.at, PROT_WRITE).err(),
+        Stored::Word(_) => bytes_at::<8>(space, store.at, PROT_WRITE).err(),
+        Stored::Frame { .. } => bytes_at::<16>(space, store.at, PROT_WRITE).err(),
     }
 }
 
@@ -94,7 +87,7 @@ fn write(space: &mut Space, at: u64, bytes: &[u8])
     requires { IsOk (bytes_for prot_write space.old at (length bytes.now)) }
     ensures { space.new ≡ with_bytes at bytes.now space.old }
 {
-    space.write(at, bytes, WRITE).unwrap();
+    space.write(at, bytes, PROT_WRITE).unwrap();
 }
 
 /// Makes a store that can be made.

@@ -5,12 +5,9 @@ ghost use Rattle.pr_mem.specs.Answers.{is_zero, length_read, with_text};
 ghost use Rattle.pr_mem.specs.Places.{IsPlace};
 
 use crate::{accesses, ranges};
-use pr_num::{BadByte, Mapping};
+use pr_num::{BadByte, Mapping, PROT_READ};
 
 // Texts that end with a zero byte.
-
-/// The protection that reading a text needs.
-const READ: u8 = 4;
 
 /// The place of the first zero byte.
 fn zero_in(bytes: &[u8]) -> Option<usize>
@@ -34,7 +31,7 @@ fn length_at(
     let mut place = first;
     let mut done = 0;
     while done < most {
-        let run = accesses::run_at(mappings, place, READ, at + done as u64, most - done)?;
+        let run = accesses::run_at(mappings, place, PROT_READ, at + done as u64, most - done)?;
         if let Some(end) = zero_in(run) {
             return Ok(Some(done + end));
         }
@@ -60,6 +57,6 @@ pub fn read_text(
     let Some(len) = length_at(mappings, first, at, most)? else {
         return Ok(None);
     };
-    accesses::fill(mappings, first, READ, at, &mut out[..len])?;
+    accesses::fill(mappings, first, PROT_READ, at, &mut out[..len])?;
     Ok(Some(len))
 }

@@ -1,7 +1,7 @@
 ghost use Rattle.std.specs.Prelude.{◌≡◌, ◌==◌, ◌<◌, length, replicate, is_none, position, None, Some, Err, IfOk, IfErr, IfSome, OnErr, slice_set, slice_index_or};
 ghost use Rattle.std.specs.List.{list_any};
 ghost use Rattle.slab.specs.Slab.{get};
-ghost use Rattle.pr_model.specs.Handles.{is_writable, is_exclusive, is_writer, is_exclusive_writer, has_writer, has_exclusive_writer, conflicts, handle_of};
+ghost use Rattle.pr_model.specs.Handles.{is_exclusive, is_writer, is_exclusive_writer, has_writer, has_exclusive_writer, conflicts, handle_of};
 ghost use Rattle.pr_model.specs.State.{nothing_open};
 ghost use Rattle.pr_num.specs.Limits.{handle_limit};
 ghost use Rattle.pr_open.specs.Keys.{held_at};
@@ -145,15 +145,6 @@ fn no_keys(alloc: Global) -> Result<Vec<Option<usize>>, NoMemory>
     Ok(keys)
 }
 
-fn is_writable(mode: Mode) -> bool
-    ensures { result ≡ is_writable mode }
-{
-    match mode {
-        Mode::Read => false,
-        Mode::Write | Mode::WriteExcl => true,
-    }
-}
-
 fn is_exclusive(mode: Mode) -> bool
     ensures { result ≡ is_exclusive mode }
 {
@@ -194,7 +185,7 @@ fn is_writer(held: Option<Held>, pid: u32) -> bool
 {
     match held {
         None => false,
-        Some(h) => h.pid == pid && is_writable(h.mode),
+        Some(h) => h.pid == pid && h.mode.is_writable(),
     }
 }
 

@@ -1,3 +1,4 @@
+pub mod ByteLemmas
 pub mod CountLemmas
 pub mod ExecLemmas
 pub mod FamilyLemmas
@@ -11,3 +12,4 @@ pub mod SendingLemmas
 pub mod SignalLemmas
 pub mod SizeLemmas
 pub mod SpaceLemmas
+pub mod UsageLemmas

@@ -2,6 +2,7 @@ pub mod Counts
 pub mod Families
 pub mod FirstFiles
 pub mod Forks
+pub mod Orders
 pub mod Refusals
 pub mod Room
 pub mod Sendings

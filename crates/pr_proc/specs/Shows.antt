@@ -1,7 +1,7 @@
-use Rattle.std.specs.Prelude.{ℕ, Option, Some, None}
+use Rattle.std.specs.Prelude.{ℕ, Option}
 use Rattle.std.specs.Option.{option_and_then, option_map}
 use Rattle.pr_num.specs.StopReasons.{reason_number}
-use Rattle.pr_model.specs.State.{TracedProcess, TracedLwp, lwp_of}
+use Rattle.pr_model.specs.State.{TracedProcess, lwp_of}
 use Rattle.pr_model.specs.Statuses.{reason_shown, what_shown}
 use Rattle.pr_model.specs.Stops.{shown}
 use Rattle.pr_model.specs.declared.stops.Shown.{Shown}

@@ -1,12 +1,3 @@
-//! The children of a process, and how they are reaped.
-ghost use Rattle.std.specs.Prelude.{◌≡◌};
-ghost use Rattle.pr_model.specs.Lives.{with_reaped};
-ghost use Rattle.pr_model.specs.Readers.{children_among, children_of};
-ghost use Rattle.pr_proc.specs.Families.{children_told};
-
-use crate::{Proc, Sys};
-use pr_num::ById;
-
 /// What there is of the children of a process (wait(3C)).
 #[derive(Clone, Copy, Debug, PartialEq, Eq)]
 pub enum Children {
@@ -16,45 +7,4 @@ pub enum Children {
     Living,
     /// The least id of those that have ended, and its wait status.
     Zombie(u32, u64),
-}
-
-#[tactic(auto, using(crate::proofs::FamilyLemmas::family_laws))]
-fn children_among(parent: u32, processes: &ById<Proc>) -> Children
-    ensures { children_told result ≡ children_among parent processes.now }
-{
-    let mut any = false;
-    for place in 0..processes.len() {
-        let (id, process) = processes.at(place);
-        if process.parent != parent {
-            continue;
-        }
-        if let Some(status) = process.ended {
-            return Children::Zombie(id, status);
-        }
-        any = true;
-    }
-    if any {
-        Children::Living
-    } else {
-        Children::Nobody
-    }
-}
-
-/// What there is of the children of a process. Goes over all processes; takes no memory.
-#[tactic(auto, unfolding(pr_model::specs::Readers::children_of))]
-pub fn children_of(sys: &Sys, pid: u32) -> Children
-    ensures { children_told result ≡ children_of sys.now pid }
-{
-    children_among(pid, &sys.processes)
-}
-
-/// Takes away what is left of a process that has ended; where nothing is left of it, the system stays as it is. Takes
-/// no memory.
-#[tactic(auto, using(pr_num::proofs::ByIdLaws::by_id_laws), unfolding(pr_model::specs::Lives::with_reaped))]
-pub fn reap(sys: &mut Sys, child: u32)
-    ensures { sys.new ≡ with_reaped child sys.old }
-{
-    if sys.processes.contains(child) {
-        sys.processes.remove(child);
-    }
 }

@@ -3,7 +3,7 @@ ghost use Rattle.std.specs.Prelude.{◌≡◌, IsSome, IfSome, IsTrue};
 ghost use Rattle.pr_num.specs.ById.{change_under, map_each};
 ghost use Rattle.pr_model.specs.Generation.{lwp_with_pending, lwp_without_pending, told, with_deletions, with_pending, without_job_stop, without_pending};
 ghost use Rattle.pr_model.specs.Machines.{traced};
-ghost use Rattle.pr_model.specs.Signals.{generated};
+ghost use Rattle.pr_model.specs.Signals.{disposition_of, generated};
 ghost use Rattle.pr_model.specs.State.{live_process, with_process};
 ghost use Rattle.pr_parts.specs.PendingSignals.{has_room};
 ghost use Rattle.pr_proc.specs.Room.{has_room_for, has_room_in};
@@ -11,6 +11,14 @@ ghost use Rattle.pr_proc.specs.Room.{has_room_for, has_room_in};
 use crate::{Lwp, Proc, Sys, end};
 use pr_num::{ById, Info, Sig, SigSet};
 use pr_sig::deletes;
+
+/// What a process does with a signal.
+#[tactic(auto, unfolding(pr_model::specs::Signals::disposition_of))]
+pub fn disposition_of(dispositions: &[u64; 39], signal: Sig) -> u64
+    ensures { result ≡ disposition_of dispositions.now signal }
+{
+    dispositions[signal.number() as usize - 1]
+}
 
 /// Signals pend for an lwp no more.
 #[tactic(auto, unfolding(pr_model::specs::Generation::lwp_without_pending))]

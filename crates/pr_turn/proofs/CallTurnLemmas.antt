@@ -1,6 +1,7 @@
-use Rattle.std.proofs.Common.{◌≡◌, ℕ, Bool, true, false, cond, eqb, Some, List, [], ◌∷◌, refl, sym, ap, ◌∙◌, subst}
+use Rattle.std.proofs.Common.{◌≡◌, ℕ, Bool, true, false, cond, eqb, Some, List, [], ◌∷◌, refl, sym, ap, ◌∙◌, IsSome}
 use Rattle.pr_num.specs.ById.{change_under}
 use Rattle.pr_call.specs.Effects.{after_effect, effect_of, outcome_of}
+use Rattle.pr_call.specs.Requests.{request_of}
 use Rattle.pr_call.specs.declared.requests.Performed.{Performed}
 use Rattle.pr_call.specs.declared.requests.Request.{Request}
 use Rattle.pr_model.specs.Changes.{Effect, does, sleeps, ends, all_changed, ended}
@@ -11,9 +12,6 @@ use Rattle.pr_model.specs.Rows.{Row, performed_row}
 use Rattle.pr_model.specs.State.{TracedControl, TracedLwp, TracedProcess, TracedSystem, live_process, lwp_of, with_lwp, with_lwp_of, with_process}
 use Rattle.pr_model.specs.Transitions.{after_transition, performed}
 use Rattle.pr_model.specs.declared.stops.Point.TheVariants.{Exit}
-use Rattle.pr_proc.specs.Counts.{AllUsedAtMost}
-use Rattle.pr_turn.proofs.ChangeUsageLemmas.{AllUsedAtMost-effect}
-use Rattle.pr_turn.proofs.UsageLemmas.{AllUsedAtMost-with_process}
 use Rattle.pr_turn.specs.CallTurns.{call_made, call_moved, call_stops}
 use Rattle.pr_turn.specs.Making.{of_row}
 use Rattle.pr_turn.specs.Turns.{IsNext, Makes}
@@ -60,16 +58,15 @@ module _ (s : TracedSystem) (p : TracedProcess) (l : TracedLwp) (woken : Bool) (
   stops-performed c sleeps = refl
   stops-performed c (ends how) = refl
 
--- what a call moves keeps what was used
-moved-usage : (id : ℕ) (f : TracedLwp → TracedLwp) (p : TracedProcess) → (with_lwp id f p).control.usage ≡ p.control.usage
-unfolding with_lwp
-moved-usage id f p = refl
-
-moved-used : (n pid id : ℕ) (f : TracedLwp → TracedLwp) (s : TracedSystem) → AllUsedAtMost n s → AllUsedAtMost n (with_lwp_of pid id f s)
-unfolding with_lwp_of
-moved-used n pid id f s h = AllUsedAtMost-with_process n pid (with_lwp id f) s (moved-usage id f) h
-
 -- ---- the turn
+
+-- the call that is performed is the one that the lwp makes
+pub next-asks : (s : TracedSystem) (woken : Bool) (r : Request) → IsNext s r.pid r.lwp (Performs woken r.call r.args r.since) → request_of s r.pid r.lwp ≡ Some r
+unfolding request_of
+next-asks s woken r is = rw (is.found, is.stands) is.asks
+
+pub next-asked : (s : TracedSystem) (woken : Bool) (r : Request) → IsNext s r.pid r.lwp (Performs woken r.call r.args r.since) → IsSome (request_of s r.pid r.lwp)
+next-asked s woken r is = rw (next-asks s woken r is) refl
 
 module _ (s after new : TracedSystem) (woken : Bool) (r : Request) where
   pub performed-makes : (outcome : Performed) (traces : Bool) (did : Made) (stop : Bool) → IsNext s r.pid r.lwp (Performs woken r.call r.args r.since) → ((p : TracedProcess) → live_process s r.pid ≡ Some p → (l : TracedLwp) → lwp_of p r.lwp ≡ Some l → after ≡ after_effect r.pid p r.lwp l (effect_of s p l r) s) → ((p : TracedProcess) → live_process s r.pid ≡ Some p → (l : TracedLwp) → lwp_of p r.lwp ≡ Some l → outcome ≡ outcome_of (effect_of s p l r)) → ((p : TracedProcess) → live_process s r.pid ≡ Some p → traces ≡ is_traced p.control (Exit r.call)) → new ≡ with_lwp_of r.pid r.lwp (call_moved r outcome) after → did ≡ call_made woken r.call outcome → stop ≡ call_stops traces outcome → Makes s new r.pid r.lwp did stop
@@ -91,5 +88,4 @@ module _ (s after new : TracedSystem) (woken : Bool) (r : Request) where
         system = new_is ∙ after-performed s p l woken r effect ∙ ap (λ (x : Row). after_transition traced r.pid p r.lwp l x.transition s) is.row;
         what = what ∙ ap (λ o. call_made woken r.call o) came_is ∙ made-performed s p l woken r effect ∙ ap of_row is.row;
         traces = stops ∙ ap (λ t. call_stops t outcome) (asks p is.found) ∙ ap (λ o. call_stops (is_traced p.control (Exit r.call)) o) came_is ∙ stops-performed s p l woken r p.control effect ∙ ap (λ (x : Row). meets p.control x.point) is.row;
-        used = λ n h. subst (AllUsedAtMost n) (sym new_is) (moved-used n r.pid r.lwp (call_moved r (outcome_of effect)) (after_effect r.pid p r.lwp l effect s) (AllUsedAtMost-effect n r.pid p r.lwp l effect s h));
       }

@@ -1,5 +1,6 @@
 pub mod CallTurnLemmas
 pub mod ChangeUsageLemmas
+pub mod ClockLemmas
 pub mod MakeLemmas
 pub mod MoveLemmas
 pub mod NextLemmas

@@ -4,6 +4,8 @@ use Rattle.pr_num.specs.declared.faults.Flt.{Flt}
 use Rattle.pr_num.specs.declared.syscalls.Sysno.{Sysno}
 use Rattle.pr_num.specs.Signals.{signal_number}
 use Rattle.pr_parts.specs.declared.actions.Action.TheVariants as act
+use Rattle.pr_call.specs.Requests.{request_in}
+use Rattle.pr_call.specs.declared.requests.Request.{Request}
 use Rattle.pr_model.specs.CallEffects.{call_effect}
 use Rattle.pr_model.specs.Registers.{arguments}
 use Rattle.pr_model.specs.Rows.{Row, acted_row, call_row, caught_row, interrupted_row, performed_row, posted_row, posted_row_or, row_for, row_in, signal_row_or, taken_or}
@@ -16,7 +18,7 @@ use Rattle.pr_model.specs.declared.events.Res.{Res}
 use Rattle.pr_model.specs.declared.lwps.Current.{Current}
 use Rattle.pr_model.specs.declared.lwps.Phase.{Phase}
 use Rattle.pr_model.specs.declared.lwps.Phase.TheVariants as phase
-use Rattle.pr_turn.specs.NextRows.{fault_in, row_of}
+use Rattle.pr_turn.specs.NextRows.{unposted_fault, row_of}
 use Rattle.pr_turn.specs.declared.next.Next.TheVariants.{Requested, Posted, Ends, Returned, Executed, Dropped, JobStopped}
 
 -- Which row is next.
@@ -38,23 +40,23 @@ module _ (s : TracedSystem) (pid : ℕ) (p : TracedProcess) (id : ℕ) (l : Trac
   unfolding row_of row_for
   row-directed directed = rw directed refl
 
-  posted : (ph : Phase) (x : Flt × ℕ) (otherwise : Row) → fault_in ph ≡ Some x → posted_row x.0 x.1 ≡ posted_row_or s pid p id l ph otherwise
+  posted : (ph : Phase) (x : Flt × ℕ) (otherwise : Row) → unposted_fault ph ≡ Some x → posted_row x.0 x.1 ≡ posted_row_or s pid p id l ph otherwise
   posted (phase.Faulted f address) x otherwise e = ap (λ (y : Flt × ℕ). posted_row y.0 y.1) (sym (same_Some (f, address) x e))
   posted _ x otherwise e = absurd (cc)
 
-  unposted : (ph : Phase) (otherwise : Row) → fault_in ph ≡ None → otherwise ≡ posted_row_or s pid p id l ph otherwise
+  unposted : (ph : Phase) (otherwise : Row) → unposted_fault ph ≡ None → otherwise ≡ posted_row_or s pid p id l ph otherwise
   unposted (phase.Faulted f address) otherwise e = absurd (cc)
   unposted _ otherwise e = refl
 
-  pub row-posted : (f : Flt) (address : ℕ) → l.control.directed ≡ false → fault_in l.phase ≡ Some (f, address) → row_of p l (Posted f address) ≡ row_for s pid p id l
+  pub row-posted : (f : Flt) (address : ℕ) → l.control.directed ≡ false → unposted_fault l.phase ≡ Some (f, address) → row_of p l (Posted f address) ≡ row_for s pid p id l
   unfolding row_of row_for
   row-posted f address off faulted = rw off (posted l.phase (f, address) _ faulted)
 
-  pub row-current : (c : Current) → l.control.directed ≡ false → fault_in l.phase ≡ None → l.current ≡ Some c → acted_row p l c ≡ row_for s pid p id l
+  pub row-current : (c : Current) → l.control.directed ≡ false → unposted_fault l.phase ≡ None → l.current ≡ Some c → acted_row p l c ≡ row_for s pid p id l
   unfolding row_for
   row-current c off none current = rw (off, current) (unposted l.phase _ none)
 
-  pub row-phase : (r : Row) → l.control.directed ≡ false → fault_in l.phase ≡ None → l.current ≡ None → r ≡ signal_row_or s pid p id l l.phase (row_in s pid p id l l.phase) → r ≡ row_for s pid p id l
+  pub row-phase : (r : Row) → l.control.directed ≡ false → unposted_fault l.phase ≡ None → l.current ≡ None → r ≡ signal_row_or s pid p id l l.phase (row_in s pid p id l l.phase) → r ≡ row_for s pid p id l
   unfolding row_for
   row-phase r off none current e = e ∙ rw (off, current) (unposted l.phase _ none)
 
@@ -79,6 +81,18 @@ module _ (s : TracedSystem) (pid : ℕ) (p : TracedProcess) (id : ℕ) (l : Trac
   pub in-faulted : (r : Row) (f : Flt) (address : ℕ) → l.phase ≡ phase.Faulted f address → r ≡ row_of p l (Posted f address) → r ≡ signal_row_or s pid p id l l.phase (row_in s pid p id l l.phase)
   unfolding row_of signal_row_or row_in
   in-faulted r f address at e = subst (λ ph. r ≡ signal_row_or s pid p id l ph (row_in s pid p id l ph)) (sym at) e
+
+-- ---- the call that an lwp makes
+
+module _ (clock pid id : ℕ) (l : TracedLwp) where
+  abbrev made : ℕ → Sysno → List ℕ → Request
+  made since call args = record { pid = pid; lwp = id; since = since; call = call; args = args }
+
+  pub asks-entered : (call : Sysno) (args : List ℕ) → l.phase ≡ phase.Entered call → args ≡ arguments l.regs → request_in clock pid id l l.phase ≡ Some (made clock call args)
+  asks-entered call args at held = ap (request_in clock pid id l) at ∙ ap (λ as_held. Some (made clock call as_held)) (sym held)
+
+  pub asks-asleep : (call : Sysno) (args : List ℕ) (since : ℕ) → l.phase ≡ phase.Asleep call args since → request_in clock pid id l l.phase ≡ Some (made since call args)
+  asks-asleep call args since at = ap (request_in clock pid id l) at
 
 -- ---- the current signal
 

@@ -1,4 +1,4 @@
-use Rattle.std.proofs.Common.{◌≡◌, ℕ, ◌||◌, not, Bool, true, false, cond, Some, None, IsSome, is_some, List, [], ◌∷◌, refl, sym, ap, ◌∙◌, subst}
+use Rattle.std.proofs.Common.{◌≡◌, ℕ, ◌||◌, Bool, true, false, cond, Some, None, IsSome, is_some, List, [], ◌∷◌, refl, sym, ap, ◌∙◌, subst}
 use Rattle.std.proofs.lemmas.Option.{same_Some}
 use Rattle.pr_num.specs.ById.{put_under, under}
 use Rattle.pr_num.proofs.ByIdLaws.{change_under-change_under, put_under-found, put_under-same}
@@ -16,12 +16,10 @@ use Rattle.pr_model.specs.Points.{after_meeting, meets}
 use Rattle.pr_model.specs.Rows.{Row, own_taken_row, shared_taken_row, executed_row, requested_row, posted_row, returned_row, ran_row, entered_row, incurred_row, watched_row, row_for}
 use Rattle.pr_model.specs.State.{TracedLwp, TracedProcess, TracedSystem, live_process, lwp_of, process_of, with_lwp, with_lwp_of, with_process}
 use Rattle.pr_model.specs.Transitions.{own_taken, shared_taken, dropped, job_stopped, after_transition, changing, ending, requested, posted, returned, ran, entered, incurred, trapped, stored_in}
-use Rattle.pr_model.specs.declared.lwps.Phase.TheVariants as phase
 use Rattle.pr_proc.proofs.LifeLemmas.{live_process-found}
 use Rattle.pr_proc.specs.Counts.{AllUsedAtMost}
-use Rattle.pr_turn.proofs.MakeLemmas.{process_after-control}
-use Rattle.pr_turn.proofs.UsageLemmas.{AllUsedAtMost-ended, AllUsedAtMost-with_process}
-use Rattle.pr_turn.specs.CallTurns.{may_take_memory, phase_takes}
+use Rattle.pr_turn.proofs.ChangeUsageLemmas.{AllUsedAtMost-transition}
+use Rattle.pr_turn.specs.CallTurns.{Asks, may_take_memory, phase_takes}
 use Rattle.pr_turn.specs.Making.{ends, of_row, process_after, quiet}
 use Rattle.pr_turn.specs.NextRows.{row_of, row_of_turn, turn_fits}
 use Rattle.pr_turn.specs.Turns.{IsNext, Makes}
@@ -91,8 +89,8 @@ module _ (s : TracedSystem) (pid id : ℕ) where
   unfolding can_move
   can_move-may p l found stands can = rw (found, stands) at can
 
-  pub is-next : (p : TracedProcess) (l : TracedLwp) (next : NextTurn) → live_process s pid ≡ Some p → lwp_of p id ≡ Some l → can_move s pid id ≡ true → row_of_turn s pid p id l next ≡ row_for s pid p id l → turn_fits l next ≡ true → IsNext s pid id next
-  is-next p l next found stands can row room = record { process = p; lwp = l; found = found; stands = stands; may = can_move-may p l found stands can; fits = room; row = row }
+  pub is-next : (p : TracedProcess) (l : TracedLwp) (next : NextTurn) → live_process s pid ≡ Some p → lwp_of p id ≡ Some l → can_move s pid id ≡ true → row_of_turn s pid p id l next ≡ row_for s pid p id l → turn_fits l next ≡ true → Asks s.clock pid id l next → IsNext s pid id next
+  is-next p l next found stands can row room asks = record { process = p; lwp = l; found = found; stands = stands; may = can_move-may p l found stands can; fits = room; asks = asks; row = row }
 
   pub may_take-phase : (p : TracedProcess) (l : TracedLwp) → live_process s pid ≡ Some p → lwp_of p id ≡ Some l → may_take_memory s pid id ≡ false → phase_takes l.phase ≡ false
   unfolding may_take_memory
@@ -169,18 +167,9 @@ module _ (s : TracedSystem) (pid : ℕ) (p : TracedProcess) (id : ℕ) (l : Trac
   after-end status found stands =
       rw found (ap (λ t. with_this_ended traced pid p status t) (sym (stays-system (live_process-found s pid p found) stands)))
 
-  -- ---- what was used stays
-
-  pub after-usage : (n : ℕ) (next : Next) → ends next ≡ false → AllUsedAtMost n s → AllUsedAtMost n (with_process pid (process_after id (row_of p l next).transition) s)
-  after-usage n next on h = AllUsedAtMost-with_process n pid _ s (λ q. ap (λ c. c.usage) (process_after-control id (row_of p l next).transition q)) h
-
 -- ---- the parts of a turn
 
 module _ (s new : TracedSystem) (pid id : ℕ) (next : Next) where
-  ended-live : (status : ℕ) (p : TracedProcess) → live_process s pid ≡ Some p → with_ended traced pid status s ≡ with_this_ended traced pid p status s
-  unfolding with_ended
-  ended-live status p found = rw found refl
-
   -- a row that does not end its process
   pub makes-row : (p p1 : TracedProcess) (did : Made) (stop : Bool) → IsNext s pid id (ThisRow next) → ends next ≡ false → under pid s.processes ≡ Some p → ((l : TracedLwp) → lwp_of p id ≡ Some l → p1 ≡ process_after id (row_of p l next).transition p) → ((l : TracedLwp) → lwp_of p id ≡ Some l → did ≡ of_row (row_of p l next)) → ((l : TracedLwp) → lwp_of p id ≡ Some l → stop ≡ meets p.control (row_of p l next).point) → new ≡ record s { processes = put_under pid p1 s.processes } → Makes s new pid id did stop
   unfolding with_process
@@ -202,7 +191,6 @@ module _ (s new : TracedSystem) (pid id : ℕ) (next : Next) where
         system = made ∙ ap (λ r. after_transition traced pid p id is.lwp r.transition s) row ∙ ap (λ q. after_transition traced pid q id is.lwp (row_for s pid is.process id is.lwp).transition s) same;
         what = what is.lwp stands ∙ ap of_row row;
         traces = traces is.lwp stands ∙ ap (λ r. meets p.control r.point) row ∙ ap (λ q. meets q.control (row_for s pid is.process id is.lwp).point) same;
-        used = λ n h. subst (AllUsedAtMost n) (sym (e ∙ put)) (after-usage s pid p id is.lwp n next on h);
       }
 
   -- one that ends it
@@ -219,7 +207,6 @@ module _ (s new : TracedSystem) (pid id : ℕ) (next : Next) where
         system = made ∙ ap (λ r. after_transition traced pid is.process id is.lwp r.transition s) is.row;
         what = what ∙ ap of_row is.row;
         traces = ap (λ r. meets is.process.control r.point) is.row;
-        used = λ n h. subst (AllUsedAtMost n) (sym (e ∙ ended-live status is.process is.found)) (AllUsedAtMost-ended n pid is.process status s h);
       }
 
 module _ (s : TracedSystem) (pid id : ℕ) (next : NextTurn) where
@@ -242,6 +229,11 @@ module _ (s : TracedSystem) (pid id : ℕ) (next : NextTurn) where
       ap (λ x. turn_fits x next) same_lwp ∙ is.fits
 
 pub ruleset next_laws = (next-found, next-live, next-stands, next-fits)
+
+-- what bounds all counts of use goes on to bound them
+pub makes-used : (n : ℕ) (s new : TracedSystem) (pid id : ℕ) (did : Made) (stop : Bool) → Makes s new pid id did stop → AllUsedAtMost n s → AllUsedAtMost n new
+makes-used n s new pid id did stop m h =
+    subst (AllUsedAtMost n) (sym m.system) (AllUsedAtMost-transition n pid m.process id m.lwp (row_for s pid m.process id m.lwp).transition s h)
 
 -- the turn
 pub turn-made : (s new : TracedSystem) (pid id : ℕ) (did : Made) (stop : Bool) → Makes s new pid id did stop → turn_of s pid id ≡ Some (record { system = with_process pid (after_meeting did.point id) (with_process pid (with_counted did.did did.begun) new); turned = record { did = did.did; stop = stop } })

@@ -1,5 +1,6 @@
-use Rattle.std.specs.Prelude.{ℕ, Bool, false, Option, Some, None}
+use Rattle.std.specs.Prelude.{◌≡◌, ℕ, Bool, false, Option, Some, None}
 use Rattle.pr_call.specs.Effects.{takes_memory}
+use Rattle.pr_call.specs.Requests.{request_in}
 use Rattle.pr_call.specs.declared.requests.Performed.{Performed}
 use Rattle.pr_call.specs.declared.requests.Request.{Request}
 use Rattle.pr_call.specs.declared.requests.Performed.TheVariants.{Done, Sleep, Ended}
@@ -36,6 +37,12 @@ abbrev pub call_stops : Bool → Performed → Bool
 call_stops on (Done result) = on
 call_stops on Sleep = false
 call_stops on Ended = false
+
+-- a call that the next turn performs is the one that its lwp makes
+abbrev pub Asks : ℕ → ℕ → ℕ → TracedLwp → NextTurn → Type 0
+Asks clock pid id l (ThisRow next) = Unit {0}
+Asks clock pid id l (Performs woken call args since) =
+    request_in clock pid id l l.phase ≡ Some (record { pid = pid; lwp = id; since = since; call = call; args = args })
 
 -- ---- memory
 

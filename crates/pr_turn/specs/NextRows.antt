@@ -72,9 +72,9 @@ turn_fits l (ThisRow next) = fits l next
 turn_fits l (Performs woken call args since) = true
 
 -- the fault that an lwp incurred and whose signal is not posted yet
-abbrev pub fault_in : Phase → Option (Flt × ℕ)
-fault_in (phase.Faulted f address) = Some (f, address)
-fault_in _ = None
+abbrev pub unposted_fault : Phase → Option (Flt × ℕ)
+unposted_fault (phase.Faulted f address) = Some (f, address)
+unposted_fault _ = None
 
 -- the move of an lwp by an instruction
 unfoldable pub executed_move : TracedLwp → InstructionEffect → Move

@@ -5,7 +5,7 @@ use Rattle.pr_model.specs.Points.{meets}
 use Rattle.pr_model.specs.Rows.{row_for}
 use Rattle.pr_model.specs.State.{TracedSystem, TracedProcess, TracedLwp, live_process, lwp_of}
 use Rattle.pr_model.specs.Transitions.{after_transition}
-use Rattle.pr_proc.specs.Counts.{AllUsedAtMost}
+use Rattle.pr_turn.specs.CallTurns.{Asks}
 use Rattle.pr_turn.specs.Making.{of_row}
 use Rattle.pr_turn.specs.NextRows.{row_of_turn, turn_fits}
 use Rattle.pr_turn.specs.declared.making.Made.{Made}
@@ -21,10 +21,11 @@ pub record IsNext (s : TracedSystem) (pid id : ℕ) (next : NextTurn) : Type 0 w
   pub stands : lwp_of process id ≡ Some lwp
   pub may : may_turn s pid process id lwp ≡ true
   pub fits : turn_fits lwp next ≡ true
+  pub asks : Asks s.clock pid id lwp next
   pub row : row_of_turn s pid process id lwp next ≡ row_for s pid process id lwp
 
 -- A system is as the transition of the next turn of an lwp leaves another one; this is what the turn did, and whether
--- the process traces what it met. What bounds all counts of use goes on to bound them.
+-- the process traces what it met.
 pub record Makes (s new : TracedSystem) (pid id : ℕ) (did : Made) (stop : Bool) : Type 0 where
   pub process : TracedProcess
   pub lwp : TracedLwp
@@ -34,4 +35,3 @@ pub record Makes (s new : TracedSystem) (pid id : ℕ) (did : Made) (stop : Bool
   pub system : new ≡ after_transition traced pid process id lwp (row_for s pid process id lwp).transition s
   pub what : did ≡ of_row (row_for s pid process id lwp)
   pub traces : stop ≡ meets process.control (row_for s pid process id lwp).point
-  pub used : (n : ℕ) → AllUsedAtMost n s → AllUsedAtMost n new

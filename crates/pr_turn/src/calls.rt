@@ -112,7 +112,7 @@ pub fn perform_next(
     ensures err { OnErr result (sys.new ≡ sys.old) }
 {
     let traced = traces_exit(sys, request.pid, request.call);
-    let outcome = perform(alloc, sys, request)?;
+    let outcome = perform(alloc, sys, request.pid, request.lwp)?;
     move_under(sys, request, outcome);
     Ok((
         made_after(woken, request.call, outcome),

@@ -1,17 +1,18 @@
 //! Which row of the turn table is the next turn of an lwp.
-ghost use Rattle.std.specs.Prelude.{◌≡◌, ℕ, true, false, IfSome};
+ghost use Rattle.std.specs.Prelude.{◌≡◌, ℕ, true, false, Some, IfSome};
 ghost use Rattle.pr_call.specs.Effects.{takes_memory};
+ghost use Rattle.pr_call.specs.Requests.{request_in};
 ghost use Rattle.pr_model.specs.LwpTurns.{is_held_back};
-ghost use Rattle.pr_model.specs.Registers.{arguments};
 ghost use Rattle.pr_model.specs.Rows.{Row, acted_row, call_row, caught_row, finished, handler_row, interrupted_row, row_for, row_in, signal_row_or, taken_or};
-ghost use Rattle.pr_model.specs.Signals.{disposition_of, has_takeable, own_takeable, shared_takeable};
+ghost use Rattle.pr_model.specs.Signals.{has_takeable, own_takeable, shared_takeable};
 ghost use Rattle.pr_model.specs.State.{TracedLwp, TracedProcess, TracedSystem};
-ghost use Rattle.pr_turn.specs.CallTurns.{phase_takes, turn_takes};
-ghost use Rattle.pr_turn.specs.NextRows.{fault_in, fits, row_of, row_of_turn, row_or, turn_fits};
+ghost use Rattle.pr_turn.specs.CallTurns.{Asks, phase_takes, turn_takes};
+ghost use Rattle.pr_turn.specs.NextRows.{unposted_fault, fits, row_of, row_of_turn, row_or, turn_fits};
 
+use pr_call::arguments_of;
 use pr_model::{Current, Did, Frames, How, Phase, Res};
 use pr_num::{AGENT, Errno, Flt, Sig, Sysno};
-use pr_proc::{Lwp, Proc};
+use pr_proc::{Lwp, Proc, disposition_of};
 use pr_sig::{Action, action, takeable};
 
 /// A row of the turn table, with what decides it.
@@ -88,13 +89,6 @@ pub fn has_takeable(process: &Proc, lwp: &Lwp) -> bool
 
 // ---- an lwp in a system call
 
-/// The six arguments of a system call.
-fn arguments_of(regs: &[u64; 11]) -> [u64; 6]
-    ensures { result ≡ arguments regs.now }
-{
-    [regs[1], regs[2], regs[3], regs[4], regs[5], regs[6]]
-}
-
 /// What an lwp did whose call is over: it made it from its entry, or woke from its sleep in it.
 pub fn finished(woken: bool, call: Sysno, outcome: Res) -> Did
     ensures { result ≡ finished woken call outcome }
@@ -126,6 +120,7 @@ fn at_call(lwp: &Lwp, woken: bool, call: Sysno, args: [u64; 6], since: u64) -> N
     ensures row { (s : TracedSystem) (pid : ℕ) (p : TracedProcess) (id : ℕ) → row_of_turn s pid p id lwp.now result ≡ call_row s pid p id lwp.now woken call args since }
     ensures fits { turn_fits lwp.now result ≡ true }
     ensures sure { takes_memory call ≡ false → turn_takes result ≡ false }
+    ensures asks { (clock pid id : ℕ) → request_in clock pid id lwp.now lwp.now.phase ≡ Some (record { pid = pid; lwp = id; since = since; call = call; args = args }) → Asks clock pid id lwp.now result }
 {
     if lwp.control.abort {
         return NextTurn::Row(interrupted(woken, call, args));
@@ -139,14 +134,6 @@ fn at_call(lwp: &Lwp, woken: bool, call: Sysno, args: [u64; 6], since: u64) -> N
 }
 
 // ---- the current signal
-
-/// What a process does with a signal.
-#[tactic(auto, unfolding(pr_model::specs::Signals::disposition_of))]
-fn disposition_of(dispositions: &[u64; 39], signal: Sig) -> u64
-    ensures { result ≡ disposition_of dispositions.now signal }
-{
-    dispositions[signal.number() as usize - 1]
-}
 
 /// A handler runs where its frame has room; else the process ends as by SIGSEGV.
 #[tactic(auto, unfolding(crate::specs::NextRows::row_of, pr_model::specs::Rows::handler_row, pr_model::specs::Transitions::handled))]
@@ -229,6 +216,7 @@ fn asleep(process: &Proc, lwp: &Lwp, call: Sysno, args: [u64; 6], since: u64) ->
     ensures row { (s : TracedSystem) (pid id : ℕ) → row_of_turn s pid process.now id lwp.now result ≡ taken_or s pid process.now id lwp.now (own_takeable lwp.now) (shared_takeable process.now lwp.now) (call_row s pid process.now id lwp.now true call args since) }
     ensures fits { turn_fits lwp.now result ≡ true }
     ensures sure { takes_memory call ≡ false → turn_takes result ≡ false }
+    ensures asks { (clock pid id : ℕ) → request_in clock pid id lwp.now lwp.now.phase ≡ Some (record { pid = pid; lwp = id; since = since; call = call; args = args }) → Asks clock pid id lwp.now result }
 {
     match taken(process, lwp) {
         Some(next) => NextTurn::Row(next),
@@ -258,6 +246,7 @@ fn in_phase(clock: u64, process: &Proc, lwp: &Lwp) -> NextTurn
     ensures row { (s : TracedSystem) (pid id : ℕ) → s.clock ≡ clock → row_of_turn s pid process.now id lwp.now result ≡ signal_row_or s pid process.now id lwp.now lwp.now.phase (row_in s pid process.now id lwp.now lwp.now.phase) }
     ensures fits { turn_fits lwp.now result ≡ true }
     ensures sure { phase_takes lwp.now.phase ≡ false → turn_takes result ≡ false }
+    ensures asks { (pid id : ℕ) → Asks clock pid id lwp.now result }
 {
     match lwp.phase {
         Phase::User => NextTurn::Row(in_program(process, lwp)),
@@ -269,8 +258,8 @@ fn in_phase(clock: u64, process: &Proc, lwp: &Lwp) -> NextTurn
 }
 
 /// The fault that an lwp incurred and whose signal is not posted yet.
-fn fault_in(phase: Phase) -> Option<(Flt, u64)>
-    ensures { result ≡ fault_in phase }
+fn unposted_fault(phase: Phase) -> Option<(Flt, u64)>
+    ensures { result ≡ unposted_fault phase }
 {
     match phase {
         Phase::Faulted { fault, address } => Some((fault, address)),
@@ -285,11 +274,12 @@ pub fn next_row(clock: u64, process: &Proc, lwp: &Lwp) -> NextTurn
     ensures row { (s : TracedSystem) (pid id : ℕ) → s.clock ≡ clock → row_of_turn s pid process.now id lwp.now result ≡ row_for s pid process.now id lwp.now }
     ensures fits { turn_fits lwp.now result ≡ true }
     ensures sure { phase_takes lwp.now.phase ≡ false → turn_takes result ≡ false }
+    ensures asks { (pid id : ℕ) → Asks clock pid id lwp.now result }
 {
     if lwp.control.directed {
         return NextTurn::Row(Next::Requested);
     }
-    if let Some((fault, address)) = fault_in(lwp.phase) {
+    if let Some((fault, address)) = unposted_fault(lwp.phase) {
         return NextTurn::Row(Next::Posted { fault, address });
     }
     match lwp.current {

@@ -251,6 +251,7 @@ pub fn turn(alloc: Global, sys: &mut Sys, pid: u32, lwp: u32) -> Result<Turned, 
     ensures ok { IfOk result (λ turned. turn_of sys.old pid lwp ≡ Some (record { system = sys.new; turned = turned })) }
     // a turn adds at most 1 to each count
     ensures used { (n : ℕ) → AllUsedAtMost n sys.old → AllUsedAtMost (n + 1) sys.new }
+    ensures clock { sys.new.clock ≡ sys.old.clock }
     ensures sure { may_take_memory sys.old pid lwp ≡ false → IsOk result }
     ensures err { OnErr result (sys.new ≡ sys.old) }
 {

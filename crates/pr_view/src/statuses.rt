@@ -10,7 +10,7 @@ ghost use Rattle.pr_rec.specs.Fields.{flag_if};
 use pr_mem::Space;
 use pr_model::{Current, Phase, Res, Shown, Stop};
 use pr_num::{AGENT, Errno, Flt, Info, Mapping, MappingKind, Sig, StopReason, Sysno};
-use pr_proc::{Lwp, Proc, has_agent};
+use pr_proc::{Lwp, Proc, disposition_of, has_agent};
 use pr_rec::{Disposition, LwpFlags, LwpMarks, LwpStatus, ProcessFlags, Status, What};
 use pr_stop::{representative, representative_lwp, shown};
 
@@ -173,13 +173,13 @@ fn info_in(current: Option<Current>) -> Info
 }
 
 /// What the process does with the current signal.
-#[tactic(auto, unfolding(pr_model::specs::Statuses::disposition_in, pr_model::specs::Signals::disposition_of))]
+#[tactic(auto, unfolding(pr_model::specs::Statuses::disposition_in))]
 fn disposition_in(dispositions: &[u64; 39], current: Option<Current>) -> Disposition
     ensures { result ≡ disposition_in dispositions.now current }
 {
     match current {
         None => Disposition::Default,
-        Some(current) => Disposition::of(dispositions[current.signal.number() as usize - 1]),
+        Some(current) => Disposition::of(disposition_of(dispositions, current.signal)),
     }
 }
 

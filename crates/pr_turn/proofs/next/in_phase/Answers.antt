@@ -1,7 +1,7 @@
 use Rattle.std.proofs.Common.{ap, sym, ◌∙◌, false}
 use Rattle.pr_model.specs.Registers.{arguments}
 use Rattle.pr_model.specs.Rows.{call_row}
-use Rattle.pr_turn.proofs.NextLemmas.{in-asleep, in-entered, in-exiting, in-user}
+use Rattle.pr_turn.proofs.NextLemmas.{asks-asleep, asks-entered, in-asleep, in-entered, in-exiting, in-user}
 use Rattle.pr_turn.proofs.next.in_phase.Goals as goal
 
 pub returns-in-User-clause-row : goal.returns-in-User-clause-row
@@ -19,3 +19,9 @@ returns-in-Asleep-clause-row c s pid id clock = in-asleep s pid c.args.process.n
 
 pub returns-in-Exiting-clause-row : goal.returns-in-Exiting-clause-row
 returns-in-Exiting-clause-row c s pid id clock = in-exiting s pid c.args.process.now id c.args.lwp.now _ _ _ _ c.in-Exiting.is (c.leaving.ensures.row s pid id)
+
+pub returns-in-Entered-clause-asks : goal.returns-in-Entered-clause-asks
+returns-in-Entered-clause-asks c pid id = c.at_call.ensures.asks c.args.clock pid id (asks-entered c.args.clock pid id c.args.lwp.now _ _ c.in-Entered.is c.arguments_of.ensures)
+
+pub returns-in-Asleep-clause-asks : goal.returns-in-Asleep-clause-asks
+returns-in-Asleep-clause-asks c pid id = c.asleep.ensures.asks c.args.clock pid id (asks-asleep c.args.clock pid id c.args.lwp.now _ _ _ c.in-Asleep.is)

@@ -1,4 +1,4 @@
-use Rattle.pr_turn.proofs.UsageLemmas.{AllUsedAtMost-under}
+use Rattle.pr_proc.proofs.UsageLemmas.{AllUsedAtMost-under}
 use Rattle.pr_turn.proofs.turns.count_under.Goals as goal
 
 pub count_in-requires : goal.count_in-requires

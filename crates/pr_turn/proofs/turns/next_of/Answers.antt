@@ -17,7 +17,7 @@ pub returns-clause-next : goal.returns-clause-next
 returns-clause-next c =
     let found : live_process c.args.sys.now c.args.pid ≡ Some c.unwrap-process.result.now = sym c.live.ensures ∙ ap option_copied c.unwrap-process.ensures in
     let stands : lwp_of c.unwrap-process.result.now c.args.id ≡ Some c.unwrap-lwp.result.now = sym c.get.ensures ∙ ap option_copied c.unwrap-lwp.ensures in
-    is-next c.args.sys.now c.args.pid c.args.id c.unwrap-process.result.now c.unwrap-lwp.result.now c.next_row.result found stands c.requires (c.next_row.ensures.row c.args.sys.now c.args.pid c.args.id refl) c.next_row.ensures.fits
+    is-next c.args.sys.now c.args.pid c.args.id c.unwrap-process.result.now c.unwrap-lwp.result.now c.next_row.result found stands c.requires (c.next_row.ensures.row c.args.sys.now c.args.pid c.args.id refl) c.next_row.ensures.fits (c.next_row.ensures.asks c.args.pid c.args.id)
 
 pub returns-clause-sure : goal.returns-clause-sure
 returns-clause-sure c none =

@@ -1,7 +1,7 @@
 use Rattle.std.proofs.Common.{sym, ◌∙◌}
 use Rattle.std.proofs.lemmas.Bool.{eq-eqb, ne_eqb}
 use Rattle.pr_proc.proofs.FamilyLemmas.{ended-child, living-child, no-child}
-use Rattle.pr_proc.proofs.families.children_among.Goals as goal
+use Rattle.pr_proc.proofs.zombies.children_among.Goals as goal
 
 -- this one is no child
 pub loop-place-preserved-then-process-parent : goal.loop-place-preserved-then-process-parent
