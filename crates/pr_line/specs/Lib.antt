@@ -1,5 +1,10 @@
+pub mod ArgumentTexts
 pub mod Entries
+pub mod EventLines
+pub mod Events
 pub mod Options
 pub mod Pids
 pub mod Reading
 pub mod Reads
+pub mod Selections
+pub mod TextRanges

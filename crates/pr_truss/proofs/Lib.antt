@@ -1,0 +1,4 @@
+pub mod CountLemmas
+pub mod RecordLemmas
+pub mod StopLemmas
+pub mod TextLemmas

@@ -1,0 +1,15 @@
+pub mod Children
+pub mod Closings
+pub mod Counts
+pub mod Feeding
+pub mod Messages
+pub mod NextCalls
+pub mod Openings
+pub mod Printing
+pub mod Processes
+pub mod Records
+pub mod Replies
+pub mod Reports
+pub mod Stops
+pub mod Texts
+pub mod Trusses
