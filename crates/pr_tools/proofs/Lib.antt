@@ -1,0 +1,6 @@
+pub mod EntryLemmas
+pub mod FieldLemmas
+pub mod SignalLemmas
+pub mod StackLemmas
+pub mod TextLemmas
+pub mod TreeLemmas

@@ -1,0 +1,25 @@
+-- The files that a tool has open. They were opened in the order control file, file of the record, memory, and are
+-- closed in the reverse order.
+use Rattle.std.specs.Prelude.{ℕ, Option, Some, None}
+use Rattle.pr_tools.specs.declared.handles.Opened.{Opened}
+
+unfoldable pub nothing_open : Opened
+nothing_open = record { ctl = None; file = None; memory = None }
+
+-- the first of two handles that is there
+abbrev pub or_else : Option ℕ → Option ℕ → Option ℕ
+or_else (Some handle) other = Some handle
+or_else None other = other
+
+-- the file that was opened last
+unfoldable pub last_open : Opened → Option ℕ
+last_open o = or_else o.memory (or_else o.file o.ctl)
+
+-- what is open once that was closed
+unfoldable pub without_last : Opened → Opened
+without_last o = by o.memory o.file
+  where
+    by : Option ℕ → Option ℕ → Opened
+    by (Some memory) _ = record o { memory = None }
+    by None (Some file) = record o { file = None }
+    by None None = record o { ctl = None }

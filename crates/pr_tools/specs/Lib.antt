@@ -1,0 +1,15 @@
+pub mod Entries
+pub mod Handles
+pub mod Pfiles
+pub mod Pflags
+pub mod Pmap
+pub mod Psig
+pub mod Pstack
+pub mod Ptree
+pub mod Pwait
+pub mod Refusals
+pub mod Replies
+pub mod Stacks
+pub mod Steps
+pub mod Texts
+pub mod Tools

@@ -1,0 +1,29 @@
+//! The text of pwait.
+ghost use Rattle.std.specs.Prelude.{◌≡◌, ◌++◌, OnOk};
+ghost use Rattle.pr_tools.specs.Pwait.{end_line, pwait_text};
+
+use crate::texts::Text;
+use pr_num::NoMemory;
+use pr_rec::Psinfo;
+
+/// The line of a process with its wait status.
+#[tactic(auto, unfolding(crate::specs::Pwait::end_line))]
+fn push_end(text: &mut Text, pid: u32, status: u64) -> Result<(), NoMemory>
+    ensures { OnOk result (text.new ≡ text.old ++ end_line pid status) }
+{
+    text.decimal(u64::from(pid))?;
+    text.text(b": terminated, wait status ")?;
+    text.hex8(status)?;
+    text.end_line()
+}
+
+/// The text of a process that has ended, of what ps(1) shows of it.
+#[tactic(auto, unfolding(crate::specs::Pwait::pwait_text))]
+pub fn push_pwait(text: &mut Text, pid: u32, bytes: &[u8]) -> Result<(), NoMemory>
+    ensures { OnOk result (text.new ≡ text.old ++ pwait_text pid bytes.now) }
+{
+    match Psinfo::decode(bytes) {
+        Err(_) => Ok(()),
+        Ok(psinfo) => push_end(text, pid, psinfo.wait_status),
+    }
+}
