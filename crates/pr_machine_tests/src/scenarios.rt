@@ -101,7 +101,6 @@ fn refuses_the_first_line(rt: HostRuntime) {
         ),
         (b"turns 5\nscript\nbad\n", 2, ScenKind::NoEnd),
         (b"tool ptree\nturns 0", 2, ScenKind::BadOperand),
-        (b"tool ptree\ntruss -p 1", 1, ScenKind::NotBuilt),
         (b"truss -t frob -z", 1, ScenKind::BadOperand),
         (b"truss -t frob p", 1, ScenKind::UnknownName),
     ];
@@ -256,11 +255,11 @@ fn goes_on_with_the_rest(rt: HostRuntime) -> Result<(), Fail> {
 fn shows_refusals(rt: HostRuntime) -> Result<(), Fail> {
     let refusal = ScenRefusal::Fault(ScenFault {
         line: 3,
-        kind: ScenKind::NotBuilt,
+        kind: ScenKind::NoEnd,
     });
     assert_eq!(rt;
         format!(in rt.alloc(); "{refusal}")?.as_str(),
-        "line 3: NotBuilt"
+        "line 3: NoEnd"
     );
     let refusal = ScenRefusal::NoMemory;
     assert_eq!(rt;

@@ -1,3 +1,4 @@
 pub mod Blocks
 pub mod Output
 pub mod Puts
+pub mod Reports

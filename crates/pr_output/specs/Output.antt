@@ -1,20 +1,24 @@
-use Rattle.std.specs.Prelude.{◌≡◌, ℕ, Bool, true, false, List, [], ◌++◌, Option, codes, decimal, length, take}
+use Rattle.std.specs.Prelude.{◌≡◌, ℕ, Bool, true, false, List, [], ◌++◌, Option, codes, decimal, take}
 use Rattle.pr_io.specs.Known.{with_end}
 use Rattle.pr_model.specs.declared.events.Entry.{Entry}
 use Rattle.pr_model.specs.declared.steps.Step.{Step}
-use Rattle.pr_plain.specs.HistoryText.{heading_text, entries_text, status_text}
+use Rattle.pr_plain.specs.Histories.{history_text}
+use Rattle.pr_plain.specs.HistoryText.{status_text}
 use Rattle.pr_plain.specs.PlainText.{plain_text}
+use Rattle.pr_output.specs.Reports.{reports_text}
+use Rattle.pr_output.specs.declared.reports.Report.{Report}
 
 -- What the program writes.
 
--- a history: a heading, and below it a line for each entry; nothing where the history is left out
-unfoldable pub history_text : Bool → List Entry → List ℕ
-history_text true h = []
-history_text false h = heading_text (length h) ++ entries_text 0 h
+-- a history, or nothing where it is left out
+unfoldable pub shown_history : Bool → List Entry → List ℕ
+shown_history true h = []
+shown_history false h = history_text h
 
--- a run: its history, or not where that is left out, and the status with which the program ends
-unfoldable pub run_text : Bool → List Entry → ℕ → List ℕ
-run_text quiet h status = history_text quiet h ++ status_text status
+-- a run: its history, or not where that is left out; what its controllers print; and the status with which the program
+-- ends
+unfoldable pub run_text : Bool → List Entry → List Report → ℕ → List ℕ
+run_text quiet h reports status = shown_history quiet h ++ (reports_text reports ++ status_text status)
 
 -- a run as the machine without controllers makes it: its steps, its trace, and the status with which the program ends
 unfoldable pub plain_run_text : List Step → List Step → ℕ → List ℕ

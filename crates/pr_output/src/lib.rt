@@ -5,9 +5,11 @@ mod cuts;
 mod lines;
 mod plains;
 mod refusals;
+mod reports;
 mod runs;
 
 pub use cuts::Cut;
 pub use plains::write_plain;
 pub use refusals::write_refusal;
+pub use reports::{Printer, Report};
 pub use runs::write_run;

@@ -1,8 +1,12 @@
-ghost use Rattle.pr_output.specs.Output.{history_text, run_text};
+ghost use Rattle.std.specs.Prelude.{◌++◌};
+ghost use Rattle.pr_output.specs.Output.{run_text, shown_history};
 ghost use Rattle.pr_output.specs.Puts.{Puts};
+ghost use Rattle.pr_output.specs.Reports.{reports_text};
+ghost use Rattle.pr_plain.specs.HistoryText.{status_text};
 
-use crate::Cut;
 use crate::lines::{put_entries, put_heading, put_status};
+use crate::reports::put_reports;
+use crate::{Cut, Report};
 use pr_io::Sink;
 use pr_model::History;
 use std::alloc::Global;
@@ -15,7 +19,7 @@ fn put_history<K: Sink>(
     history: &History,
 ) -> Result<(), Cut>
     ensures { Puts result (K.written sink.old) (K.written sink.new) (K.faults sink.old) (K.faults sink.new)
-        (history_text quiet history.now.entries) }
+        (shown_history quiet history.now.entries) }
 {
     if quiet {
         return Ok(());
@@ -24,35 +28,51 @@ fn put_history<K: Sink>(
     put_entries(block, sink, history)
 }
 
+// Puts what stands below the history of a run.
+fn put_end<K: Sink>(
+    block: &mut Vec<u8>,
+    sink: &mut K,
+    reports: &[Report],
+    status: u8,
+) -> Result<(), Cut>
+    ensures { Puts result (K.written sink.old) (K.written sink.new) (K.faults sink.old) (K.faults sink.new)
+        (reports_text reports.now ++ status_text status) }
+{
+    put_reports(block, sink, reports)?;
+    put_status(block, sink, status)
+}
+
 // Puts the text of a run.
 fn put_run<K: Sink>(
     block: &mut Vec<u8>,
     sink: &mut K,
     quiet: bool,
     history: &History,
+    reports: &[Report],
     status: u8,
 ) -> Result<(), Cut>
     ensures { Puts result (K.written sink.old) (K.written sink.new) (K.faults sink.old) (K.faults sink.new)
-        (run_text quiet history.now.entries status) }
+        (run_text quiet history.now.entries reports.now status) }
 {
     put_history(block, sink, quiet, history)?;
-    put_status(block, sink, status)
+    put_end(block, sink, reports, status)
 }
 
-/// Writes a run to a sink: a heading, a line for each entry, and the status with which the program ends. `quiet`: the
-/// heading and the entries are left out.
+/// Writes a run to a sink: a heading, a line for each entry, what controllers print, and the status with which the program
+/// ends. `quiet`: the heading and the entries are left out.
 ///
-/// No more than a block of lines is in memory at a time. Where a write fails, the sink has a prefix of the text that
-/// lacks some bytes; where memory runs out, a prefix of it.
+/// No more than a block of lines, or all that is printed, is in memory at a time. Where a write fails, the sink has a
+/// prefix of the text that lacks some bytes; where memory runs out, a prefix of it.
 pub fn write_run<K: Sink>(
     alloc: Global,
     sink: &mut K,
     quiet: bool,
     history: &History,
+    reports: &[Report],
     status: u8,
 ) -> Result<(), Cut>
     ensures { Puts result (K.written sink.old) (K.written sink.new) (K.faults sink.old) (K.faults sink.new)
-        (run_text quiet history.now.entries status) }
+        (run_text quiet history.now.entries reports.now status) }
 {
-    put_run(&mut Vec::new(alloc), sink, quiet, history, status)
+    put_run(&mut Vec::new(alloc), sink, quiet, history, reports, status)
 }

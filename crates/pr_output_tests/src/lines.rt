@@ -1,7 +1,9 @@
 //! What no clause says: that the lines are those of worked histories, and that they are written where there is memory.
-use pr_model::{Act, Actor, Call, Did, Entry, File, How, Mode, Reply, Res, Turned};
+use pr_model::{
+    Act, Actor, Call, Did, Entry, File, How, Mode, Reply, Res, Turned, file_name, mode_name,
+};
 use pr_num::{Bytes, Errno, Flt, Handles, Name, NoMemory, Sig, Sysno};
-use pr_plain::{file_name, mode_name, write_entry, write_heading, write_status};
+use pr_plain::{write_entry, write_heading, write_status};
 use std::alloc::Global;
 use std::process::Abort;
 use std::test::Fail;

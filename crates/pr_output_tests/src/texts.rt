@@ -52,7 +52,10 @@ fn a_run_is_written_or_a_prefix(rt: HostRuntime) -> Result<(), Fail> {
         (false, 0, [].as_slice(), Err(Cut::WriteFailed), ""),
     ] {
         let mut sink = MemSink::new(rt.alloc(), room, fails.to_vec(rt.alloc())?)?;
-        assert_eq!(rt; write_run(rt.alloc(), &mut sink, quiet, &history, 0), want);
+        assert_eq!(rt;
+            write_run(rt.alloc(), &mut sink, quiet, &history, &[], 0),
+            want
+        );
         assert_eq!(rt; sink.bytes(), there.as_bytes());
     }
     Ok(())

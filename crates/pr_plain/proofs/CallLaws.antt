@@ -1,11 +1,10 @@
 -- Calls and replies are read back from their words, and from no others.
-use Rattle.std.proofs.Common.{◌≡◌, ℕ, Bool, true, false, cond, eqb, leb, not, ◌&&◌, Option, Some, None, List, [], ◌∷◌, ◌++◌, codes, map, refl, sym, ap, ◌∙◌, append_assoc, arith}
+use Rattle.std.proofs.Common.{◌≡◌, ℕ, ◌<◌, ◌^◌, Bool, true, false, cond, eqb, not, ◌&&◌, Option, Some, None, List, [], ◌∷◌, ◌++◌, codes, map, refl, sym, ap, ◌∙◌, append_assoc, arith}
 use Rattle.std.specs.Fmt.{decimal}
 use Rattle.std.specs.List.{All, list_all, slice_split}
 use Rattle.std.specs.Str.{bytes_eq}
-use Rattle.std.proofs.lemmas.Bool.{and_parts, and_from, leb-true, ne_eqb, not-true, eqb-true}
-use Rattle.std.proofs.lemmas.List.Elements.{All-nil, All-cons}
-use Rattle.std.proofs.lemmas.List.Splits.{slice_split_none, slice_split_at}
+use Rattle.std.proofs.lemmas.Bool.{and_parts, and_from, ltb-true, not-true, eqb-true}
+use Rattle.std.proofs.lemmas.List.Splits.{slice_split_none}
 use Rattle.std.proofs.lemmas.List.Splits.{join_with_byte-slice_split}
 use Rattle.std.proofs.lemmas.Option.{same_Some, none-some}
 use Rattle.std.specs.List.{join_with_byte}
@@ -17,14 +16,17 @@ use Rattle.pr_model.specs.declared.calls.Call.TheVariants as call
 use Rattle.pr_model.specs.declared.calls.Reply.{Reply}
 use Rattle.pr_model.specs.declared.calls.Reply.TheVariants as reply
 use Rattle.pr_plain.specs.CallReading.{slash, is_slash, lwp_of, target_of, target_at, held_at, arrow, handles_at, open_at, close_at, ctl_at, ctl_wait_at, read_at, poll_at, interrupt_at, spawn_at, kill_at, until_at, call_behind, call_at, handle_at, used_at, half_at, reply_bytes_at, pid_at, ready_at, fail_at, plain_reply_behind, reply_behind, reply_at}
-use Rattle.pr_plain.specs.DecimalWords.{id_of}
+use Rattle.pr_plain.specs.DecimalWords.{decimal_id_of}
 use Rattle.pr_plain.specs.EntryForms.{is_number, is_id, is_byte, call_form, reply_form}
-use Rattle.pr_plain.specs.FileNames.{file_name, mode_name}
+use Rattle.pr_model.specs.FileNames.{file_name, mode_name}
 use Rattle.pr_plain.specs.HexWords.{hex_word}
-use Rattle.pr_plain.specs.HistoryText.{lwp_text, target_text, held_words, call_words, reply_words}
+use Rattle.pr_text.specs.LwpWords.{lwp_text}
+use Rattle.pr_plain.specs.HistoryText.{target_text, held_words, call_words, reply_words}
 use Rattle.pr_plain.specs.Readings.{◌>>=◌}
 use Rattle.pr_plain.specs.WordReading.{Words, word_at, is_done, number_at, id_at, bytes_at, errno_at, file_at, mode_at, program_at}
-use Rattle.pr_plain.proofs.DecimalLemmas.{are_digits, decimal-digits, is_number-from_id}
+use Rattle.pr_text.proofs.NumberLemmas.{decimal-apart}
+use Rattle.pr_text.proofs.PlainLemmas.{split_lwp}
+use Rattle.pr_plain.proofs.DecimalLemmas.{is_number-from_id}
 use Rattle.pr_plain.proofs.FrontLemmas.{word_at-is}
 use Rattle.pr_plain.proofs.RowLemmas.{Takes, Taken, one_word, found_by, pair_of, bytes_eq-self, by_word, one_found, two_found, three_found, one_again, two_again, three_again, taken_as}
 use Rattle.pr_plain.proofs.WordLaws.{ids, number_step, id_step, bytes_step, errno_step, file_step, mode_step, program_step}
@@ -32,24 +34,12 @@ use Rattle.std.proofs.lemmas.Slice.Eq.{bytes_eq-Decides}
 
 -- ---- a process and its lwp
 
-no_slash : (b : ℕ) → (leb 48 b && leb b 57) ≡ true → is_slash b ≡ false
-no_slash b h = ne_eqb b 47 (λ e. let low = leb-true 48 b (and_parts (leb 48 b) (leb b 57) h).0 in absurd (omega arith))
-
-digits_unslashed : (ds : List ℕ) → are_digits ds ≡ true → All (λ b. is_slash b ≡ false) ds
-digits_unslashed [] h = All-nil (λ b. is_slash b ≡ false)
-digits_unslashed (b ∷ bs) h =
-    let p = and_parts (leb 48 b && leb b 57) (are_digits bs) h in
-    All-cons (λ b. is_slash b ≡ false) b bs (no_slash b p.0) (digits_unslashed bs p.1)
+-- ids are numbers
+id_below : (n : ℕ) → is_id n ≡ true → n < 2 ^ 64
+id_below n h = ltb-true n (2 ^ 64) (is_number-from_id n h)
 
 unslashed : (n : ℕ) → is_id n ≡ true → All (λ b. is_slash b ≡ false) (decimal n)
-unslashed n h = digits_unslashed (decimal n) (decimal-digits n (is_number-from_id n h))
-
-split_lwp : (p l : ℕ) → is_id p ≡ true → is_id l ≡ true → slice_split is_slash (lwp_text p l) ≡ decimal p ∷ decimal l ∷ []
-unfolding lwp_text
-split_lwp p l hp hl =
-    ap (slice_split is_slash) (append_assoc (decimal p) (codes "/") (decimal l))
-    ∙ slice_split_at is_slash (decimal p) slash (decimal l) (unslashed p hp) refl
-    ∙ ap (λ ws. decimal p ∷ ws) (slice_split_none is_slash (decimal l) (unslashed l hl))
+unslashed n h = decimal-apart slash (omega arith) n (id_below n h)
 
 split_pid : (p : ℕ) → is_id p ≡ true → slice_split is_slash (decimal p) ≡ decimal p ∷ []
 split_pid p hp = slice_split_none is_slash (decimal p) (unslashed p hp)
@@ -99,7 +89,7 @@ lwp_of-is w x e =
 pub lwp_of-text : (p l : ℕ) → is_id p ≡ true → is_id l ≡ true → lwp_of (lwp_text p l) ≡ Some (p, l)
 unfolding lwp_of word_at
 lwp_of-text p l hp hl =
-    ap (λ ws. id_at ws >>= λ a. (id_at a.1 >>= λ b. cond (is_done b.1) (Some (a.0, b.0)) None)) (split_lwp p l hp hl)
+    ap (λ ws. id_at ws >>= λ a. (id_at a.1 >>= λ b. cond (is_done b.1) (Some (a.0, b.0)) None)) (split_lwp p l (id_below p hp) (id_below l hl))
     ∙ ap (λ o. o >>= λ a. (id_at a.1 >>= λ b. cond (is_done b.1) (Some (a.0, b.0)) None)) (id_step.again p (decimal l ∷ []) hp)
     ∙ ap (λ o. o >>= λ b. cond (is_done b.1) (Some (p, b.0)) None) (id_step.again l [] hl)
 
@@ -176,7 +166,7 @@ target_back x h = by (eqb x.1 0) refl
         ∙ ap (λ l. Some (x.0, l)) (sym alone)
     by false is =
         ap (λ u. id_at (slice_split is_slash u) >>= second_of) (pid_and_lwp x.0 x.1 is)
-        ∙ ap (λ ws. id_at ws >>= second_of) (split_lwp x.0 x.1 parts.0 parts.1)
+        ∙ ap (λ ws. id_at ws >>= second_of) (split_lwp x.0 x.1 (id_below x.0 parts.0) (id_below x.1 parts.1))
         ∙ ap (λ o. o >>= second_of) (id_step.again x.0 (decimal x.1 ∷ []) parts.0)
         ∙ ap (λ o. o >>= second_id x.0) (id_step.again x.1 [] parts.1)
         ∙ ap (λ t. cond (not t) (Some (x.0, x.1)) None) is
@@ -216,9 +206,9 @@ handles_taken (w ∷ ws) hs rest e =
         let same = pair_of [] hs (w ∷ ws) rest found in
         taken_as (map decimal) (list_all is_id) (w ∷ ws) [] hs rest same.value (record { words = same.words; formed = refl })
 
-    more : ((xs : List ℕ) (late : Words) → handles_at ws ≡ Some (xs, late) → Taken (map decimal) (list_all is_id) ws xs late) → (id_of w >>= λ h. (handles_at ws >>= then_handles h)) ≡ Some (hs, rest) → Taken (map decimal) (list_all is_id) (w ∷ ws) hs rest
+    more : ((xs : List ℕ) (late : Words) → handles_at ws ≡ Some (xs, late) → Taken (map decimal) (list_all is_id) ws xs late) → (decimal_id_of w >>= λ h. (handles_at ws >>= then_handles h)) ≡ Some (hs, rest) → Taken (map decimal) (list_all is_id) (w ∷ ws) hs rest
     more others found =
-        let p = found_by (id_of w) (λ h. (handles_at ws >>= then_handles h)) (hs, rest) found in
+        let p = found_by (decimal_id_of w) (λ h. (handles_at ws >>= then_handles h)) (hs, rest) found in
         let q = found_by (handles_at ws) (then_handles p.value) (hs, rest) p.then_is in
         let t = others q.value.0 q.value.1 q.is in
         let same = pair_of (p.value ∷ q.value.0) hs q.value.1 rest q.then_is in
@@ -227,8 +217,8 @@ handles_taken (w ∷ ws) hs rest e =
           formed = and_from (is_id p.value) (list_all is_id q.value.0) (ids.formed w p.value p.is) t.formed;
         })
 
-no_id_arrow : id_of arrow ≡ None
-unfolding id_of number_words.id_of number_words.number_of number_from with_digit digit_of
+no_id_arrow : decimal_id_of arrow ≡ None
+unfolding decimal_id_of number_words.id_of number_words.number_of number_from with_digit digit_of
 no_id_arrow = refl
 
 id_no_arrow : (h : ℕ) → is_id h ≡ true → bytes_eq (decimal h) arrow ≡ false
@@ -237,16 +227,16 @@ id_no_arrow h form = by (bytes_eq (decimal h) arrow) refl
     by : (t : Bool) → bytes_eq (decimal h) arrow ≡ t → t ≡ false
     by true is =
         let same : decimal h ≡ arrow = (bytes_eq-Decides (decimal h) arrow).0 is in
-        absurd (none-some h (sym no_id_arrow ∙ ap id_of (sym same) ∙ ids.back h form))
+        absurd (none-some h (sym no_id_arrow ∙ ap decimal_id_of (sym same) ∙ ids.back h form))
     by false is = refl
 
 handles_again : (hs : List ℕ) (more : Words) → list_all is_id hs ≡ true → handles_at (map decimal hs ++ arrow ∷ more) ≡ Some (hs, arrow ∷ more)
 unfolding handles_at
-handles_again [] more form = ap (λ t. cond t (Some ([], arrow ∷ more)) (id_of arrow >>= λ h. (handles_at more >>= then_handles h))) (bytes_eq-self arrow)
+handles_again [] more form = ap (λ t. cond t (Some ([], arrow ∷ more)) (decimal_id_of arrow >>= λ h. (handles_at more >>= then_handles h))) (bytes_eq-self arrow)
 handles_again (h ∷ hs) more form =
     let parts = and_parts (is_id h) (list_all is_id hs) form in
     let behind = map decimal hs ++ arrow ∷ more in
-    ap (λ t. cond t (Some ([], decimal h ∷ behind)) (id_of (decimal h) >>= λ k. (handles_at behind >>= then_handles k))) (id_no_arrow h parts.0)
+    ap (λ t. cond t (Some ([], decimal h ∷ behind)) (decimal_id_of (decimal h) >>= λ k. (handles_at behind >>= then_handles k))) (id_no_arrow h parts.0)
     ∙ ap (λ o. o >>= λ k. (handles_at behind >>= then_handles k)) (ids.back h parts.0)
     ∙ ap (λ o. o >>= then_handles h) (handles_again hs more parts.1)
 

@@ -4,7 +4,7 @@ use Rattle.std.proofs.Math.ListN.{length-set}
 use Rattle.std.proofs.lemmas.List.{take_more, take_more_set, append-nil}
 use Rattle.std.proofs.lemmas.Grind.{flat_map-append}
 use Rattle.std.specs.Fmt.{digit_glyph}
-use Rattle.pr_plain.specs.HexWords.{byte_digits, digits_of_bytes}
+use Rattle.pr_text.specs.HexWords.{byte_digits, digits_of_bytes}
 
 -- two more elements, written behind those at the front
 two_more : (xs : List ℕ) (i a b : ℕ) → 2 * i + 1 < length xs → take (2 * (i + 1)) (set (set xs (2 * i) a) (2 * i + 1) b) ≡ take (2 * i) xs ++ a ∷ b ∷ []

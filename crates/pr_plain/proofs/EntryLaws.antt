@@ -1,10 +1,10 @@
 -- Entries are read back from their lines, and from no others.
 use Rattle.std.specs.Prelude.{not, ◌&&◌}
-use Rattle.std.proofs.Common.{◌≡◌, ◌≢◌, ℕ, ◌≤◌, Bool, true, false, cond, eqb, leb, Option, Some, None, List, [], ◌∷◌, ◌++◌, length, codes, refl, sym, ap, ◌∙◌, append_assoc, arith}
+use Rattle.std.proofs.Common.{◌≡◌, ◌≢◌, ℕ, ◌^◌, ◌≤◌, Bool, true, false, cond, eqb, leb, Option, Some, None, List, [], ◌∷◌, ◌++◌, length, codes, refl, sym, ap, ◌∙◌, append_assoc, arith}
 use Rattle.std.specs.Fmt.{decimal}
 use Rattle.std.specs.List.{list_all, slice_split, join_with_byte}
 use Rattle.std.specs.Str.{bytes_eq}
-use Rattle.std.proofs.lemmas.Bool.{and_parts, and_from, eqb-true, ne_eqb, eq-eqb, leb-true, false≢true}
+use Rattle.std.proofs.lemmas.Bool.{and_parts, and_from, eqb-true, ne_eqb, eq-eqb, leb-true, ltb-true, false≢true}
 use Rattle.std.proofs.lemmas.List.{append-nil}
 use Rattle.std.proofs.lemmas.List.Splits.{join_with_byte-slice_split}
 use Rattle.std.proofs.lemmas.Option.{none-some, same_Some, cond_some}
@@ -24,17 +24,21 @@ use Rattle.pr_model.specs.declared.events.Did.TheVariants.{Stopped}
 use Rattle.pr_model.specs.declared.events.Entry.{Entry}
 use Rattle.pr_model.specs.declared.events.Turned.{Turned}
 use Rattle.pr_plain.specs.CallReading.{arrow, lwp_of, begins_call, call_at, reply_at}
-use Rattle.pr_plain.specs.DecimalWords.{number_of, id_of}
+use Rattle.pr_plain.specs.DecimalWords.{decimal_of, decimal_id_of}
 use Rattle.pr_plain.specs.EntryForms.{is_number, is_id, actor_form, did_form, call_form, reply_form, act_form, has_form}
 use Rattle.pr_plain.specs.EntryReading.{controller_or_lwp, actor_of, exchange_of, tick_of, act_by, act_of, entry_of, heading_of, entry_in, heading_in}
 use Rattle.pr_plain.specs.Histories.{heading_line}
-use Rattle.pr_plain.specs.HistoryText.{blank, behind_blank, joined, lwp_text, actor_text, did_words, stop_words, turn_words, call_words, reply_words, act_words, entry_words, entry_line}
+use Rattle.pr_text.specs.Bytes.{blank}
+use Rattle.pr_text.specs.LwpWords.{lwp_text}
+use Rattle.pr_text.specs.SpacedWords.{behind_blank, joined}
+use Rattle.pr_plain.specs.HistoryText.{actor_text, did_words, stop_words, turn_words, call_words, reply_words, act_words, entry_words, entry_line}
 use Rattle.pr_plain.specs.Lines.{is_blank, is_word_byte, is_word, names_words, has_words}
 use Rattle.pr_plain.specs.Readings.{◌>>=◌}
 use Rattle.pr_plain.specs.TurnReading.{turn_of}
 use Rattle.pr_plain.specs.WordReading.{Words, word_at, is_done, behind_word, number_at}
 use Rattle.pr_plain.proofs.CallLaws.{lwp_of-is, lwp_of-text, done_is, call_taken, call_again, reply_taken, reply_again}
-use Rattle.pr_plain.proofs.DecimalLemmas.{are_digits, decimal-digits, is_number-from_id, number_of-word, number_of-decimal, id_of-word, id_of-decimal}
+use Rattle.pr_text.proofs.NumberLemmas.{are_digits, decimal-digits}
+use Rattle.pr_plain.proofs.DecimalLemmas.{is_number-from_id, decimal_of-word, decimal_of-decimal, decimal_id_of-word, decimal_id_of-decimal}
 use Rattle.pr_plain.proofs.FrontLemmas.{word_at-is}
 use Rattle.pr_plain.proofs.LineLemmas.{entry_line-words, joined-words}
 use Rattle.pr_plain.proofs.RowLemmas.{found_by, behind_word-is, behind_word-again, by_word}
@@ -64,10 +68,10 @@ actor_is w a e = by_word w (codes "clock") _ _ a (IsActor w a) e (λ is h. actor
         let is = lwp_of-is v p.value p.is in
         actor_as v (Lwp p.value.0 p.value.1) a (same_actor (Lwp p.value.0 p.value.1) a p.then_is) (record { word = is.word; formed = is.formed })
 
-    first : (b : ℕ) (bs : List ℕ) (t : Bool) → eqb b 99 ≡ t → cond t (id_of bs >>= λ k. Some (Controller k)) (lwp_of (b ∷ bs) >>= λ l. Some (Lwp l.0 l.1)) ≡ Some a → IsActor (b ∷ bs) a
+    first : (b : ℕ) (bs : List ℕ) (t : Bool) → eqb b 99 ≡ t → cond t (decimal_id_of bs >>= λ k. Some (Controller k)) (lwp_of (b ∷ bs) >>= λ l. Some (Lwp l.0 l.1)) ≡ Some a → IsActor (b ∷ bs) a
     first b bs true is h =
-        let p = found_by (id_of bs) (λ k. Some (Controller k)) a h in
-        let n = id_of-word bs p.value p.is in
+        let p = found_by (decimal_id_of bs) (λ k. Some (Controller k)) a h in
+        let n = decimal_id_of-word bs p.value p.is in
         actor_as (b ∷ bs) (Controller p.value) a (same_actor (Controller p.value) a p.then_is) (record { word = ap (λ x. x ∷ bs) (eqb-true b 99 is) ∙ ap (λ x. 99 ∷ x) n.word; formed = n.small })
     first b bs false is h = lwp (b ∷ bs) h
 
@@ -82,8 +86,8 @@ starts_low (b ∷ bs) rest h some =
     (b, bs ++ rest, refl, leb-true b 57 (and_parts (leb 48 b) (leb b 57) (and_parts (leb 48 b && leb b 57) (are_digits bs) h).0).1)
 
 not_empty : (n : ℕ) → is_number n ≡ true → decimal n ≢ []
-unfolding number_of number_words.number_of
-not_empty n form e = none-some n (sym (ap number_of e) ∙ number_of-decimal n form)
+unfolding decimal_of number_words.number_of
+not_empty n form e = none-some n (sym (ap decimal_of e) ∙ decimal_of-decimal n form)
 
 low_actor : (b : ℕ) (bs : List ℕ) → b ≤ 57 → actor_of (b ∷ bs) ≡ (lwp_of (b ∷ bs) >>= λ l. Some (Lwp l.0 l.1))
 unfolding actor_of
@@ -95,10 +99,10 @@ low_actor b bs low = by (bytes_eq (b ∷ bs) (codes "clock")) refl
 
     by : (t : Bool) → bytes_eq (b ∷ bs) (codes "clock") ≡ t → cond t (Some Clock) (controller_or_lwp (b ∷ bs)) ≡ (lwp_of (b ∷ bs) >>= λ l. Some (Lwp l.0 l.1))
     by true is = let same : b ≡ 99 = ap head ((bytes_eq-Decides (b ∷ bs) (codes "clock")).0 is) in absurd (omega arith)
-    by false is = ap (λ t. cond t (id_of bs >>= λ k. Some (Controller k)) (lwp_of (b ∷ bs) >>= λ l. Some (Lwp l.0 l.1))) (ne_eqb b 99 (λ e. omega arith))
+    by false is = ap (λ t. cond t (decimal_id_of bs >>= λ k. Some (Controller k)) (lwp_of (b ∷ bs) >>= λ l. Some (Lwp l.0 l.1))) (ne_eqb b 99 (λ e. omega arith))
 
-no_id_lock : id_of (codes "lock") ≡ None
-unfolding id_of number_words.id_of number_words.number_of number_from with_digit digit_of
+no_id_lock : decimal_id_of (codes "lock") ≡ None
+unfolding decimal_id_of number_words.id_of number_words.number_of number_from with_digit digit_of
 no_id_lock = refl
 
 lwp_back : (p l : ℕ) → is_id p ≡ true → is_id l ≡ true → (b : ℕ) × (bs : List ℕ) × (decimal p ++ (codes "/" ++ decimal l) ≡ b ∷ bs) × (b ≤ 57) → actor_of (lwp_text p l) ≡ Some (Lwp p l)
@@ -117,15 +121,15 @@ actor_back (Controller k) form = by (bytes_eq (99 ∷ decimal k) (codes "clock")
     tail [] = []
     tail (x ∷ xs) = xs
 
-    by : (t : Bool) → bytes_eq (99 ∷ decimal k) (codes "clock") ≡ t → cond t (Some Clock) (id_of (decimal k) >>= λ n. Some (Controller n)) ≡ Some (Controller k)
+    by : (t : Bool) → bytes_eq (99 ∷ decimal k) (codes "clock") ≡ t → cond t (Some Clock) (decimal_id_of (decimal k) >>= λ n. Some (Controller n)) ≡ Some (Controller k)
     by true is =
         let same : decimal k ≡ codes "lock" = ap tail ((bytes_eq-Decides (99 ∷ decimal k) (codes "clock")).0 is) in
-        absurd (none-some k (sym no_id_lock ∙ ap id_of (sym same) ∙ id_of-decimal k form))
-    by false is = ap (λ o. o >>= λ n. Some (Controller n)) (id_of-decimal k form)
+        absurd (none-some k (sym no_id_lock ∙ ap decimal_id_of (sym same) ∙ decimal_id_of-decimal k form))
+    by false is = ap (λ o. o >>= λ n. Some (Controller n)) (decimal_id_of-decimal k form)
 actor_back (Lwp p l) form =
     let parts = and_parts (is_id p) (is_id l) form in
     let number = is_number-from_id p parts.0 in
-    lwp_back p l parts.0 parts.1 (starts_low (decimal p) (codes "/" ++ decimal l) (decimal-digits p number) (not_empty p number))
+    lwp_back p l parts.0 parts.1 (starts_low (decimal p) (codes "/" ++ decimal l) (decimal-digits p (ltb-true p (2 ^ 64) number)) (not_empty p number))
 actor_back Clock form = refl
 
 -- ---- what was done
@@ -162,11 +166,11 @@ exchange_back c r hc hr =
     ∙ ap (λ o. o >>= λ rest. (reply_at rest >>= ended c)) (behind_word-again arrow (reply_words r))
     ∙ ap (λ o. o >>= ended c) (reply_again r hr)
 
-tick_is : (w : List ℕ) (ws : Words) (n : ℕ) (a : Act) → number_of w ≡ Some n → tick_of n ws ≡ Some a → IsAct (w ∷ ws) a
+tick_is : (w : List ℕ) (ws : Words) (n : ℕ) (a : Act) → decimal_of w ≡ Some n → tick_of n ws ≡ Some a → IsAct (w ∷ ws) a
 unfolding tick_of act_words act_form
 tick_is w ws n a number e =
     let f = cond_some (is_done ws) (act.Tick n) a e in
-    let d = number_of-word w n number in
+    let d = decimal_of-word w n number in
     act_as (w ∷ ws) (act.Tick n) a (ap (λ x. Some x) f.1) (record { words = ap (λ v. v ∷ ws) d.word ∙ ap (λ vs. decimal n ∷ vs) (done_is ws f.0); formed = d.small })
 
 turned_is : (ws : Words) (a : Act) → (turn_of ws >>= λ t. Some (act.Turn t)) ≡ Some a → IsAct ws a
@@ -179,25 +183,25 @@ turned_is ws a e =
 act_is : (ws : Words) (a : Act) → act_of ws ≡ Some a → IsAct ws a
 unfolding act_of
 act_is ws a e =
-    let p = found_by (word_at ws) (λ w. act_by (number_of w.0) w.0 w.1 ws) a e in
+    let p = found_by (word_at ws) (λ w. act_by (decimal_of w.0) w.0 w.1 ws) a e in
     let words = word_at-is ws p.value.0 p.value.1 p.is in
-    by p.value.0 p.value.1 words (number_of p.value.0) refl p.then_is
+    by p.value.0 p.value.1 words (decimal_of p.value.0) refl p.then_is
   where
     choice : (w : List ℕ) (t : Bool) → cond t (exchange_of ws) (turn_of ws >>= λ t. Some (act.Turn t)) ≡ Some a → IsAct ws a
     choice w true h = exchange_is ws a h
     choice w false h = turned_is ws a h
 
-    by : (w : List ℕ) (rest : Words) → ws ≡ w ∷ rest → (o : Option ℕ) → number_of w ≡ o → act_by o w rest ws ≡ Some a → IsAct ws a
+    by : (w : List ℕ) (rest : Words) → ws ≡ w ∷ rest → (o : Option ℕ) → decimal_of w ≡ o → act_by o w rest ws ≡ Some a → IsAct ws a
     by w rest words (Some n) is h = let t = tick_is w rest n a is h in record { words = words ∙ t.words; formed = t.formed }
     by w rest words None is h = choice w (begins_call w) h
 
 call_dispatch : (c : Call) (more : Words) → act_of (call_words c ++ more) ≡ exchange_of (call_words c ++ more)
-unfolding act_of call_words word_at number_of number_words.number_of number_from with_digit digit_of begins_call
+unfolding act_of call_words word_at decimal_of number_words.number_of number_from with_digit digit_of begins_call
 call_dispatch call.List more = refl
 call_dispatch _ more = refl
 
 turn_dispatch : (d : Did) (more : Words) → act_of (did_words d ++ more) ≡ (turn_of (did_words d ++ more) >>= λ t. Some (act.Turn t))
-unfolding act_of did_words word_at number_of number_words.number_of number_from with_digit digit_of begins_call
+unfolding act_of did_words word_at decimal_of number_words.number_of number_from with_digit digit_of begins_call
 turn_dispatch Stopped more = refl
 turn_dispatch _ more = refl
 
@@ -208,7 +212,7 @@ turned_back t form =
 
 ticked_back : (n : ℕ) → is_number n ≡ true → act_of (decimal n ∷ []) ≡ Some (act.Tick n)
 unfolding act_of word_at tick_of
-ticked_back n form = ap (λ o. act_by o (decimal n) [] (decimal n ∷ [])) (number_of-decimal n form)
+ticked_back n form = ap (λ o. act_by o (decimal n) [] (decimal n ∷ [])) (decimal_of-decimal n form)
 
 act_back : (a : Act) → act_form a ≡ true → act_of (act_words a) ≡ Some a
 unfolding act_words act_form

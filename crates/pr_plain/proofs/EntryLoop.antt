@@ -7,7 +7,7 @@ use Rattle.std.specs.List.{slice_split, onto_first}
 use Rattle.std.proofs.lemmas.List.Splits.{length-slice_split}
 use Rattle.std.proofs.lemmas.List.Sums.{count_by-le-length}
 use Rattle.pr_plain.specs.EntryReading.{entry_in, heading_in, heading_of, or_line, then_reads, next_entry, next_heading, entries_in}
-use Rattle.pr_plain.specs.Lines.{is_newline}
+use Rattle.pr_text.specs.TextLines.{is_newline}
 use Rattle.pr_plain.specs.WordReading.{word_at, behind_word}
 
 abbrev Read : Type 0

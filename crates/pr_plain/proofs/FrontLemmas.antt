@@ -3,16 +3,11 @@ use Rattle.std.proofs.Common.{◌≡◌, ℕ, ◌<◌, true, false, cond, Option
 use Rattle.std.proofs.lemmas.List.{append_assoc, append-nil}
 use Rattle.std.specs.Str.{bytes_eq}
 use Rattle.pr_plain.specs.CallReading.{arrow, handles_at}
-use Rattle.pr_plain.specs.DecimalWords.{id_of}
+use Rattle.pr_plain.specs.DecimalWords.{decimal_id_of}
 use Rattle.pr_plain.specs.Readings.{◌>>=◌}
 use Rattle.pr_plain.specs.WordReading.{Words, word_at}
 
--- what is read behind elements that were read before
-abbrev pub with_front : {X : Type 0} → List X → Option (List X) → Option (List X)
-with_front front None = None
-with_front front (Some xs) = Some (front ++ xs)
-
--- the same of a list and what stands behind it
+-- handles that are read behind those that were read before, and what stands behind them
 abbrev pub with_handles : List ℕ → Option (List ℕ × Words) → Option (List ℕ × Words)
 with_handles front None = None
 with_handles front (Some x) = Some (front ++ x.0, x.1)
@@ -49,32 +44,32 @@ regroup : (front : List ℕ) (h : ℕ) (o : Option (List ℕ × Words)) → with
 regroup front h None = refl
 regroup front h (Some x) = ap (λ (hs : List ℕ). Some (hs, x.1)) (sym (append_assoc front (h ∷ []) x.0))
 
-handles_more : (front : List ℕ) (w : List ℕ) (h : ℕ) (rest : Words) → bytes_eq w arrow ≡ false → id_of w ≡ Some h → with_handles front (handles_at (w ∷ rest)) ≡ with_handles (front ++ h ∷ []) (handles_at rest)
+handles_more : (front : List ℕ) (w : List ℕ) (h : ℕ) (rest : Words) → bytes_eq w arrow ≡ false → decimal_id_of w ≡ Some h → with_handles front (handles_at (w ∷ rest)) ≡ with_handles (front ++ h ∷ []) (handles_at rest)
 unfolding handles_at
 handles_more front w h rest other found =
-    ap (λ t. with_handles front (cond t (Some ([], w ∷ rest)) (id_of w >>= λ h. (handles_at rest >>= λ hs. Some (h ∷ hs.0, hs.1))))) other
+    ap (λ t. with_handles front (cond t (Some ([], w ∷ rest)) (decimal_id_of w >>= λ h. (handles_at rest >>= λ hs. Some (h ∷ hs.0, hs.1))))) other
     ∙ ap (λ o. with_handles front (o >>= λ h. (handles_at rest >>= λ hs. Some (h ∷ hs.0, hs.1)))) found
     ∙ regroup front h (handles_at rest)
 
-pub handles_at-more : (front : List ℕ) (ws : Words) (w : List ℕ) (h : ℕ) (rest : Words) → word_at ws ≡ Some (w, rest) → bytes_eq w arrow ≡ false → id_of w ≡ Some h → with_handles front (handles_at ws) ≡ with_handles (front ++ h ∷ []) (handles_at rest)
+pub handles_at-more : (front : List ℕ) (ws : Words) (w : List ℕ) (h : ℕ) (rest : Words) → word_at ws ≡ Some (w, rest) → bytes_eq w arrow ≡ false → decimal_id_of w ≡ Some h → with_handles front (handles_at ws) ≡ with_handles (front ++ h ∷ []) (handles_at rest)
 handles_at-more front ws w h rest e other found =
     ap (λ vs. with_handles front (handles_at vs)) (word_at-is ws w rest e) ∙ handles_more front w h rest other found
 
-handles_bad : (w : List ℕ) (rest : Words) → bytes_eq w arrow ≡ false → id_of w ≡ None → handles_at (w ∷ rest) ≡ None
+handles_bad : (w : List ℕ) (rest : Words) → bytes_eq w arrow ≡ false → decimal_id_of w ≡ None → handles_at (w ∷ rest) ≡ None
 unfolding handles_at
 handles_bad w rest other none =
-    ap (λ t. cond t (Some ([], w ∷ rest)) (id_of w >>= λ h. (handles_at rest >>= λ hs. Some (h ∷ hs.0, hs.1)))) other
+    ap (λ t. cond t (Some ([], w ∷ rest)) (decimal_id_of w >>= λ h. (handles_at rest >>= λ hs. Some (h ∷ hs.0, hs.1)))) other
     ∙ ap (λ o. o >>= λ h. (handles_at rest >>= λ hs. Some (h ∷ hs.0, hs.1))) none
 
 -- where a word is neither the arrow nor a handle, nothing is read, whatever was read before
-pub handles_at-bad : (front : List ℕ) (ws : Words) (w : List ℕ) (rest : Words) → word_at ws ≡ Some (w, rest) → bytes_eq w arrow ≡ false → id_of w ≡ None → with_handles front (handles_at ws) ≡ None
+pub handles_at-bad : (front : List ℕ) (ws : Words) (w : List ℕ) (rest : Words) → word_at ws ≡ Some (w, rest) → bytes_eq w arrow ≡ false → decimal_id_of w ≡ None → with_handles front (handles_at ws) ≡ None
 handles_at-bad front ws w rest e other none =
     ap (λ vs. with_handles front (handles_at vs)) (word_at-is ws w rest e) ∙ ap (with_handles front) (handles_bad w rest other none)
 
 handles_arrow : (w : List ℕ) (rest : Words) → bytes_eq w arrow ≡ true → handles_at (w ∷ rest) ≡ Some ([], w ∷ rest)
 unfolding handles_at
 handles_arrow w rest is =
-    ap (λ t. cond t (Some ([], w ∷ rest)) (id_of w >>= λ h. (handles_at rest >>= λ hs. Some (h ∷ hs.0, hs.1)))) is
+    ap (λ t. cond t (Some ([], w ∷ rest)) (decimal_id_of w >>= λ h. (handles_at rest >>= λ hs. Some (h ∷ hs.0, hs.1)))) is
 
 -- at the arrow the handles are those that were read before
 pub handles_at-arrow : (front : List ℕ) (ws : Words) (w : List ℕ) (rest : Words) → word_at ws ≡ Some (w, rest) → bytes_eq w arrow ≡ true → with_handles front (handles_at ws) ≡ Some (front, ws)

@@ -4,8 +4,7 @@ use Rattle.std.proofs.Common.{◌≡◌, ℕ, ◌+◌, ◌^◌, ◌<◌, ◌≤�
 use Rattle.std.specs.List.{list_all}
 use Rattle.std.proofs.lemmas.Bool.{and_parts, and_from, eqb-true, eqb-false, eq-eqb, ne_eqb, lt-ltb, ltb-true}
 use Rattle.std.proofs.lemmas.List.{length-append}
-use Rattle.std.proofs.lemmas.List.Splits.{length-slice_split}
-use Rattle.std.proofs.lemmas.List.Sums.{count_by-le-length}
+use Rattle.pr_text.proofs.LineLemmas.{few_lines}
 use Rattle.std.proofs.lemmas.Option.{none-some}
 use Rattle.pr_model.specs.declared.events.Entry.{Entry}
 use Rattle.std.specs.Result.{IfOk, IfErr}
@@ -14,9 +13,10 @@ use Rattle.pr_plain.specs.declared.refusals.HistRefusal.TheVariants.{Line, NoMem
 use Rattle.pr_plain.specs.Readings.{Answers}
 use Rattle.pr_plain.specs.EntryForms.{is_number, has_form}
 use Rattle.pr_plain.specs.EntryReading.{entry_in, heading_in, or_line, then_reads, next_heading, entries_in, history_in, history_of}
-use Rattle.pr_plain.specs.Histories.{heading_line, lines_of, history_lines, BeginsWith, NoEntry, IsFirstWrong, Refuses}
+use Rattle.pr_text.specs.TextLines.{lines_of}
+use Rattle.pr_plain.specs.Histories.{heading_line, history_lines, BeginsWith, NoEntry, IsFirstWrong, Refuses}
 use Rattle.pr_plain.specs.HistoryText.{entry_line}
-use Rattle.pr_plain.specs.Lines.{is_newline, entry_lines}
+use Rattle.pr_plain.specs.Lines.{entry_lines}
 use Rattle.pr_plain.specs.WordReading.{word_at}
 use Rattle.pr_plain.proofs.EntryLaws.{heading_in-is, heading_in-line, entry_in-is, entry_in-line}
 
@@ -181,7 +181,7 @@ length-entry_lines n (e ∷ es) = ap (λ k. suc k) (length-entry_lines (n + 1) e
 
 few_entries : (text : List ℕ) (es : List Entry) → BeginsWith text es → length es ≤ length text
 few_entries text es b =
-    omega (arith, ap length b.lines, length-append (history_lines es) b.below, length-entry_lines 0 es, length-slice_split is_newline text, count_by-le-length is_newline text)
+    omega (arith, ap length b.lines, length-append (history_lines es) b.below, length-entry_lines 0 es, few_lines text)
 
 pub read_few : {X : Type 0} (view : X → List Entry) (text : List ℕ) (r : Result X HistRefusal) → IfOk r (λ h. BeginsWith text (view h)) → IfOk r (λ h. length (view h) ≤ length text)
 read_few view text (Ok h) begins = few_entries text (view h) begins

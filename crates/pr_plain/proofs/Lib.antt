@@ -10,7 +10,6 @@ pub mod GeneratedLemmas
 pub mod HexLemmas
 pub mod HistoryLaws
 pub mod LineLemmas
-pub mod NameLemmas
 pub mod PieceLemmas
 pub mod RowLemmas
 pub mod TextLaws

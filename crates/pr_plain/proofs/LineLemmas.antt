@@ -8,8 +8,11 @@ use Rattle.std.proofs.lemmas.List.Splits.{slice_split_none, slice_split_at}
 use Rattle.std.proofs.lemmas.List.Sums.{AllPass-from_list_all}
 use Rattle.std.specs.List.{All, list_all, slice_split}
 use Rattle.pr_model.specs.declared.events.Entry.{Entry}
-use Rattle.pr_plain.specs.HistoryText.{blank, newline, behind_blank, spaced, joined, actor_text, act_words, entry_words, entry_line, entry_text, entries_text}
-use Rattle.pr_plain.specs.Lines.{is_blank, is_newline, is_word_byte, is_word, has_words, entry_lines}
+use Rattle.pr_text.specs.TextLines.{newline, is_newline}
+use Rattle.pr_text.specs.Bytes.{blank}
+use Rattle.pr_text.specs.SpacedWords.{behind_blank, spaced, joined}
+use Rattle.pr_plain.specs.HistoryText.{actor_text, act_words, entry_words, entry_line, entry_text, entries_text}
+use Rattle.pr_plain.specs.Lines.{is_blank, is_word_byte, is_word, has_words, entry_lines}
 use Rattle.pr_plain.proofs.WordLemmas.{entry_words-words}
 
 -- ---- bytes of words

@@ -7,9 +7,10 @@ use Rattle.std.proofs.lemmas.List.{append-nil, append_cancel_right}
 use Rattle.std.proofs.lemmas.List.Splits.{slice_split_at, join_with_byte-slice_split}
 use Rattle.pr_model.specs.declared.events.Entry.{Entry}
 use Rattle.pr_plain.specs.EntryForms.{has_form}
-use Rattle.pr_plain.specs.Histories.{history_text, heading_line, lines_of, history_lines, BeginsWith, IsTextOf}
-use Rattle.pr_plain.specs.HistoryText.{newline, entry_line, entry_text, entries_text, heading_text}
-use Rattle.pr_plain.specs.Lines.{is_newline, has_words, entry_lines}
+use Rattle.pr_text.specs.TextLines.{lines_of, newline, is_newline}
+use Rattle.pr_plain.specs.Histories.{history_text, heading_line, history_lines, BeginsWith, IsTextOf}
+use Rattle.pr_plain.specs.HistoryText.{entry_line, entry_text, entries_text, heading_text}
+use Rattle.pr_plain.specs.Lines.{has_words, entry_lines}
 use Rattle.pr_plain.proofs.EntryLaws.{words_formed, heading_words}
 use Rattle.pr_plain.proofs.LineLemmas.{joined-newline, entry_line-newline}
 

@@ -1,10 +1,9 @@
 -- Each kind of word is read back, and no other word is read as one.
-use Rattle.std.proofs.Common.{◌≡◌, ℕ, ◌+◌, ◌*◌, ◌<◌, Bool, true, cond, eqb, Option, Some, None, List, [], ◌∷◌, refl, sym, ap, ◌∙◌, arith}
+use Rattle.std.proofs.Common.{◌≡◌, ℕ, Bool, true, cond, Some, None, List, [], ◌∷◌, refl, sym, ap, ◌∙◌}
 use Rattle.std.specs.Fmt.{decimal}
-use Rattle.std.specs.List.{All, list_all}
+use Rattle.std.specs.List.{All, AllByRecursion, list_all}
 use Rattle.std.specs.Str.{bytes_eq}
 use Rattle.std.proofs.lemmas.Bool.{and_from, lt-ltb, ltb-true}
-use Rattle.std.proofs.lemmas.Bool.Decides.{nat_tests}
 use Rattle.std.proofs.lemmas.List.Elements.{All-weaker}
 use Rattle.std.proofs.lemmas.List.Sums.{AllPass-from_list_all}
 use Rattle.std.proofs.lemmas.Option.{cond_some}
@@ -16,15 +15,15 @@ use Rattle.pr_num.specs.Signals.{signal_name, signal_of_name}
 use Rattle.pr_num.specs.Syscalls.{syscall_name, syscall_of_name}
 use Rattle.pr_num.proofs.EntryLemmas.{errno_of_name-name, errno_name-of_name, fault_of_name-name, fault_name-of_name, signal_of_name-name, syscall_of_name-name, syscall_name-of_name}
 use Rattle.pr_text.specs.Names.{is_name, name_of}
-use Rattle.pr_plain.specs.DecimalWords.{number_of, id_of}
+use Rattle.pr_plain.specs.DecimalWords.{decimal_of, decimal_id_of}
 use Rattle.pr_plain.specs.EntryForms.{is_number, is_id, is_byte}
-use Rattle.pr_plain.specs.FileNames.{file_name, file_of_name, mode_name, mode_of_name}
-use Rattle.pr_plain.specs.HexWords.{dash, digit_value, byte_of, with_byte, bytes_of_digits, bytes_of_word, hex_word}
+use Rattle.pr_model.specs.FileNames.{file_name, file_of_name, mode_name, mode_of_name}
+use Rattle.pr_plain.specs.HexWords.{bytes_of_word, hex_word}
 use Rattle.pr_plain.specs.Readings.{◌>>=◌}
 use Rattle.pr_plain.specs.WordReading.{signal_of, number_at, id_at, bytes_at, syscall_at, fault_at, signal_at, errno_at, file_at, mode_at, program_at}
-use Rattle.pr_plain.proofs.DecimalLemmas.{number_of-word, number_of-decimal, id_of-word, id_of-decimal}
-use Rattle.pr_plain.proofs.HexLemmas.{bytes_of_word-hex_word, hex_word-bytes_of_word}
-use Rattle.pr_plain.proofs.NameLemmas.{file_of_name-name, file_name-of_name, mode_of_name-name, mode_name-of_name}
+use Rattle.pr_plain.proofs.DecimalLemmas.{decimal_of-word, decimal_of-decimal, decimal_id_of-word, decimal_id_of-decimal}
+use Rattle.pr_plain.proofs.HexLemmas.{bytes_of_word-hex_word, hex_word-bytes_of_word, bytes_of_word-bytes}
+use Rattle.pr_model.proofs.NameLemmas.{file_of_name-name, file_name-of_name, mode_of_name-name, mode_name-of_name}
 use Rattle.pr_plain.proofs.RowLemmas.{Undoes, Takes, one_word, found_by, bytes_eq-self}
 use Rattle.std.proofs.lemmas.Slice.Eq.{bytes_eq-Decides}
 
@@ -33,63 +32,34 @@ any x = true
 
 -- ---- bytes
 
-digit_small : (c n : ℕ) → digit_value c ≡ Some n → n < 16
-unfolding digit_value
-digit_small c n e = grind (arith, nat_tests)
-
-byte_small : (c d b : ℕ) → byte_of (digit_value c) (digit_value d) ≡ Some b → is_byte b ≡ true
-byte_small c d b e = by (digit_value c) (digit_value d) (λ n. digit_small c n) (λ n. digit_small d n) e
-  where
-    by : (x y : Option ℕ) → ((n : ℕ) → x ≡ Some n → n < 16) → ((n : ℕ) → y ≡ Some n → n < 16) → byte_of x y ≡ Some b → is_byte b ≡ true
-    by (Some high) (Some low) p q same =
-        let is : 16 * high + low ≡ b = cc in
-        lt-ltb b 256 (omega (arith, p high refl, q low refl))
-    by (Some high) None p q same = cc
-    by None y p q same = cc
-
-bytes_small : (w bs : List ℕ) → bytes_of_digits w ≡ Some bs → list_all is_byte bs ≡ true
-unfolding bytes_of_digits
-bytes_small [] bs e = let none : [] ≡ bs = cc in ap (list_all is_byte) (sym none)
-bytes_small (c ∷ []) bs e = cc
-bytes_small (c ∷ d ∷ rest) bs e = by (λ ys f. bytes_small rest ys f) (byte_of (digit_value c) (digit_value d)) (bytes_of_digits rest) (λ b. byte_small c d b) refl e
-  where
-    by : ((ys : List ℕ) → bytes_of_digits rest ≡ Some ys → list_all is_byte ys ≡ true) → (x : Option ℕ) (o : Option (List ℕ)) → ((b : ℕ) → x ≡ Some b → is_byte b ≡ true) → bytes_of_digits rest ≡ o → with_byte x o ≡ Some bs → list_all is_byte bs ≡ true
-    by others (Some b) (Some ys) p is same =
-        let all : b ∷ ys ≡ bs = cc in
-        ap (list_all is_byte) (sym all) ∙ and_from (is_byte b) (list_all is_byte ys) (p b refl) (others ys is)
-    by others (Some b) None p is same = cc
-    by others None o p is same = cc
-
-word_small : (w bs : List ℕ) → bytes_of_word w ≡ Some bs → list_all is_byte bs ≡ true
-unfolding bytes_of_word
-word_small [] bs e = cc
-word_small (c ∷ []) bs e = ap (list_all is_byte) (sym (cond_some (eqb c dash) [] bs e).1)
-word_small (c ∷ d ∷ rest) bs e = bytes_small (c ∷ d ∷ rest) bs e
+all_bytes : (bs : List ℕ) → AllByRecursion IsByte bs → list_all is_byte bs ≡ true
+all_bytes [] h = refl
+all_bytes (b ∷ bs) h = and_from (is_byte b) (list_all is_byte bs) (lt-ltb b 256 h.0) (all_bytes bs h.1)
 
 each_byte : (bs : List ℕ) → list_all is_byte bs ≡ true → All IsByte bs
 each_byte bs h = All-weaker (λ b. is_byte b ≡ true) IsByte (λ b is. ltb-true b 256 is) bs (AllPass-from_list_all is_byte bs h)
 
 -- ---- each kind of word
 
-numbers : Undoes number_of decimal is_number
+numbers : Undoes decimal_of decimal is_number
 numbers = record {
-  back = number_of-decimal;
-  only = λ w n e. (number_of-word w n e).word;
-  formed = λ w n e. (number_of-word w n e).small;
+  back = decimal_of-decimal;
+  only = λ w n e. (decimal_of-word w n e).word;
+  formed = λ w n e. (decimal_of-word w n e).small;
 }
 
-pub ids : Undoes id_of decimal is_id
+pub ids : Undoes decimal_id_of decimal is_id
 ids = record {
-  back = id_of-decimal;
-  only = λ w n e. (id_of-word w n e).word;
-  formed = λ w n e. (id_of-word w n e).small;
+  back = decimal_id_of-decimal;
+  only = λ w n e. (decimal_id_of-word w n e).word;
+  formed = λ w n e. (decimal_id_of-word w n e).small;
 }
 
 hex : Undoes bytes_of_word hex_word (λ bs. list_all is_byte bs)
 hex = record {
   back = λ bs h. bytes_of_word-hex_word bs (each_byte bs h);
   only = λ w bs e. sym (hex_word-bytes_of_word w bs e);
-  formed = word_small;
+  formed = λ w bs e. all_bytes bs (bytes_of_word-bytes w bs e);
 }
 
 syscalls : Undoes syscall_of_name syscall_name any
@@ -134,11 +104,11 @@ programs = record {
 
 pub number_step : Takes number_at (λ n. decimal n ∷ []) is_number
 unfolding number_at
-number_step = one_word number_of decimal is_number numbers
+number_step = one_word decimal_of decimal is_number numbers
 
 pub id_step : Takes id_at (λ n. decimal n ∷ []) is_id
 unfolding id_at
-id_step = one_word id_of decimal is_id ids
+id_step = one_word decimal_id_of decimal is_id ids
 
 pub bytes_step : Takes bytes_at (λ bs. hex_word bs ∷ []) (λ bs. list_all is_byte bs)
 unfolding bytes_at

@@ -37,9 +37,11 @@ use Rattle.pr_model.specs.declared.events.How.TheVariants.{Caught}
 use Rattle.pr_model.specs.declared.events.Res.{Res}
 use Rattle.pr_model.specs.declared.events.Res.TheVariants.{Value, Error, Ended}
 use Rattle.pr_model.specs.declared.events.Turned.{Turned}
-use Rattle.pr_plain.specs.FileNames.{file_name, mode_name}
-use Rattle.pr_plain.specs.HexWords.{byte_digits, digits_of_bytes, hex_word}
-use Rattle.pr_plain.specs.HistoryText.{lwp_text, actor_text, result_words, how_text, did_words, stop_words, turn_words, target_text, held_words, call_words, reply_words, act_words, entry_words}
+use Rattle.pr_model.specs.FileNames.{file_name, mode_name}
+use Rattle.pr_text.specs.HexWords.{byte_digits, digits_of_bytes}
+use Rattle.pr_plain.specs.HexWords.{hex_word}
+use Rattle.pr_text.specs.LwpWords.{lwp_text}
+use Rattle.pr_plain.specs.HistoryText.{actor_text, result_words, how_text, did_words, stop_words, turn_words, target_text, held_words, call_words, reply_words, act_words, entry_words}
 use Rattle.pr_plain.specs.Lines.{is_word_byte, is_word, names_words, has_words}
 
 -- ---- bytes of words

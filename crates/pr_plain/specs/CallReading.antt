@@ -6,7 +6,7 @@ use Rattle.pr_model.specs.declared.calls.Call.{Call}
 use Rattle.pr_model.specs.declared.calls.Call.TheVariants as call
 use Rattle.pr_model.specs.declared.calls.Reply.{Reply}
 use Rattle.pr_model.specs.declared.calls.Reply.TheVariants as reply
-use Rattle.pr_plain.specs.DecimalWords.{id_of}
+use Rattle.pr_plain.specs.DecimalWords.{decimal_id_of}
 use Rattle.pr_plain.specs.Readings.{◌>>=◌}
 use Rattle.pr_plain.specs.WordReading.{Words, word_at, is_done, number_at, id_at, bytes_at, errno_at, file_at, mode_at, program_at}
 
@@ -53,7 +53,7 @@ unfoldable pub handles_at : Words → Option (List ℕ × Words)
 handles_at [] = None
 handles_at (w ∷ ws) =
     if bytes_eq w arrow then Some ([], w ∷ ws)
-    else (id_of w >>= λ h. (handles_at ws >>= λ hs. Some (h ∷ hs.0, hs.1)))
+    else (decimal_id_of w >>= λ h. (handles_at ws >>= λ hs. Some (h ∷ hs.0, hs.1)))
 
 -- ---- a row for each form of call, behind its first word
 

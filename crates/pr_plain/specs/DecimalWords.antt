@@ -9,9 +9,9 @@ begins_hex (b ∷ []) = false
 begins_hex (b ∷ x ∷ bs) = x == 120
 
 -- the number below 2^64 that a word is, none where it is none
-unfoldable pub number_of : List ℕ → Option ℕ
-number_of w = if begins_hex w then None else number_words.number_of w
+unfoldable pub decimal_of : List ℕ → Option ℕ
+decimal_of w = if begins_hex w then None else number_words.number_of w
 
 -- the number below 2^32 that a word is: an id, a handle or the number of a controller
-unfoldable pub id_of : List ℕ → Option ℕ
-id_of w = if begins_hex w then None else number_words.id_of w
+unfoldable pub decimal_id_of : List ℕ → Option ℕ
+decimal_id_of w = if begins_hex w then None else number_words.id_of w

@@ -8,8 +8,9 @@ use Rattle.pr_model.specs.declared.events.Actor.{Actor}
 use Rattle.pr_model.specs.declared.events.Actor.TheVariants.{Controller, Lwp, Clock}
 use Rattle.pr_model.specs.declared.events.Entry.{Entry}
 use Rattle.pr_plain.specs.CallReading.{arrow, lwp_of, begins_call, call_at, reply_at}
-use Rattle.pr_plain.specs.DecimalWords.{number_of, id_of}
-use Rattle.pr_plain.specs.Lines.{is_blank, is_newline}
+use Rattle.pr_plain.specs.DecimalWords.{decimal_of, decimal_id_of}
+use Rattle.pr_text.specs.TextLines.{is_newline}
+use Rattle.pr_plain.specs.Lines.{is_blank}
 use Rattle.pr_plain.specs.Readings.{◌>>=◌}
 use Rattle.pr_plain.specs.TurnReading.{turn_of}
 use Rattle.pr_plain.specs.WordReading.{Words, word_at, is_done, behind_word, number_at}
@@ -18,7 +19,7 @@ use Rattle.pr_plain.specs.WordReading.{Words, word_at, is_done, behind_word, num
 abbrev pub controller_or_lwp : List ℕ → Option Actor
 controller_or_lwp [] = None
 controller_or_lwp (b ∷ bs) =
-    if b == 99 then (id_of bs >>= λ k. Some (Controller k)) else (lwp_of (b ∷ bs) >>= λ l. Some (Lwp l.0 l.1))
+    if b == 99 then (decimal_id_of bs >>= λ k. Some (Controller k)) else (lwp_of (b ∷ bs) >>= λ l. Some (Lwp l.0 l.1))
 
 unfoldable pub actor_of : List ℕ → Option Actor
 actor_of w = if bytes_eq w (codes "clock") then Some Clock else controller_or_lwp w
@@ -43,7 +44,7 @@ act_by None w rest ws = if begins_call w then exchange_of ws else (turn_of ws >>
 unfoldable pub act_of : Words → Option Act
 act_of ws = do
   w ← word_at ws
-  act_by (number_of w.0) w.0 w.1 ws
+  act_by (decimal_of w.0) w.0 w.1 ws
 
 -- the entry of a number, of all the words
 unfoldable pub entry_of : ℕ → Words → Option Entry

@@ -2,7 +2,7 @@
 -- them; a truss traces all of them, but for SIGCLD.
 use Rattle.std.specs.Prelude.{ℕ, List, [], ◌∷◌, ◌++◌, codes, decimal}
 use Rattle.std.specs.List.{flat_map}
-use Rattle.pr_plain.specs.HistoryText.{newline}
+use Rattle.pr_text.specs.TextLines.{newline}
 
 -- the lines of the scenario for n children
 abbrev pub generated_lines : ℕ → List (List ℕ)

@@ -1,10 +1,12 @@
 -- A text that begins with a history, and the first line at which a text is none.
 use Rattle.std.specs.Prelude.{◌≡◌, ◌≢◌, ℕ, ◌+◌, ◌<◌, ◌⊎◌, true, List, [], ◌∷◌, ◌++◌, codes, decimal, length}
-use Rattle.std.specs.List.{list_all, slice_split}
+use Rattle.std.specs.List.{list_all}
+use Rattle.pr_text.specs.TextLines.{lines_of, newline}
 use Rattle.pr_model.specs.declared.events.Entry.{Entry}
 use Rattle.pr_plain.specs.EntryForms.{is_number, has_form}
-use Rattle.pr_plain.specs.HistoryText.{newline, joined, entry_line, heading_text, entries_text}
-use Rattle.pr_plain.specs.Lines.{is_newline, entry_lines}
+use Rattle.pr_text.specs.SpacedWords.{joined}
+use Rattle.pr_plain.specs.HistoryText.{entry_line, heading_text, entries_text}
+use Rattle.pr_plain.specs.Lines.{entry_lines}
 use Rattle.pr_plain.specs.declared.refusals.HistRefusal.{HistRefusal}
 use Rattle.pr_plain.specs.declared.refusals.HistRefusal.TheVariants.{Line, NoMemory}
 
@@ -15,10 +17,6 @@ history_text es = heading_text (length es) ++ entries_text 0 es
 -- the line of a heading
 unfoldable pub heading_line : ℕ → List ℕ
 heading_line n = joined (codes "history" ∷ decimal n ∷ [])
-
--- the lines of a text: a newline ends a line, and the last line may lack it
-abbrev pub lines_of : List ℕ → List (List ℕ)
-lines_of text = slice_split is_newline text
 
 -- the lines of a history
 abbrev pub history_lines : List Entry → List (List ℕ)

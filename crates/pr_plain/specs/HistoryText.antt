@@ -2,7 +2,6 @@
 -- the number of the entry, who acted, and what that was. A number is in decimal without leading zeros, and bytes are in
 -- hex. Every entry has a line, also one that no machine makes.
 use Rattle.std.specs.Prelude.{ℕ, ◌+◌, ◌==◌, Bool, List, [], ◌∷◌, ◌++◌, map, codes, decimal, if◌then◌else◌}
-use Rattle.std.specs.List.{flat_map}
 use Rattle.pr_num.specs.Errnos.{errno_name}
 use Rattle.pr_num.specs.Faults.{fault_name, fault_signal}
 use Rattle.pr_num.specs.Signals.{signal_name}
@@ -23,37 +22,13 @@ use Rattle.pr_model.specs.declared.events.How.TheVariants.{Caught, Ignored, JobS
 use Rattle.pr_model.specs.declared.events.Res.{Res}
 use Rattle.pr_model.specs.declared.events.Res.TheVariants.{Value, Error, Ended}
 use Rattle.pr_model.specs.declared.events.Turned.{Turned}
-use Rattle.pr_plain.specs.FileNames.{file_name, mode_name}
+use Rattle.pr_model.specs.FileNames.{file_name, mode_name}
+use Rattle.pr_text.specs.LwpWords.{lwp_text}
+use Rattle.pr_text.specs.SpacedWords.{joined}
+use Rattle.pr_text.specs.TextLines.{newline}
 use Rattle.pr_plain.specs.HexWords.{hex_word}
 
--- ---- words on a line
-
--- the byte that ends a line
-abbrev pub newline : ℕ
-newline = 10
-
--- the byte between two words
-abbrev pub blank : ℕ
-blank = 32
-
--- a word with a blank before it
-unfoldable pub behind_blank : List ℕ → List ℕ
-behind_blank w = blank ∷ w
-
--- words with a blank before each
-abbrev pub spaced : List (List ℕ) → List ℕ
-spaced ws = flat_map behind_blank ws
-
--- words with a blank between each two
-unfoldable pub joined : List (List ℕ) → List ℕ
-joined [] = []
-joined (w ∷ ws) = w ++ spaced ws
-
 -- ---- who acted
-
--- an lwp is the id of its process, a slash and its own
-unfoldable pub lwp_text : ℕ → ℕ → List ℕ
-lwp_text pid lwp = decimal pid ++ codes "/" ++ decimal lwp
 
 -- a controller is c and its number
 unfoldable pub actor_text : Actor → List ℕ

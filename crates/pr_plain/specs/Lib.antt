@@ -4,7 +4,6 @@ pub mod Cuts
 pub mod DecimalWords
 pub mod EntryForms
 pub mod EntryReading
-pub mod FileNames
 pub mod Forms
 pub mod Generated
 pub mod HexWords

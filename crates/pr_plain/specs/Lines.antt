@@ -6,14 +6,13 @@ use Rattle.pr_model.specs.declared.calls.Call.TheVariants as call
 use Rattle.pr_model.specs.declared.events.Act.{Act}
 use Rattle.pr_model.specs.declared.events.Act.TheVariants as act
 use Rattle.pr_model.specs.declared.events.Entry.{Entry}
-use Rattle.pr_plain.specs.HistoryText.{blank, newline, entry_line}
+use Rattle.pr_text.specs.TextLines.{is_newline}
+use Rattle.pr_text.specs.Bytes.{blank}
+use Rattle.pr_plain.specs.HistoryText.{entry_line}
 
--- the bytes at which a line and a text are cut
+-- the bytes at which a line is cut
 abbrev pub is_blank : ℕ → Bool
 is_blank b = b == blank
-
-abbrev pub is_newline : ℕ → Bool
-is_newline b = b == newline
 
 -- a byte of a word
 abbrev pub is_word_byte : ℕ → Bool

@@ -7,7 +7,10 @@ use Rattle.pr_num.specs.Signals.{signal_name}
 use Rattle.pr_num.specs.Syscalls.{syscall_name}
 use Rattle.pr_model.specs.declared.steps.Step.{Step}
 use Rattle.pr_model.specs.declared.steps.Step.TheVariants.{Exec, Call, Sleep, Finish, Fault, Take, Act, Spawn, Kill, Tick}
-use Rattle.pr_plain.specs.HistoryText.{newline, joined, lwp_text, result_words}
+use Rattle.pr_text.specs.TextLines.{newline}
+use Rattle.pr_text.specs.LwpWords.{lwp_text}
+use Rattle.pr_text.specs.SpacedWords.{joined}
+use Rattle.pr_plain.specs.HistoryText.{result_words}
 
 -- the words of a step
 unfoldable pub step_words : Step → List (List ℕ)

@@ -13,8 +13,8 @@ use Rattle.pr_num.specs.Syscalls.{syscall_of_name}
 use Rattle.pr_text.specs.Names.{name_of}
 use Rattle.pr_model.specs.declared.calls.File.{File}
 use Rattle.pr_model.specs.declared.calls.Mode.{Mode}
-use Rattle.pr_plain.specs.DecimalWords.{number_of, id_of}
-use Rattle.pr_plain.specs.FileNames.{file_of_name, mode_of_name}
+use Rattle.pr_plain.specs.DecimalWords.{decimal_of, decimal_id_of}
+use Rattle.pr_model.specs.FileNames.{file_of_name, mode_of_name}
 use Rattle.pr_plain.specs.HexWords.{bytes_of_word}
 use Rattle.pr_plain.specs.Readings.{◌>>=◌}
 
@@ -40,13 +40,13 @@ behind_word k ws = do
 unfoldable pub number_at : Words → Option (ℕ × Words)
 number_at ws = do
   w ← word_at ws
-  n ← number_of w.0
+  n ← decimal_of w.0
   Some (n, w.1)
 
 unfoldable pub id_at : Words → Option (ℕ × Words)
 id_at ws = do
   w ← word_at ws
-  n ← id_of w.0
+  n ← decimal_id_of w.0
   Some (n, w.1)
 
 -- bytes in hex

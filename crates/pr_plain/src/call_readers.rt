@@ -3,7 +3,7 @@ ghost use Rattle.std.specs.Prelude.{◌≡◌};
 ghost use Rattle.pr_plain.specs.CallReading.{lwp_of, target_of, target_at, held_at, handles_at, open_at, close_at, ctl_at, ctl_wait_at, read_at, poll_at, interrupt_at, spawn_at, kill_at, until_at, begins_call, call_behind, call_at};
 ghost use Rattle.pr_plain.specs.Readings.{Says, Gives};
 
-use crate::numerals::id_of;
+use crate::numerals::decimal_id_of;
 use crate::pieces::Pieces;
 use crate::refusals::Refused;
 use crate::word_readers::{bytes_at, file_at, id_at, mode_at, number_at, program_at, put};
@@ -133,7 +133,7 @@ fn handles_at(alloc: Global, words: &mut Pieces<'_>) -> Result<Handles, Refused>
         if word == b"->".as_slice() {
             return Ok(Handles::from_vec(handles));
         }
-        let handle = id_of(word).ok_or(Refused::Malformed)?;
+        let handle = decimal_id_of(word).ok_or(Refused::Malformed)?;
         put(&mut handles, handle)?;
         *words = rest;
     }

@@ -1,11 +1,11 @@
 //! Calls of controllers, and what the kernel answers.
 ghost use Rattle.std.specs.Prelude.{◌≡◌, ◌++◌, [], ◌∷◌, decimal, OnOk};
 ghost use Rattle.pr_plain.specs.Buffers.{StartsWith};
-ghost use Rattle.pr_plain.specs.HistoryText.{spaced, held_words, call_words, reply_words};
+ghost use Rattle.pr_text.specs.SpacedWords.{spaced};
+ghost use Rattle.pr_plain.specs.HistoryText.{held_words, call_words, reply_words};
 
-use crate::names::{file_name, mode_name};
 use crate::words::{write_hex, write_number, write_numbers, write_target, write_word};
-use pr_model::{Call, Reply};
+use pr_model::{Call, Reply, file_name, mode_name};
 use pr_num::Name;
 use std::alloc::AllocError;
 

@@ -1,6 +1,8 @@
 ghost use Rattle.std.specs.Prelude.{◌≡◌, ◌++◌, [], ◌∷◌, decimal, take, IsOk, IsErr, OnOk, OnErr};
 ghost use Rattle.pr_plain.specs.Buffers.{StartsWith};
-ghost use Rattle.pr_plain.specs.HistoryText.{joined, newline, spaced, act_words, entry_text, heading_text, status_text};
+ghost use Rattle.pr_text.specs.TextLines.{newline};
+ghost use Rattle.pr_text.specs.SpacedWords.{joined, spaced};
+ghost use Rattle.pr_plain.specs.HistoryText.{act_words, entry_text, heading_text, status_text};
 
 use crate::actors::write_actor;
 use crate::calls::{write_call, write_reply};
@@ -28,7 +30,7 @@ fn write_act(out: &mut Vec<u8>, act: &Act) -> Result<(), AllocError>
 }
 
 // The line of an entry, or a part of it.
-#[tactic(auto, using(crate::proofs::BufferLemmas::kept), unfolding(crate::specs::HistoryText::joined, crate::specs::HistoryText::entry_words, crate::specs::HistoryText::entry_line, crate::specs::HistoryText::entry_text))]
+#[tactic(auto, using(crate::proofs::BufferLemmas::kept), unfolding(pr_text::specs::SpacedWords::joined, crate::specs::HistoryText::entry_words, crate::specs::HistoryText::entry_line, crate::specs::HistoryText::entry_text))]
 fn append_entry(out: &mut Vec<u8>, number: usize, entry: &Entry) -> Result<(), AllocError>
     ensures all { OnOk result (out.new.items ≡ out.old.items ++ entry_text number entry.now) }
     ensures kept { StartsWith out.new.items out.old.items }
@@ -40,7 +42,7 @@ fn append_entry(out: &mut Vec<u8>, number: usize, entry: &Entry) -> Result<(), A
 }
 
 // A line of a word and a number, or a part of it.
-#[tactic(auto, using(crate::proofs::BufferLemmas::kept), unfolding(crate::specs::HistoryText::joined))]
+#[tactic(auto, using(crate::proofs::BufferLemmas::kept), unfolding(pr_text::specs::SpacedWords::joined))]
 fn append_pair(out: &mut Vec<u8>, word: &[u8], number: u64) -> Result<(), AllocError>
     ensures all { OnOk result (out.new.items ≡ out.old.items ++ (joined (word.now ∷ decimal number ∷ []) ++ newline ∷ [])) }
     ensures kept { StartsWith out.new.items out.old.items }

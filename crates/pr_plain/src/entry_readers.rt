@@ -4,7 +4,7 @@ ghost use Rattle.pr_plain.specs.EntryReading.{actor_of, exchange_of, tick_of, ac
 ghost use Rattle.pr_plain.specs.Readings.{Gives};
 
 use crate::call_readers::{begins_call, call_at, lwp_of};
-use crate::numerals::{id_of, number_of};
+use crate::numerals::{decimal_id_of, decimal_of};
 use crate::pieces::Pieces;
 use crate::refusals::Refused;
 use crate::reply_readers::reply_at;
@@ -23,7 +23,7 @@ fn actor_of(word: &[u8]) -> Option<Actor>
     }
     let (first, rest) = word.split_first()?;
     if *first == b'c' {
-        Some(Actor::Controller(id_of(rest)?))
+        Some(Actor::Controller(decimal_id_of(rest)?))
     } else {
         let (pid, lwp) = lwp_of(word)?;
         Some(Actor::Lwp(pid, lwp))
@@ -63,7 +63,7 @@ fn act_of(alloc: Global, words: &mut Pieces<'_>) -> Result<Act, Refused>
     ensures { Gives (λ a. a) result (act_of words.old) }
 {
     let (word, rest) = words.split_first().ok_or(Refused::Malformed)?;
-    if let Some(now) = number_of(word) {
+    if let Some(now) = decimal_of(word) {
         return tick_of(now, &rest);
     }
     if begins_call(word) {

@@ -6,16 +6,14 @@ ghost use Rattle.pr_num.specs.Words.{IsByte};
 ghost use Rattle.pr_model.specs.declared.calls.Call.{Call as AnyCall};
 ghost use Rattle.pr_model.specs.declared.calls.Reply.{Reply as AnyReply};
 ghost use Rattle.pr_model.specs.declared.events.Did.{Did as AnyDid};
-ghost use Rattle.pr_model.specs.declared.calls.File.{File as AnyFile};
-ghost use Rattle.pr_model.specs.declared.calls.Mode.{Mode as AnyMode};
 ghost use Rattle.pr_model.specs.declared.events.Entry.{Entry as AnyEntry};
-ghost use Rattle.pr_plain.specs.FileNames.{file_name, file_of_name, mode_name, mode_of_name};
 ghost use Rattle.pr_plain.specs.Forms.{first_word, same_call, same_did, same_reply};
 ghost use Rattle.pr_plain.specs.EntryForms.{has_form};
 ghost use Rattle.pr_plain.specs.HexWords.{hex_word, bytes_of_word};
 ghost use Rattle.pr_plain.specs.Histories.{history_text, BeginsWith, IsTextOf};
-ghost use Rattle.pr_plain.specs.HistoryText.{newline, did_words, call_words, reply_words, entry_words, entry_line, entry_text, entries_text};
-ghost use Rattle.pr_plain.specs.Lines.{is_blank, is_newline, is_word, has_words, entry_lines};
+ghost use Rattle.pr_text.specs.TextLines.{newline, is_newline};
+ghost use Rattle.pr_plain.specs.HistoryText.{did_words, call_words, reply_words, entry_words, entry_line, entry_text, entries_text};
+ghost use Rattle.pr_plain.specs.Lines.{is_blank, is_word, has_words, entry_lines};
 
 /// The line of an entry is words, none of them empty, which are found again where the line is cut at its blanks.
 #[tactic(auto, using(crate::proofs::WordLemmas::words_of_entries, crate::proofs::LineLemmas::lines_of_entries))]
@@ -45,22 +43,6 @@ pub fn a_text_grows_at_its_end()
 pub fn bytes_are_their_hex_word()
     ensures back { (bytes : List ℕ) → All IsByte bytes → bytes_of_word (hex_word bytes) ≡ Some bytes }
     ensures only { (word bytes : List ℕ) → bytes_of_word word ≡ Some bytes → hex_word bytes ≡ word }
-{}
-
-/// Each file has its name, and no other file has it.
-#[tactic(auto, using(crate::proofs::NameLemmas::names_of_files))]
-pub fn file_names()
-    ensures back { (f : AnyFile) → file_of_name (file_name f) ≡ Some f }
-    ensures only { (bytes : List ℕ) (f : AnyFile) → file_of_name bytes ≡ Some f → bytes ≡ file_name f }
-    ensures none { (bytes : List ℕ) (f : AnyFile) → file_of_name bytes ≡ None → bytes ≢ file_name f }
-{}
-
-/// Each way to open a file has its name, and no other has it.
-#[tactic(auto, using(crate::proofs::NameLemmas::names_of_files))]
-pub fn mode_names()
-    ensures back { (m : AnyMode) → mode_of_name (mode_name m) ≡ Some m }
-    ensures only { (bytes : List ℕ) (m : AnyMode) → mode_of_name bytes ≡ Some m → bytes ≡ mode_name m }
-    ensures none { (bytes : List ℕ) (m : AnyMode) → mode_of_name bytes ≡ None → bytes ≢ mode_name m }
 {}
 
 /// Calls, turns and replies of different forms begin with different words; and of what an entry tells, a call, a turn

@@ -8,7 +8,6 @@ mod entries;
 mod entry_readers;
 mod generated;
 mod laws;
-mod name_readers;
 mod names;
 mod numerals;
 mod pieces;
@@ -25,9 +24,8 @@ pub use entries::{write_entry, write_heading, write_status};
 pub use generated::generated_pieces;
 pub use laws::{
     a_history_is_in_its_text, a_line_is_its_words, a_text_grows_at_its_end, a_text_is_its_lines,
-    bytes_are_their_hex_word, file_names, forms_are_told_by_their_first_word, mode_names,
+    bytes_are_their_hex_word, forms_are_told_by_their_first_word,
 };
-pub use names::{file_name, mode_name};
 pub use reading::read_history;
 pub use refusals::HistRefusal;
 pub use steps::{write_plain_heading, write_step, write_trace_heading};

@@ -1,6 +1,6 @@
 //! Numbers in decimal, read from their words.
 ghost use Rattle.std.specs.Prelude.{◌≡◌};
-ghost use Rattle.pr_plain.specs.DecimalWords.{begins_hex, number_of, id_of};
+ghost use Rattle.pr_plain.specs.DecimalWords.{begins_hex, decimal_of, decimal_id_of};
 
 /// Whether a word begins as a number in hex does.
 fn begins_hex(word: &[u8]) -> bool
@@ -13,9 +13,9 @@ fn begins_hex(word: &[u8]) -> bool
 }
 
 /// The number that a word is, in decimal without leading zeros.
-#[tactic(auto, unfolding(crate::specs::DecimalWords::number_of))]
-pub fn number_of(word: &[u8]) -> Option<u64>
-    ensures { result ≡ number_of word.now }
+#[tactic(auto, unfolding(crate::specs::DecimalWords::decimal_of))]
+pub fn decimal_of(word: &[u8]) -> Option<u64>
+    ensures { result ≡ decimal_of word.now }
 {
     if begins_hex(word) {
         return None;
@@ -24,9 +24,9 @@ pub fn number_of(word: &[u8]) -> Option<u64>
 }
 
 /// The same of a number below 2^32.
-#[tactic(auto, unfolding(crate::specs::DecimalWords::id_of))]
-pub fn id_of(word: &[u8]) -> Option<u32>
-    ensures { result ≡ id_of word.now }
+#[tactic(auto, unfolding(crate::specs::DecimalWords::decimal_id_of))]
+pub fn decimal_id_of(word: &[u8]) -> Option<u32>
+    ensures { result ≡ decimal_id_of word.now }
 {
     if begins_hex(word) {
         return None;

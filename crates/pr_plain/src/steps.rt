@@ -1,6 +1,8 @@
 //! Steps of the untraced machine and of traces, as text.
 ghost use Rattle.std.specs.Prelude.{◌≡◌, ◌++◌, [], ◌∷◌, OnOk};
-ghost use Rattle.pr_plain.specs.HistoryText.{spaced, joined, result_words, lwp_text};
+ghost use Rattle.pr_text.specs.LwpWords.{lwp_text};
+ghost use Rattle.pr_text.specs.SpacedWords.{spaced, joined};
+ghost use Rattle.pr_plain.specs.HistoryText.{result_words};
 ghost use Rattle.pr_num.specs.Syscalls.{syscall_name};
 ghost use Rattle.pr_plain.specs.PlainText.{step_words, step_text, plain_heading, trace_heading};
 
@@ -11,7 +13,7 @@ use pr_num::{NoMemory, Sysno};
 use std::alloc::AllocError;
 
 /// Writes an lwp, what it did, and of what.
-#[tactic(auto, unfolding(crate::specs::HistoryText::behind_blank))]
+#[tactic(auto, unfolding(pr_text::specs::SpacedWords::behind_blank))]
 fn write_named(
     out: &mut Vec<u8>,
     pid: u32,
@@ -42,7 +44,7 @@ fn write_gave(
 }
 
 /// Writes what a step is.
-#[tactic(auto, unfolding(crate::specs::PlainText::step_words, crate::specs::HistoryText::joined, crate::specs::HistoryText::behind_blank))]
+#[tactic(auto, unfolding(crate::specs::PlainText::step_words, pr_text::specs::SpacedWords::joined, pr_text::specs::SpacedWords::behind_blank))]
 fn write_step_words(out: &mut Vec<u8>, step: Step) -> Result<(), AllocError>
     ensures { OnOk result (out.new.items ≡ out.old.items ++ joined (step_words step)) }
 {
@@ -84,7 +86,7 @@ pub fn write_step(out: &mut Vec<u8>, step: Step) -> Result<(), NoMemory>
 }
 
 /// Writes the line above the steps of a run, of which there are so many.
-#[tactic(auto, unfolding(crate::specs::HistoryText::joined, crate::specs::PlainText::plain_heading))]
+#[tactic(auto, unfolding(pr_text::specs::SpacedWords::joined, crate::specs::PlainText::plain_heading))]
 pub fn write_plain_heading(out: &mut Vec<u8>, steps: usize) -> Result<(), NoMemory>
     ensures { OnOk result (out.new.items ≡ out.old.items ++ plain_heading steps) }
 {
@@ -94,7 +96,7 @@ pub fn write_plain_heading(out: &mut Vec<u8>, steps: usize) -> Result<(), NoMemo
 }
 
 /// Writes the line above a trace, which has so many steps.
-#[tactic(auto, unfolding(crate::specs::HistoryText::joined, crate::specs::PlainText::trace_heading))]
+#[tactic(auto, unfolding(pr_text::specs::SpacedWords::joined, crate::specs::PlainText::trace_heading))]
 pub fn write_trace_heading(out: &mut Vec<u8>, steps: usize) -> Result<(), NoMemory>
     ensures { OnOk result (out.new.items ≡ out.old.items ++ trace_heading steps) }
 {

@@ -1,7 +1,8 @@
 //! Turns of lwps.
 ghost use Rattle.std.specs.Prelude.{◌≡◌, ◌++◌, [], ◌∷◌, OnOk};
 ghost use Rattle.pr_plain.specs.Buffers.{StartsWith};
-ghost use Rattle.pr_plain.specs.HistoryText.{spaced, result_words, did_words, turn_words};
+ghost use Rattle.pr_text.specs.SpacedWords.{spaced};
+ghost use Rattle.pr_plain.specs.HistoryText.{result_words, did_words, turn_words};
 
 use crate::names::how_name;
 use crate::words::{write_number, write_word};

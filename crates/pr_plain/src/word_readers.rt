@@ -1,16 +1,15 @@
 //! Words of a line, taken one after another.
-ghost use Rattle.std.specs.Prelude.{◌≡◌, ◌<◌, ◌++◌, [], ◌∷◌, IfSome, IfOk, OnOk};
-ghost use Rattle.pr_plain.specs.HexWords.{digit_value, byte_of, bytes_of_digits, bytes_of_word};
+ghost use Rattle.std.specs.Prelude.{◌≡◌, ◌++◌, [], ◌∷◌, OnOk};
+ghost use Rattle.pr_plain.specs.HexWords.{bytes_of_word};
 ghost use Rattle.pr_plain.specs.Readings.{Says, Gives};
 ghost use Rattle.pr_plain.specs.WordReading.{behind_word, number_at, id_at, bytes_at, syscall_at, fault_at, signal_of, signal_at, errno_at, file_at, mode_at, program_at};
 
-use crate::name_readers::{file_of_name, mode_of_name};
-use crate::numerals::{id_of, number_of};
+use crate::numerals::{decimal_id_of, decimal_of};
 use crate::pieces::Pieces;
 use crate::refusals::Refused;
-use pr_model::{File, Mode};
+use pr_model::{File, Mode, file_of_name, mode_of_name};
 use pr_num::{Bytes, Errno, Flt, Name, NoMemory, Sig, Sysno};
-use pr_text::name_of;
+use pr_text::{bytes_of_digits, name_of};
 use std::alloc::Global;
 
 /// Takes this word, if it is the next.
@@ -30,7 +29,7 @@ pub fn pass(words: &mut Pieces<'_>, word: &[u8]) -> Option<()>
 pub fn number_at(words: &mut Pieces<'_>) -> Option<u64>
     ensures { Says (λ n. (n, words.new)) result (number_at words.old) }
 {
-    number_of(words.next()?)
+    decimal_of(words.next()?)
 }
 
 /// Takes a number below 2^32.
@@ -38,7 +37,7 @@ pub fn number_at(words: &mut Pieces<'_>) -> Option<u64>
 pub fn id_at(words: &mut Pieces<'_>) -> Option<u32>
     ensures { Says (λ n. (n, words.new)) result (id_at words.old) }
 {
-    id_of(words.next()?)
+    decimal_id_of(words.next()?)
 }
 
 /// Takes the name of a system call.
@@ -110,57 +109,11 @@ pub fn program_at(words: &mut Pieces<'_>) -> Option<Name>
     name_of(words.next()?)
 }
 
-/// No bytes, with room for so many.
-fn with_capacity(alloc: Global, room: usize) -> Result<Vec<u8>, NoMemory>
-    ensures { IfOk result (λ bytes. bytes.items ≡ []) }
-{
-    Ok(Vec::with_capacity(alloc, room)?)
-}
-
 /// Puts a number behind others.
 pub fn put<T: Drop>(items: &mut Vec<T>, item: T) -> Result<(), NoMemory>
     ensures { OnOk result (items.new.items ≡ items.old.items ++ item ∷ []) }
 {
     Ok(items.push(item)?)
-}
-
-/// The value of a hex digit of lower case.
-#[tactic(auto, unfolding(crate::specs::HexWords::digit_value))]
-fn digit_value(c: u8) -> Option<u8>
-    ensures value { result ≡ digit_value c }
-    ensures range { IfSome result (λ d. d < 16) }
-{
-    match c {
-        b'0'..=b'9' => Some(c - b'0'),
-        b'a'..=b'f' => Some(c - b'a' + 10),
-        _ => None,
-    }
-}
-
-/// The byte of two hex digits.
-fn byte_of(high: u8, low: u8) -> Option<u8>
-    ensures { result ≡ byte_of (digit_value high) (digit_value low) }
-{
-    Some(16 * digit_value(high)? + digit_value(low)?)
-}
-
-/// The bytes that hex digits say, two digits a byte.
-#[tactic(auto, unfolding(crate::specs::HexWords::bytes_of_digits))]
-fn bytes_of_digits(alloc: Global, digits: &[u8]) -> Result<Bytes, Refused>
-    ensures { Gives (λ bytes. bytes) result (bytes_of_digits digits.now) }
-{
-    let mut bytes = with_capacity(alloc, digits.len() / 2)?;
-    let mut rest = digits;
-    while let [high, low, others @ ..] = rest {
-        let byte = byte_of(*high, *low).ok_or(Refused::Malformed)?;
-        put(&mut bytes, byte)?;
-        rest = others;
-    }
-    if rest.is_empty() {
-        Ok(Bytes::from_vec(bytes))
-    } else {
-        Err(Refused::Malformed)
-    }
 }
 
 /// The bytes that a word says; a dash says none.
@@ -176,7 +129,7 @@ fn bytes_of_word(alloc: Global, word: &[u8]) -> Result<Bytes, Refused>
             }
             Ok(Bytes::from_vec(Vec::new(alloc)))
         }
-        [_, _, ..] => bytes_of_digits(alloc, word),
+        [_, _, ..] => bytes_of_digits(alloc, word)?.ok_or(Refused::Malformed),
     }
 }
 

@@ -1,10 +1,13 @@
 //! Words on a line, each with a blank before it.
 ghost use Rattle.std.specs.Prelude.{◌≡◌, ◌*◌, ◌<◌, ◌≤◌, ◌++◌, [], ◌∷◌, false, decimal, map, length, take, OnOk};
-ghost use Rattle.std.specs.Fmt.{digit_glyph};
-ghost use Rattle.pr_plain.specs.HistoryText.{spaced, lwp_text, target_text};
-ghost use Rattle.pr_plain.specs.HexWords.{digits_of_bytes, hex_word};
+ghost use Rattle.pr_text.specs.LwpWords.{lwp_text};
+ghost use Rattle.pr_text.specs.SpacedWords.{spaced};
+ghost use Rattle.pr_plain.specs.HistoryText.{target_text};
+ghost use Rattle.pr_text.specs.HexWords.{digits_of_bytes};
+ghost use Rattle.pr_plain.specs.HexWords.{hex_word};
 ghost use Rattle.pr_plain.specs.Buffers.{StartsWith};
 
+use pr_text::hex_digit;
 use std::alloc::AllocError;
 
 /// Appends bytes. All that is written is appended by this.
@@ -17,7 +20,7 @@ pub fn append(out: &mut Vec<u8>, bytes: &[u8]) -> Result<(), AllocError>
 }
 
 /// Writes a word.
-#[tactic(auto, using(crate::proofs::BufferLemmas::kept), unfolding(crate::specs::HistoryText::behind_blank))]
+#[tactic(auto, using(crate::proofs::BufferLemmas::kept), unfolding(pr_text::specs::SpacedWords::behind_blank))]
 pub fn write_word(out: &mut Vec<u8>, word: &[u8]) -> Result<(), AllocError>
     ensures all { OnOk result (out.new.items ≡ out.old.items ++ spaced (word.now ∷ [])) }
     ensures kept { StartsWith out.new.items out.old.items }
@@ -45,7 +48,7 @@ pub fn write_digits(out: &mut Vec<u8>, n: u64) -> Result<(), AllocError>
 }
 
 /// Writes an lwp as its process, a slash and its own id, with no blank before them.
-#[tactic(auto, using(crate::proofs::BufferLemmas::kept), unfolding(crate::specs::HistoryText::lwp_text))]
+#[tactic(auto, using(crate::proofs::BufferLemmas::kept), unfolding(pr_text::specs::LwpWords::lwp_text))]
 pub fn write_lwp(out: &mut Vec<u8>, pid: u32, lwp: u32) -> Result<(), AllocError>
     ensures all { OnOk result (out.new.items ≡ out.old.items ++ lwp_text pid lwp) }
     ensures kept { StartsWith out.new.items out.old.items }
@@ -56,7 +59,7 @@ pub fn write_lwp(out: &mut Vec<u8>, pid: u32, lwp: u32) -> Result<(), AllocError
 }
 
 /// Writes whose file is opened as a word: a process, or its lwp where that is not 0.
-#[tactic(auto, using(crate::proofs::BufferLemmas::kept), unfolding(crate::specs::HistoryText::behind_blank, crate::specs::HistoryText::target_text))]
+#[tactic(auto, using(crate::proofs::BufferLemmas::kept), unfolding(pr_text::specs::SpacedWords::behind_blank, crate::specs::HistoryText::target_text))]
 pub fn write_target(out: &mut Vec<u8>, pid: u32, lwp: u32) -> Result<(), AllocError>
     ensures all { OnOk result (out.new.items ≡ out.old.items ++ spaced (target_text pid lwp ∷ [])) }
     ensures kept { StartsWith out.new.items out.old.items }
@@ -67,14 +70,6 @@ pub fn write_target(out: &mut Vec<u8>, pid: u32, lwp: u32) -> Result<(), AllocEr
     } else {
         write_lwp(out, pid, lwp)
     }
-}
-
-/// The hex digit of a number below 16, in lower case.
-fn hex_digit(d: u8) -> u8
-    requires { d < 16 }
-    ensures { result ≡ digit_glyph false d }
-{
-    if d < 10 { b'0' + d } else { b'a' + (d - 10) }
 }
 
 /// How many bytes become digits at a time.
@@ -109,7 +104,7 @@ fn write_bytes(out: &mut Vec<u8>, bytes: &[u8]) -> Result<(), AllocError>
 }
 
 /// Writes bytes as a word of hex digits; no bytes are a dash.
-#[tactic(auto, using(crate::proofs::BufferLemmas::kept), unfolding(crate::specs::HistoryText::behind_blank, crate::specs::HexWords::hex_word))]
+#[tactic(auto, using(crate::proofs::BufferLemmas::kept), unfolding(pr_text::specs::SpacedWords::behind_blank, crate::specs::HexWords::hex_word))]
 pub fn write_hex(out: &mut Vec<u8>, bytes: &[u8]) -> Result<(), AllocError>
     ensures all { OnOk result (out.new.items ≡ out.old.items ++ spaced (hex_word bytes.now ∷ [])) }
     ensures kept { StartsWith out.new.items out.old.items }

@@ -1,5 +1,4 @@
-use Rattle.std.specs.Prelude.{ℕ, List, [], ◌∷◌, None, length, map}
-use Rattle.std.specs.List.{flat_map}
+use Rattle.std.specs.Prelude.{ℕ, List, [], None, length, map}
 use Rattle.pr_api.specs.Views.{kernel_of}
 use Rattle.pr_erasure.specs.Transparency.{IsTransparent}
 use Rattle.pr_model.specs.FirstState.{first_state, stored_file}
@@ -11,11 +10,12 @@ use Rattle.pr_num.specs.declared.files.StoredFile.{StoredFile}
 use Rattle.pr_scen.specs.Scenarios.{Scenario}
 use Rattle.pr_scen.specs.declared.plans.Plan.{Plan}
 use Rattle.pr_scen.specs.declared.plans.Plan.TheVariants as plan
+use Rattle.pr_tools.specs.Tools.{first_tool}
+use Rattle.pr_truss.specs.Trusses.{first_truss}
 use Rattle.pr_world.specs.Protocol.{Follows}
 use Rattle.pr_world.specs.Runs.{after_moves}
 use Rattle.pr_world.specs.Worlds.{WorldState}
-use Rattle.pr_world.specs.declared.controllers.Controller.{Controller as Core}
-use Rattle.pr_world.specs.declared.controllers.Controller.TheVariants.{Script}
+use Rattle.pr_world.specs.Cores.{Core, Script, Truss, Tool}
 
 -- The runs of a scenario.
 
@@ -27,16 +27,15 @@ files_of s = map stored_file s.files
 abbrev pub first_state_of : Scenario → TracedState
 first_state_of s = first_state s.programs (files_of s) s.spawns
 
--- The controller of a plan before its first call, a row a kind. A truss or a tool is none yet: a scenario with such a
--- line is refused.
-abbrev pub controller_in : Plan → List Core
-controller_in (plan.Script script) = Script script ∷ []
-controller_in (plan.Truss options) = []
-controller_in (plan.Tool kind pid) = []
+-- the controller of a plan before its first call, a row a kind
+unfoldable pub controller_of : Plan → Core
+controller_of (plan.Script script) = Script script
+controller_of (plan.Truss options) = Truss (first_truss options)
+controller_of (plan.Tool kind pid) = Tool (first_tool kind pid)
 
 -- its controllers before their first calls, in order
 abbrev pub controllers_of : Scenario → List Core
-controllers_of s = flat_map controller_in s.controllers
+controllers_of s = map controller_of s.controllers
 
 -- The world before the first move; the history has as many places as the scenario has turns.
 unfoldable pub first_world : Scenario → WorldState

@@ -2,11 +2,11 @@
 use Rattle.std.proofs.Common.{ℕ, List, Result, Ok, Err}
 use Rattle.std.specs.Result.{IfOk}
 use Rattle.pr_scen.proofs.LimitLemmas.{scenario_within}
-use Rattle.pr_scen.proofs.NotedLemmas.{scenario_built}
 use Rattle.pr_scen.proofs.StepLemmas.{of_ok}
-use Rattle.pr_scen.specs.Reading.{lines_of, scenario_of}
+use Rattle.pr_scen.specs.Reading.{scenario_of}
+use Rattle.pr_text.specs.TextLines.{lines_of}
 use Rattle.pr_scen.specs.Reads.{Answers}
-use Rattle.pr_scen.specs.Scenarios.{Scenario, IsWithinLimits, IsBuilt}
+use Rattle.pr_scen.specs.Scenarios.{Scenario, IsWithinLimits}
 use Rattle.pr_scen.specs.declared.refusals.ScenRefusal.{ScenRefusal}
 
 answer_of : (P : Scenario → Type 0) (text : List ℕ) (r : Result Scenario ScenRefusal) → IfOk (scenario_of text) P → Answers (λ s. s) r (scenario_of text) → IfOk r P
@@ -15,6 +15,3 @@ answer_of P text (Err e) p read = tt
 
 pub answer_within : (text : List ℕ) (r : Result Scenario ScenRefusal) → Answers (λ s. s) r (scenario_of text) → IfOk r IsWithinLimits
 answer_within text r read = answer_of IsWithinLimits text r (scenario_within (lines_of text)) read
-
-pub answer_built : (text : List ℕ) (r : Result Scenario ScenRefusal) → Answers (λ s. s) r (scenario_of text) → IfOk r IsBuilt
-answer_built text r read = answer_of IsBuilt text r (scenario_built (lines_of text)) read

@@ -39,7 +39,7 @@ readable_from (this ∷ below) n f h = at (readable this) (λ more. readable_fro
 
 module _ (place_of : List ℕ → Option Place) where
   lines_from : (reads : List (Result Statement AsmKind)) (n : ℕ) (p : Program) (f : AsmFault) → with_lines place_of n p reads ≡ Err f → n ≤ f.line
-  unfolding with_lines
+  unfolding folded
   lines_from [] n p f h = cc
   lines_from (read ∷ reads) n p f h = at (read_added place_of n p read) (λ q more. lines_from reads (n + 1) q f more) h
     where
@@ -77,13 +77,13 @@ module _ (place_of : List ℕ → Option Place) where
   first_refused n below k (Ok u) (Ok q) from h = cc
 
   head_refused : (n : ℕ) (p : Program) (this : List ℕ) (below : List (List ℕ)) (k : ScenKind) → program_line place_of n p this ≡ Err k → both n p (this ∷ below) ≡ Err (fault_at n k)
-  unfolding all_readable with_lines
+  unfolding all_readable folded
   head_refused n p this below k h =
       first_refused n below k (readable this) (read_added place_of n p (statement_of this)) (λ f e. lines_from (map statement_of (this ∷ below)) n p f e) h
 
   -- where all is refused, a line is the least
   at_head : (n : ℕ) (p : Program) (this : List ℕ) (below : List (List ℕ)) (k : ScenKind) (fault : ScenFault) → program_line place_of n p this ≡ Err k → fault_at n k ≡ fault → StopsBelow place_of n p (this ∷ below) fault
-  unfolding all_readable with_lines
+  unfolding all_readable folded
   at_head n p this below k fault h same =
       let here : n + length {A = List ℕ} [] ≡ n = omega arith in
       record {
@@ -99,7 +99,7 @@ module _ (place_of : List ℕ → Option Place) where
       }
 
   lower : (n : ℕ) (p q : Program) (this : List ℕ) (below : List (List ℕ)) (fault : ScenFault) → readable this ≡ Ok tt → read_added place_of n p (statement_of this) ≡ Ok q → StopsBelow place_of (n + 1) q below fault → StopsBelow place_of n p (this ∷ below) fault
-  unfolding all_readable with_lines
+  unfolding all_readable folded
   lower n p q this below fault is_read is_added s =
       let size : n + length (this ∷ s.above) ≡ n + 1 + length s.above = omega arith in
       record {
@@ -115,7 +115,7 @@ module _ (place_of : List ℕ → Option Place) where
       }
 
   with_read : (n : ℕ) (p : Program) (this : List ℕ) (below : List (List ℕ)) (r : Result (Unit {0}) ScenKind) (s : Result Program AsmKind) → readable this ≡ r → read_added place_of n p (statement_of this) ≡ s → both n p (this ∷ below) ≡ after n below r s
-  unfolding all_readable with_lines
+  unfolding all_readable folded
   with_read n p this below r s is_read is_added =
       ap (λ q. after n below q (read_added place_of n p (statement_of this))) is_read ∙ ap (after n below r) is_added
 
@@ -132,7 +132,7 @@ module _ (place_of : List ℕ → Option Place) where
       at_head n p this below k fault line same
 
   least_below : (lines : List (List ℕ)) (n : ℕ) (p : Program) (fault : ScenFault) → both n p lines ≡ Err fault → StopsBelow place_of n p lines fault
-  unfolding all_readable with_lines
+  unfolding all_readable folded
   least_below [] n p fault h = cc
   least_below (this ∷ below) n p fault h =
       by_head n p this below fault (readable this) (read_added place_of n p (statement_of this)) refl refl (λ q more. least_below below (n + 1) q fault more) h
@@ -144,7 +144,7 @@ module _ (place_of : List ℕ → Option Place) where
   by_ok n p made above rest fault (Err k) s on reads makes = cc
 
   is_least_below : (above : List (List ℕ)) (this : List ℕ) (below : List (List ℕ)) (n : ℕ) (p made : Program) (fault : ScenFault) → all_readable n above ≡ Ok tt → with_lines place_of n p (map statement_of above) ≡ Ok made → fault.line ≡ n + length above → program_line place_of (n + length above) made this ≡ Err fault.kind → both n p (above ++ this ∷ below) ≡ Err fault
-  unfolding all_readable with_lines
+  unfolding all_readable folded
   is_least_below [] this below n p made fault reads makes at refused =
       let here : n + length {A = List ℕ} [] ≡ n = omega arith in
       let same : p ≡ made = cc in

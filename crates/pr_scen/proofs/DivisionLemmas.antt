@@ -9,7 +9,7 @@ use Rattle.pr_scen.specs.Division.{lines_in, ArePartsFrom, EncodeScenario}
 use Rattle.pr_scen.specs.Drafts.{nothing}
 use Rattle.pr_scen.specs.Lines.{is_end}
 use Rattle.pr_scen.specs.Parts.{Part, line, block, endless, begins_block, parts_from, block_from, parts_of}
-use Rattle.pr_scen.specs.Reading.{draft_in, unless_unbuilt, finished, scenario_in}
+use Rattle.pr_scen.specs.Reading.{draft_in, finished, scenario_in}
 use Rattle.pr_scen.specs.Scenarios.{Scenario}
 use Rattle.pr_scen.specs.declared.drafts.Draft.{Draft}
 use Rattle.pr_scen.specs.declared.items.Item.{Item}
@@ -137,15 +137,10 @@ accepted_whole (part ∷ parts) d e h = after_part part parts d e (part_added d 
 
 -- ---- scenarios
 
-end_made : (lines : List (List ℕ)) (s : Scenario) (d : Draft) (o : Option ℕ) → parts_added nothing (parts_of lines) ≡ Ok d → d.unbuilt ≡ o → unless_unbuilt d o ≡ Ok s → EncodeScenario lines s
-end_made lines s d None added built made_it =
-    let parts = divided 1 lines (accepted_whole (parts_of lines) nothing d added) in
-    record { parts = parts_of lines; read = d; divided = parts.inside; whole = parts.whole; accepted = added; built = built; makes = cc }
-end_made lines s d (Some n) added built made_it = cc
-
 end_of_parts : (lines : List (List ℕ)) (s : Scenario) (r : Result Draft ScenFault) → parts_added nothing (parts_of lines) ≡ r → r >>= finished ≡ Ok s → EncodeScenario lines s
-unfolding finished
-end_of_parts lines s (Ok d) added h = end_made lines s d d.unbuilt added refl h
+end_of_parts lines s (Ok d) added made_it =
+    let parts = divided 1 lines (accepted_whole (parts_of lines) nothing d added) in
+    record { parts = parts_of lines; read = d; divided = parts.inside; whole = parts.whole; accepted = added; makes = cc }
 end_of_parts lines s (Err f) added h = cc
 
 pub what_is_read : (lines : List (List ℕ)) (s : Scenario) → scenario_in lines ≡ Ok s → EncodeScenario lines s
@@ -153,9 +148,8 @@ unfolding scenario_in draft_in
 what_is_read lines s h = end_of_parts lines s (parts_added nothing (parts_of lines)) refl h
 
 pub is_read : (lines : List (List ℕ)) (s : Scenario) → EncodeScenario lines s → scenario_in lines ≡ Ok s
-unfolding scenario_in draft_in finished
+unfolding scenario_in draft_in
 is_read lines s e =
     ap (λ ps. parts_added nothing ps >>= finished) (ap (parts_from 1) e.whole ∙ joined 1 e.parts e.divided)
     ∙ ap (λ r. r >>= finished) e.accepted
-    ∙ ap (unless_unbuilt e.read) e.built
     ∙ ap Ok (sym e.makes)

@@ -5,10 +5,9 @@ use Rattle.pr_scen.specs.Blocks.{part_added, parts_added}
 use Rattle.pr_scen.specs.Division.{StopsAt, IsFirstFault}
 use Rattle.pr_scen.specs.Drafts.{nothing}
 use Rattle.pr_scen.specs.Parts.{Part, parts_of}
-use Rattle.pr_scen.specs.Reading.{draft_in, unless_unbuilt, finished, scenario_in}
+use Rattle.pr_scen.specs.Reading.{draft_in, finished, scenario_in}
 use Rattle.pr_scen.specs.declared.drafts.Draft.{Draft}
 use Rattle.pr_scen.specs.declared.refusals.ScenFault.{ScenFault}
-use Rattle.pr_scen.specs.declared.refusals.ScenKind.TheVariants.{NotBuilt}
 
 -- a part is refused, or one below it is
 here : (d : Draft) (part : Part) (parts : List Part) (fault : ScenFault) → part_added d part ≡ Err fault → StopsAt d (part ∷ parts) fault
@@ -53,24 +52,15 @@ stopped parts d fault s =
 
 -- ---- the whole
 
-unbuilt_first : (lines : List (List ℕ)) (fault : ScenFault) (d : Draft) (o : Option ℕ) → parts_added nothing (parts_of lines) ≡ Ok d → d.unbuilt ≡ o → unless_unbuilt d o ≡ Err fault → IsFirstFault lines fault
-unbuilt_first lines fault d None added is h = cc
-unbuilt_first lines fault d (Some n) added is h =
-    let same : record { line = n; kind = NotBuilt } ≡ fault = cc in
-    inr (record { read = d; accepted = added; first = is ∙ ap (λ f. Some f.line) same; kind = ap (λ f. f.kind) (sym same) })
-
 first_by : (lines : List (List ℕ)) (fault : ScenFault) (r : Result Draft ScenFault) → parts_added nothing (parts_of lines) ≡ r → r >>= finished ≡ Err fault → IsFirstFault lines fault
-unfolding finished
-first_by lines fault (Ok d) added h = unbuilt_first lines fault d d.unbuilt added refl h
+first_by lines fault (Ok d) added h = cc
 first_by lines fault (Err f) added h =
-    let same : f ≡ fault = cc in inl (stops_at (parts_of lines) nothing fault (added ∙ ap Err same))
+    let same : f ≡ fault = cc in stops_at (parts_of lines) nothing fault (added ∙ ap Err same)
 
 pub first_fault : (lines : List (List ℕ)) (fault : ScenFault) → scenario_in lines ≡ Err fault → IsFirstFault lines fault
 unfolding scenario_in draft_in
 first_fault lines fault h = first_by lines fault (parts_added nothing (parts_of lines)) refl h
 
 pub is_first : (lines : List (List ℕ)) (fault : ScenFault) → IsFirstFault lines fault → scenario_in lines ≡ Err fault
-unfolding scenario_in draft_in finished
-is_first lines fault (inl s) = ap (λ r. r >>= finished) (stopped (parts_of lines) nothing fault s)
-is_first lines fault (inr u) =
-    ap (λ r. r >>= finished) u.accepted ∙ ap (unless_unbuilt u.read) u.first ∙ ap (λ k. Err (record { line = fault.line; kind = k })) (sym u.kind)
+unfolding scenario_in draft_in
+is_first lines fault s = ap (λ r. r >>= finished) (stopped (parts_of lines) nothing fault s)

@@ -7,7 +7,6 @@ pub mod FaultLemmas
 pub mod LimitLemmas
 pub mod LineLemmas
 pub mod NameLemmas
-pub mod NotedLemmas
 pub mod PartLemmas
 pub mod ScenarioTextLemmas
 pub mod SizeLemmas

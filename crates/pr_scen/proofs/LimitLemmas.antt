@@ -4,7 +4,7 @@ use Rattle.std.specs.Prelude.{◌==◌, zero, suc, codes, nat_le, All, sum_by, c
 use Rattle.std.specs.List.{list_any, position_from}
 use Rattle.std.specs.Result.{IfOk}
 use Rattle.std.specs.Str.{bytes_eq}
-use Rattle.std.proofs.lemmas.Bool.{and_parts, leb-true}
+use Rattle.std.proofs.lemmas.Bool.{and_parts, leb-true, not-true}
 use Rattle.std.proofs.lemmas.List.{length-append, length-map, length-replicate, map-append}
 use Rattle.std.proofs.lemmas.List.Elements.{All-push, All-weaker, All-head, All-tail, All-nil}
 use Rattle.std.proofs.lemmas.List.Sums.{sum_by_push, sum_by-cons}
@@ -22,15 +22,15 @@ use Rattle.pr_text.specs.Words.{texts_of}
 use Rattle.pr_scen.proofs.NameLemmas.{place_inside}
 use Rattle.pr_scen.proofs.StepLemmas.{if_ok, then_ok, of_ok, numbered_ok, folded_ok, ok_some, of_some}
 use Rattle.pr_scen.specs.Blocks.{numbered, item_in, line_added, begun, ended, program_read, program_added, script_words_added, script_line_read, script_added, block_added, endless_kind, part_added, parts_added}
-use Rattle.pr_scen.specs.Built.{is_built_item}
-use Rattle.pr_scen.specs.Drafts.{nothing, noting, with_turns, with_file, with_process, with_spawn, with_controller, knows_program, has_program, with_truss, with_schedule, with_item, item_added, may_begin, with_program, with_line, call_added, script_line_added, with_script, made}
-use Rattle.pr_scen.specs.Files.{tool_of}
+use Rattle.pr_scen.specs.Drafts.{nothing, with_turns, with_file, with_process, with_spawn, with_controller, knows_program, has_program, with_truss, with_schedule, with_item, may_begin, with_program, with_line, call_added, script_line_added, with_script, made}
+use Rattle.pr_model.specs.ToolNames.{process_tool_of_name}
 use Rattle.pr_scen.specs.Items.{turns_of, file_of, program_of, spawn_of, script_of, truss_read, truss_of, tool_line_of, unless_none, schedule_of, item_with, item_of}
-use Rattle.pr_scen.specs.Limits.{default_turns}
-use Rattle.pr_scen.specs.Lines.{begins_comment, readable}
+use Rattle.pr_num.specs.Limits.{default_turns}
+use Rattle.pr_text.specs.Comments.{begins_comment}
+use Rattle.pr_scen.specs.Lines.{readable}
 use Rattle.pr_scen.specs.Names.{place_of}
 use Rattle.pr_scen.specs.Parts.{Part, line, block, endless}
-use Rattle.pr_scen.specs.Reading.{draft_in, unless_unbuilt, finished, scenario_in}
+use Rattle.pr_scen.specs.Reading.{draft_in, scenario_in}
 use Rattle.pr_model.specs.FirstState.{first_size, mapped_at_start, size_at_start, stored_file}
 use Rattle.pr_scen.specs.Scenarios.{is_list, lists_in, IsWithinLimits}
 use Rattle.pr_scen.specs.Schedules.{with_turns_of, turn_count, actors_of}
@@ -76,7 +76,7 @@ unfolding tool_line_of
 in_tool [] = tt
 in_tool (word ∷ []) = if_ok InRange (bytes_eq word (codes "ptree")) _ _ (λ _. tt) (λ _. tt)
 in_tool (word ∷ id ∷ []) =
-    then_ok InRange (ok_or BadOperand (name_of word)) _ (λ _ _. then_ok InRange (ok_or BadOperand (id_of id)) _ (λ pid _. if_ok InRange (bytes_eq word (codes "ptree")) _ _ (λ _. tt) (λ _. then_ok InRange (ok_or UnknownName (tool_of word)) _ (λ kind _. tt))))
+    then_ok InRange (ok_or BadOperand (name_of word)) _ (λ _ _. then_ok InRange (ok_or BadOperand (id_of id)) _ (λ pid _. if_ok InRange (bytes_eq word (codes "ptree")) _ _ (λ _. tt) (λ _. then_ok InRange (ok_or UnknownName (process_tool_of_name word)) _ (λ kind _. tt))))
 in_tool (word ∷ id ∷ more ∷ others) = tt
 
 in_schedule : (turns : List Turns) → IfOk (unless_none turns) InRange
@@ -142,14 +142,6 @@ sound_nothing = record {
   few_turns = omega arith;
 }
 
-sound_marked : (b : Bool) (n : ℕ) (d : Draft) → IsSound d → IsSound (cond b d (record d { unbuilt = Some n }))
-sound_marked true n d s = s
-sound_marked false n d s = record { turns_within = s.turns_within; files_within = s.files_within; spawned = s.spawned; few_controllers = s.few_controllers; listed = s.listed; few_turns = s.few_turns }
-
-sound_noting : (n : ℕ) (built : Bool) (d : Draft) → IsSound d → IsSound (noting n built d)
-unfolding noting
-sound_noting n built d s = sound_marked (built || is_some d.unbuilt) n d s
-
 -- ---- lines outside blocks
 
 sound_turns : (d : Draft) (n : ℕ) → 1 ≤ n → IsSound d → IfOk (with_turns d n) IsSound
@@ -166,10 +158,6 @@ any_more p (x ∷ xs) y none new = at (p x) (list_any p xs) none (any_more p xs 
     at true c e f = cc
     at false c e f = f e new
 
-pub not_true : (b : Bool) → not b ≡ true → b ≡ false
-not_true true e = cc
-not_true false e = refl
-
 pub not_found : (b : Bool) (i : ℕ) (rest : Option ℕ) → cond b (Some i) rest ≡ None → (b ≡ false) × (rest ≡ None)
 not_found true i rest e = cc
 not_found false i rest e = (refl, e)
@@ -180,7 +168,7 @@ differ_more (f ∷ files) i name bytes new own =
     let apart = and_parts (not (list_any (has_name f.0) (map stored_file files))) (names_differ (map stored_file files)) own in
     let others = not_found (bytes_eq name f.0) i (position_from (bytes_eq name) (i + 1) (map (λ f. f.0) files)) new in
     let rest = differ_more files (i + 1) name bytes others.1 apart.1 in
-    rw (any_more (has_name f.0) (map stored_file files) (stored_file (name, bytes)) (not_true _ apart.0) others.0) rest
+    rw (any_more (has_name f.0) (map stored_file files) (stored_file (name, bytes)) (not-true _ apart.0) others.0) rest
 
 no_place : (o : Option ℕ) → is_some o ≡ false → o ≡ None
 no_place None e = refl
@@ -266,18 +254,13 @@ sound_with d (item.Truss options) range s = sound_truss d options s
 sound_with d (item.Tool kind pid) range s = sound_controller d (Tool kind pid) refl s
 sound_with d (item.Schedule turns) range s = sound_schedule d turns s
 
-sound_item : (n : ℕ) (d : Draft) (i : Item) → InRange i → IsSound d → IfOk (item_added n d i) IsSound
-unfolding item_added
-sound_item n d i range s =
-    then_ok IsSound (with_item d i) _ (λ e is. sound_noting n (is_built_item i) e (of_ok IsSound (with_item d i) e is (sound_with d i range s)))
-
 in_range : (this : List ℕ) → IfOk (item_in this) InRange
 in_range this = then_ok InRange (readable this) (λ _. item_of (texts_of this)) (λ _ _. item_in_range (texts_of this))
 
-sound_line : (n : ℕ) (d : Draft) (this : List ℕ) → IsSound d → IfOk (line_added n d this) IsSound
+sound_line : (d : Draft) (this : List ℕ) → IsSound d → IfOk (line_added d this) IsSound
 unfolding line_added
-sound_line n d this s =
-    then_ok IsSound (item_in this) (item_added n d) (λ i is. sound_item n d i (of_ok InRange (item_in this) i is (in_range this)) s)
+sound_line d this s =
+    then_ok IsSound (item_in this) (with_item d) (λ i is. sound_with d i (of_ok InRange (item_in this) i is (in_range this)) s)
 
 -- ---- blocks
 
@@ -408,7 +391,7 @@ may_at d first =
 
 sound_part : (d : Draft) (part : Part) → IsSound d → IfOk (part_added d part) IsSound
 unfolding part_added
-sound_part d (line n this) s = numbered_ok IsSound n (line_added n d this) (sound_line n d this s)
+sound_part d (line n this) s = numbered_ok IsSound n (line_added d this) (sound_line d this s)
 sound_part d (block n first body last) s =
     then_ok IsSound (numbered n (begun d first)) _ (λ i is. sound_block n d i body last (of_ok (λ j. may_begin d j ≡ Ok tt) (numbered n (begun d first)) i is (numbered_ok (λ j. may_begin d j ≡ Ok tt) n (begun d first) (may_at d first))) s)
 sound_part d (endless n first) s = numbered_ok IsSound n (endless_kind d first) (then_ok IsSound (begun d first) _ (λ _ _. tt))
@@ -446,11 +429,7 @@ made_within d s =
       schedule = s.few_turns;
     }
 
-finished_within : (d : Draft) (o : Option ℕ) → IsSound d → IfOk (unless_unbuilt d o) IsWithinLimits
-finished_within d None s = made_within d s
-finished_within d (Some n) s = tt
-
 pub scenario_within : (lines : List (List ℕ)) → IfOk (scenario_in lines) IsWithinLimits
-unfolding scenario_in draft_in finished
+unfolding scenario_in draft_in
 scenario_within lines =
-    then_ok IsWithinLimits (parts_added nothing _) _ (λ d is. finished_within d d.unbuilt (of_ok IsSound _ d is (sound_parts nothing _ sound_nothing)))
+    then_ok IsWithinLimits (parts_added nothing _) _ (λ d is. made_within d (of_ok IsSound _ d is (sound_parts nothing _ sound_nothing)))

@@ -1,24 +1,16 @@
 -- Names and their places.
 use Rattle.std.proofs.Common.{◌≡◌, ℕ, ◌+◌, ◌<◌, Bool, true, false, cond, Option, Some, None, List, [], ◌∷◌, ◌++◌, length, refl, sym, ◌∙◌, ap, arith}
 use Rattle.std.specs.BTreeMap.{BTreeMap, IsEmpty, Updates, get}
-use Rattle.std.specs.Bool.{one_answer}
-use Rattle.std.specs.Cmp.Lexicographic.{slice_cmp, texts_ties}
 use Rattle.std.specs.List.{position_from}
 use Rattle.std.specs.Map.{lookup}
 use Rattle.std.specs.Option.{IfSome}
-use Rattle.std.specs.Ordering.{is_eq, nat_cmp}
+use Rattle.std.specs.Ordering.{is_eq}
 use Rattle.std.specs.Str.{bytes_eq}
-use Rattle.std.proofs.lemmas.Bool.Decides.{Decides-like}
 use Rattle.std.proofs.lemmas.Slice.Eq.{bytes_eq-Decides}
-use Rattle.pr_scen.specs.Names.{place_of, key_cmp, IsIndex}
+use Rattle.pr_scen.specs.Names.{place_of, IsIndex}
 use Rattle.pr_text.specs.declared.keys.Key.{Key}
-
-eq_back : (a b : List ℕ) → bytes_eq a b ≡ bytes_eq b a
-eq_back a b = one_answer (bytes_eq a b) (bytes_eq b a) (bytes_eq-Decides a b) (Decides-like (bytes_eq b a) sym sym (bytes_eq-Decides b a))
-
--- a key is at another where their bytes are the same
-same_key : (a b : List ℕ) → is_eq (slice_cmp nat_cmp a b) ≡ bytes_eq b a
-same_key a b = sym (texts_ties a b) ∙ eq_back a b
+use Rattle.pr_text.specs.Keys.{key_cmp}
+use Rattle.pr_text.proofs.KeyLemmas.{same_key}
 
 -- an option, or else another
 abbrev or_else : {A : Type 0} → Option A → Option A → Option A

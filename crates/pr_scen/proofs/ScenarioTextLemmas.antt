@@ -3,7 +3,7 @@ use Rattle.std.proofs.Common.{◌≡◌, ℕ, zero, suc, ◌+◌, ◌<◌, ◌�
 use Rattle.std.specs.Prelude.{nat_le, All, sum_by, count_by}
 use Rattle.std.specs.List.{AllByRecursion, list_any, position_from}
 use Rattle.std.specs.Str.{bytes_eq}
-use Rattle.std.proofs.lemmas.Bool.{and_parts, lt-ltb, le-leb}
+use Rattle.std.proofs.lemmas.Bool.{and_parts, lt-ltb, le-leb, not-true}
 use Rattle.std.proofs.lemmas.List.{append_assoc, append-nil, length-append, length-map, map-append}
 use Rattle.std.proofs.lemmas.List.Elements.{All-head, All-tail}
 use Rattle.std.proofs.lemmas.List.Sums.{sum_by-cons}
@@ -15,11 +15,10 @@ use Rattle.pr_asm.specs.declared.statements.Statement.{Statement}
 use Rattle.pr_model.specs.FirstState.{first_size, size_at_start, mapped_at_start, stored_file}
 use Rattle.pr_model.specs.declared.events.Actor.{Actor}
 use Rattle.pr_text.specs.Steps.{◌>>=◌, ok_or, folded}
-use Rattle.pr_scen.proofs.LimitLemmas.{not_found, not_true}
+use Rattle.pr_scen.proofs.LimitLemmas.{not_found}
 use Rattle.pr_scen.proofs.TextLemmas.{text_read}
 use Rattle.pr_scen.specs.Blocks.{numbered, first_of_both}
-use Rattle.pr_scen.specs.Built.{is_built_item}
-use Rattle.pr_scen.specs.Drafts.{nothing, noting, with_turns, with_file, with_process, with_spawn, with_schedule, with_item, item_added, may_begin, with_program, call_added, with_script, made}
+use Rattle.pr_scen.specs.Drafts.{nothing, with_turns, with_file, with_process, with_spawn, with_schedule, with_item, may_begin, with_program, call_added, with_script, made}
 use Rattle.pr_scen.specs.Names.{place_of}
 use Rattle.pr_scen.specs.Reading.{finished, scenario_of}
 use Rattle.pr_scen.specs.ScenarioText.{names_of, program_piece, file_piece, spawn_piece, plan_piece, turn_piece, pieces_of, AreSources, OwnNames, SpawnsOneOf, IsFirstPlan, IsWritten}
@@ -74,7 +73,7 @@ fresh_file : (above below : List (List ℕ × List ℕ)) (f : List ℕ × List �
 fresh_file [] below f k own = refl
 fresh_file (a ∷ above) below f k own =
     let apart = and_parts (not (list_any (has_name a.0) (map stored_file above ++ stored_file f ∷ map stored_file below))) (names_differ (map stored_file above ++ stored_file f ∷ map stored_file below)) own in
-    ap (λ b. cond b (Some k) (position_from (bytes_eq f.0) (k + 1) (map (λ g. g.0) above))) (no_other (has_name a.0) (stored_file f) (map stored_file above) (map stored_file below) (not_true _ apart.0))
+    ap (λ b. cond b (Some k) (position_from (bytes_eq f.0) (k + 1) (map (λ g. g.0) above))) (no_other (has_name a.0) (stored_file f) (map stored_file above) (map stored_file below) (not-true _ apart.0))
     ∙ fresh_file above below f (k + 1) apart.1
 
 none_more : (k : ℕ) → k ≡ k + 0
@@ -100,12 +99,11 @@ drafted turns names programs files spawns mapped controllers lists schedule = re
   lists = lists;
   schedule = schedule;
   lines = [];
-  unbuilt = None;
 }
 
 turns_added : (n t : ℕ) → t ≤ 100000 → piece_added n nothing (outside (item.Turns t)) ≡ Ok (drafted t [] [] [] [] 0 [] 0 [])
-unfolding piece_added item_added with_item with_turns noting is_built_item
-turns_added n t most = ap (λ b. numbered n (cond b (Ok (drafted t [] [] [] [] 0 [] 0 [])) (Err TooMany) >>= (λ e. Ok e))) (le-leb t 100000 most)
+unfolding piece_added with_item with_turns
+turns_added n t most = ap (λ b. numbered n (cond b (Ok (drafted t [] [] [] [] 0 [] 0 [])) (Err TooMany))) (le-leb t 100000 most)
 
 module _ (rest : List Piece) (r : Result Draft ScenFault) (t : ℕ) where
   turns_first : (n : ℕ) → t ≤ 100000 → ((m : ℕ) → pieces_added m (drafted t [] [] [] [] 0 [] 0 []) rest ≡ r) → pieces_added n nothing (outside (item.Turns t) ∷ rest) ≡ r
@@ -140,13 +138,13 @@ module _ (rest : List Piece) (r : Result Draft ScenFault) (t : ℕ) where
     -- ---- files
 
     file_more : (n : ℕ) (files : List (List ℕ × List ℕ)) (f : List ℕ × List ℕ) → place_of (map (λ g. g.0) files) f.0 ≡ None → length files < 256 → length f.1 ≤ 65536 → piece_added n (drafted t names programs files [] 0 [] 0 []) (file_piece f) ≡ Ok (drafted t names programs (files ++ f ∷ []) [] 0 [] 0 [])
-    unfolding piece_added item_added with_item with_file noting is_built_item
+    unfolding piece_added with_item with_file
     file_more n files f fresh room small =
         let d = drafted t names programs files [] 0 [] 0 [] in
         let e = record d { file_names = map (λ g. g.0) files ++ f.0 ∷ []; files = files ++ f ∷ [] } in
-        ap (λ o. numbered n (cond (is_some o) (Err Double) (cond (nat_lt (length d.file_names) 256) (cond (nat_le (length f.1) 65536) (Ok e) (Err TooBig)) (Err TooMany)) >>= (λ x. Ok x))) fresh
-        ∙ ap (λ b. numbered n (cond b (cond (nat_le (length f.1) 65536) (Ok e) (Err TooBig)) (Err TooMany) >>= (λ x. Ok x))) (lt-ltb (length d.file_names) 256 (omega (arith, length-map files (λ g. g.0))))
-        ∙ ap (λ b. numbered n (cond b (Ok e) (Err TooBig) >>= (λ x. Ok x))) (le-leb (length f.1) 65536 small)
+        ap (λ o. numbered n (cond (is_some o) (Err Double) (cond (nat_lt (length d.file_names) 256) (cond (nat_le (length f.1) 65536) (Ok e) (Err TooBig)) (Err TooMany)))) fresh
+        ∙ ap (λ b. numbered n (cond b (cond (nat_le (length f.1) 65536) (Ok e) (Err TooBig)) (Err TooMany))) (lt-ltb (length d.file_names) 256 (omega (arith, length-map files (λ g. g.0))))
+        ∙ ap (λ b. numbered n (cond b (Ok e) (Err TooBig))) (le-leb (length f.1) 65536 small)
         ∙ ap (λ ns. Ok (record d { file_names = ns; files = files ++ f ∷ [] })) (sym (map-append (λ g. g.0) files (f ∷ [])))
 
     files_first : (n : ℕ) (files more : List (List ℕ × List ℕ)) → names_differ (map stored_file files ++ map stored_file more) ≡ true → length files + length more ≤ 256 → All (λ f. length f.1 ≤ 65536) more → ((m : ℕ) → pieces_added m (drafted t names programs (files ++ more) [] 0 [] 0 []) rest ≡ r) → pieces_added n (drafted t names programs files [] 0 [] 0 []) (map file_piece more ++ rest) ≡ r
@@ -162,14 +160,14 @@ module _ (rest : List Piece) (r : Result Draft ScenFault) (t : ℕ) where
       -- ---- processes
 
       spawn_more : (n : ℕ) (spawns : List ℕ) (mapped place size : ℕ) → place_of names (get_or names place []) ≡ Some place → option_map first_size (slice_get programs place) ≡ Some size → length spawns < 4095 → mapped + size ≤ 67108864 → piece_added n (drafted t names programs files spawns mapped [] 0 []) (spawn_piece names place) ≡ Ok (drafted t names programs files (spawns ++ place ∷ []) (mapped + size) [] 0 [])
-      unfolding piece_added item_added with_item with_spawn noting is_built_item
+      unfolding piece_added with_item with_spawn
       spawn_more n spawns mapped place size found sized room within =
           let d = drafted t names programs files spawns mapped [] 0 [] in
           let e = drafted t names programs files (spawns ++ place ∷ []) (mapped + size) [] 0 [] in
-          ap (λ o. numbered n ((ok_or UnknownName o >>= (λ p. ok_or UnknownName (option_map first_size (slice_get programs p)) >>= (λ s. with_process d p s))) >>= (λ x. Ok x))) found
-          ∙ ap (λ o. numbered n ((ok_or UnknownName o >>= (λ s. with_process d place s)) >>= (λ x. Ok x))) sized
-          ∙ ap (λ b. numbered n (cond b (cond (nat_le (mapped + size) 67108864) (Ok e) (Err TooBig)) (Err TooMany) >>= (λ x. Ok x))) (lt-ltb (length spawns) 4095 room)
-          ∙ ap (λ b. numbered n (cond b (Ok e) (Err TooBig) >>= (λ x. Ok x))) (le-leb (mapped + size) 67108864 within)
+          ap (λ o. numbered n ((ok_or UnknownName o >>= (λ p. ok_or UnknownName (option_map first_size (slice_get programs p)) >>= (λ s. with_process d p s))))) found
+          ∙ ap (λ o. numbered n ((ok_or UnknownName o >>= (λ s. with_process d place s)))) sized
+          ∙ ap (λ b. numbered n (cond b (cond (nat_le (mapped + size) 67108864) (Ok e) (Err TooBig)) (Err TooMany))) (lt-ltb (length spawns) 4095 room)
+          ∙ ap (λ b. numbered n (cond b (Ok e) (Err TooBig))) (le-leb (mapped + size) 67108864 within)
 
       size_there : (ps : List Program) (place : ℕ) → place < length ps → option_map first_size (slice_get ps place) ≡ Some (size_at_start (slice_get ps place))
       size_there [] place inside = absurd (omega arith)
@@ -254,9 +252,9 @@ module _ (rest : List Piece) (r : Result Draft ScenFault) (t : ℕ) where
 
         module _ (controllers : List Plan) (lists : ℕ) where
           turn_more : (n : ℕ) (schedule : List Actor) (a : Actor) → length schedule < 100000 → piece_added n (drafted t names programs files spawns mapped controllers lists schedule) (turn_piece a) ≡ Ok (drafted t names programs files spawns mapped controllers lists (schedule ++ a ∷ []))
-          unfolding piece_added item_added with_item with_schedule noting is_built_item
+          unfolding piece_added with_item with_schedule
           turn_more n schedule a room =
-              ap (λ b. numbered n (cond b (Ok (drafted t names programs files spawns mapped controllers lists (schedule ++ a ∷ []))) (Err TooMany) >>= (λ x. Ok x))) (le-leb (length schedule + 1) 100000 (omega arith))
+              ap (λ b. numbered n (cond b (Ok (drafted t names programs files spawns mapped controllers lists (schedule ++ a ∷ []))) (Err TooMany))) (le-leb (length schedule + 1) 100000 (omega arith))
 
           turns_last : (n : ℕ) (schedule more : List Actor) → length schedule + length more ≤ 100000 → pieces_added n (drafted t names programs files spawns mapped controllers lists schedule) (map turn_piece more) ≡ Ok (drafted t names programs files spawns mapped controllers lists (schedule ++ more))
           unfolding pieces_added

@@ -1,35 +1,32 @@
 -- Texts are read as they are encoded.
-use Rattle.std.proofs.Common.{◌≡◌, ℕ, ◌+◌, Bool, true, false, not, ◌&&◌, ◌||◌, eqb, cond, List, [], ◌∷◌, ◌++◌, length, map, Result, Ok, Err, refl, sym, ◌∙◌, ap, subst, arith, codes}
-use Rattle.std.specs.List.{All, AllByRecursion, flat_map, join_with_byte, list_all, slice_split, count_by}
-use Rattle.std.proofs.lemmas.Bool.{and_parts}
-use Rattle.std.proofs.lemmas.List.{length-map}
-use Rattle.std.proofs.lemmas.List.Elements.{All-nil, All-cons}
-use Rattle.std.proofs.lemmas.List.Folds.{list_all-append}
-use Rattle.std.proofs.lemmas.List.Splits.{slice_split_at, slice_split_none, length-slice_split}
-use Rattle.std.proofs.lemmas.List.Sums.{sum_by-cons}
+use Rattle.std.proofs.Common.{◌≡◌, ℕ, ◌+◌, Bool, true, false, ◌||◌, List, [], ◌∷◌, ◌++◌, length, map, Result, Ok, Err, refl, sym, ◌∙◌, ap, subst, arith, codes}
+use Rattle.std.specs.List.{AllByRecursion, flat_map, join_with_byte}
 use Rattle.std.proofs.lemmas.Slice.Eq.{bytes_eq-Decides}
-use Rattle.pr_asm.proofs.SpellingLemmas.{IsToken, is_inline, plain_token, texts_of-spaced, read_spelled, read_text}
+use Rattle.pr_asm.proofs.SpellingLemmas.{read_spelled, reads_spelled, lines-inline}
 use Rattle.pr_asm.specs.Assembly.{assembled, program_in}
 use Rattle.pr_asm.specs.Mnemonics.{mnemonic_name}
 use Rattle.pr_asm.specs.Names.{label_of}
-use Rattle.pr_asm.specs.Spelling.{spaced, spelled, IsStatement}
+use Rattle.pr_asm.specs.Spelling.{spelled, IsStatement}
 use Rattle.pr_asm.specs.Statements.{instruction_of, statement_with, label_or, statement_in, statement_of}
 use Rattle.pr_asm.specs.declared.refusals.AsmKind.TheVariants.{UnknownWord}
 use Rattle.pr_asm.specs.declared.statements.Statement.{Statement}
+use Rattle.pr_text.specs.Comments.{begins_comment}
 use Rattle.pr_text.specs.Names.{is_name, is_name_byte}
+use Rattle.pr_text.specs.SpacedWords.{behind_blank}
 use Rattle.pr_text.specs.Steps.{◌>>=◌, folded}
+use Rattle.pr_text.specs.TextLines.{newline}
 use Rattle.pr_text.specs.Words.{words_from, texts_of}
+use Rattle.pr_text.proofs.SpacedLemmas.{IsInline, plain_token, texts_of-spaced, spaced-inline, lines_of-joined}
 use Rattle.pr_scen.proofs.DivisionLemmas.{joined}
 use Rattle.pr_scen.proofs.EncodingLemmas.{item_tokens, item_read, line_tokens, line_read}
 use Rattle.pr_scen.specs.Blocks.{numbered, item_in, line_added, begun, nothing_more, ended, all_readable, first_of_both, program_read, program_added, script_line_read, script_added, block_added, part_added, parts_added}
-use Rattle.pr_scen.specs.Built.{is_built_item}
 use Rattle.pr_scen.specs.Division.{lines_in, ArePartsFrom}
-use Rattle.pr_scen.specs.Drafts.{nothing, noting, with_item, item_added, may_begin, with_program, script_line_added, with_script}
+use Rattle.pr_scen.specs.Drafts.{nothing, with_item, may_begin, with_program, script_line_added, with_script}
 use Rattle.pr_scen.specs.Encoding.{item_words, IsItem, line_words, IsLine}
 use Rattle.pr_scen.specs.Items.{item_of}
 use Rattle.pr_scen.specs.Lines.{is_ascii, readable, first_is, is_end}
 use Rattle.pr_scen.specs.Parts.{Part, line, block, begins_block, parts_from, parts_of}
-use Rattle.pr_scen.specs.Reading.{lines_of, draft_in, finished, scenario_in, scenario_of}
+use Rattle.pr_scen.specs.Reading.{draft_in, finished, scenario_in, scenario_of}
 use Rattle.pr_scen.specs.ScriptLines.{script_line_of}
 use Rattle.pr_scen.specs.TextEncoding.{Piece, outside, program, script, item_line, script_line, end_line, piece_lines, text_of_pieces, IsOutside, IsSpelled, IsReadable, IsPiece, call_read, piece_added, pieces_added}
 use Rattle.pr_scen.specs.declared.drafts.Draft.{Draft}
@@ -40,47 +37,10 @@ use Rattle.pr_scen.specs.declared.refusals.ScenKind.{ScenKind}
 use Rattle.pr_scen.specs.declared.script_lines.ScriptLine.{ScriptLine}
 use Rattle.pr_scen.specs.declared.script_lines.ScriptLine.TheVariants as call
 
--- ---- lines have no newline
-
-abbrev IsInline : List ℕ → Type 0
-IsInline this = All (λ b. eqb b 10 ≡ false) this
-
-spaced_inline : (ws : List (List ℕ)) → AllByRecursion IsToken ws → list_all is_inline (spaced ws) ≡ true
-unfolding spaced
-spaced_inline [] h = refl
-spaced_inline (w ∷ ws) h = list_all-append is_inline w (spaced ws) ∙ ap (λ v. v && list_all is_inline (spaced ws)) (h.0).line ∙ spaced_inline ws h.1
-
-no_newline : (xs : List ℕ) → list_all is_inline xs ≡ true → IsInline xs
-no_newline [] h = All-nil (λ b. eqb b 10 ≡ false)
-no_newline (x ∷ xs) h =
-    let p = and_parts (is_inline x) (list_all is_inline xs) h in
-    All-cons (λ b. eqb b 10 ≡ false) x xs (other (eqb x 10) p.0) (no_newline xs p.1)
-  where
-    other : (b : Bool) → not b ≡ true → b ≡ false
-    other true e = cc
-    other false e = refl
-
-words_inline : (ws : List (List ℕ)) → AllByRecursion IsToken ws → IsInline (spaced ws)
-words_inline ws h = no_newline (spaced ws) (spaced_inline ws h)
-
--- the line of a statement is read as one line, so that it has no newline
-none_counted : (xs : List ℕ) → count_by (λ b. eqb b 10) xs ≡ 0 → IsInline xs
-none_counted [] h = All-nil (λ b. eqb b 10 ≡ false)
-none_counted (x ∷ xs) h = at (eqb x 10) refl (λ none. none_counted xs none) (sym (sum_by-cons (λ b. cond (eqb b 10) 1 0) x xs) ∙ h)
-  where
-    at : (b : Bool) → eqb x 10 ≡ b → (count_by (λ c. eqb c 10) xs ≡ 0 → IsInline xs) → cond b 1 0 + count_by (λ c. eqb c 10) xs ≡ 0 → IsInline (x ∷ xs)
-    at true e on none = absurd (omega arith)
-    at false e on none = All-cons (λ b. eqb b 10 ≡ false) x xs e (on (omega arith))
-
-spelled_inline : (s : Statement) → IsStatement s → IsInline (spelled s)
-spelled_inline s h =
-    let one : length (map statement_of (slice_split (λ b. eqb b 10) (spelled s))) ≡ 1 = ap length (read_text s [] (h, tt)) in
-    none_counted (spelled s) (omega (arith, length-map (slice_split (λ b. eqb b 10) (spelled s)) statement_of, length-slice_split (λ b. eqb b 10) (spelled s)))
-
 -- ---- no line in a block ends it
 
 end_is_unknown : (operands : List (List ℕ)) → statement_in (codes "end" ∷ operands) ≡ Err UnknownWord
-unfolding statement_in label_of is_name is_name_byte label_or statement_with instruction_of mnemonic_name
+unfolding begins_comment statement_in label_of is_name is_name_byte label_or statement_with instruction_of mnemonic_name
 end_is_unknown operands = refl
 
 words_of_end : (ws : List (List ℕ)) → first_is (codes "end") ws ≡ true → statement_in ws ≡ Err UnknownWord
@@ -145,7 +105,7 @@ unfolding is_end
 end_ends = ap (first_is (codes "end")) end_words
 
 end_accepted : ended end_line ≡ Ok tt
-unfolding ended readable is_ascii spaced
+unfolding ended readable is_ascii behind_blank
 end_accepted = ap nothing_more end_words
 
 -- ---- the parts of the lines of pieces
@@ -214,15 +174,11 @@ unfolding all_readable
 body_readable n [] rest h = refl
 body_readable n (this ∷ body) rest h = ap (λ r. numbered n r >>= (λ _. all_readable (n + 1) body)) h.0 ∙ body_readable (n + 1) body rest h.1
 
-statements_are : (ss : List Statement) → AllByRecursion IsStatement ss → map statement_of (map spelled ss) ≡ map Ok ss
-statements_are [] h = refl
-statements_are (s ∷ ss) h = ap (λ r. r ∷ map statement_of (map spelled ss)) (read_spelled s h.0) ∙ ap (λ rs. Ok s ∷ rs) (statements_are ss h.1)
-
 program_is : (n : ℕ) (d : Draft) (name : List ℕ) (ss : List Statement) → AllByRecursion IsStatement ss → AllByRecursion IsReadable (map spelled ss ++ end_line ∷ []) → program_added n d name (map spelled ss) end_line ≡ first_of_both (Ok tt) (assembled name (n + 1) (map Ok ss)) >>= (λ p. Ok (with_program d name p))
 unfolding program_added program_read
 program_is n d name ss h reads =
     ap (λ r. first_of_both r (program_in name (map spelled ss) (n + 1)) >>= (λ p. numbered (n + (length (map spelled ss) + 1)) (ended end_line) >>= (λ _. Ok (with_program d name p)))) (body_readable (n + 1) (map spelled ss) (end_line ∷ []) reads)
-    ∙ ap (λ rs. first_of_both (Ok tt) (assembled name (n + 1) rs) >>= (λ p. numbered (n + (length (map spelled ss) + 1)) (ended end_line) >>= (λ _. Ok (with_program d name p)))) (statements_are ss h)
+    ∙ ap (λ rs. first_of_both (Ok tt) (assembled name (n + 1) rs) >>= (λ p. numbered (n + (length (map spelled ss) + 1)) (ended end_line) >>= (λ _. Ok (with_program d name p)))) (reads_spelled ss h)
     ∙ ap (λ e. first_of_both (Ok tt) (assembled name (n + 1) (map Ok ss)) >>= (λ p. numbered (n + (length (map spelled ss) + 1)) e >>= (λ _. Ok (with_program d name p)))) end_accepted
 
 call_is : (n : ℕ) (d : Draft) (l : ScriptLine) → IsLine l → IsReadable (script_line l) → script_line_read n d (script_line l) ≡ call_read n d l
@@ -245,7 +201,7 @@ script_is n d ls h reads =
 
 piece_is : (n : ℕ) (d : Draft) (p : Piece) → IsPiece p → part_added d (part_of n p) ≡ piece_added n d p
 unfolding part_added line_added block_added piece_added piece_lines IsSpelled IsItem readable
-piece_is n d (outside i) h = ap (λ r. numbered n (r >>= item_added n d)) (item_is i h.0.0 h.1.0)
+piece_is n d (outside i) h = ap (λ r. numbered n (r >>= with_item d)) (item_is i h.0.0 h.1.0)
 piece_is n d (program name ss) h =
     begun_is n d (item.Program name) (λ i. block_added n d i (map spelled ss) end_line) h.0.0 h.1.0
     ∙ same_then (numbered n (may_begin d (item.Program name))) _ _ (λ _. program_is n d name ss h.0.1 h.1.1)
@@ -262,30 +218,22 @@ pieces_are n d (p ∷ pieces) h =
 
 -- ---- the text
 
-lines_split : (x : List ℕ) (xs : List (List ℕ)) → AllByRecursion IsInline (x ∷ xs) → lines_of (join_with_byte 10 (x ∷ xs)) ≡ x ∷ xs
-lines_split x [] h = slice_split_none (λ b. eqb b 10) x h.0
-lines_split x (y ∷ ys) h = slice_split_at (λ b. eqb b 10) x 10 (join_with_byte 10 (y ∷ ys)) h.0 refl ∙ ap (λ ls. x ∷ ls) (lines_split y ys h.1)
-
 inline_after : (xs ys : List (List ℕ)) → AllByRecursion IsInline xs → AllByRecursion IsInline ys → AllByRecursion IsInline (xs ++ ys)
 inline_after [] ys h more = more
 inline_after (x ∷ xs) ys h more = (h.0, inline_after xs ys h.1 more)
 
-statements_inline : (ss : List Statement) → AllByRecursion IsStatement ss → AllByRecursion IsInline (map spelled ss)
-statements_inline [] h = tt
-statements_inline (s ∷ ss) h = (spelled_inline s h.0, statements_inline ss h.1)
-
 script_inline : (ls : List ScriptLine) → AllByRecursion IsLine ls → AllByRecursion IsInline (map script_line ls)
 script_inline [] h = tt
-script_inline (l ∷ ls) h = (words_inline (line_words l) (line_tokens l h.0), script_inline ls h.1)
+script_inline (l ∷ ls) h = (spaced-inline (line_words l) (line_tokens l h.0), script_inline ls h.1)
 
 end_inline : AllByRecursion IsInline (end_line ∷ [])
-end_inline = (words_inline (codes "end" ∷ []) (plain_token (codes "end") (omega arith) refl, tt), tt)
+end_inline = (spaced-inline (codes "end" ∷ []) (plain_token (codes "end") (omega arith) refl, tt), tt)
 
 piece_inline : (p : Piece) → IsSpelled p → AllByRecursion IsInline (piece_lines p)
 unfolding piece_lines IsSpelled IsItem
-piece_inline (outside i) h = (words_inline (item_words i) (item_tokens i h.0), tt)
-piece_inline (program name ss) h = (words_inline (item_words (item.Program name)) (item_tokens (item.Program name) h.0), inline_after (map spelled ss) _ (statements_inline ss h.1) end_inline)
-piece_inline (script ls) h = (words_inline (item_words item.Script) (item_tokens item.Script tt), inline_after (map script_line ls) _ (script_inline ls h) end_inline)
+piece_inline (outside i) h = (spaced-inline (item_words i) (item_tokens i h.0), tt)
+piece_inline (program name ss) h = (spaced-inline (item_words (item.Program name)) (item_tokens (item.Program name) h.0), inline_after (map spelled ss) _ (lines-inline ss h.1) end_inline)
+piece_inline (script ls) h = (spaced-inline (item_words item.Script) (item_tokens item.Script tt), inline_after (map script_line ls) _ (script_inline ls h) end_inline)
 
 pieces_inline : (pieces : List Piece) → AllByRecursion IsPiece pieces → AllByRecursion IsInline (flat_map piece_lines pieces)
 pieces_inline [] h = tt
@@ -297,7 +245,7 @@ are_spelled (p ∷ pieces) h = (h.0.0, are_spelled pieces h.1)
 
 -- a text without lines is one empty line, which says nothing
 empty_read : scenario_of [] ≡ finished nothing
-unfolding scenario_in draft_in parts_from begins_block words_from parts_added part_added line_added readable is_ascii item_of item_added with_item noting is_built_item
+unfolding scenario_in draft_in parts_from begins_block words_from parts_added part_added line_added readable is_ascii item_of with_item
 empty_read = refl
 
 lines_read : (pieces : List Piece) → AllByRecursion IsPiece pieces → scenario_in (flat_map piece_lines pieces) ≡ pieces_added 1 nothing pieces >>= finished
@@ -307,10 +255,10 @@ lines_read pieces h =
     ∙ ap (λ ps. parts_added nothing ps >>= finished) (joined 1 (parts_at 1 pieces) (are_parts 1 pieces (are_spelled pieces h)))
     ∙ ap (λ r. r >>= finished) (pieces_are 1 nothing pieces h)
 
-some_lines : (ls : List (List ℕ)) → AllByRecursion IsInline ls → scenario_of (join_with_byte 10 ls) ≡ scenario_in ls
+some_lines : (ls : List (List ℕ)) → AllByRecursion IsInline ls → scenario_of (join_with_byte newline ls) ≡ scenario_in ls
 unfolding scenario_in draft_in parts_from parts_added
 some_lines [] h = empty_read
-some_lines (l ∷ ls) h = ap scenario_in (lines_split l ls h)
+some_lines (l ∷ ls) h = ap scenario_in (lines_of-joined l ls h)
 
 pub text_read : (pieces : List Piece) → AllByRecursion IsPiece pieces → scenario_of (text_of_pieces pieces) ≡ pieces_added 1 nothing pieces >>= finished
 text_read pieces h = some_lines (flat_map piece_lines pieces) (pieces_inline pieces h) ∙ lines_read pieces h

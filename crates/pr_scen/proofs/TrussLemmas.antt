@@ -9,8 +9,6 @@ use Rattle.std.proofs.lemmas.List.{append_assoc, append-nil}
 use Rattle.std.proofs.lemmas.List.Folds.{list_all-append}
 use Rattle.std.proofs.lemmas.List.Splits.{slice_split_at, slice_split_none}
 use Rattle.std.proofs.lemmas.Slice.Eq.{bytes_eq-Decides}
-use Rattle.pr_asm.proofs.SpellingLemmas.{IsToken, is_plain, plain_token, texts_of-spaced, read_decimal, name_token}
-use Rattle.pr_asm.specs.Spelling.{spaced}
 use Rattle.pr_num.specs.Sets.{with_number, minus_word}
 use Rattle.pr_line.specs.Entries.{signal_named, signal_numbered, all_signals, fault_named, fault_numbered, all_faults, call_named, call_numbered, all_calls, with_entries, number_or_name, entry_of, list_from, list_of}
 use Rattle.pr_line.specs.Options.{start, with_list, with_pids, with_program, list_taken, option_taken, word_taken}
@@ -23,12 +21,16 @@ use Rattle.pr_line.specs.declared.reading.Draft.{Draft}
 use Rattle.pr_line.specs.declared.reading.ListOption.TheVariants.{Calls, Signals, Faults, Processes}
 use Rattle.pr_text.specs.Lists.{parts_of}
 use Rattle.pr_text.specs.Names.{is_name}
+use Rattle.pr_text.specs.SpacedWords.{spaced}
 use Rattle.pr_text.specs.Steps.{◌>>=◌, folded}
 use Rattle.pr_text.specs.Words.{texts_of}
-use Rattle.pr_scen.proofs.EncodingLemmas.{apart, differ, digits_plain, first_digit, read_id, read_name}
+use Rattle.pr_text.proofs.NumberLemmas.{number_of-decimal, id_of-decimal, decimal-apart, decimal-first}
+use Rattle.pr_text.proofs.PlainLemmas.{decimal-plain, name_of-name, name_token}
+use Rattle.pr_text.proofs.SpacedLemmas.{IsToken, is_plain, plain_token, texts_of-spaced}
+use Rattle.pr_scen.proofs.EncodingLemmas.{differ}
 use Rattle.pr_scen.specs.Encoding.{IsId}
 use Rattle.pr_scen.specs.Items.{truss_read, truss_of, item_with, item_of}
-use Rattle.pr_scen.specs.Lines.{begins_comment}
+use Rattle.pr_text.specs.Comments.{begins_comment}
 use Rattle.pr_scen.specs.TrussWords.{joined_word, Listing, every, these, others, listing_word, with_numbers, listing_set, IsEntry, IsListing, Target, processes, runs, IsTarget, target_words, target_ids, target_program, TrussLine, flag_words, list_words, truss_words, truss_options, IsTrussLine}
 use Rattle.pr_scen.specs.declared.items.Item.TheVariants as item
 
@@ -38,19 +40,19 @@ abbrev IsWord : ℕ → Type 0
 IsWord n = n < 2 ^ 64
 
 split_joined : (n : ℕ) (ns : List ℕ) → AllByRecursion IsWord (n ∷ ns) → parts_of (joined_word (n ∷ ns)) ≡ map decimal (n ∷ ns)
-split_joined n [] all = slice_split_none (λ b. eqb b 43) (decimal n) (apart 43 (omega arith) n all.0)
+split_joined n [] all = slice_split_none (λ b. eqb b 43) (decimal n) (decimal-apart 43 (omega arith) n all.0)
 split_joined n (m ∷ ns) all =
-    slice_split_at (λ b. eqb b 43) (decimal n) 43 (joined_word (m ∷ ns)) (apart 43 (omega arith) n all.0) refl ∙ ap (λ ws. decimal n ∷ ws) (split_joined m ns all.1)
+    slice_split_at (λ b. eqb b 43) (decimal n) 43 (joined_word (m ∷ ns)) (decimal-apart 43 (omega arith) n all.0) refl ∙ ap (λ ws. decimal n ∷ ws) (split_joined m ns all.1)
 
 joined_plain : (n : ℕ) (ns : List ℕ) → AllByRecursion IsWord (n ∷ ns) → list_all is_plain (joined_word (n ∷ ns)) ≡ true
-joined_plain n [] all = digits_plain n all.0
+joined_plain n [] all = decimal-plain n all.0
 joined_plain n (m ∷ ns) all =
-    list_all-append is_plain (decimal n) (43 ∷ joined_word (m ∷ ns)) ∙ ap (λ b. b && list_all is_plain (joined_word (m ∷ ns))) (digits_plain n all.0) ∙ joined_plain m ns all.1
+    list_all-append is_plain (decimal n) (43 ∷ joined_word (m ∷ ns)) ∙ ap (λ b. b && list_all is_plain (joined_word (m ∷ ns))) (decimal-plain n all.0) ∙ joined_plain m ns all.1
 
 -- the first byte of such a word is a digit
-joined_first : (n : ℕ) (ns : List ℕ) → AllByRecursion IsWord (n ∷ ns) → (48 ≤ get_or (joined_word (n ∷ ns)) 0 0) × (get_or (joined_word (n ∷ ns)) 0 0 < 58)
-joined_first n [] all = subst (λ w. (48 ≤ get_or w 0 0) × (get_or w 0 0 < 58)) (append-nil (decimal n)) (first_digit n all.0 [])
-joined_first n (m ∷ ns) all = first_digit n all.0 (43 ∷ joined_word (m ∷ ns))
+joined_first : (n : ℕ) (ns : List ℕ) → AllByRecursion IsWord (n ∷ ns) → (48 ≤ get_or (joined_word (n ∷ ns)) 0 0) × (get_or (joined_word (n ∷ ns)) 0 0 ≤ 57)
+joined_first n [] all = subst (λ w. (48 ≤ get_or w 0 0) × (get_or w 0 0 ≤ 57)) (append-nil (decimal n)) (decimal-first n all.0 [])
+joined_first n (m ∷ ns) all = decimal-first n all.0 (43 ∷ joined_word (m ∷ ns))
 
 some_byte : (word : List ℕ) → 48 ≤ get_or word 0 0 → 0 < length word
 some_byte [] low = absurd (omega arith)
@@ -70,7 +72,7 @@ module _ (named : List ℕ → Option ℕ) (numbered : ℕ → Option ℕ) (all 
   unfolding with_entries entry_of with_numbers
   entries_read set [] h = refl
   entries_read set (n ∷ ns) h =
-      ap (λ o. option_and_then (λ more. with_entries (entry_of named numbered) more (map decimal ns)) (option_map (with_number set) (number_or_name named numbered (decimal n) o))) (read_decimal n h.0.0)
+      ap (λ o. option_and_then (λ more. with_entries (entry_of named numbered) more (map decimal ns)) (option_map (with_number set) (number_or_name named numbered (decimal n) o))) (number_of-decimal n h.0.0)
       ∙ ap (λ o. option_and_then (λ more. with_entries (entry_of named numbered) more (map decimal ns)) (option_map (with_number set) o)) h.0.1
       ∙ entries_read (with_number set n) ns h.1
 
@@ -114,7 +116,7 @@ ids_more : (done ids : List ℕ) → AllByRecursion IsId ids → with_ids done (
 unfolding with_ids
 ids_more done [] h = ap Some (sym (append-nil done))
 ids_more done (id ∷ ids) h =
-    ap (λ o. option_and_then (λ n. with_ids (done ++ n ∷ []) (map decimal ids)) o) (read_id id h.0) ∙ ids_more (done ++ id ∷ []) ids h.1 ∙ ap Some (append_assoc done (id ∷ []) ids)
+    ap (λ o. option_and_then (λ n. with_ids (done ++ n ∷ []) (map decimal ids)) o) (id_of-decimal id h.0) ∙ ids_more (done ++ id ∷ []) ids h.1 ∙ ap Some (append_assoc done (id ∷ []) ids)
 
 ids_read : (id : ℕ) (ids : List ℕ) → AllByRecursion IsId (id ∷ ids) → pids_of (joined_word (id ∷ ids)) ≡ Some (id ∷ ids)
 unfolding pids_of
@@ -177,7 +179,7 @@ module _ (f l c : Bool) (cs ss fs : ℕ) where
   name_taken n name h =
       passed _ _ _ _ (no_option name 102 h) (passed _ _ _ _ (no_option name 108 h) (passed _ _ _ _ (no_option name 99 h) (passed _ _ _ _ (no_option name 105 h)
       (passed _ _ _ _ (no_option name 116 h) (passed _ _ _ _ (no_option name 115 h) (passed _ _ _ _ (no_option name 109 h) (passed _ _ _ _ (no_option name 112 h)
-      (ap (with_program n (plain (asked f l c cs ss fs))) (read_name name h)))))))))
+      (ap (with_program n (plain (asked f l c cs ss fs))) (name_of-name name h)))))))))
 
   target_read : (n : ℕ) (t : Target) → IsTarget t → taken n (plain (asked f l c cs ss fs)) (target_words t) ≡ Ok (plain (with_target t))
   unfolding folded word_taken option_taken list_taken target_words IsTarget

@@ -1,12 +1,9 @@
 -- The names of a script, and the handles that they stand for.
 use Rattle.std.specs.Prelude.{ℕ, Option, Some, None, List, [], ◌∷◌, ◌++◌, replicate, length, slice_index, slice_set, is_some, if◌then◌else◌}
+use Rattle.pr_model.specs.Replies.{no_handle}
 use Rattle.pr_scen.specs.Names.{place_of}
 use Rattle.pr_scen.specs.declared.script_lines.ScriptLine.{ScriptLine}
 use Rattle.pr_scen.specs.declared.script_lines.ScriptLine.TheVariants as line
-
--- what a name stands for that is bound to no handle, and one whose open was refused
-abbrev pub no_handle : ℕ
-no_handle = 4294967295
 
 -- the names that a script opens, each once, and the handle that each stands for
 pub record Bindings : Type 0 where

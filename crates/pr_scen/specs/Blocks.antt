@@ -7,7 +7,7 @@ use Rattle.pr_asm.specs.declared.refusals.AsmKind.{AsmKind}
 use Rattle.pr_asm.specs.declared.refusals.AsmKind.TheVariants as asm
 use Rattle.pr_text.specs.Steps.{◌>>=◌, none, folded}
 use Rattle.pr_text.specs.Words.{texts_of}
-use Rattle.pr_scen.specs.Drafts.{item_added, may_begin, with_program, script_line_added, with_script}
+use Rattle.pr_scen.specs.Drafts.{with_item, may_begin, with_program, script_line_added, with_script}
 use Rattle.pr_scen.specs.Items.{item_of}
 use Rattle.pr_scen.specs.Lines.{readable}
 use Rattle.pr_scen.specs.Parts.{Part, line, block, endless}
@@ -29,8 +29,8 @@ abbrev pub item_in : List ℕ → Result Item ScenKind
 item_in this = readable this >>= λ _. item_of (texts_of this)
 
 -- line n, outside blocks
-unfoldable pub line_added : ℕ → Draft → List ℕ → Result Draft ScenKind
-line_added n d this = item_in this >>= item_added n d
+unfoldable pub line_added : Draft → List ℕ → Result Draft ScenKind
+line_added d this = item_in this >>= with_item d
 
 -- a line that begins a block, and may
 unfoldable pub begun : Draft → List ℕ → Result Item ScenKind
@@ -109,7 +109,7 @@ endless_kind d first = begun d first >>= λ _. Err kind.NoEnd
 
 -- A part more, a row a part. The first line of a block without end is refused for that after its other kinds.
 unfoldable pub part_added : Draft → Part → Result Draft ScenFault
-part_added d (line n this) = numbered n (line_added n d this)
+part_added d (line n this) = numbered n (line_added d this)
 part_added d (block n first body last) = numbered n (begun d first) >>= λ i. block_added n d i body last
 part_added d (endless n first) = numbered n (endless_kind d first)
 

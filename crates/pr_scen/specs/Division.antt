@@ -8,7 +8,6 @@ use Rattle.pr_scen.specs.Parts.{Part, line, block, endless, begins_block, parts_
 use Rattle.pr_scen.specs.Scenarios.{Scenario}
 use Rattle.pr_scen.specs.declared.drafts.Draft.{Draft}
 use Rattle.pr_scen.specs.declared.refusals.ScenFault.{ScenFault}
-use Rattle.pr_scen.specs.declared.refusals.ScenKind.TheVariants.{NotBuilt}
 
 -- ---- parts
 
@@ -31,15 +30,13 @@ unfoldable pub ArePartsFrom : ℕ → List Part → Type 0
 ArePartsFrom n [] = Unit {0}
 ArePartsFrom n (part ∷ parts) = IsPartAt n part × ArePartsFrom (n + length (lines_in part)) parts
 
--- Lines that encode a scenario: they are whole parts, one after another, which are accepted in turn and make it, and each
--- form of them is built.
+-- Lines that encode a scenario: they are whole parts, one after another, which are accepted in turn and make it.
 pub record EncodeScenario (lines : List (List ℕ)) (s : Scenario) : Type 0 where
   pub parts : List Part
   pub read : Draft
   pub divided : ArePartsFrom 1 parts
   pub whole : lines ≡ flat_map lines_in parts
   pub accepted : parts_added nothing parts ≡ Ok read
-  pub built : read.unbuilt ≡ None
   pub makes : s ≡ made read
 
 -- ---- refusals
@@ -55,13 +52,6 @@ pub record StopsAt (d : Draft) (parts : List Part) (fault : ScenFault) : Type 0 
   pub accepted : parts_added d above ≡ Ok read
   pub refused : part_added read this ≡ Err fault
 
--- all parts are accepted, and this line is the first of a form that is not built
-pub record IsNotBuilt (d : Draft) (parts : List Part) (fault : ScenFault) : Type 0 where
-  pub read : Draft
-  pub accepted : parts_added d parts ≡ Ok read
-  pub first : read.unbuilt ≡ Some fault.line
-  pub kind : fault.kind ≡ NotBuilt
-
--- the first line of these lines that is refused: for a form that is not built only where there is no other refusal
+-- the first line of these lines that is refused
 abbrev pub IsFirstFault : List (List ℕ) → ScenFault → Type 0
-IsFirstFault lines fault = StopsAt nothing (parts_of lines) fault ⊎ IsNotBuilt nothing (parts_of lines) fault
+IsFirstFault lines fault = StopsAt nothing (parts_of lines) fault

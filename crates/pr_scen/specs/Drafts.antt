@@ -1,11 +1,10 @@
 -- What was read of a scenario so far, and what one line or block more makes of it.
-use Rattle.std.specs.Prelude.{◌||◌, ◌+◌, ℕ, Bool, true, Some, None, Option, is_some, List, [], ◌∷◌, ◌++◌, length, option_map, slice_get, nat_lt, nat_le, unwrap_or, Result, Ok, Err, if◌then◌else◌}
+use Rattle.std.specs.Prelude.{◌+◌, ℕ, Bool, true, Some, None, Option, is_some, List, [], ◌∷◌, ◌++◌, length, option_map, slice_get, nat_lt, nat_le, unwrap_or, Result, Ok, Err, if◌then◌else◌}
 use Rattle.pr_num.specs.Programs.{Program}
 use Rattle.pr_line.specs.declared.options.Options.{Options}
 use Rattle.pr_text.specs.Steps.{◌>>=◌, ok_or}
 use Rattle.pr_model.specs.FirstState.{first_size}
-use Rattle.pr_scen.specs.Built.{is_built_item}
-use Rattle.pr_scen.specs.Limits.{most_turns, default_turns, most_programs, most_files, most_file, most_spawns, most_mapped, most_controllers, most_lists, most_scheduled}
+use Rattle.pr_num.specs.Limits.{turn_limit, default_turns, program_limit, file_limit, file_size_limit, spawn_limit, all_mappings_limit, controller_limit, list_line_limit, schedule_limit}
 use Rattle.pr_scen.specs.Names.{place_of}
 use Rattle.pr_scen.specs.Scenarios.{Scenario}
 use Rattle.pr_scen.specs.Schedules.{turn_count, actors_of}
@@ -37,12 +36,7 @@ nothing = record {
   lists = 0;
   schedule = [];
   lines = [];
-  unbuilt = None;
 }
-
--- the first line of a form that is not built is remembered
-unfoldable pub noting : ℕ → Bool → Draft → Draft
-noting n built d = if built || is_some d.unbuilt then d else record d { unbuilt = Some n }
 
 -- ---- lines outside blocks
 
@@ -50,14 +44,14 @@ noting n built d = if built || is_some d.unbuilt then d else record d { unbuilt 
 unfoldable pub with_turns : Draft → ℕ → Result Draft ScenKind
 with_turns d n =
     if is_some d.turns then Err Double
-    else (if nat_le n most_turns then Ok (record d { turns = Some n }) else Err TooMany)
+    else (if nat_le n turn_limit then Ok (record d { turns = Some n }) else Err TooMany)
 
 -- file NAME: its name is given once, and it keeps the limits on files and on the bytes of one
 unfoldable pub with_file : Draft → List ℕ → List ℕ → Result Draft ScenKind
 with_file d name bytes =
     if is_some (place_of d.file_names name) then Err Double
-    else (if nat_lt (length d.file_names) most_files
-    then (if nat_le (length bytes) most_file
+    else (if nat_lt (length d.file_names) file_limit
+    then (if nat_le (length bytes) file_size_limit
     then Ok (record d { file_names = d.file_names ++ name ∷ []; files = d.files ++ (name, bytes) ∷ [] })
     else Err TooBig)
     else Err TooMany)
@@ -65,8 +59,8 @@ with_file d name bytes =
 -- one process more, of the program at a place, within the limit on processes and then on mapped bytes
 abbrev pub with_process : Draft → ℕ → ℕ → Result Draft ScenKind
 with_process d place size =
-    if nat_lt (length d.spawns) most_spawns
-    then (if nat_le (d.mapped + size) most_mapped then Ok (record d { spawns = d.spawns ++ place ∷ []; mapped = d.mapped + size }) else Err TooBig)
+    if nat_lt (length d.spawns) spawn_limit
+    then (if nat_le (d.mapped + size) all_mappings_limit then Ok (record d { spawns = d.spawns ++ place ∷ []; mapped = d.mapped + size }) else Err TooBig)
     else Err TooMany
 
 -- spawn NAME: a process of a program whose block has ended above
@@ -79,7 +73,7 @@ with_spawn d name = do
 -- one controller more
 unfoldable pub with_controller : Draft → Plan → Result Draft ScenKind
 with_controller d plan =
-    if nat_lt (length d.controllers) most_controllers then Ok (record d { controllers = d.controllers ++ plan ∷ [] }) else Err TooMany
+    if nat_lt (length d.controllers) controller_limit then Ok (record d { controllers = d.controllers ++ plan ∷ [] }) else Err TooMany
 
 -- whether a program of this name has ended above
 abbrev pub has_program : Draft → List ℕ → Bool
@@ -97,7 +91,7 @@ with_truss d options = if knows_program d options.program then with_controller d
 -- schedule ACTORS, after those of the lines above
 unfoldable pub with_schedule : Draft → List Turns → Result Draft ScenKind
 with_schedule d turns =
-    if nat_le (length d.schedule + turn_count turns) most_scheduled
+    if nat_le (length d.schedule + turn_count turns) schedule_limit
     then Ok (record d { schedule = d.schedule ++ actors_of turns })
     else Err TooMany
 
@@ -113,17 +107,13 @@ with_item d (item.Truss options) = with_truss d options
 with_item d (item.Tool kind pid) = with_controller d (Tool kind pid)
 with_item d (item.Schedule turns) = with_schedule d turns
 
--- The same of the item of line n, whose form may not be built.
-unfoldable pub item_added : ℕ → Draft → Item → Result Draft ScenKind
-item_added n d i = with_item d i >>= λ e. Ok (noting n (is_built_item i) e)
-
 -- ---- blocks
 
 -- A line that begins a block can: a program has a name of its own, and a script is within the limit.
 unfoldable pub may_begin : Draft → Item → Result (Unit {0}) ScenKind
 may_begin d (item.Program name) =
-    if has_program d name then Err Double else (if nat_lt (length d.program_names) most_programs then Ok tt else Err TooMany)
-may_begin d item.Script = if nat_lt (length d.controllers) most_controllers then Ok tt else Err TooMany
+    if has_program d name then Err Double else (if nat_lt (length d.program_names) program_limit then Ok tt else Err TooMany)
+may_begin d item.Script = if nat_lt (length d.controllers) controller_limit then Ok tt else Err TooMany
 may_begin d _ = Ok tt
 
 -- a program more
@@ -137,7 +127,7 @@ with_line d l = record d { lines = d.lines ++ l ∷ [] }
 -- a script can make this call: it spawns a program whose block has ended above; there are at most 4,096 `list` lines
 unfoldable pub call_added : Draft → ScriptLine → Result Draft ScenKind
 call_added d (line.Spawn program held) = if has_program d program then Ok (with_line d (line.Spawn program held)) else Err UnknownName
-call_added d line.List = if nat_lt d.lists most_lists then Ok (record (with_line d line.List) { lists = d.lists + 1 }) else Err TooMany
+call_added d line.List = if nat_lt d.lists list_line_limit then Ok (record (with_line d line.List) { lists = d.lists + 1 }) else Err TooMany
 call_added d l = Ok (with_line d l)
 
 -- what a line of a script block makes of it

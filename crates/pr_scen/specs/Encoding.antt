@@ -1,41 +1,30 @@
 -- Words that encode the lines of a scenario.
-use Rattle.std.specs.Prelude.{◌≡◌, ◌≤◌, ◌<◌, ◌^◌, ◌/◌, ◌%◌, ℕ, true, false, List, [], ◌∷◌, ◌++◌, codes, decimal, map, slice_index}
-use Rattle.std.specs.List.{AllByRecursion, flat_map}
-use Rattle.pr_asm.specs.Spelling.{quoted}
+use Rattle.std.specs.Prelude.{◌≡◌, ◌≤◌, ◌<◌, ◌^◌, ℕ, true, false, List, [], ◌∷◌, ◌++◌, codes, decimal, map}
+use Rattle.std.specs.List.{AllByRecursion}
 use Rattle.pr_model.specs.declared.events.Actor.{Actor}
 use Rattle.pr_model.specs.declared.events.Actor.TheVariants.{Controller, Lwp, Clock}
 use Rattle.pr_model.specs.declared.tools.ToolKind.{ToolKind}
 use Rattle.pr_model.specs.declared.tools.ToolKind.TheVariants.{Ptree}
+use Rattle.pr_text.specs.HexWords.{digits_of_bytes}
+use Rattle.pr_text.specs.LwpWords.{lwp_text}
 use Rattle.pr_text.specs.Names.{is_name}
-use Rattle.pr_scen.specs.Files.{file_name, mode_name, tool_name}
+use Rattle.pr_text.specs.QuotedWords.{quoted}
+use Rattle.pr_model.specs.FileNames.{file_name, mode_name}
+use Rattle.pr_model.specs.ToolNames.{tool_name}
 use Rattle.pr_scen.specs.declared.items.Item.{Item}
 use Rattle.pr_scen.specs.declared.items.Item.TheVariants as item
 use Rattle.pr_scen.specs.declared.schedules.Turns.{Turns}
 use Rattle.pr_scen.specs.declared.script_lines.ScriptLine.{ScriptLine}
 use Rattle.pr_scen.specs.declared.script_lines.ScriptLine.TheVariants as line
 
--- bytes in hex, two digits in lower case each
-abbrev pub hex_digit : ℕ → ℕ
-hex_digit d = slice_index (codes "0123456789abcdef") d
-
-abbrev pub hex_byte : ℕ → List ℕ
-hex_byte b = hex_digit (b / 16) ∷ hex_digit (b % 16) ∷ []
-
-abbrev pub hex_word : List ℕ → List ℕ
-hex_word bytes = flat_map hex_byte bytes
-
 abbrev pub IsId : ℕ → Type 0
 IsId n = n < 2 ^ 32
-
--- an lwp of a process; in an `open` lwp 0 stands for the process
-abbrev pub place_word : ℕ → ℕ → List ℕ
-place_word pid lwp = decimal pid ++ 47 ∷ decimal lwp
 
 -- ---- turns at the beginning
 
 unfoldable pub actor_word : Actor → List ℕ
 actor_word (Controller k) = 99 ∷ decimal k
-actor_word (Lwp pid lwp) = place_word pid lwp
+actor_word (Lwp pid lwp) = lwp_text pid lwp
 actor_word Clock = codes "clock"
 
 unfoldable pub IsActor : Actor → Type 0
@@ -90,14 +79,14 @@ IsItem (item.Truss options) = ⊥
 IsItem (item.Tool kind pid) = IsTool kind pid
 IsItem (item.Schedule turns) = SomeTurns turns
 
--- ---- lines of scripts
+-- ---- lines of scripts; in an `open` lwp 0 stands for the process
 
 unfoldable pub line_words : ScriptLine → List (List ℕ)
-line_words (line.Open name pid lwp file mode) = codes "open" ∷ name ∷ place_word pid lwp ∷ file_name file ∷ mode_name mode ∷ []
+line_words (line.Open name pid lwp file mode) = codes "open" ∷ name ∷ lwp_text pid lwp ∷ file_name file ∷ mode_name mode ∷ []
 line_words (line.Close name) = codes "close" ∷ name ∷ []
 line_words (line.Read name at len) = codes "read" ∷ name ∷ decimal at ∷ decimal len ∷ []
 line_words (line.Poll names) = codes "poll" ∷ names
-line_words (line.Write name bytes) = codes "write" ∷ name ∷ codes "raw" ∷ hex_word bytes ∷ []
+line_words (line.Write name bytes) = codes "write" ∷ name ∷ codes "raw" ∷ digits_of_bytes bytes ∷ []
 line_words (line.Interrupt controller) = codes "interrupt" ∷ decimal controller ∷ []
 line_words (line.Spawn program false) = codes "spawn" ∷ program ∷ []
 line_words (line.Spawn program true) = codes "spawn" ∷ program ∷ codes "held" ∷ []

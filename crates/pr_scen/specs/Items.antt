@@ -10,8 +10,8 @@ use Rattle.pr_text.specs.Names.{name_of}
 use Rattle.pr_text.specs.NumberWords.{number_of, id_of}
 use Rattle.pr_text.specs.QuotedWords.{quoted_bytes}
 use Rattle.pr_text.specs.Steps.{◌>>=◌, ok_or, none, one, two}
-use Rattle.pr_scen.specs.Files.{tool_of}
-use Rattle.pr_scen.specs.Lines.{begins_comment}
+use Rattle.pr_model.specs.ToolNames.{process_tool_of_name}
+use Rattle.pr_text.specs.Comments.{begins_comment}
 use Rattle.pr_scen.specs.Schedules.{with_turns_of}
 use Rattle.pr_scen.specs.declared.items.Item.{Item}
 use Rattle.pr_scen.specs.declared.items.Item.TheVariants as item
@@ -66,7 +66,7 @@ tool_line_of (word ∷ []) = if bytes_eq word (codes "ptree") then Ok (item.Tool
 tool_line_of (word ∷ id ∷ []) = do
   _ ← ok_or BadOperand (name_of word)
   pid ← ok_or BadOperand (id_of id)
-  if bytes_eq word (codes "ptree") then Err BadOperand else (ok_or UnknownName (tool_of word) >>= λ kind. Ok (item.Tool kind pid))
+  if bytes_eq word (codes "ptree") then Err BadOperand else (ok_or UnknownName (process_tool_of_name word) >>= λ kind. Ok (item.Tool kind pid))
 tool_line_of _ = Err BadOperand
 
 abbrev pub unless_none : List Turns → Result Item ScenKind

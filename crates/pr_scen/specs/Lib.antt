@@ -1,13 +1,10 @@
 pub mod Bindings
 pub mod BlockFaults
 pub mod Blocks
-pub mod Built
 pub mod Division
 pub mod Drafts
 pub mod Encoding
-pub mod Files
 pub mod Items
-pub mod Limits
 pub mod Lines
 pub mod MessageLists
 pub mod MessageWords

@@ -1,9 +1,9 @@
 -- Lines before their words are looked at, and the lines that end a block.
-use Rattle.std.specs.Prelude.{◌==◌, ℕ, Bool, false, List, [], ◌∷◌, codes, length, slice_index, nat_lt, Result, Ok, Err, if◌then◌else◌}
+use Rattle.std.specs.Prelude.{ℕ, Bool, false, List, [], ◌∷◌, codes, length, nat_lt, Result, Ok, Err, if◌then◌else◌}
 use Rattle.std.specs.List.{list_all}
 use Rattle.std.specs.Str.{bytes_eq}
 use Rattle.pr_text.specs.Words.{texts_of}
-use Rattle.pr_scen.specs.Limits.{most_line}
+use Rattle.pr_num.specs.Limits.{line_limit}
 use Rattle.pr_scen.specs.declared.refusals.ScenKind.{ScenKind}
 use Rattle.pr_scen.specs.declared.refusals.ScenKind.TheVariants.{TooLong, NotAscii}
 
@@ -14,12 +14,8 @@ is_ascii line = list_all (λ b. nat_lt b 128) line
 -- a line can be read where it has at most 4,096 bytes, and all are of ASCII
 unfoldable pub readable : List ℕ → Result (Unit {0}) ScenKind
 readable line =
-    if nat_lt most_line (length line) then Err TooLong
+    if nat_lt line_limit (length line) then Err TooLong
     else (if is_ascii line then Ok tt else Err NotAscii)
-
--- whether a first word makes its line a comment
-unfoldable pub begins_comment : List ℕ → Bool
-begins_comment word = slice_index word 0 == 35
 
 -- whether the first of a line's words is this one
 abbrev pub first_is : List ℕ → List (List ℕ) → Bool

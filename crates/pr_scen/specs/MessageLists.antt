@@ -1,5 +1,5 @@
--- Operands of messages: numbers, bytes in hex, sets, modes and run flags.
-use Rattle.std.specs.Prelude.{◌&&◌, ◌+◌, ◌*◌, ℕ, Option, Some, None, List, [], ◌∷◌, ◌++◌, codes, nat_le, option_and_then, option_map, Result, Ok, Err, if◌then◌else◌}
+-- Operands of messages: sets, modes and run flags.
+use Rattle.std.specs.Prelude.{ℕ, Option, Some, None, List, [], ◌∷◌, codes, option_and_then, Result, Ok, Err, if◌then◌else◌}
 use Rattle.std.specs.List.{list_all}
 use Rattle.std.specs.Str.{bytes_eq}
 use Rattle.pr_num.specs.Control.{clear_signal, clear_fault, single_step, abort_call, stop_again, fork_mode, rlc_mode, klc_mode, async_mode}
@@ -7,30 +7,9 @@ use Rattle.pr_num.specs.Sets.{union_word}
 use Rattle.pr_line.specs.Entries.{with_entries}
 use Rattle.pr_text.specs.Lists.{parts_of}
 use Rattle.pr_text.specs.Names.{is_name}
-use Rattle.pr_text.specs.NumberWords.{digit_of}
 use Rattle.pr_text.specs.Steps.{ok_or}
 use Rattle.pr_scen.specs.declared.refusals.ScenKind.{ScenKind}
 use Rattle.pr_scen.specs.declared.refusals.ScenKind.TheVariants.{BadOperand, UnknownName}
-
--- ---- bytes in hex
-
--- the value of a hex digit in lower case
-unfoldable pub low_digit : ℕ → Option ℕ
-low_digit b = if nat_le 65 b && nat_le b 70 then None else digit_of b
-
--- the byte of two digits
-unfoldable pub byte_of : ℕ → ℕ → Option ℕ
-byte_of h l = option_and_then (λ high. option_map (λ low. high * 16 + low) (low_digit l)) (low_digit h)
-
--- bytes with those that pairs of digits spell
-unfoldable pub hex_from : List ℕ → List ℕ → Option (List ℕ)
-hex_from bytes [] = Some bytes
-hex_from bytes (h ∷ []) = None
-hex_from bytes (h ∷ l ∷ rest) = option_and_then (λ b. hex_from (bytes ++ b ∷ []) rest) (byte_of h l)
-
--- The bytes of a word in hex: two digits in lower case each.
-unfoldable pub hex_of : List ℕ → Option (List ℕ)
-hex_of word = hex_from [] word
 
 -- ---- sets
 

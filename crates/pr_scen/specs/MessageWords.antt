@@ -106,10 +106,10 @@ unfoldable pub bytes_with : MessageWord → List ℕ → List ℕ → List ℕ
 bytes_with Write n tail = spelling (does.Write (slice_index n 0) (length tail)) tail
 bytes_with _ n tail = tail
 
-abbrev pub bytes_from : MessageWord → List ℕ → List ℕ → Option Message → List ℕ
-bytes_from word n tail (Some m) = spelling m []
-bytes_from word n tail None = bytes_with word n tail
+abbrev pub message_bytes : MessageWord → List ℕ → List ℕ → Option Message → List ℕ
+message_bytes word n tail (Some m) = spelling m []
+message_bytes word n tail None = bytes_with word n tail
 
 -- the bytes of a message with these operands, and with these bytes
 unfoldable pub bytes_of : MessageWord → List ℕ → List ℕ → List ℕ
-bytes_of word n tail = bytes_from word n tail (message_of word n)
+bytes_of word n tail = message_bytes word n tail (message_of word n)

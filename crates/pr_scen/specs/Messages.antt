@@ -4,9 +4,10 @@ use Rattle.pr_num.specs.Messages.{spelling}
 use Rattle.pr_num.specs.Sets.{union_word}
 use Rattle.pr_num.specs.declared.messages.Message.TheVariants as does
 use Rattle.pr_line.specs.Entries.{signal_named, all_signals, fault_named, all_faults, call_named, all_calls}
+use Rattle.pr_text.specs.HexWords.{bytes_of_digits}
 use Rattle.pr_text.specs.NumberWords.{number_of}
 use Rattle.pr_text.specs.Steps.{◌>>=◌, ok_or}
-use Rattle.pr_scen.specs.MessageLists.{hex_of, set_of, modes_of, flag_of}
+use Rattle.pr_scen.specs.MessageLists.{set_of, modes_of, flag_of}
 use Rattle.pr_scen.specs.MessageWords.{message_word_of, operands_of, bytes_of}
 use Rattle.pr_scen.specs.declared.message_words.MessageWord.{MessageWord}
 use Rattle.pr_scen.specs.declared.message_words.MessageWord.TheVariants.{Run}
@@ -56,7 +57,7 @@ with_set w word (Err kind) = Err kind
 -- an operand more, a row a form
 unfoldable pub operand_read : Writing → MessageWord → List ℕ → Operand → Result Writing ScenKind
 operand_read w word text Number = ok_or BadOperand (number_of text) >>= λ n. Ok (with_number_operand w word n)
-operand_read w word text Hex = ok_or BadOperand (hex_of text) >>= λ tail. Ok (with_whole w word tail)
+operand_read w word text Hex = ok_or BadOperand (bytes_of_digits text) >>= λ tail. Ok (with_whole w word tail)
 operand_read w word text Signals = with_set w word (set_of signal_named all_signals text)
 operand_read w word text Faults = with_set w word (set_of fault_named all_faults text)
 operand_read w word text Calls = with_set w word (set_of call_named all_calls text)

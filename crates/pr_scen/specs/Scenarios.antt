@@ -5,7 +5,7 @@ use Rattle.pr_num.specs.Programs.{Program}
 use Rattle.pr_parts.specs.FileTables.{names_differ}
 use Rattle.pr_model.specs.FirstState.{mapped_at_start, stored_file}
 use Rattle.pr_model.specs.declared.events.Actor.{Actor}
-use Rattle.pr_scen.specs.Limits.{most_turns, most_programs, most_files, most_file, most_spawns, most_mapped, most_controllers, most_lists, most_scheduled}
+use Rattle.pr_num.specs.Limits.{turn_limit, program_limit, file_limit, file_size_limit, spawn_limit, all_mappings_limit, controller_limit, list_line_limit, schedule_limit}
 use Rattle.pr_scen.specs.Scripts.{ScriptState}
 use Rattle.pr_scen.specs.declared.plans.Plan.{Plan}
 use Rattle.pr_scen.specs.declared.plans.Plan.TheVariants.{Script, Truss, Tool}
@@ -48,26 +48,14 @@ lists_in (Tool kind pid) = 0
 -- is one of its programs.
 pub record IsWithinLimits (s : Scenario) : Type 0 where
   pub least : 1 ≤ s.turns
-  pub most : s.turns ≤ most_turns
-  pub programs : length s.programs ≤ most_programs
-  pub files : length s.files ≤ most_files
-  pub short : All (λ f. length f.1 ≤ most_file) s.files
+  pub most : s.turns ≤ turn_limit
+  pub programs : length s.programs ≤ program_limit
+  pub files : length s.files ≤ file_limit
+  pub short : All (λ f. length f.1 ≤ file_size_limit) s.files
   pub own_names : names_differ (map stored_file s.files) ≡ true
-  pub spawns : length s.spawns ≤ most_spawns
+  pub spawns : length s.spawns ≤ spawn_limit
   pub of_programs : All (λ place. place < length s.programs) s.spawns
-  pub mapped : mapped_at_start s.programs s.spawns ≤ most_mapped
-  pub controllers : length s.controllers ≤ most_controllers
-  pub lists : sum_by lists_in s.controllers ≤ most_lists
-  pub schedule : length s.schedule ≤ most_scheduled
-
--- ---- what is built
-
--- a controller that is neither a truss nor a tool
-abbrev pub IsBuiltPlan : Plan → Type 0
-IsBuiltPlan (Script s) = Unit {0}
-IsBuiltPlan (Truss options) = ⊥
-IsBuiltPlan (Tool kind pid) = ⊥
-
--- What also holds of every scenario that was read: no controller is a truss or a tool.
-pub record IsBuilt (s : Scenario) : Type 0 where
-  pub controllers : All IsBuiltPlan s.controllers
+  pub mapped : mapped_at_start s.programs s.spawns ≤ all_mappings_limit
+  pub controllers : length s.controllers ≤ controller_limit
+  pub lists : sum_by lists_in s.controllers ≤ list_line_limit
+  pub schedule : length s.schedule ≤ schedule_limit

@@ -6,8 +6,8 @@ use Rattle.std.specs.Str.{bytes_eq}
 use Rattle.pr_text.specs.Names.{name_of}
 use Rattle.pr_text.specs.NumberWords.{number_of, id_of}
 use Rattle.pr_text.specs.Steps.{◌>>=◌, ok_or, none, one, two, three, four, some}
-use Rattle.pr_scen.specs.Files.{file_of, mode_of}
-use Rattle.pr_scen.specs.Lines.{begins_comment}
+use Rattle.pr_model.specs.FileNames.{file_of_name, mode_of_name}
+use Rattle.pr_text.specs.Comments.{begins_comment}
 use Rattle.pr_scen.specs.Messages.{messages_of}
 use Rattle.pr_scen.specs.declared.script_blocks.InScript.{InScript}
 use Rattle.pr_scen.specs.declared.script_blocks.InScript.TheVariants.{Blank, Line}
@@ -37,9 +37,9 @@ open_of operands = do
   words ← four BadOperand operands
   name ← ok_or BadOperand (name_of words.0)
   place ← ok_or BadOperand (place_of_word words.1)
-  mode ← ok_or BadOperand (mode_of words.3)
+  mode ← ok_or BadOperand (mode_of_name words.3)
   _ ← ok_or BadOperand (name_of words.2)
-  file ← ok_or UnknownName (file_of words.2)
+  file ← ok_or UnknownName (file_of_name words.2)
   Ok (line.Open name place.0 place.1 file mode)
 
 -- close V

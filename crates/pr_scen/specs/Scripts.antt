@@ -5,7 +5,8 @@ use Rattle.pr_model.specs.declared.calls.Call.{Call}
 use Rattle.pr_model.specs.declared.calls.Call.TheVariants as call
 use Rattle.pr_model.specs.declared.calls.Reply.{Reply}
 use Rattle.pr_model.specs.declared.calls.Reply.TheVariants as reply
-use Rattle.pr_scen.specs.Bindings.{Bindings, no_handle, handle_of, bound, unbound}
+use Rattle.pr_model.specs.Replies.{handle_in}
+use Rattle.pr_scen.specs.Bindings.{Bindings, handle_of, bound, unbound}
 use Rattle.pr_scen.specs.declared.scripts.Present.{Present}
 use Rattle.pr_scen.specs.declared.scripts.Present.TheVariants.{Over, Opens, Writes, Other}
 use Rattle.pr_scen.specs.declared.script_lines.ScriptLine.{ScriptLine}
@@ -55,17 +56,6 @@ next_call_of s = call_at s (slice_get s.lines s.place)
 -- a line is over: the next line's call comes next
 unfoldable pub with_line_over : ScriptState → ScriptState
 with_line_over s = record s { place = s.place + 1; taken = 0; wait = None }
-
--- The handle of a reply to an open. A name whose open was refused stands for no handle.
-unfoldable pub handle_in : Reply → ℕ
-handle_in (reply.Handle handle) = handle
-handle_in reply.Done = no_handle
-handle_in (reply.Used n) = no_handle
-handle_in (reply.Half until) = no_handle
-handle_in (reply.Bytes bytes) = no_handle
-handle_in (reply.Pid pid) = no_handle
-handle_in (reply.Ready handle) = no_handle
-handle_in (reply.Fail errno) = no_handle
 
 -- a name stands for a handle from now on
 abbrev pub with_bound : ScriptState → List ℕ → ℕ → ScriptState

@@ -2,12 +2,14 @@
 use Rattle.std.specs.Prelude.{◌≡◌, ◌+◌, ℕ, true, List, [], ◌∷◌, ◌++◌, codes, length, map, Result, Ok}
 use Rattle.std.specs.List.{AllByRecursion, flat_map, join_with_byte}
 use Rattle.pr_asm.specs.Assembly.{assembled}
-use Rattle.pr_asm.specs.Spelling.{spaced, spelled, IsStatement}
+use Rattle.pr_asm.specs.Spelling.{spelled, IsStatement}
 use Rattle.pr_asm.specs.declared.statements.Statement.{Statement}
 use Rattle.pr_text.specs.Names.{is_name}
+use Rattle.pr_text.specs.SpacedWords.{spaced}
 use Rattle.pr_text.specs.Steps.{◌>>=◌, folded}
+use Rattle.pr_text.specs.TextLines.{newline}
 use Rattle.pr_scen.specs.Blocks.{numbered, first_of_both}
-use Rattle.pr_scen.specs.Drafts.{nothing, item_added, may_begin, with_program, call_added, with_script}
+use Rattle.pr_scen.specs.Drafts.{nothing, with_item, may_begin, with_program, call_added, with_script}
 use Rattle.pr_scen.specs.Encoding.{item_words, IsItem, line_words, IsLine}
 use Rattle.pr_scen.specs.Lines.{readable}
 use Rattle.pr_scen.specs.Reading.{finished}
@@ -43,7 +45,7 @@ piece_lines (script lines) = item_line item.Script ∷ (map script_line lines ++
 
 -- the text of pieces, a line after another
 abbrev pub text_of_pieces : List Piece → List ℕ
-text_of_pieces pieces = join_with_byte 10 (flat_map piece_lines pieces)
+text_of_pieces pieces = join_with_byte newline (flat_map piece_lines pieces)
 
 -- ---- what can be encoded
 
@@ -74,7 +76,7 @@ call_read n d l = numbered n (call_added d l)
 
 -- what a piece that begins at line n makes of what was read, or its line that is refused
 unfoldable pub piece_added : ℕ → Draft → Piece → Result Draft ScenFault
-piece_added n d (outside i) = numbered n (item_added n d i)
+piece_added n d (outside i) = numbered n (with_item d i)
 piece_added n d (program name statements) = do
   _ ← numbered n (may_begin d (item.Program name))
   made ← first_of_both (Ok tt) (assembled name (n + 1) (map Ok statements))

@@ -4,12 +4,10 @@ ghost use Rattle.pr_scen.specs.Bindings.{handle_of, bound, with_name, with_opene
 
 use crate::ScriptLine;
 use crate::name_indexes::Names;
+use pr_model::NO_HANDLE;
 use pr_num::{Name, NoMemory};
 use std::alloc::Global;
 use std::marker::Model;
-
-/// What a name stands for that is bound to no handle, and one whose open was refused.
-pub const NO_HANDLE: u32 = u32::MAX;
 
 /// The names that a script opens, each once, and the handle that each stands for. A name is found in logarithmic time.
 #[derive(Drop)]

@@ -129,16 +129,11 @@ fn program_read(
 impl Draft {
     /// Adds a line outside blocks.
     #[tactic(auto, unfolding(crate::specs::Blocks::line_added))]
-    fn add_words(
-        &mut self,
-        alloc: Global,
-        number: u32,
-        line: &[u8],
-    ) -> Result<(), Refused<ScenKind>>
-        ensures { Gives (λ _. self.new) result (line_added number self.old line.now) }
+    fn add_words(&mut self, alloc: Global, line: &[u8]) -> Result<(), Refused<ScenKind>>
+        ensures { Gives (λ _. self.new) result (line_added self.old line.now) }
     {
         let item = item_in(alloc, line)?;
-        self.add_item(number, item)
+        self.add_item(item)
     }
 
     /// Adds a line outside blocks, or names it as refused.
@@ -151,7 +146,7 @@ impl Draft {
     ) -> Result<(), ScenRefusal>
         ensures { Answers (λ _. self.new) result (part_added self.old (line number this.now)) }
     {
-        let added = self.add_words(alloc, number, this);
+        let added = self.add_words(alloc, this);
         at_line(number, added)
     }
 

@@ -2,17 +2,12 @@
 ghost use Rattle.std.specs.Prelude.{◌≡◌, ◌≤◌, ◌<◌, ◌++◌, ◌^◌, None, length, option_map, slice_get, IfSome, OnOk, nat_le, replicate};
 ghost use Rattle.pr_text.specs.Reads.{Gives};
 ghost use Rattle.pr_model.specs.FirstState.{first_size};
-ghost use Rattle.pr_scen.specs.Drafts.{nothing, noting, with_turns, with_file, with_process, with_spawn, with_controller, has_program, knows_program, with_truss, with_schedule, with_item, item_added, may_begin, with_program, with_line, call_added, script_line_added, with_script, made};
+ghost use Rattle.pr_scen.specs.Drafts.{nothing, with_turns, with_file, with_process, with_spawn, with_controller, has_program, knows_program, with_truss, with_schedule, with_item, may_begin, with_program, with_line, call_added, script_line_added, with_script, made};
 ghost use Rattle.pr_scen.specs.Names.{place_of};
 ghost use Rattle.pr_scen.specs.Schedules.{turn_count, actors_of};
 
-use crate::built::is_built_item;
 use crate::few_names::FewNames;
 use crate::items::Item;
-use crate::limits::{
-    DEFAULT_TURNS, MOST_CONTROLLERS, MOST_FILE, MOST_FILES, MOST_LISTS, MOST_MAPPED, MOST_PROGRAMS,
-    MOST_SCHEDULED, MOST_SPAWNS, MOST_TURNS,
-};
 use crate::schedules::Turns;
 use crate::script_blocks::InScript;
 use crate::script_lines::Lines;
@@ -20,6 +15,10 @@ use crate::{Plan, ScenKind, Scenario, Script, ScriptLine};
 use pr_asm::Program;
 use pr_line::Options;
 use pr_model::Actor;
+use pr_num::limits::{
+    ALL_MAPPINGS_LIMIT, CONTROLLER_LIMIT, DEFAULT_TURNS, FILE_LIMIT, FILE_SIZE_LIMIT,
+    LIST_LINE_LIMIT, PROGRAM_LIMIT, SCHEDULE_LIMIT, SPAWN_LIMIT, TURN_LIMIT,
+};
 use pr_num::{Bytes, Name, NoMemory, Table};
 use pr_text::Refused;
 use std::alloc::Global;
@@ -44,8 +43,6 @@ pub struct Draft {
     pub schedule: Table<Actor>,
     /// The lines of the script block so far; none outside one.
     pub lines: Lines,
-    /// The first line of a form that is not built.
-    pub unbuilt: Option<u32>,
 }
 
 /// How many bytes a process of a program has mapped when it begins: its text and its data, each a multiple of 4,096, and
@@ -77,17 +74,6 @@ impl Draft {
             lists: 0,
             schedule: Table::new(alloc),
             lines: Table::new(alloc),
-            unbuilt: None,
-        }
-    }
-
-    /// Remembers the first line of a form that is not built.
-    #[tactic(auto, unfolding(crate::specs::Drafts::noting))]
-    fn note(&mut self, line: u32, built: bool)
-        ensures { self.new ≡ noting line built self.old }
-    {
-        if !built && self.unbuilt.is_none() {
-            self.unbuilt = Some(line);
         }
     }
 
@@ -98,7 +84,7 @@ impl Draft {
         if self.turns.is_some() {
             return Err(Refused::Kind(ScenKind::Double));
         }
-        if n > MOST_TURNS {
+        if n > TURN_LIMIT {
             return Err(Refused::Kind(ScenKind::TooMany));
         }
         self.turns = Some(n as u32);
@@ -112,10 +98,10 @@ impl Draft {
         if self.file_names.place_of(name).is_some() {
             return Err(Refused::Kind(ScenKind::Double));
         }
-        if self.file_names.len() >= MOST_FILES {
+        if self.file_names.len() >= FILE_LIMIT {
             return Err(Refused::Kind(ScenKind::TooMany));
         }
-        if bytes.as_slice().len() > MOST_FILE {
+        if bytes.as_slice().len() as u64 > FILE_SIZE_LIMIT {
             return Err(Refused::Kind(ScenKind::TooBig));
         }
         self.file_names.add(name)?;
@@ -129,10 +115,10 @@ impl Draft {
         requires size { size ≤ 1048576 }
         ensures { Gives (λ _. self.new) result (with_process self.old place size) }
     {
-        if self.spawns.len() >= MOST_SPAWNS {
+        if self.spawns.len() >= SPAWN_LIMIT {
             return Err(Refused::Kind(ScenKind::TooMany));
         }
-        if self.mapped > MOST_MAPPED - size {
+        if self.mapped > ALL_MAPPINGS_LIMIT - size {
             return Err(Refused::Kind(ScenKind::TooBig));
         }
         self.spawns.push(place as u32)?;
@@ -166,7 +152,7 @@ impl Draft {
     fn add_controller(&mut self, plan: Plan) -> Result<(), Refused<ScenKind>>
         ensures { Gives (λ _. self.new) result (with_controller self.old plan) }
     {
-        if self.controllers.len() >= MOST_CONTROLLERS {
+        if self.controllers.len() >= CONTROLLER_LIMIT {
             return Err(Refused::Kind(ScenKind::TooMany));
         }
         self.controllers.push(plan)?;
@@ -204,7 +190,7 @@ impl Draft {
         ensures { Gives (λ _. self.new) result (with_schedule self.old turns.now) }
     {
         let len = self.schedule.len();
-        if len > MOST_SCHEDULED || !are_within(turns, (MOST_SCHEDULED - len) as u64) {
+        if len > SCHEDULE_LIMIT || !are_within(turns, (SCHEDULE_LIMIT - len) as u64) {
             return Err(Refused::Kind(ScenKind::TooMany));
         }
         put_turns(&mut self.schedule, turns)?;
@@ -213,7 +199,7 @@ impl Draft {
 
     /// Adds a line outside blocks. Those that begin a block are read with it.
     #[tactic(auto, unfolding(crate::specs::Drafts::with_item))]
-    fn add(&mut self, item: Item) -> Result<(), Refused<ScenKind>>
+    pub fn add_item(&mut self, item: Item) -> Result<(), Refused<ScenKind>>
         ensures { Gives (λ _. self.new) result (with_item self.old item) }
     {
         match item {
@@ -225,17 +211,6 @@ impl Draft {
             Item::Tool(kind, pid) => self.add_controller(Plan::Tool(kind, pid)),
             Item::Schedule(turns) => self.add_schedule(turns.as_slice()),
         }
-    }
-
-    /// Adds the item of a line, whose form may not be built.
-    #[tactic(auto, unfolding(crate::specs::Drafts::item_added))]
-    pub fn add_item(&mut self, line: u32, item: Item) -> Result<(), Refused<ScenKind>>
-        ensures { Gives (λ _. self.new) result (item_added line self.old item) }
-    {
-        let built = is_built_item(&item);
-        self.add(item)?;
-        self.note(line, built);
-        Ok(())
     }
 
     /// Whether a line that begins a block can: a program has a name of its own, and a script is within the limit.
@@ -257,7 +232,7 @@ impl Draft {
         if self.has_program(name) {
             return Err(ScenKind::Double);
         }
-        if self.program_names.len() >= MOST_PROGRAMS {
+        if self.program_names.len() >= PROGRAM_LIMIT {
             return Err(ScenKind::TooMany);
         }
         Ok(())
@@ -267,7 +242,7 @@ impl Draft {
     fn may_begin_script(&self) -> Result<(), ScenKind>
         ensures { result ≡ may_begin self.now Item.Script }
     {
-        if self.controllers.len() >= MOST_CONTROLLERS {
+        if self.controllers.len() >= CONTROLLER_LIMIT {
             return Err(ScenKind::TooMany);
         }
         Ok(())
@@ -296,7 +271,7 @@ impl Draft {
     fn add_list(&mut self) -> Result<(), Refused<ScenKind>>
         ensures { Gives (λ _. self.new) result (call_added self.old ScriptLine.List) }
     {
-        if self.lists >= MOST_LISTS {
+        if self.lists >= LIST_LINE_LIMIT {
             return Err(Refused::Kind(ScenKind::TooMany));
         }
         self.add_line(ScriptLine::List)?;

@@ -6,13 +6,13 @@ ghost use Rattle.pr_text.specs.Words.{texts_of};
 ghost use Rattle.pr_scen.specs.Items.{turns_of, file_of, program_of, spawn_of, script_of, truss_of, tool_line_of, schedule_of, item_with, item_of};
 
 use crate::ScenKind;
-use crate::files::tool_of;
-use crate::lines::begins_comment;
 use crate::schedules::{Turns, all_turns_of};
 use pr_line::{Options, has_bad_option, read_words};
-use pr_model::ToolKind;
+use pr_model::{ToolKind, process_tool_of_name};
 use pr_num::{Bytes, Name, NoMemory, Table};
-use pr_text::{Refused, Tokens, id_of, name_of, none, number_of, one, quoted_bytes, two};
+use pr_text::{
+    Refused, Tokens, begins_comment, id_of, name_of, none, number_of, one, quoted_bytes, two,
+};
 use std::alloc::Global;
 
 /// What a line outside blocks says.
@@ -158,7 +158,7 @@ fn process_tool(word: &[u8], id: &[u8]) -> Result<Item, ScenKind>
     if word == b"ptree".as_slice() {
         return Err(ScenKind::BadOperand);
     }
-    let kind = tool_of(word).ok_or(ScenKind::UnknownName)?;
+    let kind = process_tool_of_name(word).ok_or(ScenKind::UnknownName)?;
     Ok(Item::Tool(kind, pid))
 }
 

@@ -3,7 +3,7 @@ ghost use Rattle.std.specs.Prelude.{◌≡◌, ℕ, List, Ok, Err};
 ghost use Rattle.pr_scen.specs.BlockFaults.{IsLeastInBlock};
 ghost use Rattle.pr_scen.specs.Blocks.{part_added};
 ghost use Rattle.pr_scen.specs.Division.{EncodeScenario, IsFirstFault};
-ghost use Rattle.pr_asm.specs.Spelling.{spaced};
+ghost use Rattle.pr_text.specs.SpacedWords.{spaced};
 ghost use Rattle.pr_asm.specs.declared.statements.Statement.{Statement};
 ghost use Rattle.pr_text.specs.Words.{texts_of};
 ghost use Rattle.std.specs.List.{AllByRecursion};

@@ -4,13 +4,10 @@
 
 mod bindings;
 mod blocks;
-mod built;
 mod drafts;
 mod few_names;
-mod files;
 mod items;
 mod laws;
-mod limits;
 mod lines;
 mod message_lists;
 mod message_words;

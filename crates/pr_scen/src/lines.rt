@@ -1,11 +1,11 @@
 //! Lines before their words are looked at, and the lines that begin and end blocks.
 ghost use Rattle.std.specs.Prelude.{◌≡◌, ◌≤◌, length, OnOk};
 ghost use Rattle.pr_text.specs.Words.{texts_of};
-ghost use Rattle.pr_scen.specs.Lines.{is_ascii, readable, begins_comment, first_is, is_end};
+ghost use Rattle.pr_scen.specs.Lines.{is_ascii, readable, first_is, is_end};
 ghost use Rattle.pr_scen.specs.Parts.{begins_block};
 
 use crate::ScenKind;
-use crate::limits::MOST_LINE;
+use pr_num::limits::LINE_LIMIT;
 use pr_text::Tokens;
 
 #[tactic(auto, unfolding(crate::specs::Lines::is_ascii))]
@@ -21,24 +21,13 @@ pub fn readable(line: &[u8]) -> Result<(), ScenKind>
     ensures value { result ≡ readable line.now }
     ensures short { OnOk result (length line.now ≤ 4096) }
 {
-    if line.len() > MOST_LINE {
+    if line.len() > LINE_LIMIT {
         return Err(ScenKind::TooLong);
     }
     if !is_ascii(line) {
         return Err(ScenKind::NotAscii);
     }
     Ok(())
-}
-
-/// Whether a word makes its line a comment, where it is the first.
-#[tactic(auto, unfolding(crate::specs::Lines::begins_comment))]
-pub fn begins_comment(word: &[u8]) -> bool
-    ensures { result ≡ begins_comment word.now }
-{
-    match word.first() {
-        Some(b) => *b == b'#',
-        None => false,
-    }
 }
 
 /// Whether the first of a line's words is this one.

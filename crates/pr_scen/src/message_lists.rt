@@ -1,66 +1,16 @@
-//! Operands of messages: bytes in hex, sets, modes and run flags.
-ghost use Rattle.std.specs.Prelude.{◌≡◌, ◌<◌, ◌≤◌, ◌∷◌, length, map, option_map, IfOk, IfSome, MatchOption};
+//! Operands of messages: sets, modes and run flags.
+ghost use Rattle.std.specs.Prelude.{◌≡◌, map, IfOk};
 ghost use Rattle.std.specs.List.{list_all};
 ghost use Rattle.std.specs.Result.{result_map_both};
 ghost use Rattle.pr_text.specs.Names.{is_name};
-ghost use Rattle.pr_scen.specs.MessageLists.{low_digit, byte_of, hex_of, named_set, set_of, mode_word, with_modes, modes_of, flag_of};
+ghost use Rattle.pr_scen.specs.MessageLists.{named_set, set_of, mode_word, with_modes, modes_of, flag_of};
 
 use crate::ScenKind;
 use pr_line::{Entries, named_entries};
 use pr_msg::RunFlags;
 use pr_num::{Modes, NoMemory};
-use pr_text::{digit_of, name_of, parts_of};
+use pr_text::{name_of, parts_of};
 use std::alloc::Global;
-
-/// The value of a hex digit in lower case.
-#[tactic(auto, unfolding(crate::specs::MessageLists::low_digit))]
-fn low_digit(b: u8) -> Option<u8>
-    ensures value { result ≡ low_digit b }
-    ensures range { IfSome result (λ d. d < 16) }
-{
-    if matches!(b, b'A'..=b'F') {
-        return None;
-    }
-    digit_of(b)
-}
-
-/// The byte of two hex digits.
-#[tactic(auto, unfolding(crate::specs::MessageLists::byte_of))]
-fn byte_of(high: u8, low: u8) -> Option<u8>
-    ensures { result ≡ byte_of high low }
-{
-    Some(low_digit(high)? * 16 + low_digit(low)?)
-}
-
-/// The first two bytes of a text, and those after them.
-fn two_digits(text: &[u8]) -> Option<(u8, u8, &[u8])>
-    ensures { MatchOption result (length text.now ≤ 1) (λ x. text.now ≡ x.0 ∷ x.1 ∷ x.2.now) }
-{
-    let (high, rest) = text.split_first()?;
-    let (low, rest) = rest.split_first()?;
-    Some((*high, *low, rest))
-}
-
-/// The bytes of a word in hex, two digits in lower case each.
-#[tactic(auto, unfolding(crate::specs::MessageLists::hex_of, crate::specs::MessageLists::hex_from))]
-pub fn hex_of(alloc: Global, word: &[u8]) -> Result<Option<Vec<u8>>, NoMemory>
-    ensures { IfOk result (λ bytes. option_map (λ v. v.items) bytes ≡ hex_of word.now) }
-{
-    let mut bytes = Vec::new(alloc);
-    let mut rest = word;
-    while let Some((high, low, after)) = two_digits(rest) {
-        let Some(byte) = byte_of(high, low) else {
-            return Ok(None);
-        };
-        bytes.push(byte)?;
-        rest = after;
-    }
-    if rest.is_empty() {
-        Ok(Some(bytes))
-    } else {
-        Ok(None)
-    }
-}
 
 /// Whether each of these words has the form of a name.
 fn are_names(words: &[&[u8]]) -> bool

@@ -3,31 +3,17 @@ ghost use Rattle.std.specs.Prelude.{◌≡◌, ◌+◌, ◌<◌, ◌≤◌, ◌^
 ghost use Rattle.std.specs.List.{position_from};
 ghost use Rattle.pr_scen.specs.Lines.{is_end};
 ghost use Rattle.pr_scen.specs.Parts.{begins_block};
-ghost use Rattle.pr_scen.specs.Reading.{lines_of, draft_in, finished, scenario_in, scenario_of};
+ghost use Rattle.pr_scen.specs.Reading.{draft_in, scenario_in, scenario_of};
 ghost use Rattle.pr_scen.specs.Reads.{Answers};
-ghost use Rattle.pr_scen.specs.Scenarios.{IsBuilt, IsWithinLimits};
+ghost use Rattle.pr_scen.specs.Scenarios.{IsWithinLimits};
 ghost use Rattle.pr_scen.specs.Taken.{PartTaken};
 
 use crate::drafts::Draft;
 use crate::lines::{begins_block, is_end};
 use crate::{ScenFault, ScenKind, ScenRefusal, Scenario};
 use pr_num::NoMemory;
-use std::alloc::{AllocError, Global};
-
-/// The lines of a text: a newline ends a line, and the last line may lack it.
-fn lines_of(alloc: Global, text: &[u8]) -> Result<Vec<&[u8]>, AllocError>
-    ensures { IfOk result (λ lines. map (λ line. line.now) lines.items ≡ lines_of text.now) }
-{
-    text.split(|b| *b == b'\n').collect(alloc)
-}
-
-/// The same, where out of memory is this repository's own.
-fn split_lines(alloc: Global, text: &[u8]) -> Result<Vec<&[u8]>, NoMemory>
-    ensures { IfOk result (λ lines. map (λ line. line.now) lines.items ≡ lines_of text.now) }
-{
-    let lines = lines_of(alloc, text)?;
-    Ok(lines)
-}
+use pr_text::split_lines;
+use std::alloc::Global;
 
 /// Which of these lines ends a block first.
 fn end_of(lines: &[&[u8]]) -> Option<usize>
@@ -81,18 +67,6 @@ impl Draft {
         self.add_outer_line(alloc, number, first)?;
         Ok(1)
     }
-
-    /// What was read, as a scenario, unless a line of it is not built.
-    #[tactic(auto, unfolding(crate::specs::Reading::finished))]
-    fn finish(self) -> Result<Scenario, ScenRefusal>
-        ensures { Answers (λ s. s) result (finished self) }
-    {
-        if let Some(line) = self.unbuilt {
-            let kind = ScenKind::NotBuilt;
-            return Err(ScenRefusal::Fault(ScenFault { line, kind }));
-        }
-        Ok(self.make())
-    }
 }
 
 /// The lines from a place on.
@@ -125,7 +99,7 @@ fn read_lines(alloc: Global, lines: &[&[u8]]) -> Result<Scenario, ScenRefusal>
     requires { length lines.now + 1 < 2 ^ 32 }
     ensures { Answers (λ s. s) result (scenario_in (map (λ line. line.now) lines.now)) }
 {
-    read_parts(alloc, lines)?.finish()
+    Ok(read_parts(alloc, lines)?.make())
 }
 
 /// The scenario that a text spells, or its first line that is refused.
@@ -138,14 +112,13 @@ fn read_text(alloc: Global, text: &[u8]) -> Result<Scenario, ScenRefusal>
 }
 
 /// The scenario that a text spells, or its first line that is refused. Lines count from 1. What is read keeps each limit of
-/// a scenario, and has only forms that are built.
+/// a scenario.
 ///
 /// Takes time linear in the text, but for the logarithm of the number of names.
 pub fn read_scenario(alloc: Global, text: &[u8]) -> Result<Scenario, ScenRefusal>
     requires { length text.now + 2 < 2 ^ 32 }
     ensures read { Answers (λ s. s) result (scenario_of text.now) }
     ensures limits { IfOk result (λ s. IsWithinLimits s) }
-    ensures built { IfOk result (λ s. IsBuilt s) }
 {
     read_text(alloc, text)
 }

@@ -23,8 +23,6 @@ pub enum ScenKind {
     TooBig,
     /// The line begins a block that has no end.
     NoEnd,
-    /// The line is accepted, and its controller is a truss or a tool, which are not built.
-    NotBuilt,
 }
 
 /// The first line of a scenario that is refused, counted from 1, and why.

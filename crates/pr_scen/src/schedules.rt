@@ -1,32 +1,19 @@
 //! The actors of a schedule.
-ghost use Rattle.std.specs.Prelude.{◌≡◌, ◌==◌, [], map, IfOk};
-ghost use Rattle.std.specs.List.{slice_split};
+ghost use Rattle.std.specs.Prelude.{◌≡◌, [], map, IfOk};
 ghost use Rattle.pr_text.specs.Reads.{Gives};
 ghost use Rattle.pr_scen.specs.Schedules.{lwp_from, numbered_actor, actor_of, turns_at, turns_from, turns_of, with_turns_of};
 
 use crate::ScenKind;
 use pr_model::Actor;
 use pr_num::{NoMemory, Table};
-use pr_text::{Refused, Tokens, id_of, number_of};
-use std::alloc::{AllocError, Global};
+use pr_text::{Refused, Tokens, id_of, number_of, pieces_of};
+use std::alloc::Global;
 
 /// So many turns of an actor.
 #[derive(Clone, Copy)]
 pub struct Turns {
     pub actor: Actor,
     pub times: u64,
-}
-
-fn split_ids(alloc: Global, word: &[u8]) -> Result<Vec<&[u8]>, AllocError>
-    ensures { IfOk result (λ ids. map (λ id. id.now) ids.items ≡ slice_split (λ b. b == 47) word.now) }
-{
-    word.split(|b| *b == b'/').collect(alloc)
-}
-
-fn split_times(alloc: Global, word: &[u8]) -> Result<Vec<&[u8]>, AllocError>
-    ensures { IfOk result (λ parts. map (λ part. part.now) parts.items ≡ slice_split (λ b. b == 42) word.now) }
-{
-    word.split(|b| *b == b'*').collect(alloc)
 }
 
 /// An lwp of a process, by its two ids.
@@ -50,7 +37,7 @@ fn numbered_actor(alloc: Global, word: &[u8]) -> Result<Option<Actor>, NoMemory>
     if *first == b'c' {
         return Ok(id_of(rest).map(|k| Actor::Controller(k)));
     }
-    let ids = split_ids(alloc, word)?;
+    let ids = pieces_of(alloc, word, b'/')?;
     Ok(lwp_from(&ids))
 }
 
@@ -91,7 +78,7 @@ fn turns_from(alloc: Global, parts: &[&[u8]]) -> Result<Option<Turns>, NoMemory>
 fn turns_of(alloc: Global, word: &[u8]) -> Result<Option<Turns>, NoMemory>
     ensures { IfOk result (λ turns. turns ≡ turns_of word.now) }
 {
-    let parts = split_times(alloc, word)?;
+    let parts = pieces_of(alloc, word, b'*')?;
     turns_from(alloc, &parts)
 }
 

@@ -1,17 +1,18 @@
 //! The lines of a script block, each read on its own.
-ghost use Rattle.std.specs.Prelude.{◌≡◌, ◌==◌, [], map, IfOk};
-ghost use Rattle.std.specs.List.{slice_split};
+ghost use Rattle.std.specs.Prelude.{◌≡◌, [], map, IfOk};
 ghost use Rattle.pr_text.specs.Reads.{Gives};
 ghost use Rattle.pr_text.specs.Words.{texts_of};
 ghost use Rattle.pr_scen.specs.ScriptLines.{place_from, place_of_word, open_of, close_of, read_of, with_names, poll_of, write_of, interrupt_of, spawn_of, kill_of, until_of, list_of, call_with, script_line_of};
 
-use crate::files::{file_of, mode_of};
-use crate::lines::begins_comment;
 use crate::writes::messages_of;
 use crate::{ScenKind, ScriptLine};
+use pr_model::{file_of_name, mode_of_name};
 use pr_num::{Name, NoMemory, Table};
-use pr_text::{Refused, Tokens, four, id_of, name_of, none, number_of, one, some, three, two};
-use std::alloc::{AllocError, Global};
+use pr_text::{
+    Refused, Tokens, begins_comment, four, id_of, name_of, none, number_of, one, pieces_of, some,
+    three, two,
+};
+use std::alloc::Global;
 
 /// What a line of a script block says.
 #[derive(Drop)]
@@ -19,12 +20,6 @@ pub enum InScript {
     /// Nothing: a comment, or a line without words.
     Blank,
     Line(ScriptLine),
-}
-
-fn split_ids(alloc: Global, word: &[u8]) -> Result<Vec<&[u8]>, AllocError>
-    ensures { IfOk result (λ ids. map (λ id. id.now) ids.items ≡ slice_split (λ b. b == 47) word.now) }
-{
-    word.split(|b| *b == b'/').collect(alloc)
 }
 
 /// The process of one id, or the lwp of two; lwp 0 stands for the process.
@@ -43,7 +38,7 @@ fn place_from(ids: &[&[u8]]) -> Option<(u32, u32)>
 fn place_of_word(alloc: Global, word: &[u8]) -> Result<Option<(u32, u32)>, NoMemory>
     ensures { IfOk result (λ place. place ≡ place_of_word word.now) }
 {
-    let ids = split_ids(alloc, word)?;
+    let ids = pieces_of(alloc, word, b'/')?;
     Ok(place_from(&ids))
 }
 
@@ -55,9 +50,9 @@ fn open_of(alloc: Global, operands: Tokens) -> Result<ScriptLine, Refused<ScenKi
     let (name, place, file, mode) = four(operands, ScenKind::BadOperand)?;
     let name = name_of(name).ok_or(ScenKind::BadOperand)?;
     let (pid, lwp) = place_of_word(alloc, place)?.ok_or(ScenKind::BadOperand)?;
-    let mode = mode_of(mode).ok_or(ScenKind::BadOperand)?;
+    let mode = mode_of_name(mode).ok_or(ScenKind::BadOperand)?;
     name_of(file).ok_or(ScenKind::BadOperand)?;
-    let file = file_of(file).ok_or(ScenKind::UnknownName)?;
+    let file = file_of_name(file).ok_or(ScenKind::UnknownName)?;
     Ok(ScriptLine::Open {
         name,
         pid,

@@ -1,13 +1,14 @@
 //! A script as a controller of the kernel.
 ghost use Rattle.std.specs.Prelude.{◌≡◌, ◌<◌, [], drop, length, map, slice_get, Ok, IfOk};
+ghost use Rattle.pr_model.specs.Replies.{handle_in};
 ghost use Rattle.pr_scen.specs.Bindings.{handle_of};
-ghost use Rattle.pr_scen.specs.Scripts.{first_script, next_call_of, call_of, write_call, fed, with_line_over, with_bound, with_taken, with_ctl_answered, with_wait_answered, with_write_answered, handle_in, present_of, with_answer};
+ghost use Rattle.pr_scen.specs.Scripts.{first_script, next_call_of, call_of, write_call, fed, with_line_over, with_bound, with_taken, with_ctl_answered, with_wait_answered, with_write_answered, present_of, with_answer};
 
 use crate::ScriptLine;
-use crate::bindings::{Bindings, NO_HANDLE};
+use crate::bindings::Bindings;
 use crate::script_lines::Lines;
 use pr_asm::Program;
-use pr_model::{Call, Reply};
+use pr_model::{Call, Reply, handle_in};
 use pr_num::{Bytes, Handles, Name, NoMemory};
 use std::alloc::Global;
 use std::marker::Model;
@@ -49,24 +50,13 @@ enum Present {
 }
 
 /// The bytes from a place on, none where the place is past them.
-fn bytes_from(bytes: &[u8], place: usize) -> &[u8]
+fn bytes_left(bytes: &[u8], place: usize) -> &[u8]
     ensures { result.now ≡ drop place bytes.now }
 {
     if place < bytes.len() {
         &bytes[place..]
     } else {
         &[]
-    }
-}
-
-/// The handle of a reply to an open.
-#[tactic(auto, unfolding(crate::specs::Scripts::handle_in))]
-fn handle_in(reply: &Reply) -> u32
-    ensures { result ≡ handle_in reply.now }
-{
-    match reply {
-        Reply::Handle(handle) => *handle,
-        _ => NO_HANDLE,
     }
 }
 
@@ -151,7 +141,7 @@ impl Script {
     fn write_call(&self, alloc: Global, handle: u32, bytes: &[u8]) -> Result<Call, NoMemory>
         ensures { IfOk result (λ call. call ≡ write_call self.now.wait handle (drop self.now.taken bytes.now)) }
     {
-        let left = bytes_from(bytes, self.taken);
+        let left = bytes_left(bytes, self.taken);
         let bytes = Bytes::from_vec(Vec::from_slice(alloc, left)?);
         Ok(match self.wait {
             None => Call::Ctl { handle, bytes },

@@ -7,12 +7,12 @@ ghost use Rattle.pr_scen.specs.MessageWords.{operands_of};
 ghost use Rattle.pr_scen.specs.Messages.{nothing_written, with_whole, if_whole, with_number_operand, with_set, operand_read, run_over, message_begun, word_begun, flag_or_word, in_message, word_written, whole_bytes, write_over, messages_of};
 
 use crate::ScenKind;
-use crate::message_lists::{flag_of, hex_of, modes_of, set_of};
+use crate::message_lists::{flag_of, modes_of, set_of};
 use crate::message_words::{MessageWord, Operand, bytes_of, message_word_of, operands_of};
 use pr_line::Entries;
 use pr_msg::{Message, RunFlags, encode};
 use pr_num::{Bytes, FltSet, NoMemory, SigSet, SysSet};
-use pr_text::{Refused, Tokens, number_of};
+use pr_text::{Refused, Tokens, bytes_of_digits, number_of};
 use std::alloc::Global;
 use std::marker::Model;
 
@@ -120,8 +120,8 @@ impl Writing {
                 Ok(self.take_number(alloc, word, n)?)
             }
             Operand::Hex => {
-                let tail = hex_of(alloc, text)?.ok_or(ScenKind::BadOperand)?;
-                Ok(self.end_message(alloc, word, &tail)?)
+                let tail = bytes_of_digits(alloc, text)?.ok_or(ScenKind::BadOperand)?;
+                Ok(self.end_message(alloc, word, tail.as_slice())?)
             }
             Operand::Signals => {
                 let set = set_of::<SigSet>(alloc, text)?;

@@ -18,7 +18,8 @@ use Rattle.pr_world.specs.Controllers.{after_reply, call_by, feed_at, is_clock_a
 use Rattle.pr_world.specs.Moves.{Does, IsMachines, IsShaped, Leads, Moves}
 use Rattle.pr_world.specs.Protocol.{controllers_after}
 use Rattle.pr_world.specs.Worlds.{WorldOf, WorldState, can_act, is_answered, seen}
-use Rattle.pr_world.specs.declared.controllers.Controller.{Controller as Core}
+use Rattle.pr_world.specs.Answered.{Answered}
+use Rattle.pr_world.specs.Cores.{Core}
 
 -- A step of the kernel makes a move of the world.
 
@@ -76,6 +77,14 @@ acts-call w k h = of (call_by w.controllers k) refl h
     of : (o : Option Call) → call_by w.controllers k ≡ o → is_answered w.kernel k o ≡ true → HasCall w k
     of None is h = cc
     of (Some c) is h = record { call = c; next = is; ready = h }
+
+-- a call that is answered is one, and ready
+pub answered-some : (kernel : KernelView) (k : ℕ) (o : Option Call) → is_answered kernel k o ≡ true → IsSome o
+answered-some kernel k None h = cc
+answered-some kernel k (Some c) h = refl
+
+pub answered-ready : (kernel : KernelView) (k : ℕ) (o : Option Call) (c : Call) → o ≡ Some c → is_answered kernel k o ≡ true → kernel.is_ready k c ≡ true
+answered-ready kernel k o c is h = ap (is_answered kernel k) (sym is) ∙ h
 
 -- a controller that is fed
 get-at : (controllers : List Core) (k : ℕ) (c : Core) → k < length controllers → c ≡ slice_index_or controllers k c → slice_get controllers k ≡ Some c
@@ -212,26 +221,31 @@ module _ {K : Type 0} (view : K → KernelView) (lawful : (k : K) → IsLawful (
     here : can_act (seen view inside) (Controller k) ≡ true
     here = ap (λ (x : WorldOf K). can_act (seen view x) (Controller k)) is ∙ acts
 
-    pub some_call : (o : Option Call) → o ≡ call_by w.controllers k → IsSome o
-    some_call o value =
-        let h = acts-call (seen view w) k acts in
-        let P : Option Call → Type 0 = λ x. IsSome x in
-        subst P (sym (value ∙ h.next)) refl
-
     module _ (c : Call) (next : call_by w.controllers k ≡ Some c) where
       next_here : call_by inside.controllers k ≡ Some c
       next_here = ap (λ (x : WorldOf K). call_by x.controllers k) is ∙ next
 
-      pub call-within : k < length inside.controllers
-      call-within = with_call inside.controllers k c next_here
-
-      pub call-ready : (view inside.kernel).is_ready k c ≡ true
-      call-ready =
-          let h = acts-call (seen view inside) k here in
-          let same : h.call ≡ c = same_Some h.call c (sym h.next ∙ next_here) in
-          ap ((view inside.kernel).is_ready k) (sym same) ∙ h.ready
-
-      pub controller-moved : (kern : K) (r : Reply) (fed : List Core) → IsCalled k c (view inside.kernel) (view kern) → last_reply_of (view kern).history ≡ Some r → fed ≡ with_fed k r inside.controllers → Moves (seen view w) (Controller k) (seen view (record inside { kernel = kern; controllers = fed }))
+      controller-moved : (kern : K) (r : Reply) (fed : List Core) → IsCalled k c (view inside.kernel) (view kern) → last_reply_of (view kern).history ≡ Some r → fed ≡ with_fed k r inside.controllers → Moves (seen view w) (Controller k) (seen view (record inside { kernel = kern; controllers = fed }))
       controller-moved kern r fed called reply feeds =
           subst (λ (x : WorldOf K). Moves (seen view x) (Controller k) (seen view (record inside { kernel = kern; controllers = fed }))) is
           (controller-moves (seen view inside) (seen view (record inside { kernel = kern; controllers = fed })) k c r here next_here called reply feeds refl refl (lawful kern))
+
+    -- who can move is one of the controllers
+    pub acts-within : k < length inside.controllers
+    acts-within = let h = acts-call (seen view inside) k here in with_call inside.controllers k h.call h.next
+
+    module _ (x : Core) (at : x ≡ slice_index_or inside.controllers k x) where
+      call-here : call_by inside.controllers k ≡ next_call x
+      unfolding call_by
+      call-here = ap (option_and_then next_call) (get-at inside.controllers k x acts-within at)
+
+      -- its call is answered
+      pub acts-answered : is_answered (view inside.kernel) k (next_call x) ≡ true
+      unfolding can_act
+      acts-answered = ap (is_answered (view inside.kernel) k) (sym call-here) ∙ here
+
+      -- and when it was, the controller has moved
+      pub answered-moved : (kern : K) (new : Core) → Answered k (view inside.kernel) (view kern) x new → Moves (seen view w) (Controller k) (seen view (record inside { kernel = kern; controllers = slice_set inside.controllers k new }))
+      answered-moved kern new a =
+          let next : call_by w.controllers k ≡ Some a.call = ap (λ (y : WorldOf K). call_by y.controllers k) (sym is) ∙ call-here ∙ a.next in
+          controller-moved a.call next kern a.reply _ a.called a.replied (fed-set inside.controllers k a.reply x new acts-within at a.fed)

@@ -11,7 +11,7 @@ use Rattle.pr_model.specs.declared.events.Actor.TheVariants.{Controller, Lwp, Cl
 use Rattle.pr_model.specs.declared.events.Entry.{Entry}
 use Rattle.pr_world.specs.Controllers.{after_reply, feed_at, with_fed}
 use Rattle.pr_world.specs.Protocol.{AreNextCalls, Follows, FollowsAt, IsNextCall, controllers_after, controllers_at}
-use Rattle.pr_world.specs.declared.controllers.Controller.{Controller as Core}
+use Rattle.pr_world.specs.Cores.{Core}
 
 -- Histories grow at their end: what the protocol says of one that is an entry longer.
 

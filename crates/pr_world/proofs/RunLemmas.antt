@@ -17,7 +17,7 @@ use Rattle.pr_world.specs.Moves.{Does, IsMachines, IsShaped, Leads, Moves, after
 use Rattle.pr_world.specs.Protocol.{FollowsAt, IsNextCall, controllers_after, controllers_at}
 use Rattle.pr_world.specs.Runs.{CameFrom, IsFresh, IsMachineRun, IsTold, LedFrom, RunsFor, StepLeads, Steps, after_moves, after_next, moved_by, or_unmoved}
 use Rattle.pr_world.specs.Worlds.{Pick, WorldState, actor_of, can_act, next_actor, next_pick, with_pick}
-use Rattle.pr_world.specs.declared.controllers.Controller.{Controller as Core}
+use Rattle.pr_world.specs.Cores.{Core}
 use Rattle.pr_world.proofs.MoveLemmas.{told-clock}
 use Rattle.pr_world.proofs.ProtocolLemmas.{AreNextCalls-push, Follows-push, controllers_at-count, controllers_at-push}
 use Rattle.pr_world.proofs.RestLemmas.{pick-acts}

@@ -19,7 +19,7 @@ use Rattle.pr_world.specs.Controllers.{call_by, is_clock_awaited, with_fed}
 use Rattle.pr_world.specs.Moves.{Does, IsMachines, Leads, after_call_by, entry_of, move_in, with_answer, with_entry, with_tick, with_turn}
 use Rattle.pr_world.specs.Protocol.{controllers_after}
 use Rattle.pr_world.specs.Worlds.{WorldState, can_act}
-use Rattle.pr_world.specs.declared.controllers.Controller.{Controller as Core}
+use Rattle.pr_world.specs.Cores.{Core}
 use Rattle.pr_world.proofs.MoveLemmas.{acts-call, clock-leads, controller-leads, lwp-leads, told-clock}
 
 -- Over a machine that is told a move is a function of the world.

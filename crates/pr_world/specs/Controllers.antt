@@ -5,24 +5,33 @@ use Rattle.pr_model.specs.Legal.{clock_limit}
 use Rattle.pr_model.specs.declared.calls.Call.{Call}
 use Rattle.pr_model.specs.declared.calls.Call.TheVariants as call
 use Rattle.pr_model.specs.declared.calls.Reply.{Reply}
-use Rattle.pr_scen.specs.Scripts.{next_call_of, fed}
-use Rattle.pr_world.specs.declared.controllers.Controller.{Controller as Core}
-use Rattle.pr_world.specs.declared.controllers.Controller.TheVariants.{Script}
+use Rattle.pr_scen.specs.Scripts as script
+use Rattle.pr_tools.specs.Tools as tool
+use Rattle.pr_truss.specs.NextCalls as truss_calls
+use Rattle.pr_truss.specs.Feeding as truss_replies
+use Rattle.pr_truss.specs.Printing as truss_text
+use Rattle.pr_world.specs.Cores.{Core, Script, Truss, Tool}
 
 -- The controllers of a world. Each is a core that knows the machine by replies alone: it says which call it makes next,
 -- and is fed the reply.
 
 -- the call that a core makes next; none where it has finished
 unfoldable pub next_call : Core → Option Call
-next_call (Script s) = next_call_of s
+next_call (Script s) = script.next_call_of s
+next_call (Truss t) = truss_calls.next_call_of t
+next_call (Tool t) = tool.next_call_of t
 
 -- a core that was fed the reply to its call
 unfoldable pub after_reply : Core → Reply → Core
-after_reply (Script s) r = Script (fed s r)
+after_reply (Script s) r = Script (script.fed s r)
+after_reply (Truss t) r = Truss (truss_replies.fed t r)
+after_reply (Tool t) r = Tool (tool.fed t r)
 
--- what a core prints at the end of a run; a script prints nothing
+-- what a core prints at the end of a run, where the machine has these programs; a script prints nothing
 unfoldable pub printed : Core → List Program → List ℕ
 printed (Script s) programs = []
+printed (Truss t) programs = truss_text.printed t
+printed (Tool t) programs = tool.printed t programs
 
 unfoldable pub has_finished : Core → Bool
 has_finished c = is_none (next_call c)

@@ -1,4 +1,6 @@
+pub mod Answered
 pub mod Controllers
+pub mod Cores
 pub mod Moves
 pub mod Protocol
 pub mod Runs

@@ -9,7 +9,7 @@ use Rattle.pr_model.specs.declared.events.Actor.{Actor}
 use Rattle.pr_model.specs.declared.events.Actor.TheVariants.{Controller, Clock}
 use Rattle.pr_model.specs.declared.events.Entry.{Entry}
 use Rattle.pr_world.specs.Controllers.{call_by, is_clock_awaited, with_fed}
-use Rattle.pr_world.specs.declared.controllers.Controller.{Controller as Core}
+use Rattle.pr_world.specs.Cores.{Core}
 
 -- The controller protocol: in a history each controller makes the calls that it makes after the replies that it got so
 -- far, and the clock goes on only where somebody waits for it. What lwps do is their own.

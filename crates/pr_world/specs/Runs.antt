@@ -6,7 +6,7 @@ use Rattle.pr_model.specs.declared.events.Entry.{Entry}
 use Rattle.pr_world.specs.Moves.{Leads, Moves, after_move}
 use Rattle.pr_world.specs.Protocol.{AreNextCalls, Follows, controllers_at}
 use Rattle.pr_world.specs.Worlds.{Pick, WorldState, next_pick, with_pick}
-use Rattle.pr_world.specs.declared.controllers.Controller.{Controller as Core}
+use Rattle.pr_world.specs.Cores.{Core}
 
 -- Runs of a world.
 

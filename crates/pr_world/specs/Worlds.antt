@@ -6,7 +6,7 @@ use Rattle.pr_model.specs.declared.events.Actor.{Actor}
 use Rattle.pr_model.specs.declared.events.Actor.TheVariants.{Controller, Lwp, Clock}
 use Rattle.pr_api.specs.Views.{KernelView, next_of}
 use Rattle.pr_world.specs.Controllers.{call_by, has_finished, is_clock_awaited}
-use Rattle.pr_world.specs.declared.controllers.Controller.{Controller as Core}
+use Rattle.pr_world.specs.Cores.{Core}
 use Rattle.pr_world.specs.declared.ends.End.{End}
 use Rattle.pr_world.specs.declared.ends.End.TheVariants.{Quiet, Spent, Stuck}
 

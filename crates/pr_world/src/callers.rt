@@ -1,17 +1,19 @@
 //! A controller, and the call that it makes next, which is made once after each reply.
-ghost use Rattle.std.specs.Prelude.{◌≡◌, IfOk};
-ghost use Rattle.pr_world.specs.Controllers.{after_reply, awaits_clock, has_finished, next_call, wait_end_of};
+ghost use Rattle.std.specs.Prelude.{◌≡◌, ◌<◌, true, length, IfOk, OnErr, OnOk};
+ghost use Rattle.pr_world.specs.Answered.{Answered};
+ghost use Rattle.pr_world.specs.Controllers.{awaits_clock, has_finished, next_call, printed, wait_end_of};
+ghost use Rattle.pr_world.specs.Cores.{core_of};
 ghost use Rattle.pr_world.specs.Worlds.{is_answered};
 
 use crate::Controller;
 use pr_api::Kernel;
 use pr_asm::Program;
-use pr_model::{Call, Reply};
+use pr_model::Call;
 use pr_num::{Bytes, NoMemory};
 use std::alloc::Global;
 use std::marker::Model;
 
-/// A controller, seen by contracts alone. Beside it stands its next call, once that was made: what is asked of a
+/// A controller, seen by contracts as its core. Beside it stands its next call, once that was made: what is asked of a
 /// controller is asked of that call, and takes no memory then.
 #[derive(Drop)]
 pub struct Caller {
@@ -23,13 +25,13 @@ pub struct Caller {
 impl Model for Caller {
     ghost use Rattle.std.specs.Prelude.{◌≡◌, IfSome};
     ghost use Rattle.pr_world.specs.Controllers.{next_call};
-    ghost use Rattle.pr_world.specs.declared.controllers.Controller.{Controller};
+    ghost use Rattle.pr_world.specs.Cores.{Core, core_of};
 
-    ghost Value = { Controller };
+    ghost Value = { Core };
 
-    ghost view = { λ a. a.controller };
+    ghost view = { λ a. core_of a.controller };
 
-    ghost invariant = { λ a. IfSome a.next (λ call. call ≡ next_call a.controller) };
+    ghost invariant = { λ a. IfSome a.next (λ call. call ≡ next_call (core_of a.controller)) };
 }
 
 /// The moment at which the wait of a call ends in any case; 0 sets no end.
@@ -45,7 +47,7 @@ fn wait_end_of(call: &Call) -> u64
 
 impl Caller {
     pub fn new(controller: Controller) -> Caller
-        ensures { result ≡ controller }
+        ensures { result ≡ core_of controller }
     {
         Caller {
             controller,
@@ -117,23 +119,39 @@ impl Caller {
         Ok(finished)
     }
 
-    /// Makes one `feed` possible without memory.
-    pub fn prepare(&mut self) -> Result<(), NoMemory>
-        ensures { self.new ≡ self.old }
+    /// Makes the controller's next call, which is ready, and hands it the reply. Where memory runs out, kernel and
+    /// controller are as they were.
+    pub fn make_call<Q: Kernel>(
+        &mut self,
+        alloc: Global,
+        kern: &mut Q,
+        by: u32,
+    ) -> Result<(), NoMemory>
+        requires by { by < 64 }
+        requires ready { is_answered (Q.view kern.old) by (next_call self.old) ≡ true }
+        requires place { length (Q.view kern.old).history < (Q.view kern.old).places }
+        ensures ok { OnOk result (Answered by (Q.view kern.old) (Q.view kern.new) self.old self.new) }
+        ensures kernel { OnErr result (kern.new ≡ kern.old) }
+        ensures err { OnErr result (self.new ≡ self.old) }
     {
-        self.controller.prepare()
-    }
-
-    /// Takes the reply to the call that was handed out. Takes no memory.
-    pub fn feed(&mut self, reply: &Reply)
-        ensures { self.new ≡ after_reply self.old reply.now }
-    {
+        let call = self.take_call(alloc)?.unwrap();
+        self.controller.prepare()?;
+        kern.call(by, call)?;
+        let reply = kern.last_reply().unwrap();
         self.next = None;
         self.controller.feed(reply);
+        Ok(())
+    }
+
+    /// What the controller prints at the end of a run.
+    pub fn print(&self, alloc: Global, programs: &[Program]) -> Result<Bytes, NoMemory>
+        ensures { IfOk result (λ text. text ≡ printed self.now programs.now) }
+    {
+        self.controller.print(alloc, programs)
     }
 
     pub fn controller(&self) -> &Controller
-        ensures { result.now ≡ self.now }
+        ensures { core_of result.now ≡ self.now }
     {
         &self.controller
     }

@@ -1,10 +1,13 @@
-ghost use Rattle.std.specs.Prelude.{◌≡◌, IfOk};
+ghost use Rattle.std.specs.Prelude.{◌≡◌, IfOk, OnOk};
 ghost use Rattle.pr_world.specs.Controllers.{after_reply, next_call, printed};
+ghost use Rattle.pr_world.specs.Cores.{core_of, IsReady};
 
 use pr_asm::Program;
 use pr_model::{Call, Reply};
 use pr_num::{Bytes, NoMemory};
 use pr_scen::Script;
+use pr_tools::Tool;
+use pr_truss::Truss;
 use std::alloc::Global;
 
 /// A controller of a world: a core that says which call it makes next and is fed the reply.
@@ -12,45 +15,60 @@ use std::alloc::Global;
 pub enum Controller {
     /// The lines of a scenario.
     Script(Script),
+    /// truss(1).
+    Truss(Truss),
+    /// A tool of proc(1) or pmap(1).
+    Tool(Tool),
 }
 
 impl Controller {
     /// The call that it makes next; `None` exactly where it has finished.
-    #[tactic(auto, unfolding(crate::specs::Controllers::next_call))]
+    #[tactic(auto, unfolding(crate::specs::Controllers::next_call, crate::specs::Cores::core_of))]
     pub fn next_call(&self, alloc: Global) -> Result<Option<Call>, NoMemory>
-        ensures { IfOk result (λ call. call ≡ next_call self.now) }
+        ensures { IfOk result (λ call. call ≡ next_call (core_of self.now)) }
     {
         match self {
             Controller::Script(script) => script.next_call(alloc),
+            Controller::Truss(truss) => truss.next_call(alloc),
+            Controller::Tool(tool) => tool.next_call(alloc),
         }
     }
 
     /// Makes one `feed` possible without memory.
+    #[tactic(auto, unfolding(crate::specs::Cores::core_of, crate::specs::Cores::IsReady))]
     pub fn prepare(&mut self) -> Result<(), NoMemory>
-        ensures { self.new ≡ self.old }
+        ensures same { core_of self.new ≡ core_of self.old }
+        ensures ready { OnOk result (IsReady self.new) }
     {
         match self {
             Controller::Script(script) => script.prepare(),
+            Controller::Truss(truss) => truss.prepare(),
+            Controller::Tool(tool) => tool.prepare(),
         }
     }
 
     /// Takes the reply to the call that `next_call` gave. Takes no memory.
-    #[tactic(auto, unfolding(crate::specs::Controllers::after_reply))]
+    #[tactic(auto, unfolding(crate::specs::Controllers::after_reply, crate::specs::Cores::core_of, crate::specs::Cores::IsReady))]
     pub fn feed(&mut self, reply: &Reply)
-        ensures { self.new ≡ after_reply self.old reply.now }
+        requires { IsReady self.old }
+        ensures { core_of self.new ≡ after_reply (core_of self.old) reply.now }
     {
         match self {
             Controller::Script(script) => script.feed(reply),
+            Controller::Truss(truss) => truss.feed(reply),
+            Controller::Tool(tool) => tool.feed(reply),
         }
     }
 
-    /// What it prints at the end of a run.
-    #[tactic(auto, unfolding(crate::specs::Controllers::printed))]
+    /// What it prints at the end of a run, where the kernel has these programs.
+    #[tactic(auto, unfolding(crate::specs::Controllers::printed, crate::specs::Cores::core_of))]
     pub fn print(&self, alloc: Global, programs: &[Program]) -> Result<Bytes, NoMemory>
-        ensures { IfOk result (λ text. text ≡ printed self.now programs.now) }
+        ensures { IfOk result (λ text. text ≡ printed (core_of self.now) programs.now) }
     {
         match self {
             Controller::Script(script) => script.print(alloc, programs),
+            Controller::Truss(truss) => truss.print(alloc, programs),
+            Controller::Tool(tool) => tool.print(alloc, programs),
         }
     }
 }

@@ -1,7 +1,8 @@
 //! A world: a kernel and its controllers.
-ghost use Rattle.std.specs.Prelude.{◌≡◌, ◌≤◌, ◌<◌, None, length, slice_get, IfOk};
+ghost use Rattle.std.specs.Prelude.{◌≡◌, ◌≤◌, ◌<◌, None, Some, length, map, slice_get, IfOk};
 ghost use Rattle.std.specs.Option.{ForSome};
 ghost use Rattle.pr_world.specs.Controllers.{printed};
+ghost use Rattle.pr_world.specs.Cores.{core_of};
 
 use crate::Controller;
 use crate::callers::Caller;
@@ -38,7 +39,7 @@ impl<Q> Model for World<Q> {
 
 /// The controllers, of which no call was made yet.
 fn callers_of(alloc: Global, controllers: Vec<Controller>) -> Result<Vec<Caller>, NoMemory>
-    ensures { IfOk result (λ callers. callers.items ≡ controllers.items) }
+    ensures { IfOk result (λ callers. callers.items ≡ map core_of controllers.items) }
 {
     let mut callers = Vec::with_capacity(alloc, controllers.len())?;
     for controller in controllers {
@@ -58,7 +59,7 @@ impl<Q> World<Q> {
     where
         Q: Drop,
         requires { length controllers.items ≤ 64 }
-        ensures { IfOk result (λ world. world ≡ record { kernel = kernel; controllers = controllers.items; schedule = schedule.items; last = None }) }
+        ensures { IfOk result (λ world. world ≡ record { kernel = kernel; controllers = map core_of controllers.items; schedule = schedule.items; last = None }) }
     {
         let callers = callers_of(alloc, controllers)?;
         Ok(World {
@@ -92,13 +93,18 @@ impl<Q> World<Q> {
         self.kern
     }
 
-    /// What a controller prints.
+    pub fn controller(&self, number: u32) -> &Controller
+        requires { number < length self.now.controllers }
+        ensures { slice_get self.now.controllers number ≡ Some (core_of result.now) }
+    {
+        self.callers[number as usize].controller()
+    }
+
+    /// What a controller prints, where the kernel has these programs.
     pub fn print(&self, controller: u32, programs: &[Program]) -> Result<Bytes, NoMemory>
         requires { controller < length self.now.controllers }
         ensures { IfOk result (λ text. ForSome (slice_get self.now.controllers controller) (λ core. text ≡ printed core programs.now)) }
     {
-        self.callers[controller as usize]
-            .controller()
-            .print(self.alloc, programs)
+        self.callers[controller as usize].print(self.alloc, programs)
     }
 }

@@ -4,5 +4,6 @@ pub mod GivingLemmas
 pub mod MarkLemmas
 pub mod PieceLemmas
 pub mod ReadingLemmas
+pub mod ReportLemmas
 pub mod RunEndLemmas
 pub mod RunLemmas

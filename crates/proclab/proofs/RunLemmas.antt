@@ -1,6 +1,7 @@
 -- The run of a scenario: its first world, and what the driver says of the last.
-use Rattle.std.proofs.Common.{◌≡◌, ◌≤◌, ◌+◌, ◌-◌, ℕ, Bool, true, false, List, [], ◌∷◌, Option, Some, None, Result, Ok, Err, IfOk, OnOk, OnErr, length, refl, sym, ◌∙◌, ap, subst, arith, length-append}
-use Rattle.std.specs.List.{flat_map, slice_get, sum_by}
+use Rattle.std.proofs.Common.{◌≡◌, ◌≤◌, ◌+◌, ◌-◌, ℕ, Bool, true, false, List, [], ◌∷◌, Option, Some, None, Result, Ok, Err, IfOk, OnOk, OnErr, length, refl, sym, ◌∙◌, ap, map, subst, arith}
+use Rattle.std.specs.List.{slice_get, sum_by}
+use Rattle.std.proofs.lemmas.List.{length-map}
 use Rattle.pr_api.specs.Views.{KernelView, kernel_of}
 use Rattle.pr_kern.specs.Kernels.{Kernel}
 use Rattle.pr_kern.specs.Starts.{stored}
@@ -12,15 +13,15 @@ use Rattle.pr_num.specs.Limits.{all_mappings_limit, process_limit}
 use Rattle.pr_num.specs.declared.memory.NoMemory.{NoMemory}
 use Rattle.pr_parts.specs.FileTables.{names_differ}
 use Rattle.pr_run.specs.OneRuns.{end_of_run}
-use Rattle.pr_run_laws.specs.ScenarioRuns.{controller_in, controllers_of, first_state_of, first_world, run_of}
+use Rattle.pr_run_laws.specs.ScenarioRuns.{controller_of, controllers_of, first_state_of, first_world, run_of}
 use Rattle.pr_run_laws.proofs.KeptLemmas.{first-fresh, first-told}
 use Rattle.pr_scen.specs.Scenarios.{IsWithinLimits, Scenario}
 use Rattle.pr_scen.specs.declared.plans.Plan.{Plan}
-use Rattle.pr_scen.specs.declared.plans.Plan.TheVariants as plan
 use Rattle.pr_world.proofs.RunLemmas.{run-function, run-longer, run-places}
 use Rattle.pr_world.specs.Runs.{IsFresh, IsTold, StoppedIn, after_moves}
 use Rattle.pr_world.specs.Worlds.{WorldOf, WorldState, end_of, ended_as, goes_on, seen}
-use Rattle.pr_world.specs.declared.controllers.Controller.{Controller as Core}
+use Rattle.pr_world.specs.Cores.{Core, core_of}
+use Rattle.pr_world.specs.declared.controllers.Controller.{Controller}
 use Rattle.pr_world.specs.declared.ends.End.{End}
 use Rattle.proclab.specs.Made.{IsWorldsWay, kern_view}
 
@@ -41,17 +42,10 @@ spawns-map s limits = omega (arith, limits.mapped)
 pub own-names : (s : Scenario) → IsWithinLimits s → names_differ (stored s.files) ≡ true
 own-names s limits = limits.own_names
 
--- ---- controllers: one of a plan at most
+-- ---- controllers: one of a plan
 
-at_most_one : (p : Plan) → length (controller_in p) ≤ 1
-at_most_one (plan.Script script) = omega arith
-at_most_one (plan.Truss options) = omega arith
-at_most_one (plan.Tool kind pid) = omega arith
-
-pub controllers-few : (plans : List Plan) → length (flat_map controller_in plans) ≤ length plans
-controllers-few [] = omega arith
-controllers-few (p ∷ plans) =
-    omega (arith, length-append (controller_in p) (flat_map controller_in plans), at_most_one p, controllers-few plans)
+pub controllers-few : (plans : List Plan) (controllers : List Controller) → map core_of controllers ≡ map controller_of plans → length controllers ≡ length plans
+controllers-few plans controllers same = sym (length-map controllers core_of) ∙ ap length same ∙ length-map plans controller_of
 
 -- ---- the first world
 
@@ -90,7 +84,7 @@ run-is s w is = ap (λ (x : WorldState). after_moves x.kernel.places x) is ∙ a
 
 -- ---- the end of a run
 
-ended-is : (w : WorldState) (end : End) → ended_as w ≡ Some end → end ≡ end_of w
+pub ended-is : (w : WorldState) (end : End) → ended_as w ≡ Some end → end ≡ end_of w
 unfolding ended_as
 ended-is w end is = of (goes_on w) refl
   where
@@ -98,18 +92,10 @@ ended-is w end is = of (goes_on w) refl
     of true goes = cc
     of false goes = cc
 
-last-is : (first w : WorldState) → IsTold first → IsFresh first → (IsTold first → w ≡ end_of_run first) → w ≡ after_moves first.kernel.places first
+pub last-is : (first w : WorldState) → IsTold first → IsFresh first → (IsTold first → w ≡ end_of_run first) → w ≡ after_moves first.kernel.places first
 last-is first w told fresh is =
     let none = ap length fresh.history in
     is told ∙ ap (λ (n : ℕ). after_moves n first) {x = first.kernel.places - length first.kernel.history} {y = first.kernel.places} (omega (arith, none))
-
-pub run-ended : (r : Result End NoMemory) (first w : WorldState) → IsTold first → IsFresh first → IfOk r (λ end. ended_as w ≡ Some end) → OnOk r (IsTold first → w ≡ end_of_run first) → IfOk r (λ end. end ≡ end_of (after_moves first.kernel.places first))
-run-ended (Ok end) first w told fresh is last = ended-is w end is ∙ ap end_of (last-is first w told fresh last)
-run-ended (Err e) first w told fresh is last = tt
-
-pub run-history : (r : Result End NoMemory) (first w : WorldState) → IsTold first → IsFresh first → OnOk r (IsTold first → w ≡ end_of_run first) → OnOk r (w.kernel.history ≡ (after_moves first.kernel.places first).kernel.history)
-run-history (Ok end) first w told fresh last = ap (λ (x : WorldState). x.kernel.history) (last-is first w told fresh last)
-run-history (Err e) first w told fresh last = tt
 
 pub run-stopped : (r : Result End NoMemory) (first w : WorldState) → IsTold first → OnErr r (StoppedIn first w) → length w.kernel.history ≤ w.kernel.places → OnErr r (IsWorldsWay first w.kernel.history)
 run-stopped (Ok end) first w told stopped within = tt
@@ -122,5 +108,13 @@ run-stopped (Err e) first w told s within =
       within = omega (arith, long, places, within);
       is = history ∙ ap (λ (x : WorldState). x.kernel.history) (run-function s.made first s.world told s.runs);
     }
+
+pub on-err : {A E : Type 0} {P : Type 0} (r : Result A E) → P → OnErr r P
+on-err (Ok x) p = tt
+on-err (Err e) p = p
+
+-- The last world of a run is on its way.
+pub last-way : (first w : WorldState) → w ≡ after_moves first.kernel.places first → IsWorldsWay first w.kernel.history
+last-way first w is = record { moves = first.kernel.places; within = omega arith; is = ap (λ (x : WorldState). x.kernel.history) is }
 
 pub ruleset runs = (first_world-places, spawns-few, spawns-map, own-names, controllers-few)

@@ -13,7 +13,9 @@ use Rattle.pr_scen.specs.Scenarios.{Scenario}
 use Rattle.pr_world.specs.Worlds.{WorldState, end_of}
 use Rattle.pr_world.specs.declared.ends.End.{End}
 use Rattle.pr_world.specs.declared.ends.End.TheVariants as end
+use Rattle.pr_output.specs.declared.reports.Report.{Report}
 use Rattle.proclab.specs.Checks.{checked_of}
+use Rattle.proclab.specs.Reports.{reports_of}
 use Rattle.proclab.specs.Statuses.{number}
 use Rattle.proclab.specs.Usage.{usage_line}
 use Rattle.proclab.specs.declared.checks.Wrong.{Wrong}
@@ -42,7 +44,6 @@ kind_name kind.Double = codes "Double"
 kind_name kind.TooMany = codes "TooMany"
 kind_name kind.TooBig = codes "TooBig"
 kind_name kind.NoEnd = codes "NoEnd"
-kind_name kind.NotBuilt = codes "NotBuilt"
 
 abbrev pub too_long : List ℕ
 too_long = codes "TooLong"
@@ -63,23 +64,23 @@ end_status end.Stuck = Stuck
 
 -- ---- the commands `run` and `plain`
 
--- what is written of a run with this history that ended with this status: the history, or not, and the status; or the
--- untraced steps of the history, its trace, and the status
-unfoldable pub run_shown : Showing → List Entry → ℕ → List ℕ
-run_shown Whole history status = run_text false history status
-run_shown Quiet history status = run_text true history status
-run_shown Stripped history status = plain_run_text (untraced_steps history) (untraced_trace history) status
+-- what is written of a run with this history and these reports that ended with this status: the history, or not, the
+-- reports, and the status; or the untraced steps of the history, its trace, and the status
+unfoldable pub run_shown : Showing → List Entry → List Report → ℕ → List ℕ
+run_shown Whole history reports status = run_text false history reports status
+run_shown Quiet history reports status = run_text true history reports status
+run_shown Stripped history reports status = plain_run_text (untraced_steps history) (untraced_trace history) status
 
--- a run that ended so with this history
-unfoldable pub ran_so : Showing → End → List Entry → Answer
-ran_so showing end history = record {
+-- a run that ended so with this history and these reports
+unfoldable pub ran_so : Showing → End → List Entry → List Report → Answer
+ran_so showing end history reports = record {
   status = end_status end;
   history = history;
-  text = run_shown showing history (number (end_status end));
+  text = run_shown showing history reports (number (end_status end));
 }
 
 unfoldable pub ran : Showing → WorldState → Answer
-ran showing w = ran_so showing (end_of w) w.kernel.history
+ran showing w = ran_so showing (end_of w) w.kernel.history (reports_of w)
 
 unfoldable pub answer_of : Showing → Result Scenario ScenFault → Answer
 answer_of showing (Err fault) = refused_at fault.line (kind_name fault.kind)

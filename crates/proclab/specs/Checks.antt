@@ -5,7 +5,7 @@ use Rattle.pr_model.specs.Kept.{Kept}
 use Rattle.pr_model.specs.declared.events.Entry.{Entry}
 use Rattle.pr_num.specs.Limits.{scenario_limit}
 use Rattle.pr_plain.specs.EntryReading.{history_of}
-use Rattle.pr_plain.specs.Lines.{is_newline}
+use Rattle.pr_text.specs.TextLines.{is_newline}
 use Rattle.pr_scen.specs.Reading.{scenario_of}
 use Rattle.pr_scen.specs.Scenarios.{Scenario}
 use Rattle.pr_scen.specs.declared.refusals.ScenFault.{ScenFault}

@@ -6,6 +6,7 @@ pub mod Giving
 pub mod Histories
 pub mod Inputs
 pub mod Made
+pub mod Reports
 pub mod Rows
 pub mod Statuses
 pub mod Usage

@@ -12,6 +12,7 @@ mod commands;
 mod inputs;
 mod judgements;
 mod outcomes;
+mod reports;
 mod responses;
 mod running;
 mod runs;

@@ -6,7 +6,7 @@ ghost use Rattle.pr_output.specs.Output.{plain_run_text};
 ghost use Rattle.pr_output.specs.Puts.{Puts};
 ghost use Rattle.pr_run_laws.specs.ScenarioRuns.{run_of};
 ghost use Rattle.pr_scen.specs.Reading.{scenario_of};
-ghost use Rattle.pr_scen.specs.Scenarios.{IsBuilt, IsWithinLimits};
+ghost use Rattle.pr_scen.specs.Scenarios.{IsWithinLimits};
 ghost use Rattle.proclab.specs.Answers.{answer_of, answer_to, kind_name, ran, ran_so, refused_at, run_shown};
 ghost use Rattle.proclab.specs.Giving.{Responds};
 ghost use Rattle.proclab.specs.Histories.{RanOutEarly};
@@ -15,14 +15,13 @@ ghost use Rattle.proclab.specs.Made.{StoppedRun};
 use crate::answers::status_after;
 use crate::commands::Showing;
 use crate::outcomes::{Ending, Status, end_status, number, out_of_memory, without_history};
-use crate::runs::make_run;
+use crate::runs::{Made, Ran, make_run};
 use pr_io::Sink;
 use pr_model::History;
 use pr_num::Bytes;
-use pr_output::{Cut, write_plain, write_refusal, write_run};
+use pr_output::{Cut, Report, write_plain, write_refusal, write_run};
 use pr_scen::{ScenFault, ScenKind, ScenRefusal, Scenario, read_scenario};
 use pr_strip::{strip, trace};
-use pr_world::End;
 use std::alloc::Global;
 
 pub const TOO_LONG: &[u8] = b"TooLong";
@@ -42,7 +41,6 @@ fn kind_name(kind: ScenKind) -> &'static [u8]
         ScenKind::TooMany => b"TooMany",
         ScenKind::TooBig => b"TooBig",
         ScenKind::NoEnd => b"NoEnd",
-        ScenKind::NotBuilt => b"NotBuilt",
     }
 }
 
@@ -70,38 +68,40 @@ fn write_stripped<K: Sink>(
     write_plain(alloc, sink, steps.as_slice(), trace.as_slice(), status)
 }
 
-/// Writes a run with this history that ended with this status.
+/// Writes a run with this history and these reports that ended with this status.
 #[tactic(auto, unfolding(crate::specs::Answers::run_shown))]
 fn show_run<K: Sink>(
     alloc: Global,
     showing: Showing,
     history: &History,
+    reports: &[Report],
     status: u8,
     sink: &mut K,
 ) -> Result<(), Cut>
     ensures { Puts result (K.written sink.old) (K.written sink.new) (K.faults sink.old) (K.faults sink.new)
-        (run_shown showing history.now.entries status) }
+        (run_shown showing history.now.entries reports.now status) }
 {
     match showing {
-        Showing::Whole => write_run(alloc, sink, false, history, status),
-        Showing::Quiet => write_run(alloc, sink, true, history, status),
+        Showing::Whole => write_run(alloc, sink, false, history, reports, status),
+        Showing::Quiet => write_run(alloc, sink, true, history, reports, status),
         Showing::Stripped => write_stripped(alloc, history, status, sink),
     }
 }
 
-/// Reports a run that ended so.
+/// Shows a run that ended so.
 fn report<K: Sink>(
     alloc: Global,
     showing: Showing,
-    end: End,
+    ran: Ran,
     history: History,
     sink: &mut K,
 ) -> Ending
-    ensures { Responds (ran_so showing end history.entries) ⊥ result.status result.history.entries
+    ensures { Responds (ran_so showing ran.end history.entries ran.reports.items) ⊥ result.status result.history.entries
         (K.written sink.old) (K.written sink.new) (K.faults sink.old) (K.faults sink.new) }
 {
-    let status = end_status(end);
-    let written = show_run(alloc, showing, &history, number(status), sink);
+    let status = end_status(ran.end);
+    let reports = ran.reports.as_slice();
+    let written = show_run(alloc, showing, &history, reports, number(status), sink);
     Ending {
         status: status_after(written, status),
         history,
@@ -116,16 +116,15 @@ fn run_scenario<K: Sink>(
     sink: &mut K,
 ) -> Ending
     requires limits { IsWithinLimits scenario }
-    requires built { IsBuilt scenario }
     ensures { Responds (ran showing (run_of scenario))
         (StoppedRun scenario result.history.entries (K.written sink.old) (K.written sink.new))
         result.status result.history.entries
         (K.written sink.old) (K.written sink.new) (K.faults sink.old) (K.faults sink.new) }
 {
-    let made = make_run(alloc, scenario);
-    match made.end {
-        Ok(end) => report(alloc, showing, end, made.history, sink),
-        Err(error) => out_of_memory(error, made.history),
+    let Made { ran, history } = make_run(alloc, scenario);
+    match ran {
+        Ok(ran) => report(alloc, showing, ran, history, sink),
+        Err(error) => out_of_memory(error, history),
     }
 }
 

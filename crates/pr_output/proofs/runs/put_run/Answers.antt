@@ -11,4 +11,4 @@ pub returns : goal.returns
 unfolding run_text
 returns g c =
     let history = c.in_ok-put_history.ensures in
-    Puts-second _ _ _ _ _ _ _ _ _ history.all (history.no_fault (λ is. cc)) c.put_status.ensures
+    Puts-second _ _ _ _ _ _ _ _ _ history.all (history.no_fault (λ is. cc)) c.put_end.ensures

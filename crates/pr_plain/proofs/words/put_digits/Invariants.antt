@@ -1,5 +1,5 @@
 use Rattle.std.proofs.Common.{◌≡◌, ◌*◌, take}
-use Rattle.pr_plain.specs.HexWords.{digits_of_bytes}
+use Rattle.pr_text.specs.HexWords.{digits_of_bytes}
 use Rattle.pr_plain.proofs.words.put_digits.Given as goal
 
 abbrev pub invariant-loop-i : goal.invariant-loop-i

@@ -1,6 +1,6 @@
 use Rattle.std.proofs.Common.{◌≡◌, ◌++◌, length}
 use Rattle.pr_plain.specs.Buffers.{StartsWith}
-use Rattle.pr_plain.specs.HexWords.{digits_of_bytes}
+use Rattle.pr_text.specs.HexWords.{digits_of_bytes}
 use Rattle.pr_plain.proofs.words.write_bytes.Given as goal
 
 -- what was written so far, and the digits of the rest, are what is to be written

@@ -1,6 +1,6 @@
 use Rattle.std.proofs.Common.{◌≡◌, ◌++◌, decimal, map, take}
 use Rattle.pr_plain.specs.Buffers.{StartsWith}
-use Rattle.pr_plain.specs.HistoryText.{spaced}
+use Rattle.pr_text.specs.SpacedWords.{spaced}
 use Rattle.pr_plain.proofs.words.write_numbers.Given as goal
 
 abbrev pub invariant-loop-n : goal.invariant-loop-n

@@ -1,6 +1,6 @@
 use Rattle.std.proofs.Common.{arith, ap, length}
 use Rattle.std.proofs.lemmas.List.{length-map}
-use Rattle.pr_asm.proofs.ReadingLemmas.{few_lines}
+use Rattle.pr_text.proofs.LineLemmas.{few_lines}
 use Rattle.pr_scen.proofs.LineLemmas.{bytes_of}
 use Rattle.pr_scen.proofs.reading.read_text.Goals as goal
 

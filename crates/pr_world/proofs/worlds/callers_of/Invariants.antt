@@ -1,6 +1,7 @@
-use Rattle.std.proofs.Common.{◌≡◌}
+use Rattle.std.proofs.Common.{◌≡◌, map}
+use Rattle.pr_world.specs.Cores.{core_of}
 use Rattle.pr_world.proofs.worlds.callers_of.Given as goal
 
 -- the controllers so far
 abbrev pub invariant-loop-controller : goal.invariant-loop-controller
-invariant-loop-controller l = l.callers.items ≡ l.yielded
+invariant-loop-controller l = l.callers.items ≡ map core_of l.yielded

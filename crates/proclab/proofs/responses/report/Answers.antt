@@ -1,4 +1,5 @@
-use Rattle.std.proofs.Common.{◌∙◌, refl, ap}
+use Rattle.std.proofs.Common.{◌∙◌, List, refl, ap}
+use Rattle.pr_output.specs.declared.reports.Report.{Report}
 use Rattle.proclab.specs.Answers.{ran_so, run_shown}
 use Rattle.proclab.specs.Giving.{status_after}
 use Rattle.proclab.specs.Statuses.{number}
@@ -11,6 +12,6 @@ unfolding ran_so
 returns g c =
     let written = c.show_run-written in
     let code = c.number.ensures ∙ ap number c.end_status-status.ensures in
-    gives written.result (ran_so c.args.showing c.args.end c.args.history.entries) c.status_after.result c.args.history.entries _ _ _ _
-    (whole-end c.args.end) refl (c.status_after.ensures ∙ ap (λ (s : Status). status_after written.result s) c.end_status-status.ensures)
-    (puts-same _ _ _ _ _ _ _ (ap (run_shown c.args.showing c.args.history.entries) code) written.ensures)
+    gives written.result (ran_so c.args.showing c.args.ran.end c.args.history.entries c.args.ran.reports.items) c.status_after.result c.args.history.entries _ _ _ _
+    (whole-end c.args.ran.end) refl (c.status_after.ensures ∙ ap (λ (s : Status). status_after written.result s) c.end_status-status.ensures)
+    (puts-same _ _ _ _ _ _ _ (ap (λ (rs : List Report). run_shown c.args.showing c.args.history.entries rs c.number.result) c.as_slice-reports.ensures.value ∙ ap (run_shown c.args.showing c.args.history.entries c.args.ran.reports.items) code) written.ensures)

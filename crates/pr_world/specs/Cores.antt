@@ -1,0 +1,23 @@
+-- The controllers of a world, as contracts see them: each as its core, which knows the machine by replies alone.
+use Rattle.pr_scen.specs.Scripts.{ScriptState}
+use Rattle.pr_tools.specs.Tools.{ToolState}
+use Rattle.pr_truss.specs.Trusses.{TrussState, IsReady as HasRoom}
+use Rattle.pr_world.specs.declared.controllers.Controller.{Controller}
+use Rattle.pr_world.specs.declared.controllers.Controller.TheVariants as declared
+
+pub data Core : Type 0 where
+  Script : ScriptState → Core
+  Truss : TrussState → Core
+  Tool : ToolState → Core
+
+-- The core of a controller. How much room a controller has kept for its next reply is no part of it.
+unfoldable pub core_of : Controller → Core
+core_of (declared.Script s) = Script s
+core_of (declared.Truss t) = Truss t.state
+core_of (declared.Tool t) = Tool t
+
+-- whether a controller can be fed one reply without memory
+unfoldable pub IsReady : Controller → Type 0
+IsReady (declared.Script s) = Unit {0}
+IsReady (declared.Truss t) = HasRoom t
+IsReady (declared.Tool t) = Unit {0}

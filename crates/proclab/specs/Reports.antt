@@ -1,0 +1,39 @@
+-- What the controllers of a run print.
+use Rattle.std.specs.Prelude.{ℕ, ◌+◌, List, [], ◌∷◌, ◌++◌, Option, Some, None}
+use Rattle.pr_api.specs.Views.{KernelView}
+use Rattle.pr_model.specs.State.{TracedState}
+use Rattle.pr_num.specs.Programs.{Program}
+use Rattle.pr_output.specs.declared.reports.Printer.{Printer}
+use Rattle.pr_output.specs.declared.reports.Printer.TheVariants as printer
+use Rattle.pr_output.specs.declared.reports.Report.{Report}
+use Rattle.pr_world.specs.Controllers.{printed}
+use Rattle.pr_world.specs.Cores.{Core, Script, Truss, Tool}
+use Rattle.pr_world.specs.Worlds.{WorldState}
+
+-- who prints, if it is no script
+unfoldable pub printer_of : Core → Option Printer
+printer_of (Script s) = None
+printer_of (Truss t) = Some printer.Truss
+printer_of (Tool t) = Some (printer.Tool t.kind)
+
+-- what a controller of a number prints, if it is one that prints
+abbrev pub report_by : List Program → ℕ → Core → Option Printer → List Report
+report_by programs n core None = []
+report_by programs n core (Some by) = record { controller = n; printer = by; text = printed core programs } ∷ []
+
+unfoldable pub report_of : List Program → ℕ → Core → List Report
+report_of programs n core = report_by programs n core (printer_of core)
+
+-- what controllers print, which count from a number
+unfoldable pub reports_from : List Program → ℕ → List Core → List Report
+reports_from programs n [] = []
+reports_from programs n (core ∷ cores) = report_of programs n core ++ reports_from programs (n + 1) cores
+
+-- the programs of a machine
+abbrev pub programs_of : Option TracedState → List Program
+programs_of None = []
+programs_of (Some s) = s.system.programs
+
+-- what the controllers of a world print
+unfoldable pub reports_of : WorldState → List Report
+reports_of w = reports_from (programs_of w.kernel.machine) 0 w.controllers
