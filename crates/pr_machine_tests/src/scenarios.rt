@@ -71,7 +71,7 @@ fn reads_every_line(rt: HostRuntime) {
 // A text, the line at which it is refused, and why: each kind, and kinds that meet.
 #[test]
 fn refuses_the_first_line(rt: HostRuntime) {
-    let rows: [(&[u8], u32, ScenKind); 20] = [
+    let rows: [(&[u8], u32, ScenKind); 19] = [
         (b"#\n# caf\xc3\xa9", 2, ScenKind::NotAscii),
         (b"turns 5\nspwan p", 2, ScenKind::UnknownWord),
         (b"end", 1, ScenKind::UnknownWord),
