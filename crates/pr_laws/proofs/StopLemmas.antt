@@ -12,7 +12,7 @@ use Rattle.pr_model.specs.declared.stops.Stop.TheVariants as stop
 -- The representative of a process of one lwp is that lwp.
 
 -- the representative as it is looked for in a list of lwps
-chosen : Option Sig → List (ℕ × TracedLwp) → Option (ℕ × TracedLwp)
+unfoldable pub chosen : Option Sig → List (ℕ × TracedLwp) → Option (ℕ × TracedLwp)
 chosen job lwps =
     option_or
     (option_or
@@ -24,7 +24,7 @@ chosen job lwps =
     (first_in_class job 4 lwps))
     (first_in_class job 5 lwps)
 
-representative-chosen : (p : TracedProcess) → representative p ≡ chosen p.job_stop p.lwps
+pub representative-chosen : (p : TracedProcess) → representative p ≡ chosen p.job_stop p.lwps
 unfolding representative chosen
 representative-chosen p = refl
 

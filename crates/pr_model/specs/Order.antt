@@ -26,9 +26,9 @@ unfoldable pub is_after : Option (ℕ × ℕ) → ℕ × ℕ → Bool
 is_after None x = true
 is_after (Some y) x = nat_lt y.0 x.0 || ((y.0 == x.0) && nat_lt y.1 x.1)
 
--- whether a pair of ids is not one between another one and a third
+-- a pair of ids that comes after another one is a third, or comes after that
 abbrev pub IsNotBefore : Option (ℕ × ℕ) → ℕ × ℕ → ℕ × ℕ → Type 0
-IsNotBefore after x y = is_after after y ≡ true → is_after (Some y) x ≡ false → x ≡ y
+IsNotBefore after x y = is_after after y ≡ true → is_after (Some x) y ≡ false → x ≡ y
 
 -- what that is: a live lwp that comes after the other one, and none of those that do has lesser ids
 pub record IsNext (s : TracedSystem) (after : Option (ℕ × ℕ)) (x : ℕ × ℕ) : Type 0 where
