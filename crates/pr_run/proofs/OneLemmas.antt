@@ -27,7 +27,7 @@ nobody : (w : WorldState) → next_pick w ≡ None → next_actor w ≡ None
 unfolding next_actor
 nobody w e = ap (option_map actor_of) e
 
--- where nobody can move, a world does not go on
+-- where no actor can move, a world does not go on
 pub stuck-ends : (w : WorldState) → next_pick w ≡ None → goes_on w ≡ false
 unfolding goes_on
 stuck-ends w e = ap (λ o. nat_lt (length w.kernel.history) w.kernel.places && is_some o) (nobody w e) ∙ of (nat_lt (length w.kernel.history) w.kernel.places)

@@ -4,7 +4,7 @@ use Rattle.pr_world.specs.Worlds.{WorldState, next_pick}
 
 -- A run on one thread: at each step the actor that is picked moves.
 
--- A step was made, or nobody can move and the world is as it was.
+-- A step was made, or no actor can move and the world is as it was.
 abbrev pub Advanced : Bool → WorldState → WorldState → Type 0
 Advanced true w v = Steps w v
 Advanced false w v = (v ≡ w) × (next_pick w ≡ None)
@@ -20,6 +20,6 @@ pub record LedTo (first last : WorldState) : Type 0 where
   pub runs : RunsFor steps first last
 
 -- the world at the end of a run, where its machine is told: as many moves were made as there are places left, or until
--- nobody could move
+-- no actor could move
 abbrev pub end_of_run : WorldState → WorldState
 end_of_run first = after_moves (first.kernel.places - length first.kernel.history) first

@@ -7,7 +7,7 @@ use pr_api::Kernel;
 use pr_num::NoMemory;
 use pr_world::{End, World};
 
-/// Picks who moves next and gives it its turn, and says whether there was somebody. Where memory runs out, kernel and
+/// Picks who moves next and gives it its turn, and says whether there was an actor. Where memory runs out, kernel and
 /// controllers are as they were.
 fn advance<Q: Kernel>(world: &mut World<Q>) -> Result<bool, NoMemory>
     requires place { length (Q.view world.old.kernel).history < (Q.view world.old.kernel).places }

@@ -65,6 +65,6 @@ world_after n s = after_moves n (first_world s)
 abbrev pub history_after : ℕ → Scenario → List Entry
 history_after n s = (world_after n s).kernel.history
 
--- the run: as many moves as there are turns, or until nobody can move
+-- the run: as many moves as there are turns, or until no actor can move
 abbrev pub run_of : Scenario → WorldState
 run_of s = world_after s.turns s

@@ -31,7 +31,7 @@ pub fn what_encodes_a_scenario_is_read()
 {}
 
 /// Lines are refused exactly where one of their parts is the first that cannot follow those above it, and the refusal
-/// names a line of it; or, where every part is accepted, at the first line of a form that is not built.
+/// names a line of it.
 pub fn a_refusal_names_the_first_line()
     ensures refused { (lines : List (List ℕ)) (fault : ScenFault) → scenario_in lines ≡ Err fault → IsFirstFault lines fault }
     ensures refuses { (lines : List (List ℕ)) (fault : ScenFault) → IsFirstFault lines fault → scenario_in lines ≡ Err fault }

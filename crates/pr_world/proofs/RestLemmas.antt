@@ -164,7 +164,7 @@ clock-rests : (w : WorldState) → clock_if_awaited w ≡ None → can_act w Clo
 unfolding clock_if_awaited
 clock-rests w e h = let some = ap (λ (b : Bool). cond b (Some Clock) None) h in let no : Some Clock ≡ None = sym some ∙ e in cc
 
--- where nobody is next in a new round, nobody can move
+-- where none is next in a new round, no actor can move
 round-rests : (w : WorldState) (actor : Actor) → IsLawful w.kernel → from_controller w 0 ≡ None → can_act w actor ≡ false
 unfolding from_controller from_lwp can_act
 round-rests w actor lawful e =
@@ -181,7 +181,7 @@ pub rounds-rest : (w : WorldState) (actor : Actor) → IsLawful w.kernel → nex
 unfolding next_in_rounds
 rounds-rest w actor lawful e = round-rests w actor lawful (neither (next_in_round w w.last) (from_controller w 0) e).1
 
--- a schedule in which nobody can move has nobody who is next
+-- a schedule in which no actor can move has nobody who is next
 scheduled-rests : (w : WorldState) (actors : List Actor) → ((a : Actor) → can_act w a ≡ false) → first_scheduled w actors ≡ None
 unfolding first_scheduled
 scheduled-rests w [] rests = refl
@@ -191,7 +191,7 @@ neither_pick : (a b : Option Pick) → option_or a b ≡ None → (a ≡ None) �
 neither_pick None b e = (refl, e)
 neither_pick (Some x) b e = cc
 
--- Where nobody is next, nobody can move.
+-- Where none is next, no actor can move.
 pub all-rest : (w : WorldState) (actor : Actor) → IsLawful w.kernel → next_actor w ≡ None → can_act w actor ≡ false
 unfolding next_actor next_pick
 all-rest w actor lawful e =

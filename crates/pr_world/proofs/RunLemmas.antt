@@ -188,7 +188,7 @@ step-is : (w v : WorldState) → IsTold w → StepLeads w v → after_next w ≡
 unfolding after_next
 step-is w v t step = ap (moved_by w) step.next ∙ ap (or_unmoved w) (after_move-is (with_pick step.pick w) v step.pick.actor (told-picked w step.pick t) step.leads)
 
--- where nobody can move, nothing moves
+-- where no actor can move, nothing moves
 pub stuck-next : (w : WorldState) → next_pick w ≡ None → after_next w ≡ w
 unfolding after_next
 stuck-next w e = ap (moved_by w) e
@@ -268,7 +268,7 @@ some_next : (w : WorldState) (p : Pick) → next_pick w ≡ Some p → is_some (
 unfolding next_actor
 some_next w p e = ap (λ (o : Option Pick). is_some (option_map actor_of o)) e
 
--- While somebody can move, there are as many entries as there were moves.
+-- While an actor can move, there are as many entries as there were moves.
 counted-on : (w : WorldState) (n : ℕ) (next : Option Pick) → next_pick w ≡ next → IsTold w → (is_some (next_actor w) ≡ true → length w.kernel.history ≡ n) → is_some (next_actor (after_next w)) ≡ true → length (after_next w).kernel.history ≡ n + 1
 counted-on w n None e t before h = let same = ap (λ (x : WorldState). is_some (next_actor x)) (stuck-next w e) in let no = not_next w e in cc
 counted-on w n (Some p) e t before h =

@@ -64,6 +64,6 @@ awaits_after clock (Some c) = nat_lt clock (wait_end_of c)
 unfoldable pub awaits_clock : ℕ → Core → Bool
 awaits_clock clock c = awaits_after clock (next_call c)
 
--- The clock can move where somebody waits for it: an lwp in the call sleep, or a controller.
+-- The clock can move where an lwp or a controller waits for it: an lwp in the call sleep, or a controller.
 unfoldable pub is_clock_awaited : ℕ → Bool → List Core → Bool
 is_clock_awaited clock sleeper controllers = nat_lt clock clock_limit && (sleeper || list_any (awaits_clock clock) controllers)

@@ -22,7 +22,7 @@ use Rattle.pr_world.specs.Worlds.{WorldState, can_act}
 -- ---- over any kernel
 
 -- What an actor does in its move, a row a kind: a controller makes its next call; an lwp has a turn; the clock goes on
--- by a millisecond. Nobody does anything else.
+-- by a millisecond. No actor does anything else.
 unfoldable pub Does : WorldState → WorldState → Actor → Act → Type 0
 Does w v (Controller k) (Called c r) = call_by w.controllers k ≡ Some c
 Does w v (Lwp pid id) (Turn t) = Unit {0}

@@ -12,7 +12,7 @@ use Rattle.pr_world.specs.Controllers.{call_by, is_clock_awaited, with_fed}
 use Rattle.pr_world.specs.Cores.{Core}
 
 -- The controller protocol: in a history each controller makes the calls that it makes after the replies that it got so
--- far, and the clock goes on only where somebody waits for it. What lwps do is their own.
+-- far, and the clock goes on only where an lwp or a controller waits for it. What lwps do is their own.
 
 -- the controllers after an entry: who made a call got its reply
 unfoldable pub controllers_after : List Core → Entry → List Core

@@ -78,7 +78,7 @@ abbrev pub moved_by : WorldState → Option Pick → WorldState
 moved_by w None = w
 moved_by w (Some p) = or_unmoved w (after_move (with_pick p w) p.actor)
 
--- the world after the move that comes next, or as it is where nobody can move
+-- the world after the move that comes next, or as it is where no actor can move
 unfoldable pub after_next : WorldState → WorldState
 after_next w = moved_by w (next_pick w)
 

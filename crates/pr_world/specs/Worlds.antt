@@ -108,7 +108,7 @@ next_pick w = option_or (first_scheduled w w.schedule) (option_map in_rounds (ne
 abbrev pub actor_of : Pick → Actor
 actor_of p = p.actor
 
--- who moves next; none where nobody can move
+-- who moves next; none where no actor can move
 unfoldable pub next_actor : WorldState → Option Actor
 next_actor w = option_map actor_of (next_pick w)
 
@@ -127,8 +127,8 @@ picked (Some p) w = with_pick p w
 unfoldable pub all_finished : {K : Type 0} → WorldOf K → Bool
 all_finished w = list_all has_finished w.controllers
 
--- How a world stands: nobody can move, and all controllers have finished or some have not; or somebody can move still,
--- for which there has to be a place.
+-- How a world stands: no actor can move, and all controllers have finished or some have not; or an actor can move
+-- still, for which there has to be a place.
 abbrev pub quiet_end : Bool → End
 quiet_end true = Quiet
 quiet_end false = Stuck
@@ -140,7 +140,7 @@ end_with w (Some actor) = Spent
 unfoldable pub end_of : WorldState → End
 end_of w = end_with w (next_actor w)
 
--- whether somebody can move and there is a place for the entry
+-- whether an actor can move and there is a place for the entry
 unfoldable pub goes_on : WorldState → Bool
 goes_on w = nat_lt (length w.kernel.history) w.kernel.places && is_some (next_actor w)
 

@@ -23,13 +23,13 @@ pub fn a_run_over_a_machine_is_a_function()
     ensures { (first w : WorldState) (n : ℕ) → IsTold first → RunsFor n first w → w ≡ after_moves n first }
 {}
 
-/// Who is next can move; where nobody is next, nobody can move.
+/// Who is next can move; where none is next, no actor can move.
 pub fn next_is_who_can_move()
     ensures next { (w : WorldState) (actor : AnyActor) → next_actor w ≡ Some actor → can_act w actor ≡ true }
     ensures nobody { (w : WorldState) (actor : AnyActor) → IsLawful w.kernel → next_actor w ≡ None → can_act w actor ≡ false }
 {}
 
-/// A fresh world over a machine, in which somebody can move after so many moves, has made just so many entries.
+/// A fresh world over a machine, in which an actor can move after so many moves, has made just so many entries.
 pub fn each_move_is_an_entry()
     ensures { (first : WorldState) (n : ℕ) → IsTold first → IsFresh first → is_some (next_actor (after_moves n first)) ≡ true → length (after_moves n first).kernel.history ≡ n }
 {}

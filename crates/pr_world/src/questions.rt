@@ -53,7 +53,7 @@ impl<Q: Kernel> World<Q> {
         self.callers[controller as usize].is_answered(self.alloc, &self.kern, controller)
     }
 
-    /// Whether somebody waits for the clock: an lwp in the call sleep, or a controller.
+    /// Whether an actor waits for the clock: an lwp in the call sleep, or a controller.
     #[tactic(auto, unfolding(crate::specs::Controllers::is_clock_awaited))]
     fn is_clock_awaited(&mut self) -> Result<bool, NoMemory>
         ensures value { IfOk result (λ awaited. awaited ≡ is_clock_awaited (Q.view self.old.kernel).clock (Q.view self.old.kernel).has_sleeper self.old.controllers) }
@@ -70,7 +70,7 @@ impl<Q: Kernel> World<Q> {
     }
 
     /// Whether an actor can move: a controller whose next call is ready, an lwp that can have a turn, and the clock
-    /// where somebody waits for it. An actor that there is not cannot.
+    /// where an lwp or a controller waits for it. An actor that there is not cannot.
     #[tactic(auto, unfolding(crate::specs::Worlds::can_act))]
     pub fn movable(&mut self, actor: Actor) -> Result<bool, NoMemory>
         ensures value { IfOk result (λ acts. acts ≡ can_act (seen Q.view self.old) actor) }

@@ -117,9 +117,9 @@ impl<Q: Kernel> World<Q> {
         Ok(next)
     }
 
-    /// Picks who moves next, whose turn comes then: the first actor of the schedule that can move, where one is left, and
-    /// then the next in the rounds. The place in the schedule, or in the round, moves on to that actor; where nobody can
-    /// move it stays.
+    /// Picks who moves next, whose turn comes then: the first actor of the schedule that can move, where one is left,
+    /// and then the next in the rounds. The place in the schedule, or in the round, moves on to that actor; where
+    /// no actor can move it stays.
     #[tactic(auto, unfolding(crate::specs::Worlds::next_pick, crate::specs::Worlds::next_actor))]
     pub fn pick(&mut self) -> Result<Option<Actor>, NoMemory>
         ensures value { IfOk result (λ next. next ≡ next_actor (seen Q.view self.old)) }
@@ -132,7 +132,7 @@ impl<Q: Kernel> World<Q> {
         }
     }
 
-    /// How the world has ended: `None` exactly where somebody can move and a place of the history is free.
+    /// How the world has ended: `None` exactly where an actor can move and a place of the history is free.
     pub fn ended(&mut self) -> Result<Option<End>, NoMemory>
         ensures value { IfOk result (λ end. end ≡ ended_as (seen Q.view self.old)) }
         ensures same { self.new ≡ self.old }
@@ -147,7 +147,7 @@ impl<Q: Kernel> World<Q> {
         }
     }
 
-    /// How a world has ended in which somebody can move: all places are taken, or it goes on.
+    /// How a world has ended in which an actor can move: all places are taken, or it goes on.
     fn spent_places(&self) -> Option<End>
         ensures { result ≡ (if nat_lt (length (Q.view self.now.kernel).history) (Q.view self.now.kernel).places then None else Some End.Spent) }
     {

@@ -49,7 +49,7 @@ fn callers_of(alloc: Global, controllers: Vec<Controller>) -> Result<Vec<Caller>
 }
 
 impl<Q> World<Q> {
-    /// A world in which nobody has moved.
+    /// A world in which no actor has moved.
     pub fn new(
         alloc: Global,
         kernel: Q,

@@ -55,8 +55,8 @@ bad_history = codes "BadHistory"
 unfoldable pub refused_at : ℕ → List ℕ → Answer
 refused_at line kind = record { status = Refused; history = []; text = refusal_text line kind }
 
--- The status of a run: done where nobody can move and all controllers have finished, stuck where nobody can move and a
--- controller has not, and spent where the history has all its entries and somebody could move still.
+-- The status of a run: done where no actor can move and all controllers have finished, stuck where no actor can move
+-- and a controller has not, and spent where the history has all its entries and an actor could move still.
 unfoldable pub end_status : End → Status
 end_status end.Quiet = Done
 end_status end.Spent = Spent

@@ -6,18 +6,18 @@ use Rattle.proclab.specs.declared.outcomes.Status.TheVariants.{Done, Spent, Stuc
 
 -- The cause of each status of a run that was made, in the world that the run led to. No two of them hold of one world.
 
--- done: nobody can move, and every controller has finished
+-- done: no actor can move, and every controller has finished
 pub record IsOver (w : WorldState) : Type 0 where
   pub rest : (actor : Actor) → can_act w actor ≡ false
   pub finished : all_finished w ≡ true
 
--- spent: somebody can move, and the history has as many entries as the scenario has turns
+-- spent: an actor can move, and the history has as many entries as the scenario has turns
 pub record IsFull (turns : ℕ) (w : WorldState) : Type 0 where
   pub mover : Actor
   pub can_move : can_act w mover ≡ true
   pub full : length w.kernel.history ≡ turns
 
--- stuck: nobody can move, and a controller has not finished
+-- stuck: no actor can move, and a controller has not finished
 pub record IsStuck (w : WorldState) : Type 0 where
   pub rest : (actor : Actor) → can_act w actor ≡ false
   pub unfinished : all_finished w ≡ false

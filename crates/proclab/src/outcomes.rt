@@ -11,15 +11,15 @@ use std::alloc::Global;
 /// How a call of the program ended.
 #[derive(Clone, Copy)]
 pub enum Status {
-    /// The work is done; of a run: nobody can move, and every controller has finished.
+    /// The work is done; of a run: no actor can move, and every controller has finished.
     Done = 0,
     /// The words ask for nothing that is built.
     Usage = 1,
     /// The input is refused.
     Refused = 2,
-    /// The history has all its entries, and somebody could move still.
+    /// The history has all its entries, and an actor could move still.
     Spent = 3,
-    /// Nobody can move, and a controller has not finished.
+    /// No actor can move, and a controller has not finished.
     Stuck = 4,
     /// A read failed.
     ReadFailed = 5,

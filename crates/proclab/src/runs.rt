@@ -93,7 +93,7 @@ pub fn make_run(alloc: Global, scenario: Scenario) -> Made
     }
 }
 
-/// Makes all moves of a world in which nobody has moved, and has its controllers print.
+/// Makes all moves of a world in which no actor has moved, and has its controllers print.
 fn finish(alloc: Global, world: &mut World<Kern>) -> Result<Ran, NoMemory>
     requires told { IsTold (seen kern_view world.old) }
     requires fresh { IsFresh (seen kern_view world.old) }
@@ -109,7 +109,7 @@ fn finish(alloc: Global, world: &mut World<Kern>) -> Result<Ran, NoMemory>
     Ok(Ran { end, reports })
 }
 
-/// Makes the run of a world in which nobody has moved.
+/// Makes the run of a world in which no actor has moved.
 fn run_world(alloc: Global, mut world: World<Kern>) -> Made
     requires told { IsTold (seen kern_view world) }
     requires fresh { IsFresh (seen kern_view world) }

@@ -12,16 +12,16 @@ use std::alloc::Global;
 use std::sync::Wait;
 use std::thread::Threads;
 
-/// Does what the words after the program's name ask for, from `source` to `sink`. A worker of a run on several
-/// threads passes `gate` before each of its turns.
+/// Does what the words after the program's name ask for, from `source` to `sink`. `gate` is for runs on several
+/// threads, which are not built: nothing passes it.
 ///
 /// The words `run`, `run -q` and `plain` are built, which make the run of a scenario on one thread; `check`, which says
-/// whether a history is legal; and `gen N`, which writes a scenario, reads nothing and takes no memory. Status 0, 3 and 4
-/// of a run: it was made and written; nobody could move and all controllers had finished, or the history had all its
-/// entries, or nobody could move and a controller had not finished. Status 0 and 8 of `check`: all entries are legal, or
-/// one is not. Status 2: the input was refused. Status 5: a read failed. Status 6: a write failed. Status 7: memory ran
-/// out. All other words get the usage line and status 1, or 6 where a write failed; nothing is read then, and no memory
-/// taken.
+/// whether a history is legal; and `gen N`, which writes a scenario, reads nothing and takes no memory. Status 0, 3 and
+/// 4 of a run: it was made and written; no actor could move and all controllers had finished, or the history had all
+/// its entries, or no actor could move and a controller had not finished. Status 0 and 8 of `check`: all entries are
+/// legal, or one is not. Status 2: the input was refused. Status 5: a read failed. Status 6: a write failed. Status 7:
+/// memory ran out. All other words get the usage line and status 1, or 6 where a write failed; nothing is read then,
+/// and no memory taken.
 pub fn serve<R: Threads + Wait + Sync, S: Source, K: Sink, G: Gate + Sync>(
     rt: &R,
     alloc: Global,
