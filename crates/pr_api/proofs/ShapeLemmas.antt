@@ -49,13 +49,9 @@ use Rattle.pr_model.specs.declared.calls.Reply.TheVariants.{Bytes, Done, Fail, U
 use Rattle.pr_model.specs.declared.handles.Held.{Held}
 use Rattle.pr_proc.proofs.ByteLemmas.{length-bytes_for}
 use Rattle.pr_api.specs.Shapes.{answers_message, has_shape, is_at_most, is_done, is_failure, is_used, longest_list}
+use Rattle.pr_num.proofs.BoolLemmas.{either}
 
 -- What the machine answers to a call has the shape of a reply to it.
-
--- what holds of both choices
-either : {X : Type 0} (P : X → Type 0) (b : Bool) (x y : X) → P x → P y → P (cond b x y)
-either P true x y h k = h
-either P false x y h k = k
 
 -- ---- what is read of memory and of messages
 

@@ -135,11 +135,7 @@ lacking-kept s pid q answer f d m lacks there ef ed em =
     ∙ ap (λ (space : Space). record s { processes = put_under pid (record q { space = space }) s.processes }) (lacking-err answer (m ≡ q.space) lacks em)
     ∙ ap (λ ps. record s { processes = ps }) (put_under-same pid q s.processes there)
 
--- each open file has room for one descriptor more
-pub room-one : (s : TracedSystem) → IsLawfulSystem s → HasRoom s.files 1
-room-one s lawful = files-room-one s lawful
-
-pub ruleset rooms = (room-one)
+pub ruleset rooms = (files-room-one)
 
 -- what stays the same does so after a refusal
 pub on_err_refl : {X : Type 0} (answer : Result ℕ Refusal) (x : X) → OnErr answer (x ≡ x)

@@ -4,6 +4,7 @@ use Rattle.pr_num.specs.Words.{word_bytes, words_bytes}
 use Rattle.pr_num.specs.declared.mappings.BadByte.{BadByte}
 use Rattle.pr_mem.specs.Answers.{access_answer}
 use Rattle.pr_mem.specs.declared.faults.MemFault.{MemFault}
+use Rattle.pr_codec.proofs.WordLemmas.{words_bytes-two}
 
 -- Words that calls store.
 
@@ -14,10 +15,7 @@ access-can (Err bad) fault can e = cc
 
 pub ruleset storing = (access-can)
 
-pub two-words : (first second : ℕ) → words_bytes (first ∷ second ∷ []) ≡ word_bytes first ++ word_bytes second
-two-words first second = ap (λ (bytes : List ℕ). word_bytes first ++ bytes) (append-nil (word_bytes second))
-
 pub three-words : (first second third : ℕ) → words_bytes (first ∷ second ∷ third ∷ []) ≡ word_bytes first ++ word_bytes second ++ word_bytes third
-three-words first second third = rw append_assoc (ap (λ (bytes : List ℕ). word_bytes first ++ bytes) (two-words second third))
+three-words first second third = rw append_assoc (ap (λ (bytes : List ℕ). word_bytes first ++ bytes) (words_bytes-two second third))
 
-pub ruleset words = (two-words, three-words)
+pub ruleset words = (words_bytes-two, three-words)

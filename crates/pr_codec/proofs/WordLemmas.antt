@@ -126,3 +126,7 @@ little_number-word_at bytes at =
 
 -- for `grind`, `search` and `simp`
 pub ruleset word_laws = (length-word_bytes, word_of-word_bytes, word_bytes-word_of, length-words_bytes, word_at-words_bytes, AreBytes-word_bytes, AreBytes-words_bytes)
+
+-- the bytes of two words
+pub words_bytes-two : (first second : ℕ) → words_bytes (first ∷ second ∷ []) ≡ word_bytes first ++ word_bytes second
+words_bytes-two first second = ap (λ (bytes : List ℕ). word_bytes first ++ bytes) (append-nil (word_bytes second))

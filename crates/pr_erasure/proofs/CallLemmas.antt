@@ -52,7 +52,8 @@ use Rattle.pr_model.specs.declared.stops.Stop.TheVariants.{Requested}
 use Rattle.pr_erasure.specs.Untouched.{IsUntouchedLwp, IsUntouchedProcess, IsUntouched}
 use Rattle.pr_erasure.proofs.PointLemmas.{directed-hidden, with_all_directed-hidden}
 use Rattle.pr_erasure.proofs.StateLemmas.{map_each-hidden, map_each-all_hidden, with_process-hidden, with_lwp-hidden}
-use Rattle.pr_erasure.proofs.UntouchedLemmas.{either, KeepsLwps, KeepsProcesses, directed-keeps, lwp-keeps, lwps-keep, process-keeps}
+use Rattle.pr_erasure.proofs.UntouchedLemmas.{KeepsLwps, KeepsProcesses, directed-keeps, lwp-keeps, lwps-keep, process-keeps}
+use Rattle.pr_num.proofs.BoolLemmas.{either}
 
 -- The calls of controllers in a passive history, as programs see them: nothing.
 

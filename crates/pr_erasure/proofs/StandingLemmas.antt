@@ -17,6 +17,7 @@ use Rattle.pr_model.specs.Signals.{is_kill, generated}
 use Rattle.pr_model.specs.State.{TracedLwp, TracedProcess, TracedSystem, process_of, live_process, lwp_of, with_process, with_lwp}
 use Rattle.pr_model.specs.declared.frames.Frame.{Frame}
 use Rattle.pr_model.specs.declared.lwps.Phase.{Phase}
+use Rattle.pr_num.proofs.BoolLemmas.{not_both}
 
 -- No change that a turn makes moves its own lwp: it stands, in the phase in which it was.
 
@@ -34,10 +35,6 @@ pub record Keeps (id : ℕ) (phase : Phase) (p : TracedProcess) : Type 0 where
   pub there : lwp_of p id ≡ Some lwp
   pub same : lwp.phase ≡ phase
 
-differs : (b : Bool) → b ≡ true → b ≡ false → ⊥
-differs true h e = cc
-differs false h e = cc
-
 -- ---- changes of a process that leave it in its phase
 
 module _ (id : ℕ) (phase : Phase) where
@@ -50,7 +47,7 @@ module _ (id : ℕ) (phase : Phase) where
       ]
     where
       elsewhere : other ≡ id → eqb other id ≡ false → ⊥
-      elsewhere is apart = differs _ (eq-eqb other id is) apart
+      elsewhere is apart = not_both _ (eq-eqb other id is) apart
 
   keeps-lwp : (p : TracedProcess) (other : ℕ) (f : TracedLwp → TracedLwp) → ((x : TracedLwp) → (f x).phase ≡ x.phase) → Keeps id phase p → Keeps id phase (with_lwp other f p)
   unfolding with_lwp
@@ -112,7 +109,7 @@ module _ (pid id : ℕ) (phase : Phase) where
             let k = keeps st.process (record { lwp = st.lwp; there = st.there; same = st.same }) in
             record { process = f st.process; lwp = k.lwp; found = ap (λ n. under pid (change_under n f s.processes)) is ∙ under-change_under pid f s.processes ∙ ap (option_map f) st.found; there = k.there; same = k.same }
         | inr apart ↦
-            record { process = st.process; lwp = st.lwp; found = under-change_under_other other pid f (λ is. differs _ (eq-eqb other pid is) apart) s.processes ∙ st.found; there = st.there; same = st.same }
+            record { process = st.process; lwp = st.lwp; found = under-change_under_other other pid f (λ is. not_both _ (eq-eqb other pid is) apart) s.processes ∙ st.found; there = st.there; same = st.same }
       ]
 
   same_processes : (s t : TracedSystem) → t.processes ≡ s.processes → Stands pid id phase s → Stands pid id phase t
@@ -122,7 +119,7 @@ module _ (pid id : ℕ) (phase : Phase) where
   stands-buried : (other status : ℕ) → eqb other pid ≡ false → (ps : List (ℕ × TracedProcess)) (p : TracedProcess) → under pid ps ≡ Some p → under pid (map_each (orphaned other) (change_under other (zombie traced status) ps)) ≡ Some (orphaned other p)
   stands-buried other status apart ps p found =
       under-map_each pid (orphaned other) (change_under other (zombie traced status) ps)
-      ∙ ap (option_map (orphaned other)) (under-change_under_other other pid (zombie traced status) (λ is. differs _ (eq-eqb other pid is) apart) ps ∙ found)
+      ∙ ap (option_map (orphaned other)) (under-change_under_other other pid (zombie traced status) (λ is. not_both _ (eq-eqb other pid is) apart) ps ∙ found)
 
   stands-told : (parent other status : ℕ) (s : TracedSystem) → Stands pid id phase s → Stands pid id phase (with_parent_told parent other status s)
   unfolding with_parent_told
@@ -156,12 +153,12 @@ module _ (pid id : ℕ) (phase : Phase) where
   stands-made : (p : TracedProcess) (s : TracedSystem) → eqb s.made pid ≡ false → Stands pid id phase s → Stands pid id phase (with_made p s)
   unfolding with_made
   stands-made p s apart st =
-      record { process = st.process; lwp = st.lwp; found = under-inserted_other s.made pid p (λ is. differs _ (eq-eqb s.made pid is) apart) s.processes ∙ st.found; there = st.there; same = st.same }
+      record { process = st.process; lwp = st.lwp; found = under-inserted_other s.made pid p (λ is. not_both _ (eq-eqb s.made pid is) apart) s.processes ∙ st.found; there = st.there; same = st.same }
 
   stands-reaped : (child : ℕ) (s : TracedSystem) → eqb child pid ≡ false → Stands pid id phase s → Stands pid id phase (with_reaped child s)
   unfolding with_reaped
   stands-reaped child s apart st =
-      record { process = st.process; lwp = st.lwp; found = under-without_id_other child pid (λ is. differs _ (eq-eqb child pid is) apart) s.processes ∙ st.found; there = st.there; same = st.same }
+      record { process = st.process; lwp = st.lwp; found = under-without_id_other child pid (λ is. not_both _ (eq-eqb child pid is) apart) s.processes ∙ st.found; there = st.there; same = st.same }
 
   unless-same : (b : Bool) (s new : TracedSystem) → (b ≡ false → Stands pid id phase new) → Stands pid id phase s → Stands pid id phase (cond b s new)
   unless-same true s new other st = st
@@ -176,7 +173,7 @@ module _ (pid id : ℕ) (phase : Phase) where
 
       by : (b : Bool) → is_some (lwp_of p new) ≡ b → Keeps id phase (cond b p (record p { next_lwp = new + 1; lwps = inserted new (new_lwp traced regs held (traced.marks false)) p.lwps }))
       by true is = k
-      by false none = record { lwp = k.lwp; there = under-inserted_other new id (new_lwp traced regs held (traced.marks false)) (λ is. differs _ (stood is) none) p.lwps ∙ k.there; same = k.same }
+      by false none = record { lwp = k.lwp; there = under-inserted_other new id (new_lwp traced regs held (traced.marks false)) (λ is. not_both _ (stood is) none) p.lwps ∙ k.there; same = k.same }
 
   module _ (p : TracedProcess) (l : TracedLwp) (same : l.phase ≡ phase) where
     keeps-program : (program : _) (q : TracedProcess) → Keeps id phase (with_program traced id l program q)

@@ -30,6 +30,7 @@ use Rattle.pr_model.specs.Transitions.{Transition, ended_if, after_transition}
 use Rattle.pr_model.specs.declared.stops.Point.{Point}
 use Rattle.pr_erasure.specs.Untouched.{IsUntouchedLwp, IsUntouchedProcess, IsUntouched}
 use Rattle.pr_erasure.specs.Suiting.{IsProper, AreProper}
+use Rattle.pr_num.proofs.BoolLemmas.{either}
 
 -- What a turn leaves untouched.
 
@@ -81,10 +82,6 @@ same_parts f control lwps pid x u = record {
   unwatched = ap (λ c. c.areas) (control x) ∙ u.unwatched;
   lwps = subst (All IsUntouchedLwp) (sym (lwps x)) u.lwps;
 }
-
-pub either : {X : Type 0} (P : X → Type 0) (b : Bool) (x y : X) → P x → P y → P (cond b x y)
-either P true x y one other = one
-either P false x y one other = other
 
 pending-keeps : (target : Option ℕ) (g : Sig) (info : Info) → KeepsProcesses (with_pending target g info)
 unfolding with_pending lwp_with_pending

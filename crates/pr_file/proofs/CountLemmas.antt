@@ -17,7 +17,7 @@ use Rattle.pr_parts.specs.FileTables.{open_of, open_with_place, IsFileTable, Has
 use Rattle.pr_parts.specs.FileTransfers.{after_write, bytes_from, has_reader, has_writer, pipe_bytes, read_fd, read_file, read_open, read_pipe, with_file_bytes, with_pipe_bytes, write_fd, write_file, write_open, write_pipe}
 use Rattle.pr_parts.specs.FileCalls.{contents, open_for_reading, open_for_writing, reads, writes, FileEffect, sought, with_open_at, with_user_added, with_open, with_file, with_all_shared, access_of, closed, created_file, creates, duplicated, first_open, made_pipe, opened, opened_file, piped, refused, with_pipe, with_read_end}
 use Rattle.pr_file.proofs.PlaceLemmas.{slice_get-set_other, slice_get-set_same}
-use Rattle.pr_file.proofs.TableLemmas.{IsFileTable-user_gone, IsOpenFile-at}
+use Rattle.pr_file.proofs.TableLemmas.{IsFileTable-user_gone, IsOpenFile-at, from_flat}
 
 -- Each open file counts the descriptors that stand for it.
 
@@ -30,11 +30,6 @@ at_same here n = ap (λ b. cond b n 0) (eq-eqb here here refl)
 
 elsewhere : (here place n : ℕ) → here ≢ place → only_at here place n ≡ 0
 elsewhere here place n ne = ap (λ b. cond b n 0) (ne_eqb here place ne)
-
-pub from_flat : {X : Type 0} (found : Option (Option X)) (x : X) → option_flatten found ≡ Some x → found ≡ Some (Some x)
-from_flat None x e = cc
-from_flat (Some None) x e = cc
-from_flat (Some (Some y)) x e = ap Some e
 
 -- ---- the users of an open file that is written anew
 

@@ -13,7 +13,8 @@ use Rattle.pr_parts.specs.FileTables.{PipesHaveEnds, at_place, file_named, free_
 use Rattle.pr_parts.specs.FileCalls.{FileEffect, access_of, closed, contents, created_file, creates, duplicated, first_open, made_pipe, no_files, open_for_reading, open_for_writing, opened, opened_file, piped, refused, sought, with_all_shared, with_file, with_open, with_open_at, with_pipe, with_read_end, with_user_added}
 use Rattle.pr_parts.specs.FileTransfers.{after_write, bytes_from, has_reader, has_writer, pipe_bytes, read_fd, read_file, read_open, read_pipe, with_file_bytes, with_pipe_bytes, write_fd, write_file, write_open, write_pipe}
 use Rattle.pr_file.proofs.PlaceLemmas.{slice_get-set_other}
-use Rattle.pr_file.proofs.CountLemmas.{from_flat, open_of-there, opens-file_bytes, read-there, write-there}
+use Rattle.pr_file.proofs.CountLemmas.{open_of-there, opens-file_bytes, read-there, write-there}
+use Rattle.pr_file.proofs.TableLemmas.{from_flat}
 
 -- Each pipe that stands has an open end.
 

@@ -6,12 +6,9 @@ use Rattle.std.proofs.lemmas.List.Sums.{sum_by-cons}
 use Rattle.std.proofs.lemmas.Option.{slice_get_within, get_or_from_slice_get, cond_some, none-some}
 use Rattle.pr_num.proofs.TableLemmas.{position-within, find-none}
 use Rattle.pr_parts.specs.FileTables.{with_placed, free_place, at_place}
+use Rattle.pr_num.proofs.NumberLemmas.{one_more}
 
 -- Lists whose places are taken again.
-
--- what holds of every element holds of the one at a place
-pub at-All : {X : Type 0} (P : X → Type 0) (xs : List X) (i : ℕ) (x : X) → slice_get xs i ≡ Some x → All P xs → P x
-at-All P xs i x e all = rw (get_or_from_slice_get xs i x x e) at (All-get_or P xs i x (slice_get_within xs i x e) all)
 
 -- what holds of every element is carried over to another fact, where that needs that no element passes a test
 pub All-untested : {X : Type 0} (p : X → Bool) (P Q : X → Type 0) → ((x : X) → p x ≡ false → P x → Q x) → (xs : List X) → list_any p xs ≡ false → All P xs → All Q xs
@@ -57,9 +54,6 @@ taken-set (y ∷ xs) (suc at) (suc i) x e = taken-set xs at i x e
 
 -- ---- the least free place
 
-one_more : (n : ℕ) → 1 + n ≡ suc n
-one_more n = omega arith
-
 pub free_place-within : {X : Type 0} (xs : List (Option X)) → free_place xs ≤ length xs
 free_place-within [] = omega arith
 free_place-within (None ∷ xs) = omega arith
@@ -94,20 +88,9 @@ push-position xs x e = push-free xs x (omega (arith, full-position xs e))
 
 pub ruleset placings = (free-position, set-position, full-position, push-position)
 
-pub within-position : {X : Type 0} (p : X → Bool) (xs : List X) (i : ℕ) → position p xs ≡ Some i → i < length xs
-within-position p xs i e = position-within p xs i e
-
-pub ruleset positions = (within-position)
+pub ruleset positions = (position-within)
 
 -- ---- no element passes a test
-
-untested-find : {X : Type 0} (p : X → Bool) (xs : List X) → find p xs ≡ None → list_any p xs ≡ false
-untested-find p [] e = refl
-untested-find p (x ∷ xs) e =
-    elim (p x) as (λ b. cond b (Some x) (find p xs) ≡ None → (b || list_any p xs) ≡ false) [ true ↦ λ found. absurd (none-some x (sym found)) | false ↦ λ rest. untested-find p xs rest ] e
-
-pub untested-position : {X : Type 0} (p : X → Bool) (xs : List X) → position p xs ≡ None → list_any p xs ≡ false
-untested-position p xs e = untested-find p xs (find-none p xs e)
 
 -- ---- what is placed
 

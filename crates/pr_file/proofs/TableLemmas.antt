@@ -15,7 +15,9 @@ use Rattle.pr_num.specs.Files.{FileTable, with_user_gone, without_idle_pipe, pip
 use Rattle.pr_parts.specs.FileTables.{IsFileTable, IsOpenFile, IsOpenPlace, IsPipePlace, IsShortFile, at_place, free_place, with_placed, file_named, has_name, names_differ, stands}
 use Rattle.pr_parts.specs.FileCalls.{no_files, with_user_added, with_file, with_open, with_open_at, with_pipe, with_read_end, first_open, contents}
 use Rattle.pr_parts.specs.FileTransfers.{after_write, written_over, pipe_bytes, with_pipe_bytes, with_file_bytes}
-use Rattle.pr_file.proofs.PlaceLemmas.{at-All, All-untested, All-placed, at_place-placed, length-placed, slice_get-set_other, taken-placed, taken-set, untested-position}
+use Rattle.pr_file.proofs.PlaceLemmas.{All-untested, All-placed, at_place-placed, length-placed, slice_get-set_other, taken-placed, taken-set}
+use Rattle.pr_num.proofs.SearchLemmas.{All-at, list_any-push}
+use Rattle.pr_num.proofs.TableLemmas.{list_any-no_place}
 
 -- A table of files stays one.
 
@@ -93,7 +95,7 @@ IsFileTable-user_gone t place h = go (slice_get t.opens place) refl
     go : (found : Option (Option OpenFile)) → slice_get t.opens place ≡ found → IsFileTable (with_user_gone t place)
     go None e = rw e h
     go (Some None) e = rw e h
-    go (Some (Some o)) e = rw e (one_fewer t place o (at-All (IsOpenPlace t.files t.pipes) t.opens place (Some o) e h.open_files) h)
+    go (Some (Some o)) e = rw e (one_fewer t place o (All-at (IsOpenPlace t.files t.pipes) t.opens place (Some o) e h.open_files) h)
 
 -- ---- a descriptor more
 
@@ -105,7 +107,7 @@ IsFileTable-user_added t place h = go (slice_get t.opens place) refl
     go None e = rw e h
     go (Some None) e = rw e h
     go (Some (Some o)) e =
-        rw e (let here = at-All (IsOpenPlace t.files t.pipes) t.opens place (Some o) e h.open_files in IsFileTable-open_set t place (Some (record o { users = o.users + 1 })) (record {
+        rw e (let here = All-at (IsOpenPlace t.files t.pipes) t.opens place (Some o) e h.open_files in IsFileTable-open_set t place (Some (record o { users = o.users + 1 })) (record {
           used = omega arith;
           within = here.within;
           target_stands = here.target_stands;
@@ -127,14 +129,8 @@ open_with_file files pipes f (Some o) here = record {
   target_stands = more_files_stand files pipes f o.target here.target_stands;
 }
 
-list_any-push : {X : Type 0} (p : X → Bool) (xs : List X) (x : X) → list_any p xs ≡ false → p x ≡ false → list_any p (xs ++ x ∷ []) ≡ false
-list_any-push p [] x none last = ap (λ b. b || false) last
-list_any-push p (y ∷ ys) x none last =
-    let parts = or_parts (p y) (list_any p ys) none in
-    rw (parts.0, list_any-push p ys x parts.1 last) refl
-
 -- names that differ are told apart both ways
-has_name-false : (f g : StoredFile) → has_name f.name g ≡ false → has_name g.name f ≡ false
+pub has_name-false : (f g : StoredFile) → has_name f.name g ≡ false → has_name g.name f ≡ false
 has_name-false f g other =
     elim (cases_Bool (has_name g.name f)) [ inl same ↦ absurd (false≢true (sym other ∙ (bytes_eq-Decides g.name f.name).1 (sym ((bytes_eq-Decides f.name g.name).0 same)))) | inr e ↦ e ]
 
@@ -154,7 +150,7 @@ IsFileTable-with_file t name bytes few short new h =
       few_pipes = h.few_pipes;
       short_files = All-push IsShortFile t.files f h.short_files short;
       short_pipes = h.short_pipes;
-      own_names = names_differ-push t.files f h.own_names (untested-position (has_name name) t.files new);
+      own_names = names_differ-push t.files f h.own_names (list_any-no_place (has_name name) t.files new);
       open_files = All-weaker (IsOpenPlace t.files t.pipes) (IsOpenPlace (t.files ++ f ∷ []) t.pipes) (open_with_file t.files t.pipes f) t.opens h.open_files;
     }
 
@@ -220,7 +216,7 @@ IsFileTable-with_pipe t few h =
 
 -- ---- an open file in the place of one
 
-from_flat : {X : Type 0} (found : Option (Option X)) (x : X) → option_flatten found ≡ Some x → found ≡ Some (Some x)
+pub from_flat : {X : Type 0} (found : Option (Option X)) (x : X) → option_flatten found ≡ Some x → found ≡ Some (Some x)
 from_flat None x e = cc
 from_flat (Some None) x e = cc
 from_flat (Some (Some y)) x e = ap Some e
@@ -228,7 +224,7 @@ from_flat (Some (Some y)) x e = ap Some e
 -- an open file that stands at a place is in order
 pub IsOpenFile-at : (t : FileTable) (place : ℕ) (o : OpenFile) → at_place t.opens place ≡ Some o → IsFileTable t → IsOpenFile t.files t.pipes o
 IsOpenFile-at t place o e h =
-    at-All (IsOpenPlace t.files t.pipes) t.opens place (Some o) (from_flat (slice_get t.opens place) o e) h.open_files
+    All-at (IsOpenPlace t.files t.pipes) t.opens place (Some o) (from_flat (slice_get t.opens place) o e) h.open_files
 
 pub IsFileTable-moved : (t : FileTable) (place offset : ℕ) (o : OpenFile) → IsOpenFile t.files t.pipes o → offset ≤ 65536 → IsFileTable t → IsFileTable (with_open_at t place (record o { offset = offset }))
 unfolding with_open_at
@@ -312,14 +308,14 @@ length-pipe_bytes t pipe h = go (slice_get t.pipes pipe) refl
     go : (found : Option (Option (List ℕ))) → slice_get t.pipes pipe ≡ found → length (pipe_bytes t pipe) ≤ 4096
     go None e = rw e (omega arith)
     go (Some None) e = rw e (omega arith)
-    go (Some (Some bytes)) e = rw e (at-All IsPipePlace t.pipes pipe (Some bytes) e h.short_pipes)
+    go (Some (Some bytes)) e = rw e (All-at IsPipePlace t.pipes pipe (Some bytes) e h.short_pipes)
 
 length-file_bytes : (t : FileTable) (place : ℕ) → IsFileTable t → length (contents t (File place)) ≤ 65536
 length-file_bytes t place h = go (slice_get t.files place) refl
   where
     go : (found : Option StoredFile) → slice_get t.files place ≡ found → length (contents t (File place)) ≤ 65536
     go None e = rw e (omega arith)
-    go (Some f) e = rw e (at-All IsShortFile t.files place f e h.short_files)
+    go (Some f) e = rw e (All-at IsShortFile t.files place f e h.short_files)
 
 pub length-contents : (t : FileTable) (target : Target) → IsFileTable t → length (contents t target) ≤ 65536
 length-contents t (File place) h = length-file_bytes t place h

@@ -6,8 +6,8 @@ use Rattle.pr_num.specs.declared.files.OpenFile.{OpenFile}
 use Rattle.pr_num.specs.Files.{FileTable, Descriptors, with_user_gone, with_all_closed}
 use Rattle.pr_parts.specs.FileTables.{IsFileTable, HasRoom, HasRoomAt}
 use Rattle.pr_parts.specs.FileCalls.{with_user_added, with_all_shared}
-use Rattle.pr_file.proofs.PlaceLemmas.{at-All}
 use Rattle.pr_file.proofs.TableLemmas.{IsFileTable-user_gone, IsFileTable-user_added}
+use Rattle.pr_num.proofs.SearchLemmas.{All-at}
 
 -- All descriptors of a process at once.
 
@@ -68,7 +68,7 @@ HasRoom-user_added t place more h = go (slice_get t.opens place) refl
     go None e = rw e (record { each = same })
     go (Some None) e = rw e (record { each = same })
     go (Some (Some o)) e =
-        rw e (let here = at-All (HasRoomAt (more + 1)) t.opens place (Some o) e h.each in record { each = All-set (HasRoomAt more) t.opens place (Some (record o { users = o.users + 1 })) (omega arith) same })
+        rw e (let here = All-at (HasRoomAt (more + 1)) t.opens place (Some o) e h.each in record { each = All-set (HasRoomAt more) t.opens place (Some (record o { users = o.users + 1 })) (omega arith) same })
 
 pub HasRoom-fewer : (t : FileTable) (more fewer : ℕ) → fewer ≤ more → HasRoom t more → HasRoom t fewer
 HasRoom-fewer t more fewer within h = record { each = All-weaker (HasRoomAt more) (HasRoomAt fewer) weaker t.opens h.each }

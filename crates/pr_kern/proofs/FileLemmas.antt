@@ -10,6 +10,7 @@ use Rattle.pr_parts.specs.FileTables.{file_named, has_name, names_differ}
 use Rattle.pr_proc.specs.FirstFiles.{stored_alone}
 use Rattle.pr_model.specs.FirstState.{stored_file}
 use Rattle.pr_kern.specs.Starts.{stored}
+use Rattle.pr_file.proofs.TableLemmas.{has_name-false}
 
 -- Files that are stored one after another, each under a name of its own.
 
@@ -28,11 +29,6 @@ position_or_len-none p (x ∷ xs) none =
 position-none : {X : Type 0} (p : X → Bool) (xs : List X) → list_any p xs ≡ false → position p xs ≡ None
 position-none p xs none = rw (position_or_len-none p xs none, le-ltb (length xs) (length xs) (omega arith)) refl
 
--- names that differ differ both ways
-differs : (f g : StoredFile) → has_name f.name g ≡ false → has_name g.name f ≡ false
-differs f g other =
-    elim (cases_Bool (has_name g.name f)) [ inl same ↦ absurd (false≢true (sym other ∙ (bytes_eq-Decides g.name f.name).1 (sym ((bytes_eq-Decides f.name g.name).0 same)))) | inr e ↦ e ]
-
 -- where names differ, no file has the name of one behind it
 none_before : (fs rest : List StoredFile) (g : StoredFile) → names_differ (fs ++ g ∷ rest) ≡ true → list_any (has_name g.name) fs ≡ false
 none_before [] rest g differ = refl
@@ -41,7 +37,7 @@ none_before (f ∷ fs) rest g differ =
     let none : list_any (has_name f.name) (fs ++ g ∷ rest) ≡ false = not-true (list_any (has_name f.name) (fs ++ g ∷ rest)) parts.0 in
     let behind = or_parts (list_any (has_name f.name) fs) _ (sym (list_any-append (has_name f.name) fs (g ∷ rest)) ∙ none) in
     let other : has_name f.name g ≡ false = (or_parts (has_name f.name g) (list_any (has_name f.name) rest) behind.1).0 in
-    or_from (has_name g.name f) (list_any (has_name g.name) fs) (differs f g other) (none_before fs rest g parts.1)
+    or_from (has_name g.name f) (list_any (has_name g.name) fs) (has_name-false f g other) (none_before fs rest g parts.1)
 
 pub new_name : (files done rest : List (List ℕ × List ℕ)) (name bytes : List ℕ) → files ≡ done ++ (name, bytes) ∷ rest → names_differ (stored files) ≡ true → file_named (stored_alone (stored done)) name ≡ None
 unfolding file_named

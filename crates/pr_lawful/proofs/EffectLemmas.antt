@@ -36,7 +36,6 @@ use Rattle.pr_parts.specs.declared.files.FileNo.{FileNo}
 use Rattle.pr_parts.specs.declared.files.FileNo.TheVariants.{Sleep, NoReader}
 use Rattle.pr_parts.specs.declared.files.Stat.{Stat}
 use Rattle.pr_parts.proofs.SpaceLemmas.{mapped_size-with_bytes, mapped_size-with_protected}
-use Rattle.pr_file.proofs.PlaceLemmas.{at-All}
 use Rattle.pr_model.specs.CallEffects.{call_effect}
 use Rattle.pr_model.specs.Changes.{files_are, space_is, reaps, Effect, does, sleeps, ends, gives, fails, with_fds, changed}
 use Rattle.pr_model.specs.FileCallRows.{read_effect, write_effect, open_effect, close_effect, pipe_effect, dup_effect, lseek_effect, fstat_effect, refusal_effect, file_effect, word_size}
@@ -62,6 +61,7 @@ use Rattle.pr_lawful.proofs.ProgramLemmas.{gap-outside, named-lawful, program-le
 use Rattle.pr_lawful.proofs.FileLemmas.{choice, IsFair, fair-closed, fair-duplicated, fair-opened, fair-piped, fair-sought, fair-written, fair-read, read-ends, read-ordered}
 use Rattle.pr_lawful.proofs.HoldableLemmas.{holdable-holdable}
 use Rattle.pr_lawful.proofs.SuitingLemmas.{SuitsFiles, SuitsSpace, SuitsReaped, SuitChanges}
+use Rattle.pr_num.proofs.SearchLemmas.{All-at}
 
 -- What a system call does suits a lawful system: a line a call.
 
@@ -413,7 +413,7 @@ module _ (s : TracedSystem) (pid : ℕ) (p : TracedProcess) (id : ℕ) (l : Trac
     where
       by : (o : Option Frame) → slice_get l.frames (length l.frames - 1) ≡ o → Suits (sigreturn_effect l.frames)
       by None is = rw is tt
-      by (Some frame) is = rw is ((at-All IsLawfulFrame l.frames (length l.frames - 1) frame is own-lwp.frames, All-take IsLawfulFrame (length l.frames - 1) l.frames own-lwp.frames), tt)
+      by (Some frame) is = rw is ((All-at IsLawfulFrame l.frames (length l.frames - 1) frame is own-lwp.frames, All-take IsLawfulFrame (length l.frames - 1) l.frames own-lwp.frames), tt)
 
   -- ---- lwps
 

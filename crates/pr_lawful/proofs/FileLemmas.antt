@@ -12,8 +12,8 @@ use Rattle.pr_parts.specs.FileTransfers.{ReadEffect, bytes_from, has_reader, has
 use Rattle.pr_parts.specs.declared.files.FileNo.TheVariants.{BadFd, BadOffset, NotSeekable}
 use Rattle.pr_file.proofs.CountLemmas.{CountsUsers-closed, CountsUsers-duplicated, CountsUsers-opened, CountsUsers-piped, open_of-there, read-there, write-there, users-sought, users-read, users-written}
 use Rattle.pr_file.proofs.EndLemmas.{ends-closed, ends-duplicated, ends-opened, ends-piped, ends-sought, ends-read, ends-written}
-use Rattle.pr_file.proofs.PlaceLemmas.{within-position}
 use Rattle.pr_file.proofs.TableLemmas.{IsFileTable-user_gone, IsFileTable-user_added, IsFileTable-created, IsFileTable-opened, IsFileTable-with_pipe, IsFileTable-moved, IsFileTable-dropped, IsFileTable-extended, IsFileTable-written, IsOpenFile-at, length-contents}
+use Rattle.pr_num.proofs.TableLemmas.{position-within}
 
 -- What a call on files makes of a table that is in order is in order, and counts the descriptors that there are then.
 
@@ -71,7 +71,7 @@ module _ (t : FileTable) (fds : Descriptors) (h : IsFileTable t) where
 
   named-within : (name : List ℕ) (file : ℕ) → file_named t name ≡ Some file → file < length t.files
   unfolding file_named
-  named-within name file found = within-position (has_name name) t.files file found
+  named-within name file found = position-within (has_name name) t.files file found
 
   opened-ordered : (name : List ℕ) (flags : ℕ) → IsOrdered t fds (opened t fds name flags)
   unfolding opened

@@ -8,13 +8,13 @@ use Rattle.std.proofs.lemmas.Option.{get_or_from_slice_get, same_Some, none-some
 use Rattle.pr_num.proofs.BoolLemmas.{or_false}
 use Rattle.pr_num.specs.ById.{under, change_under, rises_from}
 use Rattle.pr_num.proofs.ByIdLemmas.{rises_from-head, rises_from-tail}
-use Rattle.pr_file.proofs.PlaceLemmas.{at-All}
 use Rattle.pr_model.specs.Handles.{is_control, is_writable, is_exclusive, is_writer, is_exclusive_writer, has_writer, has_exclusive_writer, fits_file, conflicts, own, handle_of}
 use Rattle.pr_model.specs.Lawful.{IsFitting, AreExclusive, IsReleased}
 use Rattle.pr_model.specs.State.{Places, TracedProcess}
 use Rattle.pr_model.specs.declared.calls.Mode.{Mode}
 use Rattle.pr_model.specs.declared.calls.Mode.TheVariants.{Read, Write, WriteExcl}
 use Rattle.pr_model.specs.declared.handles.Held.{Held}
+use Rattle.pr_num.proofs.SearchLemmas.{All-at}
 
 -- The places for open handles, when one is taken and when one is free again.
 
@@ -239,7 +239,7 @@ module _ (opens : Places) (place : ℕ) (h : Held) (there : slice_get opens plac
 
 pub handle-writer : (opens : Places) (number : ℕ) (h : Held) → All IsFitting opens → slice_get opens number ≡ Some (Some h) → is_control h.file ≡ true → has_writer h.pid opens ≡ true
 handle-writer opens number h all there control =
-    let fits : fits_file h.file h.mode h.lwp ≡ true = at-All IsFitting opens number (Some h) there all in
+    let fits : fits_file h.file h.mode h.lwp ≡ true = All-at IsFitting opens number (Some h) there all in
     any-at (is_writer h.pid) opens number (Some h) there (rw (eq-eqb h.pid h.pid refl, control-writes h fits control) refl)
 
 -- ---- processes beside other handles

@@ -29,6 +29,7 @@ use Rattle.pr_lawful.proofs.ProgramLemmas.{placed-lawful}
 use Rattle.pr_lawful.proofs.ReleasedLemmas.{modeless-released, spawned-released}
 use Rattle.pr_lawful.proofs.StateLemmas.{new-space, spawned-lawful}
 use Rattle.pr_lawful.proofs.SumLemmas.{sizes-sum, sum_of, sum-inserted}
+use Rattle.pr_model.proofs.StateLemmas.{with_spawned-made}
 
 -- The first state is lawful.
 
@@ -97,11 +98,6 @@ module _ (programs : List Program) (files : List StoredFile) (spawns : List ℕ)
 
 -- ---- spawns
 
--- what is spawned is made, and maps what its program does
-spawned-made : (program : Program) (s : TracedSystem) → (with_spawned traced program false s).made ≡ s.made + 1
-unfolding with_spawned with_made
-spawned-made program s = refl
-
 spawned-programs : (program : Program) (s : TracedSystem) → (with_spawned traced program false s).programs ≡ s.programs
 unfolding with_spawned with_made
 spawned-programs program s = refl
@@ -140,7 +136,7 @@ spawns-state opens (place ∷ spawns) s h room =
     by : (o : Option Program) → slice_get s.programs place ≡ o → sum_by (λ at. size_at_start (slice_get s.programs at)) (place ∷ spawns) ≡ size_at_start (slice_get s.programs place) + sum_by (λ at. size_at_start (slice_get s.programs at)) spawns → s.made + suc (length spawns) ≤ process_limit → total_size s + sum_by (λ at. size_at_start (slice_get s.programs at)) (place ∷ spawns) ≤ all_mappings_limit → HasRoomFor spawns (spawned_at o s)
     by None is size made mapped = record { made = omega arith; mapped = omega arith }
     by (Some program) is size made mapped = record {
-      made = let more = spawned-made program s in omega arith;
+      made = let more = with_spawned-made program s in omega arith;
       mapped =
           let all = spawned-size program s in
           let own : size_at_start (slice_get s.programs place) ≡ size_at_start (Some program) = ap size_at_start is in

@@ -11,6 +11,7 @@ use Rattle.pr_model.specs.Handles.{is_writable, has_writer, was_last_writer, aft
 use Rattle.pr_model.specs.State.{TracedState, TracedSystem, TracedProcess, TracedLwp, if_live, live_process, process_of, with_process}
 use Rattle.pr_model.specs.declared.handles.Held.{Held}
 use Rattle.pr_laws.specs.LastCloses.{HasNoMark, IsReleased}
+use Rattle.pr_model.proofs.StateLemmas.{live-found}
 
 -- What the last close for writing leaves.
 
@@ -26,15 +27,6 @@ unmarked (e ∷ es) = All-cons HasNoMark _ _ (record { no_stop = refl; no_direct
 released-is : (p : TracedProcess) → IsReleased (released p)
 unfolding released released_control
 released-is p = record { no_signals = refl; no_faults = refl; no_entries = refl; no_exits = refl; no_areas = refl; lwps = unmarked p.lwps }
-
--- a live process that is released is live
-live-found : (o : Option TracedProcess) (p : TracedProcess) → option_and_then if_live o ≡ Some p → (o ≡ Some p) × (is_none p.ended ≡ true)
-live-found None p e = cc
-live-found (Some q) p e = by (is_none q.ended) refl e
-  where
-    by : (b : Bool) → is_none q.ended ≡ b → cond b (Some q) None ≡ Some p → (Some q ≡ Some p) × (is_none p.ended ≡ true)
-    by true is e = (e, ap (λ (x : TracedProcess). is_none x.ended) (sym (same_Some q p e)) ∙ is)
-    by false is e = cc
 
 released-live : (p : TracedProcess) → is_none p.ended ≡ true → if_live (released p) ≡ Some (released p)
 unfolding released

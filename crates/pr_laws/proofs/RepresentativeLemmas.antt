@@ -15,6 +15,7 @@ use Rattle.pr_model.specs.Stops.{class_of_shown, class_of, first_in_class, is_in
 use Rattle.pr_model.specs.declared.stops.Shown.{Shown}
 use Rattle.pr_model.specs.declared.stops.Shown.TheVariants.{Event, Suspended, JobControl}
 use Rattle.pr_model.specs.declared.stops.Stop.TheVariants as stop
+use Rattle.pr_model.proofs.StateLemmas.{representative-agent}
 
 -- The representative of a process without an agent is of no greater class than any other lwp, and of its class has the
 -- least id.
@@ -107,10 +108,5 @@ unfolding Leads
 representative-leads p e rises no_agent found =
     let leads = chosen-leads p.job_stop p.lwps rises e no_agent (sym (representative-chosen p) ∙ found) in
     record { stands = leads.0; first = leads.1 }
-
--- an agent is the representative
-pub representative-agent : (p : TracedProcess) (l : TracedLwp) → lwp_of p agent_id ≡ Some l → representative p ≡ Some (agent_id, l)
-unfolding representative
-representative-agent p l agent = rw agent refl
 
 pub ruleset representatives = (representative-leads, representative-agent)

@@ -1,6 +1,6 @@
 use Rattle.std.proofs.Common.{◌≡◌, ℕ, IsSome, Some, Result, Ok, Err, List, [], ◌∷◌, ◌++◌, length, ap, ◌∙◌, arith, length-append}
 use Rattle.std.proofs.lemmas.List.{append-nil}
-use Rattle.pr_codec.proofs.WordLemmas.{length-word_bytes}
+use Rattle.pr_codec.proofs.WordLemmas.{length-word_bytes, words_bytes-two}
 use Rattle.pr_mem.specs.Answers.{access_answer}
 use Rattle.pr_mem.specs.declared.faults.MemFault.{MemFault}
 use Rattle.pr_num.specs.Words.{word_bytes, words_bytes}
@@ -24,11 +24,7 @@ access-fails (Err (NotAllowed at)) f bad e named = cc
 
 pub ruleset access_laws = (access-names, access-fails)
 
--- the bytes of two words
-pub two_words : (a b : ℕ) → words_bytes (a ∷ b ∷ []) ≡ word_bytes a ++ word_bytes b
-two_words a b = ap (λ w. word_bytes a ++ w) (append-nil (word_bytes b))
-
-pub ruleset frame_laws = (two_words)
+pub ruleset frame_laws = (words_bytes-two)
 
 -- how many bytes are stored
 pub length-word : (w : ℕ) → length (word_bytes w) ≡ 8

@@ -13,6 +13,7 @@ use Rattle.pr_parts.proofs.AccessLemmas.{length-written_bytes}
 use Rattle.pr_parts.proofs.ByAddressLemmas.{All-placed}
 use Rattle.pr_mem.specs.Answers.{is_outside_heap_place}
 use Rattle.pr_num.proofs.TableLaws.{All-change_first, All-without_first}
+use Rattle.pr_parts.proofs.FirstLemmas.{length-pages}
 
 -- Calls leave the heap its place.
 
@@ -45,9 +46,6 @@ LeavesHeapPlace-with_bytes at bytes space leaves =
     All-map LeavesHeapPlace (with_written at bytes) space (All-weaker LeavesHeapPlace (λ m. LeavesHeapPlace (with_written at bytes m)) (written_leaves at bytes) space leaves)
 
 -- ---- the space in which a program begins
-
-length-pages : (bytes : List ℕ) → length (whole_pages bytes) ≡ rounded (length bytes)
-length-pages bytes = omega (arith, length-append bytes (replicate (rounded (length bytes) - length bytes) 0), length-replicate {A = ℕ} (rounded (length bytes) - length bytes) 0)
 
 low_leaves : (m : Mapping) → m.at + length m.bytes ≤ heap_base → LeavesHeapPlace m
 low_leaves m low =

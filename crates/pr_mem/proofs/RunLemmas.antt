@@ -11,6 +11,7 @@ use Rattle.pr_parts.specs.AddressSpaces.{written_bytes}
 use Rattle.pr_parts.proofs.AccessLemmas.{bytes_for-append, bytes_for-fails, bytes_for-run, found-low, found-high, found-limit, joined, written_bytes-append, written_bytes-inside, written_bytes-outside}
 use Rattle.pr_mem.specs.Answers.{checked, IsRun}
 use borrow.Rule.Slice.PartMut.{put_mid}
+use Rattle.pr_num.proofs.NumberLemmas.{unwrapped}
 
 -- the first so many bytes of an access can be accessed
 pub record IsChecked (need : ℕ) (space : Space) (at len done : ℕ) : Type 0 where
@@ -23,9 +24,6 @@ pub record IsFilled (need : ℕ) (space : Space) (at : ℕ) (out : List ℕ) (do
   pub within : done ≤ length out
   pub bytes : bytes_for need space at done ≡ Ok (take done out)
   pub end : at + done < 2 ^ 64
-
-below_limit : (a : ℕ) → a < 2 ^ 64 → a % 2 ^ 64 ≡ a
-below_limit a h = omega arith
 
 checked-joined : (x : Result (List ℕ) BadByte) (run : List ℕ) → checked x ≡ Ok tt → checked (joined x (Ok run)) ≡ Ok tt
 checked-joined (Ok bytes) run e = refl
@@ -47,7 +45,7 @@ IsFilled-start need space at out range = record { within = omega arith; bytes = 
 -- one run more
 pub IsChecked-more : (need : ℕ) (space : Space) (at len done most : ℕ) (run : List ℕ) → IsChecked need space at len done → most ≡ len - done → IsRun need space (at + done) most run → IsChecked need space at len (done + length run)
 IsChecked-more need space at len done most run old size more =
-    let here = below_limit (at + done) old.end in
+    let here = unwrapped (at + done) old.end in
     record {
       within = omega (arith, old.within, more.within);
       bytes = rw (bytes_for-append need space at done (length run) (omega (arith, old.end)), here, more.bytes) (checked-joined (bytes_for need space at done) run old.bytes);
@@ -56,7 +54,7 @@ IsChecked-more need space at len done most run old size more =
 
 pub IsFilled-more : (need : ℕ) (space : Space) (at : ℕ) (out : List ℕ) (done most : ℕ) (run now : List ℕ) (n : ℕ) → IsFilled need space at out done → most ≡ length out - done → IsRun need space (at + done) most run → n ≡ length run → now ≡ run → IsFilled need space at (put_mid done n out now) (done + length run)
 IsFilled-more need space at out done most run now n old size more e same =
-    let here = below_limit (at + done) old.end in
+    let here = unwrapped (at + done) old.end in
     let front = take-put_mid done n out run (done + length run) refl old.within in
     let len = length-put done n out run old.within (omega (arith, old.within, more.within)) in
     rw same (record {
@@ -75,7 +73,7 @@ IsChecked-fails need space at len done bad old near fails =
   where
     go : (n k : ℕ) → n ≡ done + k → 0 < k → checked (bytes_for need space at n) ≡ Err bad
     go n k e some =
-        let here = below_limit (at + done) old.end in
+        let here = unwrapped (at + done) old.end in
         rw (e, bytes_for-append need space at done k (omega (arith, old.end)), here, bytes_for-fails need space (at + done) k bad fails some) (fails-joined (bytes_for need space at done) bad old.bytes)
 
 pub IsFilled-checked : (need : ℕ) (space : Space) (at : ℕ) (out : List ℕ) (done : ℕ) → IsFilled need space at out done → IsChecked need space at (length out) done

@@ -6,15 +6,13 @@ use Rattle.pr_num.specs.Spaces.{Space, byte_for, bytes_for, one_more}
 use Rattle.pr_num.specs.declared.mappings.BadByte.{BadByte}
 use Rattle.pr_parts.specs.AddressSpaces.{text_at, text_behind, text_with}
 use Rattle.pr_mem.specs.Answers.{IsRun, is_zero, length_read, with_text}
+use Rattle.pr_num.proofs.NumberLemmas.{unwrapped, wrapped-step}
 
 -- a length that is so much more
 abbrev pub more_read : ℕ → Result (Option ℕ) BadByte → Result (Option ℕ) BadByte
 more_read n (Err bad) = Err bad
 more_read n (Ok None) = Ok None
 more_read n (Ok (Some len)) = Ok (Some (n + len))
-
-wrapped : (a j : ℕ) → ((a + 1) % 2 ^ 64 + j) % 2 ^ 64 ≡ (a + suc j) % 2 ^ 64
-wrapped a j = omega arith
 
 -- ---- bytes that were read, one by one
 
@@ -63,7 +61,7 @@ text_at-run space [] a n range bytes none =
 text_at-run space (b ∷ run) a n range bytes none =
     let parts = begins (byte_for prot_read space a) (bytes_for prot_read space ((a + 1) % 2 ^ 64) (length run)) b run bytes in
     let size : suc (length run) + n ≡ suc (length run + n) = omega arith in
-    elim (is_zero b) as (λ t. is_zero b ≡ t → cond (not t) (1 + position_or_len is_zero run) 0 ≡ suc (length run) → length_read (text_at space a (suc (length run) + n)) ≡ more_read (suc (length run)) (length_read (text_at space ((a + suc (length run)) % 2 ^ 64) n))) [ true ↦ λ t e. absurd (omega arith) | false ↦ λ f e. rw size (text_at-more space a (length run + n) b parts.here f ∙ ap (more_read 1) (text_at-run space run ((a + 1) % 2 ^ 64) n (omega arith) parts.behind (omega arith)) ∙ more_more (length run) (length_read (text_at space (((a + 1) % 2 ^ 64 + length run) % 2 ^ 64) n)) ∙ ap (λ x. more_read (suc (length run)) (length_read (text_at space x n))) (wrapped a (length run))) ] refl none
+    elim (is_zero b) as (λ t. is_zero b ≡ t → cond (not t) (1 + position_or_len is_zero run) 0 ≡ suc (length run) → length_read (text_at space a (suc (length run) + n)) ≡ more_read (suc (length run)) (length_read (text_at space ((a + suc (length run)) % 2 ^ 64) n))) [ true ↦ λ t e. absurd (omega arith) | false ↦ λ f e. rw size (text_at-more space a (length run + n) b parts.here f ∙ ap (more_read 1) (text_at-run space run ((a + 1) % 2 ^ 64) n (omega arith) parts.behind (omega arith)) ∙ more_more (length run) (length_read (text_at space (((a + 1) % 2 ^ 64 + length run) % 2 ^ 64) n)) ∙ ap (λ x. more_read (suc (length run)) (length_read (text_at space x n))) (wrapped-step a (length run))) ] refl none
 
 -- a run with a zero
 pub text_at-zero : (space : Space) (run : List ℕ) (a n : ℕ) → a < 2 ^ 64 → bytes_for prot_read space a (length run) ≡ Ok run → position_or_len is_zero run < length run → length_read (text_at space a (length run + n)) ≡ Ok (Some (position_or_len is_zero run))
@@ -132,15 +130,12 @@ more_again m n (Err bad) = refl
 more_again m n (Ok None) = refl
 more_again m n (Ok (Some len)) = let same : m + (n + len) ≡ m + n + len = omega arith in ap (λ x. Ok (Some x)) same
 
-below_limit : (a : ℕ) → a < 2 ^ 64 → a % 2 ^ 64 ≡ a
-below_limit a h = omega arith
-
 -- one run more
 pub IsOpen-more : (space : Space) (at most done asked : ℕ) (run : List ℕ) → IsOpen space at most done → asked ≡ most - done → IsRun prot_read space (at + done) asked run → position_or_len is_zero run ≡ length run → IsOpen space at most (done + length run)
 IsOpen-more space at most done asked run old size more none =
     let left : most - done ≡ length run + (most - (done + length run)) = omega (arith, old.within, more.within) in
     let next : at + done + length run ≡ at + (done + length run) = omega arith in
-    let here = below_limit (at + done + length run) more.end in
+    let here = unwrapped (at + done + length run) more.end in
     let step = text_at-run space run (at + done) (most - (done + length run)) old.end more.bytes none in
     record {
       within = omega (arith, old.within, more.within);

@@ -23,3 +23,12 @@ eqb_comm m n =
 pub cond-same : {X : Type 0} (b : Bool) (x : X) → cond b x x ≡ x
 cond-same true x = refl
 cond-same false x = refl
+
+-- what holds of both things of a choice holds of the choice
+pub either : {X : Type 0} (P : X → Type 0) (b : Bool) (x y : X) → P x → P y → P (cond b x y)
+either P true x y one other = one
+either P false x y one other = other
+
+pub not_both : (b : Bool) → b ≡ true → b ≡ false → ⊥
+not_both true is not = cc
+not_both false is not = cc

@@ -6,6 +6,7 @@ pub mod FlagBounds
 pub mod InstructionLemmas
 pub mod ListLemmas
 pub mod NameLemmas
+pub mod NumberLemmas
 pub mod NumberedLemmas
 pub mod SearchLemmas
 pub mod SetBounds

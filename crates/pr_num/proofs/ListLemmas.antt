@@ -1,10 +1,12 @@
-use Rattle.std.proofs.Common.{◌≡◌, ℕ, zero, suc, ◌+◌, ◌*◌, Some, None, List, [], ◌∷◌, ◌++◌, length, take, drop, refl, ap, ◌∙◌, add-one, arith}
-use Rattle.std.proofs.lemmas.List.{length-append}
+use Rattle.std.proofs.Common.{◌≡◌, ℕ, zero, suc, ◌+◌, ◌*◌, Some, None, List, [], ◌∷◌, ◌++◌, length, take, drop, refl, ap, ◌∙◌, add-one, arith, true}
+use Rattle.std.proofs.lemmas.List.{length-append, take-append-le, take_all}
 use Rattle.std.proofs.lemmas.Option.{none-some, same_Some}
 use Rattle.std.specs.List.{flat_map, slice_get}
 use Rattle.pr_num.specs.Instructions.{instruction_bytes}
 use Rattle.pr_num.specs.Words.{word_bytes}
 use Rattle.pr_num.specs.declared.instructions.Instruction.{Instruction}
+use Rattle.std.specs.Str.{bytes_eq}
+use Rattle.std.proofs.lemmas.Slice.Eq.{bytes_eq-Decides}
 
 -- A list cut at one of its places, for walks by index.
 
@@ -34,6 +36,10 @@ take-next i xs x is = ap (λ k. take k xs) (add-one i) ∙ next i xs x is
 pub take-past : {X : Type 0} (i : ℕ) (xs : List X) → slice_get xs i ≡ None → take (i + 1) xs ≡ take i xs
 take-past i xs is = ap (λ k. take k xs) (add-one i) ∙ past i xs is
 
+-- the front of what begins with a list
+pub take-front : {X : Type 0} (xs ys : List X) → take (length xs) (xs ++ ys) ≡ xs
+take-front xs ys = take-append-le (length xs) xs ys (omega arith) ∙ take_all (length xs) xs (omega arith)
+
 -- ---- the text of a program
 
 -- an instruction has 16 bytes
@@ -45,3 +51,9 @@ pub length-text : (code : List Instruction) → length (flat_map instruction_byt
 length-text [] = refl
 length-text (i ∷ code) =
     omega (arith, length-append (instruction_bytes i) (flat_map instruction_bytes code), length-instruction i, length-text code)
+
+-- ---- bytes
+
+-- bytes are equal to themselves
+pub bytes_eq-self : (bytes : List ℕ) → bytes_eq bytes bytes ≡ true
+bytes_eq-self bytes = (bytes_eq-Decides bytes bytes).1 refl

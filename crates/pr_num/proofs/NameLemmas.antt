@@ -1,10 +1,7 @@
 use Rattle.std.proofs.Common.{◌≡◌, ℕ, ◌+◌, ◌-◌, ◌≤◌, List, ◌++◌, length, take, drop, replicate, ap, arith, ◌∙◌, sym}
 use Rattle.std.proofs.lemmas.List.{length-append, take-append-le, take_all, drop-replicate, length-replicate}
 use Rattle.pr_num.specs.Padding.{padded, IsName}
-
--- the front of what begins with s
-take-front : (s zs : List ℕ) → take (length s) (s ++ zs) ≡ s
-take-front s zs = take-append-le (length s) s zs (omega arith) ∙ take_all (length s) s (omega arith)
+use Rattle.pr_num.proofs.ListLemmas.{take-front}
 
 -- bytes written over the front of 31 zeros are a name
 pub named : (s : List ℕ) → 1 ≤ length s → length s ≤ 31 → IsName (s ++ drop (length s) (replicate 31 0)) (length s)

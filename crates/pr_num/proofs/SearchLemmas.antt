@@ -1,9 +1,10 @@
-use Rattle.std.proofs.Common.{◌≡◌, Bool, true, false, ◌||◌, cond, Some, None, IsSome, List, [], ◌∷◌, refl, sym, ◌∙◌, ap, subst}
-use Rattle.std.specs.List.{All, find, list_any}
-use Rattle.std.proofs.lemmas.List.Elements.{All-head, All-tail}
-use Rattle.std.proofs.lemmas.Option.{same_Some, none-some}
+use Rattle.std.proofs.Common.{◌≡◌, ℕ, Bool, true, false, ◌||◌, cond, Some, None, IsSome, List, [], ◌∷◌, ◌++◌, refl, sym, ◌∙◌, ap, subst}
+use Rattle.std.specs.List.{All, find, list_any, slice_get}
+use Rattle.std.proofs.lemmas.List.Elements.{All-get_or, All-head, All-tail}
+use Rattle.std.proofs.lemmas.Option.{get_or_from_slice_get, none-some, same_Some, slice_get_within}
+use Rattle.std.proofs.lemmas.Bool.{or_parts}
 
--- Laws of searches in lists.
+-- Laws of searches and tests in lists.
 
 -- what is found passes the test
 pub find-passes : {X : Type 0} (p : X → Bool) (xs : List X) (x : X) → find p xs ≡ Some x → p x ≡ true
@@ -34,3 +35,14 @@ pub list_any-find_none : {X : Type 0} (p : X → Bool) (xs : List X) → find p 
 list_any-find_none p [] none = refl
 list_any-find_none p (x ∷ xs) none =
     elim (p x) as (λ b. cond b (Some x) (find p xs) ≡ None → (b || list_any p xs) ≡ false) [ true ↦ λ e. cc | false ↦ λ e. list_any-find_none p xs e ] none
+
+-- what holds of each holds of what stands at a place
+pub All-at : {X : Type 0} (P : X → Type 0) (xs : List X) (i : ℕ) (x : X) → slice_get xs i ≡ Some x → All P xs → P x
+All-at P xs i x there all = subst P (get_or_from_slice_get xs i x x there) (All-get_or P xs i x (slice_get_within xs i x there) all)
+
+-- no element passes where none passes and neither does the one behind them
+pub list_any-push : {X : Type 0} (p : X → Bool) (xs : List X) (x : X) → list_any p xs ≡ false → p x ≡ false → list_any p (xs ++ x ∷ []) ≡ false
+list_any-push p [] x none last = ap (λ b. b || false) last
+list_any-push p (y ∷ ys) x none last =
+    let parts = or_parts (p y) (list_any p ys) none in
+    rw (parts.0, list_any-push p ys x parts.1 last) refl

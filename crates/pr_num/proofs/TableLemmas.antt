@@ -1,15 +1,14 @@
 use Rattle.std.proofs.Common.{◌≡◌, ℕ, zero, suc, ◌+◌, ◌<◌, ◌≤◌, Bool, true, false, not, ltb, cond, Option, Some, None, IsSome, is_some, List, [], ◌∷◌, ◌++◌, length, map, take, drop, get_or, set, refl, sym, ◌∙◌, ap, arith, inl, inr}
-use Rattle.std.specs.List.{find, slice_get, position, position_or_len, remove}
+use Rattle.std.specs.List.{find, list_any, slice_get, position, position_or_len, remove}
 use Rattle.std.proofs.lemmas.Bool.{ltb-true, ltb-false, false≢true, cases_Bool}
 use Rattle.std.proofs.lemmas.List.{drop_more, map_more, set_at, get_or_at, append_assoc, length-take-le, length-map}
 use Rattle.std.proofs.lemmas.List.Folds.{find_at}
 use Rattle.std.proofs.lemmas.Option.{slice_get_past, cond_some, same_Some}
 use Rattle.pr_num.specs.KeyedTables.{change_first, put_first, without_first}
+use Rattle.pr_num.proofs.NumberLemmas.{one_more}
+use Rattle.pr_num.proofs.SearchLemmas.{list_any-find_none}
 
 -- ---- the first place that passes a test
-
-one_more : (n : ℕ) → 1 + n ≡ suc n
-one_more n = omega arith
 
 position-some : {X : Type 0} (p : X → Bool) (xs : List X) (i : ℕ) → position p xs ≡ Some i → position_or_len p xs ≡ i
 position-some p xs i e = (cond_some (ltb (position_or_len p xs) (length xs)) (position_or_len p xs) i e).1
@@ -29,6 +28,10 @@ find-position p xs i e = find_at p xs ∙ ap (slice_get xs) (position-some p xs 
 
 pub find-none : {X : Type 0} (p : X → Bool) (xs : List X) → position p xs ≡ None → find p xs ≡ None
 find-none p xs e = find_at p xs ∙ slice_get_past xs _ (not_below _ _ _ e)
+
+-- no element passes where the search for a place finds none
+pub list_any-no_place : {X : Type 0} (p : X → Bool) (xs : List X) → position p xs ≡ None → list_any p xs ≡ false
+list_any-no_place p xs none = list_any-find_none p xs (find-none p xs none)
 
 pub position-found : {X : Type 0} (p : X → Bool) (xs : List X) → IsSome (find p xs) → IsSome (position p xs)
 position-found p xs found =

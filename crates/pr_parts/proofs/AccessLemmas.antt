@@ -13,6 +13,7 @@ use Rattle.pr_num.specs.declared.mappings.Mapping.{Mapping}
 use Rattle.pr_parts.specs.AddressSpaces.{written_bytes}
 use Rattle.pr_parts.proofs.ByAddressLemmas.{AllPairs-head, AllPairs-tail}
 use Rattle.pr_num.proofs.SearchLemmas.{All-find, find-passes}
+use Rattle.pr_num.proofs.NumberLemmas.{unwrapped, wrapped-step}
 
 -- ---- the mapping that has a byte
 
@@ -58,9 +59,6 @@ pub ruleset finds = (found-low, found-high, found-limit)
 
 -- ---- a run of bytes
 
-below_limit : (a : ℕ) → a < 2 ^ 64 → a % 2 ^ 64 ≡ a
-below_limit a h = omega arith
-
 -- the byte at an address, where a mapping has it
 pub byte_for-found : (needed : ℕ) (space : Space) (m : Mapping) (a : ℕ) → find (covers a) space ≡ Some m → has_flags m.prot needed ≡ true → byte_for needed space a ≡ Ok (get_or m.bytes (a - m.at) 0)
 byte_for-found needed space m a found allowed = rw (found, allowed) refl
@@ -78,7 +76,7 @@ bytes_for-run needed space m a zero apart found allowed low high limit = refl
 bytes_for-run needed space m a (suc size) apart found allowed low high limit =
     let this = found (omega arith) in
     let first = byte_for-found needed space m a this allowed in
-    let next : (a + 1) % 2 ^ 64 ≡ a + 1 = below_limit (a + 1) (omega arith) in
+    let next : (a + 1) % 2 ^ 64 ≡ a + 1 = unwrapped (a + 1) (omega arith) in
     let rest = bytes_for-run needed space m (a + 1) size apart (λ some. find-covers a (a + 1) space m apart this (covers-from (a + 1) m (omega arith) (omega arith))) allowed (omega arith) (omega arith) limit in
     let at : a + 1 - m.at ≡ a - m.at + 1 = omega arith in
     let parts = drop_more m.bytes (a - m.at) 0 (omega arith) in
@@ -102,9 +100,6 @@ nothing-joined : (xs : Result (List ℕ) BadByte) → joined (Ok []) xs ≡ xs
 nothing-joined (Err bad) = refl
 nothing-joined (Ok xs) = refl
 
-wrapped : (a j : ℕ) → ((a + 1) % 2 ^ 64 + j) % 2 ^ 64 ≡ (a + suc j) % 2 ^ 64
-wrapped a j = omega arith
-
 pub bytes_for-append : (needed : ℕ) (space : Space) (a j k : ℕ) → a < 2 ^ 64 → bytes_for needed space a (j + k) ≡ joined (bytes_for needed space a j) (bytes_for needed space ((a + j) % 2 ^ 64) k)
 unfolding bytes_for
 bytes_for-append needed space a zero k range =
@@ -114,7 +109,7 @@ bytes_for-append needed space a zero k range =
 bytes_for-append needed space a (suc j) k range =
     let more : suc j + k ≡ suc (j + k) = omega arith in
     let rest = bytes_for-append needed space ((a + 1) % 2 ^ 64) j k (omega arith) in
-    rw (more, rest, wrapped a j) (one_more-joined (byte_for needed space a) (bytes_for needed space ((a + 1) % 2 ^ 64) j) (bytes_for needed space ((a + suc j) % 2 ^ 64) k))
+    rw (more, rest, wrapped-step a j) (one_more-joined (byte_for needed space a) (bytes_for needed space ((a + 1) % 2 ^ 64) j) (bytes_for needed space ((a + suc j) % 2 ^ 64) k))
 
 -- a byte that fails, fails the bytes from it on
 pub bytes_for-fails : (needed : ℕ) (space : Space) (a n : ℕ) (bad : BadByte) → byte_for needed space a ≡ Err bad → 0 < n → bytes_for needed space a n ≡ Err bad

@@ -10,6 +10,7 @@ use Rattle.std.proofs.lemmas.List.Kept.{AllPairs-cons}
 use Rattle.pr_num.specs.KeyedTables.{change_first, without_first}
 use Rattle.pr_parts.specs.ByAddress.{ranges_meet, is_behind, with_placed}
 use Rattle.pr_num.proofs.TableLaws.{All-change_first, All-without_first}
+use Rattle.pr_num.proofs.NumberLemmas.{one_more}
 
 -- ---- pairs
 
@@ -23,9 +24,6 @@ pub AllPairs-nil : {X : Type 0} (R : X → X → Type 0) → AllPairs R []
 AllPairs-nil R i j d order within = absurd (omega arith)
 
 -- ---- one thing more at its place
-
-one_more : (n : ℕ) → 1 + n ≡ suc n
-one_more n = omega arith
 
 pub insert-placed : {X : Type 0} (address_of : X → ℕ) (x : X) (xs : List X) → insert xs (position_or_len (is_behind address_of (address_of x)) xs) x ≡ with_placed address_of x xs
 insert-placed address_of x [] = refl

@@ -19,7 +19,7 @@ pub first_space-mappings : (p : Program) → first_space p ≡ first_mappings (t
 unfolding first_space first_mappings
 first_space-mappings p = refl
 
-length-pages : (bytes : List ℕ) → length (whole_pages bytes) ≡ rounded (length bytes)
+pub length-pages : (bytes : List ℕ) → length (whole_pages bytes) ≡ rounded (length bytes)
 length-pages bytes = omega (arith, length-append bytes (replicate (rounded (length bytes) - length bytes) 0), length-replicate {A = ℕ} (rounded (length bytes) - length bytes) 0)
 
 -- mappings that begin behind an address and stand by rising address and apart, up to a number of bytes
@@ -83,7 +83,7 @@ IsSpace-first text bytes few_text few_bytes =
     let parts = append_assoc (unless_empty 0x10000 read_execute Text text) (unless_empty 0x80000 read_write Data bytes) stack in
     subst IsSpace (sym parts) (record { apart = all.apart; not_empty = all.not_empty; within = all.within; limit = omega (arith, all.size) })
 
-size-pages : (at prot : ℕ) (kind : MappingKind) (bytes : List ℕ) → mapped_size (unless_empty at prot kind bytes) ≡ rounded (length bytes)
+pub size-pages : (at prot : ℕ) (kind : MappingKind) (bytes : List ℕ) → mapped_size (unless_empty at prot kind bytes) ≡ rounded (length bytes)
 size-pages at prot kind [] = refl
 size-pages at prot kind (b ∷ bytes) =
     let m : Mapping = record { at = at; prot = prot; kind = kind; bytes = whole_pages (b ∷ bytes) } in

@@ -8,7 +8,7 @@ use Rattle.std.specs.Prelude.{◌||◌}
 use Rattle.std.proofs.lemmas.List.Elements.{All-append, All-drop, All-map, All-take, All-weaker}
 use Rattle.std.proofs.lemmas.List.Quantifiers.{all_pairs_remove}
 use Rattle.std.proofs.lemmas.List.{length-map}
-use Rattle.pr_num.proofs.TableLemmas.{position-within, remove-without_first, without_first-no_place, change_first-place, change_first-no_place}
+use Rattle.pr_num.proofs.TableLemmas.{position-within, remove-without_first, without_first-no_place, change_first-place, change_first-no_place, list_any-no_place}
 use Rattle.pr_num.specs.KeyedTables.{change_first, without_first}
 use Rattle.pr_num.specs.Spaces.{Space, IsBefore, IsSpace, mapped_size, mapping_limit}
 use Rattle.pr_num.specs.declared.mappings.Mapping.{Mapping}
@@ -135,10 +135,6 @@ any-place p (x ∷ xs) =
 pub has-position : {X : Type 0} (p : X → Bool) (xs : List X) (i : ℕ) → position p xs ≡ Some i → list_any p xs ≡ true
 has-position p xs i e = any-place p xs ∙ (cond_some (ltb (position_or_len p xs) (length xs)) (position_or_len p xs) i e).0
 
-pub has-no_position : {X : Type 0} (p : X → Bool) (xs : List X) → position p xs ≡ None → list_any p xs ≡ false
-has-no_position p xs e =
-    elim (cases_Bool (ltb (position_or_len p xs) (length xs))) [ inl t ↦ absurd (cc) | inr f ↦ any-place p xs ∙ f ]
-
 pub remove-without_range : (at size : ℕ) (space : Space) (place : ℕ) → position (is_range at size) space ≡ Some place → remove space place ≡ without_range at size space
 unfolding without_range
 remove-without_range at size space place e = remove-without_first (is_range at size) space place e
@@ -155,4 +151,4 @@ pub with_protected-none : (at size prot : ℕ) (space : Space) → position (is_
 unfolding with_protected
 with_protected-none at size prot space e = change_first-no_place (is_range at size) (with_prot prot) space e
 
-pub ruleset ranges = (has-position, has-no_position, remove-without_range, set-with_protected, position-within)
+pub ruleset ranges = (has-position, list_any-no_place, remove-without_range, set-with_protected, position-within)

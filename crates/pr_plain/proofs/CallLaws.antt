@@ -28,9 +28,10 @@ use Rattle.pr_text.proofs.NumberLemmas.{decimal-apart}
 use Rattle.pr_text.proofs.PlainLemmas.{split_lwp}
 use Rattle.pr_plain.proofs.DecimalLemmas.{is_number-from_id}
 use Rattle.pr_plain.proofs.FrontLemmas.{word_at-is}
-use Rattle.pr_plain.proofs.RowLemmas.{Takes, Taken, one_word, found_by, pair_of, bytes_eq-self, by_word, one_found, two_found, three_found, one_again, two_again, three_again, taken_as}
+use Rattle.pr_plain.proofs.RowLemmas.{Takes, Taken, one_word, found_by, pair_of, by_word, one_found, two_found, three_found, one_again, two_again, three_again, taken_as}
 use Rattle.pr_plain.proofs.WordLaws.{ids, number_step, id_step, bytes_step, errno_step, file_step, mode_step, program_step}
 use Rattle.std.proofs.lemmas.Slice.Eq.{bytes_eq-Decides}
+use Rattle.pr_num.proofs.ListLemmas.{bytes_eq-self}
 
 -- ---- a process and its lwp
 

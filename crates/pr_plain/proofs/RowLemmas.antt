@@ -6,6 +6,7 @@ use Rattle.std.proofs.lemmas.Slice.Eq.{bytes_eq-Decides}
 use Rattle.pr_plain.specs.Readings.{◌>>=◌}
 use Rattle.pr_plain.specs.WordReading.{Words, word_at, behind_word}
 use Rattle.pr_plain.proofs.FrontLemmas.{word_at-is}
+use Rattle.pr_num.proofs.ListLemmas.{bytes_eq-self}
 
 -- ---- steps of reading
 
@@ -80,9 +81,6 @@ one_word {A} read write form u = record { taken = taken; again = λ x rest h. wo
         }
 
 -- ---- a word that is given
-
-pub bytes_eq-self : (w : List ℕ) → bytes_eq w w ≡ true
-bytes_eq-self w = (bytes_eq-Decides w w).1 refl
 
 pub behind_word-is : (k : List ℕ) (ws rest : Words) → behind_word k ws ≡ Some rest → ws ≡ k ∷ rest
 unfolding behind_word word_at

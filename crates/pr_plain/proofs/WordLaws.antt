@@ -24,8 +24,9 @@ use Rattle.pr_plain.specs.WordReading.{signal_of, number_at, id_at, bytes_at, sy
 use Rattle.pr_plain.proofs.DecimalLemmas.{decimal_of-word, decimal_of-decimal, decimal_id_of-word, decimal_id_of-decimal}
 use Rattle.pr_plain.proofs.HexLemmas.{bytes_of_word-hex_word, hex_word-bytes_of_word, bytes_of_word-bytes}
 use Rattle.pr_model.proofs.NameLemmas.{file_of_name-name, file_name-of_name, mode_of_name-name, mode_name-of_name}
-use Rattle.pr_plain.proofs.RowLemmas.{Undoes, Takes, one_word, found_by, bytes_eq-self}
+use Rattle.pr_plain.proofs.RowLemmas.{Undoes, Takes, one_word, found_by}
 use Rattle.std.proofs.lemmas.Slice.Eq.{bytes_eq-Decides}
+use Rattle.pr_num.proofs.ListLemmas.{bytes_eq-self}
 
 abbrev pub any : {A : Type 0} → A → Bool
 any x = true

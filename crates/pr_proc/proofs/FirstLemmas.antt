@@ -12,6 +12,7 @@ use Rattle.pr_model.specs.State.{TracedProcess, TracedSystem, process_of}
 use Rattle.pr_model.specs.Lives.{with_made, with_spawned}
 use Rattle.pr_model.specs.Machines.{traced}
 use Rattle.pr_model.specs.FirstState.{spawned_at, with_spawns, bare_system}
+use Rattle.pr_model.proofs.StateLemmas.{with_spawned-made}
 
 -- at a step of a loop over places of programs
 pub with_spawns-step : (places : List ℕ) (i : ℕ) (d : ℕ) (s : TracedSystem) → i < length places → with_spawns (drop i places) s ≡ with_spawns (drop (i + 1) places) (spawned_at (slice_get s.programs (get_or places i d)) s)
@@ -22,11 +23,6 @@ with_spawns-step places i d s within = ap (λ xs. with_spawns xs s) (drop_more p
 pub with_spawns-end : (places : List ℕ) (i : ℕ) (s : TracedSystem) → length places ≤ i → with_spawns (drop i places) s ≡ s
 unfolding with_spawns
 with_spawns-end places i s past = ap (λ xs. with_spawns xs s) (drop_all i places past)
-
--- one more process was made
-pub with_spawned-made : (program : Program) (s : TracedSystem) → (with_spawned traced program false s).made ≡ s.made + 1
-unfolding with_spawned with_made
-with_spawned-made program s = refl
 
 pub bare_system-made : (programs : List Program) (files : List StoredFile) → (bare_system programs files).made ≡ 1
 unfolding bare_system

@@ -7,6 +7,7 @@ use Rattle.pr_num.specs.Files.{with_all_closed}
 use Rattle.pr_model.specs.Lives.{orphaned, with_ended, with_lwp_ended, with_parent_told, with_this_ended, zombie}
 use Rattle.pr_model.specs.Machines.{traced}
 use Rattle.pr_model.specs.State.{TracedSystem, TracedProcess, if_live, live_process, process_of}
+use Rattle.pr_model.proofs.StateLemmas.{live-found}
 
 -- Live processes.
 
@@ -15,18 +16,14 @@ if_live-same : (q p : TracedProcess) → if_live q ≡ Some p → (q ≡ p) × (
 if_live-same q p e =
     elim (cases_Bool (is_none q.ended)) [ inl here ↦ (same_Some q p (let P : Bool → Type 0 = λ b. cond b (Some q) None ≡ Some p in subst P here e), here) | inr not_here ↦ absurd (let wrong : None ≡ Some p = (let P : Bool → Type 0 = λ b. cond b (Some q) None ≡ Some p in subst P not_here e) in cc) ]
 
-and_live : (o : Option TracedProcess) (p : TracedProcess) → option_and_then if_live o ≡ Some p → (o ≡ Some p) × (is_none p.ended ≡ true)
-and_live None p e = absurd (cc)
-and_live (Some q) p e = let same = if_live-same q p e in (ap Some same.0, let P : TracedProcess → Type 0 = λ x. is_none x.ended ≡ true in subst P same.0 same.1)
-
 -- a live process stands under its id, and has not ended
 pub live_process-found : (s : TracedSystem) (pid : ℕ) (p : TracedProcess) → live_process s pid ≡ Some p → under pid s.processes ≡ Some p
 unfolding live_process
-live_process-found s pid p e = (and_live (process_of s pid) p e).0
+live_process-found s pid p e = (live-found (process_of s pid) p e).0
 
 pub live_process-live : (s : TracedSystem) (pid : ℕ) (p : TracedProcess) → live_process s pid ≡ Some p → is_none p.ended ≡ true
 unfolding live_process
-live_process-live s pid p e = (and_live (process_of s pid) p e).1
+live_process-live s pid p e = (live-found (process_of s pid) p e).1
 
 -- a process of this id that has not ended is the live one
 pub live_process-made : (s : TracedSystem) (pid : ℕ) (p : TracedProcess) → under pid s.processes ≡ Some p → is_none p.ended ≡ true → live_process s pid ≡ Some p

@@ -23,6 +23,7 @@ use Rattle.pr_num.proofs.EntryLemmas.{signal_of_number-number, signal_number-of_
 use Rattle.pr_rec.specs.Fields.{number_or_zero, truth_word, disposition_number, disposition_of}
 use Rattle.pr_rec.specs.declared.lwps.Disposition.{Disposition}
 use Rattle.pr_rec.specs.declared.lwps.Disposition.TheVariants.{Default, Ignored, Caught}
+use Rattle.pr_num.proofs.SearchLemmas.{list_any-find_none}
 
 -- ---- the entry of a number
 
@@ -47,16 +48,10 @@ call_back w small = number-back syscall_number (syscall_of_number w) w (syscall_
 pub reason_back : (w : ℕ) → w < 8 → number_or_zero reason_number (entry_at stop_reasons w) ≡ w
 reason_back w small = number-back reason_number (entry_at stop_reasons w) w (reason_number-of_number w) (none_where_zero _ w 7 (reason_numbers-range w) small)
 
--- where a search finds nothing, no entry passes
-find-none : {T : Type 0} (p : T → Bool) (xs : List T) → find p xs ≡ None → list_any p xs ≡ false
-find-none p [] e = refl
-find-none p (x ∷ xs) e =
-    elim (p x) as (λ b. cond b (Some x) (find p xs) ≡ None → (b || list_any p xs) ≡ false) [ true ↦ λ f. absurd cc | false ↦ λ f. find-none p xs f ] e
-
 errno_none : (w : ℕ) → an_errno w ≡ true → errno_of_number w ≡ None → w ≡ 0
 unfolding errno_of_number
 errno_none w ok e =
-    elim (or_cases (eqb w 0) (list_any (is_numbered w) errnos) ok) [ inl is ↦ eqb-true w 0 is | inr some ↦ absurd (false≢true (sym (find-none (is_numbered w) errnos e) ∙ some)) ]
+    elim (or_cases (eqb w 0) (list_any (is_numbered w) errnos) ok) [ inl is ↦ eqb-true w 0 is | inr some ↦ absurd (false≢true (sym (list_any-find_none (is_numbered w) errnos e) ∙ some)) ]
 
 pub errno_back : (w : ℕ) → IsTrue (an_errno w) → number_or_zero errno_number (errno_of_number w) ≡ w
 errno_back w ok = number-back errno_number (errno_of_number w) w (errno_number-of_number w) (errno_none w ok)

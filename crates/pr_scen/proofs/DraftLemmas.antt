@@ -16,10 +16,10 @@ fresh_at (Some place) r e = cc
 abbrev may : Bool → Bool → Result (Unit {0}) ScenKind
 may a b = cond a (Err Double) (cond b (Ok tt) (Err TooMany))
 
-room_at : (a b : Bool) → may a b ≡ Ok tt → b ≡ true
-room_at true b e = cc
-room_at false true e = refl
-room_at false false e = cc
+pub room_after : (a b : Bool) → may a b ≡ Ok tt → b ≡ true
+room_after true b e = cc
+room_after false true e = refl
+room_after false false e = cc
 
 -- a program that may begin has a name of its own, and there is room for it
 pub fresh_program : (d : Draft) (name : List ℕ) → may_begin d (Program name) ≡ Ok tt → place_of d.program_names name ≡ None
@@ -28,6 +28,6 @@ fresh_program d name e = fresh_at (place_of d.program_names name) _ e
 
 pub few_programs : (d : Draft) (name : List ℕ) → may_begin d (Program name) ≡ Ok tt → length d.program_names < 256
 unfolding may_begin
-few_programs d name e = ltb-true _ _ (room_at (is_some (place_of d.program_names name)) (nat_lt (length d.program_names) 256) e)
+few_programs d name e = ltb-true _ _ (room_after (is_some (place_of d.program_names name)) (nat_lt (length d.program_names) 256) e)
 
 pub ruleset may_laws = (fresh_program, few_programs)

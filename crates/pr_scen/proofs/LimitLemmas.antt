@@ -48,6 +48,8 @@ use Rattle.pr_scen.specs.declared.script_blocks.InScript.{InScript}
 use Rattle.pr_scen.specs.declared.script_blocks.InScript.TheVariants as in_script
 use Rattle.pr_scen.specs.declared.script_lines.ScriptLine.{ScriptLine}
 use Rattle.pr_scen.specs.declared.script_lines.ScriptLine.TheVariants as call
+use Rattle.pr_num.proofs.SearchLemmas.{list_any-push}
+use Rattle.pr_scen.proofs.DraftLemmas.{room_after}
 
 -- ---- what a line says of turns: not 0
 
@@ -149,15 +151,6 @@ unfolding with_turns
 sound_turns d n some s =
     if_ok IsSound (is_some d.turns) _ _ (λ _. tt) (λ _. if_ok IsSound (nat_le n 100000) _ _ (λ most. record { turns_within = (some, leb-true n 100000 most); files_within = s.files_within; spawned = s.spawned; few_controllers = s.few_controllers; listed = s.listed; few_turns = s.few_turns }) (λ _. tt))
 
--- one file more, of a name that none has
-any_more : {X : Type 0} (p : X → Bool) (xs : List X) (y : X) → list_any p xs ≡ false → p y ≡ false → list_any p (xs ++ y ∷ []) ≡ false
-any_more p [] y none new = ap (λ b. b || false) new
-any_more p (x ∷ xs) y none new = at (p x) (list_any p xs) none (any_more p xs y)
-  where
-    at : (b c : Bool) → (b || c) ≡ false → (c ≡ false → p y ≡ false → list_any p (xs ++ y ∷ []) ≡ false) → (b || list_any p (xs ++ y ∷ [])) ≡ false
-    at true c e f = cc
-    at false c e f = f e new
-
 pub not_found : (b : Bool) (i : ℕ) (rest : Option ℕ) → cond b (Some i) rest ≡ None → (b ≡ false) × (rest ≡ None)
 not_found true i rest e = cc
 not_found false i rest e = (refl, e)
@@ -168,7 +161,7 @@ differ_more (f ∷ files) i name bytes new own =
     let apart = and_parts (not (list_any (has_name f.0) (map stored_file files))) (names_differ (map stored_file files)) own in
     let others = not_found (bytes_eq name f.0) i (position_from (bytes_eq name) (i + 1) (map (λ f. f.0) files)) new in
     let rest = differ_more files (i + 1) name bytes others.1 apart.1 in
-    rw (any_more (has_name f.0) (map stored_file files) (stored_file (name, bytes)) (not-true _ apart.0) others.0) rest
+    rw (list_any-push (has_name f.0) (map stored_file files) (stored_file (name, bytes)) (not-true _ apart.0) others.0) rest
 
 no_place : (o : Option ℕ) → is_some o ≡ false → o ≡ None
 no_place None e = refl
@@ -367,10 +360,6 @@ may a b = cond a (Err Double) (if_room b)
 room_at : (b : Bool) → if_room b ≡ Ok tt → b ≡ true
 room_at true e = refl
 room_at false e = cc
-
-room_after : (a b : Bool) → may a b ≡ Ok tt → b ≡ true
-room_after true b e = cc
-room_after false b e = room_at b e
 
 sound_block : (n : ℕ) (d : Draft) (i : Item) (body : List (List ℕ)) (last : List ℕ) → may_begin d i ≡ Ok tt → IsSound d → IfOk (block_added n d i body last) IsSound
 unfolding block_added may_begin

@@ -33,14 +33,12 @@ use Rattle.pr_scen.specs.declared.refusals.ScenFault.{ScenFault}
 use Rattle.pr_scen.specs.declared.refusals.ScenKind.TheVariants.{UnknownName, Double, TooMany, TooBig}
 use Rattle.pr_scen.specs.declared.script_lines.ScriptLine.{ScriptLine}
 use Rattle.pr_scen.specs.declared.script_lines.ScriptLine.TheVariants as call
+use Rattle.pr_num.proofs.ListLemmas.{bytes_eq-self}
 
 -- ---- names
 
-itself : (name : List ℕ) → bytes_eq name name ≡ true
-itself name = (bytes_eq-Decides name name).1 refl
-
 found_behind : (above below : List (List ℕ)) (name : List ℕ) (k : ℕ) → position_from (bytes_eq name) k above ≡ None → position_from (bytes_eq name) k (above ++ name ∷ below) ≡ Some (k + length above)
-found_behind [] below name k fresh = ap (λ b. cond b (Some k) (position_from (bytes_eq name) (k + 1) below)) (itself name) ∙ ap Some (omega arith)
+found_behind [] below name k fresh = ap (λ b. cond b (Some k) (position_from (bytes_eq name) (k + 1) below)) (bytes_eq-self name) ∙ ap Some (omega arith)
 found_behind (a ∷ above) below name k fresh =
     let apart = not_found (bytes_eq name a) k (position_from (bytes_eq name) (k + 1) above) fresh in
     ap (λ b. cond b (Some k) (position_from (bytes_eq name) (k + 1) (above ++ name ∷ below))) apart.0

@@ -8,16 +8,10 @@ use Rattle.pr_num.specs.Spaces.{first_mappings, first_space, mapped_size, unless
 use Rattle.pr_num.specs.declared.mappings.Mapping.{Mapping}
 use Rattle.pr_num.specs.declared.mappings.MappingKind.{MappingKind}
 use Rattle.pr_num.specs.declared.mappings.MappingKind.TheVariants.{Text, Data, Stack}
-
-length-pages : (bytes : List ℕ) → length (whole_pages bytes) ≡ rounded (length bytes)
-length-pages bytes = omega (arith, length-append bytes (replicate (rounded (length bytes) - length bytes) 0), length-replicate {A = ℕ} (rounded (length bytes) - length bytes) 0)
+use Rattle.pr_parts.proofs.FirstLemmas.{size-pages}
 
 abbrev size_of : Mapping → ℕ
 size_of m = length m.bytes
-
-size-pages : (at prot : ℕ) (kind : MappingKind) (bytes : List ℕ) → mapped_size (unless_empty at prot kind bytes) ≡ rounded (length bytes)
-size-pages at prot kind [] = refl
-size-pages at prot kind (b ∷ bytes) = omega (arith, length-pages (b ∷ bytes))
 
 pub size_at_first : (p : Program) → mapped_size (first_space p) ≡ rounded (16 * length p.code) + rounded (length p.bytes) + 4096
 unfolding first_space first_mappings

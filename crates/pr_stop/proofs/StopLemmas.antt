@@ -3,12 +3,9 @@ use Rattle.pr_num.specs.Agents.{agent_id}
 use Rattle.pr_model.specs.State.{TracedLwp, TracedProcess, lwp_of}
 use Rattle.pr_model.specs.Stops.{representative}
 use Rattle.pr_stop.specs.Classes.{in_classes}
+use Rattle.pr_model.proofs.StateLemmas.{representative-agent}
 
 -- The representative lwp, by whether there is an agent.
-
-pub representative-agent : (p : TracedProcess) (l : TracedLwp) → lwp_of p agent_id ≡ Some l → representative p ≡ Some (agent_id, l)
-unfolding representative
-representative-agent p l e = rw e refl
 
 pub representative-classes : (p : TracedProcess) → lwp_of p agent_id ≡ None → representative p ≡ in_classes p
 unfolding representative in_classes

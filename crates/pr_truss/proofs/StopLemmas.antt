@@ -9,6 +9,7 @@ use Rattle.pr_codec.specs.Words.{word_at}
 use Rattle.pr_rec.specs.declared.lwps.LwpStatus.{LwpStatus}
 use Rattle.pr_truss.specs.Records.{lwp_in, lwps_in, lstatus_lwps, is_on_event, noted, Sees}
 use Rattle.pr_truss.specs.declared.records.Stops.{Stops}
+use Rattle.pr_num.proofs.NumberLemmas.{one_left}
 
 -- lwps that were read, in front of more
 abbrev pub after_seen : List LwpStatus → Option (List LwpStatus) → Option (List LwpStatus)
@@ -19,9 +20,6 @@ after_seen seen more = option_map (λ ls. seen ++ ls) more
 longer : (seen : List LwpStatus) (l : LwpStatus) (more : Option (List LwpStatus)) → after_seen seen (option_map (λ ls. l ∷ ls) more) ≡ after_seen (seen ++ l ∷ []) more
 longer seen l None = refl
 longer seen l (Some ls) = ap Some (sym (append_assoc seen (l ∷ []) ls))
-
-next : (n i : ℕ) → i < n → n - i ≡ suc (n - (i + 1))
-next n i lt = omega arith
 
 lwps_in-next : (m : ℕ) (rest : List ℕ) (l : LwpStatus) → lwp_in rest ≡ Some l → lwps_in (suc m) rest ≡ option_map (λ ls. l ∷ ls) (lwps_in m (drop 264 rest))
 unfolding lwps_in
@@ -72,7 +70,7 @@ seen_first bytes rest n enough n_is rest_is = record {
 
 so_far-more : (n i : ℕ) (whole : Option (List LwpStatus)) (seen : List LwpStatus) (rest later : List ℕ) (l : LwpStatus) → i < n → lwp_in rest ≡ Some l → later ≡ drop 264 rest → whole ≡ after_seen seen (lwps_in (n - i) rest) → whole ≡ after_seen (seen ++ l ∷ []) (lwps_in (n - (i + 1)) later)
 so_far-more n i whole seen rest later l lt is later_is so_far =
-    so_far ∙ ap (λ m. after_seen seen (lwps_in m rest)) (next n i lt) ∙ ap (after_seen seen) (lwps_in-next (n - (i + 1)) rest l is)
+    so_far ∙ ap (λ m. after_seen seen (lwps_in m rest)) (one_left n i lt) ∙ ap (after_seen seen) (lwps_in-next (n - (i + 1)) rest l is)
     ∙ longer seen l (lwps_in (n - (i + 1)) (drop 264 rest)) ∙ ap (λ bytes. after_seen (seen ++ l ∷ []) (lwps_in (n - (i + 1)) bytes)) (sym later_is)
 
 first_of-more : (xs : List LwpStatus) (x : LwpStatus) → slice_get (xs ++ x ∷ []) 0 ≡ Some (unwrap_or (slice_get xs 0) x)
@@ -118,7 +116,7 @@ sees-none r whole r_is is = subst (λ o. Sees o whole) (sym r_is) (subst (λ w. 
 
 pub seen_none : (n i : ℕ) (whole : Option (List LwpStatus)) (rest : List ℕ) (stops : Stops) (r : Option Stops) → IsSeen n i whole rest stops → i < n → lwp_in rest ≡ None → r ≡ None → Sees r whole
 seen_none n i whole rest stops r h lt is r_is =
-    sees-none r whole r_is (h.so_far ∙ ap (λ m. after_seen h.seen (lwps_in m rest)) (next n i lt) ∙ ap (after_seen h.seen) (lwps_in-none (n - (i + 1)) rest is))
+    sees-none r whole r_is (h.so_far ∙ ap (λ m. after_seen h.seen (lwps_in m rest)) (one_left n i lt) ∙ ap (after_seen h.seen) (lwps_in-none (n - (i + 1)) rest is))
 
 at_end : (n i : ℕ) → n ≤ i → n - i ≡ 0
 at_end n i le = omega arith

@@ -4,10 +4,7 @@ use Rattle.std.proofs.Math.Nat.{min-le_left}
 use Rattle.std.proofs.lemmas.List.{length-append, take-append-le, take_all, drop-replicate, length-replicate, length-take, take_min}
 use Rattle.pr_num.specs.Padding.{padded}
 use Rattle.pr_truss.specs.Texts.{IsText}
-
--- the front of what begins with s
-pub take-front : (s zs : List ℕ) → take (length s) (s ++ zs) ≡ s
-take-front s zs = take-append-le (length s) s zs (omega arith) ∙ take_all (length s) s (omega arith)
+use Rattle.pr_num.proofs.ListLemmas.{take-front}
 
 -- bytes written over the front of 65 zeros are a text
 pub lies_in_front : (s : List ℕ) → length s ≤ 65 → IsText (s ++ drop (length s) (replicate 65 0)) (length s)

@@ -10,6 +10,7 @@ use Rattle.pr_model.specs.Reads.{mapped_from, unless_none}
 use Rattle.pr_num.specs.declared.errnos.Errno.TheVariants.{Io}
 use Rattle.pr_model.specs.declared.calls.Reply.TheVariants.{Bytes, Fail}
 use Rattle.pr_view.specs.Memory.{found_byte}
+use Rattle.pr_num.proofs.NumberLemmas.{one_left}
 
 -- ---- one byte
 
@@ -43,9 +44,6 @@ unfolding mapped_from
 before-missing space a n (Ok b) e found = absurd (cc)
 before-missing space a n (Err bad) e found = rw e refl
 
-left : (len i : ℕ) → i < len → len - i ≡ suc (len - (i + 1))
-left len i more = omega arith
-
 pub mapped-on : (space : Space) (at i len byte : ℕ) (out all : List ℕ) → i < len → Some byte ≡ found_byte (byte_for 0 space ((at + i) % 2 ^ 64)) → out ++ mapped_from space ((at + i) % 2 ^ 64) (len - i) ≡ all → (out ++ byte ∷ []) ++ mapped_from space ((at + (i + 1)) % 2 ^ 64) (len - (i + 1)) ≡ all
 mapped-on space at i len byte out all more found so_far =
     let further : ((at + i) % 2 ^ 64 + 1) % 2 ^ 64 ≡ (at + (i + 1)) % 2 ^ 64 = mod-add-mod (at + i) (2 ^ 64) 1 ∙ ap (λ n. n % 2 ^ 64) (let e : at + i + 1 ≡ at + (i + 1) = omega arith in e) in
@@ -53,7 +51,7 @@ mapped-on space at i len byte out all more found so_far =
     append_assoc out (byte ∷ []) (mapped_from space ((at + (i + 1)) % 2 ^ 64) (len - (i + 1)))
     ∙ ap (λ a. out ++ byte ∷ mapped_from space a (len - (i + 1))) (sym further)
     ∙ ap (λ bs. out ++ bs) (sym step)
-    ∙ ap (λ n. out ++ mapped_from space ((at + i) % 2 ^ 64) n) (sym (left len i more))
+    ∙ ap (λ n. out ++ mapped_from space ((at + i) % 2 ^ 64) n) (sym (one_left len i more))
     ∙ so_far
 
 pub mapped-missing : (space : Space) (at i len : ℕ) (out all : List ℕ) → i < len → None ≡ found_byte (byte_for 0 space ((at + i) % 2 ^ 64)) → out ++ mapped_from space ((at + i) % 2 ^ 64) (len - i) ≡ all → out ≡ all
@@ -61,7 +59,7 @@ mapped-missing space at i len out all more missing so_far =
     let none = before-missing space ((at + i) % 2 ^ 64) (len - (i + 1)) (byte_for 0 space ((at + i) % 2 ^ 64)) refl missing in
     sym (append-nil out)
     ∙ ap (λ bs. out ++ bs) (sym none)
-    ∙ ap (λ n. out ++ mapped_from space ((at + i) % 2 ^ 64) n) (sym (left len i more))
+    ∙ ap (λ n. out ++ mapped_from space ((at + i) % 2 ^ 64) n) (sym (one_left len i more))
     ∙ so_far
 
 nothing-left : (space : Space) (a : ℕ) → mapped_from space a 0 ≡ []

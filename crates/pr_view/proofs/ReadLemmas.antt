@@ -24,6 +24,7 @@ use Rattle.pr_rec.specs.declared.processes.Psinfo.{Psinfo}
 use Rattle.pr_rec.specs.declared.statuses.Status.{Status}
 use Rattle.pr_rec.specs.declared.usages.Usage.{Usage}
 use Rattle.pr_view.specs.Entries.{HasEntries}
+use Rattle.pr_num.proofs.SearchLemmas.{All-at}
 
 -- The bytes of each record decode to it.
 
@@ -71,17 +72,13 @@ pub both_ok : {A E : Type 0} {P Q S : A → Type 0} (r : Result A E) → ((x : A
 both_ok (Ok x) follows p q = follows x p q
 both_ok (Err e) follows p q = tt
 
--- what holds of all elements holds of the one at a place
-at_place : {X : Type 0} (P : X → Type 0) (xs : List X) (i : ℕ) (x : X) → slice_get xs i ≡ Some x → All P xs → P x
-at_place P xs i x there all = subst P (get_or_from_slice_get xs i x x there) (All-get_or P xs i x (slice_get_within xs i x there) all)
-
 module _ {T : Type 0} (f : T → List ℕ) (ranges : List Range) (size : (x : T) → length (f x) ≡ length ranges) (IsIn : T → Type 0) (ranged : (x : T) → IsIn x → AreRanged ranges (f x)) where
   has_entries : (bytes : List ℕ) (xs : List T) → bytes ≡ words_bytes (entries_words (map f xs)) → All IsIn xs → HasEntries ranges f xs bytes
   has_entries bytes xs are all = record {
     size = ap length are ∙ length-entries f (length ranges) size xs;
     each = λ i x there.
         let stands = stands_at f (length ranges) size xs i x there in
-        ranged-begins ranges (f x) (drop (8 * length ranges * i) bytes) stands.more (size x) (ranged x (at_place IsIn xs i x there all)) (ap (drop (8 * length ranges * i)) are ∙ stands.place);
+        ranged-begins ranges (f x) (drop (8 * length ranges * i) bytes) stands.more (size x) (ranged x (All-at IsIn xs i x there all)) (ap (drop (8 * length ranges * i)) are ∙ stands.place);
   }
 
   -- the same of entries that were read and written

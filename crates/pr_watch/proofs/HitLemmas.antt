@@ -9,6 +9,7 @@ use Rattle.pr_num.specs.Control.{has_flags}
 use Rattle.pr_num.specs.declared.mappings.Area.{Area}
 use Rattle.pr_parts.specs.WatchedAreas.{AreAreas, first_hit, watches, watcher, hit_in}
 use Rattle.pr_watch.specs.Steps.{hit_at, steps_to, fewer, nearer, nearest_from}
+use Rattle.pr_num.proofs.NumberLemmas.{wrapped-step}
 
 -- ---- one area
 
@@ -20,14 +21,8 @@ record Fits (a : Area) : Type 0 where
   pub some : 0 < a.size
   pub within : a.at + a.size ≤ 2 ^ 64
 
-mod_below : (x : ℕ) → x < 2 ^ 64 → x % 2 ^ 64 ≡ x
-mod_below x h = omega arith
-
 mod_past : (x : ℕ) → 2 ^ 64 ≤ x → x < 2 ^ 64 + 2 ^ 64 → x % 2 ^ 64 ≡ x - 2 ^ 64
 mod_past x h k = omega arith
-
-mod_step : (at j : ℕ) → ((at + 1) % 2 ^ 64 + j) % 2 ^ 64 ≡ (at + suc j) % 2 ^ 64
-mod_step at j = omega arith
 
 -- where its nearest byte is, it watches
 reached : (kind at : ℕ) (a : Area) → at < 2 ^ 64 → Fits a → has_flags a.flags kind ≡ true → watches kind ((at + steps_to at a) % 2 ^ 64) a ≡ true
@@ -54,7 +49,7 @@ unfolding hit_in
 none_within kind at zero areas none range = refl
 none_within kind at (suc size) areas none range =
     let here : watcher kind areas at ≡ None = ap (watcher kind areas) (sym (at_start at range)) ∙ none 0 (omega arith) in
-    let behind = none_within kind ((at + 1) % 2 ^ 64) size areas (λ j h. ap (watcher kind areas) (mod_step at j) ∙ none (suc j) (omega arith)) (omega arith) in
+    let behind = none_within kind ((at + 1) % 2 ^ 64) size areas (λ j h. ap (watcher kind areas) (wrapped-step at j) ∙ none (suc j) (omega arith)) (omega arith) in
     rw here behind
 
 first_at : (kind at size k : ℕ) (areas : List Area) → k < size → ((j : ℕ) → j < k → watcher kind areas ((at + j) % 2 ^ 64) ≡ None) → at < 2 ^ 64 → is_some (watcher kind areas ((at + k) % 2 ^ 64)) ≡ true → hit_in kind areas at size ≡ hit_at kind areas ((at + k) % 2 ^ 64)
@@ -66,8 +61,8 @@ first_at kind at (suc size) zero areas within none range found =
     first_here at (watcher kind areas at) (hit_in kind areas ((at + 1) % 2 ^ 64) size) here ∙ ap (hit_at kind areas) (sym start)
 first_at kind at (suc size) (suc k) areas within none range found =
     let here : watcher kind areas at ≡ None = ap (watcher kind areas) (sym (at_start at range)) ∙ none 0 (omega arith) in
-    let behind = first_at kind ((at + 1) % 2 ^ 64) size k areas (omega arith) (λ j h. ap (watcher kind areas) (mod_step at j) ∙ none (suc j) (omega arith)) (omega arith) (ap (λ b. is_some (watcher kind areas b)) (mod_step at k) ∙ found) in
-    rw here (behind ∙ ap (hit_at kind areas) (mod_step at k))
+    let behind = first_at kind ((at + 1) % 2 ^ 64) size k areas (omega arith) (λ j h. ap (watcher kind areas) (wrapped-step at j) ∙ none (suc j) (omega arith)) (omega arith) (ap (λ b. is_some (watcher kind areas b)) (wrapped-step at k) ∙ found) in
+    rw here (behind ∙ ap (hit_at kind areas) (wrapped-step at k))
 
 -- ---- all areas
 

@@ -7,6 +7,7 @@ use Rattle.std.proofs.lemmas.Option.{same_Some}
 use Rattle.pr_num.specs.declared.mappings.Area.{Area}
 use Rattle.pr_parts.specs.WatchedAreas.{first_hit, watches, watcher, hit_in}
 use Rattle.pr_watch.specs.Laws.{is_watched, traps_after, IsLeastWatched, IsUnwatched}
+use Rattle.pr_num.proofs.NumberLemmas.{unwrapped}
 
 -- a byte is watched where an area is found that watches it
 is_watched-watcher : (kind byte : ℕ) (areas : List Area) → is_watched kind areas byte ≡ is_some (watcher kind areas byte)
@@ -18,15 +19,12 @@ nobody : (found : Option Area) → is_some found ≡ false → found ≡ None
 nobody None e = refl
 nobody (Some a) e = absurd (false≢true (sym e))
 
-mod_below : (x : ℕ) → x < 2 ^ 64 → x % 2 ^ 64 ≡ x
-mod_below x h = omega arith
-
 -- the bytes behind the first do not wrap either
 behind_first : (kind address size : ℕ) (areas : List Area) → address + suc size ≤ 2 ^ 64 → hit_in kind areas ((address + 1) % 2 ^ 64) size ≡ hit_in kind areas (address + 1) size
 unfolding hit_in
 behind_first kind address zero areas within = refl
 behind_first kind address (suc size) areas within =
-    let same : (address + 1) % 2 ^ 64 ≡ address + 1 = mod_below (address + 1) (omega arith) in
+    let same : (address + 1) % 2 ^ 64 ≡ address + 1 = unwrapped (address + 1) (omega arith) in
     ap (λ (b : ℕ). hit_in kind areas b (suc size)) same
 
 -- where the first byte is not watched, a byte is not watched if those behind the first are not

@@ -11,6 +11,7 @@ use Rattle.pr_world.specs.declared.ends.End.{End}
 use Rattle.pr_world.specs.declared.ends.End.TheVariants.{Quiet, Spent, Stuck}
 use Rattle.pr_world.specs.Worlds.{Pick, WorldState, actor_of, as_lwp, can_act, clock_if_awaited, controller_acts, first_controller, first_lwp, first_scheduled, from_controller, from_lwp, in_rounds, WorldOf, all_finished, end_of, end_with, ended_as, goes_on, quiet_end, seen, next_actor, next_in_round, next_in_rounds, next_pick}
 use Rattle.pr_world.proofs.MoveLemmas.{acts-call, with_call}
+use Rattle.pr_num.proofs.BoolLemmas.{not_both}
 
 -- ---- who is next, can move
 
@@ -126,9 +127,6 @@ none-in_range q from (suc n) k e low high =
     by (inr above) first later = later above
 
 -- ---- lwps
-
-not_both : (b : Bool) → b ≡ true → b ≡ false → ⊥
-not_both b h k = let e : true ≡ false = sym h ∙ k in cc
 
 -- what no lwp of a list passes, none of it passes
 none-at : (q : ℕ × ℕ → Bool) (xs : List (ℕ × ℕ)) (k : ℕ) (x : ℕ × ℕ) → find q xs ≡ None → k < length xs → slice_index_or xs k x ≡ x → q x ≡ false

@@ -162,7 +162,7 @@ run-places (suc n) first w run = run.2.moves.leads.places ∙ ap (λ (k : Kernel
 
 -- ---- runs of a machine that is told
 
-told-lawful : (w : WorldState) → IsTold w → IsLawful w.kernel
+pub told-lawful : (w : WorldState) → IsTold w → IsLawful w.kernel
 told-lawful w t = subst IsLawful (sym t.is) (machine-lawful t.machine w.kernel.history w.kernel.places)
 
 told-is : (w : WorldState) (t : IsTold w) → w.kernel.machine ≡ Some t.machine

@@ -15,7 +15,7 @@ use Rattle.pr_scen.specs.Scenarios.{Scenario}
 use Rattle.pr_world.specs.Runs.{IsFresh, IsTold, after_moves}
 use Rattle.pr_world.specs.Worlds.{WorldState, all_finished, end_of, end_with, next_actor, quiet_end}
 use Rattle.pr_world.proofs.RestLemmas.{all-rest, next-acts}
-use Rattle.pr_world.proofs.RunLemmas.{moves-counted, moves-told}
+use Rattle.pr_world.proofs.RunLemmas.{moves-counted, moves-told, told-lawful}
 use Rattle.proclab.specs.Answers.{answer_of, answer_to, end_status, ran, ran_so, refused_at}
 use Rattle.proclab.specs.Ends.{EndsAs}
 use Rattle.proclab.specs.Giving.{IsGiven, RanOutLate}
@@ -82,9 +82,6 @@ history-kept showing old new status h r = by (status_cases status)
     by (inr (inr (inr s))) = of_memory showing old new h (r.memory s)
 
 -- ---- a scenario is run
-
-told-lawful : (w : WorldState) → IsTold w → IsLawful w.kernel
-told-lawful w t = subst IsLawful (sym t.is) (machine-lawful t.machine w.kernel.history w.kernel.places)
 
 ended : (first : WorldState) (n : ℕ) → IsTold first → IsFresh first → (next : Option Actor) → next_actor (after_moves n first) ≡ next → EndsAs n (after_moves n first) (end_status (end_with (after_moves n first) next))
 unfolding end_status
