@@ -11,6 +11,7 @@ use Rattle.pr_asm.specs.declared.layouts.Layout.{Layout}
 use Rattle.pr_asm.specs.declared.statements.Statement.{Statement}
 use Rattle.pr_asm.specs.declared.statements.Statement.TheVariants.{Blank, Label, Data, Code}
 use Rattle.pr_asm.specs.declared.refusals.AsmKind.{AsmKind}
+use Rattle.std.specs.Option.{option_or}
 
 -- data begins at a multiple of 8
 abbrev pub aligned : ℕ → ℕ
@@ -73,11 +74,6 @@ place_in first reads name = place_among (placed_from nothing_above first reads) 
 unfoldable pub found : Places → List ℕ → Option Place
 found places name = get key_cmp places.map (record { name = name })
 
--- the first of two that there is
-abbrev pub first_of : {A : Type 0} → Option A → Option A → Option A
-first_of None y = y
-first_of (Some x) y = Some x
-
 -- What one line does to the places: with the names that it places, the names below it are found where they were.
 pub record SeesLine (old new : Places) (above below : Layout) (line : ℕ) (read : Result Statement AsmKind) : Type 0 where
-  pub same : (rest : List (Result Statement AsmKind)) (name : List ℕ) → first_of (found new name) (place_among (placed_from below (line + 1) rest) name) ≡ first_of (found old name) (place_among (placed_from above line (read ∷ rest)) name)
+  pub same : (rest : List (Result Statement AsmKind)) (name : List ℕ) → option_or (found new name) (place_among (placed_from below (line + 1) rest) name) ≡ option_or (found old name) (place_among (placed_from above line (read ∷ rest)) name)

@@ -1,6 +1,7 @@
 //! Where the names of a program stand.
 ghost use Rattle.std.specs.Prelude.{◌≡◌, ◌+◌, ◌<◌, ◌≤◌, ◌^◌, ℕ, List, None, Some, length, OnOk, IfOk, bytes_eq, if◌then◌else◌};
-ghost use Rattle.pr_asm.specs.Placing.{found, first_of, place_in, SeesLine};
+ghost use Rattle.std.specs.Option.{option_or};
+ghost use Rattle.pr_asm.specs.Placing.{found, place_in, SeesLine};
 
 use crate::AsmKind;
 use crate::layouts::Layout;
@@ -44,7 +45,7 @@ impl Places {
     /// Keeps the place of a name, unless it has one.
     fn add(&mut self, name: Name, place: Place) -> Result<(), NoMemory>
         ensures { OnOk result ((other : List ℕ) → found self.new other
-            ≡ first_of (found self.old other) (if bytes_eq other name then Some place else None)) }
+            ≡ option_or (found self.old other) (if bytes_eq other name then Some place else None)) }
     {
         if self.find(name).is_none() {
             self.map.insert(Key { name }, place)?;

@@ -13,11 +13,11 @@ use Rattle.pr_model.specs.Lawful.{IsLawfulProcess, IsLawfulSystem}
 use Rattle.pr_model.specs.MemoryCalls.{brk_effect}
 use Rattle.pr_model.specs.Readers.{size_of, total_has_room}
 use Rattle.pr_model.specs.State.{TracedLwp, TracedProcess, TracedSystem, live_process}
-use Rattle.pr_proc.proofs.LifeLemmas.{live_process-found}
 use Rattle.pr_call.proofs.MemoryLemmas.{space-done}
 use Rattle.pr_call.proofs.ProgramLemmas.{after-fails}
 use Rattle.pr_call.specs.Breaks.{CanStand}
 use Rattle.pr_call.specs.Effects.{after_effect}
+use Rattle.pr_model.proofs.StateLemmas.{live_process-found}
 
 -- Where brk moves the break.
 

@@ -12,10 +12,11 @@ use Rattle.pr_model.specs.State.{TracedLwp, TracedProcess, TracedSystem, live_pr
 use Rattle.pr_model.specs.Lawful.{IsLawfulSystem}
 use Rattle.pr_parts.specs.FileTables.{HasRoom}
 use Rattle.pr_lawful.proofs.UseLemmas.{files-room-one}
-use Rattle.pr_proc.proofs.LifeLemmas.{live_process-found, live_process-live, live_process-made}
+use Rattle.pr_proc.proofs.LifeLemmas.{live_process-made}
 use Rattle.pr_call.specs.Effects.{after_effect, outcome_of}
 use Rattle.pr_call.specs.FileAnswers.{answer_meant, lacks_memory, refusal_meant, settled}
 use Rattle.pr_call.specs.declared.answers.Refusal.{Refusal}
+use Rattle.pr_model.proofs.StateLemmas.{live_process-found, live_process-live}
 
 -- What calls on files make of the system.
 

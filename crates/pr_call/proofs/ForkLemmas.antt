@@ -14,9 +14,9 @@ use Rattle.pr_model.specs.Machines.{traced}
 use Rattle.pr_model.specs.ProcessCalls.{fork_effect}
 use Rattle.pr_model.specs.Readers.{size_of, total_has_room}
 use Rattle.pr_model.specs.State.{TracedLwp, TracedProcess, TracedSystem, live_process, process_of}
-use Rattle.pr_proc.proofs.LifeLemmas.{live_process-found}
 use Rattle.pr_proc.specs.Refusals.{fork_refusal}
 use Rattle.pr_call.specs.Effects.{after_effect}
+use Rattle.pr_model.proofs.StateLemmas.{live_process-found}
 
 -- What fork does, by what refuses it.
 

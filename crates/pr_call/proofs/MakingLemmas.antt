@@ -9,10 +9,10 @@ use Rattle.pr_model.specs.Machines.{traced}
 use Rattle.pr_model.specs.State.{TracedLwp, TracedProcess, TracedSystem, live_process, lwp_of, with_lwp, with_process}
 use Rattle.pr_model.specs.declared.events.Res.{Res}
 use Rattle.pr_model.specs.declared.frames.Frame.{Frame}
-use Rattle.pr_proc.proofs.LifeLemmas.{live_process-found}
 use Rattle.pr_call.specs.Effects.{after_effect, changes_meant, lwp_changed, process_changed, resumed_last, resuming}
 use Rattle.pr_call.specs.declared.requests.Change.{Change}
 use Rattle.pr_call.specs.declared.requests.Change.TheVariants.{Held, Disposition, Resumed, Suspended}
+use Rattle.pr_model.proofs.StateLemmas.{live_process-found}
 
 -- What plain calls make of the system.
 

@@ -15,10 +15,10 @@ use Rattle.pr_model.specs.Changes.{all_changed, fails, gives, space_is}
 use Rattle.pr_model.specs.MemoryCalls.{mmap_effect, prot_limit}
 use Rattle.pr_model.specs.Readers.{size_of, total_has_room}
 use Rattle.pr_model.specs.State.{TracedLwp, TracedProcess, TracedSystem, live_process}
-use Rattle.pr_proc.proofs.LifeLemmas.{live_process-found}
 use Rattle.pr_call.proofs.MemoryLemmas.{space-done}
 use Rattle.pr_call.specs.Effects.{after_effect}
 use Rattle.pr_call.specs.Maps.{CanMap, are_bad, can_grow}
+use Rattle.pr_model.proofs.StateLemmas.{live_process-found}
 
 -- Where mmap maps.
 

@@ -15,9 +15,9 @@ use Rattle.pr_parts.specs.AddressSpaces.{has_range, is_range, with_protected, wi
 use Rattle.pr_model.specs.Changes.{Effect, all_changed, changed, fails, gives, space_is, with_space}
 use Rattle.pr_model.specs.MemoryCalls.{is_mapped_range, mprotect_effect, munmap_effect, prot_limit}
 use Rattle.pr_model.specs.State.{TracedLwp, TracedProcess, TracedSystem, live_process, with_process}
-use Rattle.pr_proc.proofs.LifeLemmas.{live_process-found}
 use Rattle.pr_call.specs.Effects.{after_effect, outcome_of}
 use Rattle.pr_call.specs.Memories.{memory_effect}
+use Rattle.pr_model.proofs.StateLemmas.{live_process-found}
 
 -- What the calls on memory do.
 

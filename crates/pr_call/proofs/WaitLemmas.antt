@@ -15,10 +15,10 @@ use Rattle.pr_model.specs.ProcessCalls.{wait_effect}
 use Rattle.pr_model.specs.Readers.{Children, no_child, all_live, first_zombie, children_of}
 use Rattle.pr_model.specs.State.{TracedLwp, TracedProcess, TracedSystem, live_process, with_process}
 use Rattle.pr_model.specs.declared.events.Res.TheVariants.{Value, Error}
-use Rattle.pr_proc.proofs.LifeLemmas.{live_process-found}
 use Rattle.pr_call.specs.Effects.{after_effect, outcome_of}
 use Rattle.pr_call.specs.Waits.{reaped_by}
 use Rattle.pr_call.specs.declared.requests.Performed.TheVariants as performed
+use Rattle.pr_model.proofs.StateLemmas.{live_process-found}
 
 -- What wait makes of the system.
 

@@ -3,7 +3,8 @@ use Rattle.std.proofs.lemmas.Option.{same_Some}
 use Rattle.pr_num.proofs.ByIdLaws.{put_under-found, put_under-same}
 use Rattle.pr_num.specs.ById.{put_under, under}
 use Rattle.pr_model.specs.State.{TracedProcess, TracedSystem, live_process, with_process}
-use Rattle.pr_proc.proofs.LifeLemmas.{live_process-found}
+use Rattle.pr_model.proofs.StateLemmas.{live_process-found}
+
 
 -- a live process is the one that stands under its id
 pub lent-same : (s : TracedSystem) (pid : ℕ) (p q : TracedProcess) → live_process s pid ≡ Some p → under pid s.processes ≡ Some q → q ≡ p

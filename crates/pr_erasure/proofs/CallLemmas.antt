@@ -54,6 +54,7 @@ use Rattle.pr_erasure.proofs.PointLemmas.{directed-hidden, with_all_directed-hid
 use Rattle.pr_erasure.proofs.StateLemmas.{map_each-hidden, map_each-all_hidden, with_process-hidden, with_lwp-hidden}
 use Rattle.pr_erasure.proofs.UntouchedLemmas.{KeepsLwps, KeepsProcesses, directed-keeps, lwp-keeps, lwps-keep, process-keeps}
 use Rattle.pr_num.proofs.BoolLemmas.{either}
+use Rattle.pr_model.proofs.StateLemmas.{live_process-found}
 
 -- The calls of controllers in a passive history, as programs see them: nothing.
 
@@ -359,25 +360,13 @@ module _ (s : TracedSystem) (u : IsUntouched s) where
       subst (λ b. Hides s (cond b (with_this_ended traced pid p (signal_number Kill) s) (cond (has_flags p.control.modes rlc_mode) (with_process pid released s) s))) (sym no_kill)
       (either (Hides s) (has_flags p.control.modes rlc_mode) _ _ (hides-process pid released released-hidden released-keeps s u) (hides-nothing s u))
 
-  kept : (o : Option TracedProcess) (p : TracedProcess) → option_and_then if_live o ≡ Some p → o ≡ Some p
-  kept None p e = cc
-  kept (Some q) p e = by (is_none q.ended) e
-    where
-      by : (b : Bool) → cond b (Some q) None ≡ Some p → Some q ≡ Some p
-      by true e = e
-      by false e = cc
-
-  found-live : (pid : ℕ) (p : TracedProcess) → live_process s pid ≡ Some p → process_of s pid ≡ Some p
-  unfolding live_process
-  found-live pid p live = kept (process_of s pid) p live
-
   after_close-hides : (pid : ℕ) → Hides s (after_last_close pid (live_process s pid) s)
   after_close-hides pid = by (live_process s pid) refl
     where
       by : (o : Option TracedProcess) → live_process s pid ≡ o → Hides s (after_last_close pid o s)
       by None is = hides-nothing s u
       by (Some p) is =
-          let it : IsUntouchedProcess (pid, p) = All-under IsUntouchedProcess pid p s.processes u.processes (found-live pid p is) in
+          let it : IsUntouchedProcess (pid, p) = All-under IsUntouchedProcess pid p s.processes u.processes (live_process-found s pid p is) in
           last_close-hides pid p it.no_kill
 
 -- ---- calls

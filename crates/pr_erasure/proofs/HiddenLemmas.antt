@@ -27,11 +27,11 @@ use Rattle.pr_model.specs.declared.lwps.Phase.{Phase}
 use Rattle.pr_model.specs.declared.lwps.Phase.TheVariants as phase
 use Rattle.pr_erasure.proofs.CallLemmas.{with_run-hidden, released-hidden}
 use Rattle.pr_erasure.proofs.PointLemmas.{directed-hidden, with_all_directed-hidden}
-use Rattle.pr_erasure.proofs.RowLemmas.{found-live}
 use Rattle.pr_erasure.proofs.StateLemmas.{unmoved, with_lwp-hidden}
 use Rattle.pr_erasure.proofs.TransitionLemmas.{settled-erased}
-use Rattle.pr_erasure.proofs.TurnLemmas.{turn-taken}
 use Rattle.pr_erasure.specs.Suiting.{IsThere}
+use Rattle.pr_model.proofs.TurnLemmas.{turn-taken}
+use Rattle.pr_model.proofs.StateLemmas.{live_process-found}
 
 -- What controllers do to stop lwps and to run them, and stops that were asked for, as programs see them: nothing.
 
@@ -154,7 +154,7 @@ stop-hidden s pid id t turn did =
     let p = taken.process in
     let l = taken.lwp in
     let was : (row_for s pid p id l).did ≡ Stopped = sym (ap (λ (x : LwpTurn). x.turned.did) taken.is) ∙ did in
-    let there : IsThere s pid p id l = record { found = found-live s pid p taken.live; there = taken.there } in
+    let there : IsThere s pid p id l = record { found = live_process-found s pid p taken.live; there = taken.there } in
     ap (λ (x : LwpTurn). erased_system x.system) (taken.is ∙ ap (settled s pid p id l) (only_requested s pid p id l was))
     ∙ stopped-hidden s pid p id l there
 

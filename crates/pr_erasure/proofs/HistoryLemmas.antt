@@ -32,9 +32,11 @@ use Rattle.pr_laws.proofs.RunLemmas.{UntracedRun-append}
 use Rattle.pr_erasure.proofs.CallLemmas.{call-follows}
 use Rattle.pr_erasure.proofs.OutsideLemmas.{Follows, with_spawned-untouched}
 use Rattle.pr_erasure.proofs.ProperLemmas.{row-proper}
-use Rattle.pr_erasure.proofs.RowLemmas.{HasTurn, found-live}
-use Rattle.pr_erasure.proofs.TurnLemmas.{turn-taken, row-runs}
+use Rattle.pr_erasure.proofs.RowLemmas.{HasTurn}
+use Rattle.pr_erasure.proofs.TurnLemmas.{row-runs}
 use Rattle.pr_erasure.proofs.UntouchedLemmas.{settled-keeps}
+use Rattle.pr_model.proofs.TurnLemmas.{turn-taken}
+use Rattle.pr_model.proofs.StateLemmas.{live_process-found}
 
 -- ---- entries
 
@@ -49,7 +51,7 @@ turn-follows s pid id t m turn u =
     let p = taken.process in
     let l = taken.lwp in
     let row = row_for s pid p id l in
-    let pu : IsUntouchedProcess (pid, p) = All-under IsUntouchedProcess pid p s.processes u.processes (found-live s pid p taken.live) in
+    let pu : IsUntouchedProcess (pid, p) = All-under IsUntouchedProcess pid p s.processes u.processes (live_process-found s pid p taken.live) in
     let lu : IsUntouchedLwp (id, l) = All-under IsUntouchedLwp id l p.lwps pu.lwps taken.there in
     let has : HasTurn s pid p id l = record { live = taken.live; there = taken.there; free = taken.free; no_agent = lu.no_agent; no_step = lu.no_step; no_abort = lu.no_abort; unwatched = pu.unwatched } in
     subst (λ (v : LwpTurn). Follows s (steps_of_turn (m.returning pid id) pid id v.turned.did) v.system) (sym taken.is) (record {

@@ -44,6 +44,7 @@ use Rattle.pr_erasure.specs.Suiting.{HasNoFault}
 use Rattle.pr_erasure.proofs.StateLemmas.{lwp-erased, live-erased, unmoved}
 use Rattle.pr_erasure.proofs.TransitionLemmas.{settled-erased}
 use Rattle.pr_erasure.specs.Suiting.{IsThere, Suits}
+use Rattle.pr_model.proofs.StateLemmas.{live_process-found}
 
 -- Each row of the turn table, as programs see it: which steps of the untraced machine it is.
 
@@ -62,20 +63,8 @@ pub record HasTurn (s : TracedSystem) (pid : ℕ) (p : TracedProcess) (id : ℕ)
 abbrev pub RowRuns : TracedSystem → ℕ → TracedProcess → ℕ → TracedLwp → Row → Type 0
 RowRuns s pid p id l row = (returning : Bool) → UntracedRun (erased_system s) (steps_of_turn returning pid id row.did) (erased_system (settled s pid p id l row).system)
 
-pub found-live : (s : TracedSystem) (pid : ℕ) (p : TracedProcess) → live_process s pid ≡ Some p → process_of s pid ≡ Some p
-unfolding live_process
-found-live s pid p live = by (process_of s pid) live
-  where
-    kept : (b : Bool) (q : TracedProcess) → cond b (Some q) None ≡ Some p → Some q ≡ Some p
-    kept true q e = e
-    kept false q e = cc
-
-    by : (o : Option TracedProcess) → option_and_then if_live o ≡ Some p → o ≡ Some p
-    by None e = cc
-    by (Some q) e = kept (is_none q.ended) q e
-
 is_there : (s : TracedSystem) (pid : ℕ) (p : TracedProcess) (id : ℕ) (l : TracedLwp) → HasTurn s pid p id l → IsThere s pid p id l
-is_there s pid p id l h = record { found = found-live s pid p h.live; there = h.there }
+is_there s pid p id l h = record { found = live_process-found s pid p h.live; there = h.there }
 
 -- ---- it may make a step
 
@@ -111,7 +100,7 @@ module _ (s : TracedSystem) (pid : ℕ) (p : TracedProcess) (id : ℕ) (l : Trac
   -- ---- rows that are hidden
 
   same_system : (f : UntracedLwp → UntracedLwp) → f (erased_lwp l) ≡ erased_lwp l → with_lwp_of pid id f (erased_system s) ≡ erased_system s
-  same_system f same = unmoved s pid p id l (found-live s pid p h.live) h.there f same
+  same_system f same = unmoved s pid p id l (live_process-found s pid p h.live) h.there f same
 
   hides : (row : Row) → Suits row.transition l.phase → after_transition untraced pid (erased_process p) id (erased_lwp l) row.transition (erased_system s) ≡ erased_system s → UntracedRun (erased_system s) [] (erased_system (settled s pid p id l row).system)
   hides row suits same = subst (λ v. UntracedRun (erased_system s) [] v) (sym ((makes row suits).state ∙ same)) ends_here

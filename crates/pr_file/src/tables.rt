@@ -3,10 +3,10 @@ ghost use Rattle.std.specs.List.{list_any};
 ghost use Rattle.pr_num.specs.Files.{FileTable, with_all_closed, with_user_gone, without_idle_pipe, pipe_of, is_end_of};
 ghost use Rattle.pr_parts.specs.FileTables.{IsFileTable, HasRoom, HasRoomAt, at_place, file_named, free_place};
 ghost use Rattle.pr_parts.specs.FileTransfers.{has_reader, has_writer, is_read_end, is_write_end, pipe_bytes, with_pipe_bytes, with_file_bytes, after_write};
-ghost use Rattle.pr_parts.specs.FileCalls.{no_files, with_file, with_open, with_open_at, with_pipe, with_read_end, with_all_shared, with_user_added, first_open, contents, kind_of, mode_of, name_of, stat_of};
+ghost use Rattle.pr_parts.specs.FileCalls.{no_files, with_file, with_open, with_open_at, with_pipe, with_read_end, with_all_shared, with_user_added, first_open, contents, name_of, stat_of};
 
 use crate::{buffers, places};
-use pr_num::{Access, Bytes, Name, NoMemory, OpenFile, StoredFile, Target};
+use pr_num::{Access, Bytes, FdKind, Name, NoMemory, OpenFile, StoredFile, Target};
 use pr_parts::Stat;
 use std::alloc::Global;
 use std::marker::Model;
@@ -284,8 +284,8 @@ impl Tables {
         ensures { result ≡ stat_of self.now file }
     {
         Stat {
-            kind: kind_of(file.target),
-            mode: mode_of(file.access),
+            kind: FdKind::of(file.target).number(),
+            mode: file.access.number(),
             size: self.contents(file.target).len() as u64,
             offset: file.offset,
             name: self.name(file.target),
@@ -383,22 +383,6 @@ fn is_write_end(pipe: u32, place: &Option<OpenFile>) -> bool
         Some(file) => file.target == Target::PipeWriter(pipe),
         None => false,
     }
-}
-
-fn kind_of(target: Target) -> u64
-    ensures { result ≡ kind_of target }
-{
-    match target {
-        Target::File(_) => 1,
-        Target::PipeReader(_) => 2,
-        Target::PipeWriter(_) => 3,
-    }
-}
-
-fn mode_of(access: Access) -> u64
-    ensures { result ≡ mode_of access }
-{
-    access as u64
 }
 
 /// An open file at its beginning, for which one descriptor stands.

@@ -31,6 +31,7 @@ use Rattle.pr_lawful.proofs.LocalLemmas.{IsKept, same_rest, same_lwps, lawful-lw
 use Rattle.pr_lawful.proofs.SignalLemmas.{told-keeps}
 use Rattle.pr_lawful.proofs.SumLemmas.{sum-change_under, sum-map_each, count_in, all_users-sum, sizes-sum}
 use Rattle.pr_lawful.proofs.SystemLemmas.{lives, lives-live, parent-same, kept, descriptors-open}
+use Rattle.pr_model.proofs.StateLemmas.{live_process-found, live_process-live}
 
 -- What ends a process, or an lwp, leaves the system lawful.
 
@@ -191,20 +192,11 @@ ended-lawful s pid p status h user found =
 
 -- what a live process is, if there is one
 pub found-live : (s : TracedSystem) (pid : ℕ) (p : TracedProcess) → live_process s pid ≡ Some p → (process_of s pid ≡ Some p) × (p.ended ≡ None)
-unfolding live_process
-found-live s pid p live = by (process_of s pid) live
+found-live s pid p live = (live_process-found s pid p live, is_live p.ended (live_process-live s pid p live))
   where
     is_live : (o : Option ℕ) → is_none o ≡ true → o ≡ None
     is_live None is = refl
     is_live (Some status) is = cc
-
-    at : (x : TracedProcess) (b : Bool) → is_none x.ended ≡ b → cond b (Some x) None ≡ Some p → (Some x ≡ Some p) × (p.ended ≡ None)
-    at x true is same = let it = same_Some x p same in (same, ap (λ (y : TracedProcess). y.ended) (sym it) ∙ is_live x.ended is)
-    at x false is same = absurd (none-some p same)
-
-    by : (o : Option TracedProcess) → option_and_then if_live o ≡ Some p → (o ≡ Some p) × (p.ended ≡ None)
-    by None is = absurd (none-some p is)
-    by (Some x) is = at x (is_none x.ended) refl is
 
 pub with_ended-lawful : (s : TracedSystem) (pid status : ℕ) → IsLawfulSystem s → pid ≢ 0 → IsLawfulSystem (with_ended traced pid status s)
 unfolding with_ended

@@ -39,7 +39,8 @@ use Rattle.pr_lawful.proofs.MessageLemmas.{Makes, nothing, a_process, an_end, a_
 use Rattle.pr_lawful.proofs.ReleasedLemmas.{buried-released, ended-released, generated-released, modeless-released, process-released, settled-released, writer-released, zombie-released}
 use Rattle.pr_lawful.proofs.SystemLemmas.{joined, kept}
 use Rattle.pr_lawful.proofs.TransitionLemmas.{change_under-same}
-use Rattle.pr_lawful.proofs.TurnLemmas.{turn-taken, acting, row-suits, turn-lawful}
+use Rattle.pr_lawful.proofs.TurnLemmas.{acting, row-suits, turn-lawful}
+use Rattle.pr_model.proofs.TurnLemmas.{turn-taken}
 
 -- Turns, opens, closes and what comes from outside leave a state lawful.
 

@@ -40,6 +40,7 @@ use Rattle.pr_lawful.proofs.InfoLemmas.{current-info}
 use Rattle.pr_lawful.proofs.HoldableLemmas.{holdable-with}
 use Rattle.pr_lawful.proofs.SuitingLemmas.{SuitsMove, is_stop, SuitChanges, SuitsTransition}
 use Rattle.pr_lawful.proofs.TransitionLemmas.{settled-lawful}
+use Rattle.pr_model.proofs.TurnLemmas.{turn-taken}
 
 -- Every turn leaves the system lawful: a line a row.
 
@@ -183,30 +184,6 @@ module _ (s : TracedSystem) (pid : ℕ) (p : TracedProcess) (id : ℕ) (l : Trac
   row-lawful = settled-lawful s pid p id l a.lawful a.user a.found a.live (row_for s pid p id l) row-suits
 
 -- ---- the turn
-
--- what a turn that an lwp takes is made of
-pub record TakesTurn (s : TracedSystem) (pid id : ℕ) (t : LwpTurn) : Type 0 where
-  pub process : TracedProcess
-  pub lwp : TracedLwp
-  pub live : live_process s pid ≡ Some process
-  pub there : lwp_of process id ≡ Some lwp
-  pub is : t ≡ settled s pid process id lwp (row_for s pid process id lwp)
-
-pub turn-taken : (s : TracedSystem) (pid id : ℕ) (t : LwpTurn) → turn_of s pid id ≡ Some t → TakesTurn s pid id t
-unfolding turn_of
-turn-taken s pid id t turn = by_process (live_process s pid) refl turn
-  where
-    by_test : (p : TracedProcess) (l : TracedLwp) → live_process s pid ≡ Some p → lwp_of p id ≡ Some l → (b : Bool) → cond b (Some (settled s pid p id l (row_for s pid p id l))) None ≡ Some t → TakesTurn s pid id t
-    by_test p l live there true is = record { process = p; lwp = l; live = live; there = there; is = sym (same_Some _ _ is) }
-    by_test p l live there false is = absurd (none-some t is)
-
-    by_lwp : (p : TracedProcess) → live_process s pid ≡ Some p → (o : Option TracedLwp) → lwp_of p id ≡ o → turn_of_lwp s pid id p o ≡ Some t → TakesTurn s pid id t
-    by_lwp p live None there is = absurd (none-some t is)
-    by_lwp p live (Some l) there is = by_test p l live there (may_turn s pid p id l) is
-
-    by_process : (o : Option TracedProcess) → live_process s pid ≡ o → turn_of_process s pid id o ≡ Some t → TakesTurn s pid id t
-    by_process None live is = absurd (none-some t is)
-    by_process (Some p) live is = by_lwp p live (lwp_of p id) refl is
 
 -- the system process has no lwp
 no-lwp : (s : TracedSystem) (pid id : ℕ) (p : TracedProcess) (l : TracedLwp) → IsLawfulSystem s → process_of s pid ≡ Some p → lwp_of p id ≡ Some l → pid ≢ 0

@@ -22,8 +22,9 @@ use Rattle.pr_rec.specs.declared.lwps.Disposition.{Disposition}
 use Rattle.pr_rec.specs.declared.lwps.Disposition.TheVariants.{Default, Ignored, Caught}
 use Rattle.pr_text.specs.Quotes.{quoted_text}
 use Rattle.pr_text.proofs.TextLemmas.{length-decimal, length-hex_text, length-quoted_text}
-use Rattle.pr_line.specs.ArgumentTexts.{Came, is_zero, text_before, text_argument, bytes_argument, buffer_argument, argument_text, separator, arguments_text}
+use Rattle.pr_line.specs.ArgumentTexts.{Came, text_before, text_argument, bytes_argument, buffer_argument, argument_text, separator, arguments_text}
 use Rattle.pr_line.specs.EventLines.{prefix, call_text, result_text, disposition_text, signal_text, fault_text}
+use Rattle.pr_num.specs.Padding.{is_zero}
 
 -- ---- the tables
 

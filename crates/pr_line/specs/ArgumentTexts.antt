@@ -5,6 +5,7 @@ use Rattle.pr_num.specs.declared.syscalls.ArgKind.{ArgKind}
 use Rattle.pr_num.specs.declared.syscalls.ArgKind.TheVariants.{Dec, Hex, Text, Buf}
 use Rattle.pr_text.specs.Numerals.{hex_text}
 use Rattle.pr_text.specs.Quotes.{quoted_text}
+use Rattle.pr_num.specs.Padding.{is_zero}
 
 -- What a read of memory gave: the bytes that came, and whether they are fewer than were asked for. None: it was
 -- refused, or was not made.
@@ -14,9 +15,6 @@ Came = Option (List ℕ × Bool)
 -- the same, of what is lent
 abbrev pub came_of : Option (Bor (List ℕ) × Bool) → Came
 came_of text = option_map (λ t. (t.0.now, t.1)) text
-
-abbrev pub is_zero : ℕ → Bool
-is_zero b = b == 0
 
 -- A text in quotes: the bytes before the first zero byte, or all that came where none is zero; then the text goes on.
 abbrev pub text_before : List ℕ → Option ℕ → List ℕ

@@ -10,6 +10,7 @@ use Rattle.pr_num.specs.declared.stop_reasons.StopReason.{StopReason}
 use Rattle.pr_num.specs.declared.stop_reasons.StopReason.TheVariants.{Requested, Signalled, SysEntry, SysExit, JobControl, Faulted, Suspended}
 use Rattle.pr_num.specs.declared.syscalls.Sysno.{Sysno}
 use Rattle.pr_rec.specs.declared.lwps.LwpStatus.{LwpStatus}
+use Rattle.pr_model.specs.Registers.{pc_of}
 
 -- what a call gave: its value, or the errno of its refusal
 abbrev pub result_of : ℕ → Option Errno → Result ℕ Errno
@@ -23,10 +24,6 @@ named_call what call = if syscall_number call == what then Some call else None
 
 abbrev pub stopped_call : LwpStatus → Option Sysno
 stopped_call s = option_and_then (named_call s.what) s.call
-
--- the program counter, the last of the registers
-abbrev pub pc_of : List ℕ → ℕ
-pc_of regs = slice_index regs 10
 
 -- What a stop tells, a row a reason ("pr_why"). A stop at the entry or the exit of a call, by a signal or by a
 -- fault is an event, where the table of its kind has what the stop names. A stop on request, by job control or by

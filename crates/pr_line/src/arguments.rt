@@ -1,21 +1,15 @@
 //! The arguments of a call in its line.
 ghost use Rattle.std.specs.Prelude.{◌≡◌, ◌≤◌, ◌<◌, ◌+◌, ◌++◌, ◌↔◌, false, length, take, position, IsErr, OnOk, OnErr};
+ghost use Rattle.pr_num.specs.Padding.{is_zero};
 ghost use Rattle.pr_num.specs.Limits.{line_limit};
 ghost use Rattle.pr_text.specs.Quotes.{quoted_text};
-ghost use Rattle.pr_line.specs.ArgumentTexts.{came_of, is_zero, text_before, text_argument, bytes_argument, buffer_argument, argument_text, separator, arguments_text};
+ghost use Rattle.pr_line.specs.ArgumentTexts.{came_of, text_before, text_argument, bytes_argument, buffer_argument, argument_text, separator, arguments_text};
 
-use pr_num::ArgKind;
+use pr_num::{ArgKind, zero_in};
 use pr_text::{Line, TooLong};
 
 /// What a read of memory gave: the bytes that came, and whether they are fewer than were asked for.
 pub type Came<'a> = Option<(&'a [u8], bool)>;
-
-/// The place of the first zero byte.
-fn zero_in(bytes: &[u8]) -> Option<usize>
-    ensures { result ≡ position is_zero bytes.now }
-{
-    bytes.iter().position(|byte| *byte == 0)
-}
 
 /// A text in quotes: what stands before its zero byte, or all that came.
 fn text_before(line: &mut Line, bytes: &[u8]) -> Result<(), TooLong>

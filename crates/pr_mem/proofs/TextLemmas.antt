@@ -5,8 +5,9 @@ use Rattle.pr_num.specs.Control.{prot_read}
 use Rattle.pr_num.specs.Spaces.{Space, byte_for, bytes_for, one_more}
 use Rattle.pr_num.specs.declared.mappings.BadByte.{BadByte}
 use Rattle.pr_parts.specs.AddressSpaces.{text_at, text_behind, text_with}
-use Rattle.pr_mem.specs.Answers.{IsRun, is_zero, length_read, with_text}
+use Rattle.pr_mem.specs.Answers.{IsRun, length_read, with_text}
 use Rattle.pr_num.proofs.NumberLemmas.{unwrapped, wrapped-step}
+use Rattle.pr_num.specs.Padding.{is_zero}
 
 -- a length that is so much more
 abbrev pub more_read : ℕ → Result (Option ℕ) BadByte → Result (Option ℕ) BadByte

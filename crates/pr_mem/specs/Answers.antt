@@ -8,6 +8,7 @@ use Rattle.pr_num.specs.declared.mappings.Mapping.{Mapping}
 use Rattle.pr_parts.specs.AddressSpaces.{break_limit, has_range, has_room, heap_base, is_break_heap, is_free, with_heap}
 use Rattle.pr_mem.specs.declared.faults.MemFault.{MemFault}
 use Rattle.pr_mem.specs.declared.faults.MemFault.TheVariants.{Hole, NotAllowed, Overlap, TooBig}
+use Rattle.pr_num.specs.Padding.{is_zero}
 
 -- the fault of the byte at which an access fails
 abbrev pub fault_of : BadByte → MemFault
@@ -61,10 +62,6 @@ answered (Err byte) = Err (fault_of byte)
 
 abbrev pub access_answer : {X : Type 0} → Result X BadByte → Result (Unit {0}) MemFault
 access_answer read = answered (checked read)
-
--- whether a byte ends a text
-abbrev pub is_zero : ℕ → Bool
-is_zero b = b == 0
 
 -- the length of a text, if it has an end
 abbrev pub text_length : Option (List ℕ) → Option ℕ

@@ -1,20 +1,14 @@
 ghost use Rattle.std.specs.Prelude.{◌≡◌, ◌≤◌, position, length};
+ghost use Rattle.pr_num.specs.Padding.{is_zero};
 ghost use Rattle.pr_num.specs.Spaces.{IsSpace};
 ghost use Rattle.pr_parts.specs.AddressSpaces.{text_at};
-ghost use Rattle.pr_mem.specs.Answers.{is_zero, length_read, with_text};
+ghost use Rattle.pr_mem.specs.Answers.{length_read, with_text};
 ghost use Rattle.pr_mem.specs.Places.{IsPlace};
 
 use crate::{accesses, ranges};
-use pr_num::{BadByte, Mapping, PROT_READ};
+use pr_num::{BadByte, Mapping, PROT_READ, zero_in};
 
 // Texts that end with a zero byte.
-
-/// The place of the first zero byte.
-fn zero_in(bytes: &[u8]) -> Option<usize>
-    ensures { result ≡ position is_zero bytes.now }
-{
-    bytes.iter().position(|byte| *byte == 0)
-}
 
 /// How long the text at an address is, of which `first` is the place. At most `most` of its bytes are read, its zero
 /// byte too; `None` where these have no zero.

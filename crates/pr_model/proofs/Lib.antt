@@ -1,3 +1,4 @@
 pub mod HistoryLemmas
 pub mod NameLemmas
 pub mod StateLemmas
+pub mod TurnLemmas

@@ -1,5 +1,5 @@
 use Rattle.std.specs.Prelude.{◌==◌, ◌+◌, ℕ, List, [], ◌∷◌, Option, Some, None, is_some, length, map, unwrap_or, if◌then◌else◌}
-use Rattle.pr_num.specs.Files.{FileTable, Descriptors}
+use Rattle.pr_num.specs.Files.{FileTable, Descriptors, fd_kind_of}
 use Rattle.pr_num.specs.Records.{name_field}
 use Rattle.pr_num.specs.declared.files.OpenFile.{OpenFile}
 use Rattle.pr_num.specs.declared.files.Target.{Target}
@@ -17,7 +17,6 @@ use Rattle.pr_rec.specs.declared.lwps.LwpStatus.{LwpStatus}
 use Rattle.pr_rec.specs.declared.mappings.MapEntry.{MapEntry}
 use Rattle.pr_rec.specs.declared.processes.Psinfo.{Psinfo}
 use Rattle.pr_rec.specs.declared.usages.Usage.{Usage}
-use Rattle.pr_rec.specs.Fields.{fd_kind_of}
 use Rattle.pr_model.specs.Readers.{size_of, space_seen}
 use Rattle.pr_model.specs.State.{TracedSystem, TracedProcess, TracedLwp}
 use Rattle.pr_model.specs.Statuses.{lwpstatus_of}

@@ -2,8 +2,29 @@ use Rattle.std.specs.Prelude.{◌==◌, ◌-◌, ℕ, Bool, false, List, [], ◌
 use Rattle.std.specs.List.{list_any}
 use Rattle.pr_num.specs.declared.files.StoredFile.{StoredFile}
 use Rattle.pr_num.specs.declared.files.OpenFile.{OpenFile}
+use Rattle.pr_num.specs.declared.files.Access.{Access}
+use Rattle.pr_num.specs.declared.files.Access.TheVariants.{Read, Write, Both}
+use Rattle.pr_num.specs.declared.files.FdKind.{FdKind}
+use Rattle.pr_num.specs.declared.files.FdKind.TheVariants as fd_kind
 use Rattle.pr_num.specs.declared.files.Target.{Target}
 use Rattle.pr_num.specs.declared.files.Target.TheVariants.{File, PipeReader, PipeWriter}
+
+-- what a descriptor of an open file stands for, and its number in fstat(2) and in records
+abbrev pub fd_kind_of : Target → FdKind
+fd_kind_of (File place) = fd_kind.File
+fd_kind_of (PipeReader place) = fd_kind.PipeReader
+fd_kind_of (PipeWriter place) = fd_kind.PipeWriter
+
+abbrev pub fd_kind_number : FdKind → ℕ
+fd_kind_number fd_kind.File = 1
+fd_kind_number fd_kind.PipeReader = 2
+fd_kind_number fd_kind.PipeWriter = 3
+
+-- for what a file is open, by number
+abbrev pub access_number : Access → ℕ
+access_number Read = 0
+access_number Write = 1
+access_number Both = 2
 
 -- The files of the system. Pipes and open files keep their places in their lists while they stand; a place that is
 -- free is taken again by the next one that is made, the least place first.

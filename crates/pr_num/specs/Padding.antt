@@ -1,6 +1,10 @@
-use Rattle.std.specs.Prelude.{◌≡◌, ℕ, ◌-◌, ◌≤◌, List, ◌++◌, length, take, replicate}
+use Rattle.std.specs.Prelude.{◌≡◌, ◌==◌, ℕ, ◌-◌, ◌≤◌, Bool, List, ◌++◌, length, take, replicate}
 use Rattle.std.proofs.Common.{ap, arith, ◌∙◌}
 use Rattle.std.proofs.lemmas.List.{length-take-le}
+
+-- whether a byte ends a text
+abbrev pub is_zero : ℕ → Bool
+is_zero b = b == 0
 
 -- bytes, and zeros up to n bytes in all
 abbrev pub padded : ℕ → List ℕ → List ℕ

@@ -1,3 +1,6 @@
+ghost use Rattle.std.specs.Prelude.{◌≡◌};
+ghost use Rattle.pr_num.specs.Files.{access_number, fd_kind_number, fd_kind_of};
+
 use crate::{Bytes, Name};
 
 /// A file of the system.
@@ -19,12 +22,49 @@ pub enum Target {
     PipeWriter(u32),
 }
 
+/// What a descriptor stands for, as fstat(2) and the records of descriptors number it.
+#[derive(Clone, Copy, Debug, PartialEq, Eq)]
+pub enum FdKind {
+    File = 1,
+    /// The read end of a pipe.
+    PipeReader = 2,
+    /// The write end of a pipe.
+    PipeWriter = 3,
+}
+
+impl FdKind {
+    /// What a descriptor of this open file stands for.
+    pub fn of(target: Target) -> FdKind
+        ensures { result ≡ fd_kind_of target }
+    {
+        match target {
+            Target::File(_) => FdKind::File,
+            Target::PipeReader(_) => FdKind::PipeReader,
+            Target::PipeWriter(_) => FdKind::PipeWriter,
+        }
+    }
+
+    pub fn number(self) -> u64
+        ensures { result ≡ fd_kind_number self }
+    {
+        self as u64
+    }
+}
+
 /// For what a file was opened (open(2)).
 #[derive(Clone, Copy, Debug, PartialEq, Eq)]
 pub enum Access {
     Read = 0,
     Write = 1,
     Both = 2,
+}
+
+impl Access {
+    pub fn number(self) -> u64
+        ensures { result ≡ access_number self }
+    {
+        self as u64
+    }
 }
 
 /// An open file: what dup and fork share of a descriptor, its offset among it (dup(2), fork(2)).

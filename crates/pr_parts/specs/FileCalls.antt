@@ -1,6 +1,6 @@
 use Rattle.std.specs.Prelude.{is_some, is_ok, count_by, unwrap_or, slice_get, true, false, ◌+◌, ◌%◌, ◌==◌, ℕ, Bool, List, [], ◌∷◌, ◌++◌, length, Option, Some, None, Result, Ok, Err, nat_lt, nat_le, ◌||◌, ◌&&◌, if◌then◌else◌, slice_set}
 use Rattle.std.specs.Option.{option_map, option_and_then}
-use Rattle.pr_num.specs.Files.{FileTable, Descriptors, with_user_gone, pipe_of}
+use Rattle.pr_num.specs.Files.{FileTable, Descriptors, with_user_gone, pipe_of, access_number, fd_kind_number, fd_kind_of}
 use Rattle.pr_num.specs.declared.files.Access.{Access}
 use Rattle.pr_num.specs.declared.files.Access.TheVariants.{Read, Write, Both}
 use Rattle.pr_num.specs.declared.files.OpenFile.{OpenFile}
@@ -198,16 +198,6 @@ sought t fds fd offset = of_open (open_of t fds fd)
 
 -- ---- fstat(2)
 
-abbrev pub kind_of : Target → ℕ
-kind_of (File place) = 1
-kind_of (PipeReader place) = 2
-kind_of (PipeWriter place) = 3
-
-abbrev pub mode_of : Access → ℕ
-mode_of Read = 0
-mode_of Write = 1
-mode_of Both = 2
-
 abbrev pub name_of : FileTable → Target → Option (List ℕ)
 name_of t (File place) = option_map (λ f. f.name) (slice_get t.files place)
 name_of t (PipeReader place) = None
@@ -215,8 +205,8 @@ name_of t (PipeWriter place) = None
 
 abbrev pub stat_of : FileTable → OpenFile → Stat
 stat_of t o = record {
-  kind = kind_of o.target;
-  mode = mode_of o.access;
+  kind = fd_kind_number (fd_kind_of o.target);
+  mode = access_number o.access;
   size = length (contents t o.target);
   offset = o.offset;
   name = name_of t o.target;

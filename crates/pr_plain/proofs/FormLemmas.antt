@@ -13,6 +13,7 @@ use Rattle.pr_model.specs.declared.events.Did.{Did}
 use Rattle.pr_model.specs.declared.events.Did.TheVariants.{Stopped}
 use Rattle.pr_plain.specs.Forms.{first_word, same_call, same_did, same_reply}
 use Rattle.pr_plain.specs.HistoryText.{did_words, call_words, reply_words}
+use Rattle.pr_num.proofs.BoolLemmas.{either}
 
 pub calls_told : (c d : Call) → bytes_eq (first_word (call_words c)) (first_word (call_words d)) ≡ same_call c d
 unfolding call_words same_call
@@ -47,15 +48,11 @@ begins_low (b ∷ bs) = nat_le b 57
 glyph_low : (n : ℕ) → nat_le (digit_glyph false (n % 10)) 57 ≡ true
 glyph_low n = grind (arith, nat_tests)
 
-either : (t : Bool) (x y : List ℕ) → begins_low x ≡ true → begins_low y ≡ true → begins_low (cond t x y) ≡ true
-either true x y p q = p
-either false x y p q = q
-
 onto_low : (k n : ℕ) (acc : List ℕ) → begins_low (digits_onto (suc k) 10 false n acc) ≡ true
 onto_low zero n acc =
-    either (eqb (n / 10) 0) (digit_glyph false (n % 10) ∷ acc) (digit_glyph false (n % 10) ∷ acc) (glyph_low n) (glyph_low n)
+    either (λ (w : List ℕ). begins_low w ≡ true) (eqb (n / 10) 0) (digit_glyph false (n % 10) ∷ acc) (digit_glyph false (n % 10) ∷ acc) (glyph_low n) (glyph_low n)
 onto_low (suc k) n acc =
-    either (eqb (n / 10) 0) (digit_glyph false (n % 10) ∷ acc) (digits_onto (suc k) 10 false (n / 10) (digit_glyph false (n % 10) ∷ acc)) (glyph_low n) (onto_low k (n / 10) (digit_glyph false (n % 10) ∷ acc))
+    either (λ (w : List ℕ). begins_low w ≡ true) (eqb (n / 10) 0) (digit_glyph false (n % 10) ∷ acc) (digits_onto (suc k) 10 false (n / 10) (digit_glyph false (n % 10) ∷ acc)) (glyph_low n) (onto_low k (n / 10) (digit_glyph false (n % 10) ∷ acc))
 
 decimal_low : (n : ℕ) → begins_low (decimal n) ≡ true
 unfolding digits

@@ -43,6 +43,7 @@ use Rattle.pr_plain.specs.HexWords.{hex_word}
 use Rattle.pr_text.specs.LwpWords.{lwp_text}
 use Rattle.pr_plain.specs.HistoryText.{actor_text, result_words, how_text, did_words, stop_words, turn_words, target_text, held_words, call_words, reply_words, act_words, entry_words}
 use Rattle.pr_plain.specs.Lines.{is_word_byte, is_word, names_words, has_words}
+use Rattle.pr_num.proofs.BoolLemmas.{either}
 
 -- ---- bytes of words
 
@@ -110,10 +111,6 @@ glyph_byte n = grind (arith, nat_tests)
 
 digit_byte : (n : ℕ) → is_word_byte (digit_glyph false (n % 10)) ≡ true
 digit_byte n = glyph_byte (n % 10)
-
-either : (P : List ℕ → Type 0) (t : Bool) (x y : List ℕ) → P x → P y → P (cond t x y)
-either P true x y p q = p
-either P false x y p q = q
 
 decimal_from : (k n : ℕ) (acc : List ℕ) → AllBytes acc → IsWord (digits_onto (suc k) 10 false n acc)
 decimal_from zero n acc h =

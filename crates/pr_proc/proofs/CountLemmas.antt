@@ -1,12 +1,13 @@
 use Rattle.std.proofs.Common.{◌≡◌, ℕ, ◌-◌, ◌^◌, ◌≤◌, ◌&&◌, ltb, Bool, true, false, Some, List, [], ◌∷◌, refl, arith}
 use Rattle.std.specs.List.{All, list_all}
-use Rattle.std.proofs.lemmas.Bool.{ltb-true}
+use Rattle.std.proofs.lemmas.Bool.{ltb-true, and_parts}
 use Rattle.std.proofs.lemmas.List.Elements.{All-nil, All-cons, All-weaker}
 use Rattle.pr_num.proofs.ByIdLaws.{All-under}
 use Rattle.pr_model.specs.State.{TracedSystem, TracedProcess, live_process}
 use Rattle.pr_model.specs.declared.processes.Usage.{Usage}
 use Rattle.pr_proc.specs.Counts.{UsedAtMost, HasUsedAtMost, AllUsedAtMost, has_one_more, has_one_more_at}
-use Rattle.pr_proc.proofs.LifeLemmas.{live_process-found}
+use Rattle.pr_model.proofs.StateLemmas.{live_process-found}
+
 
 -- What bounds counts of use.
 
@@ -23,19 +24,15 @@ AllUsedAtMost-live n s pid p live h = All-under (HasUsedAtMost n) pid p s.proces
 
 -- ---- where one more can be added
 
-both : (a b : Bool) → (a && b) ≡ true → (a ≡ true) × (b ≡ true)
-both true b e = (refl, e)
-both false b e = absurd (cc)
-
 below : (a b : ℕ) → ltb a (b - 1) ≡ true → a ≤ b - 2
 below a b e = let h = ltb-true a (b - 1) e in omega arith
 
 UsedAtMost-one_more : (u : Usage) → has_one_more u ≡ true → UsedAtMost (2 ^ 64 - 2) u
 unfolding has_one_more
 UsedAtMost-one_more u room =
-    let last = both _ _ room in
-    let third = both _ _ last.0 in
-    let second = both _ _ third.0 in
+    let last = and_parts _ _ room in
+    let third = and_parts _ _ last.0 in
+    let second = and_parts _ _ third.0 in
     record {
       calls = below u.calls (2 ^ 64) second.0;
       signals = below u.signals (2 ^ 64) second.1;
@@ -46,7 +43,7 @@ UsedAtMost-one_more u room =
 all_one_more : (es : List (ℕ × TracedProcess)) → list_all has_one_more_at es ≡ true → All (HasUsedAtMost (2 ^ 64 - 2)) es
 all_one_more [] room = All-nil (HasUsedAtMost (2 ^ 64 - 2))
 all_one_more (e ∷ es) room =
-    let tests = both (has_one_more_at e) (list_all has_one_more_at es) room in
+    let tests = and_parts (has_one_more_at e) (list_all has_one_more_at es) room in
     All-cons (HasUsedAtMost (2 ^ 64 - 2)) e es (UsedAtMost-one_more e.1.control.usage tests.0) (all_one_more es tests.1)
 
 pub AllUsedAtMost-one_more : (s : TracedSystem) → list_all has_one_more_at s.processes ≡ true → AllUsedAtMost (2 ^ 64 - 2) s

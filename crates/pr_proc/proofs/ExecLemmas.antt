@@ -7,7 +7,8 @@ use Rattle.pr_num.proofs.ByIdLaws.{put_under-found}
 use Rattle.pr_model.specs.Lives.{with_program}
 use Rattle.pr_model.specs.Machines.{traced}
 use Rattle.pr_model.specs.State.{TracedLwp, TracedProcess, TracedSystem, live_process, lwp_of, with_process}
-use Rattle.pr_proc.proofs.LifeLemmas.{live_process-found}
+use Rattle.pr_model.proofs.StateLemmas.{live_process-found}
+
 
 -- A process that runs another program.
 

@@ -10,8 +10,8 @@ use Rattle.pr_model.specs.Machines.{traced}
 use Rattle.pr_model.specs.State.{TracedLwp, TracedProcess, TracedSystem, live_process, process_of, with_process}
 use Rattle.pr_num.specs.Files.{Descriptors}
 use Rattle.pr_parts.specs.FileCalls.{with_all_shared}
-use Rattle.pr_proc.proofs.LifeLemmas.{live_process-found}
 use Rattle.pr_proc.specs.Forks.{bare_child, child_of}
+use Rattle.pr_model.proofs.StateLemmas.{live_process-found}
 
 -- What a forked child is made of.
 

@@ -7,23 +7,10 @@ use Rattle.pr_num.specs.Files.{with_all_closed}
 use Rattle.pr_model.specs.Lives.{orphaned, with_ended, with_lwp_ended, with_parent_told, with_this_ended, zombie}
 use Rattle.pr_model.specs.Machines.{traced}
 use Rattle.pr_model.specs.State.{TracedSystem, TracedProcess, if_live, live_process, process_of}
-use Rattle.pr_model.proofs.StateLemmas.{live-found}
+use Rattle.pr_model.proofs.StateLemmas.{live_process-found, live_process-live}
+
 
 -- Live processes.
-
--- itself, if it is live, is itself
-if_live-same : (q p : TracedProcess) → if_live q ≡ Some p → (q ≡ p) × (is_none q.ended ≡ true)
-if_live-same q p e =
-    elim (cases_Bool (is_none q.ended)) [ inl here ↦ (same_Some q p (let P : Bool → Type 0 = λ b. cond b (Some q) None ≡ Some p in subst P here e), here) | inr not_here ↦ absurd (let wrong : None ≡ Some p = (let P : Bool → Type 0 = λ b. cond b (Some q) None ≡ Some p in subst P not_here e) in cc) ]
-
--- a live process stands under its id, and has not ended
-pub live_process-found : (s : TracedSystem) (pid : ℕ) (p : TracedProcess) → live_process s pid ≡ Some p → under pid s.processes ≡ Some p
-unfolding live_process
-live_process-found s pid p e = (live-found (process_of s pid) p e).0
-
-pub live_process-live : (s : TracedSystem) (pid : ℕ) (p : TracedProcess) → live_process s pid ≡ Some p → is_none p.ended ≡ true
-unfolding live_process
-live_process-live s pid p e = (live-found (process_of s pid) p e).1
 
 -- a process of this id that has not ended is the live one
 pub live_process-made : (s : TracedSystem) (pid : ℕ) (p : TracedProcess) → under pid s.processes ≡ Some p → is_none p.ended ≡ true → live_process s pid ≡ Some p

@@ -7,14 +7,14 @@ use Rattle.pr_num.specs.Records.{a_file_kind, an_access, watch_entry_ranges, fd_
 use Rattle.pr_num.specs.declared.files.Access.{Access}
 use Rattle.pr_num.specs.declared.files.Access.TheVariants.{Read}
 use Rattle.pr_rec.proofs.RecordLemmas.{AreRanged, word-any, front_words-ranged}
-use Rattle.pr_rec.specs.Fields.{fd_kind_number, access_number}
 use Rattle.pr_rec.specs.InRange.{IsNameField, IsWatchEntry, IsFdEntry, IsListEntry}
 use Rattle.pr_rec.specs.RecordWords.{watch_entry_words_of, fd_entry_words_of, list_entry_words_of}
 use Rattle.pr_rec.specs.declared.entries.FdEntry.{FdEntry}
-use Rattle.pr_rec.specs.declared.entries.FdKind.{FdKind}
-use Rattle.pr_rec.specs.declared.entries.FdKind.TheVariants.{File}
+use Rattle.pr_num.specs.declared.files.FdKind.{FdKind}
+use Rattle.pr_num.specs.declared.files.FdKind.TheVariants.{File}
 use Rattle.pr_rec.specs.declared.entries.ListEntry.{ListEntry}
 use Rattle.pr_rec.specs.declared.entries.WatchEntry.{WatchEntry}
+use Rattle.pr_num.specs.Files.{fd_kind_number, access_number}
 
 -- fields in their ranges are words in theirs
 pub watch_entry-ranged : (w : WatchEntry) → IsWatchEntry w → AreRanged watch_entry_ranges (watch_entry_words_of w)

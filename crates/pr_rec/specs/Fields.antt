@@ -6,8 +6,8 @@ use Rattle.pr_num.specs.declared.files.Access.TheVariants.{Read, Write, Both}
 use Rattle.pr_num.specs.declared.files.Target.{Target}
 use Rattle.pr_num.specs.declared.files.Target.TheVariants as target
 use Rattle.pr_num.specs.declared.infos.Info.{Info}
-use Rattle.pr_rec.specs.declared.entries.FdKind.{FdKind}
-use Rattle.pr_rec.specs.declared.entries.FdKind.TheVariants.{File, PipeReader, PipeWriter}
+use Rattle.pr_num.specs.declared.files.FdKind.{FdKind}
+use Rattle.pr_num.specs.declared.files.FdKind.TheVariants.{File, PipeReader, PipeWriter}
 use Rattle.pr_rec.specs.declared.lwp_flags.LwpMarks.{LwpMarks}
 use Rattle.pr_rec.specs.declared.lwps.Disposition.{Disposition}
 use Rattle.pr_rec.specs.declared.lwps.Disposition.TheVariants.{Default, Ignored, Caught}
@@ -35,24 +35,6 @@ abbrev pub disposition_of : ℕ → Disposition
 disposition_of zero = Default
 disposition_of (suc zero) = Ignored
 disposition_of (suc (suc n)) = Caught
-
--- what a descriptor stands for, by number
-abbrev pub fd_kind_number : FdKind → ℕ
-fd_kind_number File = 1
-fd_kind_number PipeReader = 2
-fd_kind_number PipeWriter = 3
-
--- what an open file is, in a record of descriptors
-abbrev pub fd_kind_of : Target → FdKind
-fd_kind_of (target.File place) = File
-fd_kind_of (target.PipeReader place) = PipeReader
-fd_kind_of (target.PipeWriter place) = PipeWriter
-
--- for what a file is open, by number
-abbrev pub access_number : Access → ℕ
-access_number Read = 0
-access_number Write = 1
-access_number Both = 2
 
 -- the code, process id and value of a signal's information
 abbrev pub info_words : Info → List ℕ

@@ -5,7 +5,7 @@ use Rattle.pr_num.specs.Signals.{signal_number}
 use Rattle.pr_num.specs.Spaces.{kind_number}
 use Rattle.pr_num.specs.StopReasons.{reason_number}
 use Rattle.pr_num.specs.Syscalls.{syscall_number}
-use Rattle.pr_rec.specs.Fields.{number_or_zero, truth_word, disposition_number, fd_kind_number, access_number, info_words, elements, name_words}
+use Rattle.pr_rec.specs.Fields.{number_or_zero, truth_word, disposition_number, info_words, elements, name_words}
 use Rattle.pr_rec.specs.declared.entries.FdEntry.{FdEntry}
 use Rattle.pr_rec.specs.declared.entries.ListEntry.{ListEntry}
 use Rattle.pr_rec.specs.declared.entries.WatchEntry.{WatchEntry}
@@ -14,6 +14,7 @@ use Rattle.pr_rec.specs.declared.mappings.MapEntry.{MapEntry}
 use Rattle.pr_rec.specs.declared.processes.Psinfo.{Psinfo}
 use Rattle.pr_rec.specs.declared.statuses.Status.{Status}
 use Rattle.pr_rec.specs.declared.usages.Usage.{Usage}
+use Rattle.pr_num.specs.Files.{fd_kind_number, access_number}
 
 -- The words of each record (proc(4)), a row a word. What each word may hold stands in pr_num's Records.
 

@@ -1,14 +1,13 @@
 ghost use Rattle.std.specs.Prelude.{◌≡◌, ◌++◌, ◌<◌, ◌^◌, OnOk};
 ghost use Rattle.std.specs.List.{All};
 ghost use Rattle.pr_num.specs.Words.{IsWord, words_bytes};
-ghost use Rattle.pr_rec.specs.Fields.{fd_kind_number, fd_kind_of, access_number};
 ghost use Rattle.pr_rec.specs.InRange.{IsInfo, IsNameField, IsLwpStatus, IsMapEntry, IsWatchEntry, IsFdEntry, IsListEntry};
 ghost use Rattle.pr_rec.specs.RecordWords.{lwpstatus_words_of, map_entry_words_of, watch_entry_words_of, fd_entry_words_of, list_entry_words_of};
 
 use crate::fields::name_words;
 use crate::{Descriptor, LwpStatus, MapEntry};
 use pr_codec::push_word;
-use pr_num::{Access, NoMemory, Target, WatchFlags};
+use pr_num::{Access, FdKind, NoMemory, WatchFlags};
 
 /// A watched area (proc(4), "watch").
 #[derive(Clone, Copy, Debug, PartialEq, Eq)]
@@ -19,29 +18,6 @@ pub struct WatchEntry {
     pub size: u64,
     /// The accesses that are watched, and whether they trap after the access.
     pub flags: WatchFlags,
-}
-
-/// What a descriptor stands for.
-#[derive(Clone, Copy, Debug, PartialEq, Eq)]
-pub enum FdKind {
-    File = 1,
-    /// The read end of a pipe.
-    PipeReader = 2,
-    /// The write end of a pipe.
-    PipeWriter = 3,
-}
-
-impl FdKind {
-    /// What a descriptor of this open file stands for.
-    pub fn of(target: Target) -> FdKind
-        ensures { result ≡ fd_kind_of target }
-    {
-        match target {
-            Target::File(_) => FdKind::File,
-            Target::PipeReader(_) => FdKind::PipeReader,
-            Target::PipeWriter(_) => FdKind::PipeWriter,
-        }
-    }
 }
 
 /// An open descriptor of a process.
@@ -84,8 +60,8 @@ impl FdEntry {
         let name = name_words(&self.name);
         [
             u64::from(self.descriptor.number()),
-            fd_kind_word(self.kind),
-            access_word(self.access),
+            self.kind.number(),
+            self.access.number(),
             self.offset,
             name[0],
             name[1],
@@ -177,18 +153,6 @@ impl Entry for ListEntry {
     fn append(&self, out: &mut Vec<u8>) -> Result<(), NoMemory> {
         append_words(out, &self.words())
     }
-}
-
-fn fd_kind_word(kind: FdKind) -> u64
-    ensures { result ≡ fd_kind_number kind }
-{
-    kind as u64
-}
-
-fn access_word(access: Access) -> u64
-    ensures { result ≡ access_number access }
-{
-    access as u64
 }
 
 /// Adds words to a record.

@@ -20,7 +20,7 @@ mod usages;
 mod whats;
 
 pub use descriptors::Descriptor;
-pub use entries::{FdEntry, FdKind, ListEntry, WatchEntry};
+pub use entries::{FdEntry, ListEntry, WatchEntry};
 pub use faults::RecFault;
 pub use laws::{
     entries_stand_in_their_places, one_encoding_one_record, what_fills_records_is_in_range,

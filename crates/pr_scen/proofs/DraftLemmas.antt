@@ -13,7 +13,7 @@ fresh_at : (o : Option ℕ) (r : Result (Unit {0}) ScenKind) → cond (is_some o
 fresh_at None r e = refl
 fresh_at (Some place) r e = cc
 
-abbrev may : Bool → Bool → Result (Unit {0}) ScenKind
+abbrev pub may : Bool → Bool → Result (Unit {0}) ScenKind
 may a b = cond a (Err Double) (cond b (Ok tt) (Err TooMany))
 
 pub room_after : (a b : Bool) → may a b ≡ Ok tt → b ≡ true

@@ -49,7 +49,7 @@ use Rattle.pr_scen.specs.declared.script_blocks.InScript.TheVariants as in_scrip
 use Rattle.pr_scen.specs.declared.script_lines.ScriptLine.{ScriptLine}
 use Rattle.pr_scen.specs.declared.script_lines.ScriptLine.TheVariants as call
 use Rattle.pr_num.proofs.SearchLemmas.{list_any-push}
-use Rattle.pr_scen.proofs.DraftLemmas.{room_after}
+use Rattle.pr_scen.proofs.DraftLemmas.{room_after, may}
 
 -- ---- what a line says of turns: not 0
 
@@ -353,9 +353,6 @@ sound_script_block n d body last room s =
 
 abbrev if_room : Bool → Result (Unit {0}) ScenKind
 if_room b = cond b (Ok tt) (Err TooMany)
-
-abbrev may : Bool → Bool → Result (Unit {0}) ScenKind
-may a b = cond a (Err Double) (if_room b)
 
 room_at : (b : Bool) → if_room b ≡ Ok tt → b ≡ true
 room_at true e = refl

@@ -3,7 +3,7 @@ use Rattle.std.proofs.Common.{◌≡◌, ℕ, ◌+◌, ◌<◌, Bool, true, fals
 use Rattle.std.specs.BTreeMap.{BTreeMap, IsEmpty, Updates, get}
 use Rattle.std.specs.List.{position_from}
 use Rattle.std.specs.Map.{lookup}
-use Rattle.std.specs.Option.{IfSome}
+use Rattle.std.specs.Option.{IfSome, option_or}
 use Rattle.std.specs.Ordering.{is_eq}
 use Rattle.std.specs.Str.{bytes_eq}
 use Rattle.std.proofs.lemmas.Slice.Eq.{bytes_eq-Decides}
@@ -12,18 +12,13 @@ use Rattle.pr_text.specs.declared.keys.Key.{Key}
 use Rattle.pr_text.specs.Keys.{key_cmp}
 use Rattle.pr_text.proofs.KeyLemmas.{same_key}
 
--- an option, or else another
-abbrev or_else : {A : Type 0} → Option A → Option A → Option A
-or_else None y = y
-or_else (Some x) y = Some x
-
 -- the first place at which one of more elements passes
-place-push : {X : Type 0} (p : X → Bool) (i : ℕ) (xs : List X) (y : X) → position_from p i (xs ++ y ∷ []) ≡ or_else (position_from p i xs) (cond (p y) (Some (i + length xs)) None)
+place-push : {X : Type 0} (p : X → Bool) (i : ℕ) (xs : List X) (y : X) → position_from p i (xs ++ y ∷ []) ≡ option_or (position_from p i xs) (cond (p y) (Some (i + length xs)) None)
 place-push p i [] y = ap (λ n. cond (p y) (Some n) None) (omega arith)
 place-push p i (x ∷ xs) y =
-    ap (cond (p x) (Some i)) (place-push p (i + 1) xs y ∙ ap (λ n. or_else (position_from p (i + 1) xs) (cond (p y) (Some n) None)) (omega arith)) ∙ out (p x) i (position_from p (i + 1) xs) _
+    ap (cond (p x) (Some i)) (place-push p (i + 1) xs y ∙ ap (λ n. option_or (position_from p (i + 1) xs) (cond (p y) (Some n) None)) (omega arith)) ∙ out (p x) i (position_from p (i + 1) xs) _
   where
-    out : (b : Bool) (i : ℕ) (rest other : Option ℕ) → cond b (Some i) (or_else rest other) ≡ or_else (cond b (Some i) rest) other
+    out : (b : Bool) (i : ℕ) (rest other : Option ℕ) → cond b (Some i) (option_or rest other) ≡ option_or (cond b (Some i) rest) other
     out true i rest other = refl
     out false i rest other = refl
 
@@ -32,8 +27,8 @@ unfolding place_of
 index-empty places empty = record { found = λ name. ap (lookup (λ k. is_eq (key_cmp (record { name = name }) k))) empty }
 
 -- one name more, which is not among them
-with_one : (b : Bool) (was : Option ℕ) (n : ℕ) → (b ≡ true → was ≡ None) → cond b (Some n) was ≡ or_else was (cond b (Some n) None)
-with_one true was n fresh = ap (λ o. or_else o (Some n)) (sym (fresh refl))
+with_one : (b : Bool) (was : Option ℕ) (n : ℕ) → (b ≡ true → was ≡ None) → cond b (Some n) was ≡ option_or was (cond b (Some n) None)
+with_one true was n fresh = ap (λ o. option_or o (Some n)) (sym (fresh refl))
 with_one false None n fresh = refl
 with_one false (Some i) n fresh = refl
 
@@ -45,7 +40,7 @@ index-push names old new name n index fresh at u = record {
       ∙ ap (λ b. cond b (Some n) (get key_cmp old (record { name = other }))) (same_key name other)
       ∙ ap (cond (bytes_eq other name) (Some n)) (index.found other)
       ∙ with_one (bytes_eq other name) (position_from (bytes_eq other) 0 names) n (λ same. ap (λ q. position_from (bytes_eq q) 0 names) ((bytes_eq-Decides other name).0 same) ∙ fresh)
-      ∙ ap (λ m. or_else (position_from (bytes_eq other) 0 names) (cond (bytes_eq other name) (Some m) None)) (omega (arith, at))
+      ∙ ap (λ m. option_or (position_from (bytes_eq other) 0 names) (cond (bytes_eq other name) (Some m) None)) (omega (arith, at))
       ∙ sym (place-push (bytes_eq other) 0 names name);
 }
 

@@ -9,9 +9,7 @@ use Rattle.pr_num.specs.declared.mappings.Mapping.{Mapping}
 use Rattle.pr_num.specs.declared.mappings.MappingKind.{MappingKind}
 use Rattle.pr_num.specs.declared.mappings.MappingKind.TheVariants.{Text, Data, Stack}
 use Rattle.pr_parts.proofs.FirstLemmas.{size-pages}
-
-abbrev size_of : Mapping → ℕ
-size_of m = length m.bytes
+use Rattle.pr_parts.proofs.SpaceLemmas.{size_of}
 
 pub size_at_first : (p : Program) → mapped_size (first_space p) ≡ rounded (16 * length p.code) + rounded (length p.bytes) + 4096
 unfolding first_space first_mappings

@@ -33,11 +33,9 @@ use Rattle.pr_scen.specs.Items.{truss_read, truss_of, item_with, item_of}
 use Rattle.pr_text.specs.Comments.{begins_comment}
 use Rattle.pr_scen.specs.TrussWords.{joined_word, Listing, every, these, others, listing_word, with_numbers, listing_set, IsEntry, IsListing, Target, processes, runs, IsTarget, target_words, target_ids, target_program, TrussLine, flag_words, list_words, truss_words, truss_options, IsTrussLine}
 use Rattle.pr_scen.specs.declared.items.Item.TheVariants as item
+use Rattle.pr_num.specs.Words.{IsWord}
 
 -- ---- numbers joined by +
-
-abbrev IsWord : ℕ → Type 0
-IsWord n = n < 2 ^ 64
 
 split_joined : (n : ℕ) (ns : List ℕ) → AllByRecursion IsWord (n ∷ ns) → parts_of (joined_word (n ∷ ns)) ≡ map decimal (n ∷ ns)
 split_joined n [] all = slice_split_none (λ b. eqb b 43) (decimal n) (decimal-apart 43 (omega arith) n all.0)

@@ -2,18 +2,14 @@
 -- closed in the reverse order.
 use Rattle.std.specs.Prelude.{ℕ, Option, Some, None}
 use Rattle.pr_tools.specs.declared.handles.Opened.{Opened}
+use Rattle.std.specs.Option.{option_or}
 
 unfoldable pub nothing_open : Opened
 nothing_open = record { ctl = None; file = None; memory = None }
 
--- the first of two handles that is there
-abbrev pub or_else : Option ℕ → Option ℕ → Option ℕ
-or_else (Some handle) other = Some handle
-or_else None other = other
-
 -- the file that was opened last
 unfoldable pub last_open : Opened → Option ℕ
-last_open o = or_else o.memory (or_else o.file o.ctl)
+last_open o = option_or o.memory (option_or o.file o.ctl)
 
 -- what is open once that was closed
 unfoldable pub without_last : Opened → Opened

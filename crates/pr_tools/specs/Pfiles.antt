@@ -4,7 +4,7 @@ use Rattle.std.specs.List.{flat_map}
 use Rattle.pr_num.specs.Records.{fd_entry_ranges}
 use Rattle.pr_text.specs.Quotes.{quoted_text}
 use Rattle.pr_tools.specs.Entries.{entries_in}
-use Rattle.pr_tools.specs.Texts.{header, name_of_words, newline}
+use Rattle.pr_tools.specs.Texts.{header, name_of_words, line_end}
 
 -- a file that is open: its name, for what it is open, and where the next read or write begins
 unfoldable pub file_text : List ℕ → List ℕ
@@ -20,7 +20,7 @@ target_text words =
 
 -- the line of a descriptor
 unfoldable pub descriptor_line : List ℕ → List ℕ
-descriptor_line words = codes " " ++ decimal (slice_index words 0) ++ codes ": " ++ target_text words ++ newline
+descriptor_line words = codes " " ++ decimal (slice_index words 0) ++ codes ": " ++ target_text words ++ line_end
 
 -- the lines of the descriptors, where they are not malformed
 abbrev pub descriptor_lines : Option (List (List ℕ)) → List ℕ

@@ -10,7 +10,7 @@ use Rattle.pr_num.specs.Tables.{entry_at}
 use Rattle.pr_num.specs.declared.stop_reasons.StopReason.{StopReason}
 use Rattle.pr_num.specs.declared.stop_reasons.StopReason.TheVariants.{Requested, Signalled, SysEntry, SysExit, JobControl, Faulted, Suspended}
 use Rattle.pr_tools.specs.Entries.{lwps_in}
-use Rattle.pr_tools.specs.Texts.{header, lwp_label, newline}
+use Rattle.pr_tools.specs.Texts.{header, lwp_label, line_end}
 
 -- a flag by name, where it is set; a bar stands before each but the first
 unfoldable pub flag_text : Bool → ℕ → ℕ → List ℕ → List ℕ
@@ -71,7 +71,7 @@ why_text words = stop_text (entry_at stop_reasons (slice_index words 2)) (slice_
 
 -- the line of an lwp
 unfoldable pub lwp_line : List ℕ → List ℕ
-lwp_line words = lwp_label (slice_index words 1) ++ codes " " ++ flags_text (slice_index words 0) ++ why_text words ++ newline
+lwp_line words = lwp_label (slice_index words 1) ++ codes " " ++ flags_text (slice_index words 0) ++ why_text words ++ line_end
 
 -- the lines of the lwps, where their status is not malformed
 abbrev pub lwp_lines : Option (List (List ℕ)) → List ℕ

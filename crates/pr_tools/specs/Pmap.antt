@@ -8,7 +8,7 @@ use Rattle.pr_num.specs.declared.mappings.MappingKind.{MappingKind}
 use Rattle.pr_num.specs.declared.mappings.MappingKind.TheVariants.{Text, Data, Heap, Stack, Mapped}
 use Rattle.pr_text.specs.Numerals.{hex8_text}
 use Rattle.pr_tools.specs.Entries.{entries_in}
-use Rattle.pr_tools.specs.Texts.{header, name_of_words, newline}
+use Rattle.pr_tools.specs.Texts.{header, name_of_words, line_end}
 
 -- the letter of an access that a protection allows, else a dash
 unfoldable pub access_letter : ℕ → ℕ → List ℕ → List ℕ
@@ -47,11 +47,11 @@ place_text words = codes " " ++ hex8_text (slice_index words 0) ++ codes " " ++ 
 unfoldable pub mapping_line : List ℕ → List ℕ
 mapping_line words =
     place_text words ++ prot_text (slice_index words 2) ++ codes " " ++ kind_text (kind_of_number (slice_index words 3))
-    ++ named (name_of_words (drop 4 words)) ++ newline
+    ++ named (name_of_words (drop 4 words)) ++ line_end
 
 -- the last line
 unfoldable pub total_line : ℕ → List ℕ
-total_line total = codes " total " ++ decimal total ++ codes "K" ++ newline
+total_line total = codes " total " ++ decimal total ++ codes "K" ++ line_end
 
 -- the lines of the mappings, where they are not malformed
 abbrev pub mapping_lines : Option (List (List ℕ)) → List ℕ

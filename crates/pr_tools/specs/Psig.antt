@@ -6,7 +6,7 @@ use Rattle.pr_rec.specs.Fields.{front_words, disposition_of}
 use Rattle.pr_rec.specs.declared.lwps.Disposition.{Disposition}
 use Rattle.pr_rec.specs.declared.lwps.Disposition.TheVariants.{Default, Ignored, Caught}
 use Rattle.pr_text.specs.Numerals.{hex_text}
-use Rattle.pr_tools.specs.Texts.{header, newline}
+use Rattle.pr_tools.specs.Texts.{header, line_end}
 
 -- what is done at a signal; where it is caught, the address of its handler
 unfoldable pub disposition_text : ℕ → Disposition → List ℕ
@@ -16,7 +16,7 @@ disposition_text word Caught = codes "caught " ++ hex_text word
 
 -- the line of a signal
 unfoldable pub signal_line : Sig → ℕ → List ℕ
-signal_line signal word = codes " " ++ signal_name signal ++ codes " " ++ disposition_text word (disposition_of word) ++ newline
+signal_line signal word = codes " " ++ signal_name signal ++ codes " " ++ disposition_text word (disposition_of word) ++ line_end
 
 -- the lines of signals, each with its word
 abbrev pub signal_lines : List Sig → List ℕ → List ℕ

@@ -8,7 +8,7 @@ use Rattle.pr_num.specs.Programs.{Program}
 use Rattle.pr_num.specs.declared.instructions.Instruction.{Instruction}
 use Rattle.pr_text.specs.Numerals.{hex_text, hex8_text}
 use Rattle.pr_tools.specs.Entries.{lwps_in}
-use Rattle.pr_tools.specs.Texts.{header, lwp_label, newline}
+use Rattle.pr_tools.specs.Texts.{header, lwp_label, line_end}
 use Rattle.pr_tools.specs.declared.stacks.CallFrame.{CallFrame}
 
 -- whether a program's text begins with these 16 bytes
@@ -33,7 +33,7 @@ symbol_text (Some p) pc = distance_text (symbol_at p pc)
 
 -- the line of a frame
 unfoldable pub frame_line : Option Program → ℕ → List ℕ
-frame_line program pc = codes "  " ++ hex8_text pc ++ codes " " ++ symbol_text program pc ++ newline
+frame_line program pc = codes "  " ++ hex8_text pc ++ codes " " ++ symbol_text program pc ++ line_end
 
 -- the line of a frame that is one of an lwp's
 unfoldable pub frame_line_of : Option Program → ℕ → CallFrame → List ℕ
@@ -42,7 +42,7 @@ frame_line_of program lwp f = if f.lwp == lwp then frame_line program f.pc else 
 -- the stack of an lwp: its pc, and the frames of it that were read
 unfoldable pub stack_text : Option Program → List CallFrame → List ℕ → List ℕ
 stack_text program frames words =
-    lwp_label (slice_index words 1) ++ newline ++ frame_line program (slice_index words 28)
+    lwp_label (slice_index words 1) ++ line_end ++ frame_line program (slice_index words 28)
     ++ flat_map (frame_line_of program (slice_index words 1)) frames
 
 -- the stacks of the lwps, where their status is not malformed

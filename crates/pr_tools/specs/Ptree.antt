@@ -4,7 +4,7 @@ use Rattle.std.specs.List.{flat_map}
 use Rattle.pr_num.specs.Records.{list_entry_ranges}
 use Rattle.pr_text.specs.Bytes.{blank}
 use Rattle.pr_tools.specs.Entries.{entries_in}
-use Rattle.pr_tools.specs.Texts.{name_of_words, newline}
+use Rattle.pr_tools.specs.Texts.{name_of_words, line_end}
 
 -- Processes stand by rising id, and process 0 is not among them.
 unfoldable pub ids_rise : ℕ → List (List ℕ) → Bool
@@ -18,7 +18,7 @@ deepest = 32
 -- the line of a process, with two blanks for each level of its depth
 unfoldable pub process_line : ℕ → List ℕ → List ℕ
 process_line depth words =
-    replicate (2 * depth) blank ++ decimal (slice_index words 0) ++ codes " " ++ name_of_words (drop 2 words) ++ newline
+    replicate (2 * depth) blank ++ decimal (slice_index words 0) ++ codes " " ++ name_of_words (drop 2 words) ++ line_end
 
 -- a process that is a child of this one, and the lines of its own children, by its id; nothing of any other process
 unfoldable pub branch_lines : ℕ → ℕ → (ℕ → List ℕ) → List ℕ → List ℕ

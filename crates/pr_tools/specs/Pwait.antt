@@ -4,11 +4,11 @@ use Rattle.pr_num.specs.Records.{psinfo_ranges}
 use Rattle.pr_rec.specs.Reading.{record_read}
 use Rattle.pr_rec.specs.declared.faults.RecFault.{RecFault}
 use Rattle.pr_text.specs.Numerals.{hex8_text}
-use Rattle.pr_tools.specs.Texts.{newline}
+use Rattle.pr_tools.specs.Texts.{line_end}
 
 -- the line of a process with its wait status
 unfoldable pub end_line : ℕ → ℕ → List ℕ
-end_line pid status = decimal pid ++ codes ": terminated, wait status " ++ hex8_text status ++ newline
+end_line pid status = decimal pid ++ codes ": terminated, wait status " ++ hex8_text status ++ line_end
 
 -- the line of what ps(1) shows of a process, where that is not malformed
 abbrev pub end_line_in : ℕ → Result (List ℕ) RecFault → List ℕ

@@ -4,7 +4,7 @@ use Rattle.pr_num.specs.Errnos.{errno_name}
 use Rattle.pr_num.specs.declared.errnos.Errno.{Errno}
 use Rattle.pr_model.specs.ToolNames.{tool_name}
 use Rattle.pr_model.specs.declared.tools.ToolKind.{ToolKind}
-use Rattle.pr_tools.specs.Texts.{newline}
+use Rattle.pr_tools.specs.Texts.{line_end}
 
 -- the tool, and the process that it cannot examine
 unfoldable pub cannot_examine : ToolKind → ℕ → List ℕ
@@ -12,4 +12,4 @@ cannot_examine tool pid = tool_name tool ++ codes ": cannot examine " ++ decimal
 
 -- these, and why
 unfoldable pub refusal_line : ToolKind → ℕ → Errno → List ℕ
-refusal_line tool pid errno = cannot_examine tool pid ++ codes ": " ++ errno_name errno ++ newline
+refusal_line tool pid errno = cannot_examine tool pid ++ codes ": " ++ errno_name errno ++ line_end

@@ -2,13 +2,14 @@
 ghost use Rattle.std.specs.Prelude.{◌≡◌, ◌*◌, ◌<◌, ◌≤◌, length, option_map, slice_index};
 ghost use Rattle.std.specs.Result.{result_ok};
 ghost use Rattle.pr_num.specs.Records.{fd_entry_ranges, list_entry_ranges};
-ghost use Rattle.pr_rec.specs.Fields.{front_words, fd_kind_number, access_number};
+ghost use Rattle.pr_num.specs.Files.{fd_kind_number, access_number};
+ghost use Rattle.pr_rec.specs.Fields.{front_words};
 ghost use Rattle.pr_rec.specs.Reading.{record_read};
 ghost use Rattle.pr_rec.specs.RecordWords.{fd_entry_words_of, list_entry_words_of};
 
 use pr_codec::{WORD, put_words, read_words};
-use pr_num::Access;
-use pr_rec::{Descriptor, FdEntry, FdKind, ListEntry};
+use pr_num::{Access, FdKind};
+use pr_rec::{Descriptor, FdEntry, ListEntry};
 
 /// The first words of bytes, as many as `words` has places.
 pub fn fill(bytes: &[u8], words: &mut [u64])

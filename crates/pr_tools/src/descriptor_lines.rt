@@ -7,8 +7,8 @@ ghost use Rattle.pr_tools.specs.Pfiles.{file_text, target_text, descriptor_line,
 use crate::entries::entries_in;
 use crate::names::name_in;
 use crate::texts::Text;
-use pr_num::NoMemory;
-use pr_rec::{FdEntry, FdKind};
+use pr_num::{FdKind, NoMemory};
+use pr_rec::FdEntry;
 use std::alloc::Global;
 
 /// A file that is open: its name, for what it is open, and where the next read or write begins.

@@ -1,14 +1,8 @@
-ghost use Rattle.std.specs.Prelude.{◌≡◌, ◌==◌};
-ghost use Rattle.std.specs.List.{position};
+ghost use Rattle.std.specs.Prelude.{◌≡◌};
 ghost use Rattle.pr_rec.specs.Fields.{front_words};
 ghost use Rattle.pr_tools.specs.Texts.{name_in, name_of_words};
 
-/// Where the first zero stands.
-fn zero_in(bytes: &[u8]) -> Option<usize>
-    ensures { result ≡ position (λ b. b == 0) bytes.now }
-{
-    bytes.iter().position(|b| *b == 0)
-}
+use pr_num::zero_in;
 
 /// The bytes up to the first zero.
 #[tactic(auto, unfolding(crate::specs::Texts::name_in))]

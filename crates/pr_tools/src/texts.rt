@@ -2,7 +2,7 @@
 ghost use Rattle.std.specs.Prelude.{◌≡◌, ◌≤◌, ◌++◌, [], false, decimal, replicate, IfOk, OnOk};
 ghost use Rattle.pr_text.specs.Numerals.{hex_text, hex8_text};
 ghost use Rattle.pr_text.specs.Quotes.{quoted_text};
-ghost use Rattle.pr_tools.specs.Texts.{header, lwp_label, newline};
+ghost use Rattle.pr_tools.specs.Texts.{header, lwp_label, line_end};
 
 use pr_num::{Bytes, NoMemory};
 use pr_text::{Line, numbers_are_their_digits, quoted_text_tells_its_bytes};
@@ -100,7 +100,7 @@ impl Text {
 
     /// Ends a line.
     pub fn end_line(&mut self) -> Result<(), NoMemory>
-        ensures { OnOk result (self.new ≡ self.old ++ newline) }
+        ensures { OnOk result (self.new ≡ self.old ++ line_end) }
     {
         self.text(b"\n")
     }

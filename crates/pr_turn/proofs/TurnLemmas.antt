@@ -16,7 +16,6 @@ use Rattle.pr_model.specs.Points.{after_meeting, meets}
 use Rattle.pr_model.specs.Rows.{Row, own_taken_row, shared_taken_row, executed_row, requested_row, posted_row, returned_row, ran_row, entered_row, incurred_row, watched_row, row_for}
 use Rattle.pr_model.specs.State.{TracedLwp, TracedProcess, TracedSystem, live_process, lwp_of, process_of, with_lwp, with_lwp_of, with_process}
 use Rattle.pr_model.specs.Transitions.{own_taken, shared_taken, dropped, job_stopped, after_transition, changing, ending, requested, posted, returned, ran, entered, incurred, trapped, stored_in}
-use Rattle.pr_proc.proofs.LifeLemmas.{live_process-found}
 use Rattle.pr_proc.specs.Counts.{AllUsedAtMost}
 use Rattle.pr_turn.proofs.ChangeUsageLemmas.{AllUsedAtMost-transition}
 use Rattle.pr_turn.specs.CallTurns.{Asks, may_take_memory, phase_takes}
@@ -29,6 +28,7 @@ use Rattle.pr_turn.specs.declared.next.Next.{Next}
 use Rattle.pr_turn.specs.declared.next.NextTurn.{NextTurn}
 use Rattle.pr_turn.specs.declared.next.NextTurn.TheVariants.{Row as ThisRow}
 use Rattle.pr_turn.specs.declared.next.Next.TheVariants.{Requested, Posted, Gave, Ends, Returned, Executed, TookOwn, TookShared, Dropped, JobStopped, Caught}
+use Rattle.pr_model.proofs.StateLemmas.{live_process-found}
 
 -- What a turn makes of the whole system.
 

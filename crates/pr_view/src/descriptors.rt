@@ -9,8 +9,8 @@ ghost use Rattle.pr_view.specs.Entries.{HasEntries};
 
 use pr_file::{Fds, Files};
 use pr_num::limits::DESCRIPTOR_LIMIT;
-use pr_num::{Bytes, NoMemory, OpenFile, Target};
-use pr_rec::{Descriptor, FdEntry, FdKind, name_field, write_fds};
+use pr_num::{Bytes, FdKind, NoMemory, OpenFile, Target};
+use pr_rec::{Descriptor, FdEntry, name_field, write_fds};
 use std::alloc::Global;
 
 /// The name of what a descriptor stands for; a pipe has none.

@@ -3,24 +3,20 @@ use Rattle.std.proofs.lemmas.Option.{same_Some}
 use Rattle.std.specs.List.{slice_get}
 use Rattle.pr_model.specs.declared.events.Actor.{Actor}
 use Rattle.pr_world.specs.Worlds.{Pick, WorldState, can_act, first_scheduled}
+use Rattle.pr_num.proofs.ListLemmas.{drop-at}
 
 -- A search through the schedule, actor by actor.
-
-drop-at : (xs : List Actor) (k : ℕ) (a : Actor) → slice_get xs k ≡ Some a → drop k xs ≡ a ∷ drop (suc k) xs
-drop-at [] k a e = cc
-drop-at (x ∷ xs) zero a e = ap (λ y. y ∷ xs) (same_Some x a e)
-drop-at (x ∷ xs) (suc k) a e = drop-at xs k a e
 
 passes-here : (w : WorldState) (xs : List Actor) (k : ℕ) (a : Actor) → slice_get xs k ≡ Some a → can_act w a ≡ true → first_scheduled w (drop k xs) ≡ Some (record { actor = a; schedule = drop (suc k) xs; last = w.last })
 unfolding first_scheduled
 passes-here w xs k a at acts =
-    ap (first_scheduled w) (drop-at xs k a at)
+    ap (first_scheduled w) (drop-at xs k a at ∙ ap (λ n. a ∷ drop n xs) (add-one k))
     ∙ ap (λ (b : Bool). cond b (Some (let p : Pick = record { actor = a; schedule = drop (suc k) xs; last = w.last } in p)) (first_scheduled w (drop (suc k) xs))) acts
 
 passes-by : (w : WorldState) (xs : List Actor) (k : ℕ) (a : Actor) → slice_get xs k ≡ Some a → can_act w a ≡ false → first_scheduled w (drop k xs) ≡ first_scheduled w (drop (suc k) xs)
 unfolding first_scheduled
 passes-by w xs k a at rests =
-    ap (first_scheduled w) (drop-at xs k a at)
+    ap (first_scheduled w) (drop-at xs k a at ∙ ap (λ n. a ∷ drop n xs) (add-one k))
     ∙ ap (λ (b : Bool). cond b (Some (let p : Pick = record { actor = a; schedule = drop (suc k) xs; last = w.last } in p)) (first_scheduled w (drop (suc k) xs))) rests
 
 pub passed_over : (w : WorldState) (xs : List Actor) (k : ℕ) (a : Actor) → slice_get xs k ≡ Some a → can_act w a ≡ false → first_scheduled w (drop (k + 1) xs) ≡ first_scheduled w (drop k xs)

@@ -2,10 +2,10 @@ use Rattle.std.proofs.Common.{◌∙◌, length, refl, sym, arith}
 use Rattle.std.proofs.lemmas.Result.{err_from_is_err_and}
 use Rattle.pr_num.proofs.TableLemmas.{position-within}
 use Rattle.pr_parts.proofs.ByAddressLemmas.{place-none, place-some}
-use Rattle.pr_mem.specs.Answers.{is_zero}
 use Rattle.pr_mem.proofs.PlaceLemmas.{IsUnderWay-start, IsUnderWay-more}
 use Rattle.pr_mem.proofs.TextLemmas.{IsOpen-start, IsOpen-more, IsOpen-found, IsOpen-fails, IsOpen-end}
 use Rattle.pr_mem.proofs.texts.length_at.Goals as goal
+use Rattle.pr_num.specs.Padding.{is_zero}
 
 pub loop-done-init : goal.loop-done-init
 loop-done-init c = record {
