@@ -1,8 +1,7 @@
 use Rattle.std.proofs.Common.{◌≡◌, ◌≢◌, ℕ, ◌-◌, ◌^◌, ◌<◌, ◌≤◌, Bool, true, false, not, ◌&&◌, ◌||◌, eqb, bit_and, refl, sym, ◌∙◌, ap, arith, lit≤}
 use Rattle.std.proofs.lemmas.Bool.{eqb-true, false≢true}
 use Rattle.std.proofs.lemmas.Nat.{and_le_r}
-use Rattle.pr_num.proofs.SetBounds.{with_number-lt}
-use Rattle.pr_num.proofs.SetLemmas.{has_number-holdable, has_number-with, same_set}
+use Rattle.pr_num.proofs.SetLemmas.{has_number-holdable, has_number-with, same_set, with_number-lt}
 use Rattle.pr_num.specs.Sets.{has_number, minus_word, with_number, without_number}
 use Rattle.pr_num.specs.Signals.{holdable_word}
 use Rattle.pr_model.specs.Lawful.{IsHoldable}

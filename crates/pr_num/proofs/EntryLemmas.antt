@@ -1,8 +1,7 @@
-use Rattle.std.proofs.Common.{◌≡◌, ◌≢◌, ◌↔◌, ◌⊎◌, ℕ, ◌≤◌, Bool, true, false, cond, Some, None, IsSome, List, [], ◌∷◌, drop, refl, sym, ◌∙◌, ap, inl, inr}
+use Rattle.std.proofs.Common.{◌≡◌, ◌≢◌, ◌↔◌, ◌⊎◌, ℕ, ◌≤◌, true, false, Some, None, IsSome, List, drop, refl, sym, ◌∙◌, inl, inr}
 use Rattle.std.specs.List.{find}
 use Rattle.std.specs.Str.{bytes_eq}
 use Rattle.std.proofs.lemmas.Bool.{eqb-true, eqb-false, or_cases, or_parts, false≢true}
-use Rattle.std.proofs.lemmas.Option.{same_Some, none-some}
 use Rattle.std.proofs.lemmas.Slice.Eq.{bytes_eq-Decides}
 use Rattle.pr_num.specs.declared.signals.Sig.{Sig}
 use Rattle.pr_num.specs.declared.signals.Sig.TheVariants.{Hup}
@@ -15,14 +14,14 @@ use Rattle.pr_num.specs.declared.syscalls.Sysno.TheVariants.{Exit}
 use Rattle.pr_num.specs.declared.stop_reasons.StopReason.{StopReason}
 use Rattle.pr_num.specs.declared.stop_reasons.StopReason.TheVariants.{Requested}
 use Rattle.pr_num.specs.Limits.{signal_count, syscall_count}
-use Rattle.pr_num.specs.Tables.{entry_at}
+use Rattle.pr_num.specs.Tables.{entry_at, counts_from}
 use Rattle.pr_num.specs.Signals.{signals, signal_number, signal_name, signal_of_number, signal_of_name, is_named as is_signal_named}
 use Rattle.pr_num.specs.Faults.{faults, fault_number, fault_name, fault_of_number, fault_of_name, is_named as is_fault_named}
 use Rattle.pr_num.specs.Errnos.{errnos, errno_number, errno_name, errno_of_number, errno_of_name, is_numbered, is_named as is_errno_named}
 use Rattle.pr_num.specs.Syscalls.{syscalls, syscall_number, syscall_name, syscall_of_number, syscall_of_name, is_named as is_syscall_named}
 use Rattle.pr_num.specs.StopReasons.{stop_reasons, reason_number, reason_name, is_reason_named}
 use Rattle.pr_num.proofs.SearchLemmas.{find-passes, none-passes}
-use Rattle.pr_num.proofs.NumberedLemmas.{counts_from, number-entry_at, IsSome-entry_at, signals_counted, faults_counted, syscalls_counted}
+use Rattle.pr_num.proofs.NumberedLemmas.{number-entry_at, IsSome-entry_at, signals_counted, faults_counted, syscalls_counted}
 
 -- ---- names
 

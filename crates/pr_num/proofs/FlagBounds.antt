@@ -2,6 +2,8 @@ use Rattle.std.proofs.Common.{ℕ, ◌≡◌, ◌∙◌, sym, ◌-◌, ◌^◌, 
 use Rattle.std.proofs.Math.Nat.{mod-eq_of_lt}
 use Rattle.std.proofs.lemmas.Nat.{and_mask, mod_below, pow_pos}
 use Rattle.std.specs.Int.RustNames.{bit_and}
+use Rattle.pr_num.specs.Sets.{union_word}
+use Rattle.pr_num.proofs.SetLemmas.{union_word-lt, minus_word-le}
 
 -- ---- a word has known flags alone exactly where it is below the lowest bit that is none
 
@@ -27,4 +29,10 @@ known-lt-4 = known-lt 4
 pub lt-known-4 : (w : ℕ) → w < 2 ^ 4 → bit_and w 15 ≡ w
 lt-known-4 = lt-known 4
 
-pub ruleset flag_bounds = (known-lt-3, lt-known-3, known-lt-4, lt-known-4)
+pub union_word-lt-3 : (a b : ℕ) → a < 2 ^ 3 → b < 2 ^ 3 → union_word a b < 2 ^ 3
+union_word-lt-3 = union_word-lt 3
+
+pub union_word-lt-4 : (a b : ℕ) → a < 2 ^ 4 → b < 2 ^ 4 → union_word a b < 2 ^ 4
+union_word-lt-4 = union_word-lt 4
+
+pub ruleset flag_bounds = (known-lt-3, lt-known-3, known-lt-4, lt-known-4, union_word-lt-3, union_word-lt-4, minus_word-le)

@@ -16,7 +16,8 @@ use Rattle.pr_num.specs.declared.instructions.Reg.{Reg}
 use Rattle.pr_num.specs.declared.instructions.Reg.TheVariants.{R0, R1, R2, R3, R4, R5, R6, R7}
 use Rattle.pr_num.specs.declared.instructions.Instruction.{Instruction}
 use Rattle.pr_num.specs.declared.instructions.Instruction.TheVariants.{Bpt, Nop, Set, Mov, Add, Sub, Mul, Div, Ld, St, Ldb, Stb, Jmp, Jz, Jnz, Jlt, Call, Ret, Sys}
-use Rattle.pr_num.proofs.NumberedLemmas.{counts_from, number-slice_get}
+use Rattle.pr_num.specs.Tables.{counts_from}
+use Rattle.pr_num.proofs.NumberedLemmas.{number-slice_get}
 
 -- fields laid out over 16 zeros
 pub laid_out : (i : Instruction) (f : Fields) (immediate : List ℕ) → f ≡ fields_of i → immediate ≡ word_bytes f.immediate → f.op ∷ f.a ∷ f.b ∷ 0 ∷ 0 ∷ 0 ∷ 0 ∷ 0 ∷ (immediate ++ []) ≡ instruction_bytes i

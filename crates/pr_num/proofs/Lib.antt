@@ -9,7 +9,6 @@ pub mod NameLemmas
 pub mod NumberLemmas
 pub mod NumberedLemmas
 pub mod SearchLemmas
-pub mod SetBounds
 pub mod SetLemmas
 pub mod TableLaws
 pub mod TableLemmas

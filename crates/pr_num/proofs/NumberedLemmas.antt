@@ -1,28 +1,20 @@
-use Rattle.std.proofs.Common.{◌≡◌, ◌↔◌, ◌⊎◌, ℕ, zero, suc, ◌+◌, ◌-◌, ◌^◌, ◌<◌, ◌≤◌, Bool, true, false, ◌&&◌, ◌||◌, eqb, cond, Option, Some, None, IsNone, IsSome, is_some, List, [], ◌∷◌, length, lit≤, refl, sym, ◌∙◌, ap, arith, inl, inr}
+use Rattle.std.proofs.Common.{◌≡◌, ◌↔◌, ◌⊎◌, ℕ, zero, suc, ◌+◌, ◌-◌, ◌^◌, ◌<◌, ◌≤◌, Bool, true, false, ◌||◌, eqb, cond, Option, Some, None, IsNone, IsSome, is_some, List, [], ◌∷◌, length, lit≤, refl, sym, ◌∙◌, ap, arith, inl, inr}
 use Rattle.std.specs.List.{slice_get}
 use Rattle.std.proofs.lemmas.Option.{slice_get_past, same_Some}
 use Rattle.std.proofs.lemmas.Nat.{pow_pos}
 use Rattle.std.proofs.lemmas.Bool.{and_parts, or_from, or_right, eqb-true, eq-eqb, cases_eq, cases_lt, cond-false, ne_eqb, false≢true}
 use Rattle.pr_num.specs.declared.signals.Sig.{Sig}
 use Rattle.pr_num.specs.declared.signals.Sig.TheVariants.{Hup}
-use Rattle.pr_num.specs.declared.faults.Flt.{Flt}
-use Rattle.pr_num.specs.declared.syscalls.Sysno.{Sysno}
 use Rattle.pr_num.specs.Sets.{has_number, with_number, least_entry, set_of}
-use Rattle.pr_num.specs.Limits.{signal_count, syscall_count}
-use Rattle.pr_num.specs.Tables.{entry_at}
+use Rattle.pr_num.specs.Limits.{signal_count}
+use Rattle.pr_num.specs.Tables.{entry_at, counts_from}
 use Rattle.pr_num.specs.Signals.{signals, signal_number, least_signal}
-use Rattle.pr_num.specs.Faults.{faults, fault_number, least_fault}
-use Rattle.pr_num.specs.Syscalls.{syscalls, syscall_number, least_syscall}
+use Rattle.pr_num.specs.Faults.{faults, fault_number}
+use Rattle.pr_num.specs.Syscalls.{syscalls, syscall_number}
 use Rattle.pr_num.proofs.BoolLemmas.{or_false}
-use Rattle.pr_num.proofs.SetBounds.{with_number-lt}
-use Rattle.pr_num.proofs.SetLemmas.{has_number-zero, has_number-with, same_set}
+use Rattle.pr_num.proofs.SetLemmas.{has_number-zero, has_number-with, same_set, with_number-lt}
 
 -- ---- tables whose entries are numbered in their order
-
--- whether the numbers of these entries count up from n
-abbrev pub counts_from : {T : Type 0} → (T → ℕ) → ℕ → List T → Bool
-counts_from number n [] = true
-counts_from number n (x ∷ xs) = eqb (number x) n && counts_from number (suc n) xs
 
 -- the entry at a place has the number of the place
 pub number-slice_get : {T : Type 0} (number : T → ℕ) (n : ℕ) (xs : List T) → counts_from number n xs ≡ true → (i : ℕ) (x : T) → slice_get xs i ≡ Some x → number x ≡ n + i
@@ -81,23 +73,32 @@ has_number-none number w n (x ∷ xs) ok none m least most =
     let rest : counts_from number (suc n) xs ≡ true = (and_parts (eqb (number x) n) _ ok).1 in
     elim (cases_eq m n) [ inl e ↦ ap (has_number w) (e ∙ sym here) ∙ none_here (has_number w (number x)) x _ none | inr ne ↦ has_number-none number w (suc n) xs rest (none_after (has_number w (number x)) x _ none) m (omega arith) (omega arith) ]
 
-pub zero-from-none : {T : Type 0} (number : T → ℕ) (w : ℕ) (xs : List T) → counts_from number 1 xs ≡ true → w < 2 ^ length xs → least_entry number xs w ≡ None → w ≡ 0
+-- a set within its table has no least entry exactly where it is empty
+zero-from-none : {T : Type 0} (number : T → ℕ) (w : ℕ) (xs : List T) → counts_from number 1 xs ≡ true → w < 2 ^ length xs → least_entry number xs w ≡ None → w ≡ 0
 zero-from-none number w xs ok small none =
     same_set (length xs) w 0 small (omega arith) (λ m least most. has_number-none number w 1 xs ok none m least (omega arith) ∙ sym (has_number-zero m))
 
-pub least_entry-zero : {T : Type 0} (number : T → ℕ) (xs : List T) → least_entry number xs 0 ≡ None
-least_entry-zero number [] = refl
-least_entry-zero number (x ∷ xs) =
-    ap (λ b. cond b (Some x) (least_entry number xs 0)) (has_number-zero (number x)) ∙ least_entry-zero number xs
+from_is_none : {T : Type 0} (o : Option T) → IsNone o → o ≡ None
+from_is_none None e = refl
+from_is_none (Some x) e = cc
+
+pub least_entry-zero : {T : Type 0} (number : T → ℕ) (xs : List T) (w : ℕ) → w ≡ 0 → least_entry number xs w ≡ None
+least_entry-zero number [] w e = refl
+least_entry-zero number (x ∷ xs) w e =
+    ap (λ b. cond b (Some x) (least_entry number xs w)) (ap (λ w. has_number w (number x)) e ∙ has_number-zero (number x)) ∙ least_entry-zero number xs w e
+
+pub least_entry-none : {T : Type 0} (number : T → ℕ) (xs : List T) (w : ℕ) → counts_from number 1 xs ≡ true → w < 2 ^ length xs → IsNone (least_entry number xs w) ↔ (w ≡ 0)
+least_entry-none number xs w ok small =
+    (λ e. zero-from-none number w xs ok small (from_is_none _ e), λ e. ap is_some (least_entry-zero number xs w e))
 
 -- the least entry of a set is in it
-has_number-least_entry : {T : Type 0} (number : T → ℕ) (w : ℕ) (xs : List T) (x : T) → least_entry number xs w ≡ Some x → has_number w (number x) ≡ true
+pub has_number-least_entry : {T : Type 0} (number : T → ℕ) (w : ℕ) (xs : List T) (x : T) → least_entry number xs w ≡ Some x → has_number w (number x) ≡ true
 has_number-least_entry number w [] x found = cc
 has_number-least_entry number w (y ∷ ys) x found =
     elim (has_number w (number y)) as (λ b. has_number w (number y) ≡ b → cond b (Some y) (least_entry number ys w) ≡ Some x → has_number w (number x) ≡ true) [ true ↦ λ here e. ap (λ z. has_number w (number z)) (sym (same_Some y x e)) ∙ here | false ↦ λ _ e. has_number-least_entry number w ys x e ] refl found
 
 -- and no number of the table below it is
-least_entry-least : {T : Type 0} (number : T → ℕ) (w n : ℕ) (xs : List T) (x : T) → counts_from number n xs ≡ true → least_entry number xs w ≡ Some x → (m : ℕ) → n ≤ m → m < number x → has_number w m ≡ false
+pub least_entry-least : {T : Type 0} (number : T → ℕ) (w n : ℕ) (xs : List T) (x : T) → counts_from number n xs ≡ true → least_entry number xs w ≡ Some x → (m : ℕ) → n ≤ m → m < number x → has_number w m ≡ false
 least_entry-least number w n [] x ok found m least below = cc
 least_entry-least number w n (y ∷ ys) x ok found m least below =
     let here : number y ≡ n = eqb-true _ _ (and_parts (eqb (number y) n) _ ok).0 in
@@ -159,62 +160,13 @@ pub syscalls_counted : counts_from syscall_number 1 syscalls ≡ true
 unfolding syscall_number
 syscalls_counted = refl
 
-from_is_none : {T : Type 0} (o : Option T) → IsNone o → o ≡ None
-from_is_none None e = refl
-from_is_none (Some x) e = cc
+pub ruleset tables_counted = (signals_counted, faults_counted, syscalls_counted)
 
-pub least_signal-zero : least_signal 0 ≡ None
-unfolding least_signal
-least_signal-zero = least_entry-zero signal_number signals
-
-pub zero-least_signal : (w : ℕ) → w < 2 ^ signal_count → IsNone (least_signal w) → w ≡ 0
-unfolding least_signal
-zero-least_signal w small e = zero-from-none signal_number w signals signals_counted small (from_is_none _ e)
-
-pub least_fault-zero : least_fault 0 ≡ None
-unfolding least_fault
-least_fault-zero = least_entry-zero fault_number faults
-
-pub zero-least_fault : (w : ℕ) → w < 2 ^ 8 → IsNone (least_fault w) → w ≡ 0
-unfolding least_fault
-zero-least_fault w small e = zero-from-none fault_number w faults faults_counted small (from_is_none _ e)
-
-pub least_syscall-zero : least_syscall 0 ≡ None
-unfolding least_syscall
-least_syscall-zero = least_entry-zero syscall_number syscalls
-
-pub zero-least_syscall : (w : ℕ) → w < 2 ^ syscall_count → IsNone (least_syscall w) → w ≡ 0
-unfolding least_syscall
-zero-least_syscall w small e = zero-from-none syscall_number w syscalls syscalls_counted small (from_is_none _ e)
+-- ---- the least signal of a set
 
 pub has_number-least_signal : (w : ℕ) (least : Sig) → least_signal w ≡ Some least → has_number w (signal_number least) ≡ true
 unfolding least_signal
 has_number-least_signal w least found = has_number-least_entry signal_number w signals least found
-
-pub least_signal-least : (w : ℕ) (least : Sig) → least_signal w ≡ Some least → (n : ℕ) → 1 ≤ n → n < signal_number least → has_number w n ≡ false
-unfolding least_signal
-least_signal-least w least found n from below =
-    least_entry-least signal_number w 1 signals least signals_counted found n from below
-
-pub has_number-least_fault : (w : ℕ) (least : Flt) → least_fault w ≡ Some least → has_number w (fault_number least) ≡ true
-unfolding least_fault
-has_number-least_fault w least found = has_number-least_entry fault_number w faults least found
-
-pub least_fault-least : (w : ℕ) (least : Flt) → least_fault w ≡ Some least → (n : ℕ) → 1 ≤ n → n < fault_number least → has_number w n ≡ false
-unfolding least_fault
-least_fault-least w least found n from below =
-    least_entry-least fault_number w 1 faults least faults_counted found n from below
-
-pub has_number-least_syscall : (w : ℕ) (least : Sysno) → least_syscall w ≡ Some least → has_number w (syscall_number least) ≡ true
-unfolding least_syscall
-has_number-least_syscall w least found = has_number-least_entry syscall_number w syscalls least found
-
-pub least_syscall-least : (w : ℕ) (least : Sysno) → least_syscall w ≡ Some least → (n : ℕ) → 1 ≤ n → n < syscall_number least → has_number w n ≡ false
-unfolding least_syscall
-least_syscall-least w least found n from below =
-    least_entry-least syscall_number w 1 syscalls least syscalls_counted found n from below
-
-pub ruleset none_where_empty = (least_signal-zero, zero-least_signal, least_fault-zero, zero-least_fault, least_syscall-zero, zero-least_syscall)
 
 -- ---- sets of signals
 

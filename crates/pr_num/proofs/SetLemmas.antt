@@ -1,7 +1,7 @@
 use Rattle.std.proofs.Common.{◌≡◌, ◌≢◌, ℕ, zero, suc, ◌+◌, ◌-◌, ◌^◌, ◌<◌, ◌≤◌, min, max, false, not, ◌&&◌, ◌||◌, eqb, refl, sym, ◌∙◌, ap, arith, inl, inr, lit≤, ltb, cond, Some, None, IsSome, is_some, ◌↔◌, ◌⊎◌, ◌*◌, ◌/◌, ◌%◌}
 use Rattle.std.specs.Int.{bit_at, w64}
 use Rattle.std.proofs.lemmas.Bool.{lt-ltb, le-ltb, cases_lt, false≢true, eq-eqb, ne_eqb, cases_eq}
-use Rattle.std.proofs.lemmas.Nat.{pow_below, pow_pos, shr-shr, shr_split, mod_below}
+use Rattle.std.proofs.lemmas.Nat.{or_lt, and_le_l, pow_below, pow_pos, shr-shr, shr_split, mod_below}
 use Rattle.std.proofs.lemmas.Nat.Bits.{and_pow, bit_at_above, same_from_bits, bit_at-lt, bit_at-zero, bit_at_or, bit_at_and, bit_at_not, bit_at-pow_same, bit_at-pow_other, same_from_bits_below}
 use Rattle.std.proofs.lemmas.Option.{cond_some}
 use Rattle.pr_num.specs.Control.{has_flags}
@@ -123,6 +123,30 @@ accepted-set_of_word entries w = (λ e. beyond (cases_lt w (2 ^ entries)) e, λ 
   within none =
       let bits : (i : ℕ) → entries ≤ i → bit_at w i ≡ 0 = λ i past. clear (bit_at w i) (bit_at-lt w i) (let place : (i + 1) - 1 ≡ i = omega arith in rw place at (none (i + 1) (omega arith))) in
       ap (λ b. is_some (cond b (Some w) None)) (lt-ltb w (2 ^ entries) (small_word entries w bits))
+
+-- ---- a set stays within its table
+
+pub union_word-lt : (k a b : ℕ) → a < 2 ^ k → b < 2 ^ k → union_word a b < 2 ^ k
+unfolding union_word
+union_word-lt k a b p q = or_lt k a b p q
+
+pub common_word-le : (a b : ℕ) → common_word a b ≤ a
+unfolding common_word
+common_word-le a b = and_le_l a b
+
+pub minus_word-le : (a b : ℕ) → minus_word a b ≤ a
+unfolding minus_word
+minus_word-le a b = and_le_l a _
+
+pub with_number-lt : (k w n : ℕ) → w < 2 ^ k → 1 ≤ n → n ≤ k → with_number w n < 2 ^ k
+unfolding with_number
+with_number-lt k w n p least most = union_word-lt k w _ p (pow_below (n - 1) k (omega arith))
+
+pub without_number-le : (w n : ℕ) → without_number w n ≤ w
+unfolding without_number
+without_number-le w n = minus_word-le w _
+
+pub ruleset set_bounds = (common_word-le, minus_word-le, without_number-le)
 
 -- ---- flags
 

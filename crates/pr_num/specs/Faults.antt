@@ -1,6 +1,5 @@
 use Rattle.std.specs.Prelude.{ℕ, Bool, Option, List, [], ◌∷◌, codes, find}
 use Rattle.std.specs.Str.{bytes_eq}
-use Rattle.pr_num.specs.Sets.{least_entry}
 use Rattle.pr_num.specs.Tables.{entry_at}
 use Rattle.pr_num.specs.declared.faults.Flt.{Flt}
 use Rattle.pr_num.specs.declared.faults.Flt.TheVariants.{Ill, Bpt, Trace, Watch, Access, Bounds, Stack, Izdiv}
@@ -47,10 +46,6 @@ fault_signal Access = Bus
 fault_signal Bounds = Segv
 fault_signal Stack = Segv
 fault_signal Izdiv = Fpe
-
--- the fault of least number in a set, none where the set is empty
-unfoldable pub least_fault : ℕ → Option Flt
-least_fault w = least_entry fault_number faults w
 
 -- the fault of a number, none where no fault has it
 unfoldable pub fault_of_number : ℕ → Option Flt

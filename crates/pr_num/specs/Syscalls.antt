@@ -1,6 +1,5 @@
 use Rattle.std.specs.Prelude.{true, false, ℕ, Bool, Option, List, [], ◌∷◌, codes, find}
 use Rattle.std.specs.Str.{bytes_eq}
-use Rattle.pr_num.specs.Sets.{least_entry}
 use Rattle.pr_num.specs.Tables.{entry_at}
 use Rattle.pr_num.specs.declared.syscalls.Sysno.{Sysno}
 use Rattle.pr_num.specs.declared.syscalls.Sysno.TheVariants.{Exit, Fork, Read, Write, Open, Close, Wait, Getpid, Getppid, Exec, Pipe, Dup, Lseek, Kill, Sigaction, Sigmask, Pause, Sigreturn, Brk, Mmap, Munmap, Mprotect, Time, Sleep, LwpCreate, LwpExit, LwpSuspend, LwpContinue, Fstat, Sigqueue}
@@ -146,10 +145,6 @@ may_sleep LwpSuspend = false
 may_sleep LwpContinue = false
 may_sleep Fstat = false
 may_sleep Sigqueue = false
-
--- the call of least number in a set, none where the set is empty
-unfoldable pub least_syscall : ℕ → Option Sysno
-least_syscall w = least_entry syscall_number syscalls w
 
 -- the call of a number, none where no call has it
 unfoldable pub syscall_of_number : ℕ → Option Sysno

@@ -1,6 +1,10 @@
 ghost use Rattle.std.specs.Prelude.{◌≡◌, ◌≤◌};
-ghost use Rattle.pr_num.specs.Faults.{fault_of_number, fault_of_name, fault_number, fault_name, fault_signal};
+ghost use Rattle.std.proofs.Common.{lit≤};
+ghost use Rattle.pr_num.specs.Faults.{faults, fault_of_number, fault_of_name, fault_number, fault_name, fault_signal};
+ghost use Rattle.pr_num.specs.Limits.{fault_count};
 
+use crate::limits::FAULT_COUNT;
+use crate::numbered::Numbered;
 use crate::signals::Sig;
 use crate::tables;
 
@@ -97,4 +101,25 @@ impl Flt {
             Flt::Izdiv => Sig::Fpe,
         }
     }
+}
+
+impl Numbered for Flt {
+    const COUNT: usize = FAULT_COUNT;
+
+    ghost COUNT = { fault_count };
+
+    ghost table = { faults };
+
+    ghost number_of = { fault_number };
+
+    #[tactic(auto, using(crate::proofs::NumberedLemmas::tables_counted))]
+    fn entries<'a>() -> &'a [Flt] {
+        &Flt::ALL
+    }
+
+    fn number(self) -> u64 {
+        Flt::number(self)
+    }
+
+    ghost fits = { lit≤ tt };
 }

@@ -119,7 +119,7 @@ impl Modes {
     }
 
     /// The flags of either.
-    #[tactic(auto, using(crate::proofs::SetBounds::set_bounds), unfolding(crate::specs::Sets::union_word))]
+    #[tactic(auto, using(crate::proofs::FlagBounds::flag_bounds), unfolding(crate::specs::Sets::union_word))]
     pub fn union(self, flags: Modes) -> Modes
         ensures { result ≡ union_word self flags }
     {
@@ -129,7 +129,7 @@ impl Modes {
     }
 
     /// These flags without the others.
-    #[tactic(auto, using(crate::proofs::SetBounds::set_bounds), unfolding(crate::specs::Sets::minus_word))]
+    #[tactic(auto, using(crate::proofs::FlagBounds::flag_bounds), unfolding(crate::specs::Sets::minus_word))]
     pub fn minus(self, flags: Modes) -> Modes
         ensures { result ≡ minus_word self flags }
     {

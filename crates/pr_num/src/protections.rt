@@ -122,7 +122,7 @@ impl Prot {
     }
 
     /// The flags of either.
-    #[tactic(auto, using(crate::proofs::SetBounds::set_bounds), unfolding(crate::specs::Sets::union_word))]
+    #[tactic(auto, using(crate::proofs::FlagBounds::flag_bounds), unfolding(crate::specs::Sets::union_word))]
     pub fn union(self, flags: Prot) -> Prot
         ensures { result ≡ union_word self flags }
     {
@@ -132,7 +132,7 @@ impl Prot {
     }
 
     /// These flags without the others.
-    #[tactic(auto, using(crate::proofs::SetBounds::set_bounds), unfolding(crate::specs::Sets::minus_word))]
+    #[tactic(auto, using(crate::proofs::FlagBounds::flag_bounds), unfolding(crate::specs::Sets::minus_word))]
     pub fn minus(self, flags: Prot) -> Prot
         ensures { result ≡ minus_word self flags }
     {

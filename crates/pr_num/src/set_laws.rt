@@ -1,14 +1,10 @@
 ghost use Rattle.std.specs.Prelude.{◌≡◌, ◌≢◌, ◌==◌, ◌-◌, ◌^◌, ◌<◌, ◌≤◌, ◌↔◌, ◌&&◌, ◌||◌, ℕ, not, true, false, Some, IsSome, [], ◌∷◌};
-ghost use Rattle.pr_num.specs.Sets.{has_number, union_word, common_word, minus_word, with_number, without_number, set_of_word};
-ghost use Rattle.pr_num.specs.Signals.{signal_number, least_signal, holdable_word};
-ghost use Rattle.pr_num.specs.Faults.{fault_number, least_fault};
-ghost use Rattle.pr_num.specs.Syscalls.{syscall_number, least_syscall};
+ghost use Rattle.pr_num.specs.Sets.{has_number, union_word, common_word, minus_word, with_number, without_number, set_of_word, least_entry};
+ghost use Rattle.pr_num.specs.Signals.{holdable_word};
 ghost use Rattle.pr_num.specs.Control.{has_flags, fork_mode, rlc_mode, klc_mode, async_mode, watch_read, watch_write, watch_exec, watch_trap_after, prot_read, prot_write, prot_exec};
-ghost use Rattle.pr_num.specs.declared.signals.Sig.{Sig as AnySignal};
-ghost use Rattle.pr_num.specs.declared.faults.Flt.{Flt as AnyFault};
-ghost use Rattle.pr_num.specs.declared.syscalls.Sysno.{Sysno as AnySyscall};
 
 use crate::modes::Modes;
+use crate::numbered::Numbered;
 use crate::protections::Prot;
 use crate::watch_flags::WatchFlags;
 
@@ -36,23 +32,14 @@ pub fn words_of_sets()
     ensures back { (entries w set : ℕ) → set_of_word entries w ≡ Some set → set ≡ w }
 {}
 
-/// The least signal of a set is in it, and no signal below it is.
-pub fn least_signals()
-    ensures member { (w : ℕ) (least : AnySignal) → least_signal w ≡ Some least → has_number w (signal_number least) ≡ true }
-    ensures least { (w : ℕ) (least : AnySignal) → least_signal w ≡ Some least → (n : ℕ) → 1 ≤ n → n < signal_number least → has_number w n ≡ false }
-{}
-
-/// The least fault of a set is in it, and no fault below it is.
-pub fn least_faults()
-    ensures member { (w : ℕ) (least : AnyFault) → least_fault w ≡ Some least → has_number w (fault_number least) ≡ true }
-    ensures least { (w : ℕ) (least : AnyFault) → least_fault w ≡ Some least → (n : ℕ) → 1 ≤ n → n < fault_number least → has_number w n ≡ false }
-{}
-
-/// The least call of a set is in it, and no call below it is.
-pub fn least_syscalls()
-    ensures member { (w : ℕ) (least : AnySyscall) → least_syscall w ≡ Some least → has_number w (syscall_number least) ≡ true }
-    ensures least { (w : ℕ) (least : AnySyscall) → least_syscall w ≡ Some least → (n : ℕ) → 1 ≤ n → n < syscall_number least → has_number w n ≡ false }
-{}
+/// The least entry of a set is in it, and no entry below it is.
+pub fn least_entries<T: Numbered>()
+    ensures member { (w : ℕ) (least : T) → least_entry T.number_of T.table w ≡ Some least → has_number w (T.number_of least) ≡ true }
+    ensures least { (w : ℕ) (least : T) → least_entry T.number_of T.table w ≡ Some least → (n : ℕ) → 1 ≤ n → n < T.number_of least → has_number w n ≡ false }
+{
+    // which says that their numbers count up
+    let _ = T::entries();
+}
 
 /// One flag is one number of its word, so that the laws of sets are those of flags.
 pub fn flags_are_members()

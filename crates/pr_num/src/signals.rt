@@ -1,7 +1,10 @@
 ghost use Rattle.std.specs.Prelude.{◌≡◌, ◌≤◌, length};
-ghost use Rattle.pr_num.specs.Signals.{signal_of_number, signal_of_name, signal_number, signal_name, is_named, default_action};
+ghost use Rattle.std.proofs.Common.{lit≤};
+ghost use Rattle.pr_num.specs.Signals.{signals, signal_of_number, signal_of_name, signal_number, signal_name, is_named, default_action};
 ghost use Rattle.pr_num.specs.Limits.{signal_count};
 
+use crate::limits::SIGNAL_COUNT;
+use crate::numbered::Numbered;
 use crate::tables;
 
 /// What a signal does to a process that neither catches nor ignores it (signal.h(3HEAD)).
@@ -238,4 +241,25 @@ impl Sig {
         let whole = self.name().as_bytes();
         name == whole || name == &whole[3..]
     }
+}
+
+impl Numbered for Sig {
+    const COUNT: usize = SIGNAL_COUNT;
+
+    ghost COUNT = { signal_count };
+
+    ghost table = { signals };
+
+    ghost number_of = { signal_number };
+
+    #[tactic(auto, using(crate::proofs::NumberedLemmas::tables_counted))]
+    fn entries<'a>() -> &'a [Sig] {
+        &Sig::ALL
+    }
+
+    fn number(self) -> u64 {
+        Sig::number(self)
+    }
+
+    ghost fits = { lit≤ tt };
 }

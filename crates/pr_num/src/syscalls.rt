@@ -1,7 +1,10 @@
 ghost use Rattle.std.specs.Prelude.{◌≡◌, ◌≤◌};
-ghost use Rattle.pr_num.specs.Syscalls.{syscall_of_number, syscall_of_name, syscall_number, syscall_name, syscall_args, may_sleep};
+ghost use Rattle.std.proofs.Common.{lit≤};
+ghost use Rattle.pr_num.specs.Syscalls.{syscalls, syscall_of_number, syscall_of_name, syscall_number, syscall_name, syscall_args, may_sleep};
 ghost use Rattle.pr_num.specs.Limits.{syscall_count};
 
+use crate::limits::SYSCALL_COUNT;
+use crate::numbered::Numbered;
 use crate::tables;
 
 /// How an argument of a system call is written (truss(1)).
@@ -233,4 +236,25 @@ impl Sysno {
             Sysno::Read | Sysno::Write | Sysno::Wait | Sysno::Pause | Sysno::Sleep
         )
     }
+}
+
+impl Numbered for Sysno {
+    const COUNT: usize = SYSCALL_COUNT;
+
+    ghost COUNT = { syscall_count };
+
+    ghost table = { syscalls };
+
+    ghost number_of = { syscall_number };
+
+    #[tactic(auto, using(crate::proofs::NumberedLemmas::tables_counted))]
+    fn entries<'a>() -> &'a [Sysno] {
+        &Sysno::ALL
+    }
+
+    fn number(self) -> u64 {
+        Sysno::number(self)
+    }
+
+    ghost fits = { lit≤ tt };
 }

@@ -16,8 +16,7 @@ use Rattle.pr_num.specs.Sets.{has_number, minus_word, with_number, without_numbe
 use Rattle.pr_num.specs.Signals.{signal_number}
 use Rattle.pr_num.proofs.BoolLemmas.{and_false, and_true, cond-same, eqb_comm, or_false}
 use Rattle.pr_num.proofs.NumberedLemmas.{has_signal-set_of, set_of_signals-lt, same_signals, signal_number-range}
-use Rattle.pr_num.proofs.SetBounds.{minus_word-le, with_number-lt, without_number-le}
-use Rattle.pr_num.proofs.SetLemmas.{has_number-zero, has_number-minus, has_number-with, has_number-without}
+use Rattle.pr_num.proofs.SetLemmas.{has_number-zero, has_number-minus, has_number-with, has_number-without, minus_word-le, with_number-lt, without_number-le}
 use Rattle.pr_num.proofs.TableLaws.{find-without_first_other}
 use Rattle.pr_parts.specs.SignalRules.{deleted_by}
 use Rattle.pr_parts.specs.PendingSignals.{Pending, IsPendings, is_standard, is_of, nothing_pending, info_of, pending_set, has_room, kept_info, with_standard, with_queued, added, without_one, without_infos, without_signals}

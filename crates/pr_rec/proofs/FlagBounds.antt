@@ -2,7 +2,7 @@ use Rattle.std.proofs.Common.{ℕ, ◌≡◌, ◌^◌, ◌<◌}
 use Rattle.std.specs.Int.RustNames.{bit_and}
 use Rattle.pr_num.specs.Sets.{union_word}
 use Rattle.pr_num.proofs.FlagBounds.{known-lt, lt-known}
-use Rattle.pr_num.proofs.SetBounds.{union_word-lt}
+use Rattle.pr_num.proofs.SetLemmas.{union_word-lt}
 
 -- at the sizes of the flags, since a search does not find the exponent in a bound
 pub union_word-lt-5 : (a b : ℕ) → a < 2 ^ 5 → b < 2 ^ 5 → union_word a b < 2 ^ 5
