@@ -8,6 +8,7 @@ pub mod Files
 pub mod Infos
 pub mod Instructions
 pub mod KeyedTables
+pub mod Layout
 pub mod Limits
 pub mod Messages
 pub mod Padding

@@ -1,4 +1,4 @@
-use Rattle.std.specs.Prelude.{ℕ}
+use Rattle.std.specs.Prelude.{◌+◌, ◌*◌, ◌^◌, ℕ}
 
 -- How much there can be of each thing. A number that limits is written here, and nowhere else.
 
@@ -27,11 +27,19 @@ turn_limit = 100000
 abbrev pub default_turns : ℕ
 default_turns = 10000
 
+-- milliseconds: the clock goes on below this moment, and not from it on
+abbrev pub clock_limit : ℕ
+clock_limit = 2 ^ 62
+
 abbrev pub controller_limit : ℕ
 controller_limit = 64
 
 abbrev pub worker_limit : ℕ
 worker_limit = 16
+
+-- children that the program of a generated scenario makes
+abbrev pub child_limit : ℕ
+child_limit = 64
 
 -- bytes of a scenario, of one of its lines, and of all that is given to a check of a history
 abbrev pub scenario_limit : ℕ
@@ -107,6 +115,13 @@ code_limit = 4096
 abbrev pub data_limit : ℕ
 data_limit = 65536
 
+-- bytes of an instruction, and of the text of a program
+abbrev pub instruction_size : ℕ
+instruction_size = 16
+
+abbrev pub text_limit : ℕ
+text_limit = instruction_size * code_limit
+
 -- ---- files
 
 abbrev pub file_limit : ℕ
@@ -144,6 +159,10 @@ handle_limit = 1024
 abbrev pub read_limit : ℕ
 read_limit = 20480
 
+-- bytes of a list of processes: 48 for each that there can be but process 0
+abbrev pub list_limit : ℕ
+list_limit = 48 * spawn_limit
+
 -- bytes that one message reads or writes of a process's memory
 abbrev pub message_bytes_limit : ℕ
 message_bytes_limit = 4096
@@ -155,3 +174,13 @@ sleep_limit = 1000000000
 -- milliseconds that a wait for a stop can last
 abbrev pub wait_limit : ℕ
 wait_limit = 1000000000
+
+-- ---- the lines of truss
+
+-- bytes of a text or a buffer that a line shows
+abbrev pub shown_limit : ℕ
+shown_limit = 64
+
+-- bytes that are read for them: one more tells whether there are more
+abbrev pub asked_limit : ℕ
+asked_limit = shown_limit + 1

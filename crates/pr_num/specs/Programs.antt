@@ -1,6 +1,7 @@
 use Rattle.std.specs.Prelude.{◌+◌, ◌-◌, ◌*◌, ◌/◌, ℕ, List, ◌++◌, length, replicate}
 use Rattle.std.specs.List.{flat_map}
 use Rattle.pr_num.specs.Instructions.{instruction_bytes}
+use Rattle.pr_num.specs.Layout.{page_size}
 use Rattle.pr_num.specs.declared.instructions.Instruction.{Instruction}
 
 -- a label of a program: it stands before the instruction at this place, or after the last one
@@ -20,10 +21,10 @@ pub record Program : Type 0 where
 abbrev pub text_of : Program → List ℕ
 text_of p = flat_map instruction_bytes p.code
 
--- a length rounded up to a multiple of 4,096
+-- a length rounded up to whole pages
 abbrev pub rounded : ℕ → ℕ
-rounded n = (n + 4095) / 4096 * 4096
+rounded n = (n + (page_size - 1)) / page_size * page_size
 
--- bytes with zeros up to a multiple of 4,096 behind them
+-- bytes with zeros up to whole pages behind them
 abbrev pub whole_pages : List ℕ → List ℕ
 whole_pages bytes = bytes ++ replicate (rounded (length bytes) - length bytes) 0

@@ -1,5 +1,6 @@
 use Rattle.std.specs.Prelude.{◌==◌, ◌&&◌, ◌+◌, ◌-◌, ◌%◌, ◌^◌, ◌<◌, ◌≤◌, ℕ, zero, suc, Bool, true, false, List, [], ◌∷◌, ◌++◌, length, replicate, slice_index, find, sum_by, All, AllPairs, Option, Some, None, Result, Ok, Err, nat_lt, nat_le, if◌then◌else◌}
 use Rattle.pr_num.specs.Control.{has_flags, prot_read, prot_write, prot_exec}
+use Rattle.pr_num.specs.Layout.{data_base, page_size, stack_base, stack_end, text_base}
 pub use Rattle.pr_num.specs.Limits.{mapping_limit}
 use Rattle.pr_num.specs.Programs.{Program, text_of, whole_pages}
 use Rattle.pr_num.specs.declared.mappings.BadByte.{BadByte}
@@ -91,11 +92,11 @@ abbrev pub read_write : ℕ
 read_write = prot_read + prot_write
 
 -- The mappings with which a program of this text and these data begins: its text, readable and executable, its data and
--- a stack, both readable and writable, each a multiple of 4,096 bytes.
+-- a stack of one page, both readable and writable, each of whole pages.
 unfoldable pub first_mappings : List ℕ → List ℕ → Space
 first_mappings text bytes =
-    unless_empty 0x10000 read_execute Text text ++ unless_empty 0x80000 read_write Data bytes
-    ++ record { at = 0x700000; prot = read_write; kind = Stack; bytes = replicate 4096 0 } ∷ []
+    unless_empty text_base read_execute Text text ++ unless_empty data_base read_write Data bytes
+    ++ record { at = stack_base; prot = read_write; kind = Stack; bytes = replicate page_size 0 } ∷ []
 
 -- the space in which a program begins
 unfoldable pub first_space : Program → Space
@@ -103,4 +104,4 @@ first_space p = first_mappings (text_of p) p.bytes
 
 -- the registers r0 to r7, sp, fp and pc with which a program begins: it begins at the first instruction, with an empty stack
 abbrev pub first_registers : List ℕ
-first_registers = 0 ∷ 0 ∷ 0 ∷ 0 ∷ 0 ∷ 0 ∷ 0 ∷ 0 ∷ 0x701000 ∷ 0 ∷ 0x10000 ∷ []
+first_registers = 0 ∷ 0 ∷ 0 ∷ 0 ∷ 0 ∷ 0 ∷ 0 ∷ 0 ∷ stack_end ∷ 0 ∷ text_base ∷ []

@@ -31,7 +31,7 @@ pub enum Flt {
 
 impl Flt {
     /// Every fault, in the order of its number.
-    pub const ALL: [Flt; 8] = [
+    pub const ALL: [Flt; FAULT_COUNT] = [
         Flt::Ill,
         Flt::Bpt,
         Flt::Trace,
@@ -54,7 +54,7 @@ impl Flt {
     #[tactic(auto, unfolding(crate::specs::Faults::fault_number))]
     pub fn number(self) -> u64
         ensures value { result ≡ fault_number self }
-        ensures range { (1 ≤ result) × (result ≤ 8) }
+        ensures range { (1 ≤ result) × (result ≤ fault_count) }
     {
         self as u64
     }

@@ -3,6 +3,7 @@ ghost use Rattle.pr_num.specs.Instructions.{register_number, register_of, fields
 
 use crate::Sysno;
 use crate::bytes::are_zeros;
+use crate::limits::INSTRUCTION_SIZE;
 
 /// A general register of the machine.
 #[derive(Clone, Copy, Debug, PartialEq, Eq)]
@@ -91,11 +92,11 @@ pub enum Instruction {
 
 impl Instruction {
     /// How many bytes an instruction fills.
-    pub const SIZE: usize = 16;
+    pub const SIZE: usize = INSTRUCTION_SIZE;
 
     /// The instruction's bytes: an operation code, two register bytes, five zero bytes, and an immediate word, the
     /// least byte first. A field that the instruction does not use is 0.
-    pub fn encode(&self) -> [u8; 16]
+    pub fn encode(&self) -> [u8; INSTRUCTION_SIZE]
         ensures { result ≡ instruction_bytes self.now }
     {
         let fields = Fields::of(self);
@@ -110,7 +111,7 @@ impl Instruction {
     /// The instruction that 16 bytes spell, `None` exactly where they spell none: the operation code is unknown, a
     /// used register byte is above 7, a field that is not used is not 0, or no system call has the number.
     #[tactic(auto, unfolding(crate::specs::Instructions::instruction_in))]
-    pub fn decode(bytes: &[u8; 16]) -> Option<Instruction>
+    pub fn decode(bytes: &[u8; INSTRUCTION_SIZE]) -> Option<Instruction>
         ensures { result ≡ instruction_in bytes.now }
     {
         if !are_zeros(&bytes[3..8]) {

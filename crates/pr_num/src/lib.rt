@@ -10,6 +10,7 @@ mod infos;
 mod instruction_laws;
 mod instructions;
 mod keyed_tables;
+pub mod layout;
 pub mod limits;
 mod mappings;
 mod memory;

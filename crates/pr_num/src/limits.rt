@@ -1,7 +1,7 @@
 //! How much there can be of each thing. A number that limits is written here, and nowhere else in the code.
 
 ghost use Rattle.std.specs.Prelude.{◌≡◌, [], ◌∷◌};
-ghost use Rattle.pr_num.specs.Limits.{signal_count, standard_signal_count, fault_count, syscall_count, turn_limit, default_turns, controller_limit, worker_limit, scenario_limit, line_limit, checked_limit, list_line_limit, program_limit, spawn_limit, schedule_limit, process_limit, lwp_limit, last_lwp, register_count, frame_limit, queue_limit, descriptor_limit, mapping_limit, all_mappings_limit, area_limit, code_limit, data_limit, file_limit, pipe_limit, file_size_limit, pipe_size_limit, name_limit, path_limit, transfer_limit, handle_limit, read_limit, message_bytes_limit, sleep_limit, wait_limit};
+ghost use Rattle.pr_num.specs.Limits.{signal_count, standard_signal_count, fault_count, syscall_count, turn_limit, default_turns, clock_limit, controller_limit, worker_limit, child_limit, scenario_limit, line_limit, checked_limit, list_line_limit, program_limit, spawn_limit, schedule_limit, process_limit, lwp_limit, last_lwp, register_count, frame_limit, queue_limit, descriptor_limit, mapping_limit, all_mappings_limit, area_limit, code_limit, data_limit, instruction_size, text_limit, file_limit, pipe_limit, file_size_limit, pipe_size_limit, name_limit, path_limit, transfer_limit, handle_limit, read_limit, list_limit, message_bytes_limit, sleep_limit, wait_limit, shown_limit, asked_limit};
 
 /// Signals, whose numbers count from 1 to this one.
 pub const SIGNAL_COUNT: usize = 39;
@@ -16,10 +16,14 @@ pub const SYSCALL_COUNT: usize = 30;
 pub const TURN_LIMIT: u64 = 100_000;
 /// Turns of a run whose scenario does not say how many.
 pub const DEFAULT_TURNS: u32 = 10_000;
+/// Milliseconds: the clock goes on below this moment, and not from it on.
+pub const CLOCK_LIMIT: u64 = 1 << 62;
 /// Controllers of a run.
 pub const CONTROLLER_LIMIT: usize = 64;
 /// Threads that work at a run.
 pub const WORKER_LIMIT: u32 = 16;
+/// Children that the program of a generated scenario makes.
+pub const CHILD_LIMIT: u32 = 64;
 /// Bytes of a scenario.
 pub const SCENARIO_LIMIT: usize = 1_048_576;
 /// Bytes of a line of a scenario.
@@ -59,6 +63,10 @@ pub const AREA_LIMIT: usize = 64;
 pub const CODE_LIMIT: usize = 4_096;
 /// Bytes of a program's data.
 pub const DATA_LIMIT: usize = 65_536;
+/// Bytes of an instruction.
+pub const INSTRUCTION_SIZE: usize = 16;
+/// Bytes of the text of a program.
+pub const TEXT_LIMIT: usize = INSTRUCTION_SIZE * CODE_LIMIT;
 
 /// Files that stand.
 pub const FILE_LIMIT: usize = 256;
@@ -79,12 +87,19 @@ pub const TRANSFER_LIMIT: u64 = 4_096;
 pub const HANDLE_LIMIT: usize = 1_024;
 /// Bytes of one read of a process file.
 pub const READ_LIMIT: u64 = 20_480;
+/// Bytes of a list of processes: 48 for each that there can be but process 0.
+pub const LIST_LIMIT: usize = 48 * SPAWN_LIMIT;
 /// Bytes that one message reads or writes of a process's memory.
 pub const MESSAGE_BYTES_LIMIT: u64 = 4_096;
 /// Milliseconds that a sleep can last.
 pub const SLEEP_LIMIT: u64 = 1_000_000_000;
 /// Milliseconds that a wait for a stop can last.
 pub const WAIT_LIMIT: u64 = 1_000_000_000;
+
+/// Bytes of a text or a buffer that a line of truss shows.
+pub const SHOWN_LIMIT: usize = 64;
+/// Bytes that are read for them: one more tells whether there are more.
+pub const ASKED_LIMIT: usize = SHOWN_LIMIT + 1;
 
 // Each constant is the number that contracts know by its name.
 
@@ -101,14 +116,16 @@ pub fn sizes_of_tables() -> [usize; 4]
 }
 
 /// The limits of a run.
-pub fn limits_of_runs() -> [u64; 11]
-    ensures { result ≡ turn_limit ∷ default_turns ∷ controller_limit ∷ worker_limit ∷ scenario_limit ∷ line_limit ∷ checked_limit ∷ list_line_limit ∷ program_limit ∷ spawn_limit ∷ schedule_limit ∷ [] }
+pub fn limits_of_runs() -> [u64; 13]
+    ensures { result ≡ turn_limit ∷ default_turns ∷ clock_limit ∷ controller_limit ∷ worker_limit ∷ child_limit ∷ scenario_limit ∷ line_limit ∷ checked_limit ∷ list_line_limit ∷ program_limit ∷ spawn_limit ∷ schedule_limit ∷ [] }
 {
     [
         TURN_LIMIT,
         DEFAULT_TURNS as u64,
+        CLOCK_LIMIT,
         CONTROLLER_LIMIT as u64,
         WORKER_LIMIT as u64,
+        CHILD_LIMIT as u64,
         SCENARIO_LIMIT as u64,
         LINE_LIMIT as u64,
         CHECKED_LIMIT as u64,
@@ -120,8 +137,8 @@ pub fn limits_of_runs() -> [u64; 11]
 }
 
 /// The limits of processes.
-pub fn limits_of_processes() -> [u64; 12]
-    ensures { result ≡ process_limit ∷ lwp_limit ∷ last_lwp ∷ register_count ∷ frame_limit ∷ queue_limit ∷ descriptor_limit ∷ mapping_limit ∷ all_mappings_limit ∷ area_limit ∷ code_limit ∷ data_limit ∷ [] }
+pub fn limits_of_processes() -> [u64; 14]
+    ensures { result ≡ process_limit ∷ lwp_limit ∷ last_lwp ∷ register_count ∷ frame_limit ∷ queue_limit ∷ descriptor_limit ∷ mapping_limit ∷ all_mappings_limit ∷ area_limit ∷ code_limit ∷ data_limit ∷ instruction_size ∷ text_limit ∷ [] }
 {
     [
         PROCESS_LIMIT as u64,
@@ -136,12 +153,14 @@ pub fn limits_of_processes() -> [u64; 12]
         AREA_LIMIT as u64,
         CODE_LIMIT as u64,
         DATA_LIMIT as u64,
+        INSTRUCTION_SIZE as u64,
+        TEXT_LIMIT as u64,
     ]
 }
 
-/// The limits of files, and of the process files.
-pub fn limits_of_files() -> [u64; 12]
-    ensures { result ≡ file_limit ∷ pipe_limit ∷ file_size_limit ∷ pipe_size_limit ∷ name_limit ∷ path_limit ∷ transfer_limit ∷ handle_limit ∷ read_limit ∷ message_bytes_limit ∷ sleep_limit ∷ wait_limit ∷ [] }
+/// The limits of files, of the process files, and of the lines of truss.
+pub fn limits_of_files() -> [u64; 15]
+    ensures { result ≡ file_limit ∷ pipe_limit ∷ file_size_limit ∷ pipe_size_limit ∷ name_limit ∷ path_limit ∷ transfer_limit ∷ handle_limit ∷ read_limit ∷ list_limit ∷ message_bytes_limit ∷ sleep_limit ∷ wait_limit ∷ shown_limit ∷ asked_limit ∷ [] }
 {
     [
         FILE_LIMIT as u64,
@@ -153,8 +172,11 @@ pub fn limits_of_files() -> [u64; 12]
         TRANSFER_LIMIT,
         HANDLE_LIMIT as u64,
         READ_LIMIT,
+        LIST_LIMIT as u64,
         MESSAGE_BYTES_LIMIT,
         SLEEP_LIMIT,
         WAIT_LIMIT,
+        SHOWN_LIMIT as u64,
+        ASKED_LIMIT as u64,
     ]
 }

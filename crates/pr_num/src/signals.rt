@@ -103,7 +103,7 @@ pub enum Sig {
 
 impl Sig {
     /// Every signal, in the order of its number.
-    pub const ALL: [Sig; 39] = [
+    pub const ALL: [Sig; SIGNAL_COUNT] = [
         Sig::Hup,
         Sig::Int,
         Sig::Quit,

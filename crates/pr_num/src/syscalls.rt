@@ -87,7 +87,7 @@ pub enum Sysno {
 
 impl Sysno {
     /// Every call, in the order of its number.
-    pub const ALL: [Sysno; 30] = [
+    pub const ALL: [Sysno; SYSCALL_COUNT] = [
         Sysno::Exit,
         Sysno::Fork,
         Sysno::Read,
