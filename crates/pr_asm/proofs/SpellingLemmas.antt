@@ -6,6 +6,7 @@ use Rattle.std.proofs.lemmas.Bool.{le-leb}
 use Rattle.std.proofs.lemmas.List.{length-append, take_at}
 use Rattle.std.proofs.lemmas.List.Folds.{list_all-append}
 use Rattle.std.proofs.Math.Seq.{get_or-append_seam}
+use Rattle.pr_num.specs.Limits.{data_limit}
 use Rattle.pr_num.specs.Instructions.{register_number}
 use Rattle.pr_num.specs.Syscalls.{syscall_name, syscall_of_name}
 use Rattle.pr_num.specs.declared.instructions.Instruction.{Instruction}
@@ -245,10 +246,10 @@ read_words (Label name) h =
     ap (λ v. cond v (Ok Blank) (label_or (label_of (name ++ 58 ∷ [])) (name ++ 58 ∷ []) [])) (name-no_comment name (58 ∷ []) h)
     ∙ ap (λ o. label_or o (name ++ 58 ∷ []) []) (read_label name h)
 read_words (Data name [] zeros) h =
-    ap (λ v. ok_or BadOperand (cond v (Some name) None) >>= (λ x. ok_or BadOperand (number_of (decimal zeros)) >>= (λ size. cond (leb 1 size && leb size 65536) (Ok (Data x [] size)) (Err BadOperand)))) h.0
-    ∙ ap (λ o. ok_or BadOperand o >>= (λ size. cond (leb 1 size && leb size 65536) (Ok (Data name [] size)) (Err BadOperand))) (number_of-decimal zeros (omega (arith, h.2)))
-    ∙ ap (λ v. cond (v && leb zeros 65536) (Ok (Data name [] zeros)) (Err BadOperand)) (le-leb 1 zeros h.1)
-    ∙ ap (λ v. cond v (Ok (Data name [] zeros)) (Err BadOperand)) (le-leb zeros 65536 h.2)
+    ap (λ v. ok_or BadOperand (cond v (Some name) None) >>= (λ x. ok_or BadOperand (number_of (decimal zeros)) >>= (λ size. cond (leb 1 size && leb size data_limit) (Ok (Data x [] size)) (Err BadOperand)))) h.0
+    ∙ ap (λ o. ok_or BadOperand o >>= (λ size. cond (leb 1 size && leb size data_limit) (Ok (Data name [] size)) (Err BadOperand))) (number_of-decimal zeros (omega (arith, h.2)))
+    ∙ ap (λ v. cond (v && leb zeros data_limit) (Ok (Data name [] zeros)) (Err BadOperand)) (le-leb 1 zeros h.1)
+    ∙ ap (λ v. cond v (Ok (Data name [] zeros)) (Err BadOperand)) (le-leb zeros data_limit h.2)
 read_words (Data name (b ∷ bs) zeros) h =
     ap (λ v. ok_or BadOperand (cond v (Some name) None) >>= (λ x. ok_or BadOperand (quoted_bytes (quoted (b ∷ bs))) >>= (λ bytes. Ok (Data x bytes 1)))) h.0
     ∙ ap (λ o. ok_or BadOperand o >>= (λ bytes. Ok (Data name bytes 1))) (quoted_bytes-quoted (b ∷ bs))

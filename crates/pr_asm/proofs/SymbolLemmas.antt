@@ -4,6 +4,7 @@ use Rattle.std.specs.List.{All}
 use Rattle.std.proofs.lemmas.List.{append_assoc, append-nil, drop_all, drop_at, drop_more}
 use Rattle.std.proofs.lemmas.List.Elements.{All-nil, All-append, All-cons, All-drop, All-get_or, All-head, All-weaker}
 use Rattle.std.proofs.lemmas.Bool.Decides.{leb_tells}
+use Rattle.pr_num.specs.Limits.{code_limit}
 use Rattle.pr_num.specs.Programs.{Label}
 use Rattle.pr_asm.specs.Symbols.{label_address, reaches, nearer, nearest, IsSymbol}
 
@@ -129,9 +130,9 @@ symbol_somewhere pc from labels name at e same above =
     omega arith
 
 -- a label at a place, and the labels after it
-pub label_at : (labels : List Label) (i : ℕ) (item d : Label) → item ≡ get_or labels i d → i < length labels → All (λ l. l.place ≤ 4096) labels → item.place ≤ 4096
+pub label_at : (labels : List Label) (i : ℕ) (item d : Label) → item ≡ get_or labels i d → i < length labels → All (λ l. l.place ≤ code_limit) labels → item.place ≤ code_limit
 label_at labels i item d here inside all =
-    let P : Label → Type 0 = λ l. l.place ≤ 4096 in subst P (sym here) (All-get_or P labels i d inside all)
+    let P : Label → Type 0 = λ l. l.place ≤ code_limit in subst P (sym here) (All-get_or P labels i d inside all)
 
 pub nearest-step : (pc i : ℕ) (labels : List Label) (best now whole : Option (List ℕ × ℕ)) (item d : Label) → item ≡ get_or labels i d → i < length labels → now ≡ nearer pc best item → nearest pc best (drop i labels) ≡ whole → nearest pc now (drop (i + 1) labels) ≡ whole
 unfolding nearest
@@ -143,5 +144,5 @@ unfolding nearest
 nearest-end pc i labels best whole over kept = ap (nearest pc best) (sym (drop_all i labels over)) ∙ kept
 
 -- places within the limit
-pub within : (labels : List Label) (n : ℕ) → n ≤ 4096 → All (λ l. l.place ≤ n) labels → All (λ l. l.place ≤ 4096) labels
-within labels n fits all = All-weaker (λ l. l.place ≤ n) (λ l. l.place ≤ 4096) (λ l h. omega arith) labels all
+pub within : (labels : List Label) (n : ℕ) → n ≤ code_limit → All (λ l. l.place ≤ n) labels → All (λ l. l.place ≤ code_limit) labels
+within labels n fits all = All-weaker (λ l. l.place ≤ n) (λ l. l.place ≤ code_limit) (λ l h. omega arith) labels all

@@ -3,7 +3,8 @@ use Rattle.std.specs.Prelude.{◌≡◌, ◌+◌, ◌*◌, ◌/◌, ℕ, Bool, t
 use Rattle.std.specs.Str.{bytes_eq}
 use Rattle.std.specs.Map.{lookup}
 use Rattle.std.specs.BTreeMap.{get}
-use Rattle.pr_num.specs.Limits.{code_limit, data_limit}
+use Rattle.pr_num.specs.Layout.{data_base, text_base}
+use Rattle.pr_num.specs.Limits.{code_limit, data_limit, instruction_size}
 use Rattle.pr_text.specs.Keys.{key_cmp}
 use Rattle.pr_asm.specs.declared.places.Place.{Place}
 use Rattle.pr_asm.specs.declared.places.Places.{Places}
@@ -43,8 +44,8 @@ layout_after above s = if fits above s then grown above s else above
 -- address of its first byte
 unfoldable pub placed : Layout → ℕ → Statement → Option (List ℕ × Place)
 placed above line Blank = None
-placed above line (Label name) = Some (name, record { line = line; value = 0x10000 + 16 * above.code })
-placed above line (Data name bytes zeros) = Some (name, record { line = line; value = 0x80000 + aligned above.bytes })
+placed above line (Label name) = Some (name, record { line = line; value = text_base + instruction_size * above.code })
+placed above line (Data name bytes zeros) = Some (name, record { line = line; value = data_base + aligned above.bytes })
 placed above line (Code i name) = None
 
 -- a list with one more at the head, if there is one

@@ -1,11 +1,13 @@
 -- Which label an address belongs to.
 use Rattle.std.specs.Prelude.{◌≡◌, ◌+◌, ◌-◌, ◌*◌, ◌≤◌, ◌<◌, ◌&&◌, ℕ, Bool, true, Option, Some, None, List, [], ◌∷◌, ◌++◌, option_map, nat_le, if◌then◌else◌}
 use Rattle.std.specs.List.{All}
+use Rattle.pr_num.specs.Layout.{text_base}
+use Rattle.pr_num.specs.Limits.{instruction_size}
 use Rattle.pr_num.specs.Programs.{Program, Label}
 
 -- the address of a label: that of the instruction that it stands before
 abbrev pub label_address : Label → ℕ
-label_address l = 0x10000 + 16 * l.place
+label_address l = text_base + instruction_size * l.place
 
 -- whether an address is not below the best one so far, if there is one
 abbrev pub reaches : Option (List ℕ × ℕ) → ℕ → Bool

@@ -1,8 +1,9 @@
 ghost use Rattle.std.specs.Prelude.{◌≡◌, ◌≤◌};
+ghost use Rattle.pr_num.specs.Limits.{code_limit};
 ghost use Rattle.pr_asm.specs.Symbols.{label_address};
 
-use crate::layouts::TEXT;
-use pr_num::Name;
+use pr_num::layout::TEXT_BASE;
+use pr_num::{Instruction, Name};
 use std::marker::Model;
 
 /// A label of a program, seen by contracts as pr_num's plain record: it stands before the instruction at its place, or
@@ -44,9 +45,9 @@ impl Label {
 
     /// The address of the label: that of the instruction that it stands before.
     pub fn address(&self) -> u64
-        requires { self.now.place ≤ 4096 }
+        requires { self.now.place ≤ code_limit }
         ensures { result ≡ label_address self.now }
     {
-        TEXT + 16 * self.place as u64
+        TEXT_BASE + (Instruction::SIZE * self.place) as u64
     }
 }

@@ -1,6 +1,7 @@
 //! Where the names of a program stand.
 ghost use Rattle.std.specs.Prelude.{◌≡◌, ◌+◌, ◌<◌, ◌≤◌, ◌^◌, ℕ, List, None, Some, length, OnOk, IfOk, bytes_eq, if◌then◌else◌};
 ghost use Rattle.std.specs.Option.{option_or};
+ghost use Rattle.pr_num.specs.Limits.{code_limit, data_limit};
 ghost use Rattle.pr_asm.specs.Placing.{found, place_in, SeesLine};
 
 use crate::AsmKind;
@@ -60,9 +61,9 @@ impl Places {
         line: u32,
         read: &Result<Statement, AsmKind>,
     ) -> Result<Layout, NoMemory>
-        requires code { above.code ≤ 4096 }
-        requires bytes { above.bytes ≤ 65536 }
-        ensures layout { IfOk result (λ below. (below.code ≤ 4096) × (below.bytes ≤ 65536)) }
+        requires code { above.code ≤ code_limit }
+        requires bytes { above.bytes ≤ data_limit }
+        ensures layout { IfOk result (λ below. (below.code ≤ code_limit) × (below.bytes ≤ data_limit)) }
         ensures names { IfOk result (λ below. SeesLine self.old self.new above below line read.now) }
     {
         let Ok(statement) = read else {

@@ -1,6 +1,7 @@
 ghost use Rattle.std.specs.Prelude.{◌≡◌, ◌≤◌, ◌<◌, ◌+◌, [], length, slice_get, Some, IfOk, OnOk};
 ghost use Rattle.std.specs.List.{All};
 ghost use Rattle.std.specs.Option.{ForSome};
+ghost use Rattle.pr_num.specs.Limits.{code_limit, data_limit};
 ghost use Rattle.pr_num.specs.Instructions.{instruction_bytes};
 ghost use Rattle.pr_num.specs.Programs.{text_of};
 ghost use Rattle.pr_asm.specs.Limits.{program, IsWithinLimits};
@@ -76,14 +77,14 @@ impl Program {
 
     pub fn code(&self) -> &[Instruction]
         ensures value { result.now ≡ self.now.code }
-        ensures most { length result.now ≤ 4096 }
+        ensures most { length result.now ≤ code_limit }
     {
         &self.code
     }
 
     pub fn data(&self) -> &[u8]
         ensures value { result.now ≡ self.now.bytes }
-        ensures most { length result.now ≤ 65536 }
+        ensures most { length result.now ≤ data_limit }
     {
         &self.bytes
     }
@@ -92,13 +93,13 @@ impl Program {
     pub fn labels(&self) -> &[Label]
         ensures value { result.now ≡ self.now.labels }
         ensures places { All (λ l. l.place ≤ length self.now.code) result.now }
-        ensures most { All (λ l. l.place ≤ 4096) result.now }
+        ensures most { All (λ l. l.place ≤ code_limit) result.now }
     {
         &self.labels
     }
 
     /// The 16 bytes of the instruction at `index`, counted from 0. Takes no memory.
-    pub fn encode(&self, index: usize) -> [u8; 16]
+    pub fn encode(&self, index: usize) -> [u8; Instruction::SIZE]
         requires { index < length self.now.code }
         ensures { ForSome (slice_get self.now.code index) (λ i. result ≡ instruction_bytes i) }
     {
@@ -119,8 +120,8 @@ impl Program {
     /// How much the program has.
     fn layout(&self) -> Layout
         ensures value { result ≡ layout_of self.now }
-        ensures code { result.code ≤ 4096 }
-        ensures bytes { result.bytes ≤ 65536 }
+        ensures code { result.code ≤ code_limit }
+        ensures bytes { result.bytes ≤ data_limit }
     {
         Layout {
             code: self.code.len(),
@@ -136,7 +137,7 @@ impl Program {
     }
 
     fn add_data(&mut self, bytes: &[u8], zeros: usize) -> Result<(), NoMemory>
-        requires { aligned (length self.old.bytes) + length bytes.now + zeros ≤ 65536 }
+        requires { aligned (length self.old.bytes) + length bytes.now + zeros ≤ data_limit }
         ensures { OnOk result (self.new ≡ with_data self.old bytes.now zeros) }
     {
         self.bytes.resize(aligned(self.bytes.len()), 0)?;
@@ -146,7 +147,7 @@ impl Program {
     }
 
     fn add_code(&mut self, instruction: Instruction) -> Result<(), NoMemory>
-        requires { length self.old.code < 4096 }
+        requires { length self.old.code < code_limit }
         ensures { OnOk result (self.new ≡ with_code self.old instruction) }
     {
         self.code.push(instruction)?;

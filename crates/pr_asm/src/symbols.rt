@@ -1,6 +1,7 @@
 //! Which label an address belongs to.
 ghost use Rattle.std.specs.Prelude.{◌≡◌, ◌≤◌, ◌<◌, ◌↔◌, length, option_map, None, IsNone, IfSome};
 ghost use Rattle.std.specs.List.{All};
+ghost use Rattle.pr_num.specs.Limits.{code_limit};
 ghost use Rattle.pr_asm.specs.Symbols.{label_address, nearer, nearest, symbol_at, IsSymbol};
 
 use crate::{Label, Program};
@@ -9,7 +10,7 @@ use crate::{Label, Program};
 /// at the same address.
 #[tactic(auto, unfolding(crate::specs::Symbols::nearer))]
 fn nearer<'a>(pc: u64, best: Option<(&'a [u8], u64)>, label: &'a Label) -> Option<(&'a [u8], u64)>
-    requires place { label.now.place ≤ 4096 }
+    requires place { label.now.place ≤ code_limit }
     requires below { IfSome best (λ b. b.1 ≤ pc) }
     ensures value { option_map (λ b. (b.0.now, b.1)) result ≡ nearer pc (option_map (λ b. (b.0.now, b.1)) best.entry) label.now }
     ensures below { IfSome result (λ b. b.1 ≤ pc) }
@@ -28,7 +29,7 @@ fn nearer<'a>(pc: u64, best: Option<(&'a [u8], u64)>, label: &'a Label) -> Optio
 
 /// The last of these labels at or below `pc`, and its address.
 fn nearest(pc: u64, labels: &[Label]) -> Option<(&[u8], u64)>
-    requires { All (λ l. l.place ≤ 4096) labels.now }
+    requires { All (λ l. l.place ≤ code_limit) labels.now }
     ensures value { option_map (λ b. (b.0.now, b.1)) result ≡ nearest pc None labels.now }
     ensures below { IfSome result (λ b. b.1 ≤ pc) }
 {

@@ -2,12 +2,13 @@ use Rattle.std.proofs.Common.{◌≡◌, ◌<◌, ◌≤◌, ℕ, true, false, S
 use Rattle.std.specs.List.{All}
 use Rattle.std.proofs.lemmas.Bool.{le-leb, le-ltb, lt-leb, lt-ltb}
 use Rattle.std.proofs.lemmas.Option.{same_Some}
+use Rattle.pr_num.specs.Layout.{break_limit, heap_base}
 use Rattle.pr_num.specs.ById.{put_under, under}
 use Rattle.pr_num.specs.Spaces.{Space, mapped_size, mapping_limit}
 use Rattle.pr_num.specs.declared.errnos.Errno.{Errno}
 use Rattle.pr_num.specs.declared.errnos.Errno.TheVariants.{Inval, Nomem}
 use Rattle.pr_num.proofs.ByIdLaws.{All-under}
-use Rattle.pr_parts.specs.AddressSpaces.{LeavesHeapPlace, break_limit, heap_base, with_break}
+use Rattle.pr_parts.specs.AddressSpaces.{LeavesHeapPlace, with_break}
 use Rattle.pr_model.specs.Changes.{fails, gives, space_is}
 use Rattle.pr_model.specs.Lawful.{IsLawfulProcess, IsLawfulSystem}
 use Rattle.pr_model.specs.MemoryCalls.{brk_effect}

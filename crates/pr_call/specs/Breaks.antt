@@ -1,7 +1,8 @@
 use Rattle.std.specs.Prelude.{◌≡◌, ◌≤◌, ℕ, [], ◌∷◌, Option, Some, None}
+use Rattle.pr_num.specs.Layout.{break_limit, heap_base}
 use Rattle.pr_num.specs.Spaces.{Space}
 use Rattle.pr_num.specs.declared.errnos.Errno.{Errno}
-use Rattle.pr_parts.specs.AddressSpaces.{break_limit, heap_base, with_break}
+use Rattle.pr_parts.specs.AddressSpaces.{with_break}
 use Rattle.pr_mem.specs.Answers.{break_refusal}
 use Rattle.pr_model.specs.Changes.{Effect, fails, gives, space_is}
 

@@ -6,6 +6,7 @@ use Rattle.std.proofs.lemmas.List.Elements.{All-from_get_or}
 use Rattle.std.proofs.lemmas.List.Quantifiers.{position-Some}
 use Rattle.std.proofs.lemmas.List.Sums.{sum_by-cons, sum_by-set}
 use Rattle.std.proofs.lemmas.Option.{get_or_from_slice_get, cond_some, same_Some, slice_get-get_or, slice_get_within}
+use Rattle.pr_num.specs.Limits.{file_size_limit, pipe_size_limit, file_limit, pipe_limit}
 use Rattle.pr_num.specs.declared.files.OpenFile.{OpenFile}
 use Rattle.pr_num.specs.declared.files.Access.TheVariants.{Read, Write}
 use Rattle.pr_num.specs.declared.files.StoredFile.{StoredFile}
@@ -188,7 +189,7 @@ CountsUsers-opened_file t fds fd file flags e = record {
 CountsUsers-created_file : (t : FileTable) (fds : Descriptors) (fd : ℕ) (name : List ℕ) (flags : ℕ) → position is_none fds ≡ Some fd → CountsUsers t fds (created_file t fds fd name flags).files (created_file t fds fd name flags).fds
 unfolding created_file with_file
 CountsUsers-created_file t fds fd name flags e =
-    elim (ltb (length t.files) 256) as (λ b. CountsUsers t fds (cond b (opened_file (with_file t name []) fds fd (length t.files) flags) (refused t fds TableFull)).files (cond b (opened_file (with_file t name []) fds fd (length t.files) flags) (refused t fds TableFull)).fds) [ true ↦ record { each = (CountsUsers-opened_file (with_file t name []) fds fd (length t.files) flags e).each } | false ↦ unchanged t fds ]
+    elim (ltb (length t.files) file_limit) as (λ b. CountsUsers t fds (cond b (opened_file (with_file t name []) fds fd (length t.files) flags) (refused t fds TableFull)).files (cond b (opened_file (with_file t name []) fds fd (length t.files) flags) (refused t fds TableFull)).fds) [ true ↦ record { each = (CountsUsers-opened_file (with_file t name []) fds fd (length t.files) flags e).each } | false ↦ unchanged t fds ]
 
 pub CountsUsers-opened : (t : FileTable) (fds : Descriptors) (name : List ℕ) (flags : ℕ) → CountsUsers t fds (opened t fds name flags).files (opened t fds name flags).fds
 unfolding opened
@@ -245,13 +246,13 @@ pub CountsUsers-piped : (t : FileTable) (fds : Descriptors) → CountsUsers t fd
 unfolding piped
 CountsUsers-piped t fds = at_first (position is_none fds) refl
   where
-    at_room : (room : Bool) (reader writer : ℕ) → position is_none fds ≡ Some reader → free_fd_behind fds reader ≡ Some writer → ltb (count_by is_some t.pipes) 256 ≡ room → CountsUsers t fds (piped t fds).files (piped t fds).fds
+    at_room : (room : Bool) (reader writer : ℕ) → position is_none fds ≡ Some reader → free_fd_behind fds reader ≡ Some writer → ltb (count_by is_some t.pipes) pipe_limit ≡ room → CountsUsers t fds (piped t fds).files (piped t fds).fds
     at_room true reader writer first second room = rw (first, second, room) (CountsUsers-made_pipe t fds reader writer first second)
     at_room false reader writer first second room = rw (first, second, room) (unchanged t fds)
 
     at_second : (reader : ℕ) (writer : Option ℕ) → position is_none fds ≡ Some reader → free_fd_behind fds reader ≡ writer → CountsUsers t fds (piped t fds).files (piped t fds).fds
     at_second reader None first second = rw (first, second) (unchanged t fds)
-    at_second reader (Some writer) first second = at_room (ltb (count_by is_some t.pipes) 256) reader writer first second refl
+    at_second reader (Some writer) first second = at_room (ltb (count_by is_some t.pipes) pipe_limit) reader writer first second refl
 
     at_first : (reader : Option ℕ) → position is_none fds ≡ reader → CountsUsers t fds (piped t fds).files (piped t fds).fds
     at_first None first = rw first (unchanged t fds)
@@ -321,9 +322,9 @@ pub users-sought : (t : FileTable) (fds : Descriptors) (fd offset place : ℕ) �
 unfolding sought
 users-sought t fds fd offset place = at_open (open_of t fds fd) refl
   where
-    moved : (found : ℕ × OpenFile) → open_of t fds fd ≡ Some found → users_at (cond (is_some (pipe_of found.1.target)) (refused {A = ℕ} t fds NotSeekable) (cond (leb offset 65536) (record { files = with_open_at t found.0 (record found.1 { offset = offset }); fds = fds; answer = Ok offset }) (refused t fds BadOffset))).files place ≡ users_at t place
+    moved : (found : ℕ × OpenFile) → open_of t fds fd ≡ Some found → users_at (cond (is_some (pipe_of found.1.target)) (refused {A = ℕ} t fds NotSeekable) (cond (leb offset file_size_limit) (record { files = with_open_at t found.0 (record found.1 { offset = offset }); fds = fds; answer = Ok offset }) (refused t fds BadOffset))).files place ≡ users_at t place
     moved found e =
-        kept_effect (is_some (pipe_of found.1.target)) (refused t fds NotSeekable) (cond (leb offset 65536) (record { files = with_open_at t found.0 (record found.1 { offset = offset }); fds = fds; answer = Ok offset }) (refused t fds BadOffset)) place (users_at t place) refl (kept_effect (leb offset 65536) (record { files = with_open_at t found.0 (record found.1 { offset = offset }); fds = fds; answer = Ok offset }) (refused t fds BadOffset) place (users_at t place) (users-moved t found.0 place offset found.1 (open_of-there t fds fd found e)) refl)
+        kept_effect (is_some (pipe_of found.1.target)) (refused t fds NotSeekable) (cond (leb offset file_size_limit) (record { files = with_open_at t found.0 (record found.1 { offset = offset }); fds = fds; answer = Ok offset }) (refused t fds BadOffset)) place (users_at t place) refl (kept_effect (leb offset file_size_limit) (record { files = with_open_at t found.0 (record found.1 { offset = offset }); fds = fds; answer = Ok offset }) (refused t fds BadOffset) place (users_at t place) (users-moved t found.0 place offset found.1 (open_of-there t fds fd found e)) refl)
 
     at_open : (found : Option (ℕ × OpenFile)) → open_of t fds fd ≡ found → users_at (sought t fds fd offset).files place ≡ users_at t place
     at_open None e = rw e refl
@@ -385,7 +386,7 @@ opens-file_bytes t file bytes = at (slice_get t.files file) refl
 
 users-write_file : (t : FileTable) (fds : Descriptors) (here file place : ℕ) (bytes : List ℕ) (o : OpenFile) → at_place t.opens here ≡ Some o → users_at (write_file t fds here o file bytes).files place ≡ users_at t place
 unfolding write_file
-users-write_file t fds here file place bytes o there = at_end (ltb 65536 (o.offset + length bytes)) refl
+users-write_file t fds here file place bytes o there = at_end (ltb file_size_limit (o.offset + length bytes)) refl
   where
     after : List ℕ
     after = after_write (contents t o.target) o.offset bytes
@@ -395,7 +396,7 @@ users-write_file t fds here file place bytes o there = at_end (ltb 65536 (o.offs
         let same = opens-file_bytes t file after in
         users-moved (with_file_bytes t file after) here place (o.offset + length bytes) o (ap (λ opens. at_place opens here) same ∙ there) ∙ ap (λ opens. users_of (at_place opens place)) same
 
-    at_end : (b : Bool) → ltb 65536 (o.offset + length bytes) ≡ b → users_at (write_file t fds here o file bytes).files place ≡ users_at t place
+    at_end : (b : Bool) → ltb file_size_limit (o.offset + length bytes) ≡ b → users_at (write_file t fds here o file bytes).files place ≡ users_at t place
     at_end true e = rw e refl
     at_end false e = rw e moved
 
@@ -403,12 +404,12 @@ users-write_pipe : (t : FileTable) (fds : Descriptors) (pipe place : ℕ) (bytes
 unfolding write_pipe with_pipe_bytes
 users-write_pipe t fds pipe place bytes = at_reader (has_reader t pipe) refl
   where
-    at_room : (b : Bool) → has_reader t pipe ≡ true → ltb 4096 (length (pipe_bytes t pipe) + length bytes) ≡ b → users_at (write_pipe t fds pipe bytes).files place ≡ users_at t place
+    at_room : (b : Bool) → has_reader t pipe ≡ true → ltb pipe_size_limit (length (pipe_bytes t pipe) + length bytes) ≡ b → users_at (write_pipe t fds pipe bytes).files place ≡ users_at t place
     at_room true e room = rw (e, room) refl
     at_room false e room = rw (e, room) refl
 
     at_reader : (b : Bool) → has_reader t pipe ≡ b → users_at (write_pipe t fds pipe bytes).files place ≡ users_at t place
-    at_reader true e = at_room (ltb 4096 (length (pipe_bytes t pipe) + length bytes)) e refl
+    at_reader true e = at_room (ltb pipe_size_limit (length (pipe_bytes t pipe) + length bytes)) e refl
     at_reader false e = rw e refl
 
 users-write_open : (t : FileTable) (fds : Descriptors) (here place : ℕ) (bytes : List ℕ) (o : OpenFile) → at_place t.opens here ≡ Some o → users_at (write_open t fds here o bytes).files place ≡ users_at t place

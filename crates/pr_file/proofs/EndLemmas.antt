@@ -2,6 +2,7 @@ use Rattle.std.proofs.Common.{◌≡◌, ◌≢◌, ℕ, zero, suc, ◌+◌, ◌
 use Rattle.std.specs.List.{count_by, list_any, position, slice_get}
 use Rattle.std.specs.Option.{option_flatten}
 use Rattle.std.proofs.lemmas.Bool.{cases_eq, eq-eqb, ne_eqb}
+use Rattle.pr_num.specs.Limits.{file_size_limit, pipe_size_limit, file_limit, pipe_limit}
 use Rattle.pr_num.specs.declared.files.Access.TheVariants.{Read, Write}
 use Rattle.pr_num.specs.declared.files.OpenFile.{OpenFile}
 use Rattle.pr_num.specs.declared.files.StoredFile.{StoredFile}
@@ -190,7 +191,7 @@ ends-opened_file t fds fd file flags h = ends-with_open t (first_open (File file
 ends-created_file : (t : FileTable) (fds : Descriptors) (fd : ℕ) (name : List ℕ) (flags : ℕ) → PipesHaveEnds t → PipesHaveEnds (created_file t fds fd name flags).files
 unfolding created_file
 ends-created_file t fds fd name flags h =
-    either_effect (ltb (length t.files) 256) (opened_file (with_file t name []) fds fd (length t.files) flags) (refused t fds TableFull) (ends-opened_file (with_file t name []) fds fd (length t.files) flags (ends-with_file t name [] h)) h
+    either_effect (ltb (length t.files) file_limit) (opened_file (with_file t name []) fds fd (length t.files) flags) (refused t fds TableFull) (ends-opened_file (with_file t name []) fds fd (length t.files) flags (ends-with_file t name [] h)) h
 
 pub ends-opened : (t : FileTable) (fds : Descriptors) (name : List ℕ) (flags : ℕ) → PipesHaveEnds t → PipesHaveEnds (opened t fds name flags).files
 unfolding opened
@@ -221,13 +222,13 @@ pub ends-piped : (t : FileTable) (fds : Descriptors) → PipesHaveEnds t → Pip
 unfolding piped made_pipe
 ends-piped t fds h = at_first (position is_none fds) refl
   where
-    at_room : (room : Bool) (reader writer : ℕ) → position is_none fds ≡ Some reader → free_fd_behind fds reader ≡ Some writer → ltb (count_by is_some t.pipes) 256 ≡ room → PipesHaveEnds (piped t fds).files
+    at_room : (room : Bool) (reader writer : ℕ) → position is_none fds ≡ Some reader → free_fd_behind fds reader ≡ Some writer → ltb (count_by is_some t.pipes) pipe_limit ≡ room → PipesHaveEnds (piped t fds).files
     at_room true reader writer first second room = rw (first, second, room) (ends-with_pipe t h)
     at_room false reader writer first second room = rw (first, second, room) h
 
     at_second : (reader : ℕ) (writer : Option ℕ) → position is_none fds ≡ Some reader → free_fd_behind fds reader ≡ writer → PipesHaveEnds (piped t fds).files
     at_second reader None first second = rw (first, second) h
-    at_second reader (Some writer) first second = at_room (ltb (count_by is_some t.pipes) 256) reader writer first second refl
+    at_second reader (Some writer) first second = at_room (ltb (count_by is_some t.pipes) pipe_limit) reader writer first second refl
 
     at_first : (reader : Option ℕ) → position is_none fds ≡ reader → PipesHaveEnds (piped t fds).files
     at_first None first = rw first h
@@ -243,7 +244,7 @@ ends-sought t fds fd offset h = at_open (open_of t fds fd) refl
     at_open : (found : Option (ℕ × OpenFile)) → open_of t fds fd ≡ found → PipesHaveEnds (sought t fds fd offset).files
     at_open None e = rw e h
     at_open (Some found) e =
-        rw e (either_effect (is_some (pipe_of found.1.target)) (refused {A = ℕ} t fds NotSeekable) (cond (leb offset 65536) (moved found) (refused t fds BadOffset)) h (either_effect (leb offset 65536) (moved found) (refused t fds BadOffset) (ends-moved t found.0 offset found.1 (open_of-there t fds fd found e) h) h))
+        rw e (either_effect (is_some (pipe_of found.1.target)) (refused {A = ℕ} t fds NotSeekable) (cond (leb offset file_size_limit) (moved found) (refused t fds BadOffset)) h (either_effect (leb offset file_size_limit) (moved found) (refused t fds BadOffset) (ends-moved t found.0 offset found.1 (open_of-there t fds fd found e) h) h))
 
 -- ---- read and write
 
@@ -292,21 +293,21 @@ ends-file_bytes t file bytes h = at (slice_get t.files file) refl
 
 ends-write_file : (t : FileTable) (fds : Descriptors) (here file : ℕ) (bytes : List ℕ) (o : OpenFile) → at_place t.opens here ≡ Some o → PipesHaveEnds t → PipesHaveEnds (write_file t fds here o file bytes).files
 unfolding write_file
-ends-write_file t fds here file bytes o there h = at_end (ltb 65536 (o.offset + length bytes)) refl
+ends-write_file t fds here file bytes o there h = at_end (ltb file_size_limit (o.offset + length bytes)) refl
   where
     after : List ℕ
     after = after_write (contents t o.target) o.offset bytes
 
-    at_end : (b : Bool) → ltb 65536 (o.offset + length bytes) ≡ b → PipesHaveEnds (write_file t fds here o file bytes).files
+    at_end : (b : Bool) → ltb file_size_limit (o.offset + length bytes) ≡ b → PipesHaveEnds (write_file t fds here o file bytes).files
     at_end true e = rw e h
     at_end false e =
         rw e (ends-moved (with_file_bytes t file after) here (o.offset + length bytes) o (ap (λ opens. at_place opens here) (opens-file_bytes t file after) ∙ there) (ends-file_bytes t file after h))
 
 ends-write_pipe : (t : FileTable) (fds : Descriptors) (here end : ℕ) (bytes : List ℕ) (o : OpenFile) → at_place t.opens here ≡ Some o → is_end_of end (Some o) ≡ true → PipesHaveEnds t → PipesHaveEnds (write_pipe t fds end bytes).files
 unfolding write_pipe
-ends-write_pipe t fds here end bytes o there one h = at_reader (has_reader t end) (ltb 4096 (length (pipe_bytes t end) + length bytes)) refl refl
+ends-write_pipe t fds here end bytes o there one h = at_reader (has_reader t end) (ltb pipe_size_limit (length (pipe_bytes t end) + length bytes)) refl refl
   where
-    at_reader : (reader full : Bool) → has_reader t end ≡ reader → ltb 4096 (length (pipe_bytes t end) + length bytes) ≡ full → PipesHaveEnds (write_pipe t fds end bytes).files
+    at_reader : (reader full : Bool) → has_reader t end ≡ reader → ltb pipe_size_limit (length (pipe_bytes t end) + length bytes) ≡ full → PipesHaveEnds (write_pipe t fds end bytes).files
     at_reader false full e f = rw e h
     at_reader true true e f = rw (e, f) h
     at_reader true false e f = rw (e, f) (ends-pipe_bytes t here end o (pipe_bytes t end ++ bytes) there one h)

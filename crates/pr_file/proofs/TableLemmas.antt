@@ -5,6 +5,7 @@ use Rattle.std.proofs.lemmas.Bool.{and_parts, or_parts, not-true, ltb-true, lt-l
 use Rattle.std.proofs.lemmas.List.{length-append, length-drop, length-replicate, length-set, length-take}
 use Rattle.std.proofs.lemmas.List.Elements.{All-nil, All-set, All-push, All-weaker}
 use Rattle.std.proofs.lemmas.Slice.Eq.{bytes_eq-Decides}
+use Rattle.pr_num.specs.Limits.{file_size_limit, pipe_size_limit, file_limit, pipe_limit}
 use Rattle.pr_num.specs.declared.files.Access.{Access}
 use Rattle.pr_num.specs.declared.files.Access.TheVariants.{Read, Write}
 use Rattle.pr_num.specs.declared.files.OpenFile.{OpenFile}
@@ -141,7 +142,7 @@ names_differ-push (g ∷ gs) f own new =
     let others = or_parts (has_name f.name g) (list_any (has_name f.name) gs) new in
     rw (list_any-push (has_name g.name) gs f (not-true _ apart.0) (has_name-false f g others.0), names_differ-push gs f apart.1 others.1) refl
 
-pub IsFileTable-with_file : (t : FileTable) (name bytes : List ℕ) → length t.files < 256 → length bytes ≤ 65536 → file_named t name ≡ None → IsFileTable t → IsFileTable (with_file t name bytes)
+pub IsFileTable-with_file : (t : FileTable) (name bytes : List ℕ) → length t.files < file_limit → length bytes ≤ file_size_limit → file_named t name ≡ None → IsFileTable t → IsFileTable (with_file t name bytes)
 unfolding with_file file_named
 IsFileTable-with_file t name bytes few short new h =
     let f : StoredFile = record { name = name; bytes = bytes } in
@@ -166,7 +167,7 @@ IsFileTable-with_open t o here h = record {
 }
 
 -- a file is made and opened
-pub IsFileTable-created : (t : FileTable) (name : List ℕ) (access : Access) → length t.files < 256 → file_named t name ≡ None → IsFileTable t → IsFileTable (with_open (with_file t name []) (first_open (File (length t.files)) access))
+pub IsFileTable-created : (t : FileTable) (name : List ℕ) (access : Access) → length t.files < file_limit → file_named t name ≡ None → IsFileTable t → IsFileTable (with_open (with_file t name []) (first_open (File (length t.files)) access))
 unfolding with_file
 IsFileTable-created t name access few new h =
     let f : StoredFile = record { name = name; bytes = [] } in
@@ -196,17 +197,17 @@ open_with_pipe files pipes bytes (Some o) here = record {
     more_pipes_stand (PipeReader place) there = taken-placed pipes bytes place there
     more_pipes_stand (PipeWriter place) there = taken-placed pipes bytes place there
 
-IsFileTable-pipe_placed : (t : FileTable) → count_by is_some t.pipes < 256 → IsFileTable t → IsFileTable (record t { pipes = with_placed t.pipes [] })
+IsFileTable-pipe_placed : (t : FileTable) → count_by is_some t.pipes < pipe_limit → IsFileTable t → IsFileTable (record t { pipes = with_placed t.pipes [] })
 IsFileTable-pipe_placed t few h = record {
   few_files = h.few_files;
-  few_pipes = length-placed t.pipes [] 256 h.few_pipes few;
+  few_pipes = length-placed t.pipes [] pipe_limit h.few_pipes few;
   short_files = h.short_files;
   short_pipes = All-placed IsPipePlace t.pipes [] (omega arith) h.short_pipes;
   own_names = h.own_names;
   open_files = All-weaker (IsOpenPlace t.files t.pipes) (IsOpenPlace t.files (with_placed t.pipes [])) (open_with_pipe t.files t.pipes []) t.opens h.open_files;
 }
 
-pub IsFileTable-with_pipe : (t : FileTable) → count_by is_some t.pipes < 256 → IsFileTable t → IsFileTable (with_pipe t)
+pub IsFileTable-with_pipe : (t : FileTable) → count_by is_some t.pipes < pipe_limit → IsFileTable t → IsFileTable (with_pipe t)
 unfolding with_pipe with_read_end with_open
 IsFileTable-with_pipe t few h =
     let placed = IsFileTable-pipe_placed t few h in
@@ -226,7 +227,7 @@ pub IsOpenFile-at : (t : FileTable) (place : ℕ) (o : OpenFile) → at_place t.
 IsOpenFile-at t place o e h =
     All-at (IsOpenPlace t.files t.pipes) t.opens place (Some o) (from_flat (slice_get t.opens place) o e) h.open_files
 
-pub IsFileTable-moved : (t : FileTable) (place offset : ℕ) (o : OpenFile) → IsOpenFile t.files t.pipes o → offset ≤ 65536 → IsFileTable t → IsFileTable (with_open_at t place (record o { offset = offset }))
+pub IsFileTable-moved : (t : FileTable) (place offset : ℕ) (o : OpenFile) → IsOpenFile t.files t.pipes o → offset ≤ file_size_limit → IsFileTable t → IsFileTable (with_open_at t place (record o { offset = offset }))
 unfolding with_open_at
 IsFileTable-moved t place offset o here within h =
     IsFileTable-open_set t place (Some (record o { offset = offset })) (record { used = here.used; within = within; target_stands = here.target_stands }) h
@@ -246,7 +247,7 @@ open_with_pipe_set files pipes pipe bytes (Some o) here = record {
     still (PipeReader place) there = taken-set pipes pipe place bytes there
     still (PipeWriter place) there = taken-set pipes pipe place bytes there
 
-pub IsFileTable-pipe_bytes : (t : FileTable) (pipe : ℕ) (bytes : List ℕ) → length bytes ≤ 4096 → IsFileTable t → IsFileTable (with_pipe_bytes t pipe bytes)
+pub IsFileTable-pipe_bytes : (t : FileTable) (pipe : ℕ) (bytes : List ℕ) → length bytes ≤ pipe_size_limit → IsFileTable t → IsFileTable (with_pipe_bytes t pipe bytes)
 unfolding with_pipe_bytes
 IsFileTable-pipe_bytes t pipe bytes short h = record {
   few_files = h.few_files;
@@ -282,7 +283,7 @@ open_with_file_set files pipes place f (Some o) here = record {
     still (PipeReader pipe) there = there
     still (PipeWriter pipe) there = there
 
-pub IsFileTable-file_bytes : (t : FileTable) (place : ℕ) (bytes : List ℕ) → length bytes ≤ 65536 → IsFileTable t → IsFileTable (with_file_bytes t place bytes)
+pub IsFileTable-file_bytes : (t : FileTable) (place : ℕ) (bytes : List ℕ) → length bytes ≤ file_size_limit → IsFileTable t → IsFileTable (with_file_bytes t place bytes)
 unfolding with_file_bytes
 IsFileTable-file_bytes t place bytes short h = go (slice_get t.files place) refl
   where
@@ -302,22 +303,22 @@ IsFileTable-file_bytes t place bytes short h = go (slice_get t.files place) refl
 
 -- ---- how much there is to read
 
-pub length-pipe_bytes : (t : FileTable) (pipe : ℕ) → IsFileTable t → length (pipe_bytes t pipe) ≤ 4096
+pub length-pipe_bytes : (t : FileTable) (pipe : ℕ) → IsFileTable t → length (pipe_bytes t pipe) ≤ pipe_size_limit
 length-pipe_bytes t pipe h = go (slice_get t.pipes pipe) refl
   where
-    go : (found : Option (Option (List ℕ))) → slice_get t.pipes pipe ≡ found → length (pipe_bytes t pipe) ≤ 4096
+    go : (found : Option (Option (List ℕ))) → slice_get t.pipes pipe ≡ found → length (pipe_bytes t pipe) ≤ pipe_size_limit
     go None e = rw e (omega arith)
     go (Some None) e = rw e (omega arith)
     go (Some (Some bytes)) e = rw e (All-at IsPipePlace t.pipes pipe (Some bytes) e h.short_pipes)
 
-length-file_bytes : (t : FileTable) (place : ℕ) → IsFileTable t → length (contents t (File place)) ≤ 65536
+length-file_bytes : (t : FileTable) (place : ℕ) → IsFileTable t → length (contents t (File place)) ≤ file_size_limit
 length-file_bytes t place h = go (slice_get t.files place) refl
   where
-    go : (found : Option StoredFile) → slice_get t.files place ≡ found → length (contents t (File place)) ≤ 65536
+    go : (found : Option StoredFile) → slice_get t.files place ≡ found → length (contents t (File place)) ≤ file_size_limit
     go None e = rw e (omega arith)
     go (Some f) e = rw e (All-at IsShortFile t.files place f e h.short_files)
 
-pub length-contents : (t : FileTable) (target : Target) → IsFileTable t → length (contents t target) ≤ 65536
+pub length-contents : (t : FileTable) (target : Target) → IsFileTable t → length (contents t target) ≤ file_size_limit
 length-contents t (File place) h = length-file_bytes t place h
 length-contents t (PipeReader pipe) h = let short = length-pipe_bytes t pipe h in omega arith
 length-contents t (PipeWriter pipe) h = let short = length-pipe_bytes t pipe h in omega arith
@@ -325,7 +326,7 @@ length-contents t (PipeWriter pipe) h = let short = length-pipe_bytes t pipe h i
 -- ---- what a read and a write leave
 
 -- a read does not move an offset beyond the longest file's end
-pub read_within : (bytes : List ℕ) (offset start most rest count : ℕ) → start ≡ min (length bytes) offset → count ≡ length (take most (take rest (drop start bytes))) → length bytes ≤ 65536 → offset ≤ 65536 → offset + count ≤ 65536
+pub read_within : (bytes : List ℕ) (offset start most rest count : ℕ) → start ≡ min (length bytes) offset → count ≡ length (take most (take rest (drop start bytes))) → length bytes ≤ file_size_limit → offset ≤ file_size_limit → offset + count ≤ file_size_limit
 read_within bytes offset start most rest count from given short within =
     omega (arith, length-take most (take rest (drop start bytes)), length-take rest (drop start bytes), length-drop start bytes)
 
@@ -334,17 +335,17 @@ IsFileTable-dropped t pipe count h =
     let short = length-pipe_bytes t pipe h in
     IsFileTable-pipe_bytes t pipe (drop count (pipe_bytes t pipe)) (omega (arith, length-drop count (pipe_bytes t pipe))) h
 
-pub IsFileTable-extended : (t : FileTable) (pipe : ℕ) (bytes : List ℕ) → length (pipe_bytes t pipe) + length bytes ≤ 4096 → IsFileTable t → IsFileTable (with_pipe_bytes t pipe (pipe_bytes t pipe ++ bytes))
+pub IsFileTable-extended : (t : FileTable) (pipe : ℕ) (bytes : List ℕ) → length (pipe_bytes t pipe) + length bytes ≤ pipe_size_limit → IsFileTable t → IsFileTable (with_pipe_bytes t pipe (pipe_bytes t pipe ++ bytes))
 IsFileTable-extended t pipe bytes room h =
     IsFileTable-pipe_bytes t pipe (pipe_bytes t pipe ++ bytes) (omega (arith, length-append (pipe_bytes t pipe) bytes)) h
 
-length-written_over : (bytes others : List ℕ) (offset : ℕ) → offset + length others ≤ 65536 → length bytes ≤ 65536 → length (written_over bytes offset others) ≤ 65536
+length-written_over : (bytes others : List ℕ) (offset : ℕ) → offset + length others ≤ file_size_limit → length bytes ≤ file_size_limit → length (written_over bytes offset others) ≤ file_size_limit
 length-written_over bytes others offset room short =
     simp (length-append, length-take, length-replicate, length-drop) (omega arith)
 
-length-after_write : (bytes others : List ℕ) (offset : ℕ) → offset + length others ≤ 65536 → length bytes ≤ 65536 → length (after_write bytes offset others) ≤ 65536
+length-after_write : (bytes others : List ℕ) (offset : ℕ) → offset + length others ≤ file_size_limit → length bytes ≤ file_size_limit → length (after_write bytes offset others) ≤ file_size_limit
 length-after_write bytes others offset room short =
-    elim (eqb (length others) 0) as (λ b. length (cond b bytes (written_over bytes offset others)) ≤ 65536) [ true ↦ short | false ↦ length-written_over bytes others offset room short ]
+    elim (eqb (length others) 0) as (λ b. length (cond b bytes (written_over bytes offset others)) ≤ file_size_limit) [ true ↦ short | false ↦ length-written_over bytes others offset room short ]
 
 -- an open file stays in order where a file gets other bytes
 IsOpenFile-rewritten : (t : FileTable) (place : ℕ) (bytes : List ℕ) (o : OpenFile) → IsOpenFile t.files t.pipes o → IsOpenFile (with_file_bytes t place bytes).files (with_file_bytes t place bytes).pipes o
@@ -355,7 +356,7 @@ IsOpenFile-rewritten t place bytes o here = go (slice_get t.files place) refl
     go None e = rw e here
     go (Some f) e = rw e (open_with_file_set t.files t.pipes place (record f { bytes = bytes }) (Some o) here)
 
-pub IsFileTable-written : (t : FileTable) (place file : ℕ) (o : OpenFile) (bytes : List ℕ) → IsOpenFile t.files t.pipes o → o.offset + length bytes ≤ 65536 → IsFileTable t → IsFileTable (with_open_at (with_file_bytes t file (after_write (contents t (File file)) o.offset bytes)) place (record o { offset = o.offset + length bytes }))
+pub IsFileTable-written : (t : FileTable) (place file : ℕ) (o : OpenFile) (bytes : List ℕ) → IsOpenFile t.files t.pipes o → o.offset + length bytes ≤ file_size_limit → IsFileTable t → IsFileTable (with_open_at (with_file_bytes t file (after_write (contents t (File file)) o.offset bytes)) place (record o { offset = o.offset + length bytes }))
 IsFileTable-written t place file o bytes here room h =
     let after : List ℕ = after_write (contents t (File file)) o.offset bytes in
     IsFileTable-moved (with_file_bytes t file after) place (o.offset + length bytes) o (IsOpenFile-rewritten t file after o here) room (IsFileTable-file_bytes t file after (length-after_write (contents t (File file)) bytes o.offset room (length-contents t (File file) h)) h)

@@ -1,6 +1,7 @@
 use Rattle.std.proofs.Common.{◌≡◌, ◌⊎◌, ◌==◌, ◌+◌, ℕ, true, false, Some, None, List, length, refl, inl, inr}
 use Rattle.std.specs.Prelude.{nat_lt}
 use Rattle.std.proofs.lemmas.Bool.{cases_Bool}
+use Rattle.pr_num.specs.Limits.{file_size_limit, pipe_size_limit}
 use Rattle.pr_num.specs.Files.{FileTable, Descriptors}
 use Rattle.pr_num.specs.declared.files.OpenFile.{OpenFile}
 use Rattle.pr_num.specs.declared.files.Target.TheVariants.{File, PipeReader, PipeWriter}
@@ -47,10 +48,10 @@ module _ (t : FileTable) (fds : Descriptors) (bytes : List ℕ) where
   unfolding write_pipe
   writes-broken pipe unread = rw unread refl
 
-  pub writes-read : (pipe : ℕ) → has_reader t pipe ≡ true → nat_lt 4096 (length (pipe_bytes t pipe) + length bytes) ≡ waits (write_pipe t fds pipe bytes).answer
+  pub writes-read : (pipe : ℕ) → has_reader t pipe ≡ true → nat_lt pipe_size_limit (length (pipe_bytes t pipe) + length bytes) ≡ waits (write_pipe t fds pipe bytes).answer
   unfolding write_pipe
   writes-read pipe read =
-      rw read (elim (cases_Bool (nat_lt 4096 (length (pipe_bytes t pipe) + length bytes))) [ inl full ↦ rw full refl | inr room ↦ rw room refl ])
+      rw read (elim (cases_Bool (nat_lt pipe_size_limit (length (pipe_bytes t pipe) + length bytes))) [ inl full ↦ rw full refl | inr room ↦ rw room refl ])
 
   pub writes-closed : (fd : ℕ) → open_for_writing t fds fd ≡ None → false ≡ waits (write_fd t fds fd bytes).answer
   unfolding write_fd
@@ -59,7 +60,7 @@ module _ (t : FileTable) (fds : Descriptors) (bytes : List ℕ) where
   pub writes-file : (fd : ℕ) (found : ℕ × OpenFile) (file : ℕ) → open_for_writing t fds fd ≡ Some found → found.1.target ≡ File file → false ≡ waits (write_fd t fds fd bytes).answer
   unfolding write_fd write_file
   writes-file fd found file is of =
-      rw is (rw of (elim (cases_Bool (nat_lt 65536 (found.1.offset + length bytes))) [ inl long ↦ rw long refl | inr short ↦ rw short refl ]))
+      rw is (rw of (elim (cases_Bool (nat_lt file_size_limit (found.1.offset + length bytes))) [ inl long ↦ rw long refl | inr short ↦ rw short refl ]))
 
   pub writes-pipe : (fd : ℕ) (found : ℕ × OpenFile) (pipe : ℕ) → open_for_writing t fds fd ≡ Some found → (found.1.target ≡ PipeReader pipe) ⊎ (found.1.target ≡ PipeWriter pipe) → waits (write_pipe t fds pipe bytes).answer ≡ waits (write_fd t fds fd bytes).answer
   unfolding write_fd

@@ -1,4 +1,5 @@
 ghost use Rattle.std.specs.Prelude.{◌≡◌, ◌≤◌, ◌+◌, ◌-◌, ◌++◌, length, replicate, take, drop, is_ok, OnOk, OnErr, if◌then◌else◌};
+ghost use Rattle.pr_num.specs.Limits.{file_size_limit};
 ghost use Rattle.pr_parts.specs.FileTransfers.{after_write};
 
 use pr_num::{Bytes, NoMemory};
@@ -52,7 +53,7 @@ pub(crate) fn written_over(
     offset: usize,
     others: &[u8],
 ) -> (Bytes, Result<(), NoMemory>)
-    requires { offset + length others.now ≤ 65536 }
+    requires { offset + length others.now ≤ file_size_limit }
     ensures { result.0 ≡ (if is_ok result.1 then after_write bytes offset others.now else bytes) }
 {
     let mut items = bytes.into_vec();
@@ -84,7 +85,7 @@ fn paste(items: &mut [u8], offset: usize, others: &[u8])
 
 /// Writes bytes over others, and grows them where they end before.
 fn write_over(items: &mut Vec<u8>, offset: usize, others: &[u8]) -> Result<(), NoMemory>
-    requires { offset + length others.now ≤ 65536 }
+    requires { offset + length others.now ≤ file_size_limit }
     ensures ok { OnOk result (items.new.items ≡ after_write items.old.items offset others.now) }
     ensures err { OnErr result (items.new.items ≡ items.old.items) }
 {

@@ -1,4 +1,5 @@
 ghost use Rattle.std.specs.Prelude.{◌≡◌, ◌<◌, ◌≤◌, ◌↔◌, IsTrue, true, None, Some, is_some, IfSome, OnOk, OnErr, length, option_map};
+ghost use Rattle.pr_num.specs.Limits.{descriptor_limit, file_limit, file_size_limit};
 ghost use Rattle.pr_num.specs.Files.{with_all_closed, no_descriptors};
 ghost use Rattle.pr_parts.specs.FileTables.{open_of, at_place, file_named, HasRoom, IsOpenFile};
 ghost use Rattle.pr_parts.specs.FileCalls.{name_of, unless_no_memory, no_files, with_file, closed, duplicated, with_all_shared, are_open_flags, access_of, opened_file, created_file, opened, piped, sought, described, reads, writes, open_for_reading, open_for_writing};
@@ -49,7 +50,7 @@ impl Files {
     #[tactic(auto, unfolding(pr_parts::specs::FileTables::open_of), using(crate::proofs::TableLemmas::opens_in_order))]
     fn open_of(&self, fds: &Fds, fd: u64) -> Option<(usize, OpenFile)>
         ensures open { result ≡ open_of self.now fds.now fd }
-        ensures within { IfSome result (λ _. fd < 64) }
+        ensures within { IfSome result (λ _. fd < descriptor_limit) }
         ensures place { IfSome result (λ found. found.0 < length self.now.opens) }
         ensures there { IfSome result (λ found. at_place self.now.opens found.0 ≡ Some found.1) }
         ensures in_order { IfSome result (λ found. IsOpenFile self.now.files self.now.pipes found.1) }
@@ -77,7 +78,7 @@ impl Files {
     /// How many files there are, at most 256.
     pub fn file_count(&self) -> usize
         ensures count { result ≡ length self.now.files }
-        ensures limit { result ≤ 256 }
+        ensures limit { result ≤ file_limit }
     {
         self.tables.file_count()
     }
@@ -99,8 +100,8 @@ impl Files {
     /// Adds a file, whose name no file has yet. As every call that takes memory it is passed an allocator, though the
     /// list of files has its own.
     pub fn add(&mut self, _alloc: Global, name: Name, bytes: Bytes) -> Result<(), NoMemory>
-        requires few { length self.old.files < 256 }
-        requires short { length bytes ≤ 65536 }
+        requires few { length self.old.files < file_limit }
+        requires short { length bytes ≤ file_size_limit }
         requires new_name { file_named self.old name ≡ None }
         ensures ok { OnOk result (self.new ≡ with_file self.old name bytes) }
         ensures err { OnErr result (self.new ≡ self.old) }
@@ -151,7 +152,7 @@ impl Files {
 
     /// The descriptors of a process that is forked: its parent's, for the same open files (fork(2)). Takes no memory.
     pub fn share(&mut self, fds: &Fds) -> Fds
-        requires { HasRoom self.old 64 }
+        requires { HasRoom self.old descriptor_limit }
         ensures files { self.new ≡ with_all_shared self.old fds.now }
         ensures fds { result ≡ fds.now }
     {
@@ -169,7 +170,7 @@ impl Files {
         flags: u64,
     ) -> Result<u64, FileNo>
         requires flags { are_open_flags flags ≡ true }
-        requires fd { fd < 64 }
+        requires fd { fd < descriptor_limit }
         requires file { file < length self.old.files }
         ensures { (record { files = self.new; fds = fds.new; answer = result }) ≡ unless_no_memory self.old fds.old result (opened_file self.old fds.old fd file flags) }
     {
@@ -189,7 +190,7 @@ impl Files {
         flags: u64,
     ) -> Result<u64, FileNo>
         requires flags { are_open_flags flags ≡ true }
-        requires fd { fd < 64 }
+        requires fd { fd < descriptor_limit }
         requires new_name { file_named self.old name ≡ None }
         ensures { (record { files = self.new; fds = fds.new; answer = result }) ≡ unless_no_memory self.old fds.old result (created_file self.old fds.old fd name flags) }
     {

@@ -1,5 +1,6 @@
 ghost use Rattle.std.specs.Prelude.{◌≡◌, ◌<◌, ◌≤◌, ◌+◌, ◌^◌, [], None, IfSome, IfOk, OnOk, OnErr, count_by, is_some, length, slice_set, IsTrue, ◌↔◌, true, drop, ◌++◌};
 ghost use Rattle.std.specs.List.{list_any};
+ghost use Rattle.pr_num.specs.Limits.{file_limit, file_size_limit, pipe_limit};
 ghost use Rattle.pr_num.specs.Files.{FileTable, with_all_closed, with_user_gone, without_idle_pipe, pipe_of, is_end_of};
 ghost use Rattle.pr_parts.specs.FileTables.{IsFileTable, HasRoom, HasRoomAt, at_place, file_named, free_place};
 ghost use Rattle.pr_parts.specs.FileTransfers.{has_reader, has_writer, is_read_end, is_write_end, pipe_bytes, with_pipe_bytes, with_file_bytes, after_write};
@@ -206,7 +207,7 @@ impl Tables {
         name: Name,
         access: Access,
     ) -> Result<usize, NoMemory>
-        requires { length self.old.files < 256 }
+        requires { length self.old.files < file_limit }
         ensures ok { OnOk result (self.new ≡ with_open (with_file self.old name []) (first_open (Target.File (length self.old.files)) access)) }
         ensures place { IfOk result (λ place. place ≡ free_place self.old.opens) }
         ensures err { OnErr result (self.new ≡ self.old) }
@@ -224,7 +225,7 @@ impl Tables {
     /// Makes a pipe without bytes and opens both its ends, and answers the places of its open read end and write end.
     #[tactic(auto, unfolding(pr_parts::specs::FileCalls::with_pipe, pr_parts::specs::FileCalls::with_read_end, pr_parts::specs::FileCalls::with_open))]
     pub(crate) fn open_pipe(&mut self, alloc: Global) -> Result<(usize, usize), NoMemory>
-        requires { length self.old.pipes ≤ 256 }
+        requires { length self.old.pipes ≤ pipe_limit }
         ensures ok { OnOk result (self.new ≡ with_pipe self.old) }
         ensures read_end { IfOk result (λ ends. ends.0 ≡ free_place self.old.opens) }
         ensures write_end { IfOk result (λ ends. ends.1 ≡ free_place (with_read_end self.old).opens) }
@@ -345,7 +346,7 @@ impl Tables {
         bytes: &[u8],
     ) -> Result<(), NoMemory>
         requires stands { place < length self.old.files }
-        requires room { offset + length bytes.now ≤ 65536 }
+        requires room { offset + length bytes.now ≤ file_size_limit }
         ensures ok { OnOk result (self.new ≡ with_file_bytes self.old place (after_write (contents self.old (Target.File place)) offset bytes.now)) }
         ensures opens { self.new.opens ≡ self.old.opens }
         ensures err { OnErr result (self.new ≡ self.old) }

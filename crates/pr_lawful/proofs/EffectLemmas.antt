@@ -6,6 +6,7 @@ use Rattle.std.proofs.lemmas.Bool.{and_parts, or_parts, eqb-false, eq-eqb, leb-t
 use Rattle.std.proofs.lemmas.List.Elements.{All-take}
 use Rattle.std.proofs.lemmas.List.Sums.{sum_by-cons}
 use Rattle.std.proofs.lemmas.Option.{none-some}
+use Rattle.pr_num.specs.Layout.{heap_base, break_limit}
 use Rattle.pr_num.proofs.ByIdLaws.{All-under, under-change_under, under-without_id_other}
 use Rattle.pr_num.proofs.ByIdLemmas.{rises_from-tail, under-below}
 use Rattle.pr_num.specs.ById.{under, rises_from}
@@ -28,7 +29,7 @@ use Rattle.pr_num.specs.declared.mappings.Mapping.{Mapping}
 use Rattle.pr_num.specs.declared.signals.Sig.{Sig}
 use Rattle.pr_num.specs.declared.syscalls.Sysno.{Sysno}
 use Rattle.pr_num.specs.declared.syscalls.Sysno.TheVariants as sys
-use Rattle.pr_parts.specs.AddressSpaces.{with_bytes, with_break, gap_in, with_mapping, zeros_at, has_range, without_range, with_protected, is_range, heap_base, break_limit}
+use Rattle.pr_parts.specs.AddressSpaces.{with_bytes, with_break, gap_in, with_mapping, zeros_at, has_range, without_range, with_protected, is_range}
 use Rattle.pr_parts.specs.FileCalls.{FileEffect, are_open_flags, closed, described, duplicated, open_for_reading, open_for_writing, opened, piped, sought}
 use Rattle.pr_parts.specs.FileTables.{CountsUsers, IsFileTable, PipesHaveEnds}
 use Rattle.pr_parts.specs.FileTransfers.{read_fd, write_fd}

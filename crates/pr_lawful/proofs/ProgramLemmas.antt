@@ -3,10 +3,11 @@ use Rattle.std.specs.List.{All, find, slice_get}
 use Rattle.std.proofs.lemmas.Bool.{le-leb, or_right}
 use Rattle.std.proofs.lemmas.List.Elements.{All-head, All-tail}
 use Rattle.std.proofs.lemmas.Option.{same_Some, none-some}
+use Rattle.pr_num.specs.Layout.{break_limit, gap_base, heap_base}
 use Rattle.pr_num.proofs.ListLemmas.{length-text}
 use Rattle.pr_num.specs.Programs.{Program, text_of}
 use Rattle.pr_num.specs.Spaces.{Space, first_space}
-use Rattle.pr_parts.specs.AddressSpaces.{LeavesHeapPlace, break_limit, gap_base, gap_from, gap_in, heap_base, is_gap}
+use Rattle.pr_parts.specs.AddressSpaces.{LeavesHeapPlace, gap_from, gap_in, is_gap}
 use Rattle.pr_parts.proofs.FirstLemmas.{first_space-mappings}
 use Rattle.pr_mem.proofs.HeapPlaceLemmas.{LeavesHeapPlace-first}
 use Rattle.pr_mem.specs.Answers.{is_outside_heap_place}

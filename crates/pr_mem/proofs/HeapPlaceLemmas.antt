@@ -3,12 +3,14 @@ use Rattle.std.specs.List.{All}
 use Rattle.std.proofs.lemmas.Bool.{le-leb, or_left, or_right}
 use Rattle.std.proofs.lemmas.List.{length-append, length-replicate}
 use Rattle.std.proofs.lemmas.List.Elements.{All-append, All-cons, All-map, All-nil, All-weaker}
+use Rattle.pr_num.specs.Limits.{data_limit, text_limit}
+use Rattle.pr_num.specs.Layout.{break_limit, heap_base, data_base, page_size, stack_base, text_base}
 use Rattle.pr_num.specs.Programs.{rounded, whole_pages}
 use Rattle.pr_num.specs.Spaces.{Space, read_execute, read_write, unless_empty, first_mappings}
 use Rattle.pr_num.specs.declared.mappings.Mapping.{Mapping}
 use Rattle.pr_num.specs.declared.mappings.MappingKind.{MappingKind}
 use Rattle.pr_num.specs.declared.mappings.MappingKind.TheVariants.{Text, Data, Stack}
-use Rattle.pr_parts.specs.AddressSpaces.{LeavesHeapPlace, address_of, break_limit, heap_base, is_break_heap, is_range, with_bytes, with_mapping, with_prot, with_protected, with_written, without_range, zeros_at}
+use Rattle.pr_parts.specs.AddressSpaces.{LeavesHeapPlace, address_of, is_break_heap, is_range, with_bytes, with_mapping, with_prot, with_protected, with_written, without_range, zeros_at}
 use Rattle.pr_parts.proofs.AccessLemmas.{length-written_bytes}
 use Rattle.pr_parts.proofs.ByAddressLemmas.{All-placed}
 use Rattle.pr_mem.specs.Answers.{is_outside_heap_place}
@@ -51,16 +53,16 @@ low_leaves : (m : Mapping) → m.at + length m.bytes ≤ heap_base → LeavesHea
 low_leaves m low =
     or_right (is_break_heap m) _ (or_left (leb (m.at + length m.bytes) heap_base) (leb break_limit m.at) (le-leb _ _ low))
 
-pages_leave : (at prot : ℕ) (kind : MappingKind) (bytes : List ℕ) → length bytes ≤ 0x10000 → at + 0x10000 ≤ heap_base → All LeavesHeapPlace (unless_empty at prot kind bytes)
+pages_leave : (at prot : ℕ) (kind : MappingKind) (bytes : List ℕ) → length bytes ≤ data_limit → at + data_limit ≤ heap_base → All LeavesHeapPlace (unless_empty at prot kind bytes)
 pages_leave at prot kind [] few low = All-nil LeavesHeapPlace
 pages_leave at prot kind (b ∷ bytes) few low =
     let m : Mapping = record { at = at; prot = prot; kind = kind; bytes = whole_pages (b ∷ bytes) } in
     let size = length-pages (b ∷ bytes) in
     All-cons LeavesHeapPlace m [] (low_leaves m (omega arith)) (All-nil LeavesHeapPlace)
 
-pub LeavesHeapPlace-first : (text bytes : List ℕ) → length text ≤ 0x10000 → length bytes ≤ 0x10000 → All LeavesHeapPlace (first_mappings text bytes)
+pub LeavesHeapPlace-first : (text bytes : List ℕ) → length text ≤ text_limit → length bytes ≤ data_limit → All LeavesHeapPlace (first_mappings text bytes)
 unfolding first_mappings
 LeavesHeapPlace-first text bytes few_text few_bytes =
-    let low = All-append LeavesHeapPlace (unless_empty 0x10000 read_execute Text text) (unless_empty 0x80000 read_write Data bytes) (pages_leave 0x10000 read_execute Text text few_text (omega arith)) (pages_leave 0x80000 read_write Data bytes few_bytes (omega arith)) in
-    let stack = All-cons LeavesHeapPlace (zeros_at 0x700000 4096 read_write Stack) [] (zeros_leave 0x700000 4096 read_write Stack refl) (All-nil LeavesHeapPlace) in
-    All-append LeavesHeapPlace (unless_empty 0x10000 read_execute Text text ++ unless_empty 0x80000 read_write Data bytes) _ low stack
+    let low = All-append LeavesHeapPlace (unless_empty text_base read_execute Text text) (unless_empty data_base read_write Data bytes) (pages_leave text_base read_execute Text text few_text (omega arith)) (pages_leave data_base read_write Data bytes few_bytes (omega arith)) in
+    let stack = All-cons LeavesHeapPlace (zeros_at stack_base page_size read_write Stack) [] (zeros_leave stack_base page_size read_write Stack refl) (All-nil LeavesHeapPlace) in
+    All-append LeavesHeapPlace (unless_empty text_base read_execute Text text ++ unless_empty data_base read_write Data bytes) _ low stack

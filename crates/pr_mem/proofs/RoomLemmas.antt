@@ -3,11 +3,12 @@ use Rattle.std.proofs.Common.{◌≡◌, ℕ, ◌+◌, ◌≤◌, true, Option, 
 use Rattle.std.specs.List.{All, find, position, remove, slice_get}
 use Rattle.std.proofs.lemmas.List.{length-replicate}
 use Rattle.std.proofs.lemmas.Option.{slice_get-get_or, slice_get_read}
+use Rattle.pr_num.specs.Layout.{heap_base, break_limit}
 use Rattle.pr_num.proofs.TableLemmas.{find-none, find-position, position-within}
 use Rattle.pr_num.specs.Spaces.{Space, mapped_size, mapping_limit, read_write}
 use Rattle.pr_num.specs.declared.mappings.Mapping.{Mapping}
 use Rattle.pr_num.specs.declared.mappings.MappingKind.TheVariants.{Heap}
-use Rattle.pr_parts.specs.AddressSpaces.{heap_base, is_break_heap, is_free, LeavesHeapPlace, break_limit, with_heap, with_mapping, zeros_at}
+use Rattle.pr_parts.specs.AddressSpaces.{is_break_heap, is_free, LeavesHeapPlace, with_heap, with_mapping, zeros_at}
 use Rattle.pr_parts.proofs.HeapLemmas.{mapped_size-none, mapped_size-some, is_free-heap, with_heap-gone, with_heap-made}
 use Rattle.pr_mem.specs.Answers.{bytes_of, heap_bytes}
 

@@ -1,11 +1,12 @@
 -- What the calls on an address space answer.
 use Rattle.std.specs.Prelude.{◌≡◌, ◌==◌, ◌||◌, ◌+◌, ◌-◌, ◌<◌, ◌≤◌, ◌^◌, ◌++◌, ℕ, Bool, not, List, length, drop, Option, Some, None, Result, Ok, Err, find, nat_le, if◌then◌else◌}
+use Rattle.pr_num.specs.Layout.{break_limit, heap_base}
 use Rattle.pr_num.specs.Programs.{rounded}
 use Rattle.pr_num.specs.Spaces.{Space, bytes_for, mapped_size, mapping_limit}
 use Rattle.pr_num.specs.declared.mappings.BadByte.{BadByte}
 use Rattle.pr_num.specs.declared.mappings.BadByte.TheVariants as bad
 use Rattle.pr_num.specs.declared.mappings.Mapping.{Mapping}
-use Rattle.pr_parts.specs.AddressSpaces.{break_limit, has_range, has_room, heap_base, is_break_heap, is_free, with_heap}
+use Rattle.pr_parts.specs.AddressSpaces.{has_range, has_room, is_break_heap, is_free, with_heap}
 use Rattle.pr_mem.specs.declared.faults.MemFault.{MemFault}
 use Rattle.pr_mem.specs.declared.faults.MemFault.TheVariants.{Hole, NotAllowed, Overlap, TooBig}
 use Rattle.pr_num.specs.Padding.{is_zero}

@@ -1,8 +1,9 @@
 -- What shows that the definitions of writing and of gaps say what they mean.
 use Rattle.std.specs.Prelude.{◌≡◌, ◌+◌, ◌%◌, ◌^◌, ◌<◌, ◌≤◌, ℕ, true, false, List, length, Result, Ok, Err}
+use Rattle.pr_num.specs.Layout.{gap_base, stack_base, page_size}
 use Rattle.pr_num.specs.Spaces.{Space, byte_for, bytes_for}
 use Rattle.pr_num.specs.declared.mappings.BadByte.{BadByte}
-use Rattle.pr_parts.specs.AddressSpaces.{gap_base, gap_limit, is_free, with_bytes, written_byte}
+use Rattle.pr_parts.specs.AddressSpaces.{is_free, with_bytes, written_byte}
 use Rattle.pr_mem.specs.Answers.{checked}
 
 -- what an access to a byte gets after bytes were written from an address on, and what it got before
@@ -23,9 +24,9 @@ IsReadBack space =
 
 -- an address is a multiple of 4,096 in the region of mmap(2), from which a range of this size ends in it
 pub record IsGapPlace (size at : ℕ) : Type 0 where
-  pub aligned : at % 4096 ≡ 0
+  pub aligned : at % page_size ≡ 0
   pub low : gap_base ≤ at
-  pub high : at + size < gap_limit
+  pub high : at + size < stack_base
 
 -- an address is the least such from which on such a range is free
 pub record IsLeastGap (size : ℕ) (space : Space) (at : ℕ) : Type 0 where

@@ -1,31 +1,27 @@
 ghost use Rattle.std.specs.Prelude.{◌≡◌, ◌≤◌, None};
+ghost use Rattle.pr_num.specs.Layout.{gap_base, stack_base};
 ghost use Rattle.pr_num.specs.Spaces.{IsSpace};
-ghost use Rattle.pr_parts.specs.AddressSpaces.{gap_base, gap_limit, gap_in};
+ghost use Rattle.pr_parts.specs.AddressSpaces.{gap_in};
 ghost use Rattle.pr_mem.specs.Gaps.{moved_behind, moved_past};
 
 use crate::ranges;
 use pr_num::Mapping;
+use pr_num::layout::{GAP_BASE, STACK_BASE, rounded};
 
 // The least gap: an address is moved behind each mapping in its way.
 
-/// Where the first mapping may begin.
-const BASE: u64 = 0x20_0000;
-
-/// Where the last one has to end before.
-const LIMIT: u64 = 0x70_0000;
-
-/// An address, or the multiple of 4,096 behind a mapping that a range of this size from there meets.
+/// An address, or that of the first page behind a mapping that a range of this size from there meets.
 #[tactic(auto, unfolding(crate::specs::Gaps::moved_behind))]
 fn move_behind(mapping: &Mapping, at: u64, size: u64) -> u64
-    requires { at ≤ gap_limit }
+    requires { at ≤ stack_base }
     ensures value { result ≡ moved_behind size at mapping.now }
-    ensures limit { result ≤ gap_limit }
+    ensures limit { result ≤ stack_base }
 {
     if ranges::meets(mapping, at, size) {
         let end = mapping
             .at
             .saturating_add(mapping.bytes.as_slice().len() as u64);
-        (end.min(LIMIT) + 4095) / 4096 * 4096
+        rounded(end.min(STACK_BASE))
     } else {
         at
     }
@@ -33,9 +29,9 @@ fn move_behind(mapping: &Mapping, at: u64, size: u64) -> u64
 
 /// An address, moved behind each mapping that is in its way.
 fn move_past(mappings: &[Mapping], at: u64, size: u64) -> u64
-    requires { at ≤ gap_limit }
+    requires { at ≤ stack_base }
     ensures value { result ≡ moved_past size at mappings.now }
-    ensures limit { result ≤ gap_limit }
+    ensures limit { result ≤ stack_base }
 {
     let mut at = at;
     for mapping in mappings {
@@ -44,15 +40,19 @@ fn move_past(mappings: &[Mapping], at: u64, size: u64) -> u64
     at
 }
 
-/// The least multiple of 4,096 from 0x200000 on at which a mapping of this size meets none and ends below 0x700000.
+/// The least address of a page from `GAP_BASE` on at which a mapping of this size meets none and ends before the stack.
 #[tactic(auto, using(crate::proofs::GapLemmas::gaps))]
 pub fn gap(mappings: &[Mapping], size: u64) -> Option<u64>
     requires { IsSpace mappings.now }
     ensures { result ≡ gap_in size mappings.now }
 {
-    if size >= LIMIT {
+    if size >= STACK_BASE {
         return None;
     }
-    let at = move_past(mappings, BASE, size);
-    if at + size < LIMIT { Some(at) } else { None }
+    let at = move_past(mappings, GAP_BASE, size);
+    if at + size < STACK_BASE {
+        Some(at)
+    } else {
+        None
+    }
 }

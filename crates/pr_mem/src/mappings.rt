@@ -1,20 +1,22 @@
 ghost use Rattle.std.specs.Prelude.{◌≡◌, ◌≤◌, ◌<◌, ◌^◌, ◌++◌, ◌∷◌, length, [], insert, slice_get, slice_set, Some, IfOk, OnOk, OnErr};
+ghost use Rattle.pr_num.specs.Limits.{data_limit, text_limit};
 ghost use Rattle.pr_num.specs.Programs.{whole_pages};
 ghost use Rattle.pr_num.specs.Spaces.{unless_empty, first_mappings};
 ghost use Rattle.pr_num.specs.declared.mappings.Mapping.{Mapping};
 ghost use Rattle.pr_parts.specs.AddressSpaces.{resized, with_prot, zeros_at};
 
-use pr_num::{Bytes, Mapping, MappingKind, NoMemory, Prot};
+use pr_num::layout::{DATA_BASE, PAGE_SIZE, STACK_BASE, TEXT_BASE, rounded};
+use pr_num::{Bytes, Mapping, MappingKind, NoMemory, PROT_EXEC, PROT_READ, PROT_WRITE, Prot};
 use std::alloc::Global;
 use std::mem;
 
 // Single mappings: made, copied, protected and resized.
 
 /// The word of the protections to read and to write.
-pub const READ_WRITE: u8 = 6;
+pub const READ_WRITE: u8 = PROT_READ + PROT_WRITE;
 
 /// The word of those to read and to run.
-const READ_EXECUTE: u8 = 5;
+const READ_EXECUTE: u8 = PROT_READ + PROT_EXEC;
 
 /// The protections of a word.
 pub fn prot_of(word: u8) -> Prot
@@ -43,13 +45,13 @@ pub fn zeros_at(
     })
 }
 
-/// Bytes with zeros up to a multiple of 4,096 behind them.
+/// Bytes with zeros up to whole pages behind them.
 fn whole_pages(alloc: Global, bytes: &[u8]) -> Result<Bytes, NoMemory>
-    requires { length bytes.now ≤ 0x10000 }
+    requires { length bytes.now ≤ data_limit }
     ensures { IfOk result (λ pages. pages ≡ whole_pages bytes.now) }
 {
     let mut pages = Vec::from_slice(alloc, bytes)?;
-    pages.resize((bytes.len() + 4095) / 4096 * 4096, 0)?;
+    pages.resize(rounded(bytes.len() as u64) as usize, 0)?;
     Ok(Bytes::from_vec(pages))
 }
 
@@ -70,7 +72,7 @@ fn push_pages(
     kind: MappingKind,
     bytes: &[u8],
 ) -> Result<(), NoMemory>
-    requires { length bytes.now ≤ 0x10000 }
+    requires { length bytes.now ≤ data_limit }
     ensures { OnOk result (mappings.new.items ≡ mappings.old.items ++ unless_empty at prot kind bytes.now) }
 {
     if bytes.is_empty() {
@@ -88,23 +90,29 @@ fn push_pages(
 
 /// The mappings with which a program of this text and these data begins.
 pub fn first_mappings(alloc: Global, text: &[u8], bytes: &[u8]) -> Result<Vec<Mapping>, NoMemory>
-    requires text { length text.now ≤ 0x10000 }
-    requires data { length bytes.now ≤ 0x10000 }
+    requires text { length text.now ≤ text_limit }
+    requires data { length bytes.now ≤ data_limit }
     ensures { IfOk result (λ first. first.items ≡ first_mappings text.now bytes.now) }
 {
     let run = prot_of(READ_EXECUTE);
     let change = prot_of(READ_WRITE);
     let mut first = Vec::new(alloc);
-    push_pages(&mut first, alloc, 0x1_0000, run, MappingKind::Text, text)?;
+    push_pages(&mut first, alloc, TEXT_BASE, run, MappingKind::Text, text)?;
     push_pages(
         &mut first,
         alloc,
-        0x8_0000,
+        DATA_BASE,
         change,
         MappingKind::Data,
         bytes,
     )?;
-    let stack = zeros_at(alloc, 0x70_0000, 4096, change, MappingKind::Stack)?;
+    let stack = zeros_at(
+        alloc,
+        STACK_BASE,
+        PAGE_SIZE as usize,
+        change,
+        MappingKind::Stack,
+    )?;
     push(&mut first, stack)?;
     Ok(first)
 }

@@ -1,21 +1,20 @@
 ghost use Rattle.std.specs.Prelude.{◌≡◌, ◌≤◌, ◌<◌, ◌+◌, ◌-◌, ◌^◌, length, position, find, IfSome};
 ghost use Rattle.std.specs.List.{list_any, position_or_len};
 ghost use Rattle.std.specs.Option.{option_copied};
+ghost use Rattle.pr_num.specs.Layout.{break_limit, heap_base};
 ghost use Rattle.pr_num.specs.Control.{has_flags};
 ghost use Rattle.pr_num.specs.Programs.{rounded};
 ghost use Rattle.pr_num.specs.Spaces.{IsSpace, covers, mapped_size};
 ghost use Rattle.pr_parts.specs.ByAddress.{is_behind};
-ghost use Rattle.pr_parts.specs.AddressSpaces.{address_of, break_limit, heap_base, meets, is_break_heap, is_free, is_range};
+ghost use Rattle.pr_parts.specs.AddressSpaces.{address_of, meets, is_break_heap, is_free, is_range};
 ghost use Rattle.pr_mem.specs.Answers.{heap_bytes};
 ghost use Rattle.pr_mem.specs.Places.{IsPlace, ends_before};
 
+use pr_num::layout::{HEAP_BASE, rounded};
 use pr_num::{Mapping, MappingKind};
 
 // Which mapping has a byte, and which stands in a range. Mappings stand by rising address, so that each byte has its
 // place among them, and this is searched for by halves.
-
-/// Where the heap begins.
-pub const HEAP: u64 = 0x10_0000;
 
 fn ends_before(mapping: &Mapping, address: u64) -> bool
     ensures { result ≡ ends_before address mapping.now }
@@ -90,7 +89,7 @@ fn is_range(mapping: &Mapping, at: u64, size: u64) -> bool
 fn is_break_heap(mapping: &Mapping) -> bool
     ensures { result ≡ is_break_heap mapping.now }
 {
-    mapping.at == HEAP && matches!(mapping.kind, MappingKind::Heap)
+    mapping.at == HEAP_BASE && matches!(mapping.kind, MappingKind::Heap)
 }
 
 /// The place of the mapping that is just this range.
@@ -154,5 +153,5 @@ pub fn heap_size(end: u64) -> u64
     ensures value { result ≡ rounded (end - heap_base) }
     ensures within { heap_base + result ≤ break_limit }
 {
-    (end - HEAP + 4095) / 4096 * 4096
+    rounded(end - HEAP_BASE)
 }

@@ -1,10 +1,14 @@
 ghost use Rattle.std.specs.Prelude.{◌≡◌, ◌≤◌, ◌<◌, ◌+◌, ◌^◌, [], All, length, position, remove, true, Some, None, Ok, Err, OnOk, OnErr, IfOk, IfSome, IsSome, IsOkUnless, IsTrue, is_ok};
+ghost use Rattle.pr_num.specs.Limits.{data_limit, path_limit, text_limit};
+ghost use Rattle.pr_num.specs.Layout.{break_limit, heap_base};
 ghost use Rattle.pr_num.specs.Programs.{rounded};
 ghost use Rattle.pr_num.specs.Spaces.{mapped_size, mapping_limit, bytes_for, first_mappings, kind_of_number};
-ghost use Rattle.pr_parts.specs.AddressSpaces.{LeavesHeapPlace, break_limit, gap_in, heap_base, is_break_heap, is_free, text_at, with_break, with_bytes, with_heap, with_mapping, with_protected, without_range, zeros_at};
+ghost use Rattle.pr_parts.specs.AddressSpaces.{LeavesHeapPlace, gap_in, is_break_heap, is_free, text_at, with_break, with_bytes, with_heap, with_mapping, with_protected, without_range, zeros_at};
 ghost use Rattle.pr_mem.specs.Answers.{access_answer, break_refusal, done_unless, has_heap_room, is_outside_heap_place, map_refusal, range_refusal, text_answer, with_text};
 
 use crate::{Map, MemFault, accesses, gaps, mappings, ranges, texts, writes};
+use pr_num::layout::{self, HEAP_BASE, PAGE_SIZE, rounded};
+use pr_num::limits::{MAPPING_LIMIT, PATH_LIMIT};
 use pr_num::{Mapping, MappingKind, NoMemory, Prot};
 use std::alloc::Global;
 use std::marker::Model;
@@ -33,13 +37,13 @@ impl Space {
     ghost use Rattle.pr_num.specs.Spaces.{IsSpace};
 
     /// The most bytes that can be mapped.
-    pub const LIMIT: u64 = 0x10_0000;
+    pub const LIMIT: u64 = MAPPING_LIMIT;
 
     /// Where the heap begins.
-    pub const HEAP: u64 = ranges::HEAP;
+    pub const HEAP: u64 = HEAP_BASE;
 
     /// The address that the break cannot pass.
-    pub const BREAK_LIMIT: u64 = 0x18_0000;
+    pub const BREAK_LIMIT: u64 = layout::BREAK_LIMIT;
 
     /// A space in which nothing is mapped. Takes no memory.
     pub fn new(alloc: Global) -> Space
@@ -54,13 +58,13 @@ impl Space {
     /// The space in which a program begins: its text and its data, each where it is not empty, and a stack of 4,096
     /// bytes.
     pub fn first(alloc: Global, text: &[u8], bytes: &[u8]) -> Result<Space, NoMemory>
-        requires text { length text.now ≤ 0x10000 }
-        requires data { length bytes.now ≤ 0x10000 }
+        requires text { length text.now ≤ text_limit }
+        requires data { length bytes.now ≤ data_limit }
         ensures value { IfOk result (λ space. space ≡ first_mappings text.now bytes.now) }
         ensures heap_place { IfOk result (λ space. All LeavesHeapPlace space) }
     {
         let mappings = mappings::first_mappings(alloc, text, bytes)?;
-        let mapped = rounded(text.len()) + rounded(bytes.len()) + 4096;
+        let mapped = rounded(text.len() as u64) + rounded(bytes.len() as u64) + PAGE_SIZE;
         Ok(Space { mappings, mapped })
     }
 
@@ -121,9 +125,9 @@ impl Space {
         &self,
         at: u64,
         max: usize,
-        out: &mut [u8; 32],
+        out: &mut [u8; PATH_LIMIT],
     ) -> Result<Option<usize>, MemFault>
-        requires { max ≤ 32 }
+        requires { max ≤ path_limit }
         ensures answer { result ≡ text_answer (text_at self.now at max) }
         ensures text { out.new ≡ with_text (text_at self.now at max) out.old }
     {
@@ -247,7 +251,7 @@ impl Space {
         Ok(())
     }
 
-    /// The least multiple of 4,096 from 0x200000 on at which a mapping of this size meets none and ends below 0x700000.
+    /// The least address of a page from `GAP_BASE` on at which a mapping of this size meets none and ends before the stack.
     pub fn gap(&self, size: u64) -> Option<u64>
         ensures { result ≡ gap_in size self.now }
     {
@@ -331,7 +335,7 @@ impl Space {
             return Ok(());
         }
         let prot = mappings::prot_of(mappings::READ_WRITE);
-        let heap = mappings::zeros_at(alloc, ranges::HEAP, size as usize, prot, MappingKind::Heap)?;
+        let heap = mappings::zeros_at(alloc, HEAP_BASE, size as usize, prot, MappingKind::Heap)?;
         self.add(heap)
     }
 
@@ -362,13 +366,4 @@ impl Space {
         let gone = self.mappings.remove(place);
         self.mapped -= gone.bytes.as_slice().len() as u64;
     }
-}
-
-/// A number of bytes, rounded up to a multiple of 4,096.
-fn rounded(len: usize) -> u64
-    requires { len ≤ 0x10000 }
-    ensures value { result ≡ rounded len }
-    ensures bound { result ≤ 0x10000 }
-{
-    (len as u64 + 4095) / 4096 * 4096
 }

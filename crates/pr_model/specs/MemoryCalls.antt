@@ -1,5 +1,6 @@
 use Rattle.std.specs.Prelude.{◌==◌, ◌||◌, ◌&&◌, ℕ, Bool, true, false, List, [], ◌∷◌, Option, Some, None, Result, Ok, Err, is_ok, nat_lt, nat_le, if◌then◌else◌}
 use Rattle.std.specs.List.{list_any}
+use Rattle.pr_num.specs.Layout.{heap_base, break_limit}
 use Rattle.pr_num.specs.Control.{prot_read, prot_write}
 use Rattle.pr_num.specs.Limits.{path_limit}
 use Rattle.pr_num.specs.Programs.{rounded}
@@ -10,7 +11,7 @@ use Rattle.pr_num.specs.declared.mappings.BadByte.{BadByte}
 use Rattle.pr_num.specs.declared.mappings.Mapping.{Mapping}
 use Rattle.pr_num.specs.declared.mappings.MappingKind.{MappingKind}
 use Rattle.pr_num.specs.declared.mappings.MappingKind.TheVariants.{Mapped}
-use Rattle.pr_parts.specs.AddressSpaces.{with_break, heap_base, break_limit, gap_in, zeros_at, with_mapping, is_range, has_range, without_range, with_protected, text_at}
+use Rattle.pr_parts.specs.AddressSpaces.{with_break, gap_in, zeros_at, with_mapping, is_range, has_range, without_range, with_protected, text_at}
 use Rattle.pr_model.specs.Changes.{Effect, gives, fails, space_is}
 use Rattle.pr_model.specs.Readers.{size_of, total_has_room}
 use Rattle.pr_model.specs.State.{ProcessOf, SystemOf}

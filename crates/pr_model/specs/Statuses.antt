@@ -1,4 +1,5 @@
 use Rattle.std.specs.Prelude.{◌==◌, ◌+◌, ℕ, Bool, true, false, List, Option, Some, None, is_some, length, replicate, if◌then◌else◌}
+use Rattle.pr_num.specs.Layout.{heap_base}
 use Rattle.pr_num.specs.Agents.{agent_id}
 use Rattle.pr_num.specs.Faults.{fault_number}
 use Rattle.pr_num.specs.Signals.{signal_number}
@@ -10,7 +11,6 @@ use Rattle.pr_num.specs.declared.signals.Sig.{Sig}
 use Rattle.pr_num.specs.declared.stop_reasons.StopReason.{StopReason}
 use Rattle.pr_num.specs.declared.stop_reasons.StopReason.TheVariants as reason
 use Rattle.pr_num.specs.declared.syscalls.Sysno.{Sysno}
-use Rattle.pr_parts.specs.AddressSpaces.{heap_base}
 use Rattle.pr_num.specs.Infos.{no_info}
 use Rattle.pr_num.specs.declared.infos.Info.{Info}
 use Rattle.pr_rec.specs.Fields.{disposition_of as class_of, flag_if, lwp_flags_of, process_flags_of}

@@ -1,5 +1,6 @@
 use Rattle.std.specs.Prelude.{◌==◌, ◌-◌, ℕ, Bool, false, List, [], ◌∷◌, Option, Some, None, replicate, slice_get, slice_set, nat_lt, if◌then◌else◌}
 use Rattle.std.specs.List.{list_any}
+use Rattle.pr_num.specs.Limits.{descriptor_limit}
 use Rattle.pr_num.specs.declared.files.StoredFile.{StoredFile}
 use Rattle.pr_num.specs.declared.files.OpenFile.{OpenFile}
 use Rattle.pr_num.specs.declared.files.Access.{Access}
@@ -39,7 +40,7 @@ Descriptors = List (Option ℕ)
 
 -- no descriptor is open
 abbrev pub no_descriptors : Descriptors
-no_descriptors = replicate 64 None
+no_descriptors = replicate descriptor_limit None
 
 -- the pipe that an open file is an end of
 abbrev pub pipe_of : Target → Option ℕ

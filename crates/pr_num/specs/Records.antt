@@ -1,4 +1,4 @@
-use Rattle.std.specs.Prelude.{◌≡◌, ◌-◌, length, replicate, ◌==◌, ◌||◌, ◌&&◌, ◌+◌, ◌^◌, ℕ, Bool, List, [], ◌∷◌, ◌++◌, Option, Some, None, nat_lt, nat_le, if◌then◌else◌}
+use Rattle.std.specs.Prelude.{◌≡◌, ◌-◌, length, replicate, ◌==◌, ◌||◌, ◌&&◌, ◌+◌, ◌*◌, ◌^◌, ℕ, Bool, List, [], ◌∷◌, ◌++◌, Option, Some, None, nat_lt, nat_le, if◌then◌else◌}
 use Rattle.std.specs.List.{flat_map, list_any}
 use Rattle.pr_num.specs.Errnos.{errnos, errno_number}
 use Rattle.pr_num.specs.Limits.{descriptor_limit, fault_count, signal_count, syscall_count}
@@ -73,7 +73,14 @@ an_origin = below 6
 abbrev pub a_mapping_kind : Range
 a_mapping_kind w = nat_le 1 w && nat_le w 5
 
--- The 33 words of an lwp's status: flags, lwp id, why and what it stands stopped for, current signal, current fault
+-- the words of an lwp's status, and its bytes
+abbrev pub lwpstatus_word_count : ℕ
+lwpstatus_word_count = 33
+
+abbrev pub lwpstatus_size : ℕ
+lwpstatus_size = 8 * lwpstatus_word_count
+
+-- The words of an lwp's status: flags, lwp id, why and what it stands stopped for, current signal, current fault
 -- and its address, system call, its 6 arguments, result and errno, held set, pending set, the registers r0 to r7,
 -- sp, fp and pc, the disposition of the current signal, and the code, process id and value of its information.
 abbrev pub lwpstatus_ranges : List Range

@@ -9,6 +9,7 @@ ghost use Rattle.pr_open.specs.Keys.{held_at};
 use crate::OpenNo;
 use pr_model::{Held, Mode};
 use pr_num::NoMemory;
+use pr_num::limits::HANDLE_LIMIT;
 use slab::Slab;
 use std::alloc::Global;
 use std::marker::Model;
@@ -39,7 +40,7 @@ impl Opens {
     ghost use Rattle.pr_open.specs.Opening.{open_answer, least_free};
 
     /// How many handles can be open.
-    pub const PLACES: usize = 1_024;
+    pub const PLACES: usize = HANDLE_LIMIT;
 
     /// No open handle, and room for all that there can be: no other call takes memory.
     pub fn new(alloc: Global) -> Result<Opens, NoMemory>

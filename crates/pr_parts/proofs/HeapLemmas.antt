@@ -6,12 +6,13 @@ use Rattle.std.proofs.lemmas.Bool.{and_left, and_parts, and_right, cases_Bool, e
 use Rattle.std.proofs.lemmas.List.{length-append, length-replicate, length-take}
 use Rattle.std.proofs.lemmas.List.Elements.{All-cons, All-head, All-tail}
 use Rattle.std.proofs.lemmas.List.Kept.{AllPairs-cons}
+use Rattle.pr_num.specs.Layout.{break_limit, heap_base}
 use Rattle.pr_num.proofs.TableLemmas.{remove-without_first}
 use Rattle.pr_num.specs.KeyedTables.{change_first, without_first}
 use Rattle.pr_num.specs.Spaces.{Space, IsBefore, IsSpace, mapped_size, mapping_limit, read_write}
 use Rattle.pr_num.specs.declared.mappings.Mapping.{Mapping}
 use Rattle.pr_num.specs.declared.mappings.MappingKind.TheVariants.{Heap}
-use Rattle.pr_parts.specs.AddressSpaces.{LeavesHeapPlace, address_of, break_limit, heap_base, is_break_heap, is_free, meets, resized, with_heap, with_mapping, zeros_at}
+use Rattle.pr_parts.specs.AddressSpaces.{LeavesHeapPlace, address_of, is_break_heap, is_free, meets, resized, with_heap, with_mapping, zeros_at}
 use Rattle.pr_parts.proofs.ByAddressLemmas.{All-placed, AllPairs-head, AllPairs-tail, sum_by-change_first, sum_by-without_first}
 use Rattle.pr_parts.proofs.SpaceLemmas.{EndsWithin, HasBytes, mapped_size-with_mapping, size_of}
 use Rattle.pr_num.proofs.TableLaws.{All-change_first, All-without_first}

@@ -1,7 +1,8 @@
 -- What the calls on memory make of an address space: mmap(2), munmap(2), mprotect(2), brk(2), and reads and writes of
 -- its bytes. An address space is the list of its mappings.
-use Rattle.std.specs.Prelude.{◌==◌, ◌&&◌, ◌||◌, ◌+◌, ◌-◌, ◌%◌, ◌^◌, ℕ, zero, suc, Bool, IsTrue, not, List, [], ◌∷◌, ◌++◌, length, replicate, take, map, slice_index, find, Option, Some, None, Result, Ok, Err, nat_lt, nat_le, if◌then◌else◌}
+use Rattle.std.specs.Prelude.{◌==◌, ◌&&◌, ◌||◌, ◌+◌, ◌-◌, ◌/◌, ◌%◌, ◌^◌, ℕ, zero, suc, Bool, IsTrue, not, List, [], ◌∷◌, ◌++◌, length, replicate, take, map, slice_index, find, Option, Some, None, Result, Ok, Err, nat_lt, nat_le, if◌then◌else◌}
 use Rattle.std.specs.List.{list_any}
+use Rattle.pr_num.specs.Layout.{break_limit, gap_base, heap_base, page_size, stack_base}
 use Rattle.pr_num.specs.Control.{prot_read}
 use Rattle.pr_num.specs.KeyedTables.{change_first, without_first}
 use Rattle.pr_num.specs.Programs.{rounded}
@@ -40,28 +41,21 @@ with_mapping m space = with_placed address_of m space
 
 -- ---- where there is room for a mapping
 
--- where the first mapping that mmap(2) makes may begin, and where the last one has to end before
-abbrev pub gap_base : ℕ
-gap_base = 0x200000
-
-abbrev pub gap_limit : ℕ
-gap_limit = 0x700000
-
--- how many multiples of 4,096 stand between them
+-- how many pages there are for the mappings that mmap(2) makes
 abbrev pub gap_places : ℕ
-gap_places = 1280
+gap_places = (stack_base - gap_base) / page_size
 
 -- whether a mapping of this size can begin at an address
 abbrev pub is_gap : ℕ → Space → ℕ → Bool
-is_gap size space at = nat_lt (at + size) gap_limit && is_free at size space
+is_gap size space at = nat_lt (at + size) stack_base && is_free at size space
 
--- the first gap at one of so many addresses, 4,096 apart
+-- the first gap at one of so many addresses, a page apart
 unfoldable pub gap_from : ℕ → Space → ℕ → ℕ → Option ℕ
 gap_from size space at zero = None
 gap_from size space at (suc places) =
-    if is_gap size space at then Some at else gap_from size space (at + 4096) places
+    if is_gap size space at then Some at else gap_from size space (at + page_size) places
 
--- the least multiple of 4,096 from 0x200000 on at which a mapping of this size meets none and ends below 0x700000
+-- the least address of a page from `gap_base` on at which a mapping of this size meets none and ends before the stack
 unfoldable pub gap_in : ℕ → Space → Option ℕ
 gap_in size space = gap_from size space gap_base gap_places
 
@@ -89,13 +83,6 @@ with_protected at size prot space = change_first (is_range at size) (with_prot p
 
 -- ---- the heap (brk(2))
 
--- where the heap begins, and which address the break cannot pass
-abbrev pub heap_base : ℕ
-heap_base = 0x100000
-
-abbrev pub break_limit : ℕ
-break_limit = 0x180000
-
 -- whether a mapping is the heap that the break ends
 abbrev pub is_break_heap : Mapping → Bool
 is_break_heap m = (m.at == heap_base) && is_heap m.kind
@@ -118,7 +105,7 @@ with_heap size space = of (find is_break_heap space)
     of (Some heap) =
         if size == 0 then without_first is_break_heap space else change_first is_break_heap (resized size) space
 
--- a space with its break at an address: the heap reaches there, rounded up to a multiple of 4,096 bytes
+-- a space with its break at an address: the heap reaches there, rounded up to whole pages
 abbrev pub with_break : ℕ → Space → Space
 with_break end space = with_heap (rounded (end - heap_base)) space
 

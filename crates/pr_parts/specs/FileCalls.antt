@@ -1,5 +1,6 @@
 use Rattle.std.specs.Prelude.{is_some, is_ok, count_by, unwrap_or, slice_get, true, false, ◌+◌, ◌%◌, ◌==◌, ℕ, Bool, List, [], ◌∷◌, ◌++◌, length, Option, Some, None, Result, Ok, Err, nat_lt, nat_le, ◌||◌, ◌&&◌, if◌then◌else◌, slice_set}
 use Rattle.std.specs.Option.{option_map, option_and_then}
+use Rattle.pr_num.specs.Limits.{file_limit, file_size_limit, pipe_limit}
 use Rattle.pr_num.specs.Files.{FileTable, Descriptors, with_user_gone, pipe_of, access_number, fd_kind_number, fd_kind_of}
 use Rattle.pr_num.specs.declared.files.Access.{Access}
 use Rattle.pr_num.specs.declared.files.Access.TheVariants.{Read, Write, Both}
@@ -102,7 +103,7 @@ opened_file t fds fd file flags = record {
 
 -- a file without bytes is made and opened, unless 256 files stand
 unfoldable pub created_file : FileTable → Descriptors → ℕ → List ℕ → ℕ → FileEffect ℕ
-created_file t fds fd name flags = if nat_lt (length t.files) 256 then opened_file (with_file t name []) fds fd (length t.files) flags else refused t fds TableFull
+created_file t fds fd name flags = if nat_lt (length t.files) file_limit then opened_file (with_file t name []) fds fd (length t.files) flags else refused t fds TableFull
 
 unfoldable pub opened : FileTable → Descriptors → List ℕ → ℕ → FileEffect ℕ
 opened t fds name flags = found (file_named t name) (free_fd fds)
@@ -140,7 +141,7 @@ piped t fds = from (free_fd fds)
   where
     ends : ℕ → Option ℕ → FileEffect (ℕ × ℕ)
     ends reader None = refused t fds NoPlace
-    ends reader (Some writer) = if nat_lt (count_by is_some t.pipes) 256 then made_pipe t fds reader writer else refused t fds TableFull
+    ends reader (Some writer) = if nat_lt (count_by is_some t.pipes) pipe_limit then made_pipe t fds reader writer else refused t fds TableFull
 
     from : Option ℕ → FileEffect (ℕ × ℕ)
     from None = refused t fds NoPlace
@@ -192,7 +193,7 @@ sought t fds fd offset = of_open (open_of t fds fd)
     of_open (Some found) =
         if is_some (pipe_of found.1.target)
         then refused t fds NotSeekable
-        else (if nat_le offset 65536
+        else (if nat_le offset file_size_limit
         then record { files = with_open_at t found.0 (record found.1 { offset = offset }); fds = fds; answer = Ok offset }
         else refused t fds BadOffset)
 

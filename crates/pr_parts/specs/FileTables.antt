@@ -1,6 +1,7 @@
 use Rattle.std.specs.Prelude.{◌≡◌, ◌==◌, ◌≤◌, ◌+◌, ◌<◌, ◌^◌, ◌&&◌, ℕ, Bool, true, false, count_by, not, List, [], ◌∷◌, length, Option, Some, None, is_some, is_none, nat_lt, drop, position, slice_get, bytes_eq}
 use Rattle.std.specs.List.{All, list_any, position_or_len}
 use Rattle.std.specs.Option.{option_map, option_flatten}
+use Rattle.pr_num.specs.Limits.{file_limit, file_size_limit, pipe_limit, pipe_size_limit}
 use Rattle.pr_num.specs.Files.{FileTable, Descriptors, is_end_of}
 use Rattle.pr_num.specs.declared.files.OpenFile.{OpenFile}
 use Rattle.pr_num.specs.declared.files.StoredFile.{StoredFile}
@@ -65,7 +66,7 @@ stands files pipes (PipeWriter place) = is_some (at_place pipes place)
 -- reads and writes stands.
 pub record IsOpenFile (files : List StoredFile) (pipes : List (Option (List ℕ))) (o : OpenFile) : Type 0 where
   pub used : 1 ≤ o.users
-  pub within : o.offset ≤ 65536
+  pub within : o.offset ≤ file_size_limit
   pub target_stands : stands files pipes o.target ≡ true
 
 -- a place of the open files is free, or has an open file that is in order
@@ -76,11 +77,11 @@ IsOpenPlace files pipes (Some o) = IsOpenFile files pipes o
 -- a place of the pipes is free, or has a pipe of at most 4,096 bytes
 abbrev pub IsPipePlace : Option (List ℕ) → Type 0
 IsPipePlace None = Unit {0}
-IsPipePlace (Some bytes) = length bytes ≤ 4096
+IsPipePlace (Some bytes) = length bytes ≤ pipe_size_limit
 
 -- a file has at most 65,536 bytes
 abbrev pub IsShortFile : StoredFile → Type 0
-IsShortFile f = length f.bytes ≤ 65536
+IsShortFile f = length f.bytes ≤ file_size_limit
 
 -- whether no two files have one name
 abbrev pub names_differ : List StoredFile → Bool
@@ -90,8 +91,8 @@ names_differ (f ∷ fs) = not (list_any (has_name f.name) fs) && names_differ fs
 -- A table of files: at most 256 files with names of their own, at most 256 places for pipes, no file and no pipe longer
 -- than it can be, and open files that are in order.
 pub record IsFileTable (t : FileTable) : Type 0 where
-  pub few_files : length t.files ≤ 256
-  pub few_pipes : length t.pipes ≤ 256
+  pub few_files : length t.files ≤ file_limit
+  pub few_pipes : length t.pipes ≤ pipe_limit
   pub short_files : All IsShortFile t.files
   pub short_pipes : All IsPipePlace t.pipes
   pub own_names : names_differ t.files ≡ true

@@ -1,5 +1,6 @@
 use Rattle.std.specs.Prelude.{◌+◌, ◌-◌, ◌==◌, ℕ, Bool, false, List, [], ◌++◌, length, take, drop, replicate, Option, Some, None, Result, Ok, Err, nat_lt, if◌then◌else◌, slice_get, slice_set}
 use Rattle.std.specs.List.{list_any}
+use Rattle.pr_num.specs.Limits.{file_size_limit, pipe_size_limit}
 use Rattle.pr_num.specs.Files.{FileTable, Descriptors}
 use Rattle.pr_num.specs.declared.files.OpenFile.{OpenFile}
 use Rattle.pr_num.specs.declared.files.StoredFile.{StoredFile}
@@ -121,7 +122,7 @@ with_file_bytes t place bytes = at (slice_get t.files place)
 -- A file takes all bytes from the offset on, which moves behind them, unless it would be longer than 65,536 bytes.
 unfoldable pub write_file : FileTable → Descriptors → ℕ → OpenFile → ℕ → List ℕ → FileEffect ℕ
 write_file t fds place o file bytes =
-    if nat_lt 65536 (o.offset + length bytes)
+    if nat_lt file_size_limit (o.offset + length bytes)
     then refused t fds NoSpace
     else record {
       files = with_open_at (with_file_bytes t file (after_write (contents t o.target) o.offset bytes)) place (record o { offset = o.offset + length bytes });
@@ -134,7 +135,7 @@ write_file t fds place o file bytes =
 unfoldable pub write_pipe : FileTable → Descriptors → ℕ → List ℕ → FileEffect ℕ
 write_pipe t fds pipe bytes =
     if has_reader t pipe
-    then (if nat_lt 4096 (length (pipe_bytes t pipe) + length bytes)
+    then (if nat_lt pipe_size_limit (length (pipe_bytes t pipe) + length bytes)
     then refused t fds Sleep
     else record { files = with_pipe_bytes t pipe (pipe_bytes t pipe ++ bytes); fds = fds; answer = Ok (length bytes) })
     else refused t fds NoReader

@@ -1,4 +1,5 @@
 ghost use Rattle.std.specs.Prelude.{◌≡◌, ◌≤◌, not, Some, IsSome, IsTrue, filter, find, length, option_map, position};
+ghost use Rattle.pr_num.specs.Limits.{queue_limit};
 ghost use Rattle.pr_num.specs.KeyedTables.{without_first};
 ghost use Rattle.pr_num.specs.Sets.{has_number};
 ghost use Rattle.pr_num.specs.Signals.{signal_number};
@@ -11,7 +12,7 @@ use pr_parts::Queued;
 use std::marker::Model;
 
 /// A queue of real-time signals, kept in place.
-type Queue = ArrayVec<Queued, 32>;
+type Queue = ArrayVec<Queued, QUEUE_LIMIT>;
 
 /// Where pending signals stand: a standard signal at the place of its number, the others in a queue. Nothing here takes
 /// memory.
@@ -91,7 +92,7 @@ fn clear_places(standard: &mut [Option<Info>; STANDARD_SIGNAL_COUNT], signals: S
 
 /// A queue without the pairs of the signals of a set.
 fn remaining(queued: &[Queued], signals: SigSet) -> Queue
-    requires { length queued.now ≤ 32 }
+    requires { length queued.now ≤ queue_limit }
     ensures { result.items ≡ filter (λ q. not (has_number signals (signal_number q.signal))) queued.now }
 {
     let mut left: Queue = ArrayVec::new();

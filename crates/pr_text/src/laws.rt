@@ -1,6 +1,7 @@
 //! Laws of text and words. Each function does nothing: its clauses are what is proved.
 ghost use Rattle.std.specs.Prelude.{◌≡◌, ◌≤◌, ◌<◌, ◌^◌, Bool, false, ℕ, List, length, slice_index, take, drop, decimal, All, Any, AllPairs};
 ghost use Rattle.std.specs.Str.Parse.{digits_value};
+ghost use Rattle.pr_num.specs.Limits.{shown_limit};
 ghost use Rattle.pr_text.specs.declared.spans.Word.{Word};
 ghost use Rattle.pr_text.specs.Numerals.{hex_text, hex8_text};
 ghost use Rattle.pr_num.specs.Words.{IsByte};
@@ -37,5 +38,5 @@ pub fn quoted_text_tells_its_bytes()
     ensures short { (bytes : List ℕ) (more : Bool) → length (quoted_text bytes more) ≤ 260 }
     ensures tells { (xs ys : List ℕ) (m n : Bool) → All IsByte xs → All IsByte ys
         → quoted_text xs m ≡ quoted_text ys n
-        → (take 64 xs ≡ take 64 ys) × (has_dots xs m ≡ has_dots ys n) }
+        → (take shown_limit xs ≡ take shown_limit ys) × (has_dots xs m ≡ has_dots ys n) }
 {}

@@ -4,10 +4,10 @@ ghost use Rattle.pr_text.specs.Quotes.{quoted_byte, quoted_text};
 
 use crate::digits::hex_digit;
 use crate::lines::{Line, TooLong};
-use pr_num::limits::LINE_LIMIT;
+use pr_num::limits::{LINE_LIMIT, SHOWN_LIMIT};
 
 /// How many bytes a quoted text shows at most.
-pub const QUOTED_LIMIT: usize = 64;
+pub const QUOTED_LIMIT: usize = SHOWN_LIMIT;
 
 /// A byte as it stands between quotes, and how many bytes that takes.
 #[tactic(auto, unfolding(crate::specs::Quotes::quoted_byte))]

@@ -1,5 +1,6 @@
 ghost use Rattle.std.specs.Prelude.{◌≡◌, ◌==◌, ◌≢◌, ◌≤◌, ◌<◌, ◌+◌, ◌^◌, [], length, position, OnOk, OnErr, OnSome, IfSome, is_none, if◌then◌else◌, ◌-◌, take, insert, remove};
 ghost use Rattle.std.specs.List.{list_any, position_or_len};
+ghost use Rattle.pr_num.specs.Limits.{area_limit};
 ghost use Rattle.pr_num.specs.Messages.{bad_operand};
 ghost use Rattle.pr_num.specs.declared.messages.Message.TheVariants.{Watch};
 ghost use Rattle.pr_parts.specs.ByAddress.{is_behind};
@@ -8,6 +9,7 @@ ghost use Rattle.pr_watch.specs.Accesses.{access_flag, is_access_flag};
 ghost use Rattle.pr_watch.specs.Setting.{set_refusal, done_unless};
 
 use crate::{AccessKind, hits};
+use pr_num::limits::AREA_LIMIT;
 use pr_num::{Area, WatchFlags};
 use std::marker::Model;
 use thiserror::Error;
@@ -29,7 +31,7 @@ pub enum WatchFault {
 /// The watched areas of a process: at most 64, kept in place, and seen by contracts as their list by rising address.
 #[derive(Drop)]
 pub struct Areas {
-    slots: [Area; 64],
+    slots: [Area; AREA_LIMIT],
     len: usize,
 }
 
@@ -39,11 +41,12 @@ impl Model for Areas {
 
     ghost Value = { List Area };
 
+    ghost use Rattle.pr_num.specs.Limits.{area_limit};
     ghost use Rattle.pr_parts.specs.WatchedAreas.{AreAreas};
 
     ghost view = { λ areas. take areas.len areas.slots };
 
-    ghost invariant = { λ areas. (areas.len ≤ 64) × AreAreas (take areas.len areas.slots) };
+    ghost invariant = { λ areas. (areas.len ≤ area_limit) × AreAreas (take areas.len areas.slots) };
 }
 
 /// What stands in a place that no area has.
@@ -55,14 +58,14 @@ const UNUSED: Area = Area {
 
 impl Areas {
     /// How many areas there can be.
-    pub const MAX: usize = 64;
+    pub const MAX: usize = AREA_LIMIT;
 
     /// No areas.
     pub fn new() -> Areas
         ensures { result ≡ [] }
     {
         Areas {
-            slots: [UNUSED; 64],
+            slots: [UNUSED; AREA_LIMIT],
             len: 0,
         }
     }
@@ -70,7 +73,7 @@ impl Areas {
     /// How many areas there are, at most 64.
     pub fn len(&self) -> usize
         ensures value { result ≡ length self.now }
-        ensures limit { length self.now ≤ 64 }
+        ensures limit { length self.now ≤ area_limit }
     {
         self.as_slice().len()
     }
@@ -81,6 +84,7 @@ impl Areas {
         self.as_slice().is_empty()
     }
 
+    ghost use Rattle.pr_num.specs.Limits.{area_limit};
     ghost use Rattle.pr_parts.specs.WatchedAreas.{AreAreas};
 
     /// The areas by rising address, apart from each other.
@@ -199,8 +203,8 @@ fn place_of(areas: &[Area], at: u64) -> Option<usize>
 
 /// Puts an area in a place among the first `len`; those from there on move up.
 #[tactic(auto, using(crate::proofs::SlotLemmas::moves))]
-fn insert_at(slots: &mut [Area; 64], len: usize, place: usize, area: Area)
-    requires room { len < 64 }
+fn insert_at(slots: &mut [Area; AREA_LIMIT], len: usize, place: usize, area: Area)
+    requires room { len < area_limit }
     requires within { place ≤ len }
     ensures { take (len + 1) slots.new ≡ insert (take len slots.old) place area }
 {
@@ -211,8 +215,8 @@ fn insert_at(slots: &mut [Area; 64], len: usize, place: usize, area: Area)
 
 /// Takes out the area in a place among the first `len`; those after it move down.
 #[tactic(auto, using(crate::proofs::SlotLemmas::moves))]
-fn remove_at(slots: &mut [Area; 64], len: usize, place: usize)
-    requires all { len ≤ 64 }
+fn remove_at(slots: &mut [Area; AREA_LIMIT], len: usize, place: usize)
+    requires all { len ≤ area_limit }
     requires within { place < len }
     ensures { take (len - 1) slots.new ≡ remove (take len slots.old) place }
 {

@@ -1,4 +1,5 @@
 ghost use Rattle.std.specs.Prelude.{◌≡◌, ◌<◌, ◌≤◌, true, Ok, length, is_some};
+ghost use Rattle.pr_num.specs.Limits.{transfer_limit};
 ghost use Rattle.pr_parts.specs.FileTables.{IsOpenFile, at_place};
 ghost use Rattle.pr_parts.specs.FileCalls.{unless_no_memory};
 ghost use Rattle.pr_parts.specs.FileTransfers.{read_file, read_pipe, read_fd, count_of, filled, write_file, write_pipe, write_fd};
@@ -17,7 +18,7 @@ impl Files {
     /// an empty pipe that can still be written. Nothing is changed by a refusal. Takes no memory.
     #[tactic(auto, unfolding(pr_parts::specs::FileTransfers::read_fd))]
     pub fn read(&mut self, fds: &Fds, fd: u64, out: &mut [u8]) -> Result<usize, FileNo>
-        requires { length out.old ≤ 4096 }
+        requires { length out.old ≤ transfer_limit }
         ensures files { self.new ≡ (read_fd self.old fds.now fd (length out.old)).files }
         ensures answer { result ≡ count_of (read_fd self.old fds.now fd (length out.old)).bytes }
         ensures bytes { out.new ≡ filled out.old (read_fd self.old fds.now fd (length out.old)).bytes }
@@ -34,7 +35,7 @@ impl Files {
     /// Reads a file from its offset on, which moves on by what was read.
     #[tactic(auto, unfolding(pr_parts::specs::FileTransfers::read_file))]
     fn read_file(&mut self, place: usize, file: OpenFile, out: &mut [u8]) -> usize
-        requires short { length out.old ≤ 4096 }
+        requires short { length out.old ≤ transfer_limit }
         requires place { place < length self.old.opens }
         requires in_order { IsOpenFile self.old.files self.old.pipes file }
         ensures files { self.new ≡ (read_file self.old place file (length out.old)).files }
@@ -82,7 +83,7 @@ impl Files {
         fd: u64,
         bytes: &[u8],
     ) -> Result<usize, FileNo>
-        requires { length bytes.now ≤ 4096 }
+        requires { length bytes.now ≤ transfer_limit }
         ensures { (record { files = self.new; fds = fds.now; answer = result }) ≡ unless_no_memory self.old fds.now result (write_fd self.old fds.now fd bytes.now) }
     {
         let Some((place, file)) = self.open_for_writing(fds, fd) else {
@@ -107,7 +108,7 @@ impl Files {
         target: u32,
         bytes: &[u8],
     ) -> Result<usize, FileNo>
-        requires short { length bytes.now ≤ 4096 }
+        requires short { length bytes.now ≤ transfer_limit }
         requires place { place < length self.old.opens }
         requires target { file.target ≡ Target.File target }
         requires in_order { IsOpenFile self.old.files self.old.pipes file }
@@ -126,7 +127,7 @@ impl Files {
     /// Puts bytes after those of a pipe.
     #[tactic(auto, unfolding(pr_parts::specs::FileTransfers::write_pipe))]
     fn write_pipe(&mut self, fds: &Fds, pipe: u32, bytes: &[u8]) -> Result<usize, FileNo>
-        requires short { length bytes.now ≤ 4096 }
+        requires short { length bytes.now ≤ transfer_limit }
         requires stands { is_some (at_place self.old.pipes pipe) ≡ true }
         ensures { (record { files = self.new; fds = fds.now; answer = result }) ≡ unless_no_memory self.old fds.now result (write_pipe self.old fds.now pipe bytes.now) }
     {

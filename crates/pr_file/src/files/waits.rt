@@ -1,5 +1,6 @@
 //! Whether a read or a write would wait, before anything changes.
 ghost use Rattle.std.specs.Prelude.{◌≡◌, ◌≤◌, ℕ, List, length};
+ghost use Rattle.pr_num.specs.Limits.{transfer_limit};
 ghost use Rattle.pr_file.specs.Waits.{waits};
 ghost use Rattle.pr_num.specs.Files.{Descriptors};
 ghost use Rattle.pr_parts.specs.FileTransfers.{read_fd, read_pipe, write_fd, write_pipe};
@@ -40,7 +41,7 @@ impl Files {
     /// writing, and stands for a pipe that can still be read and has no room for all of them.
     #[tactic(auto, using(crate::proofs::WaitLemmas::writing_files))]
     pub fn write_waits(&self, fds: &Fds, fd: u64, len: usize) -> bool
-        requires { len ≤ 4096 }
+        requires { len ≤ transfer_limit }
         ensures { (bytes : List ℕ) → length bytes ≡ len → result ≡ waits (write_fd self.now fds.now fd bytes).answer }
     {
         let Some((_, file)) = self.open_for_writing(fds, fd) else {
@@ -55,7 +56,7 @@ impl Files {
     /// Whether a write of so many bytes to a pipe would.
     #[tactic(auto, using(crate::proofs::WaitLemmas::writing_pipes))]
     fn write_pipe_waits(&self, pipe: u32, len: usize) -> bool
-        requires { len ≤ 4096 }
+        requires { len ≤ transfer_limit }
         ensures { (fds : Descriptors) (bytes : List ℕ) → length bytes ≡ len → result ≡ waits (write_pipe self.now fds pipe bytes).answer }
     {
         if !self.tables.has_reader(pipe) {

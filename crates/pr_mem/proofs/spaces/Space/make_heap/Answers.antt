@@ -1,8 +1,9 @@
 use Rattle.std.proofs.Common.{ℕ, ◌∙◌, ap, sym}
 use Rattle.std.proofs.lemmas.Bool.{leb-true}
+use Rattle.pr_num.specs.Layout.{heap_base}
 use Rattle.pr_num.specs.declared.mappings.MappingKind.TheVariants.{Heap}
 use Rattle.pr_num.proofs.TableLemmas.{find-none}
-use Rattle.pr_parts.specs.AddressSpaces.{heap_base, is_break_heap, zeros_at}
+use Rattle.pr_parts.specs.AddressSpaces.{is_break_heap, zeros_at}
 use Rattle.pr_parts.proofs.HeapLemmas.{with_heap-none}
 use Rattle.pr_mem.proofs.RoomLemmas.{heap_made, heap_free, heap_room}
 use Rattle.pr_mem.proofs.spaces.Space.make_heap.Goals as goal
