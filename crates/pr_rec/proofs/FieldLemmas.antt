@@ -1,8 +1,9 @@
 -- A field of a record and its word are found by each other.
-use Rattle.std.proofs.Common.{◌≡◌, ◌↔◌, ◌^◌, ◌<◌, ◌≤◌, ℕ, zero, suc, Bool, true, false, cond, eqb, leb, ◌||◌, inl, inr, List, [], ◌∷◌, Option, None, Some, IsSome, is_some, IsTrue, refl, sym, ap, ◌∙◌, arith}
+use Rattle.std.proofs.Common.{◌+◌, ◌≡◌, ◌↔◌, ◌^◌, ◌<◌, ◌≤◌, ℕ, zero, suc, Bool, true, false, cond, eqb, leb, ◌||◌, inl, inr, List, [], ◌∷◌, Option, None, Some, IsSome, is_some, IsTrue, refl, sym, ap, ◌∙◌, arith}
 use Rattle.std.specs.List.{find, list_any, slice_get}
 use Rattle.std.proofs.lemmas.Option.{same_Some}
 use Rattle.std.proofs.lemmas.Bool.{eqb-true, false≢true, or_cases, and_parts, leb-true}
+use Rattle.pr_num.specs.Limits.{signal_count, syscall_count, fault_count}
 use Rattle.pr_num.specs.Tables.{entry_at}
 use Rattle.pr_num.specs.Records.{an_errno, a_mapping_kind}
 use Rattle.pr_num.specs.Spaces.{kind_number}
@@ -36,14 +37,14 @@ none_where_zero : {T : Type 0} (o : Option T) (w most : ℕ) → (IsSome o ↔ (
 none_where_zero o zero most range small e = refl
 none_where_zero o (suc w) most range small e = absurd (false≢true (sym (ap is_some e) ∙ range.1 (omega arith, omega arith)))
 
-pub signal_back : (w : ℕ) → w < 40 → number_or_zero signal_number (signal_of_number w) ≡ w
-signal_back w small = number-back signal_number (signal_of_number w) w (signal_number-of_number w) (none_where_zero _ w 39 (signal_numbers-range w) small)
+pub signal_back : (w : ℕ) → w < signal_count + 1 → number_or_zero signal_number (signal_of_number w) ≡ w
+signal_back w small = number-back signal_number (signal_of_number w) w (signal_number-of_number w) (none_where_zero _ w signal_count (signal_numbers-range w) small)
 
-pub fault_back : (w : ℕ) → w < 9 → number_or_zero fault_number (fault_of_number w) ≡ w
-fault_back w small = number-back fault_number (fault_of_number w) w (fault_number-of_number w) (none_where_zero _ w 8 (fault_numbers-range w) small)
+pub fault_back : (w : ℕ) → w < fault_count + 1 → number_or_zero fault_number (fault_of_number w) ≡ w
+fault_back w small = number-back fault_number (fault_of_number w) w (fault_number-of_number w) (none_where_zero _ w fault_count (fault_numbers-range w) small)
 
-pub call_back : (w : ℕ) → w < 31 → number_or_zero syscall_number (syscall_of_number w) ≡ w
-call_back w small = number-back syscall_number (syscall_of_number w) w (syscall_number-of_number w) (none_where_zero _ w 30 (syscall_numbers-range w) small)
+pub call_back : (w : ℕ) → w < syscall_count + 1 → number_or_zero syscall_number (syscall_of_number w) ≡ w
+call_back w small = number-back syscall_number (syscall_of_number w) w (syscall_number-of_number w) (none_where_zero _ w syscall_count (syscall_numbers-range w) small)
 
 pub reason_back : (w : ℕ) → w < 8 → number_or_zero reason_number (entry_at stop_reasons w) ≡ w
 reason_back w small = number-back reason_number (entry_at stop_reasons w) w (reason_number-of_number w) (none_where_zero _ w 7 (reason_numbers-range w) small)
@@ -128,7 +129,7 @@ small_entry : {T : Type 0} (number : T → ℕ) (most : ℕ) → ((x : T) → nu
 small_entry number most small None = omega arith
 small_entry number most small (Some x) = omega (arith, small x)
 
-signal_most : (s : Sig) → signal_number s ≤ 39
+signal_most : (s : Sig) → signal_number s ≤ signal_count
 signal_most s = ((signal_numbers-range (signal_number s)).0 (ap is_some (signal_of_number-number s))).1
 
 fault_most : (f : Flt) → fault_number f ≤ 8
@@ -138,24 +139,24 @@ call_most : (c : Sysno) → syscall_number c ≤ 30
 call_most c = ((syscall_numbers-range (syscall_number c)).0 (ap is_some (syscall_of_number-number c))).1
 
 -- what a stop is about has a number below 40
-pub signal_number-lt : (s : Sig) → signal_number s < 40
+pub signal_number-lt : (s : Sig) → signal_number s < signal_count + 1
 signal_number-lt s = omega (arith, signal_most s)
 
-pub fault_number-lt : (f : Flt) → fault_number f < 40
+pub fault_number-lt : (f : Flt) → fault_number f < signal_count + 1
 fault_number-lt f = omega (arith, fault_most f)
 
-pub syscall_number-lt : (c : Sysno) → syscall_number c < 40
+pub syscall_number-lt : (c : Sysno) → syscall_number c < signal_count + 1
 syscall_number-lt c = omega (arith, call_most c)
 
 pub ruleset number_bounds = (signal_number-lt, fault_number-lt, syscall_number-lt)
 
-pub signal_small : (o : Option Sig) → number_or_zero signal_number o < 40
-signal_small = small_entry signal_number 39 signal_most
+pub signal_small : (o : Option Sig) → number_or_zero signal_number o < signal_count + 1
+signal_small = small_entry signal_number signal_count signal_most
 
-pub fault_small : (o : Option Flt) → number_or_zero fault_number o < 9
+pub fault_small : (o : Option Flt) → number_or_zero fault_number o < fault_count + 1
 fault_small = small_entry fault_number 8 fault_most
 
-pub call_small : (o : Option Sysno) → number_or_zero syscall_number o < 31
+pub call_small : (o : Option Sysno) → number_or_zero syscall_number o < syscall_count + 1
 call_small = small_entry syscall_number 30 call_most
 
 pub reason_small : (o : Option StopReason) → number_or_zero reason_number o < 8

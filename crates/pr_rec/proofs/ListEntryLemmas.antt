@@ -2,6 +2,7 @@
 use Rattle.std.proofs.Common.{◌≡◌, ◌^◌, ◌<◌, ℕ, true, List, All, refl, arith}
 use Rattle.std.proofs.lemmas.Bool.{lt-ltb}
 use Rattle.std.proofs.lemmas.List.Elements.{All-get_or}
+use Rattle.pr_num.specs.Limits.{descriptor_limit}
 use Rattle.pr_num.specs.Words.{IsWord}
 use Rattle.pr_num.specs.Records.{a_file_kind, an_access, watch_entry_ranges, fd_entry_ranges, list_entry_ranges}
 use Rattle.pr_num.specs.declared.files.Access.{Access}
@@ -40,7 +41,7 @@ watch_entry-typed w flags fit =
     let words : List ℕ = watch_entry_words_of w in
     record { at = All-get_or IsWord words 0 0 (omega arith) fit; size = All-get_or IsWord words 1 0 (omega arith) fit; flags = flags }
 
-pub fd_entry-typed : (d : FdEntry) → d.descriptor < 64 → IsNameField d.name → All IsWord (fd_entry_words_of d) → IsFdEntry d
+pub fd_entry-typed : (d : FdEntry) → d.descriptor < descriptor_limit → IsNameField d.name → All IsWord (fd_entry_words_of d) → IsFdEntry d
 fd_entry-typed d descriptor name fit =
     record { descriptor = descriptor; offset = All-get_or IsWord (fd_entry_words_of d) 3 0 (omega arith) fit; name = name }
 

@@ -1,9 +1,10 @@
 -- The record of an lwp's status.
-use Rattle.std.proofs.Common.{take, drop, ◌≡◌, ◌↔◌, ◌^◌, ◌<◌, ℕ, List, [], ◌∷◌, length, get_or, All, Option, Result, Ok, Err, IfOk, IfErr, sym, ap, subst, ◌∙◌, arith}
+use Rattle.std.proofs.Common.{◌+◌, take, drop, ◌≡◌, ◌↔◌, ◌^◌, ◌<◌, ℕ, List, [], ◌∷◌, length, get_or, All, Option, Result, Ok, Err, IfOk, IfErr, sym, ap, subst, ◌∙◌, arith}
 use Rattle.std.proofs.lemmas.Bool.{lt-ltb, ltb-true}
 use Rattle.std.proofs.lemmas.List.Elements.{All-take, All-drop, All-get_or}
+use Rattle.pr_num.specs.Limits.{signal_count}
 use Rattle.pr_num.specs.Words.{IsByte, IsWord}
-use Rattle.pr_num.specs.Records.{lwpstatus_ranges}
+use Rattle.pr_num.specs.Records.{lwpstatus_ranges, lwpstatus_word_count}
 use Rattle.pr_num.specs.declared.infos.Info.{Info}
 use Rattle.pr_num.specs.declared.errnos.Errno.{Errno}
 use Rattle.pr_num.specs.declared.faults.Flt.{Flt}
@@ -24,7 +25,7 @@ pub lwpstatus-ranged : (l : LwpStatus) → IsLwpStatus l → AreRanged lwpstatus
 lwpstatus-ranged l h = (lt-ltb _ _ h.flags, (lt-ltb _ _ h.id, (lt-ltb _ _ (reason_small l.why), (lt-ltb _ _ h.what, (lt-ltb _ _ (signal_small l.signal), (lt-ltb _ _ (fault_small l.fault), (word-any _ h.fault_address, (lt-ltb _ _ (call_small l.call), (element-word l.arguments h.arguments 0, (element-word l.arguments h.arguments 1, (element-word l.arguments h.arguments 2, (element-word l.arguments h.arguments 3, (element-word l.arguments h.arguments 4, (element-word l.arguments h.arguments 5, (word-any _ h.result, (an_errno-field l.errno, (lt-ltb _ _ h.held, (lt-ltb _ _ h.pending, (element-word l.regs h.regs 0, (element-word l.regs h.regs 1, (element-word l.regs h.regs 2, (element-word l.regs h.regs 3, (element-word l.regs h.regs 4, (element-word l.regs h.regs 5, (element-word l.regs h.regs 6, (element-word l.regs h.regs 7, (element-word l.regs h.regs 8, (element-word l.regs h.regs 9, (element-word l.regs h.regs 10, (lt-ltb _ _ (disposition_small l.disposition), (lt-ltb _ _ h.info.code, (lt-ltb _ _ h.info.pid, (word-any _ h.info_value, tt)))))))))))))))))))))))))))))))))
 
 -- what the types of its fields and its words tell of it
-pub lwpstatus-typed : (l : LwpStatus) → HasArraySizes l → l.flags < 2 ^ 6 → l.id < 2 ^ 32 → l.what < 40 → l.held < 2 ^ 39 → l.pending < 2 ^ 39 → All IsWord (lwpstatus_words_of l) → IsInfo l.info → IsLwpStatus l
+pub lwpstatus-typed : (l : LwpStatus) → HasArraySizes l → l.flags < 2 ^ 6 → l.id < 2 ^ 32 → l.what < signal_count + 1 → l.held < 2 ^ signal_count → l.pending < 2 ^ signal_count → All IsWord (lwpstatus_words_of l) → IsInfo l.info → IsLwpStatus l
 lwpstatus-typed l sizes flags id what held pending fit info =
     let words : List ℕ = lwpstatus_words_of l in
     record {
@@ -43,15 +44,15 @@ lwpstatus-typed l sizes flags id what held pending fit info =
     }
 
 -- 33 words of which some are known in another way
-pub lwpstatus_elements : (ws : List ℕ) (flags why what signal fault call errno held pending disposition : ℕ) → length ws ≡ 33 → flags ≡ get_or ws 0 0 → why ≡ get_or ws 2 0 → what ≡ get_or ws 3 0 → signal ≡ get_or ws 4 0 → fault ≡ get_or ws 5 0 → call ≡ get_or ws 7 0 → errno ≡ get_or ws 15 0 → held ≡ get_or ws 16 0 → pending ≡ get_or ws 17 0 → disposition ≡ get_or ws 29 0 → flags ∷ get_or ws 1 0 ∷ why ∷ what ∷ signal ∷ fault ∷ get_or ws 6 0 ∷ call ∷ get_or ws 8 0 ∷ get_or ws 9 0 ∷ get_or ws 10 0 ∷ get_or ws 11 0 ∷ get_or ws 12 0 ∷ get_or ws 13 0 ∷ get_or ws 14 0 ∷ errno ∷ held ∷ pending ∷ get_or ws 18 0 ∷ get_or ws 19 0 ∷ get_or ws 20 0 ∷ get_or ws 21 0 ∷ get_or ws 22 0 ∷ get_or ws 23 0 ∷ get_or ws 24 0 ∷ get_or ws 25 0 ∷ get_or ws 26 0 ∷ get_or ws 27 0 ∷ get_or ws 28 0 ∷ disposition ∷ get_or ws 30 0 ∷ get_or ws 31 0 ∷ get_or ws 32 0 ∷ [] ≡ ws
+pub lwpstatus_elements : (ws : List ℕ) (flags why what signal fault call errno held pending disposition : ℕ) → length ws ≡ lwpstatus_word_count → flags ≡ get_or ws 0 0 → why ≡ get_or ws 2 0 → what ≡ get_or ws 3 0 → signal ≡ get_or ws 4 0 → fault ≡ get_or ws 5 0 → call ≡ get_or ws 7 0 → errno ≡ get_or ws 15 0 → held ≡ get_or ws 16 0 → pending ≡ get_or ws 17 0 → disposition ≡ get_or ws 29 0 → flags ∷ get_or ws 1 0 ∷ why ∷ what ∷ signal ∷ fault ∷ get_or ws 6 0 ∷ call ∷ get_or ws 8 0 ∷ get_or ws 9 0 ∷ get_or ws 10 0 ∷ get_or ws 11 0 ∷ get_or ws 12 0 ∷ get_or ws 13 0 ∷ get_or ws 14 0 ∷ errno ∷ held ∷ pending ∷ get_or ws 18 0 ∷ get_or ws 19 0 ∷ get_or ws 20 0 ∷ get_or ws 21 0 ∷ get_or ws 22 0 ∷ get_or ws 23 0 ∷ get_or ws 24 0 ∷ get_or ws 25 0 ∷ get_or ws 26 0 ∷ get_or ws 27 0 ∷ get_or ws 28 0 ∷ disposition ∷ get_or ws 30 0 ∷ get_or ws 31 0 ∷ get_or ws 32 0 ∷ [] ≡ ws
 lwpstatus_elements ws flags why what signal fault call errno held pending disposition size flags_is why_is what_is signal_is fault_is call_is errno_is held_is pending_is disposition_is =
-    rw (flags_is, why_is, what_is, signal_is, fault_is, call_is, errno_is, held_is, pending_is, disposition_is) (elements_of 33 ws size)
+    rw (flags_is, why_is, what_is, signal_is, fault_is, call_is, errno_is, held_is, pending_is, disposition_is) (elements_of lwpstatus_word_count ws size)
 
 pub lwpstatus_take : TakeWords lwpstatus_ranges
 lwpstatus_take = (below-word _ (omega arith), (below-word _ (omega arith), (below-word _ (omega arith), (below-word _ (omega arith), (below-word _ (omega arith), (below-word _ (omega arith), (any-word, (below-word _ (omega arith), (any-word, (any-word, (any-word, (any-word, (any-word, (any-word, (any-word, (errno-word, (below-word _ (omega arith), (below-word _ (omega arith), (any-word, (any-word, (any-word, (any-word, (any-word, (any-word, (any-word, (any-word, (any-word, (any-word, (any-word, (below-word _ (omega arith), (below-word _ (omega arith), (below-word _ (omega arith), (any-word, tt)))))))))))))))))))))))))))))))))
 
 -- words that are in their ranges have fields that are in theirs
-pub lwpstatus_fields : (ws : List ℕ) → length ws ≡ 33 → AreRanged lwpstatus_ranges ws → HasLwpStatusFields ws
+pub lwpstatus_fields : (ws : List ℕ) → length ws ≡ lwpstatus_word_count → AreRanged lwpstatus_ranges ws → HasLwpStatusFields ws
 lwpstatus_fields ws size ranged = record {
   size = size;
   flags = ltb-true _ _ (AreRanged-at lwpstatus_ranges ws 0 ranged);

@@ -1,6 +1,7 @@
-use Rattle.std.specs.Prelude.{◌≡◌, ◌<◌, ◌^◌, ℕ, slice_index, IsTrue, List, length}
+use Rattle.std.specs.Prelude.{◌+◌, ◌≡◌, ◌<◌, ◌^◌, ℕ, slice_index, IsTrue, List, length}
 use Rattle.std.specs.List.{All}
-use Rattle.pr_num.specs.Records.{an_errno}
+use Rattle.pr_num.specs.Limits.{signal_count, syscall_count, fault_count, descriptor_limit}
+use Rattle.pr_num.specs.Records.{an_errno, lwpstatus_word_count}
 use Rattle.pr_num.specs.Words.{IsByte, IsWord}
 use Rattle.pr_num.specs.declared.infos.Info.{Info}
 use Rattle.pr_rec.specs.declared.entries.FdEntry.{FdEntry}
@@ -33,12 +34,12 @@ pub record HasArraySizes (l : LwpStatus) : Type 0 where
 pub record IsLwpStatus (l : LwpStatus) : Type 0 where
   pub flags : l.flags < 2 ^ 6
   pub id : l.id < 2 ^ 32
-  pub what : l.what < 40
+  pub what : l.what < signal_count + 1
   pub fault_address : IsWord l.fault_address
   pub arguments : All IsWord l.arguments
   pub result : IsWord l.result
-  pub held : l.held < 2 ^ 39
-  pub pending : l.pending < 2 ^ 39
+  pub held : l.held < 2 ^ signal_count
+  pub pending : l.pending < 2 ^ signal_count
   pub regs : All IsWord l.regs
   pub info : IsInfo l.info
   pub info_value : IsWord l.info.value
@@ -49,11 +50,11 @@ pub record IsStatus (s : Status) : Type 0 where
   pub id : s.id < 2 ^ 32
   pub parent : s.parent < 2 ^ 32
   pub lwps : IsWord s.lwps
-  pub pending : s.pending < 2 ^ 39
-  pub traced_signals : s.traced_signals < 2 ^ 39
-  pub traced_faults : s.traced_faults < 2 ^ 8
-  pub traced_entries : s.traced_entries < 2 ^ 30
-  pub traced_exits : s.traced_exits < 2 ^ 30
+  pub pending : s.pending < 2 ^ signal_count
+  pub traced_signals : s.traced_signals < 2 ^ signal_count
+  pub traced_faults : s.traced_faults < 2 ^ fault_count
+  pub traced_entries : s.traced_entries < 2 ^ syscall_count
+  pub traced_exits : s.traced_exits < 2 ^ syscall_count
   pub heap_base : IsWord s.heap_base
   pub heap_size : IsWord s.heap_size
   pub agent : s.agent < 2 ^ 32
@@ -88,7 +89,7 @@ pub record IsWatchEntry (w : WatchEntry) : Type 0 where
   pub flags : w.flags < 16
 
 pub record IsFdEntry (d : FdEntry) : Type 0 where
-  pub descriptor : d.descriptor < 64
+  pub descriptor : d.descriptor < descriptor_limit
   pub offset : IsWord d.offset
   pub name : IsNameField d.name
 
@@ -99,15 +100,15 @@ pub record IsListEntry (p : ListEntry) : Type 0 where
 
 -- 33 words of which those that stand for something are in its range
 pub record HasLwpStatusFields (words : List ℕ) : Type 0 where
-  pub size : length words ≡ 33
+  pub size : length words ≡ lwpstatus_word_count
   pub flags : slice_index words 0 < 2 ^ 6
   pub id : slice_index words 1 < 2 ^ 32
   pub why : slice_index words 2 < 8
-  pub what : slice_index words 3 < 40
-  pub signal : slice_index words 4 < 40
-  pub fault : slice_index words 5 < 9
-  pub call : slice_index words 7 < 31
+  pub what : slice_index words 3 < signal_count + 1
+  pub signal : slice_index words 4 < signal_count + 1
+  pub fault : slice_index words 5 < fault_count + 1
+  pub call : slice_index words 7 < syscall_count + 1
   pub errno : IsTrue (an_errno (slice_index words 15))
-  pub held : slice_index words 16 < 2 ^ 39
-  pub pending : slice_index words 17 < 2 ^ 39
+  pub held : slice_index words 16 < 2 ^ signal_count
+  pub pending : slice_index words 17 < 2 ^ signal_count
   pub disposition : slice_index words 29 < 3

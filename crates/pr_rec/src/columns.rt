@@ -12,6 +12,7 @@ ghost use Rattle.pr_rec.specs.Reading.{record_read};
 use crate::RecFault;
 use pr_codec::{WORD, put_words, read_words};
 use pr_num::Errno;
+use pr_num::limits::{FAULT_COUNT, SIGNAL_COUNT, SYSCALL_COUNT};
 
 /// What a word of a record may hold.
 #[derive(Clone, Copy)]
@@ -34,28 +35,28 @@ impl Column {
     pub(crate) const TRUTH: Column = Column::Below(2);
 
     /// A signal's number, or 0 for none.
-    pub(crate) const SIGNAL: Column = Column::Below(40);
+    pub(crate) const SIGNAL: Column = Column::Below(SIGNAL_COUNT as u64 + 1);
 
     /// A fault's number, or 0 for none.
-    pub(crate) const FAULT: Column = Column::Below(9);
+    pub(crate) const FAULT: Column = Column::Below(FAULT_COUNT as u64 + 1);
 
     /// A system call's number, or 0 for none.
-    pub(crate) const CALL: Column = Column::Below(31);
+    pub(crate) const CALL: Column = Column::Below(SYSCALL_COUNT as u64 + 1);
 
     /// A stop reason's number, or 0 for none.
     pub(crate) const REASON: Column = Column::Below(8);
 
-    /// The number of what an lwp is stopped for, or 0.
-    pub(crate) const MATTER: Column = Column::Below(40);
+    /// The number of what an lwp is stopped for, or 0: of a signal, a fault or a call, of which signals are the most.
+    pub(crate) const MATTER: Column = Column::SIGNAL;
 
     /// A set of signals.
-    pub(crate) const SIGNALS: Column = Column::Below(1 << 39);
+    pub(crate) const SIGNALS: Column = Column::Below(1 << SIGNAL_COUNT);
 
     /// A set of faults.
-    pub(crate) const FAULTS: Column = Column::Below(1 << 8);
+    pub(crate) const FAULTS: Column = Column::Below(1 << FAULT_COUNT);
 
     /// A set of system calls.
-    pub(crate) const CALLS: Column = Column::Below(1 << 30);
+    pub(crate) const CALLS: Column = Column::Below(1 << SYSCALL_COUNT);
 
     /// The flags of an lwp.
     pub(crate) const LWP_FLAGS: Column = Column::Below(64);

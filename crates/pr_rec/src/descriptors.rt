@@ -1,5 +1,7 @@
 ghost use Rattle.std.specs.Prelude.{◌≡◌, ◌<◌, Some, None, nat_lt, if◌then◌else◌};
+ghost use Rattle.pr_num.specs.Limits.{descriptor_limit};
 
+use pr_num::limits::DESCRIPTOR_LIMIT;
 use std::marker::Model;
 
 /// The number of an open descriptor, below 64. Seen by contracts as that number.
@@ -10,23 +12,24 @@ pub struct Descriptor {
 
 impl Model for Descriptor {
     ghost use Rattle.std.specs.Prelude.{ℕ, ◌<◌};
+    ghost use Rattle.pr_num.specs.Limits.{descriptor_limit};
 
     ghost Value = { ℕ };
 
     ghost view = { λ descriptor. descriptor.number };
 
-    ghost invariant = { λ descriptor. descriptor.number < 64 };
+    ghost invariant = { λ descriptor. descriptor.number < descriptor_limit };
 
     ghost inverse = { λ number. record { number = number } };
 }
 
 impl Descriptor {
     /// How many descriptors a process can have open.
-    pub const PLACES: u32 = 64;
+    pub const PLACES: u32 = DESCRIPTOR_LIMIT as u32;
 
     /// The descriptor of a number, `None` exactly where no descriptor can have it.
     pub fn from_number(number: u32) -> Option<Descriptor>
-        ensures { result ≡ (if nat_lt number 64 then Some number else None) }
+        ensures { result ≡ (if nat_lt number descriptor_limit then Some number else None) }
     {
         if number < Descriptor::PLACES {
             Some(Descriptor { number })
@@ -37,7 +40,7 @@ impl Descriptor {
 
     /// The descriptor at a place of a process's table of them.
     pub fn at(place: usize) -> Descriptor
-        requires { place < 64 }
+        requires { place < descriptor_limit }
         ensures { result ≡ place }
     {
         Descriptor {
@@ -47,7 +50,7 @@ impl Descriptor {
 
     pub fn number(self) -> u32
         ensures value { result ≡ self }
-        ensures range { result < 64 }
+        ensures range { result < descriptor_limit }
     {
         self.number
     }

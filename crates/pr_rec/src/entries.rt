@@ -1,5 +1,6 @@
 ghost use Rattle.std.specs.Prelude.{◌≡◌, ◌++◌, ◌<◌, ◌^◌, OnOk};
 ghost use Rattle.std.specs.List.{All};
+ghost use Rattle.pr_num.specs.Limits.{descriptor_limit};
 ghost use Rattle.pr_num.specs.Words.{IsWord, words_bytes};
 ghost use Rattle.pr_rec.specs.InRange.{IsInfo, IsNameField, IsLwpStatus, IsMapEntry, IsWatchEntry, IsFdEntry, IsListEntry};
 ghost use Rattle.pr_rec.specs.RecordWords.{lwpstatus_words_of, map_entry_words_of, watch_entry_words_of, fd_entry_words_of, list_entry_words_of};
@@ -54,7 +55,7 @@ impl WatchEntry {
 impl FdEntry {
     fn words(&self) -> [u64; 8]
         ensures words { result ≡ fd_entry_words_of self.now }
-        ensures descriptor { self.now.descriptor < 64 }
+        ensures descriptor { self.now.descriptor < descriptor_limit }
         ensures name { IsNameField self.now.name }
     {
         let name = name_words(&self.name);

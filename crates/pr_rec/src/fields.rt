@@ -1,6 +1,7 @@
 //! Fields of records that are more than a number, as words and back.
-ghost use Rattle.std.specs.Prelude.{◌≡◌, ◌<◌, ◌≤◌, ◌^◌, length, IsTrue};
+ghost use Rattle.std.specs.Prelude.{◌+◌, ◌≡◌, ◌<◌, ◌≤◌, ◌^◌, length, IsTrue};
 ghost use Rattle.std.specs.List.{All};
+ghost use Rattle.pr_num.specs.Limits.{signal_count, syscall_count, fault_count};
 ghost use Rattle.pr_num.specs.Words.{IsByte};
 ghost use Rattle.pr_num.specs.Records.{an_errno};
 ghost use Rattle.pr_num.specs.Signals.{signal_number};
@@ -28,7 +29,7 @@ pub(crate) fn signal_word(signal: Option<Sig>) -> u64
 
 #[tactic(auto, using(crate::proofs::FieldLemmas::numbers_back))]
 pub(crate) fn signal_of(word: u64) -> Option<Sig>
-    requires { word < 40 }
+    requires { word < signal_count + 1 }
     ensures { number_or_zero signal_number result ≡ word }
 {
     Sig::from_number(word)
@@ -45,7 +46,7 @@ pub(crate) fn fault_word(fault: Option<Flt>) -> u64
 
 #[tactic(auto, using(crate::proofs::FieldLemmas::numbers_back))]
 pub(crate) fn fault_of(word: u64) -> Option<Flt>
-    requires { word < 9 }
+    requires { word < fault_count + 1 }
     ensures { number_or_zero fault_number result ≡ word }
 {
     Flt::from_number(word)
@@ -62,7 +63,7 @@ pub(crate) fn call_word(call: Option<Sysno>) -> u64
 
 #[tactic(auto, using(crate::proofs::FieldLemmas::numbers_back))]
 pub(crate) fn call_of(word: u64) -> Option<Sysno>
-    requires { word < 31 }
+    requires { word < syscall_count + 1 }
     ensures { number_or_zero syscall_number result ≡ word }
 {
     Sysno::from_number(word)
@@ -103,7 +104,7 @@ pub(crate) fn errno_of(word: u64) -> Option<Errno>
 }
 
 pub(crate) fn signals_of(word: u64) -> SigSet
-    requires { word < 2 ^ 39 }
+    requires { word < 2 ^ signal_count }
     ensures { result ≡ word }
 {
     let Some(signals) = SigSet::from_word(word) else {
@@ -113,7 +114,7 @@ pub(crate) fn signals_of(word: u64) -> SigSet
 }
 
 pub(crate) fn faults_of(word: u64) -> FltSet
-    requires { word < 2 ^ 8 }
+    requires { word < 2 ^ fault_count }
     ensures { result ≡ word }
 {
     let Some(faults) = FltSet::from_word(word) else {
@@ -123,7 +124,7 @@ pub(crate) fn faults_of(word: u64) -> FltSet
 }
 
 pub(crate) fn calls_of(word: u64) -> SysSet
-    requires { word < 2 ^ 30 }
+    requires { word < 2 ^ syscall_count }
     ensures { result ≡ word }
 {
     let Some(calls) = SysSet::from_word(word) else {
@@ -163,7 +164,7 @@ pub(crate) fn lwp_flags_of(word: u64) -> LwpFlags
 }
 
 pub(crate) fn what_of(word: u64) -> What
-    requires { word < 40 }
+    requires { word < signal_count + 1 }
     ensures { result ≡ word }
 {
     let Some(what) = What::from_number(word) else {

@@ -26,7 +26,9 @@ pub use laws::{
     entries_stand_in_their_places, one_encoding_one_record, what_fills_records_is_in_range,
     what_is_encoded_is_decoded,
 };
-pub use lists::{encode_sigact, write_fds, write_list, write_lstatus, write_map, write_watch};
+pub use lists::{
+    SIGACT_SIZE, encode_sigact, write_fds, write_list, write_lstatus, write_map, write_watch,
+};
 pub use lwp_flags::{LwpFlags, LwpMarks, words_of_lwp_flags};
 pub use lwps::{Disposition, LwpStatus};
 pub use mappings::MapEntry;

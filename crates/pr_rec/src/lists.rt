@@ -9,6 +9,8 @@ ghost use Rattle.pr_rec.specs.RecordBytes.{lstatus_bytes, map_bytes, watch_bytes
 use crate::columns::put_record;
 use crate::entries::{Entry, append_words};
 use crate::{FdEntry, ListEntry, LwpStatus, MapEntry, WatchEntry};
+use pr_codec::WORD;
+use pr_num::limits::SIGNAL_COUNT;
 use pr_num::{Bytes, NoMemory};
 use std::alloc::Global;
 
@@ -68,14 +70,17 @@ pub fn write_list(alloc: Global, processes: &[ListEntry]) -> Result<Bytes, NoMem
     Ok(Bytes::from_vec(out))
 }
 
-/// The dispositions of the signals 1 to 39: 0 default, 1 ignored, else the address of a handler (proc(4), "sigact").
+/// How many bytes the record of a process's dispositions has: a word for each signal.
+pub const SIGACT_SIZE: usize = WORD * SIGNAL_COUNT;
+
+/// The dispositions of all signals in their order: 0 default, 1 ignored, else the address of a handler (proc(4), "sigact").
 /// Takes no memory.
 #[tactic(auto, unfolding(crate::specs::RecordBytes::sigact_bytes))]
-pub fn encode_sigact(dispositions: &[u64; 39]) -> [u8; 312]
+pub fn encode_sigact(dispositions: &[u64; SIGNAL_COUNT]) -> [u8; SIGACT_SIZE]
     ensures bytes { result ≡ sigact_bytes dispositions.now }
     ensures encoded { EncodesRecord sigact_ranges result dispositions.now }
 {
-    let mut bytes = [0; 312];
+    let mut bytes = [0; SIGACT_SIZE];
     put_record(&mut bytes, dispositions);
     bytes
 }

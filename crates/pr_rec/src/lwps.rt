@@ -1,4 +1,5 @@
-ghost use Rattle.std.specs.Prelude.{◌≡◌, ◌↔◌, ◌<◌, ◌^◌, Ok, Err, IfOk, IfErr};
+ghost use Rattle.std.specs.Prelude.{◌+◌, ◌≡◌, ◌↔◌, ◌<◌, ◌^◌, Ok, Err, IfOk, IfErr};
+ghost use Rattle.pr_num.specs.Limits.{signal_count};
 ghost use Rattle.pr_num.specs.Records.{EncodesRecord, lwpstatus_ranges};
 ghost use Rattle.pr_rec.specs.Fields.{disposition_of};
 ghost use Rattle.pr_rec.specs.InRange.{HasArraySizes, HasLwpStatusFields, IsInfo, IsLwpStatus};
@@ -14,6 +15,7 @@ use crate::fields::{
     fault_word, lwp_flags_of, reason_of, reason_word, signal_of, signal_word, signals_of, what_of,
 };
 use crate::{LwpFlags, RecFault, What};
+use pr_codec::WORD;
 use pr_num::{Errno, Flt, Info, Sig, SigSet, StopReason, Sysno};
 
 /// How a process disposes of a signal (sigaction(2)).
@@ -76,7 +78,7 @@ pub struct LwpStatus {
 }
 
 /// What each word may hold.
-pub(crate) const COLUMNS: [Column; 33] = [
+pub(crate) const COLUMNS: [Column; LwpStatus::WORDS] = [
     Column::LWP_FLAGS,
     Column::ID,
     Column::REASON,
@@ -113,6 +115,12 @@ pub(crate) const COLUMNS: [Column; 33] = [
 ];
 
 impl LwpStatus {
+    /// How many words the record has.
+    pub(crate) const WORDS: usize = 33;
+
+    /// How many bytes the record has.
+    pub const SIZE: usize = WORD * LwpStatus::WORDS;
+
     /// What stands in the status of a process without lwps: zeros alone.
     #[tactic(auto, unfolding(crate::specs::NoLwp::no_lwp))]
     pub fn none() -> LwpStatus
@@ -145,17 +153,17 @@ impl LwpStatus {
     /// The bytes of the record. Its fields are in their ranges, save for the information of a signal, which may have any
     /// words: where it has a code and a process id, the bytes encode the record. Takes no memory.
     #[tactic(auto, unfolding(crate::specs::RecordBytes::lwpstatus_bytes))]
-    pub fn encode(&self) -> [u8; 264]
+    pub fn encode(&self) -> [u8; LwpStatus::SIZE]
         ensures bytes { result ≡ lwpstatus_bytes self.now }
         ensures ranged { IsInfo self.now.info → IsLwpStatus self.now }
         ensures encoded { IsInfo self.now.info → EncodesRecord lwpstatus_ranges result (lwpstatus_words_of self.now) }
     {
-        let mut bytes = [0; 264];
+        let mut bytes = [0; LwpStatus::SIZE];
         put_record(&mut bytes, &self.words());
         bytes
     }
 
-    /// The record with which bytes begin: `Short` exactly where there are fewer than 264 bytes, and else `BadField`
+    /// The record with which bytes begin: `Short` exactly where there are fewer bytes than `SIZE`, and else `BadField`
     /// exactly where a word is out of its range. Takes no memory.
     pub fn decode(bytes: &[u8]) -> Result<LwpStatus, RecFault>
         ensures ok { IfOk result (λ l. record_read lwpstatus_ranges bytes.now ≡ Ok (lwpstatus_words_of l)) }
@@ -170,18 +178,18 @@ impl LwpStatus {
         ensures err { IfErr result (λ fault. record_read lwpstatus_ranges bytes.now ≡ Err fault) }
         ensures sizes { IfOk result HasArraySizes }
     {
-        let mut words = [0; 33];
+        let mut words = [0; LwpStatus::WORDS];
         read_record(&COLUMNS, bytes, &mut words)?;
         Ok(LwpStatus::from_words(&words))
     }
 
-    pub(crate) fn words(&self) -> [u64; 33]
+    pub(crate) fn words(&self) -> [u64; LwpStatus::WORDS]
         ensures words { result ≡ lwpstatus_words_of self.now }
         ensures flags { self.now.flags < 2 ^ 6 }
         ensures id { self.now.id < 2 ^ 32 }
-        ensures what { self.now.what < 40 }
-        ensures held { self.now.held < 2 ^ 39 }
-        ensures pending { self.now.pending < 2 ^ 39 }
+        ensures what { self.now.what < signal_count + 1 }
+        ensures held { self.now.held < 2 ^ signal_count }
+        ensures pending { self.now.pending < 2 ^ signal_count }
         ensures sizes { HasArraySizes self.now }
     {
         let arguments = &self.arguments;

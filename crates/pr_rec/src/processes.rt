@@ -1,4 +1,5 @@
-ghost use Rattle.std.specs.Prelude.{◌≡◌, ◌↔◌, ◌<◌, ◌^◌, Ok, Err, IfOk, IfErr, slice_index};
+ghost use Rattle.std.specs.Prelude.{◌+◌, ◌≡◌, ◌↔◌, ◌<◌, ◌^◌, Ok, Err, IfOk, IfErr, slice_index};
+ghost use Rattle.pr_num.specs.Limits.{signal_count};
 ghost use Rattle.pr_num.specs.Records.{EncodesRecord, psinfo_ranges};
 ghost use Rattle.pr_rec.specs.InRange.{IsNameField, IsPsinfo};
 ghost use Rattle.pr_rec.specs.Reading.{BeginsWith, record_read};
@@ -109,7 +110,7 @@ impl Psinfo {
         requires id { slice_index words.now 0 < 2 ^ 32 }
         requires parent { slice_index words.now 1 < 2 ^ 32 }
         requires zombie { slice_index words.now 3 < 2 }
-        requires job_stop { slice_index words.now 7 < 40 }
+        requires job_stop { slice_index words.now 7 < signal_count + 1 }
         ensures words { psinfo_words_of result ≡ words.now }
         ensures name { IsNameField result.program }
     {

@@ -1,4 +1,5 @@
 ghost use Rattle.std.specs.Prelude.{◌≡◌, ◌↔◌, ◌<◌, ◌^◌, Ok, Err, IfOk, IfErr, drop, length, map, slice_index};
+ghost use Rattle.pr_num.specs.Limits.{signal_count, syscall_count, fault_count};
 ghost use Rattle.pr_rec.specs.Columns.{range_of};
 ghost use Rattle.pr_num.specs.Records.{EncodesRecord, status_ranges};
 ghost use Rattle.pr_rec.specs.InRange.{HasArraySizes, HasLwpStatusFields, IsInfo, IsStatus};
@@ -108,11 +109,11 @@ impl Status {
         ensures flags { self.now.flags < 2 ^ 5 }
         ensures id { self.now.id < 2 ^ 32 }
         ensures parent { self.now.parent < 2 ^ 32 }
-        ensures pending { self.now.pending < 2 ^ 39 }
-        ensures signals { self.now.traced_signals < 2 ^ 39 }
-        ensures faults { self.now.traced_faults < 2 ^ 8 }
-        ensures entries { self.now.traced_entries < 2 ^ 30 }
-        ensures exits { self.now.traced_exits < 2 ^ 30 }
+        ensures pending { self.now.pending < 2 ^ signal_count }
+        ensures signals { self.now.traced_signals < 2 ^ signal_count }
+        ensures faults { self.now.traced_faults < 2 ^ fault_count }
+        ensures entries { self.now.traced_entries < 2 ^ syscall_count }
+        ensures exits { self.now.traced_exits < 2 ^ syscall_count }
         ensures agent { self.now.agent < 2 ^ 32 }
     {
         [
@@ -137,11 +138,11 @@ impl Status {
         requires flags { slice_index words.now 0 < 2 ^ 5 }
         requires id { slice_index words.now 1 < 2 ^ 32 }
         requires parent { slice_index words.now 2 < 2 ^ 32 }
-        requires pending { slice_index words.now 4 < 2 ^ 39 }
-        requires signals { slice_index words.now 5 < 2 ^ 39 }
-        requires faults { slice_index words.now 6 < 2 ^ 8 }
-        requires entries { slice_index words.now 7 < 2 ^ 30 }
-        requires exits { slice_index words.now 8 < 2 ^ 30 }
+        requires pending { slice_index words.now 4 < 2 ^ signal_count }
+        requires signals { slice_index words.now 5 < 2 ^ signal_count }
+        requires faults { slice_index words.now 6 < 2 ^ fault_count }
+        requires entries { slice_index words.now 7 < 2 ^ syscall_count }
+        requires exits { slice_index words.now 8 < 2 ^ syscall_count }
         requires agent { slice_index words.now 11 < 2 ^ 32 }
         requires lwp { HasLwpStatusFields (drop 13 words.now) }
         ensures words { status_words_of result ≡ words.now }

@@ -2,8 +2,8 @@ ghost use Rattle.std.specs.Prelude.{◌≡◌, ◌++◌, Err, IfOk, IfErr, repli
 ghost use Rattle.pr_num.specs.Records.{first_lwpstatus_ranges};
 ghost use Rattle.pr_rec.specs.Reading.{record_read, IsUpgrade};
 
-use crate::RecFault;
 use crate::columns::{Column, read_record};
+use crate::{LwpStatus, RecFault};
 
 /// What each word of an lwp's status might hold before signals had information (version 1): signals up to 31, and
 /// system calls up to 29. It stays so, whatever the tables of today have.
@@ -42,14 +42,14 @@ const FIRST_COLUMNS: [Column; 30] = [
 
 /// An lwp's status as it was before signals had information (version 1), as one of today: its words stay, and the
 /// information is zeros. Refuses with `BadField` exactly what that version refuses. Takes no memory.
-pub fn upgrade(old: &[u8; 240]) -> Result<[u8; 264], RecFault>
+pub fn upgrade(old: &[u8; 240]) -> Result<[u8; LwpStatus::SIZE], RecFault>
     ensures ok { IfOk result (λ new. IsUpgrade old.now new) }
     ensures bytes { IfOk result (λ new. new ≡ old.now ++ replicate 24 0) }
     ensures err { IfErr result (λ fault. record_read first_lwpstatus_ranges old.now ≡ Err fault) }
 {
     let mut words = [0; 30];
     read_record(&FIRST_COLUMNS, old, &mut words)?;
-    let mut new = [0; 264];
+    let mut new = [0; LwpStatus::SIZE];
     new[..240].copy_from_slice(old);
     Ok(new)
 }

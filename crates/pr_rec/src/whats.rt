@@ -1,8 +1,10 @@
-ghost use Rattle.std.specs.Prelude.{◌≡◌, ◌<◌, Some, None, nat_lt, if◌then◌else◌};
+ghost use Rattle.std.specs.Prelude.{◌≡◌, ◌<◌, ◌+◌, Some, None, nat_lt, if◌then◌else◌};
+ghost use Rattle.pr_num.specs.Limits.{signal_count};
 ghost use Rattle.pr_num.specs.Faults.{fault_number};
 ghost use Rattle.pr_num.specs.Signals.{signal_number};
 ghost use Rattle.pr_num.specs.Syscalls.{syscall_number};
 
+use pr_num::limits::SIGNAL_COUNT;
 use pr_num::{Flt, Sig, Sysno};
 use std::marker::Model;
 
@@ -14,13 +16,14 @@ pub struct What {
 }
 
 impl Model for What {
-    ghost use Rattle.std.specs.Prelude.{ℕ, ◌<◌};
+    ghost use Rattle.std.specs.Prelude.{ℕ, ◌<◌, ◌+◌};
+    ghost use Rattle.pr_num.specs.Limits.{signal_count};
 
     ghost Value = { ℕ };
 
     ghost view = { λ what. what.number };
 
-    ghost invariant = { λ what. what.number < 40 };
+    ghost invariant = { λ what. what.number < signal_count + 1 };
 
     ghost inverse = { λ number. record { number = number } };
 }
@@ -30,7 +33,7 @@ impl What {
     pub const NONE: What = What { number: 0 };
 
     /// The numbers of the widest table lie below this one.
-    const BEYOND: u64 = 40;
+    const BEYOND: u64 = SIGNAL_COUNT as u64 + 1;
 
     /// A stop at this signal, or by it.
     #[tactic(auto, using(crate::proofs::FieldLemmas::number_bounds))]
@@ -64,7 +67,7 @@ impl What {
 
     /// What has a number, `None` exactly where no table has numbers so great.
     pub fn from_number(number: u64) -> Option<What>
-        ensures { result ≡ (if nat_lt number 40 then Some number else None) }
+        ensures { result ≡ (if nat_lt number (signal_count + 1) then Some number else None) }
     {
         if number < What::BEYOND {
             Some(What { number })
@@ -75,7 +78,7 @@ impl What {
 
     pub fn number(self) -> u64
         ensures value { result ≡ self }
-        ensures range { result < 40 }
+        ensures range { result < signal_count + 1 }
     {
         self.number
     }

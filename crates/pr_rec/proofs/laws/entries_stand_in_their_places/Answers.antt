@@ -1,6 +1,6 @@
 use Rattle.std.proofs.Common.{◌≡◌, ◌+◌, ◌*◌, ℕ, List, ◌++◌, length, map, drop, refl, sym, ap, ◌∙◌, arith, length-append}
 use Rattle.std.proofs.lemmas.List.{drop_at, take_at, drop-drop, length-map}
-use Rattle.pr_num.specs.Records.{entries_words, lwpstatus_ranges, map_entry_ranges, watch_entry_ranges, fd_entry_ranges, list_entry_ranges}
+use Rattle.pr_num.specs.Records.{entries_words, lwpstatus_ranges, map_entry_ranges, watch_entry_ranges, fd_entry_ranges, list_entry_ranges, lwpstatus_size, lwpstatus_word_count}
 use Rattle.pr_num.specs.Words.{word_bytes, word_of, words_bytes}
 use Rattle.pr_codec.proofs.WordLemmas.{length-word_bytes, word_of-word_bytes}
 use Rattle.pr_rec.proofs.EntryLemmas.{stands_at, length-entries}
@@ -29,15 +29,15 @@ returns-clause-number_of_lwps c lwps small =
 pub returns-clause-lwp : goal.returns-clause-lwp
 unfolding lstatus_bytes statuses number
 returns-clause-lwp c lwps i l there h =
-    let stands = stands_at lwpstatus_words_of 33 (λ _. refl) lwps i l there in
-    let along : drop (8 + 264 * i) (number lwps ++ statuses lwps) ≡ drop (264 * i) (statuses lwps) =
-    sym (drop-drop (264 * i) 8 (number lwps ++ statuses lwps)) ∙ ap (drop (264 * i)) (drop_at (number lwps) (statuses lwps) 8 (length-word_bytes (length (map lwpstatus_words_of lwps)))) in
+    let stands = stands_at lwpstatus_words_of lwpstatus_word_count (λ _. refl) lwps i l there in
+    let along : drop (8 + lwpstatus_size * i) (number lwps ++ statuses lwps) ≡ drop (lwpstatus_size * i) (statuses lwps) =
+    sym (drop-drop (lwpstatus_size * i) 8 (number lwps ++ statuses lwps)) ∙ ap (drop (lwpstatus_size * i)) (drop_at (number lwps) (statuses lwps) 8 (length-word_bytes (length (map lwpstatus_words_of lwps)))) in
     ranged-begins lwpstatus_ranges (lwpstatus_words_of l) _ stands.more refl (lwpstatus-ranged l h) (along ∙ stands.place)
 
 pub returns-clause-lstatus_length : goal.returns-clause-lstatus_length
 unfolding lstatus_bytes statuses number
 returns-clause-lstatus_length c lwps =
-    length-append (number lwps) (statuses lwps) ∙ omega (arith, length-word_bytes (length (map lwpstatus_words_of lwps)), length-entries lwpstatus_words_of 33 (λ _. refl) lwps)
+    length-append (number lwps) (statuses lwps) ∙ omega (arith, length-word_bytes (length (map lwpstatus_words_of lwps)), length-entries lwpstatus_words_of lwpstatus_word_count (λ _. refl) lwps)
 
 pub returns-clause-mapping : goal.returns-clause-mapping
 unfolding map_bytes

@@ -10,7 +10,7 @@ pub invariant_of-result : goal.invariant_of-result
 invariant_of-result c =
     let is = c.in_ok-mappings.ensures in
     let size = ap mapped_size is in
-    (subst IsSpace (sym is) (IsSpace-first c.args.text.now c.args.bytes.now c.requires.text c.requires.data), omega (arith, mapped_size-first c.args.text.now c.args.bytes.now, c.rounded.ensures.value, c.rounded-2.ensures.value))
+    (subst IsSpace (sym is) (IsSpace-first c.args.text.now c.args.bytes.now c.requires.text c.requires.data), omega (arith, mapped_size-first c.args.text.now c.args.bytes.now, c.rounded.ensures, c.rounded-2.ensures))
 
 pub returns-clause-heap_place : goal.returns-clause-heap_place
 returns-clause-heap_place c =
