@@ -8,7 +8,7 @@ use Rattle.std.proofs.lemmas.List.Elements.{All-head, All-tail}
 use Rattle.std.proofs.lemmas.Option.{same_Some}
 use Rattle.pr_num.proofs.ByIdLemmas.{rises_from-head, rises_from-tail}
 use Rattle.pr_num.specs.ById.{rises_from}
-use Rattle.pr_num.specs.Limits.{area_limit, controller_limit, handle_limit, lwp_limit, message_bytes_limit, read_limit}
+use Rattle.pr_num.specs.Limits.{area_limit, controller_limit, handle_limit, lwp_limit, message_bytes_limit, read_limit, list_limit}
 use Rattle.pr_num.specs.Messages.{bad_operand, encoded_length, first_message, in_columns, message_read, nth_word, unless_bad, unpadded_length, with_tail, ◌>>=◌}
 use Rattle.pr_num.specs.Programs.{Program}
 use Rattle.pr_num.specs.Sets.{with_number}
@@ -48,7 +48,7 @@ use Rattle.pr_model.specs.declared.calls.Reply.{Reply}
 use Rattle.pr_model.specs.declared.calls.Reply.TheVariants.{Bytes, Done, Fail, Used}
 use Rattle.pr_model.specs.declared.handles.Held.{Held}
 use Rattle.pr_proc.proofs.ByteLemmas.{length-bytes_for}
-use Rattle.pr_api.specs.Shapes.{answers_message, has_shape, is_at_most, is_done, is_failure, is_used, longest_list}
+use Rattle.pr_api.specs.Shapes.{answers_message, has_shape, is_at_most, is_done, is_failure, is_used}
 use Rattle.pr_num.proofs.BoolLemmas.{either}
 
 -- What the machine answers to a call has the shape of a reply to it.
@@ -340,7 +340,7 @@ few-listed made (e ∷ es) rises all = of (eqb e.0 0) refl
     of true zeroth = omega (arith, rest)
     of false other = let above = eqb-false e.0 0 other in omega (arith, rest, below, above)
 
-list-within : (s : TracedSystem) → IsLawfulSystem s → length (list_bytes (list_of s)) ≤ longest_list
+list-within : (s : TracedSystem) → IsLawfulSystem s → length (list_bytes (list_of s)) ≤ list_limit
 unfolding list_bytes list_of
 list-within s h =
     let bytes = length-entries list_entry_words_of 6 (λ _. refl) (list_entries s.processes) in

@@ -1,5 +1,6 @@
 use Rattle.std.specs.Prelude.{◌==◌, ◌||◌, ℕ, Bool, true, false, List, length, nat_le}
 use Rattle.std.specs.List.{list_any}
+use Rattle.pr_num.specs.Limits.{list_limit, message_bytes_limit}
 use Rattle.pr_model.specs.declared.calls.Call.{Call}
 use Rattle.pr_model.specs.declared.calls.Call.TheVariants as call
 use Rattle.pr_model.specs.declared.calls.Reply.{Reply}
@@ -37,19 +38,12 @@ abbrev pub is_ready_among : List ℕ → Reply → Bool
 is_ready_among handles (Ready handle) = list_any (λ h. h == handle) handles
 is_ready_among handles _ = false
 
--- the most bytes that a control message answers, and the most that a list of processes has, 48 of each of 4,095
-abbrev pub longest_answer : ℕ
-longest_answer = 4096
-
-abbrev pub longest_list : ℕ
-longest_list = 196560
-
 -- the reply to a control message that was not refused: its bytes were used up, its first half was done, or it answers
 -- bytes
 abbrev pub answers_message : Reply → Bool
 answers_message (Used n) = true
 answers_message (Half until) = true
-answers_message (Bytes bytes) = nat_le (length bytes) longest_answer
+answers_message (Bytes bytes) = nat_le (length bytes) message_bytes_limit
 answers_message _ = false
 
 -- Whether a call may get a reply, a row a call. Every call but List may be refused.
@@ -64,4 +58,4 @@ has_shape (call.Interrupt controller) r = is_done r || is_failure r
 has_shape (call.Spawn program held) r = is_pid r || is_failure r
 has_shape (call.Kill pid sig) r = is_done r || is_failure r
 has_shape (call.Until moment) r = is_done r || is_failure r
-has_shape call.List r = is_at_most longest_list r
+has_shape call.List r = is_at_most list_limit r

@@ -1,9 +1,9 @@
 ghost use Rattle.std.specs.Prelude.{◌≡◌, ◌≤◌, ◌<◌, true, length, OnOk, IfOk, OnErr};
 ghost use Rattle.std.specs.Option.{option_copied};
+ghost use Rattle.pr_num.specs.Limits.{clock_limit, controller_limit};
 ghost use Rattle.pr_api.specs.Entries.{last_reply_of};
 ghost use Rattle.pr_api.specs.Steps.{IsCalled, IsTicked, IsTurned};
 ghost use Rattle.pr_api.specs.Views.{IsLawful, KernelView, next_of};
-ghost use Rattle.pr_model.specs.Legal.{clock_limit};
 
 use pr_model::{Call, Reply, Turned};
 use pr_num::NoMemory;
@@ -22,7 +22,7 @@ pub trait Kernel: Drop {
 
     /// Makes a call of a controller and adds its entry; where memory runs out, the kernel is as it was.
     fn call(&mut self, by: u32, call: Call) -> Result<(), NoMemory>
-        requires by { by < 64 }
+        requires by { by < controller_limit }
         requires ready { (view self.old).is_ready by call ≡ true }
         requires place { length (view self.old).history < (view self.old).places }
         ensures ok { OnOk result (IsCalled by call (view self.old) (view self.new)) }

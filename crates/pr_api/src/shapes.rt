@@ -3,12 +3,7 @@ ghost use Rattle.std.specs.Prelude.{◌≡◌};
 ghost use Rattle.pr_api.specs.Shapes.{answers_message, has_shape, is_at_most, is_done, is_failure, is_handle, is_pid, is_ready_among, is_used};
 
 use pr_model::{Call, Reply};
-
-/// The most bytes that a control message answers.
-const LONGEST_ANSWER: u64 = 4_096;
-
-/// The most bytes that a list of processes has.
-const LONGEST_LIST: u64 = 196_560;
+use pr_num::limits::{LIST_LIMIT, MESSAGE_BYTES_LIMIT};
 
 fn is_failure(reply: &Reply) -> bool
     ensures { result ≡ is_failure reply.now }
@@ -63,7 +58,7 @@ fn answers_message(reply: &Reply) -> bool
 {
     match reply {
         Reply::Used(_) | Reply::Half(_) => true,
-        _ => is_at_most(LONGEST_ANSWER, reply),
+        _ => is_at_most(MESSAGE_BYTES_LIMIT, reply),
     }
 }
 
@@ -83,6 +78,6 @@ pub fn has_shape(call: &Call, reply: &Reply) -> bool
         Call::Spawn { .. } => is_pid(reply) || is_failure(reply),
         Call::Kill { .. } => is_done(reply) || is_failure(reply),
         Call::Until { .. } => is_done(reply) || is_failure(reply),
-        Call::List => is_at_most(LONGEST_LIST, reply),
+        Call::List => is_at_most(LIST_LIMIT as u64, reply),
     }
 }

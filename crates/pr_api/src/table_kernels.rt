@@ -1,11 +1,11 @@
 ghost use Rattle.std.specs.Prelude.{◌≡◌, ◌≤◌, ◌<◌, ◌+◌, true, length, reverse, IsOk, OnOk, IfOk, OnErr};
 ghost use Rattle.std.specs.Option.{option_copied};
+ghost use Rattle.pr_num.specs.Limits.{clock_limit};
 ghost use Rattle.pr_api.specs.Entries.{last_reply_of};
 ghost use Rattle.pr_api.specs.Steps.{IsCalled, IsTicked, IsTurned};
 ghost use Rattle.pr_api.specs.TableLaws.{table-lawful};
 ghost use Rattle.pr_api.specs.TableKernels.{after_call, first_table, is_the_lwp, otherwise, table_view, taken};
 ghost use Rattle.pr_api.specs.Views.{IsLawful, next_of};
-ghost use Rattle.pr_model.specs.Legal.{clock_limit};
 
 use crate::{Kernel, has_shape};
 use pr_model::{Act, Actor, Call, Did, Entry, History, Reply, Turned};

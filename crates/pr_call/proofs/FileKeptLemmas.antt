@@ -1,5 +1,6 @@
 use Rattle.std.proofs.Common.{◌≡◌, ◌+◌, ℕ, false, Option, Some, None, List, Result, Ok, Err, OnErr, cond, is_ok, is_some, is_none, length, position, eqb, leb, ltb, inl, inr, refl, sym, ap}
 use Rattle.std.proofs.lemmas.Bool.{cases_Bool}
+use Rattle.pr_num.specs.Limits.{file_size_limit, pipe_size_limit}
 use Rattle.pr_num.specs.Files.{FileTable, Descriptors, pipe_of}
 use Rattle.pr_num.specs.declared.files.OpenFile.{OpenFile}
 use Rattle.pr_num.specs.declared.files.Target.{Target}
@@ -42,7 +43,7 @@ module _ (t : FileTable) (fds : Descriptors) where
       by : (o : Option (ℕ × OpenFile)) → open_of t fds fd ≡ o → Keeps t fds (sought t fds fd offset)
       by None e = rw e (record { kept = (refl, refl) })
       by (Some found) e =
-          elim (cases_Bool (is_some (pipe_of found.1.target))) [ inl pipe ↦ rw (e, pipe) (record { kept = (refl, refl) }) | inr file ↦ elim (cases_Bool (leb offset 65536)) [ inl within ↦ rw (e, file, within) (record { kept = tt }) | inr beyond ↦ rw (e, file, beyond) (record { kept = (refl, refl) }) ] ]
+          elim (cases_Bool (is_some (pipe_of found.1.target))) [ inl pipe ↦ rw (e, pipe) (record { kept = (refl, refl) }) | inr file ↦ elim (cases_Bool (leb offset file_size_limit)) [ inl within ↦ rw (e, file, within) (record { kept = tt }) | inr beyond ↦ rw (e, file, beyond) (record { kept = (refl, refl) }) ] ]
 
   read_pipe-keeps : (pipe most : ℕ) → OnErr (read_pipe t pipe most).bytes ((read_pipe t pipe most).files ≡ t)
   unfolding read_pipe
@@ -69,7 +70,7 @@ module _ (t : FileTable) (fds : Descriptors) where
   unfolding write_pipe
   write_pipe-keeps pipe bytes =
       elim (cases_Bool (has_reader t pipe)) [
-        | inl read ↦ elim (cases_Bool (ltb 4096 (length (pipe_bytes t pipe) + length bytes))) [ inl full ↦ rw (read, full) (record { kept = (refl, refl) }) | inr room ↦ rw (read, room) (record { kept = tt }) ]
+        | inl read ↦ elim (cases_Bool (ltb pipe_size_limit (length (pipe_bytes t pipe) + length bytes))) [ inl full ↦ rw (read, full) (record { kept = (refl, refl) }) | inr room ↦ rw (read, room) (record { kept = tt }) ]
         | inr unread ↦ rw unread (record { kept = (refl, refl) })
       ]
 
@@ -79,7 +80,7 @@ module _ (t : FileTable) (fds : Descriptors) where
     where
       into : (found : ℕ × OpenFile) (target : Target) → open_for_writing t fds fd ≡ Some found → found.1.target ≡ target → Keeps t fds (write_fd t fds fd bytes)
       into found (File file) e is =
-          rw e (rw is (elim (cases_Bool (ltb 65536 (found.1.offset + length bytes))) [ inl long ↦ rw long (record { kept = (refl, refl) }) | inr short ↦ rw short (record { kept = tt }) ]))
+          rw e (rw is (elim (cases_Bool (ltb file_size_limit (found.1.offset + length bytes))) [ inl long ↦ rw long (record { kept = (refl, refl) }) | inr short ↦ rw short (record { kept = tt }) ]))
       into found (PipeReader pipe) e is = rw e (rw is (write_pipe-keeps pipe bytes))
       into found (PipeWriter pipe) e is = rw e (rw is (write_pipe-keeps pipe bytes))
 

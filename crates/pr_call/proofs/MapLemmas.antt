@@ -66,7 +66,7 @@ module _ (s : TracedSystem) (p : TracedProcess) (len prot : ℕ) where
           free = rw (gap.free, fits) refl;
         }
 
-pub good-short : (len prot : ℕ) → are_bad len prot ≡ false → len ≤ 0x100000
+pub good-short : (len prot : ℕ) → are_bad len prot ≡ false → len ≤ mapping_limit
 good-short len prot good = ltb-false mapping_limit len (or_parts _ _ (or_parts _ _ good).1).0
 
 pub ruleset mmap_laws = (mmap-bad, mmap-no_gap, mmap-fits, mmap-big, mmap-can, good-short)

@@ -29,7 +29,7 @@ place_meant space len prot (Err e) = fails e
 -- a range can be mapped
 pub record CanMap (space : Space) (len protection at : ℕ) : Type 0 where
   pub some : 0 < rounded len
-  pub short : rounded len ≤ 0x100000
+  pub short : rounded len ≤ mapping_limit
   pub end : at + rounded len < 2 ^ 64
   pub prot : protection < 8
   pub free : map_refusal at (rounded len) space ≡ None

@@ -1,6 +1,7 @@
 //! mmap(2).
 ghost use Rattle.std.specs.Prelude.{◌≡◌, ◌<◌, ◌≤◌, ◌+◌, ◌^◌, ℕ, None, IfOk, IsSome, OnErr, OnOk};
 ghost use Rattle.std.specs.Option.{ForSome};
+ghost use Rattle.pr_num.specs.Limits.{mapping_limit};
 ghost use Rattle.pr_call.specs.Effects.{after_effect, outcome_of};
 ghost use Rattle.pr_call.specs.Maps.{CanMap, are_bad, can_grow, place_meant};
 ghost use Rattle.pr_mem.specs.Answers.{map_refusal};
@@ -13,6 +14,7 @@ ghost use Rattle.pr_parts.specs.AddressSpaces.{with_mapping, zeros_at};
 use crate::requests::Performed;
 use pr_mem::Space;
 use pr_model::Res;
+use pr_num::layout::rounded;
 use pr_num::{Errno, MappingKind, NoMemory, Prot};
 use pr_proc::{Proc, Sys, live, size_of, total_has_room};
 use std::alloc::Global;
@@ -29,7 +31,7 @@ fn are_bad(len: u64, prot: u64) -> bool
 
 /// Whether a process can map so many bytes more: neither it nor all processes pass their limits.
 fn can_grow(sys: &Sys, process: &Proc, size: u64) -> bool
-    requires { size ≤ 0x100000 }
+    requires { size ≤ mapping_limit }
     ensures { result ≡ can_grow sys.now process.now size }
 {
     let mapped = size_of(process);
@@ -47,7 +49,7 @@ fn place_for(sys: &Sys, process: &Proc, len: u64, prot: u64) -> Result<u64, Errn
     if are_bad(len, prot) {
         return Err(Errno::Inval);
     }
-    let size = (len + 4095) / 4096 * 4096;
+    let size = rounded(len);
     let Some(at) = process.space.gap(size) else {
         return Err(Errno::Nomem);
     };
@@ -57,14 +59,14 @@ fn place_for(sys: &Sys, process: &Proc, len: u64, prot: u64) -> Result<u64, Errn
     Err(Errno::Nomem)
 }
 
-/// Maps so many zero bytes, rounded up to a multiple of 4,096, where they can be.
+/// Maps so many zero bytes, rounded up to whole pages, where they can be.
 fn map(alloc: Global, space: &mut Space, at: u64, len: u64, prot: u64) -> Result<(), NoMemory>
     requires { CanMap space.old len prot at }
     ensures ok { OnOk result (space.new ≡ with_mapping (zeros_at at (rounded len) prot OfMmap) space.old) }
     ensures err { OnErr result (space.new ≡ space.old) }
 {
     let prot = Prot::from_word(prot).unwrap();
-    let size = (len + 4095) / 4096 * 4096;
+    let size = rounded(len);
     match space.map_as(alloc, at, size, prot, MappingKind::Mapped) {
         Ok(()) => Ok(()),
         Err(_) => Err(NoMemory),

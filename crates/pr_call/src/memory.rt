@@ -14,18 +14,19 @@ use crate::maps::PROT_LIMIT;
 use crate::requests::Performed;
 use pr_mem::Space;
 use pr_model::Res;
+use pr_num::layout::rounded;
 use pr_num::{Errno, Mapping, MappingKind};
 use pr_proc::Sys;
 
-/// A length rounded up to a multiple of 4,096; `None` where no mapping is that long.
-fn rounded(len: u64) -> Option<u64>
+/// A length rounded up to whole pages; `None` where no mapping is that long.
+fn mapped_length(len: u64) -> Option<u64>
     ensures size { IfSome result (λ size. size ≡ rounded len) }
     ensures too_long { IfNone result (mapping_limit < rounded len) }
 {
     if len > Space::LIMIT {
         return None;
     }
-    Some((len + 4095) / 4096 * 4096)
+    Some(rounded(len))
 }
 
 /// Whether a mapping was made by mmap.
@@ -62,7 +63,7 @@ pub fn munmap(space: &mut Space, at: u64, len: u64) -> Result<u64, Errno>
     ensures err { OnErr result (space.new ≡ space.old) }
 {
     let mappings = space.mappings();
-    let Some(size) = rounded(len) else {
+    let Some(size) = mapped_length(len) else {
         return Err(Errno::Inval);
     };
     if !has_mapped_range(mappings, at, size) {
@@ -84,7 +85,7 @@ pub fn mprotect(space: &mut Space, at: u64, len: u64, prot: u64) -> Result<u64, 
     if prot > PROT_LIMIT {
         return Err(Errno::Inval);
     }
-    let Some(size) = rounded(len) else {
+    let Some(size) = mapped_length(len) else {
         return Err(Errno::Inval);
     };
     match space.protect(at, size, prot as u8) {

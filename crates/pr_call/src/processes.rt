@@ -10,6 +10,7 @@ ghost use Rattle.pr_model.specs.State.{live_process, lwp_of};
 use crate::paths::path_at;
 use crate::requests::Performed;
 use pr_model::Res;
+use pr_num::limits::PATH_LIMIT;
 use pr_num::{AGENT, Errno, NoMemory};
 use pr_proc::{Sys, errno_of, exec, fork, live, program_named};
 use std::alloc::Global;
@@ -54,7 +55,7 @@ fn target(sys: &Sys, pid: u32, id: u32, at: u64) -> Result<usize, Errno>
     if id == AGENT {
         return Err(Errno::Notsup);
     }
-    let mut path = [0; 32];
+    let mut path = [0; PATH_LIMIT];
     let process = live(sys, pid).unwrap();
     let len = path_at(&process.space, at, &mut path)?;
     let Some(place) = program_named(sys, &path[..len]) else {

@@ -6,6 +6,7 @@ ghost use Rattle.pr_model.specs.State.{TracedLwp};
 
 use crate::requests::{Change, Effect};
 use pr_model::Res;
+use pr_num::limits::SIGNAL_COUNT;
 use pr_num::{Errno, Sig, SigSet};
 use pr_proc::{Lwp, disposition_of};
 
@@ -21,7 +22,7 @@ fn can_be_caught(signal: Sig) -> bool
 
 /// sigaction(2) gives the old disposition.
 #[tactic(auto, using(crate::proofs::SignalCallLemmas::sigaction_laws))]
-pub fn sigaction(dispositions: &[u64; 39], number: u64, disposition: u64) -> Effect
+pub fn sigaction(dispositions: &[u64; SIGNAL_COUNT], number: u64, disposition: u64) -> Effect
     ensures { (l : TracedLwp) → effect_meant l result ≡ sigaction_effect dispositions.now number disposition }
 {
     match Sig::from_number(number) {

@@ -1,6 +1,7 @@
 //! read(2) and write(2).
 ghost use Rattle.std.specs.Prelude.{◌≡◌, ◌≤◌, [], ◌∷◌, true, false, is_some, length, IfNone, IfOk, IfSome, IsSome, OnErr};
 ghost use Rattle.std.specs.Option.{ForSome};
+ghost use Rattle.pr_num.specs.Limits.{transfer_limit};
 ghost use Rattle.pr_call.specs.Effects.{after_effect, outcome_of};
 ghost use Rattle.pr_call.specs.FileAnswers.{answer_meant, lacks_memory};
 ghost use Rattle.pr_model.specs.Changes.{fails, files_are, is_over, space_is};
@@ -35,7 +36,7 @@ fn read_refusal(
 ) -> Option<Errno>
     ensures refused { IfSome result (λ error. fails error ≡ read_effect files.now fds.now space.now fd at size) }
     ensures readable { IfNone result (is_some (open_for_reading files.now fds.now fd) ≡ true) }
-    ensures within { IfNone result (size ≤ 4096) }
+    ensures within { IfNone result (size ≤ transfer_limit) }
     ensures can { IfNone result (can_write space.now at size ≡ true) }
 {
     if !files.can_read(fds, fd) {
@@ -62,7 +63,7 @@ fn write_refusal(
 ) -> Option<Errno>
     ensures refused { IfSome result (λ error. fails error ≡ write_effect files.now fds.now space.now fd at size) }
     ensures writable { IfNone result (is_some (open_for_writing files.now fds.now fd) ≡ true) }
-    ensures within { IfNone result (size ≤ 4096) }
+    ensures within { IfNone result (size ≤ transfer_limit) }
     ensures can { IfNone result (can_read space.now at size ≡ true) }
 {
     if !files.can_write(fds, fd) {
@@ -111,7 +112,7 @@ fn fill(
     buffer: &mut [u8],
 ) -> Result<u64, Refusal>
     requires readable { is_some (open_for_reading files.old fds.now fd) ≡ true }
-    requires within { length buffer.old ≤ 4096 }
+    requires within { length buffer.old ≤ transfer_limit }
     requires can { can_write space.old at (length buffer.old) ≡ true }
     ensures effect { answer_meant result (files_are files.new fds.now ∷ space_is space.new ∷ []) ≡ read_effect files.old fds.now space.old fd at (length buffer.old) }
     ensures files { OnErr result (files.new ≡ files.old) }
@@ -148,7 +149,7 @@ fn read_into(
 
 /// Writes bytes through a descriptor.
 fn put(alloc: Global, files: &mut Files, fds: &Fds, fd: u64, bytes: &[u8]) -> Result<u64, Refusal>
-    requires { length bytes.now ≤ 4096 }
+    requires { length bytes.now ≤ transfer_limit }
     ensures effect { lacks_memory result ≡ false → answer_meant result (files_are files.new fds.now ∷ []) ≡ file_effect (write_fd files.old fds.now fd bytes.now) }
     ensures files { OnErr result (files.new ≡ files.old) }
 {
@@ -169,7 +170,7 @@ fn drain(
     buffer: &mut [u8],
 ) -> Result<u64, Refusal>
     requires writable { is_some (open_for_writing files.old fds.now fd) ≡ true }
-    requires within { length buffer.old ≤ 4096 }
+    requires within { length buffer.old ≤ transfer_limit }
     ensures effect { lacks_memory result ≡ false → answer_meant result (files_are files.new fds.now ∷ []) ≡ write_effect files.old fds.now space.now fd at (length buffer.old) }
     ensures files { OnErr result (files.new ≡ files.old) }
 {

@@ -1,9 +1,9 @@
 //! Messages that stop and run (proc(4), "PCSTOP", "PCRUN").
 ghost use Rattle.std.specs.Prelude.{◌≡◌, ◌==◌, ◌≤◌, ◌+◌, ◌^◌, ◌<◌, ℕ, List, Option, None, if◌then◌else◌};
 ghost use Rattle.std.specs.Option.{ForSome, IsSome};
+ghost use Rattle.pr_num.specs.Limits.{clock_limit};
 ghost use Rattle.pr_num.specs.Messages.{bad_operand};
 ghost use Rattle.pr_num.specs.declared.messages.Message.TheVariants as message;
-ghost use Rattle.pr_model.specs.Legal.{clock_limit};
 ghost use Rattle.pr_model.specs.Messages.{with_aim_directed};
 ghost use Rattle.pr_model.specs.State.{TracedProcess, live_process, with_process};
 ghost use Rattle.pr_ctl.specs.Aims.{aim_at};

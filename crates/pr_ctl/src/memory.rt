@@ -1,6 +1,7 @@
 //! Messages that read and write memory, whatever its protection (proc(4), "PCREAD", "PCWRITE").
 ghost use Rattle.std.specs.Prelude.{◌≡◌, ◌≤◌, ℕ, List, Option, None, IsSome, IfOk, is_ok, length};
 ghost use Rattle.std.specs.Bool.{OnFalse, OnTrue};
+ghost use Rattle.pr_num.specs.Limits.{message_bytes_limit};
 ghost use Rattle.pr_num.specs.Messages.{bad_operand};
 ghost use Rattle.pr_num.specs.Spaces.{bytes_for};
 ghost use Rattle.pr_num.specs.declared.messages.Message.TheVariants as message;
@@ -18,7 +19,7 @@ use std::alloc::Global;
 
 /// The bytes from an address on, whatever their protection (EIO where not all of them are mapped).
 fn read_space(alloc: Global, space: &Space, at: u64, size: u64) -> Result<Reply, NoMemory>
-    requires { size ≤ 4096 }
+    requires { size ≤ message_bytes_limit }
     ensures { IfOk result (λ reply. reply ≡ memory_reply (bytes_for 0 space.now at size)) }
 {
     let mut bytes = vec![in alloc; 0; size as usize]?;

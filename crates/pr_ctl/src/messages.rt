@@ -1,9 +1,9 @@
 //! Writes of control messages (proc(4), "CONTROL MESSAGES"): what the first message of a write does.
 ghost use Rattle.std.specs.Prelude.{◌≡◌, ◌≤◌, true, None, IsOk, IfOk, OnErr, length};
 ghost use Rattle.std.specs.Option.{ForSome, IsSome};
+ghost use Rattle.pr_num.specs.Limits.{clock_limit};
 ghost use Rattle.pr_num.specs.Messages.{bad_operand, first_message, unpadded_length};
 ghost use Rattle.pr_model.specs.ControlMessages.{control_answer, decoded_answer, system_refusal, tail_of, target_of};
-ghost use Rattle.pr_model.specs.Legal.{clock_limit};
 ghost use Rattle.pr_model.specs.State.{live_process};
 ghost use Rattle.pr_ctl.specs.Answers.{Answers};
 ghost use Rattle.pr_ctl.specs.Memory.{begins_in_place, is_in_place};

@@ -3,8 +3,9 @@ use Rattle.std.proofs.Common.{◌≡◌, ◌==◌, ◌<◌, ◌+◌, ℕ, Bool, 
 use Rattle.std.proofs.lemmas.Bool.{and_from, and_parts, eqb-true}
 use Rattle.std.proofs.lemmas.Bool.Decides.{nat_tests}
 use Rattle.std.proofs.lemmas.Option.{same_Some}
+use Rattle.pr_num.specs.Limits.{clock_limit}
 use Rattle.pr_model.specs.Calls.{Answer, answer_to}
-use Rattle.pr_model.specs.Legal.{IsLegal, IsLegalEntry, after, clock_limit}
+use Rattle.pr_model.specs.Legal.{IsLegal, IsLegalEntry, after}
 use Rattle.pr_model.specs.LwpTurns.{LwpTurn, turn_of}
 use Rattle.pr_model.specs.State.{TracedState, TracedSystem}
 use Rattle.pr_model.specs.declared.calls.Reply.{Reply}

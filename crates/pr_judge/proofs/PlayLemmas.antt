@@ -2,11 +2,12 @@
 use Rattle.std.proofs.Common.{◌≡◌, ◌≢◌, ◌==◌, ◌<◌, ◌≤◌, ◌+◌, ℕ, Bool, true, false, Option, Some, None, IfSome, is_some, [], ◌∷◌, ◌++◌, refl, sym, ◌∙◌, ap, subst, arith, rules}
 use Rattle.std.proofs.lemmas.Bool.{eqb-true}
 use Rattle.std.proofs.lemmas.Option.{same_Some}
+use Rattle.pr_num.specs.Limits.{clock_limit}
 use Rattle.pr_api.specs.Entries.{call_entry, last_reply_of, tick_entry, turn_entry}
 use Rattle.pr_api.specs.Steps.{IsAnswer, IsCalled, IsTicked, IsTurned, IsTurnOf}
 use Rattle.pr_api.specs.Views.{IsLawful, KernelView, kernel_of}
 use Rattle.pr_model.specs.Calls.{Answer, answer_to}
-use Rattle.pr_model.specs.Legal.{IsLegalEntry, after, after_call, after_turn, clock_limit, ticked}
+use Rattle.pr_model.specs.Legal.{IsLegalEntry, after, after_call, after_turn, ticked}
 use Rattle.pr_model.specs.LwpTurns.{LwpTurn, can_move, turn_of}
 use Rattle.pr_model.specs.State.{TracedState, with_system}
 use Rattle.pr_model.specs.declared.calls.Call.{Call}

@@ -1,8 +1,9 @@
 use Rattle.std.specs.Prelude.{◌≡◌, ◌==◌, ◌<◌, ◌+◌, ◌++◌, ◌&&◌, ℕ, Bool, true, false, List, [], ◌∷◌, Option, Some, None, IfSome, if◌then◌else◌, length, nat_lt, option_map, slice_get, suc, take}
 use Rattle.std.specs.Option.{ForSome}
+use Rattle.pr_num.specs.Limits.{clock_limit}
 use Rattle.pr_api.specs.Views.{KernelView}
 use Rattle.pr_model.specs.Calls.{Answer, answer_to}
-use Rattle.pr_model.specs.Legal.{IsLegal, IsLegalEntry, after, clock_limit, state_after}
+use Rattle.pr_model.specs.Legal.{IsLegal, IsLegalEntry, after, state_after}
 use Rattle.pr_model.specs.LwpTurns.{LwpTurn, turn_of}
 use Rattle.pr_model.specs.State.{TracedState}
 use Rattle.pr_model.specs.declared.calls.Reply.{Reply}

@@ -1,5 +1,6 @@
 //! Whether a history is legal.
 ghost use Rattle.std.specs.Prelude.{◌≤◌, ◌<◌, ◌+◌, length, IfOk, IfSome};
+ghost use Rattle.pr_num.specs.Limits.{controller_limit};
 ghost use Rattle.pr_judge.specs.Judgements.{Judges};
 
 use crate::plays::play;
@@ -21,7 +22,7 @@ pub fn legal<Q: Kernel>(
     controllers: u32,
     history: &History,
 ) -> Result<Option<usize>, NoMemory>
-    requires controllers { controllers ≤ 64 }
+    requires controllers { controllers ≤ controller_limit }
     requires places { length (Q.view kernel).history + length history.now.entries ≤ (Q.view kernel).places }
     ensures judged { IfOk result (λ first. IfSome (Q.view kernel).machine (λ s. Judges controllers s history.now.entries first)) }
     ensures within { IfOk result (λ first. IfSome first (λ place. place < length history.now.entries)) }

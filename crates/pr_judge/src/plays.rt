@@ -1,5 +1,6 @@
 //! An entry of a history, which a kernel is made to play.
 ghost use Rattle.std.specs.Prelude.{◌≡◌, ◌≢◌, ◌≤◌, ◌<◌, true, false, Some, length, IfOk};
+ghost use Rattle.pr_num.specs.Limits.{controller_limit};
 ghost use Rattle.pr_api.specs.Entries.{call_entry, last_reply_of, tick_entry, turn_entry};
 ghost use Rattle.pr_judge.specs.Judgements.{Plays};
 
@@ -8,10 +9,8 @@ use crate::turns::same_did;
 use pr_api::Kernel;
 use pr_model::{Act, Actor, Call, Entry, Reply, Turned};
 use pr_num::NoMemory;
+use pr_num::limits::CLOCK_LIMIT;
 use std::alloc::Global;
-
-/// The clock does not go on from this millisecond.
-const LAST_CLOCK: u64 = 1 << 62;
 
 /// Whether two turns are one.
 #[tactic(auto, using(crate::proofs::TurnLemmas::turns))]
@@ -42,7 +41,7 @@ fn play_call<Q: Kernel>(
     call: &Call,
     reply: &Reply,
 ) -> Result<bool, NoMemory>
-    requires controllers { controllers ≤ 64 }
+    requires controllers { controllers ≤ controller_limit }
     requires place { length (Q.view kernel.old).history < (Q.view kernel.old).places }
     ensures { IfOk result (λ legal. Plays controllers (call_entry by call.now reply.now) (Q.view kernel.old) (Q.view kernel.new) legal) }
 {
@@ -78,7 +77,7 @@ fn play_tick<Q: Kernel>(kernel: &mut Q, controllers: u32, clock: u64) -> bool
     requires place { length (Q.view kernel.old).history < (Q.view kernel.old).places }
     ensures { Plays controllers (tick_entry clock) (Q.view kernel.old) (Q.view kernel.new) result }
 {
-    if kernel.clock() >= LAST_CLOCK {
+    if kernel.clock() >= CLOCK_LIMIT {
         return false;
     }
     kernel.tick();
@@ -94,7 +93,7 @@ fn play_controller<Q: Kernel>(
     by: u32,
     act: &Act,
 ) -> Result<bool, NoMemory>
-    requires controllers { controllers ≤ 64 }
+    requires controllers { controllers ≤ controller_limit }
     requires place { length (Q.view kernel.old).history < (Q.view kernel.old).places }
     ensures { IfOk result (λ legal. Plays controllers (record { actor = Actor.Controller by; act = act.now }) (Q.view kernel.old) (Q.view kernel.new) legal) }
 {
@@ -141,7 +140,7 @@ pub(crate) fn play<Q: Kernel>(
     controllers: u32,
     entry: &Entry,
 ) -> Result<bool, NoMemory>
-    requires controllers { controllers ≤ 64 }
+    requires controllers { controllers ≤ controller_limit }
     requires place { length (Q.view kernel.old).history < (Q.view kernel.old).places }
     ensures { IfOk result (λ legal. Plays controllers entry.now (Q.view kernel.old) (Q.view kernel.new) legal) }
 {

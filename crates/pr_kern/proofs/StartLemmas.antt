@@ -2,7 +2,7 @@ use Rattle.std.proofs.Common.{◌≡◌, ℕ, ◌+◌, ◌≤◌, true, false, O
 use Rattle.std.specs.List.{All, slice_get, sum_by}
 use Rattle.std.proofs.lemmas.List.{length-map}
 use Rattle.std.proofs.lemmas.List.Elements.{All-cons, All-map, All-nil}
-use Rattle.pr_num.specs.Limits.{all_mappings_limit, process_limit}
+use Rattle.pr_num.specs.Limits.{all_mappings_limit, process_limit, file_limit, file_size_limit}
 use Rattle.pr_num.specs.Programs.{Program}
 use Rattle.pr_num.specs.declared.files.StoredFile.{StoredFile}
 use Rattle.pr_parts.specs.FileTables.{IsShortFile, names_differ}
@@ -40,10 +40,10 @@ spawns-sound (place ∷ places) s sound = spawns-sound places _ (spawned-sound s
 pub first-sound : (programs : List Program) (files : List StoredFile) (spawns : List ℕ) → IsSound 0 (first_system programs files spawns)
 first-sound programs files spawns = spawns-sound spawns (bare_system programs files) (bare-sound programs files)
 
-short-stored : (files : List (List ℕ × List ℕ)) → All (λ f. length f.1 ≤ 65536) files → All IsShortFile (stored files)
+short-stored : (files : List (List ℕ × List ℕ)) → All (λ f. length f.1 ≤ file_size_limit) files → All IsShortFile (stored files)
 short-stored files short = All-map IsShortFile stored_file files short
 
-pub start-lawful : (programs : List Program) (files : List (List ℕ × List ℕ)) (spawns : List ℕ) → All IsLawfulProgram programs → length files ≤ 256 → All (λ f. length f.1 ≤ 65536) files → names_differ (stored files) ≡ true
+pub start-lawful : (programs : List Program) (files : List (List ℕ × List ℕ)) (spawns : List ℕ) → All IsLawfulProgram programs → length files ≤ file_limit → All (λ f. length f.1 ≤ file_size_limit) files → names_differ (stored files) ≡ true
     → length spawns + 1 ≤ process_limit → sum_by (λ place. size_at_start (slice_get programs place)) spawns ≤ all_mappings_limit → IsLawful (first_state programs (stored files) spawns)
 start-lawful programs files spawns within few short own_names room mapped =
     first-lawful programs (stored files) spawns
@@ -57,7 +57,7 @@ start-lawful programs files spawns within few short own_names room mapped =
     })
 
 -- the state that a kernel begins with is lawful
-pub started-lawful : (m : TracedState) (slice programs : List Program) (files : List (List ℕ × List ℕ)) (spawns : List ℕ) → All IsLawfulProgram slice → slice ≡ programs → length files ≤ 256 → All (λ f. length f.1 ≤ 65536) files → names_differ (stored files) ≡ true
+pub started-lawful : (m : TracedState) (slice programs : List Program) (files : List (List ℕ × List ℕ)) (spawns : List ℕ) → All IsLawfulProgram slice → slice ≡ programs → length files ≤ file_limit → All (λ f. length f.1 ≤ file_size_limit) files → names_differ (stored files) ≡ true
     → length spawns + 1 ≤ process_limit → sum_by (λ place. size_at_start (slice_get programs place)) spawns ≤ all_mappings_limit → m ≡ first_state programs (stored files) spawns → IsLawful m
 started-lawful m slice programs files spawns within same few short own_names room mapped is =
     subst IsLawful (sym is) (start-lawful programs files spawns (subst (All IsLawfulProgram) same within) few short own_names room mapped)

@@ -1,8 +1,9 @@
 use Rattle.std.proofs.Common.{◌≡◌, ℕ, ◌<◌, ◌+◌, Option, Some, None, refl, sym, ap, subst}
 use Rattle.std.specs.Option.{option_map}
 use Rattle.std.proofs.lemmas.Option.{same_Some}
+use Rattle.pr_num.specs.Limits.{clock_limit}
 use Rattle.pr_model.specs.Calls.{Answer, answer_to}
-use Rattle.pr_model.specs.Legal.{IsLegalEntry, after, after_call as state_after_call, after_turn as state_after_turn, clock_limit}
+use Rattle.pr_model.specs.Legal.{IsLegalEntry, after, after_call as state_after_call, after_turn as state_after_turn}
 use Rattle.pr_model.specs.LwpTurns.{LwpTurn, turn_of}
 use Rattle.pr_model.specs.declared.calls.Call.{Call}
 use Rattle.pr_kern.specs.Kernels.{Kernel, TurnedKernel, after_answer, after_call, after_lwp_turn, after_tick, after_turn, call_entry, tick_entry, turn_entry}

@@ -1,10 +1,10 @@
 //! The calls that controllers make of the kernel: which are ready, and what each answers.
 ghost use Rattle.std.specs.Prelude.{◌≡◌, ◌≤◌, ◌<◌, true, Some, is_some, IsOk, IfOk, OnErr};
+ghost use Rattle.pr_num.specs.Limits.{clock_limit, controller_limit};
 ghost use Rattle.pr_num.specs.Messages.{first_message};
 ghost use Rattle.pr_model.specs.Calls.{Answer, answer_to, controlled, is_interrupted};
 ghost use Rattle.pr_model.specs.ControlMessages.{control_answer, wait_reply};
 ghost use Rattle.pr_model.specs.Lawful.{IsLawfulSystem};
-ghost use Rattle.pr_model.specs.Legal.{clock_limit};
 ghost use Rattle.pr_ctl.specs.Memory.{begins_in_place};
 ghost use Rattle.pr_kern.specs.Kernels.{takes_no_memory};
 
@@ -73,7 +73,7 @@ pub fn ready(state: &Machine, by: u32, call: &Call) -> bool
 /// Answers a call that is ready. Where memory runs out, the state is as it was.
 #[tactic(auto, using(crate::proofs::WaitLemmas::wait_laws), unfolding(pr_model::specs::Calls::answer_to))]
 pub fn answer(state: &mut Machine, alloc: Global, by: u32, call: &Call) -> Result<Reply, NoMemory>
-    requires by { by < 64 }
+    requires by { by < controller_limit }
     requires clock { state.old.system.clock ≤ clock_limit }
     requires ready { is_some (answer_to state.old by call.now) ≡ true }
     requires lawful { IsLawfulSystem state.old.system }

@@ -2,6 +2,7 @@
 ghost use Rattle.std.specs.Prelude.{◌≡◌, ◌<◌, find};
 ghost use Rattle.std.specs.List.{list_all};
 ghost use Rattle.std.specs.Option.{option_copied};
+ghost use Rattle.pr_num.specs.Limits.{controller_limit};
 ghost use Rattle.pr_model.specs.Calls.{Answer, control_ready, interrupt_answer, is_handle_ready, is_interrupted, is_open_by, is_polled_ready, waited};
 ghost use Rattle.pr_model.specs.ControlMessages.{target_of};
 ghost use Rattle.pr_kern.specs.Waits.{poll_reply, until_reply};
@@ -25,7 +26,7 @@ pub fn is_interrupted(state: &Machine, by: u32) -> bool
 
 /// What a wait that is over leaves: a reply of EINTR is how a controller sees that it was interrupted.
 pub fn finish(state: &mut Machine, by: u32, reply: Reply) -> Reply
-    requires { by < 64 }
+    requires { by < controller_limit }
     ensures { (record { state = state.new; reply = result }) ≡ waited state.old by reply }
 {
     // only an interrupted wait gets EINTR, so that its bit is set

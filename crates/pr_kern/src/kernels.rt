@@ -3,12 +3,11 @@ ghost use Rattle.std.specs.Option.{option_copied};
 ghost use Rattle.pr_model.specs.Calls.{answer_to};
 ghost use Rattle.pr_model.specs.FirstState.{first_state, size_at_start};
 ghost use Rattle.pr_model.specs.Lawful.{IsLawful};
-ghost use Rattle.pr_model.specs.Legal.{clock_limit};
 ghost use Rattle.pr_kern.specs.Kernels.{after_call, after_tick, after_turn, last_reply_of, some_sleeper, takes_no_memory};
 ghost use Rattle.pr_model.specs.LwpTurns.{can_move};
 ghost use Rattle.pr_kern.specs.Orders.{next_of};
 ghost use Rattle.pr_kern.specs.Starts.{stored};
-ghost use Rattle.pr_num.specs.Limits.{all_mappings_limit, process_limit};
+ghost use Rattle.pr_num.specs.Limits.{all_mappings_limit, process_limit, clock_limit, file_limit, file_size_limit, controller_limit};
 ghost use Rattle.pr_parts.specs.FileTables.{names_differ};
 ghost use Rattle.pr_turn.specs.CallTurns.{may_take_memory};
 
@@ -59,8 +58,8 @@ impl Kern {
     ) -> Result<Kern, NoMemory>
         requires spawns { length spawns.now + 1 ≤ process_limit }
         requires mapped { sum_by (λ place. size_at_start (slice_get programs.items place)) spawns.now ≤ all_mappings_limit }
-        requires few { length files.items ≤ 256 }
-        requires short { All (λ f. length f.1 ≤ 65536) files.items }
+        requires few { length files.items ≤ file_limit }
+        requires short { All (λ f. length f.1 ≤ file_size_limit) files.items }
         requires own_names { names_differ (stored files.items) ≡ true }
         ensures state { IfOk result (λ kernel. kernel.state ≡ first_state programs.items (stored files.items) spawns.now) }
         ensures history { IfOk result (λ kernel. kernel.history ≡ []) }
@@ -92,7 +91,7 @@ impl Kern {
     /// finds is lawful.
     #[tactic(auto, unfolding(crate::specs::Kernels::after_call))]
     pub fn call(&mut self, by: u32, call: Call) -> Result<(), NoMemory>
-        requires by { by < 64 }
+        requires by { by < controller_limit }
         requires ready { is_some (answer_to self.old.state by call) ≡ true }
         requires place { length self.old.history < self.old.places }
         ensures ok { OnOk result (after_call by call self.old ≡ Some self.new) }

@@ -1,6 +1,7 @@
 //! Laws of the kernel's steps. Each function does nothing: its clauses are what is proved.
 ghost use Rattle.std.specs.Prelude.{◌≡◌, ◌<◌, ◌+◌, ◌++◌, ℕ, [], ◌∷◌, Some};
-ghost use Rattle.pr_model.specs.Legal.{IsLegalEntry, after, clock_limit};
+ghost use Rattle.pr_num.specs.Limits.{clock_limit};
+ghost use Rattle.pr_model.specs.Legal.{IsLegalEntry, after};
 ghost use Rattle.pr_model.specs.declared.calls.Call.{Call};
 ghost use Rattle.pr_kern.specs.Kernels.{Kernel, TurnedKernel, after_call, after_tick, after_turn};
 ghost use Rattle.pr_kern.specs.Steps.{Adds};

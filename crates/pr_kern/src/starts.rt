@@ -1,6 +1,6 @@
 //! The state before the first step.
 ghost use Rattle.std.specs.Prelude.{◌≡◌, ◌≤◌, ◌+◌, All, length, true, IfOk};
-ghost use Rattle.pr_num.specs.Limits.{process_limit};
+ghost use Rattle.pr_num.specs.Limits.{process_limit, file_limit, file_size_limit};
 ghost use Rattle.pr_parts.specs.FileTables.{names_differ};
 ghost use Rattle.pr_proc.specs.FirstFiles.{stored_alone};
 ghost use Rattle.pr_model.specs.FirstState.{first_state};
@@ -18,8 +18,8 @@ use std::alloc::Global;
 /// Files as the system keeps them.
 #[tactic(auto, using(crate::proofs::FileLemmas::storing))]
 fn stored(alloc: Global, files: Vec<(Name, Bytes)>) -> Result<Files, NoMemory>
-    requires few { length files.items ≤ 256 }
-    requires short { All (λ f. length f.1 ≤ 65536) files.items }
+    requires few { length files.items ≤ file_limit }
+    requires short { All (λ f. length f.1 ≤ file_size_limit) files.items }
     requires own_names { names_differ (stored files.items) ≡ true }
     ensures { IfOk result (λ all. all ≡ stored_alone (stored files.items)) }
 {
@@ -58,8 +58,8 @@ pub fn first_machine(
     spawns: &[u32],
 ) -> Result<Machine, NoMemory>
     requires spawns { length spawns.now + 1 ≤ process_limit }
-    requires few { length files.items ≤ 256 }
-    requires short { All (λ f. length f.1 ≤ 65536) files.items }
+    requires few { length files.items ≤ file_limit }
+    requires short { All (λ f. length f.1 ≤ file_size_limit) files.items }
     requires own_names { names_differ (stored files.items) ≡ true }
     ensures { IfOk result (λ state. state ≡ first_state programs.items (stored files.items) spawns.now) }
 {

@@ -2,6 +2,7 @@ use Rattle.std.proofs.Common.{◌≡◌, ℕ, ◌+◌, ◌<◌, ◌≤◌, Bool,
 use Rattle.std.specs.List.{count_by, position}
 use Rattle.std.proofs.lemmas.Bool.{ltb-true, ltb-false, leb-true}
 use Rattle.std.proofs.lemmas.List.{length-set, length-take}
+use Rattle.pr_num.specs.Limits.{file_limit, file_size_limit, pipe_limit, pipe_size_limit}
 use Rattle.pr_num.specs.Files.{FileTable, Descriptors, pipe_of}
 use Rattle.pr_num.specs.declared.files.OpenFile.{OpenFile}
 use Rattle.pr_num.specs.declared.files.Target.{Target}
@@ -65,8 +66,8 @@ module _ (t : FileTable) (fds : Descriptors) (h : IsFileTable t) where
   created-ordered : (fd : ℕ) (name : List ℕ) (flags : ℕ) → file_named t name ≡ None → IsOrdered t fds (created_file t fds fd name flags)
   unfolding created_file opened_file
   created-ordered fd name flags none =
-      choice (IsOrdered t fds) (ltb (length t.files) 256) (opened_file (with_file t name []) fds fd (length t.files) flags) _
-      (λ few. record { table = IsFileTable-created t name (access_of flags) (ltb-true (length t.files) 256 few) none h; places = length-set fds fd _ })
+      choice (IsOrdered t fds) (ltb (length t.files) file_limit) (opened_file (with_file t name []) fds fd (length t.files) flags) _
+      (λ few. record { table = IsFileTable-created t name (access_of flags) (ltb-true (length t.files) file_limit few) none h; places = length-set fds fd _ })
       (λ full. record { table = h; places = refl })
 
   named-within : (name : List ℕ) (file : ℕ) → file_named t name ≡ Some file → file < length t.files
@@ -100,13 +101,13 @@ module _ (t : FileTable) (fds : Descriptors) (h : IsFileTable t) where
       two : (reader writer at to : ℕ) → length (set (set fds reader (Some at)) writer (Some to)) ≡ length fds
       two reader writer at to = length-set (set fds reader (Some at)) writer (Some to) ∙ length-set fds reader (Some at)
 
-      at_room : (room : Bool) (reader writer : ℕ) → position is_none fds ≡ Some reader → free_fd_behind fds reader ≡ Some writer → ltb (count_by is_some t.pipes) 256 ≡ room → IsOrdered t fds (piped t fds)
+      at_room : (room : Bool) (reader writer : ℕ) → position is_none fds ≡ Some reader → free_fd_behind fds reader ≡ Some writer → ltb (count_by is_some t.pipes) pipe_limit ≡ room → IsOrdered t fds (piped t fds)
       at_room true reader writer first second room = rw (first, second, room) (record { table = IsFileTable-with_pipe t (ltb-true _ _ room) h; places = two reader writer _ _ })
       at_room false reader writer first second room = rw (first, second, room) (record { table = h; places = refl })
 
       at_second : (reader : ℕ) (writer : Option ℕ) → position is_none fds ≡ Some reader → free_fd_behind fds reader ≡ writer → IsOrdered t fds (piped t fds)
       at_second reader None first second = rw (first, second) (record { table = h; places = refl })
-      at_second reader (Some writer) first second = at_room (ltb (count_by is_some t.pipes) 256) reader writer first second refl
+      at_second reader (Some writer) first second = at_room (ltb (count_by is_some t.pipes) pipe_limit) reader writer first second refl
 
       by : (reader : Option ℕ) → position is_none fds ≡ reader → IsOrdered t fds (piped t fds)
       by None first = rw first (record { table = h; places = refl })
@@ -125,13 +126,13 @@ module _ (t : FileTable) (fds : Descriptors) (h : IsFileTable t) where
       by None is = rw is (same BadFd, refl)
       by (Some found) is =
           rw is (choice Good (is_some (pipe_of found.1.target)) (refused t fds NotSeekable) _ (λ pipe. (same NotSeekable, refl)) (λ file.
-          choice Good (leb offset 65536) (record { files = with_open_at t found.0 (record found.1 { offset = offset }); fds = fds; answer = Ok offset }) (refused t fds BadOffset)
-          (λ within. (record { table = IsFileTable-moved t found.0 offset found.1 (IsOpenFile-at t found.0 found.1 (open_of-there t fds fd found is) h) (leb-true offset 65536 within) h; places = refl }, refl))
+          choice Good (leb offset file_size_limit) (record { files = with_open_at t found.0 (record found.1 { offset = offset }); fds = fds; answer = Ok offset }) (refused t fds BadOffset)
+          (λ within. (record { table = IsFileTable-moved t found.0 offset found.1 (IsOpenFile-at t found.0 found.1 (open_of-there t fds fd found is) h) (leb-true offset file_size_limit within) h; places = refl }, refl))
           (λ past. (same BadOffset, refl))))
 
   -- ---- read
 
-  read-within : (most offset : ℕ) (bytes : List ℕ) → length bytes ≤ 65536 → offset ≤ 65536 → offset + length (bytes_from bytes offset most) ≤ 65536
+  read-within : (most offset : ℕ) (bytes : List ℕ) → length bytes ≤ file_size_limit → offset ≤ file_size_limit → offset + length (bytes_from bytes offset most) ≤ file_size_limit
   read-within most offset bytes short within =
       let taken = length-take most (drop offset bytes) in
       let left = length-drop offset bytes in
@@ -175,7 +176,7 @@ module _ (t : FileTable) (fds : Descriptors) (h : IsFileTable t) where
   unfolding write_pipe Written
   write_pipe-ordered pipe bytes =
       choice Written (has_reader t pipe) _ _
-      (λ read. choice Written (ltb 4096 (length (pipe_bytes t pipe) + length bytes)) _ _
+      (λ read. choice Written (ltb pipe_size_limit (length (pipe_bytes t pipe) + length bytes)) _ _
       (λ full. (record { table = h; places = refl }, refl))
       (λ room. (record { table = IsFileTable-extended t pipe bytes (ltb-false _ _ room) h; places = refl }, refl)))
       (λ broken. (record { table = h; places = refl }, refl))
@@ -183,7 +184,7 @@ module _ (t : FileTable) (fds : Descriptors) (h : IsFileTable t) where
   write_file-ordered : (here file : ℕ) (o : OpenFile) (bytes : List ℕ) → at_place t.opens here ≡ Some (record o { target = File file }) → Written (write_file t fds here (record o { target = File file }) file bytes)
   unfolding write_file Written
   write_file-ordered here file o bytes there =
-      choice Written (ltb 65536 (o.offset + length bytes)) _ _
+      choice Written (ltb file_size_limit (o.offset + length bytes)) _ _
       (λ full. (record { table = h; places = refl }, refl))
       (λ room. (record { table = IsFileTable-written t here file (record o { target = File file }) bytes (IsOpenFile-at t here (record o { target = File file }) there h) (ltb-false _ _ room) h; places = refl }, refl))
 

@@ -3,7 +3,7 @@ use Rattle.std.specs.List.{All, find, slice_get}
 use Rattle.std.proofs.lemmas.Bool.{le-leb, or_right}
 use Rattle.std.proofs.lemmas.List.Elements.{All-head, All-tail}
 use Rattle.std.proofs.lemmas.Option.{same_Some, none-some}
-use Rattle.pr_num.specs.Layout.{break_limit, gap_base, heap_base}
+use Rattle.pr_num.specs.Layout.{break_limit, gap_base, heap_base, page_size}
 use Rattle.pr_num.proofs.ListLemmas.{length-text}
 use Rattle.pr_num.specs.Programs.{Program, text_of}
 use Rattle.pr_num.specs.Spaces.{Space, first_space}
@@ -49,9 +49,9 @@ gap-above : (size : ℕ) (space : Space) (at places found : ℕ) → gap_from si
 unfolding gap_from
 gap-above size space at zero found is = absurd (none-some found is)
 gap-above size space at (suc places) found is =
-    elim (is_gap size space at) as (λ b. cond b (Some at) (gap_from size space (at + 4096) places) ≡ Some found → at ≤ found) [
+    elim (is_gap size space at) as (λ b. cond b (Some at) (gap_from size space (at + page_size) places) ≡ Some found → at ≤ found) [
       | true ↦ λ here. let same = same_Some at found here in omega arith
-      | false ↦ λ there. let above = gap-above size space (at + 4096) places found there in omega arith
+      | false ↦ λ there. let above = gap-above size space (at + page_size) places found there in omega arith
     ] is
 
 pub gap-outside : (size : ℕ) (space : Space) (at : ℕ) → gap_in size space ≡ Some at → is_outside_heap_place at size ≡ true

@@ -11,7 +11,7 @@ use Rattle.pr_parts.specs.FileTables.{HasRoom, users_at, stands_for}
 use Rattle.pr_file.proofs.CountLemmas.{HasRoom-from_users}
 use Rattle.pr_model.specs.Handles.{has_writer, is_writer}
 use Rattle.pr_model.specs.Lawful.{IsLawful, IsOfMade, IsLawfulLwp, IsLawfulProcess, IsNumberedBelow, IsLawfulSystem}
-use Rattle.pr_num.specs.Limits.{last_lwp}
+use Rattle.pr_num.specs.Limits.{last_lwp, descriptor_limit}
 use Rattle.pr_model.specs.State.{Places, TracedState, TracedLwp, TracedProcess, TracedSystem, process_of, lwp_of, live_process}
 use Rattle.pr_lawful.proofs.EndLemmas.{found-live}
 use Rattle.pr_lawful.proofs.SumLemmas.{sum-most, count_in, all_users-sum}
@@ -33,7 +33,7 @@ pub few-processes : (s : TracedSystem) → IsLawfulSystem s → length s.process
 few-processes s h = let few = numbered-few s.made 0 s.processes h.rising h.numbered in omega arith
 
 -- an open file has no more users than all processes have descriptors
-few-descriptors : (place : ℕ) (e : ℕ × TracedProcess) → IsLawfulProcess e → count_in place e.1 ≤ 64
+few-descriptors : (place : ℕ) (e : ℕ × TracedProcess) → IsLawfulProcess e → count_in place e.1 ≤ descriptor_limit
 few-descriptors place e h =
     let most = count_by-le-length (stands_for place) e.1.fds in
     let all = h.descriptors in
@@ -43,13 +43,13 @@ few-users : (s : TracedSystem) (place : ℕ) → IsLawfulSystem s → users_at s
 few-users s place h =
     let counted = h.files.users place in
     let sum = all_users-sum place s.processes in
-    let most = sum-most (count_in place) 64 s.processes (All-weaker IsLawfulProcess (λ (e : ℕ × TracedProcess). count_in place e.1 ≤ 64) (few-descriptors place) s.processes h.processes) in
+    let most = sum-most (count_in place) descriptor_limit s.processes (All-weaker IsLawfulProcess (λ (e : ℕ × TracedProcess). count_in place e.1 ≤ descriptor_limit) (few-descriptors place) s.processes h.processes) in
     let processes = few-processes s h in
     let made = h.made in
     omega arith
 
-pub files-room : (s : TracedSystem) → IsLawfulSystem s → HasRoom s.files 64
-files-room s h = HasRoom-from_users s.files 64 (λ place. let few = few-users s place h in omega arith)
+pub files-room : (s : TracedSystem) → IsLawfulSystem s → HasRoom s.files descriptor_limit
+files-room s h = HasRoom-from_users s.files descriptor_limit (λ place. let few = few-users s place h in omega arith)
 
 pub files-room-one : (s : TracedSystem) → IsLawfulSystem s → HasRoom s.files 1
 files-room-one s h = HasRoom-from_users s.files 1 (λ place. let few = few-users s place h in omega arith)

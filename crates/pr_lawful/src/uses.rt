@@ -3,7 +3,7 @@ ghost use Rattle.pr_parts.specs.FileTables.{AreOpenIn, HasRoom};
 ghost use Rattle.pr_model.specs.Handles.{has_writer};
 ghost use Rattle.pr_model.specs.Lawful.{IsLawful, IsLawfulLwp, IsLawfulProcess, IsLawfulSystem};
 ghost use Rattle.pr_model.specs.Records.{lstatus_of};
-ghost use Rattle.pr_num.specs.Limits.{last_lwp};
+ghost use Rattle.pr_num.specs.Limits.{last_lwp, descriptor_limit};
 ghost use Rattle.pr_model.specs.Statuses.{lwpstatus_of, status_of};
 ghost use Rattle.pr_rec.specs.InRange.{IsInfo};
 ghost use Rattle.pr_model.specs.State.{TracedLwp, TracedProcess, TracedState, TracedSystem, live_process, lwp_of, process_of};
@@ -14,7 +14,7 @@ ghost use Rattle.pr_model.specs.State.{TracedLwp, TracedProcess, TracedState, Tr
 #[tactic(auto, using(crate::proofs::UseLemmas::uses))]
 pub fn lawful_systems_have_room()
     ensures descriptors { (s : TracedSystem) (pid : ℕ) (p : TracedProcess) → IsLawfulSystem s → process_of s pid ≡ Some p → AreOpenIn p.fds s.files }
-    ensures files { (s : TracedSystem) → IsLawfulSystem s → HasRoom s.files 64 }
+    ensures files { (s : TracedSystem) → IsLawfulSystem s → HasRoom s.files descriptor_limit }
     ensures one_more { (s : TracedSystem) → IsLawfulSystem s → HasRoom s.files 1 }
     ensures process_id { (s : TracedSystem) → IsLawfulSystem s → process_of s s.made ≡ None }
     ensures lwp_id { (s : TracedSystem) (pid : ℕ) (p : TracedProcess) → IsLawfulSystem s → process_of s pid ≡ Some p → p.next_lwp ≤ last_lwp → lwp_of p p.next_lwp ≡ None }

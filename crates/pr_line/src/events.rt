@@ -2,11 +2,9 @@
 ghost use Rattle.std.specs.Prelude.{◌≡◌};
 ghost use Rattle.pr_line.specs.Events.{result_of, named_call, stopped_call, event_for, event_of};
 
+use pr_model::PC;
 use pr_num::{Errno, Flt, Info, Sig, StopReason, Sysno};
 use pr_rec::{Disposition, LwpStatus};
-
-/// The place of the program counter among the registers of a status.
-const PC: usize = 10;
 
 /// What an lwp stands on, as its status tells it (proc(4), "lwpstatus").
 #[derive(Clone, Copy, Debug, PartialEq, Eq)]

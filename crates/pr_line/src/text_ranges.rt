@@ -4,11 +4,8 @@ ghost use Rattle.pr_line.specs.TextRanges.{text_range};
 ghost use Rattle.pr_model.specs.ShownBytes.{transferable, buffer_size, buffer_range, range_from};
 
 use crate::Event;
-use pr_num::limits::TRANSFER_LIMIT;
+use pr_num::limits::{ASKED_LIMIT, TRANSFER_LIMIT};
 use pr_num::{ArgKind, Sysno};
-
-/// How many bytes are read for a text: one more than is shown.
-const TEXT_LENGTH: u64 = 65;
 
 /// A number of bytes that one call can move.
 fn transferable(size: u64) -> Option<u64>
@@ -39,7 +36,7 @@ fn buffer_range(address: u64, size: Option<u64>) -> Option<(u64, u64)>
 {
     match size {
         None | Some(0) => None,
-        Some(size) => Some((address, size.min(TEXT_LENGTH))),
+        Some(size) => Some((address, size.min(ASKED_LIMIT as u64))),
     }
 }
 
@@ -52,7 +49,7 @@ fn range_of(arguments: &[u64; 6], size: Option<u64>, kinds: &[ArgKind]) -> Optio
     for (i, kind) in kinds.iter().enumerate() {
         match *kind {
             ArgKind::Dec | ArgKind::Hex => {}
-            ArgKind::Text => return Some((arguments[i], TEXT_LENGTH)),
+            ArgKind::Text => return Some((arguments[i], ASKED_LIMIT as u64)),
             ArgKind::Buf => return buffer_range(arguments[i], size),
         }
     }

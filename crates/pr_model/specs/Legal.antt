@@ -1,4 +1,5 @@
-use Rattle.std.specs.Prelude.{◌≡◌, ◌<◌, ◌+◌, ◌^◌, ℕ, List, [], ◌∷◌, Option, Some, None}
+use Rattle.std.specs.Prelude.{◌≡◌, ◌<◌, ◌+◌, ℕ, List, [], ◌∷◌, Option, Some, None}
+use Rattle.pr_num.specs.Limits.{clock_limit}
 use Rattle.pr_model.specs.Calls.{Answer, answer_to}
 use Rattle.pr_model.specs.LwpTurns.{LwpTurn, turn_of}
 use Rattle.pr_model.specs.State.{TracedState, TracedSystem, with_system}
@@ -9,10 +10,6 @@ use Rattle.pr_model.specs.declared.events.Actor.TheVariants.{Controller, Lwp, Cl
 use Rattle.pr_model.specs.declared.events.Entry.{Entry}
 
 -- Legal histories: every entry is what the machine does.
-
--- the clock goes on below this moment, and not from it on
-abbrev pub clock_limit : ℕ
-clock_limit = 2 ^ 62
 
 -- the system a millisecond later
 abbrev pub ticked : TracedSystem → TracedSystem

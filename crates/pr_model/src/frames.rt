@@ -1,7 +1,9 @@
 ghost use Rattle.std.specs.Prelude.{◌≡◌, ◌≤◌, ◌<◌, ◌-◌, List, [], ◌∷◌, ◌++◌, length, take, slice_get, option_copied};
+ghost use Rattle.pr_num.specs.Limits.{frame_limit};
 
 use arrayvec::ArrayVec;
 use pr_num::SigSet;
+use pr_num::limits::FRAME_LIMIT;
 use std::marker::Model;
 
 /// What a signal handler interrupted, and comes back with sigreturn.
@@ -30,7 +32,7 @@ impl Default for Frame {
 /// list.
 #[derive(Drop)]
 pub struct Frames {
-    items: ArrayVec<Frame, 32>,
+    items: ArrayVec<Frame, FRAME_LIMIT>,
 }
 
 impl Model for Frames {
@@ -44,7 +46,7 @@ impl Model for Frames {
 
 impl Frames {
     /// How many frames there can be.
-    pub const MAX: usize = 32;
+    pub const MAX: usize = FRAME_LIMIT;
 
     /// No frames.
     pub fn new() -> Frames
@@ -58,14 +60,14 @@ impl Frames {
     /// How many frames there are, at most 32.
     pub fn len(&self) -> usize
         ensures value { result ≡ length self.now }
-        ensures limit { length self.now ≤ 32 }
+        ensures limit { length self.now ≤ frame_limit }
     {
         self.items.len()
     }
 
     /// Puts a frame behind the others.
     pub fn push(&mut self, frame: Frame)
-        requires { length self.old < 32 }
+        requires { length self.old < frame_limit }
         ensures { self.new ≡ self.old ++ frame ∷ [] }
     {
         self.items.push(frame);

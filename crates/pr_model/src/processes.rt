@@ -1,4 +1,5 @@
 use crate::Lwp;
+use pr_num::limits::SIGNAL_COUNT;
 use pr_num::{ById, FltSet, Modes, Name, Sig, SigSet, SysSet};
 
 /// What a process has used, counted from its making (proc(4), "usage").
@@ -32,7 +33,7 @@ pub struct ProcessOf<S, F, P, L, C> {
     pub space: S,
     pub fds: F,
     /// For each signal from 1 on: 0 default, 1 ignored, else the address of its handler.
-    pub dispositions: [u64; 39],
+    pub dispositions: [u64; SIGNAL_COUNT],
     /// The signals sent to the process that no lwp has taken yet.
     pub pending: P,
     /// The signal that stopped it by job control.

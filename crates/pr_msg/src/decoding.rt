@@ -1,4 +1,5 @@
 ghost use Rattle.std.specs.Prelude.{◌≡◌, ◌↔◌, ◌+◌, ◌*◌, ◌≤◌, ℕ, length, Some, None, Ok, IfOk, if◌then◌else◌};
+ghost use Rattle.pr_num.specs.Limits.{message_bytes_limit};
 ghost use Rattle.pr_num.specs.declared.messages.Message.{Message};
 ghost use Rattle.pr_msg.specs.Beginnings.{BeginsWith};
 ghost use Rattle.pr_num.specs.Messages.{nth_word, one_word, two_words, three_words, eleven_words, message_read, bad_operand, in_columns, tail_length, operand_count, unpadded_length, encoded_length, with_tail, first_message};
@@ -191,7 +192,7 @@ fn bad_area(at: u64, size: u64, flags: u64) -> Option<u32>
 #[tactic(auto, unfolding(pr_num::specs::Messages::in_columns, pr_num::specs::Messages::bad_operand, pr_num::specs::Messages::tail_length))]
 fn in_columns(message: Message) -> Result<Message, MsgFault>
     ensures value { result ≡ in_columns message }
-    ensures tail { IfOk result (λ m. tail_length m ≤ 4096) }
+    ensures tail { IfOk result (λ m. tail_length m ≤ message_bytes_limit) }
 {
     match bad_operand(&message) {
         None => Ok(message),
@@ -263,7 +264,7 @@ fn first_message(bytes: &[u8]) -> Result<(Message, usize), MsgFault>
 
 #[tactic(auto, unfolding(pr_num::specs::Messages::with_tail, pr_num::specs::Messages::encoded_length, pr_num::specs::Messages::unpadded_length))]
 fn with_tail(bytes: &[u8], message: Message) -> Result<(Message, usize), MsgFault>
-    requires { tail_length message ≤ 4096 }
+    requires { tail_length message ≤ message_bytes_limit }
     ensures { result ≡ with_tail bytes.now message }
 {
     let tail = tail_length(&message) as usize;

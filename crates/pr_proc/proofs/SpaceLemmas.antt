@@ -1,11 +1,12 @@
 use Rattle.std.proofs.Common.{◌≡◌, ◌≤◌, length, refl, arith}
+use Rattle.pr_num.specs.Limits.{code_limit, text_limit}
 use Rattle.pr_num.proofs.ListLemmas.{length-text}
 use Rattle.pr_num.specs.Programs.{Program, text_of}
 use Rattle.pr_num.specs.Spaces.{first_mappings, first_space}
 
 -- The space in which a program begins.
 
-pub text-within : (p : Program) → length p.code ≤ 4096 → length (text_of p) ≤ 0x10000
+pub text-within : (p : Program) → length p.code ≤ code_limit → length (text_of p) ≤ text_limit
 text-within p within = omega (arith, length-text p.code)
 
 -- it is made of the text and the data

@@ -13,6 +13,7 @@ use crate::signals::tell;
 use crate::{Proc, Sys, live};
 use pr_file::Fds;
 use pr_model::Control;
+use pr_num::limits::SIGNAL_COUNT;
 use pr_num::{ById, FltSet, Info, Modes, Sig, SigSet, SysSet};
 use pr_sig::Pendings;
 use pr_watch::Areas;
@@ -41,7 +42,7 @@ fn become_zombie(process: &mut Proc, status: u64) -> Fds
     let fds = mem::replace(&mut process.fds, Fds::new());
     process.ended = Some(status);
     process.space.clear();
-    process.dispositions = [0; 39];
+    process.dispositions = [0; SIGNAL_COUNT];
     process.pending = Pendings::new();
     process.job_stop = None;
     process.next_lwp = 1;

@@ -13,6 +13,7 @@ use crate::{Lwp, Proc, ProcNo, Sys, live, size_of, total_has_room};
 use pr_asm::Program;
 use pr_mem::Space;
 use pr_model::{Control, Frames};
+use pr_num::limits::SIGNAL_COUNT;
 use pr_num::{ById, NoMemory};
 use pr_watch::Areas;
 use std::alloc::Global;
@@ -25,10 +26,10 @@ fn uncaught(disposition: u64) -> u64
 }
 
 #[tactic(auto, using(std::proofs::lemmas::List::Edits::map_over_more))]
-fn catch_nothing(dispositions: &mut [u64; 39])
+fn catch_nothing(dispositions: &mut [u64; SIGNAL_COUNT])
     ensures { dispositions.new ≡ map uncaught dispositions.old }
 {
-    for place in 0..39 {
+    for place in 0..SIGNAL_COUNT {
         dispositions[place] = uncaught(dispositions[place]);
     }
 }

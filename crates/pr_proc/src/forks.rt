@@ -1,6 +1,7 @@
 //! How a process is forked (fork(2)).
 ghost use Rattle.std.specs.Prelude.{◌≡◌, ◌+◌, ◌<◌, ◌≤◌, ◌^◌, [], ◌∷◌, None, IfOk, IfSome, IsSome, OnOk, OnErr, length};
 ghost use Rattle.std.specs.Option.{ForSome};
+ghost use Rattle.pr_num.specs.Limits.{descriptor_limit};
 ghost use Rattle.pr_num.specs.ById.{under};
 ghost use Rattle.pr_parts.specs.FileCalls.{with_all_shared};
 ghost use Rattle.pr_parts.specs.FileTables.{HasRoom};
@@ -205,7 +206,7 @@ fn give_fds(process: &mut Proc, fds: Fds)
 #[tactic(auto, using(pr_num::proofs::ByIdLaws::by_id_laws))]
 fn share_fds(sys: &mut Sys, pid: u32) -> Fds
     requires stands { IsSome (under pid sys.old.processes) }
-    requires users { HasRoom sys.old.files 64 }
+    requires users { HasRoom sys.old.files descriptor_limit }
     ensures system { ForSome (under pid sys.old.processes) (λ p. sys.new ≡ record sys.old { files = with_all_shared sys.old.files p.fds }) }
     ensures processes { sys.new.processes ≡ sys.old.processes }
     ensures fds { ForSome (under pid sys.old.processes) (λ p. result ≡ p.fds) }
@@ -230,7 +231,7 @@ fn add_child(sys: &mut Sys, pid: u32, child: Proc) -> Result<(), NoMemory>
     requires live { IsSome (live_process sys.old pid) }
     requires room { sys.old.made + 1 < 2 ^ 32 }
     requires free { process_of sys.old sys.old.made ≡ None }
-    requires users { HasRoom sys.old.files 64 }
+    requires users { HasRoom sys.old.files descriptor_limit }
     ensures ok { OnOk result (ForSome (live_process sys.old pid) (λ p. sys.new ≡ with_made (with_fds p.fds child) (record sys.old { files = with_all_shared sys.old.files p.fds }))) }
     ensures err { OnErr result (sys.new ≡ sys.old) }
 {
@@ -251,7 +252,7 @@ pub fn fork(alloc: Global, sys: &mut Sys, pid: u32, lwp: u32, args: [u64; 6]) ->
     // no process has the next id
     requires free { process_of sys.old sys.old.made ≡ None }
     // open files can count a child's descriptors too
-    requires users { HasRoom sys.old.files 64 }
+    requires users { HasRoom sys.old.files descriptor_limit }
     ensures ok { OnOk result (ForSome (live_process sys.old pid) (λ p. ForSome (lwp_of p lwp) (λ l. sys.new ≡ with_child traced pid p l args sys.old))) }
     ensures child { IfOk result (λ child. child ≡ sys.old.made) }
     ensures refused { ForSome (live_process sys.old pid) (λ p. Says result (fork_refusal sys.old p)) }

@@ -9,12 +9,13 @@ ghost use Rattle.pr_parts.specs.PendingSignals.{has_room};
 ghost use Rattle.pr_proc.specs.Room.{has_room_for, has_room_in};
 
 use crate::{Lwp, Proc, Sys, end};
+use pr_num::limits::SIGNAL_COUNT;
 use pr_num::{ById, Info, Sig, SigSet};
 use pr_sig::deletes;
 
 /// What a process does with a signal.
 #[tactic(auto, unfolding(pr_model::specs::Signals::disposition_of))]
-pub fn disposition_of(dispositions: &[u64; 39], signal: Sig) -> u64
+pub fn disposition_of(dispositions: &[u64; SIGNAL_COUNT], signal: Sig) -> u64
     ensures { result ≡ disposition_of dispositions.now signal }
 {
     dispositions[signal.number() as usize - 1]

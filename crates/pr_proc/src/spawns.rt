@@ -15,14 +15,17 @@ use pr_asm::Program;
 use pr_file::Fds;
 use pr_mem::Space;
 use pr_model::{Control, ProcessOf, Usage};
-use pr_num::limits::PROCESS_LIMIT;
+use pr_num::layout::{STACK_END, TEXT_BASE};
+use pr_num::limits::{PROCESS_LIMIT, REGISTER_COUNT, SIGNAL_COUNT};
 use pr_num::{ById, FltSet, Modes, Name, NoMemory, SigSet, SysSet};
 use pr_sig::Pendings;
 use pr_watch::Areas;
 use std::alloc::Global;
 
 /// The registers of an lwp that begins a program: pc at the first instruction, sp at the end of an empty stack.
-pub(crate) const FIRST_REGISTERS: [u64; 11] = [0, 0, 0, 0, 0, 0, 0, 0, 0x701000, 0, 0x10000];
+pub(crate) const FIRST_REGISTERS: [u64; REGISTER_COUNT] = [
+    0, 0, 0, 0, 0, 0, 0, 0, STACK_END, 0, TEXT_BASE,
+];
 
 /// The lwp of a new process, directed to stop or not. It begins at the first instruction, with an empty stack.
 #[tactic(auto, unfolding(pr_model::specs::Lives::first_lwp, pr_model::specs::Machines::traced))]
@@ -65,7 +68,7 @@ pub(crate) fn bare_process(alloc: Global, parent: u32, name: Name, clock: u64) -
         ended: None,
         space: Space::new(alloc),
         fds: Fds::new(),
-        dispositions: [0; 39],
+        dispositions: [0; SIGNAL_COUNT],
         pending: Pendings::new(),
         job_stop: None,
         next_lwp: 1,

@@ -1,5 +1,6 @@
 -- What a line that begins a block tells of what stands above it.
 use Rattle.std.proofs.Common.{◌≡◌, ℕ, ◌<◌, Bool, true, false, cond, Option, Some, None, is_some, List, length, nat_lt, Result, Ok, Err, refl}
+use Rattle.pr_num.specs.Limits.{program_limit}
 use borrow.Author.Tests.{ltb-true}
 use Rattle.pr_scen.specs.Drafts.{may_begin}
 use Rattle.pr_scen.specs.Names.{place_of}
@@ -26,8 +27,8 @@ pub fresh_program : (d : Draft) (name : List ℕ) → may_begin d (Program name)
 unfolding may_begin
 fresh_program d name e = fresh_at (place_of d.program_names name) _ e
 
-pub few_programs : (d : Draft) (name : List ℕ) → may_begin d (Program name) ≡ Ok tt → length d.program_names < 256
+pub few_programs : (d : Draft) (name : List ℕ) → may_begin d (Program name) ≡ Ok tt → length d.program_names < program_limit
 unfolding may_begin
-few_programs d name e = ltb-true _ _ (room_after (is_some (place_of d.program_names name)) (nat_lt (length d.program_names) 256) e)
+few_programs d name e = ltb-true _ _ (room_after (is_some (place_of d.program_names name)) (nat_lt (length d.program_names) program_limit) e)
 
 pub ruleset may_laws = (fresh_program, few_programs)

@@ -25,7 +25,7 @@ use Rattle.pr_scen.specs.Blocks.{numbered, item_in, line_added, begun, ended, pr
 use Rattle.pr_scen.specs.Drafts.{nothing, with_turns, with_file, with_process, with_spawn, with_controller, knows_program, has_program, with_truss, with_schedule, with_item, may_begin, with_program, with_line, call_added, script_line_added, with_script, made}
 use Rattle.pr_model.specs.ToolNames.{process_tool_of_name}
 use Rattle.pr_scen.specs.Items.{turns_of, file_of, program_of, spawn_of, script_of, truss_read, truss_of, tool_line_of, unless_none, schedule_of, item_with, item_of}
-use Rattle.pr_num.specs.Limits.{default_turns}
+use Rattle.pr_num.specs.Limits.{default_turns, all_mappings_limit, controller_limit, file_limit, file_size_limit, list_line_limit, program_limit, schedule_limit, spawn_limit, turn_limit}
 use Rattle.pr_text.specs.Comments.{begins_comment}
 use Rattle.pr_scen.specs.Lines.{readable}
 use Rattle.pr_scen.specs.Names.{place_of}
@@ -103,36 +103,36 @@ item_in_range (first ∷ operands) =
 
 abbrev TurnsWithin : Option ℕ → Type 0
 TurnsWithin None = Unit {0}
-TurnsWithin (Some n) = (1 ≤ n) × (n ≤ 100000)
+TurnsWithin (Some n) = (1 ≤ n) × (n ≤ turn_limit)
 
 -- the files and their names
 record AreFiles (names : List (List ℕ)) (files : List (List ℕ × List ℕ)) : Type 0 where
   same : names ≡ map (λ f. f.0) files
-  few : length names ≤ 256
-  short : All (λ f. length f.1 ≤ 65536) files
+  few : length names ≤ file_limit
+  short : All (λ f. length f.1 ≤ file_size_limit) files
   own : names_differ (map stored_file files) ≡ true
 
 -- the programs and the processes that are spawned
 record AreSpawned (names : List (List ℕ)) (programs : List Program) (spawns : List ℕ) (mapped : ℕ) : Type 0 where
   same : length programs ≡ length names
-  few : length names ≤ 256
-  some_spawns : length spawns ≤ 4095
+  few : length names ≤ program_limit
+  some_spawns : length spawns ≤ spawn_limit
   of_programs : All (λ place. place < length programs) spawns
   sizes : mapped ≡ mapped_at_start programs spawns
-  limit : mapped ≤ 67108864
+  limit : mapped ≤ all_mappings_limit
 
 -- the lines `list` of the scripts
 record AreListed (lists : ℕ) (controllers : List Plan) (lines : List ScriptLine) : Type 0 where
   same : lists ≡ sum_by lists_in controllers + count_by is_list lines
-  limit : lists ≤ 4096
+  limit : lists ≤ list_line_limit
 
 pub record IsSound (d : Draft) : Type 0 where
   turns_within : TurnsWithin d.turns
   files_within : AreFiles d.file_names d.files
   spawned : AreSpawned d.program_names d.programs d.spawns d.mapped
-  few_controllers : length d.controllers ≤ 64
+  few_controllers : length d.controllers ≤ controller_limit
   listed : AreListed d.lists d.controllers d.lines
-  few_turns : length d.schedule ≤ 100000
+  few_turns : length d.schedule ≤ schedule_limit
 
 sound_nothing : IsSound nothing
 sound_nothing = record {
@@ -149,7 +149,7 @@ sound_nothing = record {
 sound_turns : (d : Draft) (n : ℕ) → 1 ≤ n → IsSound d → IfOk (with_turns d n) IsSound
 unfolding with_turns
 sound_turns d n some s =
-    if_ok IsSound (is_some d.turns) _ _ (λ _. tt) (λ _. if_ok IsSound (nat_le n 100000) _ _ (λ most. record { turns_within = (some, leb-true n 100000 most); files_within = s.files_within; spawned = s.spawned; few_controllers = s.few_controllers; listed = s.listed; few_turns = s.few_turns }) (λ _. tt))
+    if_ok IsSound (is_some d.turns) _ _ (λ _. tt) (λ _. if_ok IsSound (nat_le n turn_limit) _ _ (λ most. record { turns_within = (some, leb-true n turn_limit most); files_within = s.files_within; spawned = s.spawned; few_controllers = s.few_controllers; listed = s.listed; few_turns = s.few_turns }) (λ _. tt))
 
 pub not_found : (b : Bool) (i : ℕ) (rest : Option ℕ) → cond b (Some i) rest ≡ None → (b ≡ false) × (rest ≡ None)
 not_found true i rest e = cc
@@ -167,12 +167,12 @@ no_place : (o : Option ℕ) → is_some o ≡ false → o ≡ None
 no_place None e = refl
 no_place (Some i) e = cc
 
-files_more : (names : List (List ℕ)) (files : List (List ℕ × List ℕ)) (name bytes : List ℕ) → place_of names name ≡ None → length names < 256 → length bytes ≤ 65536 → AreFiles names files → AreFiles (names ++ name ∷ []) (files ++ (name, bytes) ∷ [])
+files_more : (names : List (List ℕ)) (files : List (List ℕ × List ℕ)) (name bytes : List ℕ) → place_of names name ≡ None → length names < file_limit → length bytes ≤ file_size_limit → AreFiles names files → AreFiles (names ++ name ∷ []) (files ++ (name, bytes) ∷ [])
 unfolding place_of
 files_more names files name bytes new room small a = record {
   same = ap (λ ns. ns ++ name ∷ []) a.same ∙ sym (map-append (λ f. f.0) files ((name, bytes) ∷ []));
   few = omega (arith, length-append names (name ∷ []));
-  short = All-push (λ f. length f.1 ≤ 65536) files (name, bytes) a.short small;
+  short = All-push (λ f. length f.1 ≤ file_size_limit) files (name, bytes) a.short small;
   own = ap names_differ (map-append stored_file files ((name, bytes) ∷ [])) ∙ differ_more files 0 name bytes (ap (position_from (bytes_eq name) 0) (sym a.same) ∙ new) a.own;
 }
 
@@ -180,15 +180,15 @@ sound_file : (d : Draft) (name bytes : List ℕ) → IsSound d → IfOk (with_fi
 unfolding with_file
 sound_file d name bytes s =
     if_ok IsSound (is_some (place_of d.file_names name)) _ _ (λ _. tt) (λ new.
-    if_ok IsSound (nat_lt (length d.file_names) 256) _ _ (λ room.
-    if_ok IsSound (nat_le (length bytes) 65536) _ _ (λ small. record { turns_within = s.turns_within; files_within = files_more d.file_names d.files name bytes (no_place _ new) (ltb-true _ _ room) (leb-true _ _ small) s.files_within; spawned = s.spawned; few_controllers = s.few_controllers; listed = s.listed; few_turns = s.few_turns }) (λ _. tt)) (λ _. tt))
+    if_ok IsSound (nat_lt (length d.file_names) file_limit) _ _ (λ room.
+    if_ok IsSound (nat_le (length bytes) file_size_limit) _ _ (λ small. record { turns_within = s.turns_within; files_within = files_more d.file_names d.files name bytes (no_place _ new) (ltb-true _ _ room) (leb-true _ _ small) s.files_within; spawned = s.spawned; few_controllers = s.few_controllers; listed = s.listed; few_turns = s.few_turns }) (λ _. tt)) (λ _. tt))
 
 -- one process more, of a program that stands
 size_some : (o : Option Program) (size : ℕ) → option_map first_size o ≡ Some size → size_at_start o ≡ size
 size_some None size e = cc
 size_some (Some p) size e = cc
 
-spawned_more : (names : List (List ℕ)) (programs : List Program) (spawns : List ℕ) (mapped place size : ℕ) → place < length names → option_map first_size (slice_get programs place) ≡ Some size → length spawns < 4095 → mapped + size ≤ 67108864 → AreSpawned names programs spawns mapped → AreSpawned names programs (spawns ++ place ∷ []) (mapped + size)
+spawned_more : (names : List (List ℕ)) (programs : List Program) (spawns : List ℕ) (mapped place size : ℕ) → place < length names → option_map first_size (slice_get programs place) ≡ Some size → length spawns < spawn_limit → mapped + size ≤ all_mappings_limit → AreSpawned names programs spawns mapped → AreSpawned names programs (spawns ++ place ∷ []) (mapped + size)
 spawned_more names programs spawns mapped place size stands has room within a = record {
   same = a.same;
   few = a.few;
@@ -200,8 +200,8 @@ spawned_more names programs spawns mapped place size stands has room within a = 
 
 sound_process : (d : Draft) (place size : ℕ) → place < length d.program_names → option_map first_size (slice_get d.programs place) ≡ Some size → IsSound d → IfOk (with_process d place size) IsSound
 sound_process d place size stands has s =
-    if_ok IsSound (nat_lt (length d.spawns) 4095) _ _ (λ room.
-    if_ok IsSound (nat_le (d.mapped + size) 67108864) _ _ (λ within. record { turns_within = s.turns_within; files_within = s.files_within; spawned = spawned_more d.program_names d.programs d.spawns d.mapped place size stands has (ltb-true _ _ room) (leb-true _ _ within) s.spawned; few_controllers = s.few_controllers; listed = s.listed; few_turns = s.few_turns }) (λ _. tt)) (λ _. tt)
+    if_ok IsSound (nat_lt (length d.spawns) spawn_limit) _ _ (λ room.
+    if_ok IsSound (nat_le (d.mapped + size) all_mappings_limit) _ _ (λ within. record { turns_within = s.turns_within; files_within = s.files_within; spawned = spawned_more d.program_names d.programs d.spawns d.mapped place size stands has (ltb-true _ _ room) (leb-true _ _ within) s.spawned; few_controllers = s.few_controllers; listed = s.listed; few_turns = s.few_turns }) (λ _. tt)) (λ _. tt)
 
 sound_spawn : (d : Draft) (name : List ℕ) → IsSound d → IfOk (with_spawn d name) IsSound
 unfolding with_spawn
@@ -217,7 +217,7 @@ listed_more lists controllers lines plan free a = record { same = omega (arith, 
 sound_controller : (d : Draft) (plan : Plan) → lists_in plan ≡ 0 → IsSound d → IfOk (with_controller d plan) IsSound
 unfolding with_controller
 sound_controller d plan free s =
-    if_ok IsSound (nat_lt (length d.controllers) 64) _ _ (λ room. let few = ltb-true _ _ room in record { turns_within = s.turns_within; files_within = s.files_within; spawned = s.spawned; few_controllers = omega (arith, length-append d.controllers (plan ∷ [])); listed = listed_more d.lists d.controllers d.lines plan free s.listed; few_turns = s.few_turns }) (λ _. tt)
+    if_ok IsSound (nat_lt (length d.controllers) controller_limit) _ _ (λ room. let few = ltb-true _ _ room in record { turns_within = s.turns_within; files_within = s.files_within; spawned = s.spawned; few_controllers = omega (arith, length-append d.controllers (plan ∷ [])); listed = listed_more d.lists d.controllers d.lines plan free s.listed; few_turns = s.few_turns }) (λ _. tt)
 
 sound_truss : (d : Draft) (options : Options) → IsSound d → IfOk (with_truss d options) IsSound
 unfolding with_truss
@@ -233,7 +233,7 @@ length-actors (t ∷ turns) =
 sound_schedule : (d : Draft) (turns : List Turns) → IsSound d → IfOk (with_schedule d turns) IsSound
 unfolding with_schedule
 sound_schedule d turns s =
-    if_ok IsSound (nat_le (length d.schedule + turn_count turns) 100000) _ _ (λ few. let within = leb-true _ _ few in record { turns_within = s.turns_within; files_within = s.files_within; spawned = s.spawned; few_controllers = s.few_controllers; listed = s.listed; few_turns = omega (arith, length-append d.schedule (actors_of turns), length-actors turns) }) (λ _. tt)
+    if_ok IsSound (nat_le (length d.schedule + turn_count turns) schedule_limit) _ _ (λ few. let within = leb-true _ _ few in record { turns_within = s.turns_within; files_within = s.files_within; spawned = s.spawned; few_controllers = s.few_controllers; listed = s.listed; few_turns = omega (arith, length-append d.schedule (actors_of turns), length-actors turns) }) (λ _. tt)
 
 sound_with : (d : Draft) (i : Item) → InRange i → IsSound d → IfOk (with_item d i) IsSound
 unfolding with_item
@@ -270,7 +270,7 @@ mapped_more programs p (place ∷ spawns) inside =
     let right : mapped_at_start programs (place ∷ spawns) ≡ size_at_start (slice_get programs place) + mapped_at_start programs spawns = sum_by-cons (λ q. size_at_start (slice_get programs q)) place spawns in
     omega (arith, left, right, ap size_at_start (get_more programs p place (All-head (λ q. q < length programs) place spawns inside)), mapped_more programs p spawns (All-tail (λ q. q < length programs) place spawns inside))
 
-spawned_with : (names : List (List ℕ)) (programs : List Program) (spawns : List ℕ) (mapped : ℕ) (name : List ℕ) (p : Program) → length names < 256 → AreSpawned names programs spawns mapped → AreSpawned (names ++ name ∷ []) (programs ++ p ∷ []) spawns mapped
+spawned_with : (names : List (List ℕ)) (programs : List Program) (spawns : List ℕ) (mapped : ℕ) (name : List ℕ) (p : Program) → length names < program_limit → AreSpawned names programs spawns mapped → AreSpawned (names ++ name ∷ []) (programs ++ p ∷ []) spawns mapped
 spawned_with names programs spawns mapped name p room a = record {
   same = omega (arith, a.same, length-append programs (p ∷ []), length-append names (name ∷ []));
   few = omega (arith, length-append names (name ∷ []));
@@ -280,11 +280,11 @@ spawned_with names programs spawns mapped name p room a = record {
   limit = a.limit;
 }
 
-sound_program : (d : Draft) (name : List ℕ) (p : Program) → length d.program_names < 256 → IsSound d → IsSound (with_program d name p)
+sound_program : (d : Draft) (name : List ℕ) (p : Program) → length d.program_names < program_limit → IsSound d → IsSound (with_program d name p)
 unfolding with_program
 sound_program d name p room s = record { turns_within = s.turns_within; files_within = s.files_within; spawned = spawned_with d.program_names d.programs d.spawns d.mapped name p room s.spawned; few_controllers = s.few_controllers; listed = s.listed; few_turns = s.few_turns }
 
-sound_program_block : (n : ℕ) (d : Draft) (name : List ℕ) (body : List (List ℕ)) (last : List ℕ) → length d.program_names < 256 → IsSound d → IfOk (program_added n d name body last) IsSound
+sound_program_block : (n : ℕ) (d : Draft) (name : List ℕ) (body : List (List ℕ)) (last : List ℕ) → length d.program_names < program_limit → IsSound d → IfOk (program_added n d name body last) IsSound
 unfolding program_added
 sound_program_block n d name body last room s =
     then_ok IsSound (program_read name (n + 1) body) _ (λ p _.
@@ -294,7 +294,7 @@ sound_program_block n d name body last room s =
 -- one line of a script more, where there is room for the script
 record IsInScript (d : Draft) : Type 0 where
   sound : IsSound d
-  room : length d.controllers < 64
+  room : length d.controllers < controller_limit
 
 line_more : (d : Draft) (l : ScriptLine) → is_list l ≡ false → IsInScript d → IsInScript (with_line d l)
 line_more d l other s =
@@ -304,7 +304,7 @@ line_more d l other s =
       room = s.room;
     }
 
-list_more : (d : Draft) → d.lists < 4096 → IsInScript d → IsInScript (record (with_line d call.List) { lists = d.lists + 1 })
+list_more : (d : Draft) → d.lists < list_line_limit → IsInScript d → IsInScript (record (with_line d call.List) { lists = d.lists + 1 })
 list_more d few s =
     let a = s.sound.listed in
     record {
@@ -323,7 +323,7 @@ in_call d (call.Interrupt controller) s = line_more d _ refl s
 in_call d (call.Spawn program held) s = if_ok IsInScript (has_program d program) _ _ (λ _. line_more d _ refl s) (λ _. tt)
 in_call d (call.Kill pid sig) s = line_more d _ refl s
 in_call d (call.Until moment) s = line_more d _ refl s
-in_call d call.List s = if_ok IsInScript (nat_lt d.lists 4096) _ _ (λ few. list_more d (ltb-true _ _ few) s) (λ _. tt)
+in_call d call.List s = if_ok IsInScript (nat_lt d.lists list_line_limit) _ _ (λ few. list_more d (ltb-true _ _ few) s) (λ _. tt)
 
 in_line : (d : Draft) (l : InScript) → IsInScript d → IfOk (script_line_added d l) IsInScript
 unfolding script_line_added
@@ -342,7 +342,7 @@ sound_script d s =
     let a = s.sound.listed in
     record { turns_within = s.sound.turns_within; files_within = s.sound.files_within; spawned = s.sound.spawned; few_controllers = omega (arith, s.room, length-append d.controllers (Script (first_script d.lines) ∷ [])); listed = record { same = a.same ∙ sym (sum_by_push lists_in d.controllers (Script (first_script d.lines))) ∙ omega arith; limit = a.limit }; few_turns = s.sound.few_turns }
 
-sound_script_block : (n : ℕ) (d : Draft) (body : List (List ℕ)) (last : List ℕ) → length d.controllers < 64 → IsSound d → IfOk (script_added n d body last) IsSound
+sound_script_block : (n : ℕ) (d : Draft) (body : List (List ℕ)) (last : List ℕ) → length d.controllers < controller_limit → IsSound d → IfOk (script_added n d body last) IsSound
 unfolding script_added
 sound_script_block n d body last room s =
     then_ok IsSound (folded script_line_read (n + 1) d body) _ (λ e is.
@@ -363,9 +363,9 @@ unfolding block_added may_begin
 sound_block n d item.Blank body last m s = s
 sound_block n d (item.Turns t) body last m s = s
 sound_block n d (item.File name bytes) body last m s = s
-sound_block n d (item.Program name) body last m s = sound_program_block n d name body last (ltb-true _ _ (room_after (has_program d name) (nat_lt (length d.program_names) 256) m)) s
+sound_block n d (item.Program name) body last m s = sound_program_block n d name body last (ltb-true _ _ (room_after (has_program d name) (nat_lt (length d.program_names) program_limit) m)) s
 sound_block n d (item.Spawn name) body last m s = s
-sound_block n d item.Script body last m s = sound_script_block n d body last (ltb-true _ _ (room_at (nat_lt (length d.controllers) 64) m)) s
+sound_block n d item.Script body last m s = sound_script_block n d body last (ltb-true _ _ (room_at (nat_lt (length d.controllers) controller_limit) m)) s
 sound_block n d (item.Truss options) body last m s = s
 sound_block n d (item.Tool kind pid) body last m s = s
 sound_block n d (item.Schedule turns) body last m s = s
@@ -390,7 +390,7 @@ sound_parts d (part ∷ parts) s =
 
 -- ---- the scenario
 
-turns_or_default : (t : Option ℕ) → TurnsWithin t → (1 ≤ unwrap_or t default_turns) × (unwrap_or t default_turns ≤ 100000)
+turns_or_default : (t : Option ℕ) → TurnsWithin t → (1 ≤ unwrap_or t default_turns) × (unwrap_or t default_turns ≤ turn_limit)
 turns_or_default None w = (omega arith, omega arith)
 turns_or_default (Some n) w = w
 

@@ -8,6 +8,7 @@ use Rattle.std.proofs.lemmas.List.{append_assoc, append-nil, length-append, leng
 use Rattle.std.proofs.lemmas.List.Elements.{All-head, All-tail}
 use Rattle.std.proofs.lemmas.List.Sums.{sum_by-cons}
 use Rattle.std.proofs.lemmas.Slice.Eq.{bytes_eq-Decides}
+use Rattle.pr_num.specs.Limits.{all_mappings_limit, controller_limit, file_limit, file_size_limit, list_line_limit, program_limit, schedule_limit, spawn_limit}
 use Rattle.pr_num.specs.Programs.{Program}
 use Rattle.pr_parts.specs.FileTables.{names_differ, has_name}
 use Rattle.pr_asm.specs.Assembly.{assembled}
@@ -99,25 +100,25 @@ drafted turns names programs files spawns mapped controllers lists schedule = re
   lines = [];
 }
 
-turns_added : (n t : ℕ) → t ≤ 100000 → piece_added n nothing (outside (item.Turns t)) ≡ Ok (drafted t [] [] [] [] 0 [] 0 [])
+turns_added : (n t : ℕ) → t ≤ schedule_limit → piece_added n nothing (outside (item.Turns t)) ≡ Ok (drafted t [] [] [] [] 0 [] 0 [])
 unfolding piece_added with_item with_turns
-turns_added n t most = ap (λ b. numbered n (cond b (Ok (drafted t [] [] [] [] 0 [] 0 [])) (Err TooMany))) (le-leb t 100000 most)
+turns_added n t most = ap (λ b. numbered n (cond b (Ok (drafted t [] [] [] [] 0 [] 0 [])) (Err TooMany))) (le-leb t schedule_limit most)
 
 module _ (rest : List Piece) (r : Result Draft ScenFault) (t : ℕ) where
-  turns_first : (n : ℕ) → t ≤ 100000 → ((m : ℕ) → pieces_added m (drafted t [] [] [] [] 0 [] 0 []) rest ≡ r) → pieces_added n nothing (outside (item.Turns t) ∷ rest) ≡ r
+  turns_first : (n : ℕ) → t ≤ schedule_limit → ((m : ℕ) → pieces_added m (drafted t [] [] [] [] 0 [] 0 []) rest ≡ r) → pieces_added n nothing (outside (item.Turns t) ∷ rest) ≡ r
   turns_first n most on = piece_first n nothing _ (outside (item.Turns t)) rest r (turns_added n t most) on
 
   -- ---- programs
 
-  program_more : (n : ℕ) (names : List (List ℕ)) (programs : List Program) (name : List ℕ) (ss : List Statement) (p : Program) → place_of names name ≡ None → length names < 256 → assembled name (n + 1) (map Ok ss) ≡ Ok p → piece_added n (drafted t names programs [] [] 0 [] 0 []) (program name ss) ≡ Ok (drafted t (names ++ name ∷ []) (programs ++ p ∷ []) [] [] 0 [] 0 [])
+  program_more : (n : ℕ) (names : List (List ℕ)) (programs : List Program) (name : List ℕ) (ss : List Statement) (p : Program) → place_of names name ≡ None → length names < program_limit → assembled name (n + 1) (map Ok ss) ≡ Ok p → piece_added n (drafted t names programs [] [] 0 [] 0 []) (program name ss) ≡ Ok (drafted t (names ++ name ∷ []) (programs ++ p ∷ []) [] [] 0 [] 0 [])
   unfolding piece_added may_begin with_program
   program_more n names programs name ss p fresh room makes =
       let d = drafted t names programs [] [] 0 [] 0 [] in
-      ap (λ o. numbered n (cond (is_some o) (Err Double) (cond (nat_lt (length names) 256) (Ok tt) (Err TooMany))) >>= (λ _. first_of_both (Ok tt) (assembled name (n + 1) (map Ok ss)) >>= (λ q. Ok (with_program d name q)))) fresh
-      ∙ ap (λ b. numbered n (cond b (Ok tt) (Err TooMany)) >>= (λ _. first_of_both (Ok tt) (assembled name (n + 1) (map Ok ss)) >>= (λ q. Ok (with_program d name q)))) (lt-ltb (length names) 256 room)
+      ap (λ o. numbered n (cond (is_some o) (Err Double) (cond (nat_lt (length names) program_limit) (Ok tt) (Err TooMany))) >>= (λ _. first_of_both (Ok tt) (assembled name (n + 1) (map Ok ss)) >>= (λ q. Ok (with_program d name q)))) fresh
+      ∙ ap (λ b. numbered n (cond b (Ok tt) (Err TooMany)) >>= (λ _. first_of_both (Ok tt) (assembled name (n + 1) (map Ok ss)) >>= (λ q. Ok (with_program d name q)))) (lt-ltb (length names) program_limit room)
       ∙ ap (λ q. first_of_both (Ok tt) q >>= (λ x. Ok (with_program d name x))) makes
 
-  programs_first : (n : ℕ) (names : List (List ℕ)) (programs : List Program) (sources : List (List ℕ × List Statement)) (more : List Program) → AreSources sources more → OwnNames names (names_of sources) → length names + length more ≤ 256 → ((m : ℕ) → pieces_added m (drafted t (names ++ names_of sources) (programs ++ more) [] [] 0 [] 0 []) rest ≡ r) → pieces_added n (drafted t names programs [] [] 0 [] 0 []) (map program_piece sources ++ rest) ≡ r
+  programs_first : (n : ℕ) (names : List (List ℕ)) (programs : List Program) (sources : List (List ℕ × List Statement)) (more : List Program) → AreSources sources more → OwnNames names (names_of sources) → length names + length more ≤ program_limit → ((m : ℕ) → pieces_added m (drafted t (names ++ names_of sources) (programs ++ more) [] [] 0 [] 0 []) rest ≡ r) → pieces_added n (drafted t names programs [] [] 0 [] 0 []) (map program_piece sources ++ rest) ≡ r
   unfolding AreSources OwnNames
   programs_first n names programs [] [] are own few on =
       ap (λ ns. pieces_added n (drafted t ns programs [] [] 0 [] 0 []) rest) (sym (append-nil names))
@@ -135,44 +136,44 @@ module _ (rest : List Piece) (r : Result Draft ScenFault) (t : ℕ) where
   module _ (names : List (List ℕ)) (programs : List Program) where
     -- ---- files
 
-    file_more : (n : ℕ) (files : List (List ℕ × List ℕ)) (f : List ℕ × List ℕ) → place_of (map (λ g. g.0) files) f.0 ≡ None → length files < 256 → length f.1 ≤ 65536 → piece_added n (drafted t names programs files [] 0 [] 0 []) (file_piece f) ≡ Ok (drafted t names programs (files ++ f ∷ []) [] 0 [] 0 [])
+    file_more : (n : ℕ) (files : List (List ℕ × List ℕ)) (f : List ℕ × List ℕ) → place_of (map (λ g. g.0) files) f.0 ≡ None → length files < file_limit → length f.1 ≤ file_size_limit → piece_added n (drafted t names programs files [] 0 [] 0 []) (file_piece f) ≡ Ok (drafted t names programs (files ++ f ∷ []) [] 0 [] 0 [])
     unfolding piece_added with_item with_file
     file_more n files f fresh room small =
         let d = drafted t names programs files [] 0 [] 0 [] in
         let e = record d { file_names = map (λ g. g.0) files ++ f.0 ∷ []; files = files ++ f ∷ [] } in
-        ap (λ o. numbered n (cond (is_some o) (Err Double) (cond (nat_lt (length d.file_names) 256) (cond (nat_le (length f.1) 65536) (Ok e) (Err TooBig)) (Err TooMany)))) fresh
-        ∙ ap (λ b. numbered n (cond b (cond (nat_le (length f.1) 65536) (Ok e) (Err TooBig)) (Err TooMany))) (lt-ltb (length d.file_names) 256 (omega (arith, length-map files (λ g. g.0))))
-        ∙ ap (λ b. numbered n (cond b (Ok e) (Err TooBig))) (le-leb (length f.1) 65536 small)
+        ap (λ o. numbered n (cond (is_some o) (Err Double) (cond (nat_lt (length d.file_names) file_limit) (cond (nat_le (length f.1) file_size_limit) (Ok e) (Err TooBig)) (Err TooMany)))) fresh
+        ∙ ap (λ b. numbered n (cond b (cond (nat_le (length f.1) file_size_limit) (Ok e) (Err TooBig)) (Err TooMany))) (lt-ltb (length d.file_names) file_limit (omega (arith, length-map files (λ g. g.0))))
+        ∙ ap (λ b. numbered n (cond b (Ok e) (Err TooBig))) (le-leb (length f.1) file_size_limit small)
         ∙ ap (λ ns. Ok (record d { file_names = ns; files = files ++ f ∷ [] })) (sym (map-append (λ g. g.0) files (f ∷ [])))
 
-    files_first : (n : ℕ) (files more : List (List ℕ × List ℕ)) → names_differ (map stored_file files ++ map stored_file more) ≡ true → length files + length more ≤ 256 → All (λ f. length f.1 ≤ 65536) more → ((m : ℕ) → pieces_added m (drafted t names programs (files ++ more) [] 0 [] 0 []) rest ≡ r) → pieces_added n (drafted t names programs files [] 0 [] 0 []) (map file_piece more ++ rest) ≡ r
+    files_first : (n : ℕ) (files more : List (List ℕ × List ℕ)) → names_differ (map stored_file files ++ map stored_file more) ≡ true → length files + length more ≤ file_limit → All (λ f. length f.1 ≤ file_size_limit) more → ((m : ℕ) → pieces_added m (drafted t names programs (files ++ more) [] 0 [] 0 []) rest ≡ r) → pieces_added n (drafted t names programs files [] 0 [] 0 []) (map file_piece more ++ rest) ≡ r
     unfolding place_of
     files_first n files [] own few small on = ap (λ fs. pieces_added n (drafted t names programs fs [] 0 [] 0 []) rest) (sym (append-nil files)) ∙ on n
     files_first n files (f ∷ more) own few small on =
         let moved : map stored_file (files ++ f ∷ []) ++ map stored_file more ≡ map stored_file files ++ stored_file f ∷ map stored_file more = ap (λ fs. fs ++ map stored_file more) (map-append stored_file files (f ∷ [])) ∙ append_assoc (map stored_file files) (stored_file f ∷ []) (map stored_file more) in
-        piece_first n (drafted t names programs files [] 0 [] 0 []) _ (file_piece f) (map file_piece more ++ rest) r (file_more n files f (fresh_file files more f 0 own) (omega arith) (All-head (λ g. length g.1 ≤ 65536) f more small))
-        (λ m. files_first m (files ++ f ∷ []) more (ap names_differ moved ∙ own) (omega (arith, length-append files (f ∷ []))) (All-tail (λ g. length g.1 ≤ 65536) f more small)
+        piece_first n (drafted t names programs files [] 0 [] 0 []) _ (file_piece f) (map file_piece more ++ rest) r (file_more n files f (fresh_file files more f 0 own) (omega arith) (All-head (λ g. length g.1 ≤ file_size_limit) f more small))
+        (λ m. files_first m (files ++ f ∷ []) more (ap names_differ moved ∙ own) (omega (arith, length-append files (f ∷ []))) (All-tail (λ g. length g.1 ≤ file_size_limit) f more small)
         (λ k. ap (λ fs. pieces_added k (drafted t names programs fs [] 0 [] 0 []) rest) (append_assoc files (f ∷ []) more) ∙ on k))
 
     module _ (files : List (List ℕ × List ℕ)) where
       -- ---- processes
 
-      spawn_more : (n : ℕ) (spawns : List ℕ) (mapped place size : ℕ) → place_of names (get_or names place []) ≡ Some place → option_map first_size (slice_get programs place) ≡ Some size → length spawns < 4095 → mapped + size ≤ 67108864 → piece_added n (drafted t names programs files spawns mapped [] 0 []) (spawn_piece names place) ≡ Ok (drafted t names programs files (spawns ++ place ∷ []) (mapped + size) [] 0 [])
+      spawn_more : (n : ℕ) (spawns : List ℕ) (mapped place size : ℕ) → place_of names (get_or names place []) ≡ Some place → option_map first_size (slice_get programs place) ≡ Some size → length spawns < spawn_limit → mapped + size ≤ all_mappings_limit → piece_added n (drafted t names programs files spawns mapped [] 0 []) (spawn_piece names place) ≡ Ok (drafted t names programs files (spawns ++ place ∷ []) (mapped + size) [] 0 [])
       unfolding piece_added with_item with_spawn
       spawn_more n spawns mapped place size found sized room within =
           let d = drafted t names programs files spawns mapped [] 0 [] in
           let e = drafted t names programs files (spawns ++ place ∷ []) (mapped + size) [] 0 [] in
           ap (λ o. numbered n ((ok_or UnknownName o >>= (λ p. ok_or UnknownName (option_map first_size (slice_get programs p)) >>= (λ s. with_process d p s))))) found
           ∙ ap (λ o. numbered n ((ok_or UnknownName o >>= (λ s. with_process d place s)))) sized
-          ∙ ap (λ b. numbered n (cond b (cond (nat_le (mapped + size) 67108864) (Ok e) (Err TooBig)) (Err TooMany))) (lt-ltb (length spawns) 4095 room)
-          ∙ ap (λ b. numbered n (cond b (Ok e) (Err TooBig))) (le-leb (mapped + size) 67108864 within)
+          ∙ ap (λ b. numbered n (cond b (cond (nat_le (mapped + size) all_mappings_limit) (Ok e) (Err TooBig)) (Err TooMany))) (lt-ltb (length spawns) spawn_limit room)
+          ∙ ap (λ b. numbered n (cond b (Ok e) (Err TooBig))) (le-leb (mapped + size) all_mappings_limit within)
 
       size_there : (ps : List Program) (place : ℕ) → place < length ps → option_map first_size (slice_get ps place) ≡ Some (size_at_start (slice_get ps place))
       size_there [] place inside = absurd (omega arith)
       size_there (p ∷ ps) zero inside = refl
       size_there (p ∷ ps) (suc place) inside = size_there ps place (omega arith)
 
-      spawns_first : (n : ℕ) (spawns more : List ℕ) (mapped : ℕ) → OwnNames [] names → length names ≡ length programs → All (λ place. place < length programs) more → length spawns + length more ≤ 4095 → mapped + mapped_at_start programs more ≤ 67108864 → ((m : ℕ) → pieces_added m (drafted t names programs files (spawns ++ more) (mapped + mapped_at_start programs more) [] 0 []) rest ≡ r) → pieces_added n (drafted t names programs files spawns mapped [] 0 []) (map (spawn_piece names) more ++ rest) ≡ r
+      spawns_first : (n : ℕ) (spawns more : List ℕ) (mapped : ℕ) → OwnNames [] names → length names ≡ length programs → All (λ place. place < length programs) more → length spawns + length more ≤ spawn_limit → mapped + mapped_at_start programs more ≤ all_mappings_limit → ((m : ℕ) → pieces_added m (drafted t names programs files (spawns ++ more) (mapped + mapped_at_start programs more) [] 0 []) rest ≡ r) → pieces_added n (drafted t names programs files spawns mapped [] 0 []) (map (spawn_piece names) more ++ rest) ≡ r
       spawns_first n spawns [] mapped own same inside few within on =
           let none : mapped_at_start programs [] ≡ 0 = refl in
           ap (λ ps. pieces_added n (drafted t names programs files ps mapped [] 0 []) rest) (sym (append-nil spawns))
@@ -194,7 +195,7 @@ module _ (rest : List Piece) (r : Result Draft ScenFault) (t : ℕ) where
         abbrev in_script : List Plan → ℕ → List ScriptLine → Draft
         in_script controllers lists lines = record (drafted t names programs files spawns mapped controllers lists []) { lines = lines }
 
-        line_more : (controllers : List Plan) (lists : ℕ) (lines : List ScriptLine) (l : ScriptLine) → SpawnsOneOf names l → lists + cond (is_list l) 1 0 ≤ 4096 → call_added (in_script controllers lists lines) l ≡ Ok (in_script controllers (lists + cond (is_list l) 1 0) (lines ++ l ∷ []))
+        line_more : (controllers : List Plan) (lists : ℕ) (lines : List ScriptLine) (l : ScriptLine) → SpawnsOneOf names l → lists + cond (is_list l) 1 0 ≤ list_line_limit → call_added (in_script controllers lists lines) l ≡ Ok (in_script controllers (lists + cond (is_list l) 1 0) (lines ++ l ∷ []))
         unfolding call_added
         line_more controllers lists lines (call.Open name pid lwp file mode) known few = ap (λ k. Ok (in_script controllers k (lines ++ call.Open name pid lwp file mode ∷ []))) (none_more lists)
         line_more controllers lists lines (call.Close name) known few = ap (λ k. Ok (in_script controllers k (lines ++ call.Close name ∷ []))) (none_more lists)
@@ -208,10 +209,10 @@ module _ (rest : List Piece) (r : Result Draft ScenFault) (t : ℕ) where
         line_more controllers lists lines (call.Kill pid sig) known few = ap (λ k. Ok (in_script controllers k (lines ++ call.Kill pid sig ∷ []))) (none_more lists)
         line_more controllers lists lines (call.Until moment) known few = ap (λ k. Ok (in_script controllers k (lines ++ call.Until moment ∷ []))) (none_more lists)
         line_more controllers lists lines call.List known few =
-            let one : lists + 1 ≤ 4096 = few in
-            ap (λ b. cond b (Ok (in_script controllers (lists + 1) (lines ++ call.List ∷ []))) (Err TooMany)) (lt-ltb lists 4096 (omega arith))
+            let one : lists + 1 ≤ list_line_limit = few in
+            ap (λ b. cond b (Ok (in_script controllers (lists + 1) (lines ++ call.List ∷ []))) (Err TooMany)) (lt-ltb lists list_line_limit (omega arith))
 
-        lines_more : (n : ℕ) (controllers : List Plan) (lists : ℕ) (lines more : List ScriptLine) → AllByRecursion (SpawnsOneOf names) more → lists + count_by is_list more ≤ 4096 → folded call_read n (in_script controllers lists lines) more ≡ Ok (in_script controllers (lists + count_by is_list more) (lines ++ more))
+        lines_more : (n : ℕ) (controllers : List Plan) (lists : ℕ) (lines more : List ScriptLine) → AllByRecursion (SpawnsOneOf names) more → lists + count_by is_list more ≤ list_line_limit → folded call_read n (in_script controllers lists lines) more ≡ Ok (in_script controllers (lists + count_by is_list more) (lines ++ more))
         unfolding folded
         lines_more n controllers lists lines [] known few =
             let none : count_by is_list [] ≡ 0 = refl in
@@ -223,13 +224,13 @@ module _ (rest : List Piece) (r : Result Draft ScenFault) (t : ℕ) where
             ∙ ap (λ ls. Ok (in_script controllers (lists + cond (is_list l) 1 0 + count_by is_list more) ls)) (append_assoc lines (l ∷ []) more)
             ∙ ap (λ k. Ok (in_script controllers k (lines ++ l ∷ more))) (omega (arith, whole))
 
-        script_more : (n : ℕ) (controllers : List Plan) (lists : ℕ) (ls : List ScriptLine) → length controllers < 64 → AllByRecursion (SpawnsOneOf names) ls → lists + count_by is_list ls ≤ 4096 → piece_added n (drafted t names programs files spawns mapped controllers lists []) (script ls) ≡ Ok (drafted t names programs files spawns mapped (controllers ++ Script (first_script ls) ∷ []) (lists + count_by is_list ls) [])
+        script_more : (n : ℕ) (controllers : List Plan) (lists : ℕ) (ls : List ScriptLine) → length controllers < controller_limit → AllByRecursion (SpawnsOneOf names) ls → lists + count_by is_list ls ≤ list_line_limit → piece_added n (drafted t names programs files spawns mapped controllers lists []) (script ls) ≡ Ok (drafted t names programs files spawns mapped (controllers ++ Script (first_script ls) ∷ []) (lists + count_by is_list ls) [])
         unfolding piece_added may_begin with_script
         script_more n controllers lists ls room known few =
-            ap (λ b. numbered n (cond b (Ok tt) (Err TooMany)) >>= (λ _. folded call_read (n + 1) (drafted t names programs files spawns mapped controllers lists []) ls >>= (λ e. Ok (with_script e)))) (lt-ltb (length controllers) 64 room)
+            ap (λ b. numbered n (cond b (Ok tt) (Err TooMany)) >>= (λ _. folded call_read (n + 1) (drafted t names programs files spawns mapped controllers lists []) ls >>= (λ e. Ok (with_script e)))) (lt-ltb (length controllers) controller_limit room)
             ∙ ap (λ q. q >>= (λ e. Ok (with_script e))) (lines_more (n + 1) controllers lists [] ls known few)
 
-        scripts_first : (n : ℕ) (controllers : List Plan) (lists : ℕ) (more : List Plan) → AllByRecursion (IsFirstPlan names) more → length controllers + length more ≤ 64 → lists + sum_by lists_in more ≤ 4096 → ((m : ℕ) → pieces_added m (drafted t names programs files spawns mapped (controllers ++ more) (lists + sum_by lists_in more) []) rest ≡ r) → pieces_added n (drafted t names programs files spawns mapped controllers lists []) (map plan_piece more ++ rest) ≡ r
+        scripts_first : (n : ℕ) (controllers : List Plan) (lists : ℕ) (more : List Plan) → AllByRecursion (IsFirstPlan names) more → length controllers + length more ≤ controller_limit → lists + sum_by lists_in more ≤ list_line_limit → ((m : ℕ) → pieces_added m (drafted t names programs files spawns mapped (controllers ++ more) (lists + sum_by lists_in more) []) rest ≡ r) → pieces_added n (drafted t names programs files spawns mapped controllers lists []) (map plan_piece more ++ rest) ≡ r
         unfolding IsFirstPlan
         scripts_first n controllers lists [] are few listed on =
             let none : sum_by lists_in [] ≡ 0 = refl in
@@ -249,12 +250,12 @@ module _ (rest : List Piece) (r : Result Draft ScenFault) (t : ℕ) where
         -- ---- turns at the beginning
 
         module _ (controllers : List Plan) (lists : ℕ) where
-          turn_more : (n : ℕ) (schedule : List Actor) (a : Actor) → length schedule < 100000 → piece_added n (drafted t names programs files spawns mapped controllers lists schedule) (turn_piece a) ≡ Ok (drafted t names programs files spawns mapped controllers lists (schedule ++ a ∷ []))
+          turn_more : (n : ℕ) (schedule : List Actor) (a : Actor) → length schedule < schedule_limit → piece_added n (drafted t names programs files spawns mapped controllers lists schedule) (turn_piece a) ≡ Ok (drafted t names programs files spawns mapped controllers lists (schedule ++ a ∷ []))
           unfolding piece_added with_item with_schedule
           turn_more n schedule a room =
-              ap (λ b. numbered n (cond b (Ok (drafted t names programs files spawns mapped controllers lists (schedule ++ a ∷ []))) (Err TooMany))) (le-leb (length schedule + 1) 100000 (omega arith))
+              ap (λ b. numbered n (cond b (Ok (drafted t names programs files spawns mapped controllers lists (schedule ++ a ∷ []))) (Err TooMany))) (le-leb (length schedule + 1) schedule_limit (omega arith))
 
-          turns_last : (n : ℕ) (schedule more : List Actor) → length schedule + length more ≤ 100000 → pieces_added n (drafted t names programs files spawns mapped controllers lists schedule) (map turn_piece more) ≡ Ok (drafted t names programs files spawns mapped controllers lists (schedule ++ more))
+          turns_last : (n : ℕ) (schedule more : List Actor) → length schedule + length more ≤ schedule_limit → pieces_added n (drafted t names programs files spawns mapped controllers lists schedule) (map turn_piece more) ≡ Ok (drafted t names programs files spawns mapped controllers lists (schedule ++ more))
           unfolding pieces_added
           turns_last n schedule [] few = ap (λ ts. Ok (drafted t names programs files spawns mapped controllers lists ts)) (sym (append-nil schedule))
           turns_last n schedule (a ∷ more) few =

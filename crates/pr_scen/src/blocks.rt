@@ -1,5 +1,6 @@
 //! The lines and blocks of a text, one after the other.
 ghost use Rattle.std.specs.Prelude.{◌≡◌, ◌≤◌, ◌<◌, ◌+◌, ◌^◌, length, map, None, Ok, Err, IfOk};
+ghost use Rattle.pr_num.specs.Limits.{program_limit};
 ghost use Rattle.pr_text.specs.Reads.{Gives};
 ghost use Rattle.pr_text.specs.Steps.{folded};
 ghost use Rattle.pr_scen.specs.Blocks.{numbered, item_in, line_added, begun, ended, kind_of, all_readable, first_of_both, program_read, program_added, script_words_added, script_line_read, script_added, part_added};
@@ -200,7 +201,7 @@ impl Draft {
     ) -> Result<(), ScenRefusal>
         requires few { number + length body.now + 1 < 2 ^ 32 }
         requires fresh { place_of self.old.program_names name ≡ None }
-        requires room { length self.old.program_names < 256 }
+        requires room { length self.old.program_names < program_limit }
         ensures { Answers (λ _. self.new) result (program_added number self.old name (map (λ line. line.now) body.now) last.now) }
     {
         let program = program_read(alloc, name, number + 1, body)?;

@@ -1,5 +1,6 @@
 //! What was read of a scenario so far, and what one line or block more makes of it.
 ghost use Rattle.std.specs.Prelude.{◌≡◌, ◌≤◌, ◌<◌, ◌++◌, ◌^◌, None, length, option_map, slice_get, IfSome, OnOk, nat_le, replicate};
+ghost use Rattle.pr_num.specs.Limits.{mapping_limit, program_limit};
 ghost use Rattle.pr_text.specs.Reads.{Gives};
 ghost use Rattle.pr_model.specs.FirstState.{first_size};
 ghost use Rattle.pr_scen.specs.Drafts.{nothing, with_turns, with_file, with_process, with_spawn, with_controller, has_program, knows_program, with_truss, with_schedule, with_item, may_begin, with_program, with_line, call_added, script_line_added, with_script, made};
@@ -15,11 +16,12 @@ use crate::{Plan, ScenKind, Scenario, Script, ScriptLine};
 use pr_asm::Program;
 use pr_line::Options;
 use pr_model::Actor;
+use pr_num::layout::{PAGE_SIZE, rounded};
 use pr_num::limits::{
     ALL_MAPPINGS_LIMIT, CONTROLLER_LIMIT, DEFAULT_TURNS, FILE_LIMIT, FILE_SIZE_LIMIT,
     LIST_LINE_LIMIT, PROGRAM_LIMIT, SCHEDULE_LIMIT, SPAWN_LIMIT, TURN_LIMIT,
 };
-use pr_num::{Bytes, Name, NoMemory, Table};
+use pr_num::{Bytes, Instruction, Name, NoMemory, Table};
 use pr_text::Refused;
 use std::alloc::Global;
 use std::mem;
@@ -45,16 +47,16 @@ pub struct Draft {
     pub lines: Lines,
 }
 
-/// How many bytes a process of a program has mapped when it begins: its text and its data, each a multiple of 4,096, and
-/// its stack.
+/// How many bytes a process of a program has mapped when it begins: its text and its data, each of whole pages, and its
+/// stack.
 #[tactic(auto, using(crate::proofs::SizeLemmas::size_at_first))]
 fn first_size(program: &Program) -> u64
     ensures value { result ≡ first_size program.now }
-    ensures small { result ≤ 1048576 }
+    ensures small { result ≤ mapping_limit }
 {
-    let text = (program.code().len() * 16).next_multiple_of(4096);
-    let data = program.data().len().next_multiple_of(4096);
-    (text + data + 4096) as u64
+    let text = program.code().len() * Instruction::SIZE;
+    let data = program.data().len();
+    rounded(text as u64) + rounded(data as u64) + PAGE_SIZE
 }
 
 impl Draft {
@@ -112,7 +114,7 @@ impl Draft {
     /// Adds a process of the program at a place, which begins with so many bytes mapped.
     fn add_process(&mut self, place: usize, size: u64) -> Result<(), Refused<ScenKind>>
         requires place { place < 2 ^ 32 }
-        requires size { size ≤ 1048576 }
+        requires size { size ≤ mapping_limit }
         ensures { Gives (λ _. self.new) result (with_process self.old place size) }
     {
         if self.spawns.len() >= SPAWN_LIMIT {
@@ -129,7 +131,7 @@ impl Draft {
     /// How many bytes a process of the program at a place has mapped when it begins.
     fn size_at(&self, place: usize) -> Option<u64>
         ensures value { result ≡ option_map first_size (slice_get self.now.programs place) }
-        ensures small { IfSome result (λ size. size ≤ 1048576) }
+        ensures small { IfSome result (λ size. size ≤ mapping_limit) }
     {
         let program = self.programs.as_slice().get(place)?;
         Some(first_size(program))
@@ -252,7 +254,7 @@ impl Draft {
     #[tactic(auto, unfolding(crate::specs::Drafts::with_program))]
     pub fn add_program(&mut self, name: Name, program: Program) -> Result<(), NoMemory>
         requires fresh { place_of self.old.program_names name ≡ None }
-        requires few { length self.old.program_names < 256 }
+        requires few { length self.old.program_names < program_limit }
         ensures { OnOk result (self.new ≡ with_program self.old name program) }
     {
         self.program_names.add(name)?;

@@ -1,5 +1,6 @@
-//! The names of programs and of files, of which there are 256 at most.
+//! The names of programs and of files, which have one limit.
 ghost use Rattle.std.specs.Prelude.{◌≡◌, ◌≤◌, ◌<◌, ◌++◌, [], ◌∷◌, None, OnOk, IfSome, length};
+ghost use Rattle.pr_num.specs.Limits.{program_limit};
 ghost use Rattle.pr_scen.specs.Names.{place_of};
 
 use crate::name_indexes::Names;
@@ -7,7 +8,7 @@ use pr_num::{Name, NoMemory};
 use std::alloc::Global;
 use std::marker::Model;
 
-/// At most 256 names, each once, seen by contracts as their list.
+/// At most as many names as a scenario can have programs, each once, seen by contracts as their list.
 #[derive(Drop)]
 pub struct FewNames {
     names: Names,
@@ -15,12 +16,13 @@ pub struct FewNames {
 
 impl Model for FewNames {
     ghost use Rattle.std.specs.Prelude.{ℕ, ◌≤◌, List, length};
+    ghost use Rattle.pr_num.specs.Limits.{program_limit};
 
     ghost Value = { List (List ℕ) };
 
     ghost view = { λ few. few.names };
 
-    ghost invariant = { λ few. length few.names ≤ 256 };
+    ghost invariant = { λ few. length few.names ≤ program_limit };
 }
 
 impl FewNames {
@@ -35,7 +37,7 @@ impl FewNames {
 
     pub fn len(&self) -> usize
         ensures value { result ≡ length self.now }
-        ensures most { result ≤ 256 }
+        ensures most { result ≤ program_limit }
     {
         self.names.len()
     }
@@ -43,7 +45,7 @@ impl FewNames {
     /// The place of a name, counted from 0, if it is one of them.
     pub fn place_of(&self, name: Name) -> Option<usize>
         ensures value { result ≡ place_of self.now name }
-        ensures within { IfSome result (λ place. place < 256) }
+        ensures within { IfSome result (λ place. place < program_limit) }
     {
         self.names.place_of(name)
     }
@@ -51,7 +53,7 @@ impl FewNames {
     /// Adds a name that is not one of them yet.
     pub fn add(&mut self, name: Name) -> Result<(), NoMemory>
         requires fresh { place_of self.old name ≡ None }
-        requires room { length self.old < 256 }
+        requires room { length self.old < program_limit }
         ensures { OnOk result (self.new ≡ self.old ++ name ∷ []) }
     {
         self.names.add(name)

@@ -1,5 +1,6 @@
 //! The lines outside blocks, each read on its own.
 ghost use Rattle.std.specs.Prelude.{◌≡◌, ◌<◌, ◌≤◌, ◌^◌, [], ◌∷◌, length, IfOk, if◌then◌else◌};
+ghost use Rattle.pr_num.specs.Limits.{line_limit};
 ghost use Rattle.pr_line.specs.Reading.{has_bad_option};
 ghost use Rattle.pr_text.specs.Reads.{Gives};
 ghost use Rattle.pr_text.specs.Words.{texts_of};
@@ -210,7 +211,7 @@ fn item_with(alloc: Global, first: &[u8], operands: Tokens) -> Result<Item, Refu
 /// What a line outside blocks says.
 #[tactic(auto, unfolding(crate::specs::Items::item_of))]
 pub fn item_of(alloc: Global, line: &[u8]) -> Result<Item, Refused<ScenKind>>
-    requires { length line.now ≤ 4096 }
+    requires { length line.now ≤ line_limit }
     ensures { Gives (λ item. item) result (item_of (texts_of line.now)) }
 {
     let mut words = Tokens::of(line);

@@ -1,5 +1,6 @@
 //! Lines before their words are looked at, and the lines that begin and end blocks.
 ghost use Rattle.std.specs.Prelude.{◌≡◌, ◌≤◌, length, OnOk};
+ghost use Rattle.pr_num.specs.Limits.{line_limit};
 ghost use Rattle.pr_text.specs.Words.{texts_of};
 ghost use Rattle.pr_scen.specs.Lines.{is_ascii, readable, first_is, is_end};
 ghost use Rattle.pr_scen.specs.Parts.{begins_block};
@@ -19,7 +20,7 @@ fn is_ascii(line: &[u8]) -> bool
 #[tactic(auto, unfolding(crate::specs::Lines::readable))]
 pub fn readable(line: &[u8]) -> Result<(), ScenKind>
     ensures value { result ≡ readable line.now }
-    ensures short { OnOk result (length line.now ≤ 4096) }
+    ensures short { OnOk result (length line.now ≤ line_limit) }
 {
     if line.len() > LINE_LIMIT {
         return Err(ScenKind::TooLong);

@@ -2,7 +2,7 @@
 use Rattle.std.specs.Prelude.{ℕ, zero, suc, ◌-◌, ◌*◌, ◌/◌, ◌%◌, ◌==◌, ◌&&◌, Bool, List, [], ◌∷◌, drop, length, option_map, Option, Some, None, nat_le, if◌then◌else◌}
 use Rattle.std.specs.Result.{result_ok}
 use Rattle.pr_codec.specs.Words.{word_at}
-use Rattle.pr_num.specs.Records.{Range, lwpstatus_ranges}
+use Rattle.pr_num.specs.Records.{Range, lwpstatus_ranges, lwpstatus_size}
 use Rattle.pr_rec.specs.Reading.{record_read}
 
 -- one record before those after it; none where it is malformed
@@ -26,11 +26,11 @@ entries_in ranges bytes =
 
 -- how many lwps have room in the status of all lwps, after their number
 abbrev pub lwp_places : List ℕ → ℕ
-lwp_places bytes = (length bytes - 8) / 264
+lwp_places bytes = (length bytes - 8) / lwpstatus_size
 
 -- whether the status of all lwps has as many as it says (proc(4), "lstatus")
 unfoldable pub counts_lwps : List ℕ → Bool
-counts_lwps bytes = nat_le 8 (length bytes) && ((length bytes - 8) % 264 == 0) && (word_at bytes 0 == lwp_places bytes)
+counts_lwps bytes = nat_le 8 (length bytes) && ((length bytes - 8) % lwpstatus_size == 0) && (word_at bytes 0 == lwp_places bytes)
 
 -- the words of the status of each lwp; none where that is malformed
 unfoldable pub lwps_in : List ℕ → Option (List (List ℕ))

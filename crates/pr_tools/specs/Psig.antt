@@ -1,5 +1,6 @@
 -- The text of psig(1): what a process does at each signal.
-use Rattle.std.specs.Prelude.{ℕ, ◌==◌, List, [], ◌∷◌, ◌++◌, length, codes, if◌then◌else◌}
+use Rattle.std.specs.Prelude.{◌*◌, ℕ, ◌==◌, List, [], ◌∷◌, ◌++◌, length, codes, if◌then◌else◌}
+use Rattle.pr_num.specs.Limits.{signal_count}
 use Rattle.pr_num.specs.Signals.{signals, signal_name}
 use Rattle.pr_num.specs.declared.signals.Sig.{Sig}
 use Rattle.pr_rec.specs.Fields.{front_words, disposition_of}
@@ -24,6 +25,6 @@ signal_lines [] words = []
 signal_lines (s ∷ ss) [] = []
 signal_lines (s ∷ ss) (w ∷ ws) = signal_line s w ++ signal_lines ss ws
 
--- the text of a process, of its dispositions; they are malformed where they are not 39 words
+-- the text of a process, of its dispositions; they are malformed where they are not a word for each signal
 unfoldable pub psig_text : ℕ → List ℕ → List ℕ
-psig_text pid bytes = header pid ++ (if length bytes == 312 then signal_lines signals (front_words 39 bytes) else [])
+psig_text pid bytes = header pid ++ (if length bytes == 8 * signal_count then signal_lines signals (front_words signal_count bytes) else [])

@@ -2,7 +2,7 @@
 use Rattle.std.specs.Prelude.{ℕ, zero, suc, ◌+◌, ◌-◌, ◌/◌, ◌==◌, ◌&&◌, ◌||◌, Bool, true, false, List, [], ◌∷◌, ◌++◌, drop, length, slice_index, Option, Some, None, Result, Ok, Err, nat_le, nat_lt, if◌then◌else◌}
 use Rattle.pr_codec.specs.Words.{word_at}
 use Rattle.pr_num.specs.Control.{has_flags, istop_flag}
-use Rattle.pr_num.specs.Records.{lwpstatus_ranges}
+use Rattle.pr_num.specs.Records.{lwpstatus_ranges, lwpstatus_size}
 use Rattle.pr_num.specs.StopReasons.{reason_number}
 use Rattle.pr_num.specs.declared.stop_reasons.StopReason.TheVariants.{Suspended}
 use Rattle.pr_rec.specs.Reading.{record_read}
@@ -25,7 +25,7 @@ stands_in (Err fault) = false
 -- the first so many lwps in bytes stand; one that is malformed does not
 unfoldable pub all_stand : ℕ → List ℕ → Bool
 all_stand zero bytes = true
-all_stand (suc n) bytes = stands_in (record_read lwpstatus_ranges bytes) && all_stand n (drop 264 bytes)
+all_stand (suc n) bytes = stands_in (record_read lwpstatus_ranges bytes) && all_stand n (drop lwpstatus_size bytes)
 
 -- Every lwp of a process stands, by the status of all its lwps. A malformed status shows none that does.
 unfoldable pub process_stands : List ℕ → Bool
@@ -45,11 +45,11 @@ walk_from bytes at =
 -- before the first frame of the first stack that has one, of so many lwps whose status begins at a byte
 unfoldable pub walk_among : ℕ → List ℕ → ℕ → Option Walk
 walk_among zero bytes at = None
-walk_among (suc n) bytes at = if frame_pointer bytes at == 0 then walk_among n bytes (at + 264) else Some (walk_from bytes at)
+walk_among (suc n) bytes at = if frame_pointer bytes at == 0 then walk_among n bytes (at + lwpstatus_size) else Some (walk_from bytes at)
 
 -- the same of all lwps whose status begins at that byte or later
 unfoldable pub walk_in : List ℕ → ℕ → Option Walk
-walk_in bytes at = walk_among ((length bytes - at) / 264) bytes at
+walk_in bytes at = walk_among ((length bytes - at) / lwpstatus_size) bytes at
 
 -- An answer of 16 bytes is a frame: the address of the one before it, and the address to which its function returns.
 -- Nothing else is one.
@@ -67,7 +67,7 @@ goes_on walk answer = is_frame answer && nat_lt 1 walk.left && nat_lt 0 (word_at
 -- the next frame of the same stack, else the first of a later one
 unfoldable pub walk_after : List ℕ → Walk → List ℕ → Option Walk
 walk_after bytes walk answer =
-    if goes_on walk answer then Some (record walk { left = walk.left - 1; frame = word_at answer 0 }) else walk_in bytes (walk.at + 264)
+    if goes_on walk answer then Some (record walk { left = walk.left - 1; frame = word_at answer 0 }) else walk_in bytes (walk.at + lwpstatus_size)
 
 -- frames with one more, where there is room
 unfoldable pub with_frame : ℕ → List CallFrame → Walk → List ℕ → List CallFrame

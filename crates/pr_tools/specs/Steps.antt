@@ -1,6 +1,6 @@
 -- The sequences of the tools (proc(1), pmap(1)): which calls each makes, a row a step.
 use Rattle.std.specs.Prelude.{ℕ, ◌*◌}
-use Rattle.pr_num.specs.Limits.{lwp_limit, read_limit, spawn_limit}
+use Rattle.pr_num.specs.Limits.{list_limit, lwp_limit, read_limit}
 use Rattle.pr_model.specs.declared.calls.File.{File}
 use Rattle.pr_model.specs.declared.calls.File.TheVariants as file
 use Rattle.pr_model.specs.declared.calls.Mode.{Mode}
@@ -104,15 +104,11 @@ unfoldable pub ctl_mode_of : ToolKind → Mode
 ctl_mode_of Pstack = mode.WriteExcl
 ctl_mode_of _ = mode.Write
 
--- the most bytes of a list of processes: 48 for each of all that can be but process 0
-abbrev pub longest_list : ℕ
-longest_list = 48 * spawn_limit
-
 -- How many bytes of its record a tool has room for: what one read gives, or a list. No answer of the machine is longer.
 unfoldable pub record_room : ToolKind → ℕ
 record_room Pstop = 0
 record_room Prun = 0
-record_room Ptree = longest_list
+record_room Ptree = list_limit
 record_room _ = read_limit
 
 -- The most frames of a stack that are read: its first one is the pc, and it has 64 at most.

@@ -1,6 +1,7 @@
 -- A tool as a controller of the kernel: the call that it makes next, what the reply makes of it, and what it prints in
 -- the end. It knows the machine by replies alone.
 use Rattle.std.specs.Prelude.{ℕ, Bool, false, List, [], ◌∷◌, Option, Some, None, is_none, option_map, length, take, nat_le, if◌then◌else◌}
+use Rattle.pr_num.specs.Layout.{text_base}
 use Rattle.pr_num.specs.Limits.{read_limit}
 use Rattle.pr_num.specs.Messages.{spelling}
 use Rattle.pr_num.specs.Programs.{Program}
@@ -66,10 +67,6 @@ first_tool kind pid = record {
 
 -- ---- its calls
 
--- where the first instruction of a program lies
-abbrev pub text_address : ℕ
-text_address = 0x10000
-
 -- how many bytes an instruction has, and a frame
 abbrev pub short_read : ℕ
 short_read = 16
@@ -100,7 +97,7 @@ call_of s AwaitStop = Some (call.CtlWait (number_of s.opened.ctl) s.until stop_b
 call_of s Direct = Some (call.Ctl (number_of s.opened.ctl) direct_bytes)
 call_of s AwaitEnd = Some (call.Poll (number_of s.opened.file ∷ []))
 call_of s ReadFile = Some (call.Read (number_of s.opened.file) 0 read_limit)
-call_of s ReadText = Some (call.Read (number_of s.opened.memory) text_address short_read)
+call_of s ReadText = Some (call.Read (number_of s.opened.memory) text_base short_read)
 call_of s ReadFrame = Some (call.Read (number_of s.opened.memory) (frame_of s.walk) short_read)
 call_of s Run = Some (call.Ctl (number_of s.opened.ctl) run_bytes)
 call_of s ListAll = Some call.List

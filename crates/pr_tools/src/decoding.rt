@@ -1,6 +1,7 @@
 //! The records of a descriptor and of a process in a list, read.
 ghost use Rattle.std.specs.Prelude.{◌≡◌, ◌*◌, ◌<◌, ◌≤◌, length, option_map, slice_index};
 ghost use Rattle.std.specs.Result.{result_ok};
+ghost use Rattle.pr_num.specs.Limits.{descriptor_limit};
 ghost use Rattle.pr_num.specs.Records.{fd_entry_ranges, list_entry_ranges};
 ghost use Rattle.pr_num.specs.Files.{fd_kind_number, access_number};
 ghost use Rattle.pr_rec.specs.Fields.{front_words};
@@ -8,6 +9,7 @@ ghost use Rattle.pr_rec.specs.Reading.{record_read};
 ghost use Rattle.pr_rec.specs.RecordWords.{fd_entry_words_of, list_entry_words_of};
 
 use pr_codec::{WORD, put_words, read_words};
+use pr_num::limits::DESCRIPTOR_LIMIT;
 use pr_num::{Access, FdKind};
 use pr_rec::{Descriptor, FdEntry, ListEntry};
 
@@ -55,7 +57,7 @@ fn access_of(word: u64) -> Access
 
 /// The descriptor of these words, which are in their ranges.
 fn fd_entry_of(words: &[u64; 8]) -> FdEntry
-    requires descriptor { slice_index words.now 0 < 64 }
+    requires descriptor { slice_index words.now 0 < descriptor_limit }
     requires from { 1 ≤ slice_index words.now 1 }
     requires to { slice_index words.now 1 ≤ 3 }
     requires access { slice_index words.now 2 < 3 }
@@ -80,7 +82,7 @@ pub fn read_fd_entry(bytes: &[u8]) -> Option<FdEntry>
         return None;
     }
     fill(bytes, &mut words);
-    if words[0] < 64 && 1 <= words[1] && words[1] <= 3 && words[2] < 3 {
+    if words[0] < DESCRIPTOR_LIMIT as u64 && 1 <= words[1] && words[1] <= 3 && words[2] < 3 {
         Some(fd_entry_of(&words))
     } else {
         None

@@ -12,9 +12,6 @@ use pr_num::NoMemory;
 use pr_rec::{FdEntry, ListEntry, LwpStatus, MapEntry};
 use std::alloc::Global;
 
-/// How many bytes the status of an lwp has.
-pub const LWP: usize = 264;
-
 /// The bytes from a place on, none where the place is past them.
 pub fn bytes_from(bytes: &[u8], place: usize) -> &[u8]
     ensures { result.now ≡ drop place bytes.now }
@@ -54,7 +51,7 @@ impl Record for LwpStatus {
     ghost words = { lwpstatus_words_of };
 
     fn size() -> usize {
-        LWP
+        LwpStatus::SIZE
     }
 
     fn read(bytes: &[u8]) -> Option<LwpStatus> {
@@ -144,7 +141,7 @@ pub fn entries_in<R: Record + Drop>(alloc: Global, bytes: &[u8]) -> Result<Optio
 pub fn lwp_places(bytes: &[u8]) -> usize
     ensures { result ≡ lwp_places bytes.now }
 {
-    bytes.len().saturating_sub(WORD) / LWP
+    bytes.len().saturating_sub(WORD) / LwpStatus::SIZE
 }
 
 /// Whether the status of all lwps has as many as it says.
@@ -154,7 +151,8 @@ pub fn counts_lwps(bytes: &[u8]) -> bool
 {
     match word(bytes, 0) {
         Err(_) => false,
-        Ok(count) => (bytes.len() - WORD) % LWP == 0 && count == lwp_places(bytes) as u64,
+        Ok(count) => (bytes.len() - WORD) % LwpStatus::SIZE == 0
+            && count == lwp_places(bytes) as u64,
     }
 }
 

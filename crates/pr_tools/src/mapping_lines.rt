@@ -1,6 +1,7 @@
 //! The text of pmap.
 ghost use Rattle.std.specs.Prelude.{◌≡◌, ◌≤◌, ◌+◌, ◌++◌, length, map, sum_by, IfOk, OnOk};
 ghost use Rattle.std.specs.List.{flat_map};
+ghost use Rattle.pr_num.specs.Limits.{read_limit};
 ghost use Rattle.pr_num.specs.Spaces.{kind_number, kind_of_number};
 ghost use Rattle.pr_rec.specs.RecordWords.{map_entry_words_of};
 ghost use Rattle.pr_tools.specs.Pmap.{access_letter, prot_text, kind_text, named, units, place_text, mapping_line, total_line, pmap_text};
@@ -118,7 +119,7 @@ fn push_total(text: &mut Text, total: u64) -> Result<(), NoMemory>
 /// The text of a process, of its mappings.
 #[tactic(auto, unfolding(crate::specs::Pmap::pmap_text))]
 pub fn push_pmap(alloc: Global, text: &mut Text, pid: u32, bytes: &[u8]) -> Result<(), NoMemory>
-    requires { length bytes.now ≤ 20480 }
+    requires { length bytes.now ≤ read_limit }
     ensures { OnOk result (text.new ≡ text.old ++ pmap_text pid bytes.now) }
 {
     text.header(pid)?;

@@ -1,14 +1,14 @@
 //! The stacks of the lwps of a stopped process, as pstack reads them.
 ghost use Rattle.std.specs.Prelude.{◌≡◌, ◌==◌, ◌≤◌, ◌+◌, length};
 ghost use Rattle.pr_codec.specs.Words.{word_at};
-ghost use Rattle.pr_num.specs.Records.{lwpstatus_ranges};
+ghost use Rattle.pr_num.specs.Records.{lwpstatus_ranges, lwpstatus_size};
 ghost use Rattle.pr_num.specs.StopReasons.{reason_number};
 ghost use Rattle.pr_rec.specs.Fields.{number_or_zero};
 ghost use Rattle.pr_rec.specs.Reading.{record_read};
 ghost use Rattle.pr_rec.specs.RecordWords.{lwpstatus_words_of};
 ghost use Rattle.pr_tools.specs.Stacks.{stands, stands_in, all_stand, process_stands, walk_from, walk_in, is_frame, frame_in, goes_on, walk_after};
 
-use crate::entries::{LWP, bytes_from, counts_lwps, lwp_places};
+use crate::entries::{bytes_from, counts_lwps, lwp_places};
 use crate::steps::READ_FRAMES;
 use pr_codec::{WORD, word};
 use pr_num::StopReason;
@@ -92,7 +92,7 @@ fn all_stand(count: usize, bytes: &[u8]) -> bool
         if !stands_in(rest) {
             return false;
         }
-        rest = bytes_from(rest, LWP);
+        rest = bytes_from(rest, LwpStatus::SIZE);
         left -= 1;
     }
     true
@@ -116,7 +116,7 @@ fn word_at(bytes: &[u8], at: usize) -> u64
 
 /// Before the first frame of an lwp's stack that is read.
 fn walk_from(bytes: &[u8], at: usize) -> Walk
-    requires { at + 264 ≤ length bytes.now }
+    requires { at + lwpstatus_size ≤ length bytes.now }
     ensures { result ≡ walk_from bytes.now at }
 {
     Walk {
@@ -133,12 +133,12 @@ pub fn walk_in(bytes: &[u8], at: usize) -> Option<Walk>
     ensures { result ≡ walk_in bytes.now at }
 {
     let mut at = at;
-    while bytes.len().saturating_sub(at) >= LWP {
+    while bytes.len().saturating_sub(at) >= LwpStatus::SIZE {
         let walk = walk_from(bytes, at);
         if walk.frame != 0 {
             return Some(walk);
         }
-        at += LWP;
+        at += LwpStatus::SIZE;
     }
     None
 }
@@ -146,12 +146,12 @@ pub fn walk_in(bytes: &[u8], at: usize) -> Option<Walk>
 /// The first frame of a stack after that of the lwp whose status begins at a byte.
 #[tactic(auto, using(crate::proofs::StackLemmas::walks))]
 fn walk_behind(bytes: &[u8], at: usize) -> Option<Walk>
-    ensures { result ≡ walk_in bytes.now (at + 264) }
+    ensures { result ≡ walk_in bytes.now (at + lwpstatus_size) }
 {
-    if bytes.len().saturating_sub(at) < LWP {
+    if bytes.len().saturating_sub(at) < LwpStatus::SIZE {
         return None;
     }
-    walk_in(bytes, at + LWP)
+    walk_in(bytes, at + LwpStatus::SIZE)
 }
 
 /// Whether a stack goes on after the frame of an answer.

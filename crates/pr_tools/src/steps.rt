@@ -3,7 +3,7 @@ ghost use Rattle.std.specs.Prelude.{◌≡◌};
 ghost use Rattle.pr_tools.specs.Steps.{first_step, after_in_reader, after_in_pstop, after_in_prun, after_in_pwait, after_in_pstack, after, way_out, file_of, ctl_mode_of, record_room, frame_room};
 
 use pr_model::{File, Mode, ToolKind};
-use pr_num::limits::{LWP_LIMIT, READ_LIMIT, SPAWN_LIMIT};
+use pr_num::limits::{LIST_LIMIT, LWP_LIMIT, READ_LIMIT};
 
 /// A step of a tool: the call that it makes.
 #[derive(Clone, Copy, Debug, PartialEq, Eq)]
@@ -39,9 +39,6 @@ pub enum Step {
     /// Closes the file that was opened last; where none is open, the tool has finished.
     Close,
 }
-
-/// The most bytes of a list of processes: 48 for each of all that can be but process 0.
-const LONGEST_LIST: usize = 48 * SPAWN_LIMIT;
 
 /// The most frames of a stack that are read: its first one is the pc, and it has 64 at most.
 pub const READ_FRAMES: u32 = 63;
@@ -186,7 +183,7 @@ pub fn record_room(kind: ToolKind) -> usize
 {
     match kind {
         ToolKind::Pstop | ToolKind::Prun => 0,
-        ToolKind::Ptree => LONGEST_LIST,
+        ToolKind::Ptree => LIST_LIMIT,
         _ => READ_LIMIT as usize,
     }
 }

@@ -1,5 +1,6 @@
 //! A tool as a controller of the kernel.
 ghost use Rattle.std.specs.Prelude.{◌≡◌, ◌++◌, [], ◌∷◌, length, take, nat_le, Some, None, Ok, IfOk, OnOk, if◌then◌else◌};
+ghost use Rattle.pr_num.specs.Limits.{read_limit};
 ghost use Rattle.pr_num.specs.Messages.{spelling, tail_length};
 ghost use Rattle.pr_model.specs.Replies.{number_of};
 ghost use Rattle.pr_tools.specs.Steps.{frame_room};
@@ -24,13 +25,11 @@ use crate::texts::Text;
 use pr_asm::Program;
 use pr_model::{Call, File, Mode, Reply, ToolKind, number_of, opened_in, until_in};
 use pr_msg::{Message, encode};
+use pr_num::layout::TEXT_BASE;
 use pr_num::limits::READ_LIMIT;
 use pr_num::{Bytes, Errno, Handles, Instruction, NoMemory};
 use std::alloc::Global;
 use std::marker::Model;
-
-/// Where the first instruction of a program lies.
-const TEXT: u64 = 0x10000;
 
 /// How many bytes an instruction has, and a frame.
 const SHORT_READ: u64 = 16;
@@ -175,7 +174,7 @@ impl Tool {
 
     /// The call that reads a record.
     fn read_file(&self) -> Call
-        ensures { result ≡ Call.Read (number_of self.now.opened.file) 0 20480 }
+        ensures { result ≡ Call.Read (number_of self.now.opened.file) 0 read_limit }
     {
         Call::Read {
             handle: number_of(self.opened.file),
@@ -225,7 +224,7 @@ impl Tool {
             Step::AwaitStop => wait(alloc, self.opened.ctl, self.until)?,
             Step::Direct => ctl(alloc, self.opened.ctl, &Message::Dstop)?,
             Step::AwaitEnd => poll(alloc, self.opened.file)?,
-            Step::ReadText => self.read_memory(TEXT),
+            Step::ReadText => self.read_memory(TEXT_BASE),
             Step::ReadFrame => self.read_memory(frame_of(&self.walk)),
             Step::Run | Step::Release => ctl(alloc, self.opened.ctl, &Message::Run { flags: 0 })?,
             Step::List => Call::List,

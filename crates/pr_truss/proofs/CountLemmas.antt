@@ -11,6 +11,7 @@ use Rattle.pr_rec.proofs.FieldLemmas.{signal_number-lt, fault_number-lt, syscall
 use Rattle.std.proofs.lemmas.Bool.{eq-eqb, eqb-true, false≢true}
 use Rattle.std.proofs.lemmas.List.{append-nil, get_or-set_same, get_or-set_other, get_or-replicate, length-append, length-set}
 use Rattle.std.proofs.lemmas.List.Elements.{filter-append}
+use Rattle.pr_num.specs.Limits.{signal_count}
 use Rattle.pr_truss.specs.Counts.{number_in, counts_as, count_of, IsTable, row_of, row_of_call, call_row_in, call_row, signal_row_in, signal_row, fault_row_in, fault_row}
 use Rattle.pr_truss.specs.declared.counts.Kind.{Kind}
 use Rattle.pr_truss.specs.declared.counts.Kind.TheVariants.{Calls, Errors, Signals, Faults}
@@ -31,10 +32,10 @@ count_nothing : (kind : Kind) (n : ℕ) → 0 ≡ count_of [] kind n
 unfolding count_of
 count_nothing kind n = refl
 
-pub table_first : (kind : Kind) → IsTable [] kind (replicate 40 0)
-table_first kind = record { size = refl; rows = λ n lt. get_or-replicate 40 n 0 0 lt ∙ count_nothing kind n }
+pub table_first : (kind : Kind) → IsTable [] kind (replicate (signal_count + 1) 0)
+table_first kind = record { size = refl; rows = λ n lt. get_or-replicate (signal_count + 1) n 0 0 lt ∙ count_nothing kind n }
 
-row_more : (rs : List Report) (r : Report) (kind : Kind) (table : List ℕ) (m n : ℕ) → IsTable rs kind table → number_in kind r ≡ m → n < 40 → (b : Bool) → eqb m n ≡ b → get_or (set table m (get_or table m 0 + 1)) n 0 ≡ count_of (rs ++ r ∷ []) kind n
+row_more : (rs : List Report) (r : Report) (kind : Kind) (table : List ℕ) (m n : ℕ) → IsTable rs kind table → number_in kind r ≡ m → n < signal_count + 1 → (b : Bool) → eqb m n ≡ b → get_or (set table m (get_or table m 0 + 1)) n 0 ≡ count_of (rs ++ r ∷ []) kind n
 row_more rs r kind table m n h is lt true same =
     let e : m ≡ n = eqb-true m n same in
     ap (λ k. get_or (set table k (get_or table k 0 + 1)) n 0) e ∙ get_or-set_same table n (get_or table n 0 + 1) 0 (omega (arith, h.size))

@@ -5,6 +5,7 @@ use Rattle.std.specs.Option.{option_and_then, unwrap_or}
 use Rattle.std.proofs.lemmas.Bool.{le-ltb}
 use Rattle.std.proofs.lemmas.List.{append_assoc, append-nil, length-append, length-drop, take_all}
 use Rattle.std.proofs.lemmas.List.Elements.{filter-append}
+use Rattle.pr_num.specs.Records.{lwpstatus_size}
 use Rattle.pr_codec.specs.Words.{word_at}
 use Rattle.pr_rec.specs.declared.lwps.LwpStatus.{LwpStatus}
 use Rattle.pr_truss.specs.Records.{lwp_in, lwps_in, lstatus_lwps, is_on_event, noted, Sees}
@@ -21,13 +22,13 @@ longer : (seen : List LwpStatus) (l : LwpStatus) (more : Option (List LwpStatus)
 longer seen l None = refl
 longer seen l (Some ls) = ap Some (sym (append_assoc seen (l ∷ []) ls))
 
-lwps_in-next : (m : ℕ) (rest : List ℕ) (l : LwpStatus) → lwp_in rest ≡ Some l → lwps_in (suc m) rest ≡ option_map (λ ls. l ∷ ls) (lwps_in m (drop 264 rest))
+lwps_in-next : (m : ℕ) (rest : List ℕ) (l : LwpStatus) → lwp_in rest ≡ Some l → lwps_in (suc m) rest ≡ option_map (λ ls. l ∷ ls) (lwps_in m (drop lwpstatus_size rest))
 unfolding lwps_in
-lwps_in-next m rest l is = ap (λ found. option_and_then (λ lwp. option_map (λ more. lwp ∷ more) (lwps_in m (drop 264 rest))) found) is
+lwps_in-next m rest l is = ap (λ found. option_and_then (λ lwp. option_map (λ more. lwp ∷ more) (lwps_in m (drop lwpstatus_size rest))) found) is
 
 lwps_in-none : (m : ℕ) (rest : List ℕ) → lwp_in rest ≡ None → lwps_in (suc m) rest ≡ None
 unfolding lwps_in
-lwps_in-none m rest is = ap (λ found. option_and_then (λ lwp. option_map (λ more. lwp ∷ more) (lwps_in m (drop 264 rest))) found) is
+lwps_in-none m rest is = ap (λ found. option_and_then (λ lwp. option_map (λ more. lwp ∷ more) (lwps_in m (drop lwpstatus_size rest))) found) is
 
 lwps_in-end : (rest : List ℕ) → length rest ≡ 0 → lwps_in 0 rest ≡ Some []
 unfolding lwps_in
@@ -68,10 +69,10 @@ seen_first bytes rest n enough n_is rest_is = record {
   small = omega arith;
 }
 
-so_far-more : (n i : ℕ) (whole : Option (List LwpStatus)) (seen : List LwpStatus) (rest later : List ℕ) (l : LwpStatus) → i < n → lwp_in rest ≡ Some l → later ≡ drop 264 rest → whole ≡ after_seen seen (lwps_in (n - i) rest) → whole ≡ after_seen (seen ++ l ∷ []) (lwps_in (n - (i + 1)) later)
+so_far-more : (n i : ℕ) (whole : Option (List LwpStatus)) (seen : List LwpStatus) (rest later : List ℕ) (l : LwpStatus) → i < n → lwp_in rest ≡ Some l → later ≡ drop lwpstatus_size rest → whole ≡ after_seen seen (lwps_in (n - i) rest) → whole ≡ after_seen (seen ++ l ∷ []) (lwps_in (n - (i + 1)) later)
 so_far-more n i whole seen rest later l lt is later_is so_far =
     so_far ∙ ap (λ m. after_seen seen (lwps_in m rest)) (one_left n i lt) ∙ ap (after_seen seen) (lwps_in-next (n - (i + 1)) rest l is)
-    ∙ longer seen l (lwps_in (n - (i + 1)) (drop 264 rest)) ∙ ap (λ bytes. after_seen (seen ++ l ∷ []) (lwps_in (n - (i + 1)) bytes)) (sym later_is)
+    ∙ longer seen l (lwps_in (n - (i + 1)) (drop lwpstatus_size rest)) ∙ ap (λ bytes. after_seen (seen ++ l ∷ []) (lwps_in (n - (i + 1)) bytes)) (sym later_is)
 
 first_of-more : (xs : List LwpStatus) (x : LwpStatus) → slice_get (xs ++ x ∷ []) 0 ≡ Some (unwrap_or (slice_get xs 0) x)
 first_of-more [] x = refl
@@ -83,7 +84,7 @@ filter-on seen l on = filter-append is_on_event seen (l ∷ []) ∙ ap (λ b. fi
 filter-off : (seen : List LwpStatus) (l : LwpStatus) → is_on_event l ≡ false → filter is_on_event (seen ++ l ∷ []) ≡ filter is_on_event seen
 filter-off seen l off = filter-append is_on_event seen (l ∷ []) ∙ ap (λ b. filter is_on_event seen ++ cond b (l ∷ []) []) off ∙ append-nil _
 
-seen_on : (n i : ℕ) (whole : Option (List LwpStatus)) (rest later : List ℕ) (stops : Stops) (l : LwpStatus) → IsSeen n i whole rest stops → i < n → lwp_in rest ≡ Some l → is_on_event l ≡ true → later ≡ drop 264 rest → IsSeen n (i + 1) whole later (record { count = stops.count + 1; first = Some (unwrap_or stops.first l) })
+seen_on : (n i : ℕ) (whole : Option (List LwpStatus)) (rest later : List ℕ) (stops : Stops) (l : LwpStatus) → IsSeen n i whole rest stops → i < n → lwp_in rest ≡ Some l → is_on_event l ≡ true → later ≡ drop lwpstatus_size rest → IsSeen n (i + 1) whole later (record { count = stops.count + 1; first = Some (unwrap_or stops.first l) })
 seen_on n i whole rest later stops l h lt is on later_is = record {
   seen = h.seen ++ l ∷ [];
   so_far = so_far-more n i whole h.seen rest later l lt is later_is h.so_far;
@@ -92,7 +93,7 @@ seen_on n i whole rest later stops l h lt is on later_is = record {
   small = omega (arith, h.small);
 }
 
-seen_off : (n i : ℕ) (whole : Option (List LwpStatus)) (rest later : List ℕ) (stops : Stops) (l : LwpStatus) → IsSeen n i whole rest stops → i < n → lwp_in rest ≡ Some l → is_on_event l ≡ false → later ≡ drop 264 rest → IsSeen n (i + 1) whole later stops
+seen_off : (n i : ℕ) (whole : Option (List LwpStatus)) (rest later : List ℕ) (stops : Stops) (l : LwpStatus) → IsSeen n i whole rest stops → i < n → lwp_in rest ≡ Some l → is_on_event l ≡ false → later ≡ drop lwpstatus_size rest → IsSeen n (i + 1) whole later stops
 seen_off n i whole rest later stops l h lt is off later_is = record {
   seen = h.seen ++ l ∷ [];
   so_far = so_far-more n i whole h.seen rest later l lt is later_is h.so_far;
@@ -101,7 +102,7 @@ seen_off n i whole rest later stops l h lt is off later_is = record {
   small = omega (arith, h.small);
 }
 
-pub seen_more : (n i : ℕ) (whole : Option (List LwpStatus)) (rest later : List ℕ) (stops : Stops) (l : LwpStatus) → IsSeen n i whole rest stops → i < n → lwp_in rest ≡ Some l → later ≡ drop 264 rest → IsSeen n (i + 1) whole later (noted stops l)
+pub seen_more : (n i : ℕ) (whole : Option (List LwpStatus)) (rest later : List ℕ) (stops : Stops) (l : LwpStatus) → IsSeen n i whole rest stops → i < n → lwp_in rest ≡ Some l → later ≡ drop lwpstatus_size rest → IsSeen n (i + 1) whole later (noted stops l)
 seen_more n i whole rest later stops l h lt is later_is =
     elim (is_on_event l) as (λ b. is_on_event l ≡ b → IsSeen n (i + 1) whole later (cond b (record { count = stops.count + 1; first = Some (unwrap_or stops.first l) }) stops)) [ true ↦ λ on. seen_on n i whole rest later stops l h lt is on later_is | false ↦ λ off. seen_off n i whole rest later stops l h lt is off later_is ] refl
 

@@ -1,6 +1,7 @@
 -- The counts of truss(1) with -c.
-use Rattle.std.specs.Prelude.{◌≡◌, ◌==◌, ◌<◌, ℕ, Bool, true, false, Option, Some, None, List, [], ◌∷◌, ◌++◌, codes, decimal, length, filter, not, slice_index, Result, Ok, Err, if◌then◌else◌}
+use Rattle.std.specs.Prelude.{◌+◌, ◌≡◌, ◌==◌, ◌<◌, ℕ, Bool, true, false, Option, Some, None, List, [], ◌∷◌, ◌++◌, codes, decimal, length, filter, not, slice_index, Result, Ok, Err, if◌then◌else◌}
 use Rattle.std.specs.List.{flat_map}
+use Rattle.pr_num.specs.Limits.{signal_count}
 use Rattle.pr_line.specs.Events.{event_of}
 use Rattle.pr_line.specs.declared.events.Event.{Event}
 use Rattle.pr_line.specs.declared.events.Event.TheVariants.{Entered, Left, Received, Incurred}
@@ -75,8 +76,8 @@ total_of reports kind = length (filter (counts_at_all kind) reports)
 
 -- a table of the counts of one kind, by number
 pub record IsTable (reports : List Report) (kind : Kind) (table : List ℕ) : Type 0 where
-  pub size : length table ≡ 40
-  pub rows : (n : ℕ) → n < 40 → slice_index table n ≡ count_of reports kind n
+  pub size : length table ≡ signal_count + 1
+  pub rows : (n : ℕ) → n < signal_count + 1 → slice_index table n ≡ count_of reports kind n
 
 -- ---- the rows
 

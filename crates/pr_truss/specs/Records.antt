@@ -4,7 +4,7 @@ use Rattle.std.specs.Result.{result_ok}
 use Rattle.pr_line.specs.Events.{event_of}
 use Rattle.pr_num.specs.Errnos.{errno_of_number}
 use Rattle.pr_num.specs.Faults.{fault_of_number}
-use Rattle.pr_num.specs.Records.{lwpstatus_ranges, status_ranges}
+use Rattle.pr_num.specs.Records.{lwpstatus_ranges, status_ranges, lwpstatus_size}
 use Rattle.pr_num.specs.Signals.{signal_of_number}
 use Rattle.pr_num.specs.StopReasons.{stop_reasons}
 use Rattle.pr_num.specs.Syscalls.{syscall_of_number}
@@ -53,7 +53,7 @@ status_lwp bytes = option_map (λ words. lwp_of (drop 13 words)) (result_ok (rec
 -- so many statuses of lwps, one after another, and nothing else
 unfoldable pub lwps_in : ℕ → List ℕ → Option (List LwpStatus)
 lwps_in zero bytes = if length bytes == 0 then Some [] else None
-lwps_in (suc n) bytes = option_and_then (λ lwp. option_map (λ more. lwp ∷ more) (lwps_in n (drop 264 bytes))) (lwp_in bytes)
+lwps_in (suc n) bytes = option_and_then (λ lwp. option_map (λ more. lwp ∷ more) (lwps_in n (drop lwpstatus_size bytes))) (lwp_in bytes)
 
 -- the lwps of a process: their number, and the status of each
 unfoldable pub lstatus_lwps : List ℕ → Option (List LwpStatus)

@@ -1,5 +1,6 @@
 -- What truss(1) does at a stop of a process that it traces.
 use Rattle.std.specs.Prelude.{◌-◌, ℕ, Bool, not, Option, Some, None, List, length, take, position, nat_lt, ◌==◌, option_and_then, slice_get, if◌then◌else◌}
+use Rattle.pr_num.specs.Limits.{asked_limit}
 use Rattle.pr_line.specs.ArgumentTexts.{Came}
 use Rattle.pr_line.specs.Events.{event_of}
 use Rattle.pr_line.specs.Selections.{is_selected}
@@ -20,7 +21,6 @@ use Rattle.pr_truss.specs.declared.replies.Answer.TheVariants.{Accepted, Interru
 use Rattle.pr_truss.specs.declared.reports.Report.TheVariants.{Event as Shown}
 use Rattle.pr_truss.specs.declared.stages.FreeingStep.TheVariants.{OpenControl}
 use Rattle.pr_truss.specs.declared.stages.Stage.TheVariants.{ReadingStatus, ReadingText, OpeningChildControl, Running, ReadingLwps, FreeingChild}
-use Rattle.pr_truss.specs.declared.texts.TheConstants.{TEXT_LIMIT}
 
 -- ---- after the stop
 
@@ -86,7 +86,7 @@ with_stop_read s place (Some l) = with_stop s place l
 -- for.
 abbrev pub text_of : ℕ → Option (List ℕ) → Came
 text_of len None = None
-text_of len (Some bytes) = Some (take TEXT_LIMIT bytes, nat_lt (length bytes) len)
+text_of len (Some bytes) = Some (take asked_limit bytes, nat_lt (length bytes) len)
 
 -- The reply to the read of memory for an event. The event is reported at once, whatever the reply.
 unfoldable pub after_text : TrussState → ℕ → LwpStatus → Answer → TrussState

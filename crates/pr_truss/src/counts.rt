@@ -1,6 +1,7 @@
 //! The counts of truss with `-c`.
-ghost use Rattle.std.specs.Prelude.{◌≡◌, ◌<◌, ◌++◌, OnOk, codes, decimal};
+ghost use Rattle.std.specs.Prelude.{◌+◌, ◌≡◌, ◌<◌, ◌++◌, OnOk, codes, decimal};
 ghost use Rattle.std.specs.List.{flat_map};
+ghost use Rattle.pr_num.specs.Limits.{signal_count};
 ghost use Rattle.pr_num.specs.Faults.{faults};
 ghost use Rattle.pr_num.specs.Signals.{signals};
 ghost use Rattle.pr_num.specs.Syscalls.{syscalls, syscall_number};
@@ -79,7 +80,7 @@ fn fault_in(report: &Report) -> Option<Flt>
 /// The number of the call of a report.
 fn call_number(report: &Report) -> u64
     ensures value { result ≡ number_or_zero syscall_number (call_in (event_in report.now)) }
-    ensures range { result < 40 }
+    ensures range { result < signal_count + 1 }
 {
     match call_in(report) {
         Some(call) => call.number(),
@@ -91,7 +92,7 @@ fn call_number(report: &Report) -> u64
 #[tactic(auto, unfolding(crate::specs::Counts::number_in))]
 fn number_in(kind: Kind, report: &Report) -> u64
     ensures value { result ≡ number_in kind report.now }
-    ensures range { result < 40 }
+    ensures range { result < signal_count + 1 }
 {
     match kind {
         Kind::Calls => call_number(report),
@@ -109,7 +110,7 @@ fn number_in(kind: Kind, report: &Report) -> u64
 }
 
 /// How many reports count as the entry of each number.
-fn counts_of(reports: &[Report], kind: Kind) -> [u64; 40]
+fn counts_of(reports: &[Report], kind: Kind) -> [u64; NUMBERS]
     ensures { IsTable reports.now kind result }
 {
     let mut table = [0; NUMBERS];
@@ -192,8 +193,8 @@ fn write_total(out: &mut Vec<u8>, reports: &[Report]) -> Result<(), NoMemory>
 /// Adds the rows of calls.
 fn write_calls(
     out: &mut Vec<u8>,
-    counts: &[u64; 40],
-    errors: &[u64; 40],
+    counts: &[u64; NUMBERS],
+    errors: &[u64; NUMBERS],
     calls: &[Sysno],
 ) -> Result<(), NoMemory>
     ensures { OnOk result (out.new.items ≡ out.old.items ++ flat_map (call_row_in counts.now errors.now) calls.now) }
@@ -206,7 +207,11 @@ fn write_calls(
 }
 
 /// Adds the rows of signals.
-fn write_signals(out: &mut Vec<u8>, counts: &[u64; 40], signals: &[Sig]) -> Result<(), NoMemory>
+fn write_signals(
+    out: &mut Vec<u8>,
+    counts: &[u64; NUMBERS],
+    signals: &[Sig],
+) -> Result<(), NoMemory>
     ensures { OnOk result (out.new.items ≡ out.old.items ++ flat_map (signal_row_in counts.now) signals.now) }
 {
     for signal in signals {
@@ -217,7 +222,7 @@ fn write_signals(out: &mut Vec<u8>, counts: &[u64; 40], signals: &[Sig]) -> Resu
 }
 
 /// Adds the rows of faults.
-fn write_faults(out: &mut Vec<u8>, counts: &[u64; 40], faults: &[Flt]) -> Result<(), NoMemory>
+fn write_faults(out: &mut Vec<u8>, counts: &[u64; NUMBERS], faults: &[Flt]) -> Result<(), NoMemory>
     ensures { OnOk result (out.new.items ≡ out.old.items ++ flat_map (fault_row_in counts.now) faults.now) }
 {
     for fault in faults {

@@ -1,14 +1,12 @@
 //! What truss reads in the records of processes.
 ghost use Rattle.std.specs.Prelude.{◌≡◌, ◌≤◌, ◌<◌, ◌+◌, ◌^◌, length, slice_get, option_map, IfSome};
+ghost use Rattle.pr_num.specs.Records.{lwpstatus_size};
 ghost use Rattle.pr_truss.specs.Records.{lwp_in, status_lwp, lstatus_lwps, Sees, noted, event_stops, is_on_event, has_ended_fork, child_of};
 
 use pr_codec::{WORD, word};
 use pr_line::event_of;
 use pr_num::{StopReason, Sysno};
 use pr_rec::{LwpStatus, Status};
-
-/// The bytes of the status of an lwp.
-const LWP_BYTES: usize = 264;
 
 /// How many lwps of a process stand on events, and the first of them.
 #[derive(Clone, Copy)]
@@ -28,7 +26,7 @@ impl Stops {
 #[tactic(auto, unfolding(crate::specs::Records::lwp_in))]
 fn lwp_in(bytes: &[u8]) -> Option<LwpStatus>
     ensures value { result ≡ lwp_in bytes.now }
-    ensures size { IfSome result (λ _. 264 ≤ length bytes.now) }
+    ensures size { IfSome result (λ _. lwpstatus_size ≤ length bytes.now) }
 {
     match LwpStatus::decode(bytes) {
         Ok(lwp) => Some(lwp),
@@ -83,7 +81,7 @@ fn stops_in(bytes: &[u8]) -> Option<Stops>
     for i in 0..count {
         let lwp = lwp_in(rest)?;
         stops = stops.noted(&lwp);
-        rest = &rest[LWP_BYTES..];
+        rest = &rest[LwpStatus::SIZE..];
     }
     if rest.is_empty() { Some(stops) } else { None }
 }

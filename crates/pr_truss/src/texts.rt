@@ -1,22 +1,21 @@
 ghost use Rattle.std.specs.Prelude.{◌≡◌, length, nat_lt, take};
-ghost use Rattle.pr_truss.specs.declared.texts.TheConstants.{TEXT_LIMIT};
+ghost use Rattle.pr_num.specs.Limits.{asked_limit};
 
+use pr_num::limits::ASKED_LIMIT;
 use std::marker::Model;
-
-/// The most bytes of memory that a line asks for: those that it shows, and one that tells whether there are more.
-pub(crate) const TEXT_LIMIT: usize = 65;
 
 /// What a read of the memory of a process gave: bytes, kept in place, and whether they are fewer than were asked for.
 /// Seen by contracts as the list of the bytes, with that.
 #[derive(Clone, Copy)]
 pub struct Text {
-    bytes: [u8; 65],
+    bytes: [u8; ASKED_LIMIT],
     len: usize,
     short: bool,
 }
 
 impl Model for Text {
     ghost use Rattle.std.specs.Prelude.{ℕ, Bool, List, length, take};
+    ghost use Rattle.pr_num.specs.Limits.{asked_limit};
     ghost use Rattle.pr_num.specs.Padding.{padded};
     ghost use Rattle.pr_truss.specs.Texts.{IsText, text_back};
 
@@ -26,18 +25,18 @@ impl Model for Text {
 
     ghost invariant = { λ a. IsText a.bytes a.len };
 
-    ghost inverse = { λ text. record { bytes = padded 65 text.0; len = length text.0; short = text.1 } };
+    ghost inverse = { λ text. record { bytes = padded asked_limit text.0; len = length text.0; short = text.1 } };
 
     ghost inverse_ok = { λ a h. text_back a.bytes a.len h (λ bytes len. record { bytes = bytes; len = len; short = a.short }) };
 }
 
 impl Text {
-    /// What a read gave that asked for so many bytes: the first 65, or all where they are fewer. Takes no memory.
+    /// What a read gave that asked for so many bytes: the first `ASKED_LIMIT`, or all where they are fewer. Takes no memory.
     pub(crate) fn new(read: &[u8], asked: u64) -> Text
-        ensures { result ≡ (take TEXT_LIMIT read.now, nat_lt (length read.now) asked) }
+        ensures { result ≡ (take asked_limit read.now, nat_lt (length read.now) asked) }
     {
-        let front = &read[..TEXT_LIMIT.min(read.len())];
-        let mut bytes = [0; 65];
+        let front = &read[..ASKED_LIMIT.min(read.len())];
+        let mut bytes = [0; ASKED_LIMIT];
         bytes[..front.len()].copy_from_slice(front);
         Text {
             bytes,

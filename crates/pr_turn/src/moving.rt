@@ -1,5 +1,6 @@
 //! What a row of the turn table makes of its lwp.
 ghost use Rattle.std.specs.Prelude.{◌≡◌, ◌<◌, false, true, length};
+ghost use Rattle.pr_num.specs.Limits.{frame_limit};
 ghost use Rattle.pr_lwp.specs.Plain.{outcome_of, space_after};
 ghost use Rattle.pr_model.specs.InstructionEffects.{instruction_effect};
 ghost use Rattle.pr_model.specs.Machines.{call_over, fault_posted, step_taken, stopped_as_directed, traced};
@@ -147,7 +148,7 @@ fn begin_handler(regs: &mut [u64; 11], current: Current, handler: u64)
 /// A handler runs, with its signal held; what it interrupted is saved in a frame, which has room.
 #[tactic(auto, unfolding(pr_model::specs::Moves::moved, pr_model::specs::Machines::traced, pr_model::specs::Signals::handler_held))]
 fn catch_signal(lwp: &mut Lwp, current: Current, handler: u64)
-    requires { length lwp.old.frames < 32 }
+    requires { length lwp.old.frames < frame_limit }
     ensures { lwp.new ≡ moved traced (caught_move lwp.old current handler) lwp.old }
 {
     let frame = Frame {

@@ -9,13 +9,12 @@ ghost use Rattle.pr_rec.specs.Fields.{flag_if};
 
 use pr_mem::Space;
 use pr_model::{Current, Phase, Res, Shown, Stop};
+use pr_num::layout::HEAP_BASE;
+use pr_num::limits::SIGNAL_COUNT;
 use pr_num::{AGENT, Errno, Flt, Info, Mapping, MappingKind, Sig, StopReason, Sysno};
 use pr_proc::{Lwp, Proc, disposition_of, has_agent};
 use pr_rec::{Disposition, LwpFlags, LwpMarks, LwpStatus, ProcessFlags, Status, What};
 use pr_stop::{representative, representative_lwp, shown};
-
-/// Where the heap begins.
-const HEAP_BASE: u64 = 0x100000;
 
 fn reason_of_stop(stop: Stop) -> StopReason
     ensures { result ≡ reason_of_stop stop }
@@ -174,7 +173,7 @@ fn info_in(current: Option<Current>) -> Info
 
 /// What the process does with the current signal.
 #[tactic(auto, unfolding(pr_model::specs::Statuses::disposition_in))]
-fn disposition_in(dispositions: &[u64; 39], current: Option<Current>) -> Disposition
+fn disposition_in(dispositions: &[u64; SIGNAL_COUNT], current: Option<Current>) -> Disposition
     ensures { result ≡ disposition_in dispositions.now current }
 {
     match current {

@@ -44,7 +44,7 @@ pub fn status_bytes(pid: u32, process: &Proc) -> [u8; 368]
 
 /// The bytes of the status of an lwp of a process, with its id. They decode to that status, where the information of its
 /// current signal is one that a record can hold.
-pub fn lwpstatus_bytes(process: &Proc, id: u32, lwp: &Lwp) -> [u8; 264]
+pub fn lwpstatus_bytes(process: &Proc, id: u32, lwp: &Lwp) -> [u8; LwpStatus::SIZE]
     ensures bytes { result ≡ lwpstatus_bytes (lwpstatus_of process.now id lwp.now) }
     ensures decodes { IsInfo (lwpstatus_of process.now id lwp.now).info → BeginsWith lwpstatus_ranges result (lwpstatus_words_of (lwpstatus_of process.now id lwp.now)) }
 {

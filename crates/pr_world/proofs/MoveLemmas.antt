@@ -3,10 +3,11 @@ use Rattle.std.proofs.lemmas.Option.{same_Some, slice_get_within}
 use borrow.Author.Tests.{ltb-true}
 use Rattle.std.specs.Borrow.{Bor}
 use Rattle.std.specs.Option.{option_and_then, option_copied}
+use Rattle.pr_num.specs.Limits.{clock_limit}
 use Rattle.pr_api.specs.Entries.{call_entry, last_reply_of, reply_of, tick_entry, turn_entry}
 use Rattle.pr_api.specs.Steps.{IsAnswer, IsCalled, IsTicked, IsTurned, IsTurnOf}
 use Rattle.pr_api.specs.Views.{IsLawful, KernelView, kernel_of}
-use Rattle.pr_model.specs.Legal.{IsLegalEntry, after, after_call, after_turn, clock_limit, ticked}
+use Rattle.pr_model.specs.Legal.{IsLegalEntry, after, after_call, after_turn, ticked}
 use Rattle.pr_model.specs.State.{TracedState, with_system}
 use Rattle.pr_model.specs.declared.calls.Call.{Call}
 use Rattle.pr_model.specs.declared.calls.Reply.{Reply}

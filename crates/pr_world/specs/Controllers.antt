@@ -1,7 +1,7 @@
 use Rattle.std.specs.Prelude.{◌&&◌, ◌||◌, ℕ, Bool, false, List, [], Option, Some, None, is_none, nat_lt, option_and_then, slice_get, slice_set}
 use Rattle.std.specs.List.{list_any}
+use Rattle.pr_num.specs.Limits.{clock_limit}
 use Rattle.pr_num.specs.Programs.{Program}
-use Rattle.pr_model.specs.Legal.{clock_limit}
 use Rattle.pr_model.specs.declared.calls.Call.{Call}
 use Rattle.pr_model.specs.declared.calls.Call.TheVariants as call
 use Rattle.pr_model.specs.declared.calls.Reply.{Reply}

@@ -1,5 +1,6 @@
 //! A controller, and the call that it makes next, which is made once after each reply.
 ghost use Rattle.std.specs.Prelude.{◌≡◌, ◌<◌, true, length, IfOk, OnErr, OnOk};
+ghost use Rattle.pr_num.specs.Limits.{controller_limit};
 ghost use Rattle.pr_world.specs.Answered.{Answered};
 ghost use Rattle.pr_world.specs.Controllers.{awaits_clock, has_finished, next_call, printed, wait_end_of};
 ghost use Rattle.pr_world.specs.Cores.{core_of};
@@ -127,7 +128,7 @@ impl Caller {
         kern: &mut Q,
         by: u32,
     ) -> Result<(), NoMemory>
-        requires by { by < 64 }
+        requires by { by < controller_limit }
         requires ready { is_answered (Q.view kern.old) by (next_call self.old) ≡ true }
         requires place { length (Q.view kern.old).history < (Q.view kern.old).places }
         ensures ok { OnOk result (Answered by (Q.view kern.old) (Q.view kern.new) self.old self.new) }

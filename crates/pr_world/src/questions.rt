@@ -10,10 +10,8 @@ use crate::callers::Caller;
 use pr_api::Kernel;
 use pr_model::Actor;
 use pr_num::NoMemory;
+use pr_num::limits::CLOCK_LIMIT;
 use std::alloc::Global;
-
-// The clock goes on below this moment, and not from it on.
-const CLOCK_LIMIT: u64 = 1 << 62;
 
 /// Whether one of these controllers waits for a moment that is still to come.
 fn some_awaits_clock(alloc: Global, clock: u64, callers: &mut [Caller]) -> Result<bool, NoMemory>

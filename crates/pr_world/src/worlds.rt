@@ -1,6 +1,7 @@
 //! A world: a kernel and its controllers.
 ghost use Rattle.std.specs.Prelude.{◌≡◌, ◌≤◌, ◌<◌, None, Some, length, map, slice_get, IfOk};
 ghost use Rattle.std.specs.Option.{ForSome};
+ghost use Rattle.pr_num.specs.Limits.{controller_limit};
 ghost use Rattle.pr_world.specs.Controllers.{printed};
 ghost use Rattle.pr_world.specs.Cores.{core_of};
 
@@ -34,7 +35,7 @@ impl<Q> Model for World<Q> {
 
     ghost view = { λ a. record { kernel = a.kern; controllers = a.callers.items; schedule = drop a.spent a.schedule.items; last = a.last } };
 
-    ghost invariant = { λ a. length a.callers.items ≤ 64 };
+    ghost invariant = { λ a. length a.callers.items ≤ controller_limit };
 }
 
 /// The controllers, of which no call was made yet.
@@ -58,7 +59,7 @@ impl<Q> World<Q> {
     ) -> Result<World<Q>, NoMemory>
     where
         Q: Drop,
-        requires { length controllers.items ≤ 64 }
+        requires { length controllers.items ≤ controller_limit }
         ensures { IfOk result (λ world. world ≡ record { kernel = kernel; controllers = map core_of controllers.items; schedule = schedule.items; last = None }) }
     {
         let callers = callers_of(alloc, controllers)?;
@@ -75,7 +76,7 @@ impl<Q> World<Q> {
     /// How many controllers there are.
     pub fn controllers(&self) -> u32
         ensures value { result ≡ length self.now.controllers }
-        ensures limit { result ≤ 64 }
+        ensures limit { result ≤ controller_limit }
     {
         self.callers.len() as u32
     }

@@ -1,6 +1,7 @@
 use Rattle.std.specs.Prelude.{ℕ, Bool, true, false, ◌&&◌, List, [], ◌∷◌, Option, Some, None, option_map, find, codes, decimal, if◌then◌else◌}
 use Rattle.std.specs.List.{range_with_len}
 use Rattle.std.specs.Str.{bytes_eq}
+use Rattle.pr_num.specs.Limits.{child_limit, worker_limit}
 use Rattle.proclab.specs.declared.commands.Command.{Command}
 use Rattle.proclab.specs.declared.commands.Command.TheVariants.{Run, Check, Plain, Generate}
 use Rattle.proclab.specs.declared.commands.Showing.TheVariants.{Whole, Quiet, Stripped}
@@ -16,11 +17,11 @@ number_up_to most word = find (λ n. bytes_eq (decimal n) word) (range_with_len 
 
 -- a run with the processor shared by as many threads as a word says, 1 to 16
 unfoldable pub shared_run : Bool → List ℕ → Option Command
-shared_run quiet workers = option_map (λ n. Run quiet (Some n)) (number_up_to 16 workers)
+shared_run quiet workers = option_map (λ n. Run quiet (Some n)) (number_up_to worker_limit workers)
 
 -- a scenario with as many children as a word says, 1 to 64
 unfoldable pub generation : List ℕ → Option Command
-generation children = option_map Generate (number_up_to 64 children)
+generation children = option_map Generate (number_up_to child_limit children)
 
 unfoldable pub of_one_word : List ℕ → Option Command
 of_one_word a =

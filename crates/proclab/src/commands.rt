@@ -2,6 +2,7 @@ ghost use Rattle.std.specs.Prelude.{◌≡◌, ◌<◌, ◌-◌, ◌^◌, map, s
 ghost use Rattle.proclab.specs.Commands.{work_of, command_of, number_up_to, shared_run, generation, of_one_word, of_two_words, of_three_words, of_four_words};
 
 use itoa::Buffer;
+use pr_num::limits::{CHILD_LIMIT, WORKER_LIMIT};
 
 /// What the words after the program's name may ask for.
 #[derive(Clone, Copy, Debug, PartialEq, Eq)]
@@ -16,12 +17,6 @@ pub enum Command {
     /// Write a scenario in which so many children are forked, 1 to 64.
     Generate { children: u32 },
 }
-
-// The most threads that share the processor.
-const MAX_WORKERS: u32 = 16;
-
-// The most children of a scenario that is written.
-const MAX_CHILDREN: u32 = 64;
 
 /// What words ask for; `None` where no command has these words.
 #[tactic(auto, unfolding(crate::specs::Commands::command_of))]
@@ -96,7 +91,7 @@ fn of_four_words(first: &str, second: &str, third: &str, fourth: &str) -> Option
 fn shared_run(quiet: bool, workers: &str) -> Option<Command>
     ensures { result ≡ shared_run quiet workers.now }
 {
-    let workers = number_up_to(MAX_WORKERS, workers)?;
+    let workers = number_up_to(WORKER_LIMIT, workers)?;
     Some(Command::Run {
         quiet,
         workers: Some(workers),
@@ -107,7 +102,7 @@ fn shared_run(quiet: bool, workers: &str) -> Option<Command>
 fn generation(children: &str) -> Option<Command>
     ensures { result ≡ generation children.now }
 {
-    let children = number_up_to(MAX_CHILDREN, children)?;
+    let children = number_up_to(CHILD_LIMIT, children)?;
     Some(Command::Generate { children })
 }
 

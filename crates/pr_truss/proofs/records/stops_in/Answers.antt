@@ -1,5 +1,6 @@
 use Rattle.std.proofs.Common.{sym}
 use Rattle.std.proofs.lemmas.Bool.{eqb-true}
+use Rattle.pr_num.specs.Records.{lwpstatus_size}
 use Rattle.pr_truss.proofs.StopLemmas.{seen_none, seen_more, seen_all, seen_past, left_from}
 use Rattle.pr_truss.proofs.records.stops_in.Goals as goal
 
@@ -10,7 +11,7 @@ returns-in_err-lwp c =
 pub loop-i-preserved : goal.loop-i-preserved
 loop-i-preserved c =
     rw c.noted-stops.ensures
-    (seen_more c.in_ok-count.count c.loop-i.i _ c.loop-i.rest.now _ c.loop-i.stops c.in_ok-lwp.lwp c.loop-i.invariant c.loop-i-test.true (sym c.in_ok-lwp.ensures.value) (left_from 264 c.loop-i.rest.now))
+    (seen_more c.in_ok-count.count c.loop-i.i _ c.loop-i.rest.now _ c.loop-i.stops c.in_ok-lwp.lwp c.loop-i.invariant c.loop-i-test.true (sym c.in_ok-lwp.ensures.value) (left_from lwpstatus_size c.loop-i.rest.now))
 
 pub returns-then-is_empty : goal.returns-then-is_empty
 returns-then-is_empty c =
