@@ -1,4 +1,4 @@
-use Rattle.std.proofs.Common.{◌≡◌, ◌≢◌, ◌≤◌, ◌+◌, ℕ, true, false, leb, Some, None, Ok, [], ◌∷◌, length, refl, sym, ap, ◌∙◌, arith}
+use Rattle.std.proofs.Common.{◌≡◌, ◌≢◌, ◌≤◌, ◌+◌, ℕ, true, false, leb, Bool, Option, Some, None, Ok, [], ◌∷◌, length, refl, sym, ap, ◌∙◌, arith}
 use Rattle.std.proofs.lemmas.Bool.{and_parts, or_parts, eqb-false, ltb-false}
 use Rattle.std.proofs.lemmas.List.{length-replicate}
 use Rattle.std.proofs.lemmas.Option.{same_Some}
@@ -27,9 +27,16 @@ module _ (s : TracedSystem) (p : TracedProcess) (len prot : ℕ) where
   unfolding mmap_effect
   mmap-bad bad = rw bad refl
 
-  pub mmap-no_gap : are_bad len prot ≡ false → gap_in (rounded len) p.space ≡ None → fails Nomem ≡ mmap_effect s p len prot
+  -- what is so of a size is so of the length that it is, rounded up
+  gap_of : (size : ℕ) (o : Option ℕ) → size ≡ rounded len → gap_in size p.space ≡ o → gap_in (rounded len) p.space ≡ o
+  gap_of size o is e = ap (λ (n : ℕ). gap_in n p.space) (sym is) ∙ e
+
+  room_of : (size : ℕ) (b : Bool) → size ≡ rounded len → can_grow s p size ≡ b → can_grow s p (rounded len) ≡ b
+  room_of size b is e = ap (λ (n : ℕ). can_grow s p n) (sym is) ∙ e
+
+  pub mmap-no_gap : (size : ℕ) → size ≡ rounded len → are_bad len prot ≡ false → gap_in size p.space ≡ None → fails Nomem ≡ mmap_effect s p len prot
   unfolding mmap_effect
-  mmap-no_gap good none = rw (good, none) refl
+  mmap-no_gap size is good none = rw (good, gap_of size None is none) refl
 
   module _ (at : ℕ) where
     whole : mapped_size (with_mapping (zeros_at at (rounded len) prot Mapped) p.space) ≡ mapped_size p.space + rounded len
@@ -38,17 +45,19 @@ module _ (s : TracedSystem) (p : TracedProcess) (len prot : ℕ) where
         let bytes : length (zeros_at at (rounded len) prot Mapped).bytes ≡ rounded len = length-replicate (rounded len) 0 in
         omega arith
 
-    pub mmap-fits : are_bad len prot ≡ false → gap_in (rounded len) p.space ≡ Some at → can_grow s p (rounded len) ≡ true → gives at (space_is (with_mapping (zeros_at at (rounded len) prot Mapped) p.space) ∷ []) ≡ mmap_effect s p len prot
+    pub mmap-fits : (size : ℕ) → size ≡ rounded len → are_bad len prot ≡ false → gap_in size p.space ≡ Some at → can_grow s p size ≡ true → gives at (space_is (with_mapping (zeros_at at (rounded len) prot Mapped) p.space) ∷ []) ≡ mmap_effect s p len prot
     unfolding mmap_effect size_of
-    mmap-fits good found room = rw (good, found, whole, room) refl
+    mmap-fits size is good found room = rw (good, gap_of size (Some at) is found, whole, room_of size true is room) refl
 
-    pub mmap-big : are_bad len prot ≡ false → gap_in (rounded len) p.space ≡ Some at → can_grow s p (rounded len) ≡ false → fails Nomem ≡ mmap_effect s p len prot
+    pub mmap-big : (size : ℕ) → size ≡ rounded len → are_bad len prot ≡ false → gap_in size p.space ≡ Some at → can_grow s p size ≡ false → fails Nomem ≡ mmap_effect s p len prot
     unfolding mmap_effect size_of
-    mmap-big good found room = rw (good, found, whole, room) refl
+    mmap-big size is good found room = rw (good, gap_of size (Some at) is found, whole, room_of size false is room) refl
 
-    pub mmap-can : are_bad len prot ≡ false → gap_in (rounded len) p.space ≡ Some at → can_grow s p (rounded len) ≡ true → CanMap p.space len prot at
+    pub mmap-can : (size : ℕ) → size ≡ rounded len → are_bad len prot ≡ false → gap_in size p.space ≡ Some at → can_grow s p size ≡ true → CanMap p.space len prot at
     unfolding size_of
-    mmap-can good found room =
+    mmap-can size is good gapped grown =
+        let found = gap_of size (Some at) is gapped in
+        let room = room_of size true is grown in
         let parts = or_parts _ _ good in
         let others = or_parts _ _ parts.1 in
         let some : len ≢ 0 = eqb-false len 0 parts.0 in

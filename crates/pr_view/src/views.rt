@@ -19,7 +19,7 @@ use crate::statuses::{lwpstatus_of, status_of};
 use pr_model::{File, Reply};
 use pr_num::{Bytes, Errno, NoMemory};
 use pr_proc::{Lwp, Proc, Sys, live};
-use pr_rec::encode_sigact;
+use pr_rec::{LwpStatus, encode_sigact};
 use std::alloc::Global;
 
 /// The part of a record that a read from byte `at` on gets, at most `len` bytes.

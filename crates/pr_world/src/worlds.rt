@@ -29,6 +29,7 @@ pub struct World<Q> {
 
 impl<Q> Model for World<Q> {
     ghost use Rattle.std.specs.Prelude.{◌≤◌, drop, length};
+    ghost use Rattle.pr_num.specs.Limits.{controller_limit};
     ghost use Rattle.pr_world.specs.Worlds.{WorldOf};
 
     ghost Value = { WorldOf Q };
