@@ -1,9 +1,9 @@
-use Rattle.std.proofs.Common.{ℕ, ◌≡◌, ◌∙◌, sym, ◌-◌, ◌^◌, ◌%◌, ◌<◌, arith}
+use Rattle.std.proofs.Common.{ℕ, ◌≡◌, ◌≢◌, ◌∙◌, sym, ap, ◌-◌, ◌^◌, ◌%◌, ◌<◌, arith, cond, Some, None, inl, inr}
+use Rattle.std.proofs.lemmas.Bool.{cases_lt, le-ltb}
 use Rattle.std.proofs.Math.Nat.{mod-eq_of_lt}
 use Rattle.std.proofs.lemmas.Nat.{and_mask, mod_below, pow_pos}
 use Rattle.std.specs.Int.RustNames.{bit_and}
-use Rattle.pr_num.specs.Sets.{union_word}
-use Rattle.pr_num.proofs.SetLemmas.{union_word-lt, minus_word-le}
+use Rattle.pr_num.specs.Sets.{set_of_word}
 
 -- ---- a word has known flags alone exactly where it is below the lowest bit that is none
 
@@ -16,23 +16,7 @@ known-lt k w known =
 pub lt-known : (k w : ℕ) → w < 2 ^ k → bit_and w (2 ^ k - 1) ≡ w
 lt-known k w within = and_mask w k ∙ mod-eq_of_lt within
 
--- at the numbers of flags, since a search does not find the exponent in a bound
-pub known-lt-3 : (w : ℕ) → bit_and w 7 ≡ w → w < 2 ^ 3
-known-lt-3 = known-lt 3
-
-pub lt-known-3 : (w : ℕ) → w < 2 ^ 3 → bit_and w 7 ≡ w
-lt-known-3 = lt-known 3
-
-pub known-lt-4 : (w : ℕ) → bit_and w 15 ≡ w → w < 2 ^ 4
-known-lt-4 = known-lt 4
-
-pub lt-known-4 : (w : ℕ) → w < 2 ^ 4 → bit_and w 15 ≡ w
-lt-known-4 = lt-known 4
-
-pub union_word-lt-3 : (a b : ℕ) → a < 2 ^ 3 → b < 2 ^ 3 → union_word a b < 2 ^ 3
-union_word-lt-3 = union_word-lt 3
-
-pub union_word-lt-4 : (a b : ℕ) → a < 2 ^ 4 → b < 2 ^ 4 → union_word a b < 2 ^ 4
-union_word-lt-4 = union_word-lt 4
-
-pub ruleset flag_bounds = (known-lt-3, lt-known-3, known-lt-4, lt-known-4, union_word-lt-3, union_word-lt-4, minus_word-le)
+-- the word of unknown flags is none
+pub unknown-none : (k known w : ℕ) → known ≡ 2 ^ k - 1 → (bit_and w known ≢ w) → set_of_word k w ≡ None
+unknown-none k known w lowest other =
+    elim (cases_lt w (2 ^ k)) [ inl below ↦ absurd (other (rw lowest (lt-known k w below))) | inr above ↦ ap (λ b. cond b (Some w) None) (le-ltb w (2 ^ k) above) ]

@@ -5,6 +5,7 @@ pub mod Control
 pub mod Errnos
 pub mod Faults
 pub mod Files
+pub mod Flags
 pub mod Infos
 pub mod Instructions
 pub mod KeyedTables

@@ -1,13 +1,13 @@
-ghost use Rattle.std.specs.Prelude.{⊤, ◌≡◌, ◌==◌, ◌-◌, ◌^◌, ◌<◌, [], ◌∷◌, codes};
-ghost use Rattle.pr_num.specs.Sets.{union_word, minus_word, set_of_word};
-ghost use Rattle.pr_num.specs.Control.{has_flags};
+ghost use Rattle.std.specs.Prelude.{⊤, ◌≡◌, [], ◌∷◌, codes};
+ghost use Rattle.pr_num.specs.Flags.{known_bits-four};
 
+use crate::flags::{FlagBits, KnownFlags};
 use bitflags::{Flag, Flags, bitflag_items};
-use std::marker::Model;
+use std::marker::PhantomData;
 
 /// Any bits of a word, also such as are no mode: what `bitflags` works on.
 #[derive(Clone, Copy, Debug, PartialEq, Eq)]
-struct ModeBits(u64);
+pub struct ModeBits(u64);
 
 bitflag_items! {
     impl ModeBits: u64 {
@@ -40,101 +40,39 @@ impl Flags for ModeBits {
     }
 }
 
+impl FlagBits for ModeBits {
+    ghost width = { 4 };
+
+    ghost is_exact = { tt };
+
+    ghost lowest = { known_bits-four _ _ _ _ };
+}
+
 /// The modes of a traced process (proc(4), "PCSET"). Seen by contracts as the word of its flags.
-#[derive(Clone, Copy, Debug, PartialEq, Eq)]
-pub struct Modes {
-    bits: ModeBits,
-}
+pub type Modes = KnownFlags<ModeBits>;
 
-impl Model for Modes {
-    ghost use Rattle.std.specs.Prelude.{ℕ, ◌<◌, ◌^◌};
-
-    ghost Value = { ℕ };
-
-    ghost view = { λ flags. flags.bits.0 };
-
-    ghost invariant = { λ flags. flags.bits.0 < 2 ^ 4 };
-
-    ghost inverse = { λ word. record { bits = record { 0 = word } } };
-}
-
-impl Modes {
+impl KnownFlags<ModeBits> {
     /// A child is traced too, with the same sets (PR_FORK).
-    pub const FORK: Modes = Modes {
-        bits: ModeBits::FORK,
+    pub const FORK: Modes = KnownFlags {
+        word: ModeBits::FORK.0,
+        of: PhantomData,
     };
 
     /// The process runs when its last writable file is closed (PR_RLC).
-    pub const RLC: Modes = Modes {
-        bits: ModeBits::RLC,
+    pub const RLC: Modes = KnownFlags {
+        word: ModeBits::RLC.0,
+        of: PhantomData,
     };
 
     /// The process is killed when its last writable file is closed (PR_KLC).
-    pub const KLC: Modes = Modes {
-        bits: ModeBits::KLC,
+    pub const KLC: Modes = KnownFlags {
+        word: ModeBits::KLC.0,
+        of: PhantomData,
     };
 
     /// A stop of one lwp leaves the others running (PR_ASYNC).
-    pub const ASYNC: Modes = Modes {
-        bits: ModeBits::ASYNC,
+    pub const ASYNC: Modes = KnownFlags {
+        word: ModeBits::ASYNC.0,
+        of: PhantomData,
     };
-
-    /// No mode.
-    pub fn empty() -> Modes
-        ensures { result ≡ 0 }
-    {
-        Modes {
-            bits: ModeBits::empty(),
-        }
-    }
-
-    /// The flags of a word, `None` exactly where a bit that is no mode is set.
-    #[tactic(auto, using(crate::proofs::FlagBounds::flag_bounds), unfolding(bitflags::specs::Sets::known_from))]
-    pub fn from_word(w: u64) -> Option<Modes>
-        ensures { result ≡ set_of_word 4 w }
-    {
-        let bits = ModeBits::from_bits(w)?;
-        Some(Modes { bits })
-    }
-
-    pub fn word(self) -> u64
-        ensures value { result ≡ self }
-        ensures range { result < 2 ^ 4 }
-    {
-        self.bits.bits()
-    }
-
-    pub fn is_empty(self) -> bool
-        ensures { result ≡ (self == 0) }
-    {
-        self.bits.is_empty()
-    }
-
-    /// Whether all these flags are set.
-    #[tactic(auto, unfolding(crate::specs::Control::has_flags, crate::specs::Sets::common_word))]
-    pub fn has(self, flags: Modes) -> bool
-        ensures { result ≡ has_flags self flags }
-    {
-        self.bits.contains(flags.bits)
-    }
-
-    /// The flags of either.
-    #[tactic(auto, using(crate::proofs::FlagBounds::flag_bounds), unfolding(crate::specs::Sets::union_word))]
-    pub fn union(self, flags: Modes) -> Modes
-        ensures { result ≡ union_word self flags }
-    {
-        Modes {
-            bits: self.bits.union(flags.bits),
-        }
-    }
-
-    /// These flags without the others.
-    #[tactic(auto, using(crate::proofs::FlagBounds::flag_bounds), unfolding(crate::specs::Sets::minus_word))]
-    pub fn minus(self, flags: Modes) -> Modes
-        ensures { result ≡ minus_word self flags }
-    {
-        Modes {
-            bits: self.bits.difference(flags.bits),
-        }
-    }
 }
