@@ -8,7 +8,7 @@ use pr_parts::Action;
 /// The signal that an lwp takes next, where `own` are its pending signals, `shared` those of its process, and `held`
 /// those that it holds: the least of its own that is not held, else the least such signal of its process. `None`
 /// exactly where all of them are held.
-#[tactic(auto, unfolding(pr_parts::specs::SignalRules::takeable_signal), using(pr_num::proofs::NumberedLemmas::none_where_empty))]
+#[tactic(auto, unfolding(pr_parts::specs::SignalRules::takeable_signal, pr_num::specs::Signals::least_signal))]
 pub fn takeable(own: SigSet, shared: SigSet, held: SigSet) -> Option<Sig>
     ensures value { result ≡ takeable_signal own shared held }
     ensures none { IsNone result ↔ ((minus_word own held ≡ 0) × (minus_word shared held ≡ 0)) }
