@@ -1,7 +1,10 @@
 //! How much there can be of each thing. A number that limits is written here, and nowhere else in the code.
 
 ghost use Rattle.std.specs.Prelude.{◌≡◌, [], ◌∷◌};
+ghost use Rattle.pr_num.specs.Agents.{agent_id};
 ghost use Rattle.pr_num.specs.Limits.{signal_count, standard_signal_count, fault_count, syscall_count, turn_limit, default_turns, clock_limit, controller_limit, worker_limit, child_limit, scenario_limit, line_limit, checked_limit, list_line_limit, program_limit, spawn_limit, schedule_limit, process_limit, lwp_limit, last_lwp, register_count, frame_limit, queue_limit, descriptor_limit, mapping_limit, all_mappings_limit, area_limit, code_limit, data_limit, instruction_size, text_limit, file_limit, pipe_limit, file_size_limit, pipe_size_limit, name_limit, path_limit, transfer_limit, handle_limit, read_limit, list_limit, message_bytes_limit, sleep_limit, wait_limit, shown_limit, asked_limit};
+
+use crate::AGENT;
 
 /// Signals, whose numbers count from 1 to this one.
 pub const SIGNAL_COUNT: usize = 39;
@@ -136,14 +139,15 @@ pub fn limits_of_runs() -> [u64; 13]
     ]
 }
 
-/// The limits of processes.
-pub fn limits_of_processes() -> [u64; 14]
-    ensures { result ≡ process_limit ∷ lwp_limit ∷ last_lwp ∷ register_count ∷ frame_limit ∷ queue_limit ∷ descriptor_limit ∷ mapping_limit ∷ all_mappings_limit ∷ area_limit ∷ code_limit ∷ data_limit ∷ instruction_size ∷ text_limit ∷ [] }
+/// The limits of processes, and the id of an agent.
+pub fn limits_of_processes() -> [u64; 15]
+    ensures { result ≡ process_limit ∷ lwp_limit ∷ last_lwp ∷ agent_id ∷ register_count ∷ frame_limit ∷ queue_limit ∷ descriptor_limit ∷ mapping_limit ∷ all_mappings_limit ∷ area_limit ∷ code_limit ∷ data_limit ∷ instruction_size ∷ text_limit ∷ [] }
 {
     [
         PROCESS_LIMIT as u64,
         LWP_LIMIT as u64,
         LAST_LWP as u64,
+        AGENT as u64,
         REGISTER_COUNT as u64,
         FRAME_LIMIT as u64,
         QUEUE_LIMIT as u64,
