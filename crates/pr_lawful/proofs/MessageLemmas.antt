@@ -11,7 +11,7 @@ use Rattle.pr_num.specs.Agents.{agent_id}
 use Rattle.pr_num.specs.ById.{map_each}
 use Rattle.pr_num.specs.Control.{has_flags, clear_signal, clear_fault, single_step, abort_call, stop_again}
 use Rattle.pr_num.specs.Infos.{by_controller}
-use Rattle.pr_num.specs.Limits.{area_limit, lwp_limit}
+use Rattle.pr_num.specs.Limits.{area_limit, lwp_limit, all_signals}
 use Rattle.pr_num.specs.Sets.{has_number}
 use Rattle.pr_num.specs.Signals.{signal_number, signal_of_number}
 use Rattle.pr_num.specs.declared.infos.Info.{Info}
@@ -28,7 +28,7 @@ use Rattle.pr_model.specs.Changes.{with_space}
 use Rattle.pr_model.specs.Lawful.{IsLawfulFrame, IsLawfulLwp, IsLawfulProcess, IsLawfulSystem}
 use Rattle.pr_model.specs.Lives.{new_lwp, with_this_ended}
 use Rattle.pr_model.specs.Machines.{traced}
-use Rattle.pr_model.specs.Messages.{Controlled, Aim, at_lwp, at_process, all_signals, with_signal_set, lwp_without_one, with_held_set, with_registers, with_address, with_control, tracing_signals, tracing_faults, tracing_entries, tracing_exits, with_modes, without_modes, with_areas, lets_agent, agent_lwp, with_agent, on_found, aimed_lwp, on_stopped_found, with_aim_directed, run_found, found_at, run_answer, killed, is_kill_of, ssig_answer, pending_at, target_of_aim, kill_by, kill_answer, process_without_one, unkill_by, unkill_answer, watch_answer, agent_answer, read_of, mapped_bytes, read_answer, write_answer, message_answer}
+use Rattle.pr_model.specs.Messages.{Controlled, Aim, at_lwp, at_process, with_signal_set, lwp_without_one, with_held_set, with_registers, with_address, with_control, tracing_signals, tracing_faults, tracing_entries, tracing_exits, with_modes, without_modes, with_areas, lets_agent, agent_lwp, with_agent, on_found, aimed_lwp, on_stopped_found, with_aim_directed, run_found, found_at, run_answer, killed, is_kill_of, ssig_answer, pending_at, target_of_aim, kill_by, kill_answer, process_without_one, unkill_by, unkill_answer, watch_answer, agent_answer, read_of, mapped_bytes, read_answer, write_answer, message_answer}
 use Rattle.pr_model.specs.Readers.{size_of}
 use Rattle.pr_model.specs.Running.{without_current, without_fault, with_step, with_abort, with_directive, without_directive, let_go, if_flag, is_entry_stop, is_asleep, with_abort_from, with_cleared, with_aborted, run_lwp, lwp_run_refused, run_refused, shows_run, was_requested, with_request, without_request, if_all_requested, with_flags_on, with_representative_run, with_all_run, with_one_run, runs_one, with_run}
 use Rattle.pr_model.specs.Signals.{generated}

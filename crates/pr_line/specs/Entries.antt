@@ -8,7 +8,7 @@ use Rattle.pr_num.specs.Syscalls.{syscalls, syscall_number, syscall_of_name, sys
 use Rattle.pr_text.specs.Lists.{parts_of}
 use Rattle.pr_text.specs.NumberWords.{number_of}
 
--- ---- the tables: the number of the entry of a name, that of the entry of a number, and the set of all entries
+-- ---- the tables: the number of the entry of a name, and that of the entry of a number
 
 abbrev pub signal_named : List ℕ → Option ℕ
 signal_named name = option_map signal_number (signal_of_name name)
@@ -16,26 +16,17 @@ signal_named name = option_map signal_number (signal_of_name name)
 abbrev pub signal_numbered : ℕ → Option ℕ
 signal_numbered n = option_map signal_number (signal_of_number n)
 
-abbrev pub all_signals : ℕ
-all_signals = 2 ^ length signals - 1
-
 abbrev pub fault_named : List ℕ → Option ℕ
 fault_named name = option_map fault_number (fault_of_name name)
 
 abbrev pub fault_numbered : ℕ → Option ℕ
 fault_numbered n = option_map fault_number (fault_of_number n)
 
-abbrev pub all_faults : ℕ
-all_faults = 2 ^ length faults - 1
-
 abbrev pub call_named : List ℕ → Option ℕ
 call_named name = option_map syscall_number (syscall_of_name name)
 
 abbrev pub call_numbered : ℕ → Option ℕ
 call_numbered n = option_map syscall_number (syscall_of_number n)
-
-abbrev pub all_calls : ℕ
-all_calls = 2 ^ length syscalls - 1
 
 -- ---- lists over any table
 

@@ -1,7 +1,7 @@
 -- What one word more makes of the options of truss(1).
 use Rattle.std.specs.Prelude.{◌-◌, ℕ, Bool, true, false, Option, None, Some, List, [], codes, is_some, Result, Ok, Err, if◌then◌else◌}
 use Rattle.std.specs.Str.{bytes_eq}
-use Rattle.pr_line.specs.Entries.{list_of, signal_named, signal_numbered, all_signals, fault_named, fault_numbered, all_faults, call_named, call_numbered, all_calls}
+use Rattle.pr_line.specs.Entries.{list_of, signal_named, signal_numbered, fault_named, fault_numbered, call_named, call_numbered}
 use Rattle.pr_line.specs.Pids.{pids_of}
 use Rattle.pr_line.specs.declared.faults.WordFault.{WordFault}
 use Rattle.pr_line.specs.declared.faults.WordFault.TheVariants.{BadOption, BadName}
@@ -10,6 +10,7 @@ use Rattle.pr_line.specs.declared.reading.ListOption.{ListOption}
 use Rattle.pr_line.specs.declared.reading.ListOption.TheVariants.{Calls, Signals, Faults, Processes}
 use Rattle.pr_line.specs.declared.reading.Draft.{Draft}
 use Rattle.pr_text.specs.Names.{name_of}
+use Rattle.pr_num.specs.Limits.{all_calls, all_faults, all_signals}
 
 -- nothing asked: all calls, signals and faults, of no process yet
 abbrev pub no_options : Options

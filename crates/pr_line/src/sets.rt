@@ -1,5 +1,6 @@
 //! The tables that lists speak of: signals, faults and system calls.
-ghost use Rattle.pr_line.specs.Entries.{signal_named, signal_numbered, all_signals, fault_named, fault_numbered, all_faults, call_named, call_numbered, all_calls};
+ghost use Rattle.pr_num.specs.Limits.{all_calls, all_faults, all_signals};
+ghost use Rattle.pr_line.specs.Entries.{signal_named, signal_numbered, fault_named, fault_numbered, call_named, call_numbered};
 
 use crate::Entries;
 use pr_num::{Flt, FltSet, Sig, SigSet, SysSet, Sysno};

@@ -22,7 +22,7 @@ use Rattle.pr_parts.specs.PendingSignals.{Pending, has_room, without_one}
 use Rattle.pr_model.specs.Registers.{with_pc}
 use Rattle.pr_model.specs.Running.{without_current, without_fault, run_lwp, lwp_run_refused, run_refused, with_run}
 use Rattle.pr_num.specs.Infos.{by_controller}
-use Rattle.pr_num.specs.Limits.{area_limit, lwp_limit, signal_count}
+use Rattle.pr_num.specs.Limits.{area_limit, lwp_limit, signal_count, all_signals}
 use Rattle.pr_model.specs.Signals.{generated, is_kill}
 use Rattle.pr_model.specs.Readers.{space_seen}
 use Rattle.pr_model.specs.State.{TracedSystem, TracedControl, TracedProcess, TracedLwp, has_agent, lwp_of, with_lwp, with_process}
@@ -111,10 +111,6 @@ lets_agent_by l (Some (JobControl s)) = l.control.directed
 
 unfoldable pub lets_agent : Option Sig → ℕ × TracedLwp → Bool
 lets_agent job e = lets_agent_by e.1 (shown job e.1)
-
--- every signal that can be held
-abbrev pub all_signals : ℕ
-all_signals = 2 ^ signal_count - 1
 
 -- an agent begins in its program with these registers, stopped as requested, and holds every signal that can be held
 unfoldable pub agent_lwp : List ℕ → TracedLwp

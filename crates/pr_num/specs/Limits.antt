@@ -1,4 +1,4 @@
-use Rattle.std.specs.Prelude.{◌+◌, ◌*◌, ◌^◌, ℕ}
+use Rattle.std.specs.Prelude.{◌+◌, ◌-◌, ◌*◌, ◌^◌, ℕ}
 
 -- How much there can be of each thing. A number that limits is written here, and nowhere else.
 
@@ -17,6 +17,16 @@ fault_count = 8
 
 abbrev pub syscall_count : ℕ
 syscall_count = 30
+
+-- the words of the sets of all of them
+abbrev pub all_signals : ℕ
+all_signals = 2 ^ signal_count - 1
+
+abbrev pub all_faults : ℕ
+all_faults = 2 ^ fault_count - 1
+
+abbrev pub all_calls : ℕ
+all_calls = 2 ^ syscall_count - 1
 
 -- ---- a run
 

@@ -10,7 +10,7 @@ use Rattle.std.proofs.lemmas.List.Folds.{list_all-append}
 use Rattle.std.proofs.lemmas.List.Splits.{slice_split_at, slice_split_none}
 use Rattle.std.proofs.lemmas.Slice.Eq.{bytes_eq-Decides}
 use Rattle.pr_num.specs.Sets.{with_number, minus_word}
-use Rattle.pr_line.specs.Entries.{signal_named, signal_numbered, all_signals, fault_named, fault_numbered, all_faults, call_named, call_numbered, all_calls, with_entries, number_or_name, entry_of, list_from, list_of}
+use Rattle.pr_line.specs.Entries.{signal_named, signal_numbered, fault_named, fault_numbered, call_named, call_numbered, with_entries, number_or_name, entry_of, list_from, list_of}
 use Rattle.pr_line.specs.Options.{start, with_list, with_pids, with_program, list_taken, option_taken, word_taken}
 use Rattle.pr_line.specs.Pids.{with_ids, pids_of}
 use Rattle.pr_line.specs.Reading.{is_whole, whole_options, options_in, options_of}
@@ -34,6 +34,7 @@ use Rattle.pr_text.specs.Comments.{begins_comment}
 use Rattle.pr_scen.specs.TrussWords.{joined_word, Listing, every, these, others, listing_word, with_numbers, listing_set, IsEntry, IsListing, Target, processes, runs, IsTarget, target_words, target_ids, target_program, TrussLine, flag_words, list_words, truss_words, truss_options, IsTrussLine}
 use Rattle.pr_scen.specs.declared.items.Item.TheVariants as item
 use Rattle.pr_num.specs.Words.{IsWord}
+use Rattle.pr_num.specs.Limits.{all_calls, all_faults, all_signals}
 
 -- ---- numbers joined by +
 

@@ -3,7 +3,7 @@ use Rattle.std.specs.Prelude.{◌==◌, ◌+◌, ℕ, Bool, true, false, Option,
 use Rattle.pr_num.specs.Messages.{spelling}
 use Rattle.pr_num.specs.Sets.{union_word}
 use Rattle.pr_num.specs.declared.messages.Message.TheVariants as does
-use Rattle.pr_line.specs.Entries.{signal_named, all_signals, fault_named, all_faults, call_named, all_calls}
+use Rattle.pr_line.specs.Entries.{signal_named, fault_named, call_named}
 use Rattle.pr_text.specs.HexWords.{bytes_of_digits}
 use Rattle.pr_text.specs.NumberWords.{number_of}
 use Rattle.pr_text.specs.Steps.{◌>>=◌, ok_or}
@@ -15,6 +15,7 @@ use Rattle.pr_scen.specs.declared.message_words.Operand.{Operand}
 use Rattle.pr_scen.specs.declared.message_words.Operand.TheVariants.{Number, Hex, Signals, Faults, Calls, Modes}
 use Rattle.pr_scen.specs.declared.refusals.ScenKind.{ScenKind}
 use Rattle.pr_scen.specs.declared.refusals.ScenKind.TheVariants.{BadOperand, UnknownName}
+use Rattle.pr_num.specs.Limits.{all_calls, all_faults, all_signals}
 
 -- What was read of a write so far: the bytes of its messages; the message that has operands to come, with how many came
 -- and what they are; whether `run` came last, with its flags so far; and whether a name was in no table. Such a name

@@ -2,10 +2,11 @@
 use Rattle.std.specs.Prelude.{◌≡◌, ◌<◌, ◌^◌, ℕ, Bool, true, false, Option, Some, None, List, [], ◌∷◌, ◌++◌, codes, decimal, map}
 use Rattle.std.specs.List.{AllByRecursion, join_with_byte}
 use Rattle.pr_num.specs.Sets.{with_number, minus_word}
-use Rattle.pr_line.specs.Entries.{signal_numbered, all_signals, fault_numbered, all_faults, call_numbered, all_calls}
+use Rattle.pr_line.specs.Entries.{signal_numbered, fault_numbered, call_numbered}
 use Rattle.pr_line.specs.declared.options.Options.{Options}
 use Rattle.pr_text.specs.Names.{is_name}
 use Rattle.pr_scen.specs.Encoding.{IsId}
+use Rattle.pr_num.specs.Limits.{all_calls, all_faults, all_signals}
 
 -- numbers joined by +
 abbrev pub joined_word : List ℕ → List ℕ
