@@ -37,7 +37,7 @@ pub fn least_entries<T: Numbered>()
     ensures member { (w : ℕ) (least : T) → least_entry T.number_of T.table w ≡ Some least → has_number w (T.number_of least) ≡ true }
     ensures least { (w : ℕ) (least : T) → least_entry T.number_of T.table w ≡ Some least → (n : ℕ) → 1 ≤ n → n < T.number_of least → has_number w n ≡ false }
 {
-    // which says that their numbers count up
+    // the call tells that their numbers count up
     let _ = T::entries();
 }
 

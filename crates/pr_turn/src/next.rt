@@ -186,7 +186,7 @@ fn acted(process: &Proc, lwp: &Lwp, current: Current) -> Next
 // ---- the table
 
 /// The row of the signal that an lwp takes, if there is one: from those that pend for it alone first.
-#[tactic(auto, unfolding(crate::specs::NextRows::row_of, pr_model::specs::Signals::own_takeable, pr_model::specs::Signals::shared_takeable, pr_model::specs::Signals::takeable, pr_parts::specs::SignalRules::takeable_signal))]
+#[tactic(auto, unfolding(crate::specs::NextRows::row_of, pr_model::specs::Signals::own_takeable, pr_model::specs::Signals::shared_takeable, pr_model::specs::Signals::takeable, pr_parts::specs::SignalRules::takeable_signal, pr_num::specs::Signals::least_signal))]
 fn taken(process: &Proc, lwp: &Lwp) -> Option<Next>
     ensures row { (s : TracedSystem) (pid id : ℕ) (otherwise : Row) → row_or process.now lwp.now result otherwise ≡ taken_or s pid process.now id lwp.now (own_takeable lwp.now) (shared_takeable process.now lwp.now) otherwise }
     ensures fits { IfSome result (λ next. fits lwp.now next ≡ true) }
