@@ -1,11 +1,20 @@
-use Rattle.std.proofs.Common.{◌≡◌, ℕ, length, refl, sym, subst}
+use Rattle.std.proofs.Common.{◌≡◌, ℕ, All, List, [], ◌∷◌, flat_map, length, map, refl, sym, subst}
+use Rattle.std.proofs.lemmas.List.Elements.{All-cons, All-nil}
 use Rattle.pr_api.specs.Views.{kernel_of}
 use Rattle.pr_erasure.proofs.HistoryLemmas.{transparent-first}
-use Rattle.pr_scen.specs.Scenarios.{Scenario}
+use Rattle.pr_erasure.specs.Transparency.{IsTransparent}
+use Rattle.pr_model.specs.Legal.{IsLegal}
+use Rattle.pr_model.specs.declared.events.Entry.{Entry}
+use Rattle.pr_scen.specs.Scenarios.{Scenario, script_in, scripts_of}
+use Rattle.pr_scen.specs.declared.plans.Plan.{Plan}
+use Rattle.pr_scen.specs.declared.plans.Plan.TheVariants as plan
 use Rattle.pr_world.proofs.RunLemmas.{moves-led}
+use Rattle.pr_world.specs.Protocol.{Follows}
 use Rattle.pr_world.specs.Runs.{CameFrom, IsFresh, IsMachineRun, IsTold, LedFrom}
 use Rattle.pr_world.specs.Worlds.{WorldState}
-use Rattle.pr_run_laws.specs.ScenarioRuns.{IsKept, controllers_of, files_of, first_state_of, first_world, history_after, world_after}
+use Rattle.pr_run_laws.specs.ScenarioRuns.{IsKept, controller_of, controllers_of, files_of, first_state_of, first_world, history_after, world_after}
+use Rattle.pr_run_laws.specs.Tracers.{IsTracer}
+use Rattle.pr_run_laws.proofs.TracerLemmas.{tracers-passive}
 
 -- What runs of scenarios keep.
 
@@ -16,6 +25,21 @@ first-fresh s = record { history = refl }
 pub first-told : (s : Scenario) → IsTold (first_world s)
 unfolding first_world kernel_of
 first-told s = record { machine = first_state_of s; is = refl }
+
+-- controllers none of which is a script
+controllers-tracers : (plans : List Plan) → flat_map script_in plans ≡ [] → All IsTracer (map controller_of plans)
+unfolding controller_of IsTracer
+controllers-tracers [] none = All-nil IsTracer
+controllers-tracers (plan.Script script ∷ plans) none = absurd (cc)
+controllers-tracers (plan.Truss options ∷ plans) none = All-cons IsTracer (controller_of (plan.Truss options)) (map controller_of plans) tt (controllers-tracers plans none)
+controllers-tracers (plan.Tool kind pid ∷ plans) none = All-cons IsTracer (controller_of (plan.Tool kind pid)) (map controller_of plans) tt (controllers-tracers plans none)
+
+-- without scripts a history that follows the protocol is passive, and so tracing is transparent in it
+transparent-tracers : (s : Scenario) (h : List Entry) → IsLegal (length (controllers_of s)) (first_state_of s) h → Follows (controllers_of s) (first_state_of s) h → scripts_of s ≡ [] → IsTransparent (first_state_of s) h
+transparent-tracers s h legal follows none =
+    let n = length (controllers_of s) in
+    let passive = tracers-passive (controllers_of s) n (first_state_of s) h (controllers-tracers s.controllers none) legal follows in
+    transparent-first n s.programs (files_of s) s.spawns h legal passive
 
 -- the entries by which a world was led to from the first one are a run of the machine
 led-run : (s : Scenario) (w : WorldState) (led : LedFrom (first_world s) w) → IsMachineRun (controllers_of s) led.entries w.kernel.machine (first_state_of s)
@@ -33,6 +57,7 @@ led-kept s w led =
       legal = run.legal;
       follows = run.follows;
       transparent = transparent-first (length (controllers_of s)) s.programs (files_of s) s.spawns led.entries run.legal;
+      transparent_without_scripts = transparent-tracers s led.entries run.legal run.follows;
     } in
     subst (IsKept s) (sym (led-history s w led)) kept
 

@@ -1,2 +1,5 @@
+pub mod AnswerLemmas
 pub mod GrowthLemmas
 pub mod KeptLemmas
+pub mod PassiveLemmas
+pub mod TracerLemmas

@@ -1,4 +1,4 @@
-use Rattle.std.specs.Prelude.{ℕ, List, [], None, length, map}
+use Rattle.std.specs.Prelude.{◌≡◌, ℕ, List, [], None, length, map}
 use Rattle.pr_api.specs.Views.{kernel_of}
 use Rattle.pr_erasure.specs.Transparency.{IsTransparent}
 use Rattle.pr_model.specs.FirstState.{first_state, stored_file}
@@ -7,7 +7,7 @@ use Rattle.pr_model.specs.Passive.{IsPassive}
 use Rattle.pr_model.specs.State.{TracedState}
 use Rattle.pr_model.specs.declared.events.Entry.{Entry}
 use Rattle.pr_num.specs.declared.files.StoredFile.{StoredFile}
-use Rattle.pr_scen.specs.Scenarios.{Scenario}
+use Rattle.pr_scen.specs.Scenarios.{Scenario, scripts_of}
 use Rattle.pr_scen.specs.declared.plans.Plan.{Plan}
 use Rattle.pr_scen.specs.declared.plans.Plan.TheVariants as plan
 use Rattle.pr_tools.specs.Tools.{first_tool}
@@ -50,11 +50,13 @@ first_world s = record {
 
 -- What every run of a scenario keeps, in whatever order its actors move: each entry is what the machine does; the
 -- controllers make the calls that come after the replies that they got, and the clock goes on only where it is awaited;
--- and if controllers only stopped, ran and read, the programs did what they could have done without controllers.
+-- and if controllers only stopped, ran and read, the programs did what they could have done without controllers. Truss
+-- and the tools do no more than that: where no controller is a script, the programs always did so.
 pub record IsKept (s : Scenario) (h : List Entry) : Type 0 where
   pub legal : IsLegal (length (controllers_of s)) (first_state_of s) h
   pub follows : Follows (controllers_of s) (first_state_of s) h
   pub transparent : IsPassive h → IsTransparent (first_state_of s) h
+  pub transparent_without_scripts : scripts_of s ≡ [] → IsTransparent (first_state_of s) h
 
 -- ---- on one thread a run is a function of the scenario
 

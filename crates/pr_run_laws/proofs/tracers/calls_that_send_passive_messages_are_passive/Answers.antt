@@ -1,0 +1,5 @@
+use Rattle.pr_run_laws.proofs.AnswerLemmas.{reply-passive}
+use Rattle.pr_run_laws.proofs.tracers.calls_that_send_passive_messages_are_passive.Goals as goal
+
+pub returns : goal.returns
+returns c = reply-passive

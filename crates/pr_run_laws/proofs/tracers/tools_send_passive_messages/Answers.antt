@@ -1,0 +1,5 @@
+use Rattle.pr_run_laws.proofs.PassiveLemmas.{tool-passive}
+use Rattle.pr_run_laws.proofs.tracers.tools_send_passive_messages.Goals as goal
+
+pub returns : goal.returns
+returns c = tool-passive
