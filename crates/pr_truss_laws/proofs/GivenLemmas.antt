@@ -1,0 +1,320 @@
+use Rattle.std.proofs.Common.{◌≡◌, ◌<◌, ◌≤◌, ◌+◌, ℕ, zero, suc, true, false, None, Some, Option, List, [], ◌∷◌, ◌++◌, length, drop, refl, sym, subst, ap, ◌∙◌, arith, inl, inr, append_assoc}
+use Rattle.std.proofs.lemmas.List.{length-append}
+use Rattle.std.proofs.lemmas.List.Elements.{All-nil, All-cons}
+use Rattle.std.proofs.lemmas.Option.{same_Some, none-some}
+use Rattle.std.specs.List.{All, slice_get, slice_index_or, sum_by}
+use Rattle.pr_line.specs.declared.options.Options.{Options}
+use Rattle.pr_model.specs.Replies.{handle_in}
+use Rattle.pr_model.specs.declared.calls.Call.TheVariants as call
+use Rattle.pr_model.specs.declared.calls.Reply.{Reply}
+use Rattle.pr_model.specs.declared.calls.Reply.TheVariants as reply
+use Rattle.pr_num.specs.declared.errnos.Errno.{Errno}
+use Rattle.pr_num.specs.declared.errnos.Errno.TheVariants.{Intr, Noent}
+use Rattle.pr_truss.specs.Closings.{with_going_on, with_interrupt, with_next_left, with_next_opening}
+use Rattle.pr_truss.specs.Feeding.{fed, with_reply}
+use Rattle.pr_truss.specs.NextCalls.{call_of, next_call_of, open_control}
+use Rattle.pr_truss.specs.Openings.{pid_in, with_control, with_control_answered, with_refused_control, with_refused_start, with_start_answered}
+use Rattle.pr_truss.specs.Processes.{newly_traced}
+use Rattle.pr_truss.specs.Replies.{answer_of}
+use Rattle.pr_truss.specs.Trusses.{TrussState, first_of_program, first_truss, idle, nobody, opening_or, with_opened, with_report, with_stage}
+use Rattle.pr_truss.specs.declared.processes.Traced.{Traced}
+use Rattle.pr_truss.specs.declared.replies.Answer.{Answer}
+use Rattle.pr_truss.specs.declared.replies.Answer.TheVariants.{Accepted, Interrupted, Gone, Refused}
+use Rattle.pr_truss.specs.declared.reports.Report.{Report}
+use Rattle.pr_truss.specs.declared.reports.Report.TheVariants.{CannotStart, CannotTrace}
+use Rattle.pr_truss.specs.declared.stages.OpeningStep.TheVariants.{OpenStatus}
+use Rattle.pr_truss.specs.declared.stages.Stage.TheVariants.{Spawning, OpeningControl, Finished}
+use Rattle.pr_truss_laws.proofs.AnswerLemmas.{IsAnswer, answer-is}
+use Rattle.pr_truss_laws.proofs.ClosesLemmas.{after-grown}
+use Rattle.pr_truss_laws.proofs.HeldLemmas.{Grown, empty-list, grown-all, grown-same, of_traced}
+use Rattle.pr_truss_laws.proofs.OpeningLemmas.{Done, Failed, Leads, OpeningEnd, SameBase, Stopped, closing-end, done, ends-later, failed, leads-later, left, opening-end}
+use Rattle.pr_truss_laws.proofs.SequenceLemmas.{Goes, begun-calls, whole-calls}
+use Rattle.pr_truss_laws.proofs.StepLemmas.{next_opening-well}
+use Rattle.pr_truss_laws.specs.Exchanges.{Ends, Exchange, IsClose, IsGranted, errno_in, truss_after}
+use Rattle.pr_truss_laws.specs.Given.{AreHandled, IsHandled, IsRefusedOpening, IsWholeOpening, LeftAtStart, NotStarted, Started}
+
+-- What became of each process that truss was given.
+
+-- ---- what is left of a list from a place on
+
+drop-none : (xs : List ℕ) (i : ℕ) → slice_get xs i ≡ None → drop i xs ≡ []
+drop-none [] zero e = refl
+drop-none [] (suc i) e = refl
+drop-none (x ∷ xs) zero e = cc
+drop-none (x ∷ xs) (suc i) e = drop-none xs i e
+
+drop-some : (xs : List ℕ) (i x : ℕ) → slice_get xs i ≡ Some x → drop i xs ≡ x ∷ drop (i + 1) xs
+drop-some [] i x e = cc
+drop-some (y ∷ xs) zero x e = ap (λ z. z ∷ xs) (same_Some y x e)
+drop-some (y ∷ xs) (suc i) x e = let later = drop-some xs i x e in let next : suc i + 1 ≡ suc (i + 1) = omega arith in later ∙ ap (λ k. x ∷ drop k (y ∷ xs)) (sym next)
+
+-- ---- on the way to this end
+
+module _ (f : TrussState) where
+  -- what is still to be said of these processes, where so much was reported before
+  pub record Told (base : List Report) (o : Options) (pids : List ℕ) (xs : List Exchange) : Type 0 where
+    pub more : List Report
+    pub is : f.reports ≡ base ++ more
+    pub handled : AreHandled o pids more xs
+
+  -- no process is left
+  told-none : (base : List Report) (o : Options) (xs : List Exchange) → Grown base f.reports → Told base o [] xs
+  told-none base o xs g = record { more = g.more; is = g.is; handled = tt }
+
+  -- what is said of the processes after one whose opening was done
+  told-attached : (base : List Report) (o : Options) (pid : ℕ) (pids : List ℕ) (opening later : List Exchange) → IsWholeOpening o pid opening → Told base o pids later → Told base o (pid ∷ pids) (opening ++ later)
+  told-attached base o pid pids opening later whole t = record {
+    more = t.more;
+    is = t.is;
+    handled = inl (record { opening = opening; later = later; is = refl; whole = whole; next = t.handled });
+  }
+
+  -- and after one that was refused
+  told-refused : (base : List Report) (o : Options) (pid : ℕ) (pids : List ℕ) (errno : Errno) (opening closings later : List Exchange) → IsRefusedOpening o pid errno opening → All IsClose closings → Told (base ++ CannotTrace pid errno ∷ []) o pids later → Told base o (pid ∷ pids) (opening ++ (closings ++ later))
+  told-refused base o pid pids errno opening closings later refused closes t = record {
+    more = CannotTrace pid errno ∷ t.more;
+    is = t.is ∙ append_assoc base (CannotTrace pid errno ∷ []) t.more;
+    handled = inr (inl (record { errno = errno; opening = opening; closings = closings; later = later; more = t.more; is = refl; refused = refused; closes = closes; reported = refl; next = t.handled }));
+  }
+
+  told-left : (base : List Report) (o : Options) (pid : ℕ) (pids : List ℕ) (opening later : List Exchange) → IsRefusedOpening o pid Intr opening → Grown base f.reports → Told base o (pid ∷ pids) (opening ++ later)
+  told-left base o pid pids opening later stopped g = record {
+    more = g.more;
+    is = g.is;
+    handled = inr (inr (record { opening = opening; later = later; is = refl; interrupted = stopped }));
+  }
+
+  abbrev pub pids_left : TrussState → List ℕ
+  pids_left s = drop s.begun s.options.pids
+
+  -- the same of a state that differs in neither
+  told-same : (s u : TrussState) (xs : List Exchange) → SameBase s u → Told u.reports u.options (pids_left u) xs → Told s.reports s.options (pids_left s) xs
+  told-same s u xs same t = subst (λ base. Told base s.options (pids_left s) xs) same.reports (subst (λ b. Told u.reports s.options (drop b s.options.pids) xs) same.begun (subst (λ (o : Options). Told u.reports o (drop u.begun o.pids) xs) same.options t))
+
+  -- ---- the opening of one process
+
+  module _ (s : TrussState) (pid : ℕ) where
+    abbrev pub at_control : TrussState
+    at_control = with_stage s (OpeningControl pid)
+
+    grown-at : (xs : List Exchange) → Leads f at_control xs → Grown s.reports f.reports
+    grown-at xs l = subst (λ (u : TrussState). Grown s.reports u.reports) l.last (after-grown xs at_control tt)
+
+    not-over : Leads f at_control [] → ⊥
+    unfolding next_call_of call_of
+    not-over l = none-some (open_control pid) (sym l.ends.finished)
+
+    control-call : (x : Exchange) (xs : List Exchange) → Leads f at_control (x ∷ xs) → x.call ≡ open_control pid
+    unfolding next_call_of call_of
+    control-call x xs l = same_Some x.call (open_control pid) (sym l.ends.makes.0)
+
+    control-answered : (x : Exchange) (xs : List Exchange) → Leads f at_control (x ∷ xs) → Leads f (with_control_answered at_control pid x.reply (answer_of x.reply)) xs
+    unfolding fed with_reply
+    control-answered x xs l = leads-later f at_control x xs l
+
+    -- an opening whose first call was refused
+    refused-first : (x : Exchange) (errno : Errno) → x.call ≡ open_control pid → x.reply ≡ reply.Fail errno → IsRefusedOpening s.options pid errno (x ∷ [])
+    refused-first x errno call is = record {
+      before = [];
+      call = x.call;
+      last = ap (λ r. record { call = x.call; reply = r } ∷ []) is;
+      calls = begun-calls s.options pid x [] call tt;
+      granted = All-nil IsGranted;
+    }
+
+    -- one that was refused later
+    refused-later : (x : Exchange) (xs : List Exchange) (errno : Errno) (u : TrussState) → u.options ≡ s.options → x.call ≡ open_control pid → errno_in x.reply ≡ None → (d : Stopped f u (newly_traced pid (handle_in x.reply)) (Some OpenStatus) errno xs) → IsRefusedOpening s.options pid errno (x ∷ d.opening)
+    refused-later x xs errno u same call granted d = record {
+      before = x ∷ d.before;
+      call = d.call;
+      last = ap (λ ys. x ∷ ys) d.last;
+      calls = begun-calls s.options pid x d.opening call (subst (λ o. Goes o (newly_traced pid (handle_in x.reply)) (Some OpenStatus) d.opening) same d.goes);
+      granted = All-cons IsGranted x d.before (record { not_refused = granted }) d.granted;
+    }
+
+    abbrev pub Goal : List Exchange → Type 0
+    Goal xs = Told s.reports s.options (pid ∷ pids_left s) xs
+
+    -- what comes after each shorter list
+    abbrev pub Shorter : List Exchange → Type 0
+    Shorter xs = (ys : List Exchange) (u : TrussState) → length ys ≤ length xs → Leads f (with_next_opening u) ys → Told u.reports u.options (pids_left u) ys
+
+    refused-told : (x : Exchange) (xs : List Exchange) (errno : Errno) → Shorter xs → x.call ≡ open_control pid → x.reply ≡ reply.Fail errno → Leads f (with_refused_control at_control pid errno) xs → Goal (x ∷ xs)
+    unfolding with_refused_control
+    refused-told x xs errno later call is l =
+        told-refused s.reports s.options pid (pids_left s) errno (x ∷ []) [] xs (refused-first x errno call is) (All-nil IsClose) (later xs (with_report at_control (CannotTrace pid errno)) (omega arith) l)
+
+    left-told : (x : Exchange) (xs : List Exchange) → x.call ≡ open_control pid → x.reply ≡ reply.Fail Intr → Grown s.reports f.reports → Goal (x ∷ xs)
+    left-told x xs call is g = told-left s.reports s.options pid (pids_left s) (x ∷ []) xs (refused-first x Intr call is) g
+
+    shorter-part : (a b xs : List Exchange) → xs ≡ a ++ b → length b ≤ length xs
+    shorter-part a b xs is = omega (arith, ap length is, length-append a b)
+
+    module _ (x : Exchange) (xs : List Exchange) (later : Shorter xs) (call : x.call ≡ open_control pid) (granted : errno_in x.reply ≡ None) (g : Grown s.reports f.reports) where
+      abbrev pub opened : Traced
+      opened = newly_traced pid (handle_in x.reply)
+
+      abbrev pub with_one : TrussState
+      with_one = with_opened at_control opened
+
+      done-told : Done f with_one opened (Some OpenStatus) xs → Goal (x ∷ xs)
+      done-told d =
+          let whole : IsWholeOpening s.options pid (x ∷ d.opening) = record { calls = whole-calls s.options pid x d.opening call d.goes; granted = All-cons IsGranted x d.opening (record { not_refused = granted }) d.granted } in
+          let rest = told-same s d.state d.later (record { options = d.same.options; begun = d.same.begun; reports = d.same.reports }) (later d.later d.state (shorter-part d.opening d.later xs d.is) d.ends) in
+          subst Goal (ap (λ ys. x ∷ ys) (sym d.is)) (told-attached s.reports s.options pid (pids_left s) (x ∷ d.opening) d.later whole rest)
+
+      failed-told : Failed f with_one opened (Some OpenStatus) xs → Goal (x ∷ xs)
+      unfolding newly_traced
+      failed-told d =
+          let st = d.stopped in
+          let reported : TrussState = with_report d.state (CannotTrace pid d.errno) in
+          let c = closing-end f st.later reported d.place d.ends in
+          let base : SameBase (with_report s (CannotTrace pid d.errno)) c.state = record { options = c.same.options ∙ d.same.options; begun = c.same.begun ∙ d.same.begun; reports = c.same.reports ∙ ap (λ rs. rs ++ CannotTrace pid d.errno ∷ []) d.same.reports } in
+          let short : length c.later ≤ length xs = omega (arith, shorter-part c.closings c.later st.later c.is, shorter-part st.opening st.later xs st.is) in
+          let rest = told-same (with_report s (CannotTrace pid d.errno)) c.state c.later base (later c.later c.state short c.ends) in
+          let is : x ∷ xs ≡ (x ∷ st.opening) ++ (c.closings ++ c.later) = ap (λ ys. x ∷ ys) (st.is ∙ ap (λ ys. st.opening ++ ys) c.is) in
+          subst Goal (sym is) (told-refused s.reports s.options pid (pids_left s) d.errno (x ∷ st.opening) c.closings c.later (refused-later x xs d.errno with_one refl call granted st) c.closes rest)
+
+      stopped-told : Stopped f with_one opened (Some OpenStatus) Intr xs → Goal (x ∷ xs)
+      stopped-told d = subst Goal (ap (λ ys. x ∷ ys) (sym d.is)) (told-left s.reports s.options pid (pids_left s) (x ∷ d.opening) d.later (refused-later x xs Intr with_one refl call granted d) g)
+
+      end-told : OpeningEnd f with_one opened (Some OpenStatus) xs → Goal (x ∷ xs)
+      end-told (done d) = done-told d
+      end-told (failed d) = failed-told d
+      end-told (left d) = stopped-told d
+
+      opened-at : (ts : List Traced) (t : Traced) → slice_index_or (ts ++ t ∷ []) (length ts) nobody ≡ t
+      opened-at [] t = refl
+      opened-at (u ∷ ts) t = opened-at ts t
+
+      accepted-told : Leads f (with_control at_control pid (handle_in x.reply)) xs → Goal (x ∷ xs)
+      unfolding with_control
+      accepted-told l = end-told (opening-end f xs with_one opened (length s.traced) OpenStatus (omega (arith, length-append s.traced (opened ∷ []))) (opened-at s.traced opened) l)
+
+    answered-told : (x : Exchange) (xs : List Exchange) → Shorter xs → x.call ≡ open_control pid → Grown s.reports f.reports → (a : Answer) → IsAnswer x.reply a → Leads f (with_control_answered at_control pid x.reply a) xs → Goal (x ∷ xs)
+    unfolding IsAnswer with_control_answered
+    answered-told x xs later call g Accepted is l = accepted-told x xs later call is g l
+    answered-told x xs later call g Interrupted is l = left-told x xs call is g
+    answered-told x xs later call g Gone is l = refused-told x xs Noent later call is l
+    answered-told x xs later call g (Refused errno) is l = refused-told x xs errno later call is l
+
+    control-told : (xs : List Exchange) → ((ys : List Exchange) (u : TrussState) → length ys < length xs → Leads f (with_next_opening u) ys → Told u.reports u.options (pids_left u) ys) → Leads f at_control xs → Goal xs
+    control-told [] later l = absurd (not-over l)
+    control-told (x ∷ xs) later l = answered-told x xs (λ ys u short. later ys u (omega arith)) (control-call x xs l) (grown-at (x ∷ xs) l) (answer_of x.reply) (answer-is x.reply) (control-answered x xs l)
+
+  -- ---- the next process
+
+  next-grown : (xs : List Exchange) (s : TrussState) → Leads f (with_next_opening s) xs → Grown s.reports f.reports
+  next-grown xs s l =
+      let w = next_opening-well s.reports 0 0 (sum_by (of_traced 0 0) s.traced) s (record { traced = refl; grown = grown-same s.reports }) in
+      subst (λ (u : TrussState). Grown s.reports u.reports) l.last (grown-all s.reports (with_next_opening s).reports _ w.grown (after-grown xs (with_next_opening s) w.fits))
+
+  opened-or : (xs : List Exchange) (s : TrussState) → Leads f (with_next_opening s) xs → Leads f (opening_or s (with_going_on s) (slice_get s.options.pids s.begun)) xs
+  unfolding with_next_opening
+  opened-or xs s l = l
+
+  told-next : (n : ℕ) (xs : List Exchange) (s : TrussState) → length xs < n → Leads f (with_next_opening s) xs → Told s.reports s.options (pids_left s) xs
+  told-next zero xs s lt l = absurd (omega arith)
+  told-next (suc n) xs s lt l = by (slice_get s.options.pids s.begun) refl (λ ys u short. told-next n ys u (omega arith)) (next-grown xs s l) (opened-or xs s l)
+    where
+      by : (p : Option ℕ) → slice_get s.options.pids s.begun ≡ p → ((ys : List Exchange) (u : TrussState) → length ys < length xs → Leads f (with_next_opening u) ys → Told u.reports u.options (pids_left u) ys) → Grown s.reports f.reports → Leads f (opening_or s (with_going_on s) p) xs → Told s.reports s.options (pids_left s) xs
+      by None is later g k = subst (λ pids. Told s.reports s.options pids xs) (sym (drop-none s.options.pids s.begun is)) (told-none s.reports s.options xs g)
+      by (Some pid) is later g k = subst (λ pids. Told s.reports s.options pids xs) (sym (drop-some s.options.pids s.begun pid is)) (control-told (record s { begun = s.begun + 1 }) pid xs later k)
+
+  -- the first process of all, and each that follows it
+  pub told-first : (s : TrussState) (pid : ℕ) (xs : List Exchange) → Leads f (with_stage s (OpeningControl pid)) xs → Told s.reports s.options (pid ∷ pids_left s) xs
+  told-first s pid xs l = control-told s pid xs (λ ys u short. told-next (length xs) ys u short) l
+
+-- ---- what the options name
+
+led : (s : TrussState) (xs : List Exchange) → Ends s xs → Leads (truss_after s xs) s xs
+led s xs e = record { ends = e; last = refl }
+
+pids-handled : (o : Options) (p : Option ℕ) → slice_get o.pids 0 ≡ p → (xs : List Exchange) → Ends (opening_or (idle o) (idle o) p) xs → AreHandled o o.pids (truss_after (opening_or (idle o) (idle o) p) xs).reports xs
+pids-handled o None is xs e = subst (λ pids. AreHandled o pids (truss_after (idle o) xs).reports xs) (sym (empty-list o.pids is)) tt
+pids-handled o (Some pid) is xs e =
+    let s : TrussState = record (idle o) { begun = 1 } in
+    let t = told-first (truss_after (with_stage s (OpeningControl pid)) xs) s pid xs (led (with_stage s (OpeningControl pid)) xs e) in
+    subst (λ reports. AreHandled o o.pids reports xs) (sym t.is) (subst (λ pids. AreHandled o pids t.more xs) (sym (drop-some o.pids 0 pid is)) t.handled)
+
+module _ (o : Options) (program : List ℕ) where
+  abbrev pub spawning : TrussState
+  spawning = with_stage (idle o) (Spawning program)
+
+  not-begun : Ends spawning [] → ⊥
+  unfolding next_call_of call_of
+  not-begun e = none-some (call.Spawn program true) (sym e.finished)
+
+  spawn-call : (x : Exchange) (xs : List Exchange) → Ends spawning (x ∷ xs) → x.call ≡ call.Spawn program true
+  unfolding next_call_of call_of
+  spawn-call x xs e = same_Some x.call (call.Spawn program true) (sym e.makes.0)
+
+  -- nothing comes after the end
+  no-more : (s : TrussState) (xs : List Exchange) → next_call_of s ≡ None → Ends s xs → xs ≡ []
+  no-more s [] none e = refl
+  no-more s (x ∷ xs) none e = absurd (none-some x.call (sym none ∙ e.makes.0))
+
+  spawn-answered : (x : Exchange) (xs : List Exchange) → Ends spawning (x ∷ xs) → Ends (with_start_answered spawning program x.reply (answer_of x.reply)) xs
+  unfolding fed with_reply
+  spawn-answered x xs e = ends-later spawning x xs e
+
+  -- a truss that traces nothing has finished when it goes on
+  idle-on : (s : TrussState) → s.traced ≡ [] → s.leaving ≡ false → with_going_on s ≡ with_stage s Finished
+  unfolding with_going_on
+  idle-on s none stays = rw (stays, none) refl
+
+  idle-left : (s : TrussState) → s.traced ≡ [] → with_interrupt s ≡ with_stage (record s { leaving = true }) Finished
+  unfolding with_interrupt with_next_left
+  idle-left s none = rw none refl
+
+  finished-none : (s : TrussState) → next_call_of (with_stage s Finished) ≡ None
+  unfolding next_call_of call_of
+  finished-none s = refl
+
+  spawn-is : (x : Exchange) (xs : List Exchange) (r : Reply) → x.call ≡ call.Spawn program true → x.reply ≡ r → xs ≡ [] → x ∷ xs ≡ record { call = call.Spawn program true; reply = r } ∷ []
+  spawn-is x xs r is answer none = ap (λ ys. x ∷ ys) none ∙ ap (λ c. record { call = c; reply = x.reply } ∷ []) is ∙ ap (λ a. record { call = call.Spawn program true; reply = a } ∷ []) answer
+
+  start-refused : (x : Exchange) (xs : List Exchange) (errno : Errno) → x.call ≡ call.Spawn program true → x.reply ≡ reply.Fail errno → Ends (with_refused_start spawning program errno) xs → NotStarted program (truss_after (with_refused_start spawning program errno) xs).reports (x ∷ xs)
+  unfolding with_refused_start
+  start-refused x xs errno made is e =
+      let u : TrussState = with_report spawning (CannotStart program errno) in
+      let over = idle-on u refl refl in
+      let none : xs ≡ [] = no-more (with_going_on u) xs (ap next_call_of over ∙ finished-none u) e in
+      record { errno = errno; is = spawn-is x xs (reply.Fail errno) made is none; reported = ap (λ ys. (truss_after (with_going_on u) ys).reports) none ∙ ap (λ (v : TrussState). v.reports) over }
+
+  start-left : (x : Exchange) (xs : List Exchange) → x.call ≡ call.Spawn program true → x.reply ≡ reply.Fail Intr → Ends (with_interrupt spawning) xs → LeftAtStart program (truss_after (with_interrupt spawning) xs).reports (x ∷ xs)
+  start-left x xs made is e =
+      let over = idle-left spawning refl in
+      let none : xs ≡ [] = no-more (with_interrupt spawning) xs (ap next_call_of over ∙ finished-none (record spawning { leaving = true })) e in
+      record { is = spawn-is x xs (reply.Fail Intr) made is none; nothing = ap (λ ys. (truss_after (with_interrupt spawning) ys).reports) none ∙ ap (λ (v : TrussState). v.reports) over }
+
+  started : (x : Exchange) (xs : List Exchange) → x.call ≡ call.Spawn program true → errno_in x.reply ≡ None → Ends (with_stage (idle o) (OpeningControl (pid_in x.reply))) xs → Started o program (truss_after (with_stage (idle o) (OpeningControl (pid_in x.reply))) xs).reports (x ∷ xs)
+  started x xs made granted e =
+      let s : TrussState = with_stage (idle o) (OpeningControl (pid_in x.reply)) in
+      let t = told-first (truss_after s xs) (idle o) (pid_in x.reply) xs (led s xs e) in
+      record { reply = x.reply; later = xs; is = ap (λ c. record { call = c; reply = x.reply } ∷ xs) made; granted = granted; handled = subst (λ reports. AreHandled o (pid_in x.reply ∷ o.pids) reports xs) (sym t.is) t.handled }
+
+  start-answered : (x : Exchange) (xs : List Exchange) → x.call ≡ call.Spawn program true → (a : Answer) → IsAnswer x.reply a → Ends (with_start_answered spawning program x.reply a) xs → IsHandled o (Some program) (truss_after (with_start_answered spawning program x.reply a) xs).reports (x ∷ xs)
+  unfolding IsAnswer with_start_answered
+  start-answered x xs made Accepted is e = inl (started x xs made is e)
+  start-answered x xs made Interrupted is e = inr (inr (start-left x xs made is e))
+  start-answered x xs made Gone is e = inr (inl (start-refused x xs Noent made is e))
+  start-answered x xs made (Refused errno) is e = inr (inl (start-refused x xs errno made is e))
+
+  answered-is : (x : Exchange) → fed spawning x.reply ≡ with_start_answered spawning program x.reply (answer_of x.reply)
+  unfolding fed with_reply
+  answered-is x = refl
+
+  program-handled : (xs : List Exchange) → Ends spawning xs → IsHandled o (Some program) (truss_after spawning xs).reports xs
+  program-handled [] e = absurd (not-begun e)
+  program-handled (x ∷ xs) e = subst (λ (u : TrussState). IsHandled o (Some program) (truss_after u xs).reports (x ∷ xs)) (sym (answered-is x)) (start-answered x xs (spawn-call x xs e) (answer_of x.reply) (answer-is x.reply) (spawn-answered x xs e))
+
+first-handled : (o : Options) (p : Option (List ℕ)) (xs : List Exchange) → Ends (first_of_program o p) xs → IsHandled o p (truss_after (first_of_program o p) xs).reports xs
+first-handled o None xs e = pids-handled o (slice_get o.pids 0) refl xs e
+first-handled o (Some program) xs e = program-handled o program xs e
+
+pub given-handled : (o : Options) (xs : List Exchange) → Ends (first_truss o) xs → IsHandled o o.program (truss_after (first_truss o) xs).reports xs
+unfolding first_truss
+given-handled o xs e = first-handled o o.program xs e
+
+pub ruleset given = (given-handled)
