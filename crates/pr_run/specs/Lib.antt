@@ -1,1 +1,2 @@
+pub mod ManyRuns
 pub mod OneRuns

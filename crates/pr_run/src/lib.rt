@@ -1,6 +1,10 @@
-//! Runs of a world on one thread.
+//! Runs of a world: on one thread, and on several.
 #![tactic(auto)]
 
+mod many;
 mod one;
+mod shared_worlds;
+mod workers;
 
+pub use many::run_many;
 pub use one::run_one;

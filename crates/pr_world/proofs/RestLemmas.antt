@@ -15,11 +15,11 @@ use Rattle.pr_num.proofs.BoolLemmas.{not_both}
 
 -- ---- who is next, can move
 
-either : (a b : Option Actor) (x : Actor) (P : Actor → Type 0) → option_or a b ≡ Some x → (a ≡ Some x → P x) → (b ≡ Some x → P x) → P x
+pub either : (a b : Option Actor) (x : Actor) (P : Actor → Type 0) → option_or a b ≡ Some x → (a ≡ Some x → P x) → (b ≡ Some x → P x) → P x
 either (Some y) b x P e left right = left e
 either None b x P e left right = right e
 
-mapped-back : {X Y : Type 0} (f : X → Y) (o : Option X) (y : Y) → option_map f o ≡ Some y → (x : X) × ((o ≡ Some x) × (y ≡ f x))
+pub mapped-back : {X Y : Type 0} (f : X → Y) (o : Option X) (y : Y) → option_map f o ≡ Some y → (x : X) × ((o ≡ Some x) × (y ≡ f x))
 mapped-back f None y e = cc
 mapped-back f (Some x) y e = (x, (refl, sym (same_Some (f x) y e)))
 
@@ -43,7 +43,7 @@ clock-next : (w : WorldState) (b : Bool) (a : Actor) → can_act w Clock ≡ b �
 clock-next w true a is e = ap (can_act w) (sym (same_Some Clock a e)) ∙ is
 clock-next w false a is e = cc
 
-from_lwp-next : (w : WorldState) (after : Option (ℕ × ℕ)) (a : Actor) → from_lwp w after ≡ Some a → can_act w a ≡ true
+pub from_lwp-next : (w : WorldState) (after : Option (ℕ × ℕ)) (a : Actor) → from_lwp w after ≡ Some a → can_act w a ≡ true
 unfolding from_lwp clock_if_awaited
 from_lwp-next w after a e = either (first_lwp w after) _ a (λ x. can_act w x ≡ true) e (lwp-next w after a) (clock-next w (can_act w Clock) a refl)
 

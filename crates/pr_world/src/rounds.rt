@@ -34,9 +34,9 @@ impl<Q: Kernel> World<Q> {
         }
     }
 
-    /// Who moves next in a round after an lwp, or from the first lwp on.
+    /// Who moves next in a round after an lwp, or from the first lwp on: an lwp, or the clock.
     #[tactic(auto, unfolding(crate::specs::Worlds::from_lwp, crate::specs::Worlds::first_lwp))]
-    fn from_lwp(&mut self, after: Option<(u32, u32)>) -> Result<Option<Actor>, NoMemory>
+    pub fn from_lwp(&mut self, after: Option<(u32, u32)>) -> Result<Option<Actor>, NoMemory>
         ensures value { IfOk result (λ next. next ≡ from_lwp (seen Q.view self.old) after) }
         ensures same { self.new ≡ self.old }
     {

@@ -1,16 +1,17 @@
-use Rattle.std.specs.Prelude.{ℕ, true, false, List, [], ◌++◌, Option, Some, None, Result, Ok, Err, codes, decimal, length}
+use Rattle.std.specs.Prelude.{◌≡◌, ◌≤◌, ℕ, true, false, List, [], ◌++◌, Option, Some, None, Result, Ok, Err, codes, decimal, length}
 use Rattle.pr_judge.specs.Judgements.{first_illegal}
 use Rattle.pr_model.specs.UntracedSteps.{untraced_steps, untraced_trace}
 use Rattle.pr_model.specs.declared.events.Entry.{Entry}
 use Rattle.pr_output.specs.Output.{plain_run_text, refusal_text, run_text}
 use Rattle.pr_plain.specs.Generated.{generated_text}
-use Rattle.pr_run_laws.specs.ScenarioRuns.{first_state_of, run_of}
+use Rattle.pr_run_laws.specs.ScenarioRuns.{first_state_of, first_world, run_of}
 use Rattle.pr_scen.specs.Reading.{scenario_of}
 use Rattle.pr_scen.specs.declared.refusals.ScenFault.{ScenFault}
 use Rattle.pr_scen.specs.declared.refusals.ScenKind.{ScenKind}
 use Rattle.pr_scen.specs.declared.refusals.ScenKind.TheVariants as kind
 use Rattle.pr_scen.specs.Scenarios.{Scenario}
-use Rattle.pr_world.specs.Worlds.{WorldState, end_of}
+use Rattle.pr_world.specs.Runs.{CameFrom}
+use Rattle.pr_world.specs.Worlds.{WorldState, end_of, goes_on}
 use Rattle.pr_world.specs.declared.ends.End.{End}
 use Rattle.pr_world.specs.declared.ends.End.TheVariants as end
 use Rattle.pr_output.specs.declared.reports.Report.{Report}
@@ -25,7 +26,8 @@ use Rattle.proclab.specs.declared.commands.Showing.TheVariants.{Whole, Quiet, St
 use Rattle.proclab.specs.declared.outcomes.Status.{Status}
 use Rattle.proclab.specs.declared.outcomes.Status.TheVariants.{Done, Usage, Refused, Spent, Stuck, NotLegal}
 
--- What a command answers to an input, where nothing fails. It is a function of the input.
+-- What a command answers to an input, where nothing fails. It is a function of the input, but of a run on several
+-- threads, of which there may be many.
 
 -- the status, the history of the run, and what is written
 pub record Answer : Type 0 where
@@ -90,6 +92,30 @@ answer_of showing (Ok s) = ran showing (run_of s)
 unfoldable pub answer_to : Showing → Option (List ℕ) → Answer
 answer_to showing None = refused_at 0 too_long
 answer_to showing (Some input) = answer_of showing (scenario_of input)
+
+-- ---- the command `run` on several threads
+
+-- A world in which a run of a scenario may have ended, in whatever order its actors moved: none can move any more, or
+-- there is no place for an entry.
+pub record IsEndOf (s : Scenario) (w : WorldState) : Type 0 where
+  pub came : CameFrom (first_world s) w
+  pub over : goes_on w ≡ false
+  pub within : length w.kernel.history ≤ s.turns
+
+-- what is written of one such world
+pub record ShowsEnd (showing : Showing) (s : Scenario) (answer : Answer) : Type 0 where
+  pub world : WorldState
+  pub ends : IsEndOf s world
+  pub is : answer ≡ ran showing world
+
+abbrev pub MayAnswerRead : Showing → Result Scenario ScenFault → Answer → Type 0
+MayAnswerRead showing (Err fault) answer = answer ≡ refused_at fault.line (kind_name fault.kind)
+MayAnswerRead showing (Ok s) answer = ShowsEnd showing s answer
+
+-- whether this may be answered to an input; none: it had more bytes than it may have
+abbrev pub MayAnswer : Showing → Option (List ℕ) → Answer → Type 0
+MayAnswer showing None answer = answer ≡ refused_at 0 too_long
+MayAnswer showing (Some input) answer = MayAnswerRead showing (scenario_of input) answer
 
 -- ---- the command `check`
 

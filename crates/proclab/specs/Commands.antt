@@ -1,4 +1,4 @@
-use Rattle.std.specs.Prelude.{ℕ, Bool, true, false, ◌&&◌, List, [], ◌∷◌, Option, Some, None, option_map, find, codes, decimal, if◌then◌else◌}
+use Rattle.std.specs.Prelude.{◌≤◌, ℕ, Bool, true, false, ◌&&◌, List, [], ◌∷◌, Option, Some, None, option_map, find, codes, decimal, if◌then◌else◌}
 use Rattle.std.specs.List.{range_with_len}
 use Rattle.std.specs.Str.{bytes_eq}
 use Rattle.pr_num.specs.Limits.{child_limit, worker_limit}
@@ -6,7 +6,7 @@ use Rattle.proclab.specs.declared.commands.Command.{Command}
 use Rattle.proclab.specs.declared.commands.Command.TheVariants.{Run, Check, Plain, Generate}
 use Rattle.proclab.specs.declared.commands.Showing.TheVariants.{Whole, Quiet, Stripped}
 use Rattle.proclab.specs.declared.commands.Work.{Work}
-use Rattle.proclab.specs.declared.commands.Work.TheVariants.{Checks, Explains, Generates, Runs}
+use Rattle.proclab.specs.declared.commands.Work.TheVariants.{Checks, Explains, Generates, Runs, Shares}
 
 -- What the words after the program's name ask for. The shapes are run, run -q, run -j N, run -q -j N, run -j N -q,
 -- check, plain and gen N; words of no other shape ask for anything.
@@ -55,12 +55,22 @@ command_of (a ∷ b ∷ c ∷ d ∷ []) = of_four_words a b c d
 command_of _ = None
 
 -- What is done for words: the run of a scenario on one thread, of which the history is written, or not, or what the
--- machine without controllers makes of it; the judging of a history; the writing of a scenario for so many children; or
--- they get the usage line, as all words whose command is not built.
+-- machine without controllers makes of it; the run of a scenario on several threads; the judging of a history; the
+-- writing of a scenario for so many children; or they get the usage line, as words that ask for nothing.
 unfoldable pub work_of : Option Command → Work
 work_of (Some (Run false None)) = Runs Whole
 work_of (Some (Run true None)) = Runs Quiet
+work_of (Some (Run false (Some workers))) = Shares Whole workers
+work_of (Some (Run true (Some workers))) = Shares Quiet workers
 work_of (Some Plain) = Runs Stripped
 work_of (Some Check) = Checks
 work_of (Some (Generate children)) = Generates children
-work_of _ = Explains
+work_of None = Explains
+
+-- how many threads share the processor in a piece of work: where it is shared, 1 to 16
+abbrev pub HasWorkers : Work → Type 0
+HasWorkers (Shares showing workers) = (1 ≤ workers) × (workers ≤ 16)
+HasWorkers (Runs showing) = Unit {0}
+HasWorkers Explains = Unit {0}
+HasWorkers Checks = Unit {0}
+HasWorkers (Generates children) = Unit {0}

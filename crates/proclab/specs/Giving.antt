@@ -45,6 +45,25 @@ pub record Responds (answer : Answer) (early : Type 0) (status : Status) (histor
   pub no_fault : status ≢ WriteFailed → after ≡ before
   pub read : status ≢ ReadFailed
 
+-- ---- one of several answers
+
+pub record RespondsWith (May : Answer → Type 0) (early : Type 0) (status : Status) (history : List Entry) (old new : Option (List ℕ)) (before after : ℕ) : Type 0 where
+  pub answer : Answer
+  pub may : May answer
+  pub responds : Responds answer early status history old new before after
+
+-- Memory ran out before there was an answer.
+pub record StopsEarly (early : Type 0) (status : Status) (before after : ℕ) : Type 0 where
+  pub status_is : status ≡ OutOfMemory
+  pub left : early
+  pub no_fault : after ≡ before
+
+-- one of the answers that may come is given, or memory ran out before there was one
+abbrev pub RespondsOne : (Answer → Type 0) → Type 0 → Status → List Entry → Option (List ℕ) → Option (List ℕ) → ℕ → ℕ → Type 0
+RespondsOne May early status history old new before after = RespondsWith May early status history old new before after ⊎ StopsEarly early status before after
+
+-- ---- statuses
+
 -- the status where a text of this status was written, or was not
 unfoldable pub status_after : Result Unit Cut → Status → Status
 status_after (Ok done) status = status

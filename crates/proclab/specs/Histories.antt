@@ -1,13 +1,22 @@
-use Rattle.std.specs.Prelude.{◌≡◌, ◌≤◌, ◌⊎◌, ℕ, Bool, true, false, List, [], Option, Some, None, Ok}
+use Rattle.std.specs.Prelude.{◌≡◌, ◌≤◌, ◌⊎◌, ℕ, List, [], Option, Some, None, Ok}
 use Rattle.pr_model.specs.declared.events.Entry.{Entry}
 use Rattle.pr_num.specs.Limits.{scenario_limit}
 use Rattle.pr_run_laws.specs.Prefixes.{IsPrefix}
-use Rattle.pr_run_laws.specs.ScenarioRuns.{IsKept, history_after, run_of}
+use Rattle.pr_run_laws.specs.ScenarioRuns.{IsKept, first_world, history_after, run_of}
 use Rattle.pr_scen.specs.Reading.{scenario_of}
 use Rattle.pr_scen.specs.Scenarios.{Scenario}
+use Rattle.pr_world.specs.Runs.{CameFrom}
+use Rattle.pr_world.specs.Worlds.{WorldState}
 use Rattle.proclab.specs.Inputs.{TookAll}
 
 -- The histories that a call may leave.
+
+-- how a piece of work makes a run: it makes none; on one thread, where the actors move in rounds; or by threads, which
+-- make the moves in any order
+pub data Making : Type 0 where
+  no_run : Making
+  in_rounds : Making
+  by_threads : Making
 
 -- A history that the run of an input has on its way: that after so many moves, which is a prefix of the history of the
 -- run.
@@ -23,16 +32,33 @@ abbrev pub IsOnTheWay : Option (List ℕ) → List Entry → Type 0
 IsOnTheWay None history = history ≡ []
 IsOnTheWay (Some input) history = (history ≡ []) ⊎ IsAfterMoves input history
 
--- What is left where memory ran out before the text was begun: of a command that makes a run, a history that the run
--- has on its way; of another, none.
-abbrev pub IsLeft : Bool → Option (List ℕ) → List Entry → Type 0
-IsLeft true input history = IsOnTheWay input history
-IsLeft false input history = history ≡ []
+-- The history of a world to which the first world of a scenario was led, in whatever order its actors moved.
+pub record IsLedTo (s : Scenario) (history : List Entry) : Type 0 where
+  pub world : WorldState
+  pub came : CameFrom (first_world s) world
+  pub is : history ≡ world.kernel.history
+
+-- A history that threads made of an input.
+pub record IsMadeByThreads (input : List ℕ) (history : List Entry) : Type 0 where
+  pub scenario : Scenario
+  pub read : scenario_of input ≡ Ok scenario
+  pub led : IsLedTo scenario history
+
+abbrev pub IsMadeSoFar : Option (List ℕ) → List Entry → Type 0
+IsMadeSoFar None history = history ≡ []
+IsMadeSoFar (Some input) history = (history ≡ []) ⊎ IsMadeByThreads input history
+
+-- What is left where memory ran out before the text was begun: of a run in rounds, a history that it has on its way; of
+-- one by threads, a history that they made; where no run is made, none.
+abbrev pub IsLeft : Making → Option (List ℕ) → List Entry → Type 0
+IsLeft no_run input history = history ≡ []
+IsLeft in_rounds input history = IsOnTheWay input history
+IsLeft by_threads input history = IsMadeSoFar input history
 
 -- Memory ran out before the text was begun: nothing was written.
-pub record RanOutEarly (runs : Bool) (input : Option (List ℕ)) (history : List Entry) (old new : Option (List ℕ)) : Type 0 where
+pub record RanOutEarly (making : Making) (input : Option (List ℕ)) (history : List Entry) (old new : Option (List ℕ)) : Type 0 where
   pub unwritten : new ≡ old
-  pub left : IsLeft runs input history
+  pub left : IsLeft making input history
 
 -- What the history of a call is where there is one: that of the run of the scenario that was read, after so many moves.
 -- It is legal and follows the protocol, and where it is passive, tracing is transparent in it.
@@ -42,5 +68,14 @@ pub record IsHistoryOfRun (left_old left_new : Option (List ℕ)) (history : Lis
   pub run : IsAfterMoves input history
   pub kept : IsKept run.scenario history
 
-abbrev pub HistoryIsKept : Option (List ℕ) → Option (List ℕ) → List Entry → Type 0
-HistoryIsKept left_old left_new history = (history ≡ []) ⊎ IsHistoryOfRun left_old left_new history
+-- The same of a run by threads, which made the history.
+pub record IsHistoryOfThreads (left_old left_new : Option (List ℕ)) (history : List Entry) : Type 0 where
+  pub input : List ℕ
+  pub took : TookAll scenario_limit left_old left_new input
+  pub made : IsMadeByThreads input history
+  pub kept : IsKept made.scenario history
+
+abbrev pub HistoryIsKept : Making → Option (List ℕ) → Option (List ℕ) → List Entry → Type 0
+HistoryIsKept no_run left_old left_new history = history ≡ []
+HistoryIsKept in_rounds left_old left_new history = (history ≡ []) ⊎ IsHistoryOfRun left_old left_new history
+HistoryIsKept by_threads left_old left_new history = (history ≡ []) ⊎ IsHistoryOfThreads left_old left_new history

@@ -6,6 +6,7 @@ use Rattle.pr_api.specs.Views.{KernelView, kernel_of}
 use Rattle.pr_kern.specs.Kernels.{Kernel}
 use Rattle.pr_world.specs.Runs.{after_moves}
 use Rattle.pr_world.specs.Worlds.{WorldState}
+use Rattle.proclab.specs.Histories.{IsLedTo}
 
 -- the kernel as a world sees it
 abbrev pub kern_view : Kernel → KernelView
@@ -25,3 +26,13 @@ IsBroughtSoFar s history = (history ≡ []) ⊎ IsWorldsWay (first_world s) hist
 pub record StoppedRun (s : Scenario) (history : List Entry) (old new : Option (List ℕ)) : Type 0 where
   pub unwritten : new ≡ old
   pub so_far : IsBroughtSoFar s history
+
+-- Memory ran out where threads had led to a world: nothing was written, and its history is left.
+pub record LeftAt (w : WorldState) (history : List Entry) (old new : Option (List ℕ)) : Type 0 where
+  pub unwritten : new ≡ old
+  pub is : history ≡ w.kernel.history
+
+-- Memory ran out in a run by threads, or before it: nothing was written, and what they made is left.
+pub record StoppedThreads (s : Scenario) (history : List Entry) (old new : Option (List ℕ)) : Type 0 where
+  pub unwritten : new ≡ old
+  pub so_far : (history ≡ []) ⊎ IsLedTo s history

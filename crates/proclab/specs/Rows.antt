@@ -6,37 +6,50 @@ use Rattle.pr_num.specs.Limits.{checked_limit, scenario_limit}
 use Rattle.pr_run_laws.specs.ScenarioRuns.{first_state_of, run_of}
 use Rattle.pr_scen.specs.Reading.{scenario_of}
 use Rattle.pr_scen.specs.Scenarios.{Scenario}
-use Rattle.proclab.specs.Answers.{Answer, answer_to, check_of, explained, generated, judged}
+use Rattle.proclab.specs.Answers.{Answer, MayAnswer, answer_to, check_of, explained, generated, judged}
 use Rattle.proclab.specs.Checks.{checked_of}
 use Rattle.proclab.specs.Ends.{EndsAs}
 use Rattle.proclab.specs.Giving.{IsGiven, IsCutShort, RanOutLate, Responds}
-use Rattle.proclab.specs.Histories.{RanOutEarly}
+use Rattle.proclab.specs.Histories.{IsLedTo, Making, RanOutEarly, by_threads, in_rounds, no_run}
 use Rattle.proclab.specs.Inputs.{Took, taken_of}
 use Rattle.proclab.specs.Statuses.{IsWhole, number}
+use Rattle.proclab.specs.declared.commands.Showing.{Showing}
 use Rattle.proclab.specs.declared.commands.Work.{Work}
-use Rattle.proclab.specs.declared.commands.Work.TheVariants.{Checks, Explains, Generates, Runs}
+use Rattle.proclab.specs.declared.commands.Work.TheVariants.{Checks, Explains, Generates, Runs, Shares}
 use Rattle.proclab.specs.declared.outcomes.Status.{Status}
 use Rattle.proclab.specs.declared.outcomes.Status.TheVariants.{ReadFailed, WriteFailed, OutOfMemory}
 
 -- What each command does, a row for each, and how a call of it ends.
 
 -- A command says the same whatever the input is: it reads nothing and takes no memory. Or it reads an input, up to a
--- limit, and answers it; where it makes a run, that is left as far as it was made where memory ran out.
+-- limit, and answers it; where it makes a run, that is left as far as it was made where memory ran out. Or it reads a
+-- scenario and makes its run on several threads: what they may answer is then not one answer.
 pub data Row : Type 0 where
   says : Answer → Row
-  reads : ℕ → (Option (List ℕ) → Answer) → Bool → Row
+  reads : ℕ → (Option (List ℕ) → Answer) → Making → Row
+  shares : Showing → Row
 
 unfoldable pub row_of : Work → Row
 row_of Explains = says explained
 row_of (Generates children) = says (generated children)
-row_of (Runs showing) = reads scenario_limit (answer_to showing) true
-row_of Checks = reads checked_limit check_of false
+row_of (Runs showing) = reads scenario_limit (answer_to showing) in_rounds
+row_of (Shares showing workers) = shares showing
+row_of Checks = reads checked_limit check_of no_run
+
+-- how a piece of work makes a run
+unfoldable pub making_of : Work → Making
+making_of Explains = no_run
+making_of (Generates children) = no_run
+making_of (Runs showing) = in_rounds
+making_of (Shares showing workers) = by_threads
+making_of Checks = no_run
 
 -- whether a piece of work leaves the source alone
 abbrev pub reads_nothing : Work → Bool
 reads_nothing Explains = true
 reads_nothing (Generates children) = true
 reads_nothing (Runs showing) = false
+reads_nothing (Shares showing workers) = false
 reads_nothing Checks = false
 
 -- What the source and the sink tell at one moment: the bytes that are left and those that were written, where they are
@@ -58,60 +71,88 @@ pub record Says (answer : Answer) (old new : Ends) (status : Status) (history : 
 
 -- ---- a command that reads an input
 
--- Where nothing failed: the answer to what was read was given whole.
-pub record Answered (limit : ℕ) (answer : Option (List ℕ) → Answer) (old new : Ends) (status : Status) (history : List Entry) : Type 0 where
+-- the one answer of a command that is a function of the input
+abbrev pub IsThe : (Option (List ℕ) → Answer) → Option (List ℕ) → Answer → Type 0
+IsThe answer input given = given ≡ answer input
+
+-- One of the answers that may come was given whole.
+pub record GivesOne (May : Answer → Type 0) (status : Status) (history : List Entry) (old new : Option (List ℕ)) : Type 0 where
+  pub answer : Answer
+  pub may : May answer
+  pub given : IsGiven answer status history old new
+
+-- Where nothing failed: an answer to what was read was given whole.
+pub record Answered (limit : ℕ) (May : Option (List ℕ) → Answer → Type 0) (old new : Ends) (status : Status) (history : List Entry) : Type 0 where
   pub input : Option (List ℕ)
   pub took : Took limit old.left new.left input
-  pub given : IsGiven (answer input) status history old.written new.written
+  pub gives : GivesOne (May input) status history old.written new.written
 
 -- Where a write failed.
-pub record CutShort (limit : ℕ) (answer : Option (List ℕ) → Answer) (old new : Ends) (history : List Entry) : Type 0 where
+pub record CutShort (limit : ℕ) (May : Option (List ℕ) → Answer → Type 0) (old new : Ends) (history : List Entry) : Type 0 where
   pub input : Option (List ℕ)
   pub took : Took limit old.left new.left input
-  pub cut : IsCutShort (answer input) history old.written new.written
+  pub answer : Answer
+  pub may : May input answer
+  pub cut : IsCutShort answer history old.written new.written
 
 -- Nothing was written, and there is no history.
 pub record LeftNothing (old new : Ends) (history : List Entry) : Type 0 where
   pub no_history : history ≡ []
   pub unwritten : new.written ≡ old.written
 
+-- Memory ran out while the text of one of the answers that may come was written.
+pub record OneRanOut (May : Answer → Type 0) (history : List Entry) (old new : Option (List ℕ)) : Type 0 where
+  pub answer : Answer
+  pub may : May answer
+  pub ran_out : RanOutLate answer history old new
+
 -- Where memory ran out after the reading: before the text was begun, or while it was written.
-pub record RanOutAfter (limit : ℕ) (answer : Option (List ℕ) → Answer) (runs : Bool) (old new : Ends) (history : List Entry) : Type 0 where
+pub record RanOutAfter (limit : ℕ) (May : Option (List ℕ) → Answer → Type 0) (making : Making) (old new : Ends) (history : List Entry) : Type 0 where
   pub input : Option (List ℕ)
   pub took : Took limit old.left new.left input
-  pub ran_out : RanOutEarly runs input history old.written new.written ⊎ RanOutLate (answer input) history old.written new.written
+  pub ran_out : RanOutEarly making input history old.written new.written ⊎ OneRanOut (May input) history old.written new.written
 
--- How it ends. Where nothing failed, the answer to what was read was given; and where the bytes that were left are
--- known, status, history and text are a function of them. A read failed: nothing was written, and there is no history.
--- A write failed: the history is that of the answer, and a prefix of its text was written. Memory ran out in the
--- reading, or after it. Only a read that failed raises the count of the source, and only a write that failed that of
+-- How it ends, where these are the answers that may come to an input. Where nothing failed, one to what was read was
+-- given; and where the bytes that were left are known, one to them. A read failed: nothing was written, and there is no
+-- history. A write failed: the history is that of an answer, and a prefix of its text was written. Memory ran out in
+-- the reading, or after it. Only a read that failed raises the count of the source, and only a write that failed that of
 -- the sink.
-pub record Reads (limit : ℕ) (answer : Option (List ℕ) → Answer) (runs : Bool) (old new : Ends) (status : Status) (history : List Entry) : Type 0 where
-  pub answered : IsWhole status → Answered limit answer old new status history
-  pub answers : IsWhole status → IfSome old.left (λ left. IsGiven (answer (taken_of limit left)) status history old.written new.written)
+pub record Reads (limit : ℕ) (May : Option (List ℕ) → Answer → Type 0) (making : Making) (old new : Ends) (status : Status) (history : List Entry) : Type 0 where
+  pub answered : IsWhole status → Answered limit May old new status history
+  pub answers : IsWhole status → IfSome old.left (λ left. GivesOne (May (taken_of limit left)) status history old.written new.written)
   pub unread : status ≡ ReadFailed → LeftNothing old new history
   pub read_failed : status ≡ ReadFailed → Rose old.read_faults new.read_faults
-  pub cut : status ≡ WriteFailed → CutShort limit answer old new history
+  pub cut : status ≡ WriteFailed → CutShort limit May old new history
   pub write_failed : status ≡ WriteFailed → Rose old.write_faults new.write_faults
-  pub memory : status ≡ OutOfMemory → LeftNothing old new history ⊎ RanOutAfter limit answer runs old new history
+  pub memory : status ≡ OutOfMemory → LeftNothing old new history ⊎ RanOutAfter limit May making old new history
   pub no_read_fault : status ≢ ReadFailed → new.read_faults ≡ old.read_faults
   pub no_write_fault : status ≢ WriteFailed → new.write_faults ≡ old.write_faults
 
 -- ---- each command
 
--- How a call ends whose command has this row.
+-- How a call ends whose command has this row. Of one that answers by a function of the input, status, history and text
+-- are that function of the bytes that were left, where these are known.
 abbrev pub EndsBy : Row → Ends → Ends → Status → List Entry → Type 0
 EndsBy (says answer) old new status history = Says answer old new status history
-EndsBy (reads limit answer runs) old new status history = Reads limit answer runs old new status history
+EndsBy (reads limit answer making) old new status history = Reads limit (IsThe answer) making old new status history
+EndsBy (shares showing) old new status history = Reads scenario_limit (MayAnswer showing) by_threads old new status history
+
+-- The history of a call is that of a world to which the first one of a scenario was led, and the status says how that
+-- ended.
+pub record EndsRun (s : Scenario) (status : Status) (history : List Entry) : Type 0 where
+  pub led : IsLedTo s history
+  pub ends : EndsAs s.turns led.world status
 
 -- Completeness: an input that is a scenario is run, unless a read or a write failed or memory ran out; and where it was
 -- run, the status says how it ended.
-abbrev pub RunsScenario : Work → Option (List ℕ) → Status → Type 0
-RunsScenario Explains left status = Unit {0}
-RunsScenario (Generates children) left status = Unit {0}
-RunsScenario Checks left status = Unit {0}
-RunsScenario (Runs showing) left status =
+abbrev pub RunsScenario : Work → Option (List ℕ) → Status → List Entry → Type 0
+RunsScenario Explains left status history = Unit {0}
+RunsScenario (Generates children) left status history = Unit {0}
+RunsScenario Checks left status history = Unit {0}
+RunsScenario (Runs showing) left status history =
     IfSome left (λ input. IfSome (taken_of scenario_limit input) (λ text. IfOk (scenario_of text) (λ scenario. IsWhole status → EndsAs scenario.turns (run_of scenario) status)))
+RunsScenario (Shares showing workers) left status history =
+    IfSome left (λ input. IfSome (taken_of scenario_limit input) (λ text. IfOk (scenario_of text) (λ scenario. IsWhole status → EndsRun scenario status history)))
 
 -- The judgement of a history was given: it is legal from the first state of the scenario, with its controllers, or this
 -- entry is the first that is not.
@@ -125,6 +166,7 @@ abbrev pub JudgesHistory : Work → Ends → Ends → Status → List Entry → 
 JudgesHistory Explains old new status history = Unit {0}
 JudgesHistory (Generates children) old new status history = Unit {0}
 JudgesHistory (Runs showing) old new status history = Unit {0}
+JudgesHistory (Shares showing workers) old new status history = Unit {0}
 JudgesHistory Checks old new status history =
     IfSome old.left (λ input. IfSome (taken_of checked_limit input) (λ text. IfOk (checked_of text) (λ read. IsWhole status → IsJudged read.0 read.1 old new status history)))
 
@@ -133,5 +175,5 @@ pub record EndsWith (work : Work) (old new : Ends) (code : ℕ) (history : List 
   pub status : Status
   pub code_is : code ≡ number status
   pub ends : EndsBy (row_of work) old new status history
-  pub runs_scenario : RunsScenario work old.left status
+  pub runs_scenario : RunsScenario work old.left status history
   pub judges_history : JudgesHistory work old new status history

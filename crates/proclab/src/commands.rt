@@ -132,13 +132,15 @@ pub enum Work {
     Explains,
     /// The run of the scenario of the input is made on one thread, and written.
     Runs { showing: Showing },
+    /// It is made on several threads, of which so many share the processor.
+    Shares { showing: Showing, workers: u32 },
     /// The history of the input is judged by the scenario above it.
     Checks,
     /// The scenario for so many children is written.
     Generates { children: u32 },
 }
 
-/// What is done for words that ask for this: words whose command is not built get the usage line.
+/// What is done for words that ask for this: words that ask for nothing get the usage line.
 #[tactic(auto, unfolding(crate::specs::Commands::work_of))]
 pub fn work_of(command: Option<Command>) -> Work
     ensures { result ≡ work_of command }
@@ -160,11 +162,29 @@ pub fn work_of(command: Option<Command>) -> Work
         ) => Work::Runs {
             showing: Showing::Quiet,
         },
+        Some(
+            Command::Run {
+                quiet: false,
+                workers: Some(workers),
+            },
+        ) => Work::Shares {
+            showing: Showing::Whole,
+            workers,
+        },
+        Some(
+            Command::Run {
+                quiet: true,
+                workers: Some(workers),
+            },
+        ) => Work::Shares {
+            showing: Showing::Quiet,
+            workers,
+        },
         Some(Command::Plain) => Work::Runs {
             showing: Showing::Stripped,
         },
         Some(Command::Check) => Work::Checks,
         Some(Command::Generate { children }) => Work::Generates { children },
-        _ => Work::Explains,
+        None => Work::Explains,
     }
 }

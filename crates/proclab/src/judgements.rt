@@ -1,12 +1,12 @@
 //! What the command `check` answers to an input.
 
-ghost use Rattle.std.specs.Prelude.{◌≡◌, ◌≤◌, length, false, None, Ok, IfOk, IfSome};
+ghost use Rattle.std.specs.Prelude.{◌≡◌, ◌≤◌, length, None, Ok, IfOk, IfSome};
 ghost use Rattle.pr_num.specs.Limits.{checked_limit};
 ghost use Rattle.pr_scen.specs.Scenarios.{IsWithinLimits};
 ghost use Rattle.proclab.specs.Answers.{check_of, first_illegal_of, judged, judgement_of, refused_for, said};
 ghost use Rattle.proclab.specs.Checks.{checked_of};
 ghost use Rattle.proclab.specs.Giving.{Responds};
-ghost use Rattle.proclab.specs.Histories.{RanOutEarly};
+ghost use Rattle.proclab.specs.Histories.{RanOutEarly, no_run};
 ghost use Rattle.proclab.specs.Statuses.{IsWhole};
 
 use crate::answers::{status_said, write_pieces};
@@ -92,7 +92,7 @@ fn judge<K: Sink>(alloc: Global, checked: Checked, sink: &mut K) -> Ending
     requires limits { IsWithinLimits checked.scenario }
     requires few { length checked.history.entries ≤ checked_limit }
     ensures { Responds (judgement_of (Ok (checked.scenario, checked.history.entries)))
-        (RanOutEarly false None result.history.entries (K.written sink.old) (K.written sink.new))
+        (RanOutEarly no_run None result.history.entries (K.written sink.old) (K.written sink.new))
         result.status result.history.entries
         (K.written sink.old) (K.written sink.new) (K.faults sink.old) (K.faults sink.new) }
 {
@@ -119,7 +119,7 @@ fn refuse_wrong<K: Sink>(alloc: Global, wrong: Wrong, sink: &mut K) -> Ending
 fn judge_text<K: Sink>(alloc: Global, text: &[u8], sink: &mut K) -> Ending
     requires { length text.now ≤ checked_limit }
     ensures { Responds (judgement_of (checked_of text.now))
-        (RanOutEarly false None result.history.entries (K.written sink.old) (K.written sink.new))
+        (RanOutEarly no_run None result.history.entries (K.written sink.old) (K.written sink.new))
         result.status result.history.entries
         (K.written sink.old) (K.written sink.new) (K.faults sink.old) (K.faults sink.new) }
 {
@@ -134,7 +134,7 @@ fn judge_text<K: Sink>(alloc: Global, text: &[u8], sink: &mut K) -> Ending
 pub fn judge_input<K: Sink>(alloc: Global, input: &Option<Bytes>, sink: &mut K) -> Ending
     requires { IfSome input.now (λ bytes. length bytes ≤ checked_limit) }
     ensures { Responds (check_of input.now)
-        (RanOutEarly false input.now result.history.entries (K.written sink.old) (K.written sink.new))
+        (RanOutEarly no_run input.now result.history.entries (K.written sink.old) (K.written sink.new))
         result.status result.history.entries
         (K.written sink.old) (K.written sink.new) (K.faults sink.old) (K.faults sink.new) }
 {

@@ -17,6 +17,7 @@ mod responses;
 mod running;
 mod runs;
 mod serving;
+mod sharing;
 
 use crate::outcomes::{Status, number};
 use crate::serving::serve;

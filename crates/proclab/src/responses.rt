@@ -1,5 +1,5 @@
 //! What the commands `run` and `plain` answer to an input.
-ghost use Rattle.std.specs.Prelude.{◌≡◌, ◌≤◌, length, true, Some, IfSome};
+ghost use Rattle.std.specs.Prelude.{◌≡◌, ◌≤◌, length, Some, IfSome};
 ghost use Rattle.pr_model.specs.UntracedSteps.{untraced_steps, untraced_trace};
 ghost use Rattle.pr_num.specs.Limits.{scenario_limit};
 ghost use Rattle.pr_output.specs.Output.{plain_run_text};
@@ -9,7 +9,7 @@ ghost use Rattle.pr_scen.specs.Reading.{scenario_of};
 ghost use Rattle.pr_scen.specs.Scenarios.{IsWithinLimits};
 ghost use Rattle.proclab.specs.Answers.{answer_of, answer_to, kind_name, ran, ran_so, refused_at, run_shown};
 ghost use Rattle.proclab.specs.Giving.{Responds};
-ghost use Rattle.proclab.specs.Histories.{RanOutEarly};
+ghost use Rattle.proclab.specs.Histories.{RanOutEarly, in_rounds};
 ghost use Rattle.proclab.specs.Made.{StoppedRun};
 
 use crate::answers::status_after;
@@ -89,7 +89,7 @@ fn show_run<K: Sink>(
 }
 
 /// Shows a run that ended so.
-fn report<K: Sink>(
+pub fn report<K: Sink>(
     alloc: Global,
     showing: Showing,
     ran: Ran,
@@ -132,7 +132,7 @@ fn run_scenario<K: Sink>(
 fn respond_to_text<K: Sink>(alloc: Global, showing: Showing, text: &[u8], sink: &mut K) -> Ending
     requires { length text.now ≤ scenario_limit }
     ensures { Responds (answer_of showing (scenario_of text.now))
-        (RanOutEarly true (Some text.now) result.history.entries (K.written sink.old) (K.written sink.new))
+        (RanOutEarly in_rounds (Some text.now) result.history.entries (K.written sink.old) (K.written sink.new))
         result.status result.history.entries
         (K.written sink.old) (K.written sink.new) (K.faults sink.old) (K.faults sink.new) }
 {
@@ -160,7 +160,7 @@ pub fn respond<K: Sink>(
 ) -> Ending
     requires { IfSome input.now (λ bytes. length bytes ≤ scenario_limit) }
     ensures { Responds (answer_to showing input.now)
-        (RanOutEarly true input.now result.history.entries (K.written sink.old) (K.written sink.new))
+        (RanOutEarly in_rounds input.now result.history.entries (K.written sink.old) (K.written sink.new))
         result.status result.history.entries
         (K.written sink.old) (K.written sink.new) (K.faults sink.old) (K.faults sink.new) }
 {

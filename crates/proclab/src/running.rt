@@ -1,9 +1,10 @@
-//! Commands from a source to a sink. Nothing here waits.
-ghost use Rattle.std.specs.Prelude.{◌≡◌, true, false};
+//! Commands from a source to a sink.
+ghost use Rattle.std.specs.Prelude.{◌≡◌, ◌≤◌, true};
 ghost use Rattle.pr_num.specs.Limits.{checked_limit, scenario_limit};
-ghost use Rattle.proclab.specs.Answers.{answer_to, check_of};
-ghost use Rattle.proclab.specs.Histories.{HistoryIsKept};
-ghost use Rattle.proclab.specs.Rows.{Ends, EndsBy, JudgesHistory, Reads, RunsScenario, Says, reads_nothing, row_of};
+ghost use Rattle.proclab.specs.Answers.{MayAnswer, answer_to, check_of};
+ghost use Rattle.proclab.specs.Commands.{HasWorkers};
+ghost use Rattle.proclab.specs.Histories.{HistoryIsKept, by_threads, in_rounds, no_run};
+ghost use Rattle.proclab.specs.Rows.{Ends, EndsBy, IsThe, JudgesHistory, Reads, RunsScenario, Says, making_of, reads_nothing, row_of};
 
 use crate::answers::{explain, generate};
 use crate::commands::{Showing, Work};
@@ -11,9 +12,12 @@ use crate::inputs::{Unread, take_input};
 use crate::judgements::judge_input;
 use crate::outcomes::{Ending, Status, without_history};
 use crate::responses::respond;
-use pr_io::{Sink, Source};
+use crate::sharing::share;
+use pr_io::{Gate, Sink, Source};
 use pr_num::limits::{CHECKED_LIMIT, SCENARIO_LIMIT};
 use std::alloc::Global;
+use std::sync::Wait;
+use std::thread::Threads;
 
 /// The status of an input that was not read.
 fn status_of(unread: Unread) -> Status
@@ -29,7 +33,7 @@ fn status_of(unread: Unread) -> Status
 /// Reads a scenario, makes its run on one thread, and writes what is to be shown of it; or writes why the input is
 /// refused.
 fn run<S: Source, K: Sink>(alloc: Global, showing: Showing, source: &mut S, sink: &mut K) -> Ending
-    ensures { Reads scenario_limit (answer_to showing) true
+    ensures { Reads scenario_limit (IsThe (answer_to showing)) in_rounds
         (record { left = S.left source.old; read_faults = S.faults source.old; written = K.written sink.old; write_faults = K.faults sink.old })
         (record { left = S.left source.new; read_faults = S.faults source.new; written = K.written sink.new; write_faults = K.faults sink.new })
         result.status result.history.entries }
@@ -40,9 +44,33 @@ fn run<S: Source, K: Sink>(alloc: Global, showing: Showing, source: &mut S, sink
     }
 }
 
+/// Reads a scenario, makes its run on threads, of which so many share the processor, and writes what is to be shown of
+/// it; or writes why the input is refused.
+fn run_on_threads<R: Threads + Wait + Sync, S: Source, K: Sink, G: Gate + Sync>(
+    rt: &R,
+    alloc: Global,
+    showing: Showing,
+    workers: u32,
+    source: &mut S,
+    sink: &mut K,
+    gate: &G,
+) -> Ending
+    requires some { 1 ≤ workers }
+    requires most { workers ≤ 16 }
+    ensures { Reads scenario_limit (MayAnswer showing) by_threads
+        (record { left = S.left source.old; read_faults = S.faults source.old; written = K.written sink.old; write_faults = K.faults sink.old })
+        (record { left = S.left source.new; read_faults = S.faults source.new; written = K.written sink.new; write_faults = K.faults sink.new })
+        result.status result.history.entries }
+{
+    match take_input(alloc, source, SCENARIO_LIMIT) {
+        Ok(input) => share(rt, alloc, showing, workers, &input, sink, gate),
+        Err(unread) => without_history(alloc, status_of(unread)),
+    }
+}
+
 /// Reads a scenario and a history, and says whether the history is legal, or why the input is refused.
 fn check<S: Source, K: Sink>(alloc: Global, source: &mut S, sink: &mut K) -> Ending
-    ensures { Reads checked_limit check_of false
+    ensures { Reads checked_limit (IsThe check_of) no_run
         (record { left = S.left source.old; read_faults = S.faults source.old; written = K.written sink.old; write_faults = K.faults sink.old })
         (record { left = S.left source.new; read_faults = S.faults source.new; written = K.written sink.new; write_faults = K.faults sink.new })
         result.status result.history.entries }
@@ -53,29 +81,35 @@ fn check<S: Source, K: Sink>(alloc: Global, source: &mut S, sink: &mut K) -> End
     }
 }
 
-/// Does a piece of work: how it ends is said by its row.
-pub fn carry_out<S: Source, K: Sink>(
+/// Does a piece of work: how it ends is said by its row. Only a run on several threads waits, for these.
+pub fn carry_out<R: Threads + Wait + Sync, S: Source, K: Sink, G: Gate + Sync>(
+    rt: &R,
     alloc: Global,
     work: Work,
     source: &mut S,
     sink: &mut K,
+    gate: &G,
 ) -> Ending
+    requires { HasWorkers work }
     ensures ends { EndsBy (row_of work)
         (record { left = S.left source.old; read_faults = S.faults source.old; written = K.written sink.old; write_faults = K.faults sink.old })
         (record { left = S.left source.new; read_faults = S.faults source.new; written = K.written sink.new; write_faults = K.faults sink.new })
         result.status result.history.entries }
     ensures unread { reads_nothing work ≡ true → source.new ≡ source.old }
-    ensures runs_scenario { RunsScenario work (S.left source.old) result.status }
+    ensures runs_scenario { RunsScenario work (S.left source.old) result.status result.history.entries }
     ensures judges_history { JudgesHistory work
         (record { left = S.left source.old; read_faults = S.faults source.old; written = K.written sink.old; write_faults = K.faults sink.old })
         (record { left = S.left source.new; read_faults = S.faults source.new; written = K.written sink.new; write_faults = K.faults sink.new })
         result.status result.history.entries }
-    ensures kept { HistoryIsKept (S.left source.old) (S.left source.new) result.history.entries }
+    ensures kept { HistoryIsKept (making_of work) (S.left source.old) (S.left source.new) result.history.entries }
 {
     match work {
         Work::Explains => explain(alloc, sink),
         Work::Generates { children } => generate(alloc, children, sink),
         Work::Runs { showing } => run(alloc, showing, source, sink),
+        Work::Shares { showing, workers } => {
+            run_on_threads(rt, alloc, showing, workers, source, sink, gate)
+        }
         Work::Checks => check(alloc, source, sink),
     }
 }

@@ -45,7 +45,7 @@ fn controllers_of(alloc: Global, plans: Vec<Plan>) -> Result<Vec<Controller>, No
 
 /// The world of a scenario before its first move.
 #[tactic(auto, unfolding(pr_run_laws::specs::ScenarioRuns::first_world), using(crate::proofs::RunLemmas::runs))]
-fn first_world(alloc: Global, scenario: Scenario) -> Result<World<Kern>, NoMemory>
+pub fn first_world(alloc: Global, scenario: Scenario) -> Result<World<Kern>, NoMemory>
     requires limits { IsWithinLimits scenario }
     ensures { IfOk result (λ world. seen kern_view world ≡ first_world scenario) }
 {

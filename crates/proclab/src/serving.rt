@@ -1,7 +1,7 @@
 ghost use Rattle.std.specs.Prelude.{◌≡◌, map, string_bytes, true};
 ghost use Rattle.proclab.specs.Commands.{command_of, work_of};
 ghost use Rattle.proclab.specs.Histories.{HistoryIsKept};
-ghost use Rattle.proclab.specs.Rows.{Ends, EndsWith, reads_nothing};
+ghost use Rattle.proclab.specs.Rows.{Ends, EndsWith, making_of, reads_nothing};
 ghost use Rattle.proclab.specs.Statuses.{number};
 
 use crate::commands::{command_of, work_of};
@@ -12,11 +12,12 @@ use std::alloc::Global;
 use std::sync::Wait;
 use std::thread::Threads;
 
-/// Does what the words after the program's name ask for, from `source` to `sink`. `gate` is for runs on several
-/// threads, which are not built: nothing passes it.
+/// Does what the words after the program's name ask for, from `source` to `sink`. The workers of a run on several threads
+/// pass `gate` before each of their turns.
 ///
-/// The words `run`, `run -q` and `plain` are built, which make the run of a scenario on one thread; `check`, which says
-/// whether a history is legal; and `gen N`, which writes a scenario, reads nothing and takes no memory. Status 0, 3 and
+/// `run`, `run -q` and `plain` make the run of a scenario on one thread; `run -j N`, with or without `-q`, makes it on
+/// several, waits for them, and ends as a run does in which the actors moved in some order; `check` says whether a
+/// history is legal; `gen N` writes a scenario, reads nothing and takes no memory. Status 0, 3 and
 /// 4 of a run: it was made and written; no actor could move and all controllers had finished, or the history had all
 /// its entries, or no actor could move and a controller had not finished. Status 0 and 8 of `check`: all entries are
 /// legal, or one is not. Status 2: the input was refused. Status 5: a read failed. Status 6: a write failed. Status 7:
@@ -40,11 +41,11 @@ pub fn serve<R: Threads + Wait + Sync, S: Source, K: Sink, G: Gate + Sync>(
     // The usage line and a scenario that is written leave the source alone.
     ensures unread { reads_nothing (work_of (command_of (map string_bytes words.now))) ≡ true → source.new ≡ source.old }
 
-    // However the call ends: a legal history that follows the protocol, and in which, where it is passive, tracing is
+    // However the call ends: no history, or of a run a legal one that follows the protocol, and in which, where it is passive, tracing is
     // transparent.
-    ensures kept { HistoryIsKept (S.left source.old) (S.left source.new) result.history.entries }
+    ensures kept { HistoryIsKept (making_of (work_of (command_of (map string_bytes words.now)))) (S.left source.old) (S.left source.new) result.history.entries }
 {
-    outcome_of(carry_out(alloc, work_of(command_of(words)), source, sink))
+    outcome_of(carry_out(rt, alloc, work_of(command_of(words)), source, sink, gate))
 }
 
 // The outcome of a call that ended so.

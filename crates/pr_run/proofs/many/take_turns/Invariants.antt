@@ -1,0 +1,9 @@
+use Rattle.pr_run.specs.ManyRuns.{HasWorked}
+use Rattle.pr_run.proofs.many.take_turns.Given as goal
+
+abbrev pub invariant-loop : goal.invariant-loop
+invariant-loop g l = record {
+  can : (goal.iterator-loop g).can_next l.iterator';
+  finite : (goal.iterator-loop g).is_finite l.iterator';
+  seat : HasWorked l.worker.processors l.lock l.worker.number l.seat;
+}

@@ -1,0 +1,209 @@
+//! Runs of a world on several threads.
+ghost use Rattle.std.specs.Prelude.{◌≡◌, ◌+◌, ◌≤◌, ◌<◌, ◌^◌, ◌++◌, [], Some, All, length, flat_map, vec_len, IfOk, IsOkUnless};
+ghost use Rattle.pr_lock.specs.Seats.{IsOutside, first_of, own_of, shares_of};
+ghost use Rattle.pr_run.specs.ManyRuns.{AtPlaces, HasWorked, IsMadeBy};
+ghost use Rattle.pr_world.specs.Runs.{CameFrom};
+ghost use Rattle.pr_world.specs.Worlds.{ended_as, seen};
+
+use crate::shared_worlds::SharedWorld;
+use crate::workers::{Progress, Worker};
+use pr_api::Kernel;
+use pr_io::Gate;
+use pr_lock::{NewNo, Seat, Shared};
+use pr_num::NoMemory;
+use pr_world::{End, World};
+use std::alloc::Global;
+use std::sync::Wait;
+use std::thread;
+use std::thread::Threads;
+
+/// One turn of a worker: it takes the world, makes its move, and gives the world back.
+fn take_turn<R: Wait, Q: Kernel + Send>(
+    rt: &R,
+    lock: &Shared<SharedWorld<Q>>,
+    seat: &mut Seat<SharedWorld<Q>>,
+    worker: Worker,
+    last: &mut Option<(u32, u32)>,
+) -> Progress
+    requires seat { HasWorked worker.processors lock.now worker.number seat.old }
+    requires number { worker.number < worker.processors + length (first_of lock.now).world.controllers }
+    ensures { HasWorked worker.processors lock.now worker.number seat.new }
+{
+    let mut shared = lock.enter(rt, seat);
+    let progress = shared.take_turn(worker, last);
+    lock.leave(seat, shared);
+    progress
+}
+
+/// All turns of a worker. It passes the gate before each, outside the lock.
+fn take_turns<R: Wait, Q: Kernel + Send, G: Gate>(
+    rt: &R,
+    lock: &Shared<SharedWorld<Q>>,
+    seat: &mut Seat<SharedWorld<Q>>,
+    worker: Worker,
+    gate: &G,
+)
+    requires seat { HasWorked worker.processors lock.now worker.number seat.old }
+    requires number { worker.number < worker.processors + length (first_of lock.now).world.controllers }
+    ensures { HasWorked worker.processors lock.now worker.number seat.new }
+{
+    let mut last = None;
+    let mut turn = 0u64;
+    for _ in rt.forever() {
+        gate.pass(worker.number, turn);
+        turn = turn.saturating_add(1);
+        match take_turn(rt, lock, seat, worker, &mut last) {
+            Progress::Moved => {}
+            Progress::Idle => thread::yield_now(),
+            Progress::Done => return,
+        }
+    }
+    unreachable!()
+}
+
+/// A seat for each worker, of which there are so many.
+fn seats_of<Q: Kernel + Send>(
+    alloc: Global,
+    lock: &Shared<SharedWorld<Q>>,
+    seat: &mut Seat<SharedWorld<Q>>,
+    workers: u32,
+) -> Result<Vec<Seat<SharedWorld<Q>>>, NoMemory>
+    requires lock { IsOutside seat.old lock.now }
+    requires shares { shares_of seat.old ≡ workers + 1 }
+    requires own { own_of seat.old ≡ [] }
+    ensures seat { IfOk result (λ seats. IsOutside seat.new lock.now × (shares_of seat.new ≡ 1) × (own_of seat.new ≡ [])) }
+    ensures workers { IfOk result (λ seats. All (λ seat. IsOutside seat lock.now × (shares_of seat ≡ 1) × (own_of seat ≡ [])) seats.items × (vec_len seats ≡ workers)) }
+{
+    let mut seats = Vec::with_capacity(alloc, workers as usize)?;
+    for _ in 0..workers {
+        seats.push(lock.split(seat))?;
+    }
+    Ok(seats)
+}
+
+/// All workers at once, each in a thread of its own.
+fn work<R: Threads + Wait + Sync, Q: Kernel + Send, G: Gate + Sync>(
+    rt: &R,
+    lock: &Shared<SharedWorld<Q>>,
+    seats: &mut [Seat<SharedWorld<Q>>],
+    processors: u32,
+    gate: &G,
+)
+    requires few { length seats.old < 2 ^ 32 }
+    requires number { length seats.old ≤ processors + length (first_of lock.now).world.controllers }
+    requires seats { AtPlaces (HasWorked processors lock.now) seats.old }
+    ensures seats { AtPlaces (HasWorked processors lock.now) seats.new }
+{
+    let threads = seats.len().max(1);
+    thread::for_each_mut(
+        rt,
+        seats,
+        threads,
+        &|number: usize, seat: &mut Seat<SharedWorld<Q>>|
+            requires few { number < 2 ^ 32 }
+            requires number { number < processors + length (first_of lock.now).world.controllers }
+            requires seat { HasWorked processors lock.now number seat.old }
+            ensures { HasWorked processors lock.entry.now number seat.new }
+        {
+            let worker = Worker {
+                processors,
+                number: number as u32,
+            };
+            take_turns(rt, lock, seat, worker, gate)
+        },
+    );
+}
+
+/// All seats in one.
+fn gather<Q: Kernel + Send>(
+    lock: &Shared<SharedWorld<Q>>,
+    seat: &mut Seat<SharedWorld<Q>>,
+    seats: Vec<Seat<SharedWorld<Q>>>,
+)
+    requires lock { IsOutside seat.old lock.now }
+    requires seats { All (λ seat. IsOutside seat lock.now × (shares_of seat ≡ 1)) seats.items }
+    ensures lock { IsOutside seat.new lock.now }
+    ensures shares { shares_of seat.new ≡ shares_of seat.old + vec_len seats }
+    ensures own { own_of seat.new ≡ own_of seat.old ++ flat_map (λ seat. own_of seat) seats.items }
+{
+    for other in seats {
+        lock.join(seat, other);
+    }
+}
+
+/// How a world ended that its workers left because it had ended. It asks until it has, which is once.
+fn end<R: Wait, Q: Kernel>(rt: &R, world: &mut World<Q>) -> Result<End, NoMemory>
+    ensures value { IfOk result (λ end. ended_as (seen Q.view world.old) ≡ Some end) }
+    ensures same { world.new ≡ world.old }
+{
+    for _ in rt.forever() {
+        if let Some(end) = world.ended()? {
+            return Ok(end);
+        }
+    }
+    unreachable!()
+}
+
+/// A kernel has no more entries than places. Does nothing.
+fn keep_within<Q: Kernel>(kernel: &Q)
+    ensures { length (Q.view kernel.now).history ≤ (Q.view kernel.now).places }
+{
+    let entries = kernel.entries();
+    let places = kernel.places();
+    prove!(entries <= places);
+}
+
+/// The world that workers left, and how its run ended.
+fn ended<R: Wait, Q: Kernel>(rt: &R, shared: SharedWorld<Q>) -> (World<Q>, Result<End, NoMemory>)
+    ensures world { result.0 ≡ shared.world }
+    ensures within { length (Q.view result.0.kernel).history ≤ (Q.view result.0.kernel).places }
+    ensures end { IfOk result.1 (λ end. ended_as (seen Q.view result.0) ≡ Some end) }
+{
+    let SharedWorld { mut world, refusal } = shared;
+    let end = match refusal {
+        Some(refusal) => Err(refusal),
+        None => end(rt, &mut world),
+    };
+    keep_within(world.kernel());
+    (world, end)
+}
+
+/// Makes the run of a world by workers, each in a thread of its own: so many that share the processor and move lwps and
+/// the clock, and one for each controller. They take the world in turn under a lock, in any order; its schedule is not
+/// used. It ends where the world has ended, and says how; where memory runs out on the way, the world is handed back as it
+/// stands. The refusal of a lock, or of its seats, comes before any move. It waits for its workers: what is said here
+/// holds if it returns.
+pub fn run_many<R: Threads + Wait + Sync, Q: Kernel + Send, G: Gate + Sync>(
+    rt: &R,
+    alloc: Global,
+    world: World<Q>,
+    workers: u32,
+    gate: &G,
+) -> Result<(World<Q>, Result<End, NoMemory>), NewNo>
+    requires some { 1 ≤ workers }
+    requires most { workers ≤ 16 }
+    requires empty { (Q.view world.kernel).history ≡ [] }
+    // Each controller made its next calls, and got replies of their shapes; of a machine that is told the history is legal
+    // and follows the protocol, and its state is the one after it.
+    ensures came { IfOk result (λ made. CameFrom (seen Q.view world) (seen Q.view made.0)) }
+
+    // The entries of the history are those that the workers made, each once.
+    ensures made { IfOk result (λ made. IsMadeBy workers (length world.controllers) (Q.view made.0.kernel).history) }
+
+    ensures within { IfOk result (λ made. length (Q.view made.0.kernel).history ≤ (Q.view made.0.kernel).places) }
+    ensures end { IfOk result (λ made. IfOk made.1 (λ end. ended_as (seen Q.view made.0) ≡ Some end)) }
+
+    // The lock is refused for memory alone.
+    ensures refused { IsOkUnless result NewNo.NoMemory }
+{
+    let count = workers + world.controllers();
+    let shared = SharedWorld {
+        world,
+        refusal: None,
+    };
+    let (lock, mut seat) = Shared::new(alloc, shared, count + 1)?;
+    let mut seats = seats_of(alloc, &lock, &mut seat, count)?;
+    work(rt, &lock, &mut seats, workers, gate);
+    gather(&lock, &mut seat, seats);
+    Ok(ended(rt, lock.close(seat)))
+}

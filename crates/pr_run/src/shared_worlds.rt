@@ -1,0 +1,58 @@
+//! What lies under the lock of a run on several threads.
+ghost use Rattle.std.specs.Prelude.{◌≡◌, ◌+◌, ◌<◌, None, IsSome, length};
+ghost use Rattle.pr_run.specs.ManyRuns.{IsTurnOf, Makes};
+ghost use Rattle.pr_run.specs.declared.workers.Progress.TheVariants.{Done};
+ghost use Rattle.pr_world.specs.Runs.{CameFrom};
+ghost use Rattle.pr_world.specs.Worlds.{WorldState, seen};
+
+use crate::workers::{Progress, Worker};
+use pr_api::Kernel;
+use pr_lock::Logged;
+use pr_model::Entry;
+use pr_num::NoMemory;
+use pr_world::World;
+
+/// A world that workers take in turn, and the mark of a worker that was refused memory: each worker that finds it ends.
+#[derive(Drop)]
+pub struct SharedWorld<Q> {
+    pub world: World<Q>,
+    pub refusal: Option<NoMemory>,
+}
+
+impl<Q: Kernel> Logged for SharedWorld<Q> {
+    ghost use Rattle.pr_world.specs.Runs.{CameFrom};
+    ghost use Rattle.pr_world.specs.Worlds.{seen};
+
+    type Item = Entry;
+
+    ghost entries = { λ shared. (Q.view shared.world.kernel).history };
+
+    ghost comes = { λ shared first. CameFrom (seen Q.view first.world) (seen Q.view shared.world) };
+
+    fn count(&self) -> u64 {
+        u64::from(self.world.kernel().entries())
+    }
+}
+
+impl<Q: Kernel> SharedWorld<Q> {
+    /// One turn of a worker, with at most one move. Where it is refused memory, it leaves the mark.
+    pub fn take_turn(&mut self, worker: Worker, last: &mut Option<(u32, u32)>) -> Progress
+        requires { worker.number < worker.processors + length self.old.world.controllers }
+        ensures turn { IsTurnOf worker.processors worker.number (seen Q.view self.old.world) (seen Q.view self.new.world) }
+        ensures came { (first : WorldState) → CameFrom first (seen Q.view self.old.world) → CameFrom first (seen Q.view self.new.world) }
+        ensures made { self.new.refusal ≡ None → Makes worker.processors worker.number last.old (seen Q.view self.old.world) (seen Q.view self.new.world) result }
+        ensures refused { IsSome self.new.refusal → (result ≡ Done) × (self.new.world ≡ self.old.world) }
+        ensures marked { IsSome self.old.refusal → self.new ≡ self.old }
+    {
+        if self.refusal.is_some() {
+            return Progress::Done;
+        }
+        match worker.make_turn(&mut self.world, last) {
+            Ok(progress) => progress,
+            Err(refusal) => {
+                self.refusal = Some(refusal);
+                Progress::Done
+            }
+        }
+    }
+}

@@ -1,0 +1,123 @@
+//! What the workers of a run on several threads do in a world.
+ghost use Rattle.std.specs.Prelude.{◌≡◌, ◌+◌, ◌<◌, ◌≤◌, length, IfOk, OnErr};
+ghost use Rattle.pr_run.specs.ManyRuns.{Makes, is_done, next_for, next_of_controller, next_on_processor};
+ghost use Rattle.pr_world.specs.Worlds.{seen};
+
+use pr_api::Kernel;
+use pr_model::Actor;
+use pr_num::NoMemory;
+use pr_world::World;
+
+/// A worker, by its number: those below `processors` share the processor, and behind them each controller has its own.
+#[derive(Clone, Copy)]
+pub struct Worker {
+    pub processors: u32,
+    pub number: u32,
+}
+
+/// What came of a worker's turn.
+#[derive(Clone, Copy, Debug, PartialEq, Eq)]
+pub enum Progress {
+    /// An actor moved.
+    Moved,
+    /// None of those that it moves can move now.
+    Idle,
+    /// The worker has nothing more to do.
+    Done,
+}
+
+/// Who a worker of the processor moves next: the first lwp after the one that it moved last, then the clock, and then
+/// the first lwp of all.
+#[tactic(auto, unfolding(crate::specs::ManyRuns::next_on_processor))]
+fn next_on_processor<Q: Kernel>(
+    world: &mut World<Q>,
+    last: Option<(u32, u32)>,
+) -> Result<Option<Actor>, NoMemory>
+    ensures value { IfOk result (λ next. next ≡ next_on_processor last (seen Q.view world.old)) }
+    ensures same { world.new ≡ world.old }
+{
+    match world.from_lwp(last)? {
+        Some(actor) => Ok(Some(actor)),
+        None => world.from_lwp(None),
+    }
+}
+
+/// The controller of a number, if it can move.
+#[tactic(auto, unfolding(crate::specs::ManyRuns::next_of_controller))]
+fn next_of_controller<Q: Kernel>(
+    world: &mut World<Q>,
+    controller: u32,
+) -> Result<Option<Actor>, NoMemory>
+    ensures value { IfOk result (λ next. next ≡ next_of_controller controller (seen Q.view world.old)) }
+    ensures same { world.new ≡ world.old }
+{
+    let actor = Actor::Controller(controller);
+    if world.movable(actor)? {
+        Ok(Some(actor))
+    } else {
+        Ok(None)
+    }
+}
+
+/// The lwp that an actor is.
+fn lwp_of(actor: Actor) -> Option<(u32, u32)> {
+    match actor {
+        Actor::Lwp(pid, lwp) => Some((pid, lwp)),
+        Actor::Controller(_) | Actor::Clock => None,
+    }
+}
+
+impl Worker {
+    /// Who it moves next, if anybody.
+    #[tactic(auto, unfolding(crate::specs::ManyRuns::next_for))]
+    fn next<Q: Kernel>(
+        self,
+        world: &mut World<Q>,
+        last: Option<(u32, u32)>,
+    ) -> Result<Option<Actor>, NoMemory>
+        ensures value { IfOk result (λ next. next ≡ next_for self.processors self.number last (seen Q.view world.old)) }
+        ensures same { world.new ≡ world.old }
+    {
+        if self.number < self.processors {
+            next_on_processor(world, last)
+        } else {
+            next_of_controller(world, self.number - self.processors)
+        }
+    }
+
+    /// Whether it has nothing more to do: the world has ended, or its controller has finished.
+    fn is_done<Q: Kernel>(self, world: &mut World<Q>) -> Result<bool, NoMemory>
+        requires { self.number < self.processors + length world.old.controllers }
+        ensures value { IfOk result (λ done. done ≡ is_done self.processors self.number (seen Q.view world.old)) }
+        ensures same { world.new ≡ world.old }
+    {
+        if world.ended()?.is_some() {
+            return Ok(true);
+        }
+        if self.number < self.processors {
+            return Ok(false);
+        }
+        world.finished(self.number - self.processors)
+    }
+
+    /// One turn, with at most one move. Where memory runs out, the world is as it was.
+    pub fn make_turn<Q: Kernel>(
+        self,
+        world: &mut World<Q>,
+        last: &mut Option<(u32, u32)>,
+    ) -> Result<Progress, NoMemory>
+        requires { self.number < self.processors + length world.old.controllers }
+        ensures ok { IfOk result (λ progress. Makes self.processors self.number last.old (seen Q.view world.old) (seen Q.view world.new) progress) }
+        ensures err { OnErr result (world.new ≡ world.old) }
+    {
+        if self.is_done(world)? {
+            return Ok(Progress::Done);
+        }
+        let Some(actor) = self.next(world, *last)? else {
+            return Ok(Progress::Idle);
+        };
+        world.turn(actor)?;
+        *last = lwp_of(actor);
+        Ok(Progress::Moved)
+    }
+}
