@@ -4,5 +4,8 @@ pub mod FedLemmas
 pub mod GivenLemmas
 pub mod HeldLemmas
 pub mod OpeningLemmas
+pub mod OpensLemmas
+pub mod OwnLemmas
+pub mod ReleaseLemmas
 pub mod SequenceLemmas
 pub mod StepLemmas

@@ -82,4 +82,5 @@ pub record Closes (handle : ℕ) (xs : List Exchange) : Type 0 where
 -- Each handle that an open gave is closed later.
 pub record ClosesAll (xs : List Exchange) : Type 0 where
   pub each : (before after : List Exchange) (pid id handle : ℕ) (file : File) (mode : Mode)
-      → xs ≡ before ++ record { call = call.Open pid id file mode; reply = reply.Handle handle } ∷ after → Closes handle after
+      → xs ≡ before ++ record { call = call.Open pid id file mode; reply = reply.Handle handle } ∷ after
+      → Closes handle after

@@ -48,7 +48,8 @@ calls_with o pid control lstatus until =
 
 -- the same, with the handles that the first and the third reply gave, and the clock that the seventh gave
 unfoldable pub opening_calls : Options → ℕ → List Exchange → List Call
-opening_calls o pid xs = calls_with o pid (handle_in (reply_at xs 0)) (handle_in (reply_at xs 2)) (until_in (reply_at xs 6))
+opening_calls o pid xs =
+    calls_with o pid (handle_in (reply_at xs 0)) (handle_in (reply_at xs 2)) (until_in (reply_at xs 6))
 
 -- A whole opening, of which no call was refused.
 pub record IsWholeOpening (o : Options) (pid : ℕ) (xs : List Exchange) : Type 0 where

@@ -1,2 +1,3 @@
 pub mod Exchanges
 pub mod Given
+pub mod Handles

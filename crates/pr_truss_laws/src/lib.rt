@@ -1,7 +1,9 @@
-//! Laws of truss: what it has done when it has finished. Each public function carries one law in its contract, and does
-//! nothing.
+//! Laws of truss: what it has done when it has finished, and what it leaves. Each public function carries one law in
+//! its contract, and does nothing.
 #![tactic(auto)]
 
 mod given;
+mod handles;
 
 pub use given::{each_given_process_is_handled, each_handle_is_closed};
+pub use handles::{nothing_stays_open, what_is_closed_is_released};

@@ -1,0 +1,263 @@
+use Rattle.std.proofs.Common.{◌≡◌, ◌≢◌, ◌==◌, ◌+◌, ℕ, zero, suc, Bool, true, false, cond, nat_lt, nat_le, not, ◌||◌, None, Some, Option, List, [], ◌∷◌, length, refl, sym, subst, ap, ◌∙◌, inl, inr, ◌⊎◌}
+use Rattle.std.proofs.lemmas.Bool.{cases_Bool, eqb-true, eqb-false, eq-eqb, ne_eqb}
+use Rattle.std.proofs.lemmas.Option.{same_Some, none-some}
+use Rattle.std.specs.List.{find, list_all, slice_get, slice_set, position}
+use Rattle.std.specs.Option.{is_none, option_map}
+use Rattle.pr_lawful.proofs.HandleLemmas.{free-at, handle-at}
+use Rattle.pr_model.specs.Calls.{Answer, answer_to, answered, interrupted_answer, is_interrupted, is_open_by, is_polled_ready, close_answer, close_held, interrupt_answer, kill_answer, open_answer, open_unless, opened, poll_answer, ready_answer, refused, spawn_answer, spawn_found, spawn_unless, until_answer, waited}
+use Rattle.pr_model.specs.Handles.{handle_of, open_refusal, own, with_closed, with_opened}
+use Rattle.pr_model.specs.State.{Places, TracedState}
+use Rattle.pr_model.specs.declared.calls.Call.{Call}
+use Rattle.pr_model.specs.declared.calls.Call.TheVariants as call
+use Rattle.pr_model.specs.declared.calls.File.{File}
+use Rattle.pr_model.specs.declared.calls.Mode.{Mode}
+use Rattle.pr_model.specs.declared.calls.Reply.{Reply}
+use Rattle.pr_model.specs.declared.calls.Reply.TheVariants as reply
+use Rattle.pr_model.specs.declared.handles.Held.{Held}
+use Rattle.pr_model.specs.Spawning.{spawn_refusal}
+use Rattle.pr_num.specs.Limits.{controller_limit, handle_limit}
+use Rattle.pr_num.specs.Programs.{Program}
+use Rattle.pr_num.specs.Sets.{with_number}
+use Rattle.pr_num.specs.declared.errnos.Errno.{Errno}
+use Rattle.pr_num.specs.declared.errnos.Errno.TheVariants.{Badf, Inval, Intr}
+
+-- What a call does to the open handles.
+
+-- ---- places
+
+get-set : {X : Type 0} (xs : List X) (i : ℕ) (x y : X) → slice_get xs i ≡ Some y → slice_get (slice_set xs i x) i ≡ Some x
+get-set [] i x y at = absurd (none-some y at)
+get-set (z ∷ xs) zero x y at = refl
+get-set (z ∷ xs) (suc i) x y at = get-set xs i x y at
+
+get-set_other : {X : Type 0} (xs : List X) (i j : ℕ) (x : X) → i ≢ j → slice_get (slice_set xs i x) j ≡ slice_get xs j
+get-set_other [] i j x other = refl
+get-set_other (z ∷ xs) zero zero x other = absurd (other refl)
+get-set_other (z ∷ xs) zero (suc j) x other = refl
+get-set_other (z ∷ xs) (suc i) zero x other = refl
+get-set_other (z ∷ xs) (suc i) (suc j) x other = get-set_other xs i j x (λ same. other (ap suc same))
+
+-- ---- one handle more, and one less
+
+-- the handles of a controller, where another one stands at a place
+pub own-other : (opens : Places) (k place number : ℕ) (o : Option Held) → place ≢ number → handle_of (slice_set opens place o) k number ≡ handle_of opens k number
+unfolding handle_of
+own-other opens k place number o other = ap (own k) (get-set_other opens place number o other)
+
+pub own-set : (opens : Places) (k place : ℕ) (o x : Option Held) → slice_get opens place ≡ Some x → handle_of (slice_set opens place o) k place ≡ own k (Some o)
+unfolding handle_of
+own-set opens k place o x at = ap (own k) (get-set opens place o x at)
+
+pub own-free : (opens : Places) (k place : ℕ) → slice_get opens place ≡ Some None → handle_of opens k place ≡ None
+unfolding handle_of
+own-free opens k place at = ap (own k) at
+
+pub own-mine : (k : ℕ) (h : Held) → h.controller ≡ k → own k (Some (Some h)) ≡ Some h
+own-mine k h is = rw (eq-eqb h.controller k is) refl
+
+own-foreign : (k : ℕ) (h : Held) → h.controller ≢ k → own k (Some (Some h)) ≡ None
+own-foreign k h other = rw (ne_eqb h.controller k other) refl
+
+own-controller : (k : ℕ) (o : Option (Option Held)) (h : Held) → own k o ≡ Some h → h.controller ≡ k
+own-controller k None h is = absurd (none-some h is)
+own-controller k (Some None) h is = absurd (none-some h is)
+own-controller k (Some (Some g)) h is = by (g.controller == k) refl is
+  where
+    by : (b : Bool) → (g.controller == k) ≡ b → cond b (Some g) None ≡ Some h → h.controller ≡ k
+    by true its e = ap (λ (x : Held). x.controller) (sym (same_Some g h e)) ∙ eqb-true g.controller k its
+    by false its e = absurd (none-some h e)
+
+pub handle-controller : (opens : Places) (k number : ℕ) (h : Held) → handle_of opens k number ≡ Some h → h.controller ≡ k
+unfolding handle_of
+handle-controller opens k number h is = own-controller k (slice_get opens number) h is
+
+-- ---- what a call leaves
+
+-- An open that was granted, at a place that was free.
+pub record Opens (s : TracedState) (by : ℕ) (h : Held) (r : Reply) (opens : Places) : Type 0 where
+  pub place : ℕ
+  pub reply : r ≡ reply.Handle place
+  pub free : slice_get s.opens place ≡ Some None
+  pub allowed : open_refusal s h.pid h.lwp h.file h.mode ≡ None
+  pub is : opens ≡ slice_set s.opens place (Some h)
+
+-- A call that was refused, and left the handles.
+pub record Refuses (s : TracedState) (r : Reply) (opens : Places) : Type 0 where
+  pub errno : Errno
+  pub reply : r ≡ reply.Fail errno
+  pub is : opens ≡ s.opens
+
+-- A close of a handle that was not open.
+pub record NotOpen (s : TracedState) (by number : ℕ) (a : Answer) : Type 0 where
+  pub none : handle_of s.opens by number ≡ None
+  pub is : a.state.opens ≡ s.opens
+
+-- A close of a handle that was open.
+pub record ClosesOne (s : TracedState) (by number : ℕ) (h : Held) (a : Answer) : Type 0 where
+  pub held : handle_of s.opens by number ≡ Some h
+  pub state : a.state ≡ with_closed h number s
+  pub is : a.state.opens ≡ slice_set s.opens number None
+
+abbrev pub held_by : ℕ → ℕ → ℕ → File → Mode → Held
+held_by by pid id file mode = record { controller = by; pid = pid; lwp = id; file = file; mode = mode }
+
+open-does : (s : TracedState) (by : ℕ) (h : Held) → (refusal : Option Errno) → open_refusal s h.pid h.lwp h.file h.mode ≡ refusal → (a : Answer) → open_unless s h refusal ≡ a → Refuses s a.reply a.state.opens ⊎ Opens s by h a.reply a.state.opens
+unfolding with_opened
+open-does s by h (Some e) is a at = inl (record { errno = e; reply = ap (λ (x : Answer). x.reply) (sym at); is = ap (λ (x : Answer). x.state.opens) (sym at) })
+open-does s by h None is a at = by_place (position is_none s.opens) refl at
+  where
+    by_place : (p : Option ℕ) → position is_none s.opens ≡ p → opened s h p ≡ a → Refuses s a.reply a.state.opens ⊎ Opens s by h a.reply a.state.opens
+    by_place None there e = inl (record { errno = _; reply = ap (λ (x : Answer). x.reply) (sym e); is = ap (λ (x : Answer). x.state.opens) (sym e) })
+    by_place (Some place) there e = inr (record { place = place; reply = ap (λ (x : Answer). x.reply) (sym e); free = free-at s.opens place there; allowed = is; is = ap (λ (x : Answer). x.state.opens) (sym e) })
+
+pub open-opens : (s : TracedState) (by pid id : ℕ) (file : File) (mode : Mode) (a : Answer) → answer_to s by (call.Open pid id file mode) ≡ Some a → Refuses s a.reply a.state.opens ⊎ Opens s by (held_by by pid id file mode) a.reply a.state.opens
+unfolding answer_to open_answer
+open-opens s by pid id file mode a is = open-does s by (held_by by pid id file mode) (open_refusal s pid id file mode) refl a (same_Some _ a is)
+
+close-does : (s : TracedState) (by number : ℕ) → (o : Option Held) → handle_of s.opens by number ≡ o → (a : Answer) → close_held s number o ≡ a → NotOpen s by number a ⊎ ((h : Held) × ClosesOne s by number h a)
+unfolding with_closed
+close-does s by number None is a at = inl (record { none = is; is = ap (λ (x : Answer). x.state.opens) (sym at) })
+close-does s by number (Some h) is a at = inr (h, record { held = is; state = ap (λ (x : Answer). x.state) (sym at); is = ap (λ (x : Answer). x.state.opens) (sym at) })
+
+pub close-closes : (s : TracedState) (by number : ℕ) (a : Answer) → answer_to s by (call.Close number) ≡ Some a → NotOpen s by number a ⊎ ((h : Held) × ClosesOne s by number h a)
+unfolding answer_to close_answer
+close-closes s by number a is = close-does s by number (handle_of s.opens by number) refl a (same_Some _ a is)
+
+-- ---- every other call leaves the handles
+
+Leaves : TracedState → Option Answer → Type 0
+Leaves s None = Unit {0}
+Leaves s (Some a) = a.state.opens ≡ s.opens
+
+-- whether a call opens or closes
+abbrev pub keeps_handles : Call → Bool
+keeps_handles (call.Open pid id file mode) = false
+keeps_handles (call.Close number) = false
+keeps_handles _ = true
+
+leaves-waited : (s : TracedState) (by : ℕ) (r : Reply) → (waited s by r).state.opens ≡ s.opens
+leaves-waited s by (reply.Fail errno) = refused-wait errno
+  where
+    refused-wait : (e : Errno) → (waited s by (reply.Fail e)).state.opens ≡ s.opens
+    refused-wait Intr = refl
+    refused-wait _ = refl
+leaves-waited s by (reply.Handle h) = refl
+leaves-waited s by reply.Done = refl
+leaves-waited s by (reply.Used n) = refl
+leaves-waited s by (reply.Half n) = refl
+leaves-waited s by (reply.Bytes bytes) = refl
+leaves-waited s by (reply.Pid pid) = refl
+leaves-waited s by (reply.Ready h) = refl
+
+leaves-wait : (s : TracedState) (by : ℕ) (r : Option Reply) → Leaves s (option_map (waited s by) r)
+unfolding Leaves
+leaves-wait s by None = tt
+leaves-wait s by (Some r) = leaves-waited s by r
+
+leaves-if : (s : TracedState) (b : Bool) (x y : Option Answer) → Leaves s x → Leaves s y → Leaves s (cond b x y)
+leaves-if s true x y p q = p
+leaves-if s false x y p q = q
+
+leaves-some : (s : TracedState) (a : Answer) → a.state.opens ≡ s.opens → Leaves s (Some a)
+unfolding Leaves
+leaves-some s a is = is
+
+leaves-none : (s : TracedState) → Leaves s None
+unfolding Leaves
+leaves-none s = tt
+
+leaves-ready : (s : TracedState) (h : Option ℕ) → Leaves s (ready_answer s h)
+unfolding Leaves
+leaves-ready s None = tt
+leaves-ready s (Some h) = refl
+
+leaves-poll : (s : TracedState) (by : ℕ) (handles : List ℕ) → Leaves s (poll_answer s by handles)
+unfolding poll_answer
+leaves-poll s by handles =
+    let ready : Option Answer = ready_answer s (find (is_polled_ready s by) handles) in
+    let interrupted : Answer = interrupted_answer s by in
+    let third : Option Answer = cond (is_interrupted s by) (Some interrupted) ready in
+    let second : Option Answer = cond ((length handles == 0) || nat_lt handle_limit (length handles)) (Some (refused s Inval)) third in
+    leaves-if s (not (list_all (is_open_by s.opens by) handles)) (Some (refused s Badf)) second (leaves-some s (refused s Badf) refl) (leaves-if s ((length handles == 0) || nat_lt handle_limit (length handles)) (Some (refused s Inval)) third (leaves-some s (refused s Inval) refl) (leaves-if s (is_interrupted s by) (Some interrupted) ready (leaves-some s interrupted refl) (leaves-ready s (find (is_polled_ready s by) handles))))
+
+leaves-until : (s : TracedState) (by moment : ℕ) → Leaves s (until_answer s by moment)
+unfolding until_answer
+leaves-until s by moment =
+    let done : Answer = answered s reply.Done in
+    let interrupted : Answer = interrupted_answer s by in
+    let waited_for : Option Answer = cond (nat_le moment s.system.clock) (Some done) None in
+    leaves-if s (is_interrupted s by) (Some interrupted) waited_for (leaves-some s interrupted refl) (leaves-if s (nat_le moment s.system.clock) (Some done) None (leaves-some s done refl) (leaves-none s))
+
+leaves-interrupt : (s : TracedState) (by controller : ℕ) → (interrupt_answer s controller).state.opens ≡ s.opens
+unfolding interrupt_answer
+leaves-interrupt s by controller = elim (nat_lt controller controller_limit) as (λ b. (cond b (record { state = record s { interrupted = with_number s.interrupted (controller + 1) }; reply = reply.Done }) (refused s Inval)).state.opens ≡ s.opens) [ true ↦ refl | false ↦ refl ]
+
+leaves-spawn : (s : TracedState) (held : Bool) (program : Option Program) → (spawn_found s held program).state.opens ≡ s.opens
+leaves-spawn s held None = refl
+leaves-spawn s held (Some program) = by (spawn_refusal s.system program)
+  where
+    by : (o : Option Errno) → (spawn_unless s program held o).state.opens ≡ s.opens
+    by None = refl
+    by (Some e) = refl
+
+call-leaves : (s : TracedState) (by : ℕ) (c : Call) → keeps_handles c ≡ true → Leaves s (answer_to s by c)
+unfolding answer_to spawn_answer kill_answer Leaves
+call-leaves s by (call.Open pid id file mode) keeps = cc
+call-leaves s by (call.Close number) keeps = cc
+call-leaves s by (call.Ctl handle bytes) keeps = refl
+call-leaves s by (call.CtlWait handle until bytes) keeps = leaves-wait s by _
+call-leaves s by (call.Read handle from len) keeps = refl
+call-leaves s by (call.Poll handles) keeps = leaves-poll s by handles
+call-leaves s by (call.Interrupt controller) keeps = leaves-interrupt s by controller
+call-leaves s by (call.Spawn program held) keeps = leaves-spawn s held _
+call-leaves s by (call.Kill pid sig) keeps = refl
+call-leaves s by (call.Until moment) keeps = leaves-until s by moment
+call-leaves s by call.List keeps = refl
+
+pub plain-leaves : (s : TracedState) (by : ℕ) (c : Call) (a : Answer) → keeps_handles c ≡ true → answer_to s by c ≡ Some a → a.state.opens ≡ s.opens
+unfolding Leaves
+plain-leaves s by c a keeps is = subst (Leaves s) is (call-leaves s by c keeps)
+
+-- ---- the handles of another controller stay
+
+foreign-open : (s : TracedState) (by k : ℕ) (h : Held) (r : Reply) (opens : Places) → by ≢ k → h.controller ≡ by → Opens s by h r opens → (number : ℕ) → handle_of opens k number ≡ handle_of s.opens k number
+foreign-open s by k h r opens other owner o number =
+    elim (cases_Bool (o.place == number)) [ inl same ↦ here (eqb-true o.place number same) | inr not ↦ ap (λ p. handle_of p k number) o.is ∙ own-other s.opens k o.place number (Some h) (eqb-false o.place number not) ]
+  where
+    at-place : handle_of opens k o.place ≡ handle_of s.opens k o.place
+    at-place = ap (λ p. handle_of p k o.place) o.is ∙ own-set s.opens k o.place (Some h) None o.free ∙ own-foreign k h (λ e. other (sym owner ∙ e)) ∙ sym (own-free s.opens k o.place o.free)
+
+    here : o.place ≡ number → handle_of opens k number ≡ handle_of s.opens k number
+    here same = subst (λ n. handle_of opens k n ≡ handle_of s.opens k n) same at-place
+
+foreign-close : (s : TracedState) (by k number : ℕ) (h : Held) (a : Answer) → by ≢ k → ClosesOne s by number h a → (m : ℕ) → handle_of a.state.opens k m ≡ handle_of s.opens k m
+unfolding handle_of
+foreign-close s by k number h a other c m =
+    elim (cases_Bool (number == m)) [ inl same ↦ here (eqb-true number m same) | inr not ↦ ap (λ p. handle_of p k m) c.is ∙ own-other s.opens k number m None (eqb-false number m not) ]
+  where
+    there : slice_get s.opens number ≡ Some (Some h)
+    there = handle-at s.opens by number h c.held
+
+    owner : h.controller ≡ by
+    owner = handle-controller s.opens by number h c.held
+
+    at-place : handle_of a.state.opens k number ≡ handle_of s.opens k number
+    at-place = ap (λ p. handle_of p k number) c.is ∙ own-set s.opens k number None (Some h) there ∙ sym (ap (own k) there ∙ own-foreign k h (λ e. other (sym owner ∙ e)))
+
+    here : number ≡ m → handle_of a.state.opens k m ≡ handle_of s.opens k m
+    here same = subst (λ n. handle_of a.state.opens k n ≡ handle_of s.opens k n) same at-place
+
+pub foreign-call : (s : TracedState) (by k : ℕ) (c : Call) (a : Answer) → by ≢ k → answer_to s by c ≡ Some a → (number : ℕ) → handle_of a.state.opens k number ≡ handle_of s.opens k number
+foreign-call s by k (call.Open pid id file mode) a other is number =
+    elim (open-opens s by pid id file mode a is) [ inl refused ↦ ap (λ p. handle_of p k number) refused.is | inr opened ↦ foreign-open s by k (held_by by pid id file mode) a.reply a.state.opens other refl opened number ]
+foreign-call s by k (call.Close m) a other is number =
+    elim (close-closes s by m a is) [ inl refused ↦ ap (λ p. handle_of p k number) refused.is | inr closed ↦ foreign-close s by k m closed.0 a other closed.1 number ]
+foreign-call s by k (call.Ctl handle bytes) a other is number = ap (λ p. handle_of p k number) (plain-leaves s by (call.Ctl handle bytes) a refl is)
+foreign-call s by k (call.CtlWait handle until bytes) a other is number = ap (λ p. handle_of p k number) (plain-leaves s by (call.CtlWait handle until bytes) a refl is)
+foreign-call s by k (call.Read handle from len) a other is number = ap (λ p. handle_of p k number) (plain-leaves s by (call.Read handle from len) a refl is)
+foreign-call s by k (call.Poll handles) a other is number = ap (λ p. handle_of p k number) (plain-leaves s by (call.Poll handles) a refl is)
+foreign-call s by k (call.Interrupt controller) a other is number = ap (λ p. handle_of p k number) (plain-leaves s by (call.Interrupt controller) a refl is)
+foreign-call s by k (call.Spawn program held) a other is number = ap (λ p. handle_of p k number) (plain-leaves s by (call.Spawn program held) a refl is)
+foreign-call s by k (call.Kill pid sig) a other is number = ap (λ p. handle_of p k number) (plain-leaves s by (call.Kill pid sig) a refl is)
+foreign-call s by k (call.Until moment) a other is number = ap (λ p. handle_of p k number) (plain-leaves s by (call.Until moment) a refl is)
+foreign-call s by k call.List a other is number = ap (λ p. handle_of p k number) (plain-leaves s by call.List a refl is)
