@@ -1,20 +1,30 @@
-use Rattle.std.proofs.Common.{◌≡◌, ℕ, All, List, [], ◌∷◌, flat_map, length, map, refl, sym, subst}
+use Rattle.std.proofs.Common.{◌≡◌, ℕ, All, Some, List, [], ◌∷◌, flat_map, length, map, refl, sym, subst, ap, ◌∙◌}
+use Rattle.std.specs.List.{slice_get}
+use Rattle.std.specs.Option.{option_map}
+use Rattle.std.proofs.lemmas.Option.{slice_get-map}
 use Rattle.std.proofs.lemmas.List.Elements.{All-cons, All-nil}
 use Rattle.pr_api.specs.Views.{kernel_of}
 use Rattle.pr_erasure.proofs.HistoryLemmas.{transparent-first}
 use Rattle.pr_erasure.specs.Transparency.{IsTransparent}
+use Rattle.pr_line.specs.declared.options.Options.{Options}
+use Rattle.pr_model.specs.FirstState.{first_state}
 use Rattle.pr_model.specs.Legal.{IsLegal}
 use Rattle.pr_model.specs.declared.events.Entry.{Entry}
 use Rattle.pr_scen.specs.Scenarios.{Scenario, script_in, scripts_of}
 use Rattle.pr_scen.specs.declared.plans.Plan.{Plan}
 use Rattle.pr_scen.specs.declared.plans.Plan.TheVariants as plan
+use Rattle.pr_truss.specs.Trusses.{first_truss}
+use Rattle.pr_truss_laws.specs.Handles.{HasNothingOpen}
 use Rattle.pr_world.proofs.RunLemmas.{moves-led}
+use Rattle.pr_world.specs.Cores.{Truss}
 use Rattle.pr_world.specs.Protocol.{Follows}
 use Rattle.pr_world.specs.Runs.{CameFrom, IsFresh, IsMachineRun, IsTold, LedFrom}
 use Rattle.pr_world.specs.Worlds.{WorldState}
 use Rattle.pr_run_laws.specs.ScenarioRuns.{IsKept, controller_of, controllers_of, files_of, first_state_of, first_world, history_after, world_after}
 use Rattle.pr_run_laws.specs.Tracers.{IsTracer}
+use Rattle.pr_run_laws.specs.TrussRuns.{IsTrussKept}
 use Rattle.pr_run_laws.proofs.TracerLemmas.{tracers-passive}
+use Rattle.pr_run_laws.proofs.TrussLemmas.{nothing-held, truss-kept}
 
 -- What runs of scenarios keep.
 
@@ -41,6 +51,22 @@ transparent-tracers s h legal follows none =
     let passive = tracers-passive (controllers_of s) n (first_state_of s) h (controllers-tracers s.controllers none) legal follows in
     transparent-first n s.programs (files_of s) s.spawns h legal passive
 
+-- ---- trusses
+
+first-held : (s : Scenario) (k : ℕ) → HasNothingOpen k (first_state_of s)
+unfolding first_state
+first-held s k = nothing-held k (first_state_of s) refl
+
+truss-first : (s : Scenario) (k : ℕ) (o : Options) → slice_get s.controllers k ≡ Some (plan.Truss o) → slice_get (controllers_of s) k ≡ Some (Truss (first_truss o))
+unfolding controller_of
+truss-first s k o at = slice_get-map controller_of s.controllers k ∙ ap (option_map controller_of) at
+
+trusses-kept : (s : Scenario) (h : List Entry) → IsLegal (length (controllers_of s)) (first_state_of s) h → Follows (controllers_of s) (first_state_of s) h → (k : ℕ) (o : Options) → slice_get s.controllers k ≡ Some (plan.Truss o) → IsTrussKept (controllers_of s) (first_state_of s) h k o
+trusses-kept s h legal follows k o at =
+    truss-kept (controllers_of s) (length (controllers_of s)) (first_state_of s) h k o (truss-first s k o at) (first-held s k) legal follows
+
+-- ---- runs
+
 -- the entries by which a world was led to from the first one are a run of the machine
 led-run : (s : Scenario) (w : WorldState) (led : LedFrom (first_world s) w) → IsMachineRun (controllers_of s) led.entries w.kernel.machine (first_state_of s)
 unfolding first_world kernel_of
@@ -58,6 +84,7 @@ led-kept s w led =
       follows = run.follows;
       transparent = transparent-first (length (controllers_of s)) s.programs (files_of s) s.spawns led.entries run.legal;
       transparent_without_scripts = transparent-tracers s led.entries run.legal run.follows;
+      trusses = trusses-kept s led.entries run.legal run.follows;
     } in
     subst (IsKept s) (sym (led-history s w led)) kept
 

@@ -3,3 +3,4 @@ pub mod GrowthLemmas
 pub mod KeptLemmas
 pub mod PassiveLemmas
 pub mod TracerLemmas
+pub mod TrussLemmas

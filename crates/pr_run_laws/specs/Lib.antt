@@ -1,3 +1,4 @@
 pub mod Prefixes
 pub mod ScenarioRuns
 pub mod Tracers
+pub mod TrussRuns

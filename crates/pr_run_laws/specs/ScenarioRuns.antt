@@ -1,6 +1,7 @@
-use Rattle.std.specs.Prelude.{◌≡◌, ℕ, List, [], None, length, map}
+use Rattle.std.specs.Prelude.{◌≡◌, ℕ, List, [], None, Some, length, map, slice_get}
 use Rattle.pr_api.specs.Views.{kernel_of}
 use Rattle.pr_erasure.specs.Transparency.{IsTransparent}
+use Rattle.pr_line.specs.declared.options.Options.{Options}
 use Rattle.pr_model.specs.FirstState.{first_state, stored_file}
 use Rattle.pr_model.specs.Legal.{IsLegal}
 use Rattle.pr_model.specs.Passive.{IsPassive}
@@ -12,6 +13,7 @@ use Rattle.pr_scen.specs.declared.plans.Plan.{Plan}
 use Rattle.pr_scen.specs.declared.plans.Plan.TheVariants as plan
 use Rattle.pr_tools.specs.Tools.{first_tool}
 use Rattle.pr_truss.specs.Trusses.{first_truss}
+use Rattle.pr_run_laws.specs.TrussRuns.{IsTrussKept}
 use Rattle.pr_world.specs.Protocol.{Follows}
 use Rattle.pr_world.specs.Runs.{after_moves}
 use Rattle.pr_world.specs.Worlds.{WorldState}
@@ -51,12 +53,15 @@ first_world s = record {
 -- What every run of a scenario keeps, in whatever order its actors move: each entry is what the machine does; the
 -- controllers make the calls that come after the replies that they got, and the clock goes on only where it is awaited;
 -- and if controllers only stopped, ran and read, the programs did what they could have done without controllers. Truss
--- and the tools do no more than that: where no controller is a script, the programs always did so.
+-- and the tools do no more than that: where no controller is a script, the programs always did so. Each truss, when it
+-- has finished, has attached what it was given or reported its refusal, and has nothing open.
 pub record IsKept (s : Scenario) (h : List Entry) : Type 0 where
   pub legal : IsLegal (length (controllers_of s)) (first_state_of s) h
   pub follows : Follows (controllers_of s) (first_state_of s) h
   pub transparent : IsPassive h → IsTransparent (first_state_of s) h
   pub transparent_without_scripts : scripts_of s ≡ [] → IsTransparent (first_state_of s) h
+  pub trusses : (k : ℕ) (o : Options) → slice_get s.controllers k ≡ Some (plan.Truss o)
+      → IsTrussKept (controllers_of s) (first_state_of s) h k o
 
 -- ---- on one thread a run is a function of the scenario
 
