@@ -5,7 +5,6 @@ use Rattle.pr_num.specs.ById.{put_under, under}
 use Rattle.pr_model.specs.State.{TracedProcess, TracedSystem, live_process, with_process}
 use Rattle.pr_model.proofs.StateLemmas.{live_process-found}
 
-
 -- a live process is the one that stands under its id
 pub lent-same : (s : TracedSystem) (pid : ℕ) (p q : TracedProcess) → live_process s pid ≡ Some p → under pid s.processes ≡ Some q → q ≡ p
 lent-same s pid p q live found = same_Some q p (sym found ∙ live_process-found s pid p live)

@@ -8,7 +8,6 @@ use Rattle.pr_model.specs.declared.processes.Usage.{Usage}
 use Rattle.pr_proc.specs.Counts.{UsedAtMost, HasUsedAtMost, AllUsedAtMost, has_one_more, has_one_more_at}
 use Rattle.pr_model.proofs.StateLemmas.{live_process-found}
 
-
 -- What bounds counts of use.
 
 pub UsedAtMost-more : (n m : ℕ) (u : Usage) → n ≤ m → UsedAtMost n u → UsedAtMost m u

@@ -9,7 +9,6 @@ use Rattle.pr_model.specs.Machines.{traced}
 use Rattle.pr_model.specs.State.{TracedLwp, TracedProcess, TracedSystem, live_process, lwp_of, with_process}
 use Rattle.pr_model.proofs.StateLemmas.{live_process-found}
 
-
 -- A process that runs another program.
 
 -- ---- what stands alone under an id

@@ -9,7 +9,6 @@ use Rattle.pr_model.specs.Machines.{traced}
 use Rattle.pr_model.specs.State.{TracedSystem, TracedProcess, if_live, live_process, process_of}
 use Rattle.pr_model.proofs.StateLemmas.{live_process-found, live_process-live}
 
-
 -- Live processes.
 
 -- a process of this id that has not ended is the live one

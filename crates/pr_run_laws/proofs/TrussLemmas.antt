@@ -107,6 +107,6 @@ truss-kept controllers n first h k o at none legal follows =
       makes = stays.0;
       truss = stays.1;
       done = λ finished.
-        let ends : Ends (first_truss o) (exchanges k h) = record { makes = stays.0; finished = finished } in
-        record { handled = given-handled o (exchanges k h) ends; nothing_open = nothing-open n k o first h none legal ends };
+          let ends : Ends (first_truss o) (exchanges k h) = record { makes = stays.0; finished = finished } in
+          record { handled = given-handled o (exchanges k h) ends; nothing_open = nothing-open n k o first h none legal ends };
     }

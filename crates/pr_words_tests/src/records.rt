@@ -1,7 +1,7 @@
 //! What no clause says: each record as words written by hand, both ways, and words that are out of their range.
 use pr_num::{
-    Access, Errno, FdKind, Flt, FltSet, Info, MappingKind, Modes, Name, Prot, Sig, SigSet, StopReason,
-    SysSet, Sysno, Target, WatchFlags,
+    Access, Errno, FdKind, Flt, FltSet, Info, MappingKind, Modes, Name, Prot, Sig, SigSet,
+    StopReason, SysSet, Sysno, Target, WatchFlags,
 };
 use pr_rec::*;
 use std::alloc::{AllocError, Global};
