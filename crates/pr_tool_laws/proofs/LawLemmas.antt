@@ -1,0 +1,134 @@
+use Rattle.std.proofs.Common.{◌≡◌, ◌++◌, ◌∷◌, ℕ, Some, None, List, [], true, inl, inr, refl, slice_get}
+use Rattle.pr_api.specs.Entries.{call_entry}
+use Rattle.pr_model.specs.Calls.{Answer, answer_to}
+use Rattle.pr_model.specs.Legal.{IsLegal, IsLegalEntry, state_after}
+use Rattle.pr_model.specs.State.{TracedState}
+use Rattle.pr_model.specs.declared.calls.Call.{Call}
+use Rattle.pr_model.specs.declared.events.Act.{Act}
+use Rattle.pr_model.specs.declared.events.Actor.{Actor}
+use Rattle.pr_model.specs.declared.events.Entry.{Entry}
+use Rattle.pr_model.specs.declared.tools.ToolKind.{ToolKind}
+use Rattle.pr_model.specs.declared.tools.ToolKind.TheVariants.{Pflags, Psig, Pstack, Pmap, Pfiles, Pstop, Prun, Pwait, Ptree}
+use Rattle.pr_num.specs.Programs.{Program}
+use Rattle.pr_tools.specs.Steps.{after, after_in_pwait, after_in_reader, file_of, first_step, way_out}
+use Rattle.pr_tools.specs.Tools.{ToolState, fed, first_tool, has_ended, next_call_of, printed, text_of}
+use Rattle.pr_world.specs.Controllers.{after_reply, next_call}
+use Rattle.pr_world.specs.Cores.{Core, Script, Truss, Tool}
+use Rattle.pr_world.specs.Protocol.{Follows, controllers_at}
+use Rattle.pr_tool_laws.proofs.ConductLemmas.{KeptByCalls, KeptByOthers, conduct-keeps}
+use Rattle.pr_tool_laws.proofs.OtherStages as other
+use Rattle.pr_tool_laws.proofs.ReadTextLemmas.{read-back}
+use Rattle.pr_tool_laws.proofs.ReaderLemmas.{IsReader}
+use Rattle.pr_tool_laws.proofs.StageLemmas as stages
+use Rattle.pr_tool_laws.proofs.StandingLemmas.{IsOther}
+use Rattle.pr_tool_laws.proofs.ToolLemmas.{HasRead, of-one-state, text-read}
+use Rattle.pr_tool_laws.specs.OneState.{IsOfOneState}
+use Rattle.pr_tool_laws.specs.Reads.{bytes_shown}
+use Rattle.pr_tool_laws.specs.ToolTexts.{reads_once}
+
+-- The text of a tool is that of one state, tool by tool.
+
+-- ---- what a tool keeps
+
+abbrev OfTool : (ToolState → Type 0) → Core → Type 0
+OfTool Q (Script s) = ⊥
+OfTool Q (Truss t) = ⊥
+OfTool Q (Tool t) = Q t
+
+module _ (n k : ℕ) (first : TracedState) (Q : List Entry → ToolState → Type 0)
+    (by_others : (h : List Entry) (t : ToolState) (actor : Actor) (it : Act) → IsLegalEntry n (state_after first h) (record { actor = actor; act = it }) → IsOther k actor it → Q h t → Q (h ++ (record { actor = actor; act = it }) ∷ []) t)
+    (by_calls : (h : List Entry) (t : ToolState) (c : Call) (a : Answer) → next_call_of t ≡ Some c → answer_to (state_after first h) k c ≡ Some a → Q h t → Q (h ++ call_entry k c a.reply ∷ []) (fed t a.reply)) where
+  P : List Entry → Core → Type 0
+  P h c = OfTool (Q h) c
+
+  others-core : KeptByOthers n k first P
+  unfolding P
+  others-core h (Script s) actor it legal other q = absurd q
+  others-core h (Truss t) actor it legal other q = absurd q
+  others-core h (Tool t) actor it legal other q = by_others h t actor it legal other q
+
+  calls-core : KeptByCalls n k first P
+  unfolding P next_call after_reply
+  calls-core h (Script s) c a next given q = absurd q
+  calls-core h (Truss t) c a next given q = absurd q
+  calls-core h (Tool t) c a next given q = by_calls h t c a next given q
+
+  tool-keeps : (controllers : List Core) (h : List Entry) (t u : ToolState) → IsLegal n first h → Follows controllers first h → slice_get controllers k ≡ Some (Tool t) → slice_get (controllers_at controllers h) k ≡ Some (Tool u) → Q [] t → Q h u
+  unfolding P
+  tool-keeps controllers h t u legal follows begins ends q = conduct-keeps n k first P others-core calls-core controllers h (Tool t) (Tool u) legal follows begins ends q
+
+-- ---- what is so of a tool at the end
+
+abbrev Law : ℕ → ℕ → ToolKind → ℕ → TracedState → Type 0
+Law n k kind pid first =
+    (controllers : List Core) (h : List Entry) (t : ToolState) (programs : List Program) → slice_get controllers k ≡ Some (Tool (first_tool kind pid)) → IsLegal n first h → Follows controllers first h → slice_get (controllers_at controllers h) k ≡ Some (Tool t)
+    → has_ended t ≡ true → t.refusal ≡ None → IsOfOneState k kind pid first h (printed t programs)
+
+of-read : (k : ℕ) (kind : ToolKind) (pid : ℕ) (first : TracedState) (h : List Entry) (t : ToolState) (programs : List Program) → reads_once kind ≡ true → has_ended t ≡ true → t.refusal ≡ None → HasRead k kind pid first h t → IsOfOneState k kind pid first h (printed t programs)
+of-read k kind pid first h t programs once ended accepted has =
+    of-one-state k kind pid first (read-back kind pid) h (printed t programs) has.bytes (text-read k kind pid first h t programs once has ended accepted) has.showed
+
+reader-law : (n k : ℕ) (kind : ToolKind) (pid : ℕ) (first : TracedState) → reads_once kind ≡ true → IsReader kind → Law n k kind pid first
+reader-law n k kind pid first once reader controllers h t programs begins legal follows ends ended accepted =
+    let stage = tool-keeps n k first (stages.Stage n k kind pid first reader) (stages.others-stage n k kind pid first reader) (λ h t c a next given q. stages.called-stage n k kind pid first reader h c a given t next q)
+    controllers h (first_tool kind pid) t legal follows begins ends (stages.at_first refl) in
+    of-read k kind pid first h t programs once ended accepted (stages.ended-stage n k kind pid first reader h t ended accepted stage)
+
+quiet-law : (n k : ℕ) (kind : ToolKind) (pid : ℕ) (first : TracedState) → other.IsQuiet kind → Law n k kind pid first
+quiet-law n k kind pid first quiet controllers h t programs begins legal follows ends ended accepted =
+    let stage = tool-keeps n k first (other.QuietStage k kind pid first quiet) (λ h t actor it legal apart q. other.others-quiet k kind pid first quiet h (record { actor = actor; act = it }) t q) (λ h t c a next given q. other.called-quiet k kind pid first quiet h t c a q)
+    controllers h (first_tool kind pid) t legal follows begins ends (other.at_first refl) in
+    let silent = other.ended-quiet k kind pid first quiet h t programs ended accepted stage in
+    of-one-state k kind pid first (read-back kind pid) h (printed t programs) [] silent.text silent.showed
+
+tree-law : (n k pid : ℕ) (first : TracedState) → reads_once Ptree ≡ true → Law n k Ptree pid first
+tree-law n k pid first once controllers h t programs begins legal follows ends ended accepted =
+    let stage = tool-keeps n k first (other.TreeStage k pid first) (λ h t actor it legal apart q. other.others-tree k pid first h (record { actor = actor; act = it }) t q) (λ h t c a next given q. other.called-tree k pid first h t c a next given q)
+    controllers h (first_tool Ptree pid) t legal follows begins ends (other.at_first refl) in
+    of-read k Ptree pid first h t programs once ended accepted (other.ended-tree k pid first h t ended stage)
+
+-- ---- how each tool goes on
+
+pflags-reads : IsReader Pflags
+unfolding first_step after after_in_reader file_of way_out bytes_shown
+pflags-reads = record { starts = refl; opens = inl refl; reads = refl; plain = refl; leaves = λ p. refl; shows = λ pid s. refl }
+
+psig-reads : IsReader Psig
+unfolding first_step after after_in_reader file_of way_out bytes_shown
+psig-reads = record { starts = refl; opens = inl refl; reads = refl; plain = refl; leaves = λ p. refl; shows = λ pid s. refl }
+
+pmap-reads : IsReader Pmap
+unfolding first_step after after_in_reader file_of way_out bytes_shown
+pmap-reads = record { starts = refl; opens = inl refl; reads = refl; plain = refl; leaves = λ p. refl; shows = λ pid s. refl }
+
+pfiles-reads : IsReader Pfiles
+unfolding first_step after after_in_reader file_of way_out bytes_shown
+pfiles-reads = record { starts = refl; opens = inl refl; reads = refl; plain = refl; leaves = λ p. refl; shows = λ pid s. refl }
+
+pwait-reads : IsReader Pwait
+unfolding first_step after after_in_pwait file_of way_out bytes_shown
+pwait-reads = record { starts = refl; opens = inr (refl, refl); reads = refl; plain = refl; leaves = λ p. refl; shows = λ pid s. refl }
+
+pstop-quiet : other.IsQuiet Pstop
+unfolding first_step bytes_shown text_of
+pstop-quiet = record { starts = refl; shows = λ pid s. refl; says = λ t programs. refl }
+
+prun-quiet : other.IsQuiet Prun
+unfolding first_step bytes_shown text_of
+prun-quiet = record { starts = refl; shows = λ pid s. refl; says = λ t programs. refl }
+
+kind-law : (n k : ℕ) (kind : ToolKind) (pid : ℕ) (first : TracedState) → reads_once kind ≡ true → Law n k kind pid first
+unfolding reads_once
+kind-law n k Pflags pid first once = reader-law n k Pflags pid first once pflags-reads
+kind-law n k Psig pid first once = reader-law n k Psig pid first once psig-reads
+kind-law n k Pstack pid first once = absurd (cc)
+kind-law n k Pmap pid first once = reader-law n k Pmap pid first once pmap-reads
+kind-law n k Pfiles pid first once = reader-law n k Pfiles pid first once pfiles-reads
+kind-law n k Pstop pid first once = quiet-law n k Pstop pid first pstop-quiet
+kind-law n k Prun pid first once = quiet-law n k Prun pid first prun-quiet
+kind-law n k Pwait pid first once = reader-law n k Pwait pid first once pwait-reads
+kind-law n k Ptree pid first once = tree-law n k pid first once
+
+pub tool-of-one-state : (controllers : List Core) (n k : ℕ) (kind : ToolKind) (pid : ℕ) (first : TracedState) (h : List Entry) (t : ToolState) (programs : List Program) → reads_once kind ≡ true → slice_get controllers k ≡ Some (Tool (first_tool kind pid)) → IsLegal n first h → Follows controllers first h → slice_get (controllers_at controllers h) k ≡ Some (Tool t) → has_ended t ≡ true → t.refusal ≡ None → IsOfOneState k kind pid first h (printed t programs)
+tool-of-one-state controllers n k kind pid first h t programs once begins legal follows ends ended accepted =
+    kind-law n k kind pid first once controllers h t programs begins legal follows ends ended accepted

@@ -1,0 +1,12 @@
+pub mod ConductLemmas
+pub mod EntryLemmas
+pub mod KindLemmas
+pub mod LawLemmas
+pub mod LineLemmas
+pub mod OtherStages
+pub mod ReadBackLemmas
+pub mod ReadTextLemmas
+pub mod ReaderLemmas
+pub mod StageLemmas
+pub mod StandingLemmas
+pub mod ToolLemmas

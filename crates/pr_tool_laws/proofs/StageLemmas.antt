@@ -1,0 +1,197 @@
+use Rattle.std.proofs.Common.{◌≡◌, ◌++◌, ◌∷◌, ◌⊎◌, ℕ, Option, Some, None, List, [], true, is_none, is_some, option_map, slice_get, take, refl, sym, ap, ◌∙◌, subst, inl, inr}
+use Rattle.std.specs.List.{position}
+use Rattle.std.proofs.lemmas.Bool.{false≢true}
+use Rattle.std.proofs.lemmas.Option.{same_Some}
+use Rattle.pr_api.specs.Entries.{call_entry}
+use Rattle.pr_file.proofs.PlaceLemmas.{slice_get-set_same}
+use Rattle.pr_lawful.proofs.HandleLemmas.{free-at}
+use Rattle.pr_model.proofs.HistoryLemmas.{state_after-push}
+use Rattle.pr_model.specs.Calls.{Answer, answer_to, answered, open_answer, open_unless, opened}
+use Rattle.pr_model.specs.Handles.{open_refusal, with_opened}
+use Rattle.pr_model.specs.Legal.{IsLegalEntry, after, after_call, state_after}
+use Rattle.pr_model.specs.Reads.{file_read, read_reply}
+use Rattle.pr_model.specs.Replies.{bytes_in}
+use Rattle.pr_model.specs.State.{TracedState}
+use Rattle.pr_model.specs.declared.calls.Call.{Call}
+use Rattle.pr_model.specs.declared.calls.Call.TheVariants as call
+use Rattle.pr_model.specs.declared.calls.Mode.TheVariants as mode
+use Rattle.pr_model.specs.declared.calls.Reply.{Reply}
+use Rattle.pr_model.specs.declared.calls.Reply.TheVariants as reply
+use Rattle.pr_model.specs.declared.events.Act.{Act}
+use Rattle.pr_model.specs.declared.events.Actor.{Actor}
+use Rattle.pr_model.specs.declared.events.Entry.{Entry}
+use Rattle.pr_model.specs.declared.handles.Held.{Held}
+use Rattle.pr_model.specs.declared.tools.ToolKind.{ToolKind}
+use Rattle.pr_num.specs.Limits.{read_limit}
+use Rattle.pr_num.specs.declared.errnos.Errno.{Errno}
+use Rattle.pr_num.specs.declared.errnos.Errno.TheVariants.{Mfile}
+use Rattle.pr_tools.specs.Handles.{nothing_open}
+use Rattle.pr_tools.specs.Steps.{after as step_after, file_of, record_room}
+use Rattle.pr_tools.specs.Tools.{ToolState, fed, first_tool, has_ended, next_call_of}
+use Rattle.pr_tools.specs.declared.steps.Step.{Step}
+use Rattle.pr_tools.specs.declared.steps.Step.TheVariants as step
+use Rattle.pr_tool_laws.proofs.ReaderLemmas.{IsRead, IsReader, IsWithFile, bytes-given, first-call, handle-read, open-refused, opened-fed, read-call, read-fed, read-refused, reply-read, wait-call, wait-fed, with_file}
+use Rattle.pr_tool_laws.proofs.StandingLemmas.{IsOther, Spares, Stands, answer-keeps, others-keep}
+use Rattle.pr_tool_laws.proofs.ToolLemmas.{HasRead, WasRefused, read-goes-on, read-still, refused-closes, showed-here, still-going}
+use Rattle.pr_tool_laws.specs.Reads.{bytes_shown}
+
+-- The stages of a tool that opens one file, reads it and closes it.
+
+-- ---- the state after a call
+
+pub state-called : (first : TracedState) (h : List Entry) (k : ℕ) (c : Call) (a : Answer) → answer_to (state_after first h) k c ≡ Some a → state_after first (h ++ call_entry k c a.reply ∷ []) ≡ a.state
+unfolding after
+state-called first h k c a is = state_after-push first h (call_entry k c a.reply) ∙ ap (after_call (state_after first h)) is
+
+-- an answer is the one that the machine gives
+pub same-answer : (s : TracedState) (k : ℕ) (c d : Call) (a b : Answer) → c ≡ d → answer_to s k c ≡ Some a → answer_to s k d ≡ Some b → b ≡ a
+same-answer s k c d a b same given its = same_Some b a (sym its ∙ ap (answer_to s k) (sym same) ∙ given)
+
+-- ---- an open
+
+-- a handle was granted, and stands there; or the open was refused
+pub data Granted (held : Held) (a : Answer) : Type 0 where
+  granted : (number : ℕ) → a.reply ≡ reply.Handle number → Stands a.state.opens number held → Granted held a
+  denied : (e : Errno) → a.reply ≡ reply.Fail e → Granted held a
+
+opened-granted : (s : TracedState) (held : Held) (o : Option ℕ) → position is_none s.opens ≡ o → Granted held (opened s held o)
+unfolding with_opened
+opened-granted s held None at = denied Mfile refl
+opened-granted s held (Some place) at = granted place refl (slice_get-set_same s.opens place None (Some held) (free-at s.opens place at))
+
+unless-granted : (s : TracedState) (held : Held) (o : Option Errno) → Granted held (open_unless s held o)
+unless-granted s held None = opened-granted s held (position is_none s.opens) refl
+unless-granted s held (Some e) = denied e refl
+
+module _ (n k : ℕ) (kind : ToolKind) (pid : ℕ) (first : TracedState) (reader : IsReader kind) where
+  -- what its handle stands for
+  abbrev held : Held
+  held = record { controller = k; pid = pid; lwp = 0; file = file_of kind; mode = mode.Read }
+
+  open-granted : (s : TracedState) → Granted held (open_answer s k pid 0 (file_of kind) mode.Read)
+  unfolding open_answer
+  open-granted s = unless-granted s held (open_refusal s pid 0 (file_of kind) mode.Read)
+
+  pub record Holds (s : TracedState) (t : ToolState) : Type 0 where
+    pub next : Step
+    pub number : ℕ
+    pub at : IsWithFile kind next
+    pub is : t ≡ with_file kind pid next number
+    pub stands : Stands s.opens number held
+
+  pub data Stage (h : List Entry) (t : ToolState) : Type 0 where
+    at_first : t ≡ first_tool kind pid → Stage h t
+    with_its_file : Holds (state_after first h) t → Stage h t
+    has_read : HasRead k kind pid first h t → Stage h t
+    refused : WasRefused t → Stage h t
+
+  -- ---- what others do
+
+  pub others-stage : (h : List Entry) (t : ToolState) (actor : Actor) (it : Act) → IsLegalEntry n (state_after first h) (record { actor = actor; act = it }) → IsOther k actor it → Stage h t → Stage (h ++ (record { actor = actor; act = it }) ∷ []) t
+  others-stage h t actor it legal other (at_first same) = at_first same
+  others-stage h t actor it legal other (with_its_file holds) =
+      let e : Entry = record { actor = actor; act = it } in
+      let kept = others-keep holds.number held n (state_after first h) actor it legal other holds.stands in
+      let stands : Stands (state_after first (h ++ e ∷ [])).opens holds.number held =
+      ap (λ (s : TracedState). slice_get s.opens holds.number) (state_after-push first h e) ∙ kept in
+      with_its_file (record { next = holds.next; number = holds.number; at = holds.at; is = holds.is; stands = stands })
+  others-stage h t actor it legal other (has_read has) = has_read (read-still k kind pid first h (record { actor = actor; act = it }) t has)
+  others-stage h t actor it legal other (refused was) = refused was
+
+  -- ---- its own calls
+
+  module _ (h : List Entry) (c : Call) (a : Answer) (given : answer_to (state_after first h) k c ≡ Some a) where
+    abbrev longer : List Entry
+    longer = h ++ call_entry k c a.reply ∷ []
+
+    granted-stage : Granted held a → Stage longer (fed (first_tool kind pid) a.reply)
+    granted-stage (granted number answers stands) =
+        let next : fed (first_tool kind pid) a.reply ≡ with_file kind pid (step_after kind step.OpenFile) number =
+        ap (fed (first_tool kind pid)) answers ∙ opened-fed kind pid reader number in
+        let there : Stands (state_after first longer).opens number held =
+        ap (λ (s : TracedState). slice_get s.opens number) (state-called first h k c a given) ∙ stands in
+        with_its_file (record { next = step_after kind step.OpenFile; number = number; at = reader.opens; is = next; stands = there })
+    granted-stage (denied e answers) =
+        refused (subst (λ r. WasRefused (fed (first_tool kind pid) r)) (sym answers) (open-refused kind pid reader e))
+
+    first-stage : next_call_of (first_tool kind pid) ≡ Some c → Stage longer (fed (first_tool kind pid) a.reply)
+    unfolding answer_to
+    first-stage next =
+        let s = state_after first h in
+        let same : c ≡ call.Open pid 0 (file_of kind) mode.Read = same_Some _ _ (sym next ∙ first-call kind pid reader) in
+        let answer = same-answer s k c (call.Open pid 0 (file_of kind) mode.Read) a (open_answer s k pid 0 (file_of kind) mode.Read) same given refl in
+        granted-stage (subst (Granted held) answer (open-granted s))
+
+    -- what its read makes of it
+    read-stage : (number : ℕ) (q : Reply) → IsRead q → file_read (state_after first h).system pid 0 0 read_limit (file_of kind) ≡ q → a.reply ≡ q → Stage longer (fed (with_file kind pid step.ReadFile number) a.reply)
+    read-stage number (reply.Bytes bytes) whole reads answers =
+        let s = state_after first h in
+        let shows : bytes_shown kind pid s.system ≡ Some (take (record_room kind) bytes) =
+        reader.shows pid s.system ∙ ap (λ r. option_map (take (record_room kind)) (bytes_in r)) reads ∙ bytes-given kind pid reader bytes in
+        has_read (record {
+          opened = record nothing_open { file = Some number };
+          bytes = take (record_room kind) bytes;
+          is = ap (fed (with_file kind pid step.ReadFile number)) answers ∙ read-fed kind pid reader number bytes;
+          showed = showed-here k kind pid first h c a.reply (take (record_room kind) bytes) shows;
+        })
+    read-stage number (reply.Fail e) whole reads answers =
+        refused (subst (λ r. WasRefused (fed (with_file kind pid step.ReadFile number) r)) (sym answers) (read-refused kind pid reader number e))
+    read-stage number _ whole reads answers = absurd whole
+
+    reading-stage : (number : ℕ) → Stands (state_after first h).opens number held → next_call_of (with_file kind pid step.ReadFile number) ≡ Some c → Stage longer (fed (with_file kind pid step.ReadFile number) a.reply)
+    unfolding answer_to
+    reading-stage number stands next =
+        let s = state_after first h in
+        let same : c ≡ call.Read number 0 read_limit = same_Some _ _ (sym next ∙ read-call kind pid reader number) in
+        let answer = same-answer s k c (call.Read number 0 read_limit) a (answered s (read_reply s k number 0 read_limit)) same given refl in
+        let reads : a.reply ≡ file_read s.system pid 0 0 read_limit (file_of kind) =
+        ap (λ (x : Answer). x.reply) (sym answer) ∙ handle-read s number 0 read_limit held reader.plain stands in
+        read-stage number (file_read s.system pid 0 0 read_limit (file_of kind)) (reply-read s.system pid 0 0 read_limit (file_of kind)) refl reads
+
+    waiting-stage : step_after kind step.AwaitEnd ≡ step.ReadFile → (number : ℕ) → Stands (state_after first h).opens number held → next_call_of (with_file kind pid step.AwaitEnd number) ≡ Some c → Stage longer (fed (with_file kind pid step.AwaitEnd number) a.reply)
+    waiting-stage waits number stands next = of (wait-fed kind pid reader waits number a.reply)
+      where
+        same : c ≡ call.Poll (number ∷ [])
+        same = same_Some _ _ (sym next ∙ wait-call kind pid reader number)
+
+        there : Stands (state_after first longer).opens number held
+        there =
+            let kept = answer-keeps number held (state_after first h) k c a given (subst (Spares number held k) (sym same) tt) stands in
+            ap (λ (s : TracedState). slice_get s.opens number) (state-called first h k c a given) ∙ kept
+
+        of : (fed (with_file kind pid step.AwaitEnd number) a.reply ≡ with_file kind pid step.ReadFile number) ⊎ WasRefused (fed (with_file kind pid step.AwaitEnd number) a.reply) → Stage longer (fed (with_file kind pid step.AwaitEnd number) a.reply)
+        of (inl goes) = with_its_file (record { next = step.ReadFile; number = number; at = inl refl; is = goes; stands = there })
+        of (inr was) = refused was
+
+    holding-stage : (next : Step) (number : ℕ) → IsWithFile kind next → Stands (state_after first h).opens number held → next_call_of (with_file kind pid next number) ≡ Some c → Stage longer (fed (with_file kind pid next number) a.reply)
+    holding-stage next number (inl reads) stands =
+        let Q : Step → Type 0 = λ p. next_call_of (with_file kind pid p number) ≡ Some c → Stage longer (fed (with_file kind pid p number) a.reply) in
+        subst Q (sym reads) (reading-stage number stands)
+    holding-stage next number (inr waits) stands =
+        let Q : Step → Type 0 = λ p. next_call_of (with_file kind pid p number) ≡ Some c → Stage longer (fed (with_file kind pid p number) a.reply) in
+        subst Q (sym waits.0) (waiting-stage waits.1 number stands)
+
+    pub called-stage : (t : ToolState) → next_call_of t ≡ Some c → Stage h t → Stage longer (fed t a.reply)
+    called-stage t next (at_first same) =
+        let Q : ToolState → Type 0 = λ u. next_call_of u ≡ Some c → Stage longer (fed u a.reply) in
+        subst Q (sym same) first-stage next
+    called-stage t next (with_its_file holds) =
+        let Q : ToolState → Type 0 = λ u. next_call_of u ≡ Some c → Stage longer (fed u a.reply) in
+        subst Q (sym holds.is) (holding-stage holds.next holds.number holds.at holds.stands) next
+    called-stage t next (has_read has) = has_read (read-goes-on k kind pid first h (call_entry k c a.reply) t a.reply has)
+    called-stage t next (refused was) = refused (refused-closes t a.reply was)
+
+  -- ---- the end
+
+  holding-call : (next : Step) (number : ℕ) → IsWithFile kind next → has_ended (with_file kind pid next number) ≡ true → ⊥
+  holding-call next number (inl reads) ended =
+      still-going (with_file kind pid step.ReadFile number) _ (read-call kind pid reader number) (subst (λ p. has_ended (with_file kind pid p number) ≡ true) reads ended)
+  holding-call next number (inr waits) ended =
+      still-going (with_file kind pid step.AwaitEnd number) _ (wait-call kind pid reader number) (subst (λ p. has_ended (with_file kind pid p number) ≡ true) waits.0 ended)
+
+  pub ended-stage : (h : List Entry) (t : ToolState) → has_ended t ≡ true → t.refusal ≡ None → Stage h t → HasRead k kind pid first h t
+  ended-stage h t ended accepted (at_first same) = absurd (still-going t _ (ap next_call_of same ∙ first-call kind pid reader) ended)
+  ended-stage h t ended accepted (with_its_file holds) =
+      absurd (holding-call holds.next holds.number holds.at (subst (λ u. has_ended u ≡ true) holds.is ended))
+  ended-stage h t ended accepted (has_read has) = has
+  ended-stage h t ended accepted (refused was) = absurd (false≢true (sym (ap is_some accepted) ∙ was.refusal))

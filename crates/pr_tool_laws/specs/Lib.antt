@@ -1,0 +1,4 @@
+pub mod OneState
+pub mod Reads
+pub mod TextsOfRecords
+pub mod ToolTexts

@@ -1,0 +1,37 @@
+use Rattle.std.specs.Prelude.{ℕ, List, [], Option, Some, None, option_map, take}
+use Rattle.pr_model.specs.Reads.{file_read}
+use Rattle.pr_model.specs.Records.{list_of}
+use Rattle.pr_model.specs.Replies.{bytes_in}
+use Rattle.pr_model.specs.State.{TracedSystem}
+use Rattle.pr_model.specs.declared.tools.ToolKind.{ToolKind}
+use Rattle.pr_model.specs.declared.tools.ToolKind.TheVariants.{Pflags, Psig, Pstack, Pmap, Pfiles, Pstop, Prun, Pwait, Ptree}
+use Rattle.pr_num.specs.Limits.{read_limit}
+use Rattle.pr_rec.specs.RecordBytes.{list_bytes}
+use Rattle.pr_tools.specs.Steps.{file_of, record_room}
+use Rattle.pr_tools.specs.Tools.{first_tool, text_of}
+
+-- What a tool reads in one state, and the text that it makes of that.
+
+-- the bytes that one read of a tool's file gives it; none where that is refused
+abbrev pub record_in : ToolKind → ℕ → TracedSystem → Option (List ℕ)
+record_in kind pid s = option_map (take (record_room kind)) (bytes_in (file_read s pid 0 0 read_limit (file_of kind)))
+
+-- What a tool reads in a state, a row a tool. pstop and prun read nothing, and nothing is said of pstack.
+unfoldable pub bytes_shown : ToolKind → ℕ → TracedSystem → Option (List ℕ)
+bytes_shown Pflags pid s = record_in Pflags pid s
+bytes_shown Psig pid s = record_in Psig pid s
+bytes_shown Pstack pid s = None
+bytes_shown Pmap pid s = record_in Pmap pid s
+bytes_shown Pfiles pid s = record_in Pfiles pid s
+bytes_shown Pstop pid s = Some []
+bytes_shown Prun pid s = Some []
+bytes_shown Pwait pid s = record_in Pwait pid s
+bytes_shown Ptree pid s = Some (take (record_room Ptree) (list_bytes (list_of s)))
+
+-- the text that a tool makes of the bytes that it read
+unfoldable pub text_made : ToolKind → ℕ → List ℕ → List ℕ
+text_made kind pid bytes = text_of (record (first_tool kind pid) { bytes = bytes }) [] kind
+
+-- the text of a tool that reads in this state
+unfoldable pub text_read : ToolKind → ℕ → TracedSystem → Option (List ℕ)
+text_read kind pid s = option_map (text_made kind pid) (bytes_shown kind pid s)

@@ -1,0 +1,7 @@
+//! Laws of the proc tools: what a tool prints is how things were in one state. Each public function carries one law in
+//! its contract, and does nothing.
+#![tactic(auto)]
+
+mod texts;
+
+pub use texts::{a_tools_text_is_of_one_state, what_is_read_back_is_what_stands_there};
