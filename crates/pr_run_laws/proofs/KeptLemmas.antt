@@ -10,17 +10,21 @@ use Rattle.pr_line.specs.declared.options.Options.{Options}
 use Rattle.pr_model.specs.FirstState.{first_state}
 use Rattle.pr_model.specs.Legal.{IsLegal}
 use Rattle.pr_model.specs.declared.events.Entry.{Entry}
+use Rattle.pr_model.specs.declared.tools.ToolKind.{ToolKind}
 use Rattle.pr_scen.specs.Scenarios.{Scenario, script_in, scripts_of}
 use Rattle.pr_scen.specs.declared.plans.Plan.{Plan}
 use Rattle.pr_scen.specs.declared.plans.Plan.TheVariants as plan
 use Rattle.pr_truss.specs.Trusses.{first_truss}
 use Rattle.pr_truss_laws.specs.Handles.{HasNothingOpen}
 use Rattle.pr_world.proofs.RunLemmas.{moves-led}
-use Rattle.pr_world.specs.Cores.{Truss}
+use Rattle.pr_tool_laws.proofs.LawLemmas.{tool-of-one-state}
+use Rattle.pr_tools.specs.Tools.{first_tool}
+use Rattle.pr_world.specs.Cores.{Tool, Truss}
 use Rattle.pr_world.specs.Protocol.{Follows}
 use Rattle.pr_world.specs.Runs.{CameFrom, IsFresh, IsMachineRun, IsTold, LedFrom}
 use Rattle.pr_world.specs.Worlds.{WorldState}
 use Rattle.pr_run_laws.specs.ScenarioRuns.{IsKept, controller_of, controllers_of, files_of, first_state_of, first_world, history_after, world_after}
+use Rattle.pr_run_laws.specs.ToolRuns.{IsToolKept}
 use Rattle.pr_run_laws.specs.Tracers.{IsTracer}
 use Rattle.pr_run_laws.specs.TrussRuns.{IsTrussKept}
 use Rattle.pr_run_laws.proofs.TracerLemmas.{tracers-passive}
@@ -65,6 +69,18 @@ trusses-kept : (s : Scenario) (h : List Entry) → IsLegal (length (controllers_
 trusses-kept s h legal follows k o at =
     truss-kept (controllers_of s) (length (controllers_of s)) (first_state_of s) h k o (truss-first s k o at) (first-held s k) legal follows
 
+-- ---- tools
+
+tool-first : (s : Scenario) (k : ℕ) (kind : ToolKind) (pid : ℕ) → slice_get s.controllers k ≡ Some (plan.Tool kind pid) → slice_get (controllers_of s) k ≡ Some (Tool (first_tool kind pid))
+unfolding controller_of
+tool-first s k kind pid at = slice_get-map controller_of s.controllers k ∙ ap (option_map controller_of) at
+
+tools-kept : (s : Scenario) (h : List Entry) → IsLegal (length (controllers_of s)) (first_state_of s) h → Follows (controllers_of s) (first_state_of s) h → (k : ℕ) (kind : ToolKind) (pid : ℕ) → slice_get s.controllers k ≡ Some (plan.Tool kind pid) → IsToolKept (controllers_of s) (first_state_of s) h s.programs k kind pid
+tools-kept s h legal follows k kind pid at = record {
+  shows = λ t ends ended accepted once.
+      tool-of-one-state (controllers_of s) (length (controllers_of s)) k kind pid (first_state_of s) h t s.programs once (tool-first s k kind pid at) legal follows ends ended accepted;
+}
+
 -- ---- runs
 
 -- the entries by which a world was led to from the first one are a run of the machine
@@ -85,6 +101,7 @@ led-kept s w led =
       transparent = transparent-first (length (controllers_of s)) s.programs (files_of s) s.spawns led.entries run.legal;
       transparent_without_scripts = transparent-tracers s led.entries run.legal run.follows;
       trusses = trusses-kept s led.entries run.legal run.follows;
+      tools = tools-kept s led.entries run.legal run.follows;
     } in
     subst (IsKept s) (sym (led-history s w led)) kept
 

@@ -1,4 +1,5 @@
 pub mod Prefixes
 pub mod ScenarioRuns
+pub mod ToolRuns
 pub mod Tracers
 pub mod TrussRuns

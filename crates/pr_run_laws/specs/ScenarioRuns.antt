@@ -7,12 +7,14 @@ use Rattle.pr_model.specs.Legal.{IsLegal}
 use Rattle.pr_model.specs.Passive.{IsPassive}
 use Rattle.pr_model.specs.State.{TracedState}
 use Rattle.pr_model.specs.declared.events.Entry.{Entry}
+use Rattle.pr_model.specs.declared.tools.ToolKind.{ToolKind}
 use Rattle.pr_num.specs.declared.files.StoredFile.{StoredFile}
 use Rattle.pr_scen.specs.Scenarios.{Scenario, scripts_of}
 use Rattle.pr_scen.specs.declared.plans.Plan.{Plan}
 use Rattle.pr_scen.specs.declared.plans.Plan.TheVariants as plan
 use Rattle.pr_tools.specs.Tools.{first_tool}
 use Rattle.pr_truss.specs.Trusses.{first_truss}
+use Rattle.pr_run_laws.specs.ToolRuns.{IsToolKept}
 use Rattle.pr_run_laws.specs.TrussRuns.{IsTrussKept}
 use Rattle.pr_world.specs.Protocol.{Follows}
 use Rattle.pr_world.specs.Runs.{after_moves}
@@ -54,7 +56,8 @@ first_world s = record {
 -- controllers make the calls that come after the replies that they got, and the clock goes on only where it is awaited;
 -- and if controllers only stopped, ran and read, the programs did what they could have done without controllers. Truss
 -- and the tools do no more than that: where no controller is a script, the programs always did so. Each truss, when it
--- has finished, has attached what it was given or reported its refusal, and has nothing open.
+-- has finished, has attached what it was given or reported its refusal, and has nothing open; and what a tool other than
+-- pstack shows stood so in one state.
 pub record IsKept (s : Scenario) (h : List Entry) : Type 0 where
   pub legal : IsLegal (length (controllers_of s)) (first_state_of s) h
   pub follows : Follows (controllers_of s) (first_state_of s) h
@@ -62,6 +65,8 @@ pub record IsKept (s : Scenario) (h : List Entry) : Type 0 where
   pub transparent_without_scripts : scripts_of s ≡ [] → IsTransparent (first_state_of s) h
   pub trusses : (k : ℕ) (o : Options) → slice_get s.controllers k ≡ Some (plan.Truss o)
       → IsTrussKept (controllers_of s) (first_state_of s) h k o
+  pub tools : (k : ℕ) (kind : ToolKind) (pid : ℕ) → slice_get s.controllers k ≡ Some (plan.Tool kind pid)
+      → IsToolKept (controllers_of s) (first_state_of s) h s.programs k kind pid
 
 -- ---- on one thread a run is a function of the scenario
 

@@ -15,7 +15,7 @@ use Rattle.pr_num.specs.ById.{IsRising, rises_from}
 use Rattle.pr_num.specs.Limits.{read_limit}
 use Rattle.pr_rec.proofs.EntryLemmas.{length-entries}
 use Rattle.pr_rec.specs.RecordBytes.{fds_bytes, list_bytes, lstatus_bytes, map_bytes, psinfo_bytes, sigact_bytes}
-use Rattle.pr_rec.specs.RecordWords.{fd_entry_words_of, list_entry_words_of, map_entry_words_of, psinfo_words_of}
+use Rattle.pr_rec.specs.RecordWords.{fd_entry_words_of, list_entry_words_of, psinfo_words_of}
 use Rattle.pr_rec.specs.InRange.{IsPsinfo}
 use Rattle.pr_tools.specs.Ptree.{ids_rise, ptree_text}
 use Rattle.pr_tools.specs.Steps.{file_of, record_room}
@@ -61,10 +61,8 @@ dispositions-shown pid p are =
     (omega (arith, size, are.whole), psig-shown pid p.dispositions are.whole are.words)
 
 mappings-shown : (pid : ℕ) (p : TracedProcess) → AreMappingsRead p → IsShownAs Pmap pid (map_bytes (map_of p)) (mappings_text pid (map_of p))
-unfolding text_made text_of first_tool map_bytes
-mappings-shown pid p are =
-    let size = length-entries map_entry_words_of 8 (λ _. refl) (map_of p) in
-    (omega (arith, size, are.few), pmap-shown pid (map_of p) are.fields)
+unfolding text_made text_of first_tool
+mappings-shown pid p are = (are.few, pmap-shown pid (map_of p) are.fields)
 
 descriptors-shown : (pid : ℕ) (s : TracedSystem) (p : TracedProcess) → AreDescriptorsRead s p → IsShownAs Pfiles pid (fds_bytes (fds_of s.files p)) (descriptors_text pid (fds_of s.files p))
 unfolding text_made text_of first_tool fds_bytes

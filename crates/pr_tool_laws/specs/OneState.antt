@@ -1,4 +1,4 @@
-use Rattle.std.specs.Prelude.{◌≡◌, ◌≤◌, ◌*◌, ℕ, List, ◌∷◌, ◌++◌, IfSome, Some, length}
+use Rattle.std.specs.Prelude.{◌≡◌, ◌≤◌, ℕ, List, ◌∷◌, ◌++◌, IfSome, Some, length}
 use Rattle.std.specs.List.{All}
 use Rattle.pr_api.specs.Entries.{call_entry}
 use Rattle.pr_model.specs.Legal.{state_after}
@@ -13,6 +13,7 @@ use Rattle.pr_num.specs.ById.{IsRising}
 use Rattle.pr_num.specs.Limits.{descriptor_limit, lwp_limit, read_limit, signal_count, spawn_limit}
 use Rattle.pr_num.specs.Words.{IsWord}
 use Rattle.pr_rec.specs.InRange.{IsFdEntry, IsListEntry, IsLwpStatus, IsMapEntry, IsPsinfo}
+use Rattle.pr_rec.specs.RecordBytes.{map_bytes}
 use Rattle.pr_tool_laws.specs.Reads.{text_read}
 use Rattle.pr_tool_laws.specs.ToolTexts.{tool_text}
 
