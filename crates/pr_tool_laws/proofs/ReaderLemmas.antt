@@ -21,7 +21,7 @@ use Rattle.pr_tools.specs.Steps.{after as step_after, file_of, first_step, recor
 use Rattle.pr_tools.specs.Tools.{ToolState, accepted, advanced, call_of, fed, first_tool, next_call_of, with_next, with_record}
 use Rattle.pr_tools.specs.declared.steps.Step.{Step}
 use Rattle.pr_tools.specs.declared.steps.Step.TheVariants as step
-use Rattle.pr_tool_laws.proofs.StandingLemmas.{Stands, stands-own}
+use Rattle.pr_tool_laws.proofs.StandingLemmas.{Stands}
 use Rattle.pr_tool_laws.proofs.ToolLemmas.{WasRefused, having_read, refused-fed}
 use Rattle.pr_tool_laws.specs.Reads.{bytes_shown, record_in}
 
@@ -82,7 +82,7 @@ reply-read s pid id from len f = of ((len == 0) || nat_lt read_limit len)
 pub handle-read : (s : TracedState) (number from len : ℕ) (h : Held) → is_control h.file ≡ false → Stands s.opens number h → read_reply s h.controller number from len ≡ file_read s.system h.pid h.lwp from len h.file
 unfolding read_reply
 handle-read s number from len h plain stands =
-    ap (λ o. held_read s.system (readable o) from len) (stands-own s.opens number h stands) ∙ rw plain refl
+    ap (λ o. held_read s.system (readable o) from len) stands ∙ rw plain refl
 
 -- ---- what a tool makes of replies
 

@@ -1,17 +1,14 @@
-use Rattle.std.proofs.Common.{◌≡◌, ◌++◌, ◌∷◌, ◌⊎◌, ℕ, Option, Some, None, List, [], true, is_none, is_some, option_map, slice_get, take, refl, sym, ap, ◌∙◌, subst, inl, inr}
-use Rattle.std.specs.List.{position}
+use Rattle.std.proofs.Common.{◌≡◌, ◌++◌, ◌∷◌, ◌⊎◌, ℕ, Some, None, List, [], true, is_some, option_map, take, refl, sym, ap, ◌∙◌, subst, inl, inr}
 use Rattle.std.proofs.lemmas.Bool.{false≢true}
 use Rattle.std.proofs.lemmas.Option.{same_Some}
 use Rattle.pr_api.specs.Entries.{call_entry}
-use Rattle.pr_file.proofs.PlaceLemmas.{slice_get-set_same}
-use Rattle.pr_lawful.proofs.HandleLemmas.{free-at}
 use Rattle.pr_model.proofs.HistoryLemmas.{state_after-push}
-use Rattle.pr_model.specs.Calls.{Answer, answer_to, answered, open_answer, open_unless, opened}
-use Rattle.pr_model.specs.Handles.{open_refusal, with_opened}
+use Rattle.pr_model.specs.Calls.{Answer, answer_to, answered}
+use Rattle.pr_model.specs.Handles.{handle_of}
 use Rattle.pr_model.specs.Legal.{IsLegalEntry, after, after_call, state_after}
 use Rattle.pr_model.specs.Reads.{file_read, read_reply}
 use Rattle.pr_model.specs.Replies.{bytes_in}
-use Rattle.pr_model.specs.State.{TracedState}
+use Rattle.pr_model.specs.State.{Places, TracedState}
 use Rattle.pr_model.specs.declared.calls.Call.{Call}
 use Rattle.pr_model.specs.declared.calls.Call.TheVariants as call
 use Rattle.pr_model.specs.declared.calls.Mode.TheVariants as mode
@@ -23,17 +20,16 @@ use Rattle.pr_model.specs.declared.events.Entry.{Entry}
 use Rattle.pr_model.specs.declared.handles.Held.{Held}
 use Rattle.pr_model.specs.declared.tools.ToolKind.{ToolKind}
 use Rattle.pr_num.specs.Limits.{read_limit}
-use Rattle.pr_num.specs.declared.errnos.Errno.{Errno}
-use Rattle.pr_num.specs.declared.errnos.Errno.TheVariants.{Mfile}
 use Rattle.pr_tools.specs.Handles.{nothing_open}
 use Rattle.pr_tools.specs.Steps.{after as step_after, file_of, record_room}
 use Rattle.pr_tools.specs.Tools.{ToolState, fed, first_tool, has_ended, next_call_of}
 use Rattle.pr_tools.specs.declared.steps.Step.{Step}
 use Rattle.pr_tools.specs.declared.steps.Step.TheVariants as step
 use Rattle.pr_tool_laws.proofs.ReaderLemmas.{IsRead, IsReader, IsWithFile, bytes-given, first-call, handle-read, open-refused, opened-fed, read-call, read-fed, read-refused, reply-read, wait-call, wait-fed, with_file}
-use Rattle.pr_tool_laws.proofs.StandingLemmas.{IsOther, Spares, Stands, answer-keeps, others-keep}
+use Rattle.pr_tool_laws.proofs.StandingLemmas.{IsOther, Stands, others-keep}
 use Rattle.pr_tool_laws.proofs.ToolLemmas.{HasRead, WasRefused, read-goes-on, read-still, refused-closes, showed-here, still-going}
 use Rattle.pr_tool_laws.specs.Reads.{bytes_shown}
+use Rattle.pr_truss_laws.proofs.OpensLemmas.{Opens, Refuses, open-opens, own-mine, own-set, plain-leaves}
 
 -- The stages of a tool that opens one file, reads it and closes it.
 
@@ -47,30 +43,10 @@ state-called first h k c a is = state_after-push first h (call_entry k c a.reply
 pub same-answer : (s : TracedState) (k : ℕ) (c d : Call) (a b : Answer) → c ≡ d → answer_to s k c ≡ Some a → answer_to s k d ≡ Some b → b ≡ a
 same-answer s k c d a b same given its = same_Some b a (sym its ∙ ap (answer_to s k) (sym same) ∙ given)
 
--- ---- an open
-
--- a handle was granted, and stands there; or the open was refused
-pub data Granted (held : Held) (a : Answer) : Type 0 where
-  granted : (number : ℕ) → a.reply ≡ reply.Handle number → Stands a.state.opens number held → Granted held a
-  denied : (e : Errno) → a.reply ≡ reply.Fail e → Granted held a
-
-opened-granted : (s : TracedState) (held : Held) (o : Option ℕ) → position is_none s.opens ≡ o → Granted held (opened s held o)
-unfolding with_opened
-opened-granted s held None at = denied Mfile refl
-opened-granted s held (Some place) at = granted place refl (slice_get-set_same s.opens place None (Some held) (free-at s.opens place at))
-
-unless-granted : (s : TracedState) (held : Held) (o : Option Errno) → Granted held (open_unless s held o)
-unless-granted s held None = opened-granted s held (position is_none s.opens) refl
-unless-granted s held (Some e) = denied e refl
-
 module _ (n k : ℕ) (kind : ToolKind) (pid : ℕ) (first : TracedState) (reader : IsReader kind) where
   -- what its handle stands for
   abbrev held : Held
   held = record { controller = k; pid = pid; lwp = 0; file = file_of kind; mode = mode.Read }
-
-  open-granted : (s : TracedState) → Granted held (open_answer s k pid 0 (file_of kind) mode.Read)
-  unfolding open_answer
-  open-granted s = unless-granted s held (open_refusal s pid 0 (file_of kind) mode.Read)
 
   pub record Holds (s : TracedState) (t : ToolState) : Type 0 where
     pub next : Step
@@ -93,7 +69,7 @@ module _ (n k : ℕ) (kind : ToolKind) (pid : ℕ) (first : TracedState) (reader
       let e : Entry = record { actor = actor; act = it } in
       let kept = others-keep holds.number held n (state_after first h) actor it legal other holds.stands in
       let stands : Stands (state_after first (h ++ e ∷ [])).opens holds.number held =
-      ap (λ (s : TracedState). slice_get s.opens holds.number) (state_after-push first h e) ∙ kept in
+      ap (λ (s : TracedState). handle_of s.opens k holds.number) (state_after-push first h e) ∙ kept in
       with_its_file (record { next = holds.next; number = holds.number; at = holds.at; is = holds.is; stands = stands })
   others-stage h t actor it legal other (has_read has) = has_read (read-still k kind pid first h (record { actor = actor; act = it }) t has)
   others-stage h t actor it legal other (refused was) = refused was
@@ -104,23 +80,27 @@ module _ (n k : ℕ) (kind : ToolKind) (pid : ℕ) (first : TracedState) (reader
     abbrev longer : List Entry
     longer = h ++ call_entry k c a.reply ∷ []
 
-    granted-stage : Granted held a → Stage longer (fed (first_tool kind pid) a.reply)
-    granted-stage (granted number answers stands) =
-        let next : fed (first_tool kind pid) a.reply ≡ with_file kind pid (step_after kind step.OpenFile) number =
-        ap (fed (first_tool kind pid)) answers ∙ opened-fed kind pid reader number in
-        let there : Stands (state_after first longer).opens number held =
-        ap (λ (s : TracedState). slice_get s.opens number) (state-called first h k c a given) ∙ stands in
-        with_its_file (record { next = step_after kind step.OpenFile; number = number; at = reader.opens; is = next; stands = there })
-    granted-stage (denied e answers) =
-        refused (subst (λ r. WasRefused (fed (first_tool kind pid) r)) (sym answers) (open-refused kind pid reader e))
+    -- the handle that it was granted stands there
+    granted-stage : Opens (state_after first h) k held a.reply a.state.opens → Stage longer (fed (first_tool kind pid) a.reply)
+    granted-stage opens =
+        let s = state_after first h in
+        let next : fed (first_tool kind pid) a.reply ≡ with_file kind pid (step_after kind step.OpenFile) opens.place =
+        ap (fed (first_tool kind pid)) opens.reply ∙ opened-fed kind pid reader opens.place in
+        let stands : Stands a.state.opens opens.place held =
+        ap (λ (x : Places). handle_of x k opens.place) opens.is ∙ own-set s.opens k opens.place (Some held) None opens.free ∙ own-mine k held refl in
+        let there : Stands (state_after first longer).opens opens.place held =
+        ap (λ (x : TracedState). handle_of x.opens k opens.place) (state-called first h k c a given) ∙ stands in
+        with_its_file (record { next = step_after kind step.OpenFile; number = opens.place; at = reader.opens; is = next; stands = there })
 
     first-stage : next_call_of (first_tool kind pid) ≡ Some c → Stage longer (fed (first_tool kind pid) a.reply)
-    unfolding answer_to
-    first-stage next =
-        let s = state_after first h in
-        let same : c ≡ call.Open pid 0 (file_of kind) mode.Read = same_Some _ _ (sym next ∙ first-call kind pid reader) in
-        let answer = same-answer s k c (call.Open pid 0 (file_of kind) mode.Read) a (open_answer s k pid 0 (file_of kind) mode.Read) same given refl in
-        granted-stage (subst (Granted held) answer (open-granted s))
+    first-stage next = of (open-opens (state_after first h) k pid 0 (file_of kind) mode.Read a (ap (answer_to (state_after first h) k) (sym same) ∙ given))
+      where
+        same : c ≡ call.Open pid 0 (file_of kind) mode.Read
+        same = same_Some _ _ (sym next ∙ first-call kind pid reader)
+
+        of : Refuses (state_after first h) a.reply a.state.opens ⊎ Opens (state_after first h) k held a.reply a.state.opens → Stage longer (fed (first_tool kind pid) a.reply)
+        of (inl denied) = refused (subst (λ r. WasRefused (fed (first_tool kind pid) r)) (sym denied.reply) (open-refused kind pid reader denied.errno))
+        of (inr opens) = granted-stage opens
 
     -- what its read makes of it
     read-stage : (number : ℕ) (q : Reply) → IsRead q → file_read (state_after first h).system pid 0 0 read_limit (file_of kind) ≡ q → a.reply ≡ q → Stage longer (fed (with_file kind pid step.ReadFile number) a.reply)
@@ -156,8 +136,9 @@ module _ (n k : ℕ) (kind : ToolKind) (pid : ℕ) (first : TracedState) (reader
 
         there : Stands (state_after first longer).opens number held
         there =
-            let kept = answer-keeps number held (state_after first h) k c a given (subst (Spares number held k) (sym same) tt) stands in
-            ap (λ (s : TracedState). slice_get s.opens number) (state-called first h k c a given) ∙ kept
+            let waits : answer_to (state_after first h) k (call.Poll (number ∷ [])) ≡ Some a = ap (answer_to (state_after first h) k) (sym same) ∙ given in
+            let kept : a.state.opens ≡ (state_after first h).opens = plain-leaves (state_after first h) k (call.Poll (number ∷ [])) a refl waits in
+            ap (λ (s : TracedState). handle_of s.opens k number) (state-called first h k c a given) ∙ ap (λ (x : Places). handle_of x k number) kept ∙ stands
 
         of : (fed (with_file kind pid step.AwaitEnd number) a.reply ≡ with_file kind pid step.ReadFile number) ⊎ WasRefused (fed (with_file kind pid step.AwaitEnd number) a.reply) → Stage longer (fed (with_file kind pid step.AwaitEnd number) a.reply)
         of (inl goes) = with_its_file (record { next = step.ReadFile; number = number; at = inl refl; is = goes; stands = there })
