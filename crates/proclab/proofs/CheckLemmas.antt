@@ -1,5 +1,5 @@
 -- What the command `check` answers.
-use Rattle.std.proofs.Common.{◌≡◌, ◌⊎◌, inl, inr, ⊎_elim, ℕ, false, List, [], Option, Some, None, Result, Ok, Err, IfOk, IfSome, length, refl, ◌∙◌, ap}
+use Rattle.std.proofs.Common.{◌≡◌, ◌⊎◌, inl, inr, ⊎_elim, ℕ, List, [], Option, Some, None, Result, Ok, Err, IfOk, IfSome, length, refl, ◌∙◌, ap, subst}
 use Rattle.pr_judge.proofs.FirstLemmas.{first-judges, judged-first}
 use Rattle.pr_judge.specs.Judgements.{Judges, first_illegal}
 use Rattle.pr_model.specs.State.{TracedState}
@@ -9,12 +9,12 @@ use Rattle.pr_num.specs.declared.memory.NoMemory.{NoMemory}
 use Rattle.pr_run_laws.specs.ScenarioRuns.{first_state_of}
 use Rattle.pr_scen.specs.Scenarios.{Scenario}
 use Rattle.proclab.proofs.RunEndLemmas.{status_cases}
-use Rattle.proclab.specs.Answers.{check_of, first_illegal_of, judged, judgement_of, refused_at, refused_for}
+use Rattle.proclab.specs.Answers.{Answer, check_of, first_illegal_of, judged, judgement_of, refused_at, refused_for}
 use Rattle.proclab.specs.Checks.{checked_of}
-use Rattle.proclab.specs.Giving.{IsGiven, RanOutLate}
-use Rattle.proclab.specs.Histories.{RanOutEarly}
+use Rattle.proclab.specs.Giving.{IsGiven}
+use Rattle.proclab.specs.Histories.{RanOutEarly, no_run}
 use Rattle.proclab.specs.Inputs.{taken_of}
-use Rattle.proclab.specs.Rows.{Ends, IsJudged, LeftNothing, RanOutAfter, Reads}
+use Rattle.proclab.specs.Rows.{Ends, GivesOne, IsJudged, IsThe, LeftNothing, OneRanOut, RanOutAfter, Reads}
 use Rattle.proclab.specs.Statuses.{IsWhole}
 use Rattle.proclab.specs.declared.checks.Wrong.{Wrong}
 use Rattle.proclab.specs.declared.checks.Wrong.TheVariants as wrong
@@ -48,29 +48,29 @@ check-nothing None = refl
 check-nothing (Some input) = read-nothing (checked_of input)
 
 -- Whatever the status is, there is no history.
-pub leaves-nothing : (old new : Ends) (status : Status) (h : List Entry) → Reads checked_limit check_of false old new status h → h ≡ []
+pub leaves-nothing : (old new : Ends) (status : Status) (h : List Entry) → Reads checked_limit (IsThe check_of) no_run old new status h → h ≡ []
 leaves-nothing old new status h r = by (status_cases status)
   where
     by : IsWhole status ⊎ ((status ≡ ReadFailed) ⊎ ((status ≡ WriteFailed) ⊎ (status ≡ OutOfMemory))) → h ≡ []
-    by (inl s) = let a = r.answered s in a.given.history_is ∙ check-nothing a.input
+    by (inl s) = let a = r.answered s in a.gives.given.history_is ∙ (ap (λ (x : Answer). x.history) a.gives.may ∙ check-nothing a.input)
     by (inr (inl s)) = (r.unread s).no_history
-    by (inr (inr (inl s))) = let c = r.cut s in c.cut.history_is ∙ check-nothing c.input
+    by (inr (inr (inl s))) = let c = r.cut s in c.cut.history_is ∙ (ap (λ (x : Answer). x.history) c.may ∙ check-nothing c.input)
     by (inr (inr (inr s))) = of_memory (r.memory s)
       where
-        of_memory : LeftNothing old new h ⊎ RanOutAfter checked_limit check_of false old new h → h ≡ []
+        of_memory : LeftNothing old new h ⊎ RanOutAfter checked_limit (IsThe check_of) no_run old new h → h ≡ []
         of_memory (inl nothing) = nothing.no_history
         of_memory (inr after) =
             ⊎_elim
-            (λ (early : RanOutEarly false after.input h old.written new.written). early.left)
-            (λ (late : RanOutLate (check_of after.input) h old.written new.written). late.history_is ∙ check-nothing after.input)
+            (λ (early : RanOutEarly no_run after.input h old.written new.written). early.left)
+            (λ (late : OneRanOut (IsThe check_of after.input) h old.written new.written). late.ran_out.history_is ∙ (ap (λ (x : Answer). x.history) late.may ∙ check-nothing after.input))
             after.ran_out
 
 -- Memory ran out before the text was begun.
-pub lost-check : (input : Option (List ℕ)) (h : List Entry) (old new : Option (List ℕ)) → h ≡ [] → new ≡ old → RanOutEarly false input h old new
+pub lost-check : (input : Option (List ℕ)) (h : List Entry) (old new : Option (List ℕ)) → h ≡ [] → new ≡ old → RanOutEarly no_run input h old new
 lost-check input h old new none same = record { unwritten = same; left = none }
 
 -- whichever the input is
-pub lost-any : (a b : Option (List ℕ)) (h : List Entry) (old new : Option (List ℕ)) → RanOutEarly false a h old new → RanOutEarly false b h old new
+pub lost-any : (a b : Option (List ℕ)) (h : List Entry) (old new : Option (List ℕ)) → RanOutEarly no_run a h old new → RanOutEarly no_run b h old new
 lost-any a b h old new early = record { unwritten = early.unwritten; left = early.left }
 
 -- ---- the judgement is given
@@ -90,11 +90,11 @@ module _ (old new : Ends) (status : Status) (h : List Entry) where
   of_taken None given = tt
   of_taken (Some text) given = of_read (checked_of text) given
 
-  of_left : (left : Option (List ℕ)) → (IsWhole status → IfSome left (λ input. IsGiven (check_of (taken_of checked_limit input)) status h old.written new.written))
+  of_left : (left : Option (List ℕ)) → (IsWhole status → IfSome left (λ input. GivesOne (IsThe check_of (taken_of checked_limit input)) status h old.written new.written))
       → IfSome left (λ input. IfSome (taken_of checked_limit input) (λ text. IfOk (checked_of text) (λ read. IsWhole status → IsJudged read.0 read.1 old new status h)))
   of_left None given = tt
-  of_left (Some input) given = of_taken (taken_of checked_limit input) given
+  of_left (Some input) given = of_taken (taken_of checked_limit input) (λ whole. let one = given whole in subst (λ (a : Answer). IsGiven a status h old.written new.written) one.may one.given)
 
-  pub judges-history : Reads checked_limit check_of false old new status h
+  pub judges-history : Reads checked_limit (IsThe check_of) no_run old new status h
       → IfSome old.left (λ input. IfSome (taken_of checked_limit input) (λ text. IfOk (checked_of text) (λ read. IsWhole status → IsJudged read.0 read.1 old new status h)))
   judges-history r = of_left old.left r.answers

@@ -1,4 +1,5 @@
 pub mod CheckLemmas
+pub mod CommandLemmas
 pub mod EarlyLemmas
 pub mod GivingLemmas
 pub mod MarkLemmas
@@ -7,3 +8,4 @@ pub mod ReadingLemmas
 pub mod ReportLemmas
 pub mod RunEndLemmas
 pub mod RunLemmas
+pub mod SharedLemmas

@@ -1,21 +1,21 @@
 -- How a command that reads an input ends.
-use Rattle.std.proofs.Common.{◌≡◌, ◌≢◌, ◌≤◌, ◌<◌, inl, inr, ℕ, Bool, true, false, List, [], ◌++◌, Option, Some, None, length, nat_le, cond, IfSome, refl, sym, ◌∙◌, ap, subst, arith, length-append}
+use Rattle.std.proofs.Common.{◌≡◌, ◌≢◌, ◌≤◌, ◌<◌, ◌⊎◌, inl, inr, ⊎_elim, ℕ, Bool, true, false, List, [], ◌++◌, Option, Some, None, length, nat_le, cond, IfSome, refl, sym, ◌∙◌, ap, subst, arith, length-append}
 use Rattle.std.proofs.lemmas.Bool.Decides.{nat_tests}
 use Rattle.std.proofs.lemmas.Option.{same_Some}
 use Rattle.pr_io.specs.Faults.{Rose}
 use Rattle.pr_io.specs.Known.{with_front}
 use Rattle.pr_model.specs.declared.events.Entry.{Entry}
 use Rattle.proclab.specs.Answers.{Answer}
-use Rattle.proclab.specs.Giving.{IsGiven, Responds}
-use Rattle.proclab.specs.Histories.{RanOutEarly}
+use Rattle.proclab.specs.Giving.{Responds, RespondsOne, StopsEarly}
+use Rattle.proclab.specs.Histories.{Making, RanOutEarly}
 use Rattle.proclab.specs.Inputs.{Took, taken_of}
-use Rattle.proclab.specs.Rows.{Ends, Reads}
+use Rattle.proclab.specs.Rows.{Ends, GivesOne, Reads}
 use Rattle.proclab.specs.declared.inputs.Unread.{Unread}
 use Rattle.proclab.specs.declared.inputs.Unread.TheVariants as unread
 use Rattle.proclab.specs.declared.outcomes.Status.{Status}
 use Rattle.proclab.specs.declared.outcomes.Status.TheVariants.{ReadFailed, OutOfMemory}
 
--- ---- the answer is a function of the input
+-- ---- the answer is one to the input
 
 pub taken : (limit : ℕ) (new : Option (List ℕ)) (left : List ℕ) (input : Option (List ℕ)) → Took limit (Some left) new input → input ≡ taken_of limit left
 unfolding with_front
@@ -38,32 +38,55 @@ taken limit new left (Some input) took =
     is_within : (n : ℕ) → n ≤ limit → nat_le n limit ≡ true
     is_within n h = grind (arith, nat_tests)
 
-answers-input : (limit : ℕ) (answer : Option (List ℕ) → Answer) (old new input : Option (List ℕ)) (status : Status) (h : List Entry) (w v : Option (List ℕ)) → Took limit old new input → IsGiven (answer input) status h w v → IfSome old (λ left. IsGiven (answer (taken_of limit left)) status h w v)
-answers-input limit answer None new input status h w v took given = tt
-answers-input limit answer (Some left) new input status h w v took given =
-    subst (λ (i : Option (List ℕ)). IsGiven (answer i) status h w v) (taken limit new left input took) given
+answers-input : (limit : ℕ) (May : Option (List ℕ) → Answer → Type 0) (old new input : Option (List ℕ)) (status : Status) (h : List Entry) (w v : Option (List ℕ)) → Took limit old new input → GivesOne (May input) status h w v → IfSome old (λ left. GivesOne (May (taken_of limit left)) status h w v)
+answers-input limit May None new input status h w v took given = tt
+answers-input limit May (Some left) new input status h w v took given =
+    subst (λ (i : Option (List ℕ)). GivesOne (May i) status h w v) (taken limit new left input took) given
 
 -- ---- the end
 
 -- The input was read, and answered.
-pub reads-answered : (limit : ℕ) (answer : Option (List ℕ) → Answer) (runs : Bool) (old new : Ends) (status : Status) (h : List Entry) (input : Option (List ℕ)) → Took limit old.left new.left input → new.read_faults ≡ old.read_faults
-    → Responds (answer input) (RanOutEarly runs input h old.written new.written) status h old.written new.written old.write_faults new.write_faults → Reads limit answer runs old new status h
-reads-answered limit answer runs old new status h input took same r = record {
-  answered = λ w. record { input = input; took = took; given = r.whole w.wrote w.had_memory };
-  answers = λ w. answers-input limit answer old.left new.left input status h old.written new.written took (r.whole w.wrote w.had_memory);
+pub reads-answered : (limit : ℕ) (May : Option (List ℕ) → Answer → Type 0) (making : Making) (old new : Ends) (status : Status) (h : List Entry) (input : Option (List ℕ)) (answer : Answer) → Took limit old.left new.left input → new.read_faults ≡ old.read_faults → May input answer
+    → Responds answer (RanOutEarly making input h old.written new.written) status h old.written new.written old.write_faults new.write_faults → Reads limit May making old new status h
+reads-answered limit May making old new status h input answer took same may r = record {
+  answered = λ w. record { input = input; took = took; gives = record { answer = answer; may = may; given = r.whole w.wrote w.had_memory } };
+  answers = λ w. answers-input limit May old.left new.left input status h old.written new.written took (record { answer = answer; may = may; given = r.whole w.wrote w.had_memory });
   unread = λ s. absurd (r.read s);
   read_failed = λ s. absurd (r.read s);
-  cut = λ s. record { input = input; took = took; cut = r.cut s };
+  cut = λ s. record { input = input; took = took; answer = answer; may = may; cut = r.cut s };
   write_failed = r.rose;
-  memory = λ s. inr (record { input = input; took = took; ran_out = r.memory s });
+  memory = λ s. inr (record { input = input; took = took; ran_out = ⊎_elim (λ early. inl early) (λ late. inr (record { answer = answer; may = may; ran_out = late })) (r.memory s) });
   no_read_fault = λ s. same;
   no_write_fault = r.no_fault;
 }
 
+-- Memory ran out before there was an answer.
+reads-early : (limit : ℕ) (May : Option (List ℕ) → Answer → Type 0) (making : Making) (old new : Ends) (status : Status) (h : List Entry) (input : Option (List ℕ)) → Took limit old.left new.left input → new.read_faults ≡ old.read_faults
+    → StopsEarly (RanOutEarly making input h old.written new.written) status old.write_faults new.write_faults → Reads limit May making old new status h
+reads-early limit May making old new status h input took same s =
+    let is = s.status_is in
+    record {
+      answered = λ w. absurd (w.had_memory is);
+      answers = λ w. absurd (w.had_memory is);
+      unread = λ s. let no : ⊥ = cc in absurd no;
+      read_failed = λ s. let no : ⊥ = cc in absurd no;
+      cut = λ s. let no : ⊥ = cc in absurd no;
+      write_failed = λ s. let no : ⊥ = cc in absurd no;
+      memory = λ m. inr (record { input = input; took = took; ran_out = inl s.left });
+      no_read_fault = λ r. same;
+      no_write_fault = λ r. s.no_fault;
+    }
+
+-- One of the answers that may come is given, or memory ran out before there was one.
+pub reads-one : (limit : ℕ) (May : Option (List ℕ) → Answer → Type 0) (making : Making) (old new : Ends) (status : Status) (h : List Entry) (input : Option (List ℕ)) → Took limit old.left new.left input → new.read_faults ≡ old.read_faults
+    → RespondsOne (May input) (RanOutEarly making input h old.written new.written) status h old.written new.written old.write_faults new.write_faults → Reads limit May making old new status h
+reads-one limit May making old new status h input took same (inl one) = reads-answered limit May making old new status h input one.answer took same one.may one.responds
+reads-one limit May making old new status h input took same (inr early) = reads-early limit May making old new status h input took same early
+
 -- The input was not read.
-pub reads-nothing : (limit : ℕ) (answer : Option (List ℕ) → Answer) (runs : Bool) (old new : Ends) (status : Status) (h : List Entry) (why : Unread) → (why ≡ unread.Failed → status ≡ ReadFailed) → (why ≡ unread.NoMemory → status ≡ OutOfMemory)
-    → (why ≡ unread.Failed → Rose old.read_faults new.read_faults) → (why ≢ unread.Failed → new.read_faults ≡ old.read_faults) → h ≡ [] → new.written ≡ old.written → new.write_faults ≡ old.write_faults → Reads limit answer runs old new status h
-reads-nothing limit answer runs old new status h unread.Failed failed memory rose same none unwritten calm =
+pub reads-nothing : (limit : ℕ) (May : Option (List ℕ) → Answer → Type 0) (making : Making) (old new : Ends) (status : Status) (h : List Entry) (why : Unread) → (why ≡ unread.Failed → status ≡ ReadFailed) → (why ≡ unread.NoMemory → status ≡ OutOfMemory)
+    → (why ≡ unread.Failed → Rose old.read_faults new.read_faults) → (why ≢ unread.Failed → new.read_faults ≡ old.read_faults) → h ≡ [] → new.written ≡ old.written → new.write_faults ≡ old.write_faults → Reads limit May making old new status h
+reads-nothing limit May making old new status h unread.Failed failed memory rose same none unwritten calm =
     let is : status ≡ ReadFailed = failed refl in
     record {
       answered = λ w. absurd (w.read is);
@@ -76,7 +99,7 @@ reads-nothing limit answer runs old new status h unread.Failed failed memory ros
       no_read_fault = λ s. absurd (s is);
       no_write_fault = λ s. calm;
     }
-reads-nothing limit answer runs old new status h unread.NoMemory failed memory rose same none unwritten calm =
+reads-nothing limit May making old new status h unread.NoMemory failed memory rose same none unwritten calm =
     let is : status ≡ OutOfMemory = memory refl in
     record {
       answered = λ w. absurd (w.had_memory is);

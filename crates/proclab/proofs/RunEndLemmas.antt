@@ -16,12 +16,11 @@ use Rattle.pr_world.specs.Runs.{IsFresh, IsTold, after_moves}
 use Rattle.pr_world.specs.Worlds.{WorldState, all_finished, end_of, end_with, next_actor, quiet_end}
 use Rattle.pr_world.proofs.RestLemmas.{all-rest, next-acts}
 use Rattle.pr_world.proofs.RunLemmas.{moves-counted, moves-told, told-lawful}
-use Rattle.proclab.specs.Answers.{answer_of, answer_to, end_status, ran, ran_so, refused_at}
+use Rattle.proclab.specs.Answers.{Answer, answer_of, answer_to, end_status, ran, ran_so, refused_at}
 use Rattle.proclab.specs.Ends.{EndsAs}
-use Rattle.proclab.specs.Giving.{IsGiven, RanOutLate}
-use Rattle.proclab.specs.Histories.{HistoryIsKept, IsAfterMoves, RanOutEarly}
+use Rattle.proclab.specs.Histories.{HistoryIsKept, IsAfterMoves, RanOutEarly, in_rounds}
 use Rattle.proclab.specs.Inputs.{Took, TookAll, taken_of}
-use Rattle.proclab.specs.Rows.{Ends, Reads, LeftNothing, RanOutAfter}
+use Rattle.proclab.specs.Rows.{Ends, GivesOne, IsThe, LeftNothing, OneRanOut, RanOutAfter, Reads}
 use Rattle.proclab.specs.Statuses.{IsWhole}
 use Rattle.proclab.specs.declared.commands.Showing.{Showing}
 use Rattle.proclab.specs.declared.outcomes.Status.{Status}
@@ -29,7 +28,10 @@ use Rattle.proclab.specs.declared.outcomes.Status.TheVariants.{Done, Usage, Refu
 
 -- ---- the history is kept
 
-of_scenario : (showing : Showing) (old new : Option (List ℕ)) (input : List ℕ) (s : Result Scenario ScenFault) → scenario_of input ≡ s → TookAll scenario_limit old new input → (h : List Entry) → h ≡ (answer_of showing s).history → HistoryIsKept old new h
+abbrev history_of : Answer → List Entry
+history_of a = a.history
+
+of_scenario : (showing : Showing) (old new : Option (List ℕ)) (input : List ℕ) (s : Result Scenario ScenFault) → scenario_of input ≡ s → TookAll scenario_limit old new input → (h : List Entry) → h ≡ (answer_of showing s).history → HistoryIsKept in_rounds old new h
 unfolding answer_of refused_at ran ran_so
 of_scenario showing old new input (Err fault) read took h is = inl is
 of_scenario showing old new input (Ok s) read took h is =
@@ -37,26 +39,26 @@ of_scenario showing old new input (Ok s) read took h is =
     let run : IsAfterMoves input h = record { scenario = s; read = read; moves = s.turns; within = omega arith; is = is; prefix = prefix } in
     inr (record { input = input; took = took; run = run; kept = subst (λ (x : List Entry). IsKept s x) (sym is) (run-kept s s.turns) })
 
-of_answer : (showing : Showing) (old new : Option (List ℕ)) (input : Option (List ℕ)) (h : List Entry) → Took scenario_limit old new input → h ≡ (answer_to showing input).history → HistoryIsKept old new h
+of_answer : (showing : Showing) (old new : Option (List ℕ)) (input : Option (List ℕ)) (h : List Entry) → Took scenario_limit old new input → h ≡ (answer_to showing input).history → HistoryIsKept in_rounds old new h
 unfolding answer_to refused_at
 of_answer showing old new None h took is = inl is
 of_answer showing old new (Some input) h took is = of_scenario showing old new input (scenario_of input) refl took h is
 
-of_way : (old new : Option (List ℕ)) (input : List ℕ) (h : List Entry) → TookAll scenario_limit old new input → (h ≡ []) ⊎ IsAfterMoves input h → HistoryIsKept old new h
+of_way : (old new : Option (List ℕ)) (input : List ℕ) (h : List Entry) → TookAll scenario_limit old new input → (h ≡ []) ⊎ IsAfterMoves input h → HistoryIsKept in_rounds old new h
 of_way old new input h took (inl none) = inl none
 of_way old new input h took (inr run) =
     inr (record { input = input; took = took; run = run; kept = subst (λ (x : List Entry). IsKept run.scenario x) (sym run.is) (run-kept run.scenario run.moves) })
 
-of_early : (old new : Option (List ℕ)) (input : Option (List ℕ)) (h : List Entry) (w v : Option (List ℕ)) → Took scenario_limit old new input → RanOutEarly true input h w v → HistoryIsKept old new h
+of_early : (old new : Option (List ℕ)) (input : Option (List ℕ)) (h : List Entry) (w v : Option (List ℕ)) → Took scenario_limit old new input → RanOutEarly in_rounds input h w v → HistoryIsKept in_rounds old new h
 of_early old new None h w v took early = inl early.left
 of_early old new (Some input) h w v took early = of_way old new input h took early.left
 
-of_memory : (showing : Showing) (old new : Ends) (h : List Entry) → LeftNothing old new h ⊎ RanOutAfter scenario_limit (answer_to showing) true old new h → HistoryIsKept old.left new.left h
+of_memory : (showing : Showing) (old new : Ends) (h : List Entry) → LeftNothing old new h ⊎ RanOutAfter scenario_limit (IsThe (answer_to showing)) in_rounds old new h → HistoryIsKept in_rounds old.left new.left h
 of_memory showing old new h (inl nothing) = inl nothing.no_history
 of_memory showing old new h (inr after) =
     ⊎_elim
-    (λ (early : RanOutEarly true after.input h old.written new.written). of_early old.left new.left after.input h old.written new.written after.took early)
-    (λ (late : RanOutLate (answer_to showing after.input) h old.written new.written). of_answer showing old.left new.left after.input h after.took late.history_is)
+    (λ (early : RanOutEarly in_rounds after.input h old.written new.written). of_early old.left new.left after.input h old.written new.written after.took early)
+    (λ (late : OneRanOut (IsThe (answer_to showing) after.input) h old.written new.written). of_answer showing old.left new.left after.input h after.took (late.ran_out.history_is ∙ ap history_of late.may))
     after.ran_out
 
 -- Nothing failed, or one thing did.
@@ -72,13 +74,13 @@ status_cases WriteFailed = inr (inr (inl refl))
 status_cases OutOfMemory = inr (inr (inr refl))
 
 -- Whatever the status is, the history is kept.
-pub history-kept : (showing : Showing) (old new : Ends) (status : Status) (h : List Entry) → Reads scenario_limit (answer_to showing) true old new status h → HistoryIsKept old.left new.left h
+pub history-kept : (showing : Showing) (old new : Ends) (status : Status) (h : List Entry) → Reads scenario_limit (IsThe (answer_to showing)) in_rounds old new status h → HistoryIsKept in_rounds old.left new.left h
 history-kept showing old new status h r = by (status_cases status)
   where
-    by : IsWhole status ⊎ ((status ≡ ReadFailed) ⊎ ((status ≡ WriteFailed) ⊎ (status ≡ OutOfMemory))) → HistoryIsKept old.left new.left h
-    by (inl s) = let a = r.answered s in of_answer showing old.left new.left a.input h a.took a.given.history_is
+    by : IsWhole status ⊎ ((status ≡ ReadFailed) ⊎ ((status ≡ WriteFailed) ⊎ (status ≡ OutOfMemory))) → HistoryIsKept in_rounds old.left new.left h
+    by (inl s) = let a = r.answered s in of_answer showing old.left new.left a.input h a.took (a.gives.given.history_is ∙ ap history_of a.gives.may)
     by (inr (inl s)) = inl (r.unread s).no_history
-    by (inr (inr (inl s))) = let c = r.cut s in of_answer showing old.left new.left c.input h c.took c.cut.history_is
+    by (inr (inr (inl s))) = let c = r.cut s in of_answer showing old.left new.left c.input h c.took (c.cut.history_is ∙ ap history_of c.may)
     by (inr (inr (inr s))) = of_memory showing old new h (r.memory s)
 
 -- ---- a scenario is run
@@ -107,11 +109,11 @@ unfolding answer_to
 run_taken showing None status is = tt
 run_taken showing (Some text) status is = run_given showing (scenario_of text) status is
 
-runs-told : (showing : Showing) (left : Option (List ℕ)) (status : Status) (h : List Entry) (w v : Option (List ℕ)) → (IsWhole status → IfSome left (λ input. IsGiven (answer_to showing (taken_of scenario_limit input)) status h w v))
+runs-told : (showing : Showing) (left : Option (List ℕ)) (status : Status) (h : List Entry) (w v : Option (List ℕ)) → (IsWhole status → IfSome left (λ input. GivesOne (IsThe (answer_to showing) (taken_of scenario_limit input)) status h w v))
     → IfSome left (λ input. IfSome (taken_of scenario_limit input) (λ text. IfOk (scenario_of text) (λ scenario. IsWhole status → EndsAs scenario.turns (run_of scenario) status)))
 runs-told showing None status h w v answers = tt
-runs-told showing (Some left) status h w v answers = run_taken showing (taken_of scenario_limit left) status (λ whole. let given = answers whole in given.status_is)
+runs-told showing (Some left) status h w v answers = run_taken showing (taken_of scenario_limit left) status (λ whole. let one = answers whole in one.given.status_is ∙ ap (λ (a : Answer). a.status) one.may)
 
-pub runs-scenario : (showing : Showing) (old new : Ends) (status : Status) (h : List Entry) → Reads scenario_limit (answer_to showing) true old new status h
+pub runs-scenario : (showing : Showing) (old new : Ends) (status : Status) (h : List Entry) → Reads scenario_limit (IsThe (answer_to showing)) in_rounds old new status h
     → IfSome old.left (λ input. IfSome (taken_of scenario_limit input) (λ text. IfOk (scenario_of text) (λ scenario. IsWhole status → EndsAs scenario.turns (run_of scenario) status)))
 runs-scenario showing old new status h r = runs-told showing old.left status h old.written new.written r.answers

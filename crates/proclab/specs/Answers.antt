@@ -10,7 +10,7 @@ use Rattle.pr_scen.specs.declared.refusals.ScenFault.{ScenFault}
 use Rattle.pr_scen.specs.declared.refusals.ScenKind.{ScenKind}
 use Rattle.pr_scen.specs.declared.refusals.ScenKind.TheVariants as kind
 use Rattle.pr_scen.specs.Scenarios.{Scenario}
-use Rattle.pr_world.specs.Runs.{CameFrom}
+use Rattle.pr_world.specs.Runs.{CameFrom, IsTold}
 use Rattle.pr_world.specs.Worlds.{WorldState, end_of, goes_on}
 use Rattle.pr_world.specs.declared.ends.End.{End}
 use Rattle.pr_world.specs.declared.ends.End.TheVariants as end
@@ -95,12 +95,13 @@ answer_to showing (Some input) = answer_of showing (scenario_of input)
 
 -- ---- the command `run` on several threads
 
--- A world in which a run of a scenario may have ended, in whatever order its actors moved: none can move any more, or
--- there is no place for an entry.
+-- A world in which a run of a scenario may have ended, in whatever order its actors moved: its kernel is that of a
+-- machine, and no actor can move any more, or there is no place for an entry.
 pub record IsEndOf (s : Scenario) (w : WorldState) : Type 0 where
   pub came : CameFrom (first_world s) w
+  pub told : IsTold w
   pub over : goes_on w ≡ false
-  pub within : length w.kernel.history ≤ s.turns
+  pub within : length w.kernel.history ≤ w.kernel.places
 
 -- what is written of one such world
 pub record ShowsEnd (showing : Showing) (s : Scenario) (answer : Answer) : Type 0 where

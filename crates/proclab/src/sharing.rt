@@ -1,11 +1,11 @@
 //! What the command `run` on several threads answers to an input.
-ghost use Rattle.std.specs.Prelude.{◌≡◌, ◌≤◌, length, Some, IfSome};
+ghost use Rattle.std.specs.Prelude.{◌≡◌, ◌≤◌, length, Some, IfOk, IfSome, OnErr, OnOk};
 ghost use Rattle.pr_num.specs.Limits.{scenario_limit};
 ghost use Rattle.pr_scen.specs.Reading.{scenario_of};
 ghost use Rattle.pr_scen.specs.Scenarios.{IsWithinLimits};
 ghost use Rattle.pr_world.specs.Worlds.{ended_as, seen};
 ghost use Rattle.proclab.specs.Answers.{MayAnswer, MayAnswerRead, ShowsEnd, ran};
-ghost use Rattle.proclab.specs.Giving.{Responds, RespondsOne};
+ghost use Rattle.proclab.specs.Giving.{Responds, RespondsOne, StopsEarly};
 ghost use Rattle.proclab.specs.Histories.{RanOutEarly, by_threads};
 ghost use Rattle.proclab.specs.Made.{LeftAt, StoppedThreads, kern_view};
 
@@ -18,7 +18,7 @@ use pr_io::{Gate, Sink};
 use pr_kern::Kern;
 use pr_lock::NewNo;
 use pr_model::History;
-use pr_num::Bytes;
+use pr_num::{Bytes, NoMemory};
 use pr_run::run_many;
 use pr_scen::{ScenRefusal, Scenario, read_scenario};
 use pr_world::{End, World};
@@ -48,6 +48,29 @@ fn show_world<K: Sink>(
     }
 }
 
+/// Shows the run that led to a world, or leaves its history where memory ran out in it.
+fn show_end<K: Sink>(
+    alloc: Global,
+    showing: Showing,
+    world: World<Kern>,
+    end: Result<End, NoMemory>,
+    sink: &mut K,
+) -> Ending
+    requires { IfOk end (λ end. ended_as (seen kern_view world) ≡ Some end) }
+    ensures ended { OnOk end (Responds (ran showing (seen kern_view world))
+        (LeftAt (seen kern_view world) result.history.entries (K.written sink.old) (K.written sink.new))
+        result.status result.history.entries
+        (K.written sink.old) (K.written sink.new) (K.faults sink.old) (K.faults sink.new)) }
+    ensures stopped { OnErr end (StopsEarly
+        (LeftAt (seen kern_view world) result.history.entries (K.written sink.old) (K.written sink.new))
+        result.status (K.faults sink.old) (K.faults sink.new)) }
+{
+    match end {
+        Ok(end) => show_world(alloc, showing, world, end, sink),
+        Err(error) => out_of_memory(error, world.into_kernel().into_history()),
+    }
+}
+
 /// Answers a scenario: its run is made on threads, of which so many share the processor, and written.
 fn share_scenario<R: Threads + Wait + Sync, K: Sink, G: Gate + Sync>(
     rt: &R,
@@ -71,8 +94,7 @@ fn share_scenario<R: Threads + Wait + Sync, K: Sink, G: Gate + Sync>(
         Err(error) => return out_of_memory(error, History::new(alloc)),
     };
     match run_many(rt, alloc, world, workers, gate) {
-        Ok((world, Ok(end))) => show_world(alloc, showing, world, end, sink),
-        Ok((world, Err(error))) => out_of_memory(error, world.into_kernel().into_history()),
+        Ok((world, end)) => show_end(alloc, showing, world, end, sink),
         Err(NewNo::NoMemory) => without_history(alloc, Status::OutOfMemory),
         Err(NewNo::Taken { .. }) => unreachable!(),
     }

@@ -1,7 +1,12 @@
-use Rattle.std.proofs.Common.{inl, refl}
-use Rattle.proclab.specs.Rows.{row_of}
+use Rattle.std.proofs.Common.{◌≡◌, ◌≤◌, ℕ, refl}
+use Rattle.proclab.specs.Commands.{HasWorkers}
+use Rattle.proclab.specs.Rows.{making_of, row_of}
+use Rattle.proclab.specs.declared.commands.Showing.{Showing}
+use Rattle.proclab.specs.declared.commands.Work.{Work}
+use Rattle.proclab.specs.declared.commands.Work.TheVariants.{Shares}
 use Rattle.proclab.proofs.CheckLemmas.{judges-history, leaves-nothing}
 use Rattle.proclab.proofs.RunEndLemmas.{history-kept, runs-scenario}
+use Rattle.proclab.proofs.SharedLemmas.{shared-kept, shares-scenario}
 use Rattle.proclab.proofs.running.carry_out.Goals as goal
 
 pub returns-in-Explains-clause-ends : goal.returns-in-Explains-clause-ends
@@ -32,7 +37,8 @@ pub returns-in-Runs-clause-runs_scenario : goal.returns-in-Runs-clause-runs_scen
 returns-in-Runs-clause-runs_scenario g c = rw c.in-Runs.is (runs-scenario _ _ _ _ _ c.run.ensures)
 
 pub returns-in-Runs-clause-kept : goal.returns-in-Runs-clause-kept
-returns-in-Runs-clause-kept g c = history-kept _ _ _ _ _ c.run.ensures
+unfolding making_of
+returns-in-Runs-clause-kept g c = rw c.in-Runs.is (history-kept _ _ _ _ _ c.run.ensures)
 
 pub returns-in-Checks-clause-ends : goal.returns-in-Checks-clause-ends
 unfolding row_of
@@ -42,4 +48,34 @@ pub returns-in-Checks-clause-judges_history : goal.returns-in-Checks-clause-judg
 returns-in-Checks-clause-judges_history g c = rw c.in-Checks.is (judges-history _ _ _ _ c.check.ensures)
 
 pub returns-in-Checks-clause-kept : goal.returns-in-Checks-clause-kept
-returns-in-Checks-clause-kept g c = inl (leaves-nothing _ _ _ _ c.check.ensures)
+unfolding making_of
+returns-in-Checks-clause-kept g c = rw c.in-Checks.is (leaves-nothing _ _ _ _ c.check.ensures)
+
+pub returns-in-Explains-clause-kept : goal.returns-in-Explains-clause-kept
+unfolding making_of
+returns-in-Explains-clause-kept g c = rw c.in-Explains.is c.explain.ensures.no_history
+
+pub returns-in-Generates-clause-kept : goal.returns-in-Generates-clause-kept
+unfolding making_of
+returns-in-Generates-clause-kept g c = rw c.in-Generates.is c.generate.ensures.no_history
+
+-- the workers of a run on several threads
+workers : (work : Work) (showing : Showing) (n : ℕ) → work ≡ Shares showing n → HasWorkers work → (1 ≤ n) × (n ≤ 16)
+workers work showing n is h = rw is at h
+
+pub run_on_threads-requires-clause-some : goal.run_on_threads-requires-clause-some
+run_on_threads-requires-clause-some g c = (workers c.args.work c.in-Shares.showing c.in-Shares.workers c.in-Shares.is c.requires).0
+
+pub run_on_threads-requires-clause-most : goal.run_on_threads-requires-clause-most
+run_on_threads-requires-clause-most g c = (workers c.args.work c.in-Shares.showing c.in-Shares.workers c.in-Shares.is c.requires).1
+
+pub returns-in-Shares-clause-ends : goal.returns-in-Shares-clause-ends
+unfolding row_of
+returns-in-Shares-clause-ends g c = rw c.in-Shares.is c.run_on_threads.ensures
+
+pub returns-in-Shares-clause-runs_scenario : goal.returns-in-Shares-clause-runs_scenario
+returns-in-Shares-clause-runs_scenario g c = rw c.in-Shares.is (shares-scenario _ _ _ _ _ c.run_on_threads.ensures)
+
+pub returns-in-Shares-clause-kept : goal.returns-in-Shares-clause-kept
+unfolding making_of
+returns-in-Shares-clause-kept g c = rw c.in-Shares.is (shared-kept _ _ _ _ _ c.run_on_threads.ensures)

@@ -1,0 +1,7 @@
+use Rattle.std.proofs.Common.{◌∙◌, sym, ap, subst, map, string_bytes}
+use Rattle.proclab.specs.Commands.{HasWorkers, work_of}
+use Rattle.proclab.proofs.CommandLemmas.{words-workers}
+use Rattle.proclab.proofs.serving.serve.Goals as goal
+
+pub carry_out-requires : goal.carry_out-requires
+carry_out-requires g c = subst HasWorkers (sym (c.work_of.ensures ∙ ap work_of c.command_of.ensures)) (words-workers (map string_bytes c.args.words.now))

@@ -1,0 +1,19 @@
+use Rattle.std.proofs.Common.{◌≡◌, ◌∙◌, inl, inr, refl, sym, subst}
+use Rattle.pr_api.specs.Views.{kernel_of}
+use Rattle.pr_world.specs.Runs.{CameFrom}
+use Rattle.pr_world.specs.Worlds.{WorldState, seen}
+use Rattle.proclab.specs.Made.{kern_view}
+use Rattle.proclab.proofs.RunLemmas.{seen-fresh}
+use Rattle.proclab.proofs.SharedLemmas.{shown-one}
+use Rattle.proclab.proofs.sharing.share_scenario.Goals as goal
+
+pub run_many-requires-clause-empty : goal.run_many-requires-clause-empty
+unfolding kernel_of
+run_many-requires-clause-empty g c = (seen-fresh _ _ c.in-Ok.ensures).history
+
+pub returns-in-Ok : goal.returns-in-Ok
+unfolding kernel_of
+returns-in-Ok g c =
+    let w = c.in-Ok-2.world in
+    let came = subst (λ (first : WorldState). CameFrom first (seen kern_view w)) c.in-Ok.ensures c.in-Ok-2.ensures.came in
+    shown-one c.args.showing c.args.scenario (seen kern_view w) c.in-Ok-2.end _ _ _ _ _ _ came (record { machine = w.kernel.state; is = refl }) c.in-Ok-2.ensures.within c.in-Ok-2.ensures.end c.show_end.ensures.ended c.show_end.ensures.stopped

@@ -1,0 +1,23 @@
+use Rattle.std.proofs.Common.{◌≡◌, inl, inr, refl, sym, subst, Err, Ok}
+use Rattle.pr_scen.specs.Reading.{scenario_of}
+use Rattle.pr_scen.specs.declared.refusals.ScenFault.{ScenFault}
+use Rattle.pr_scen.specs.Scenarios.{Scenario}
+use Rattle.std.specs.Result.{Result}
+use Rattle.proclab.specs.Answers.{Answer, MayAnswerRead, ShowsEnd, kind_name, refused_at}
+use Rattle.proclab.specs.Giving.{Responds}
+use Rattle.proclab.proofs.SharedLemmas.{one-answer, one-else, threads-left}
+use Rattle.proclab.proofs.sharing.share_text.Goals as goal
+
+pub returns-in-Ok : goal.returns-in-Ok
+returns-in-Ok g c =
+    let read = c.in-Ok.ensures.read in
+    one-else (ShowsEnd c.args.showing c.in-Ok.scenario) (MayAnswerRead c.args.showing (scenario_of c.args.text.now)) _ _ _ _ _ _ _ _
+    (λ a may. subst (λ (s : Result Scenario ScenFault). MayAnswerRead c.args.showing s a) (sym read) may) (λ stopped. threads-left _ _ _ _ _ read stopped) c.share_scenario.ensures
+
+pub returns-in-Err-Fault : goal.returns-in-Err-Fault
+returns-in-Err-Fault g c =
+    let read : scenario_of c.args.text.now ≡ Err c.in-Err-Fault.fault = rw c.in-Err-Fault.field-0-is at c.in-Err-Fault.ensures.read in
+    let answer = refused_at c.in-Err-Fault.fault.line (kind_name c.in-Err-Fault.fault.kind) in
+    let may : MayAnswerRead c.args.showing (scenario_of c.args.text.now) answer = subst (λ (s : Result Scenario ScenFault). MayAnswerRead c.args.showing s answer) (sym read) refl in
+    let refused : Responds answer ⊥ c.refuse_at.result.status c.refuse_at.result.history.entries (g.K.Sink.written c.args.sink.now) (g.K.Sink.written c.refuse_at.new.sink) (g.K.Sink.faults c.args.sink.now) (g.K.Sink.faults c.refuse_at.new.sink) = rw c.in-Err-Fault.field-0-is at c.refuse_at.ensures in
+    one-answer (MayAnswerRead c.args.showing (scenario_of c.args.text.now)) answer _ _ _ _ _ _ _ may refused
