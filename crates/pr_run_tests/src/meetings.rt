@@ -130,7 +130,8 @@ fn program(alloc: Global, name: &[u8], text: &[u8]) -> Option<Program> {
 fn truss(alloc: Global, words: &[&[u8]]) -> Option<Controller> {
     let mut all = Vec::new(alloc);
     for word in words {
-        all.push(Bytes::from_vec(Vec::from_slice(alloc, word).ok()?)).ok()?;
+        all.push(Bytes::from_vec(Vec::from_slice(alloc, word).ok()?))
+            .ok()?;
     }
     if all.len() > 1_000 {
         return None;
@@ -148,7 +149,9 @@ fn world(alloc: Global) -> Option<World<Kern>>
     programs.push(program(alloc, b"w", WRITER)?).ok()?;
     programs.push(program(alloc, b"r", READER)?).ok()?;
     let mut controllers = Vec::new(alloc);
-    controllers.push(truss(alloc, &[b"-f", b"-c", b"-s", b"!CLD", b"sh"])?).ok()?;
+    controllers
+        .push(truss(alloc, &[b"-f", b"-c", b"-s", b"!CLD", b"sh"])?)
+        .ok()?;
     let kernel = Kern::new(alloc, programs, Vec::new(alloc), &[], 2_000).ok()?;
     World::new(alloc, kernel, controllers, Vec::new(alloc)).ok()
 }

@@ -63,8 +63,8 @@ reads-answered limit May making old new status h input answer took same may r = 
 -- Memory ran out before there was an answer.
 reads-early : (limit : ℕ) (May : Option (List ℕ) → Answer → Type 0) (making : Making) (old new : Ends) (status : Status) (h : List Entry) (input : Option (List ℕ)) → Took limit old.left new.left input → new.read_faults ≡ old.read_faults
     → StopsEarly (RanOutEarly making input h old.written new.written) status old.write_faults new.write_faults → Reads limit May making old new status h
-reads-early limit May making old new status h input took same s =
-    let is = s.status_is in
+reads-early limit May making old new status h input took same stops =
+    let is : status ≡ OutOfMemory = stops.status_is in
     record {
       answered = λ w. absurd (w.had_memory is);
       answers = λ w. absurd (w.had_memory is);
@@ -72,9 +72,9 @@ reads-early limit May making old new status h input took same s =
       read_failed = λ s. let no : ⊥ = cc in absurd no;
       cut = λ s. let no : ⊥ = cc in absurd no;
       write_failed = λ s. let no : ⊥ = cc in absurd no;
-      memory = λ m. inr (record { input = input; took = took; ran_out = inl s.left });
-      no_read_fault = λ r. same;
-      no_write_fault = λ r. s.no_fault;
+      memory = λ s. inr (record { input = input; took = took; ran_out = inl stops.left });
+      no_read_fault = λ s. same;
+      no_write_fault = λ s. stops.no_fault;
     }
 
 -- One of the answers that may come is given, or memory ran out before there was one.

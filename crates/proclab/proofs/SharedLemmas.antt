@@ -15,7 +15,8 @@ use Rattle.pr_world.specs.Runs.{CameFrom, IsTold}
 use Rattle.pr_world.specs.Worlds.{WorldState, all_finished, end_of, end_with, ended_as, goes_on, next_actor, quiet_end}
 use Rattle.pr_world.specs.declared.ends.End.{End}
 use Rattle.pr_world.proofs.RestLemmas.{all-rest, next-acts}
-use Rattle.proclab.proofs.RunEndLemmas.{status_cases, told-lawful}
+use Rattle.pr_world.proofs.RunLemmas.{told-lawful}
+use Rattle.proclab.proofs.RunEndLemmas.{status_cases}
 use Rattle.proclab.proofs.RunLemmas.{first_world-places}
 use Rattle.proclab.specs.Answers.{Answer, IsEndOf, MayAnswer, MayAnswerRead, ShowsEnd, end_status, ran, ran_so, refused_at}
 use Rattle.proclab.specs.Ends.{EndsAs}
@@ -43,7 +44,7 @@ full : (turns n places : ℕ) → (nat_lt n places && true) ≡ false → n ≤ 
 full turns n places over within same = of (nat_lt n places) refl
   where
     of : (b : Bool) → nat_lt n places ≡ b → n ≡ turns
-    of true less = cc
+    of true less = let no : true ≡ false = sym (ap (λ (b : Bool). b && true) less) ∙ over in cc
     of false not_less = omega (arith, ltb-false n places not_less, within, same)
 
 -- A world that does not go on has ended, and no two causes hold of it.
@@ -75,12 +76,15 @@ shown-status : (showing : Showing) (w : WorldState) → (ran showing w).status �
 unfolding ran ran_so
 shown-status showing w = refl
 
+left-stopped : (s : Scenario) (w : WorldState) (h : List Entry) (old new : Option (List ℕ)) → CameFrom (first_world s) w → LeftAt w h old new → StoppedThreads s h old new
+left-stopped s w h old new came left = record { unwritten = left.unwritten; so_far = inr (record { world = w; came = came; is = left.is }) }
+
 responds-left : (answer : Answer) (s : Scenario) (w : WorldState) (status : Status) (h : List Entry) (old new : Option (List ℕ)) (before after : ℕ) → CameFrom (first_world s) w → Responds answer (LeftAt w h old new) status h old new before after → Responds answer (StoppedThreads s h old new) status h old new before after
 responds-left answer s w status h old new before after came r = record {
   whole = r.whole;
   cut = r.cut;
   rose = r.rose;
-  memory = λ m. ⊎_elim (λ (left : LeftAt w h old new). inl (record { unwritten = left.unwritten; so_far = inr (record { world = w; came = came; is = left.is }) })) (λ late. inr late) (r.memory m);
+  memory = λ m. ⊎_elim (λ (left : LeftAt w h old new). inl (left-stopped s w h old new came left)) (λ late. inr late) (r.memory m);
   no_fault = r.no_fault;
   read = r.read;
 }
@@ -95,12 +99,7 @@ shown-one showing s w (Ok end) status h old new before after came told within en
       responds = responds-left (ran showing w) s w status h old new before after came shown;
     })
 shown-one showing s w (Err e) status h old new before after came told within ended shown stopped =
-    let left = stopped.left in
-    inr (record {
-      status_is = stopped.status_is;
-      left = record { unwritten = left.unwritten; so_far = inr (record { world = w; came = came; is = left.is }) };
-      no_fault = stopped.no_fault;
-    })
+    inr (record { status_is = stopped.status_is; left = left-stopped s w h old new came stopped.left; no_fault = stopped.no_fault })
 
 -- ---- the history is kept
 

@@ -1,4 +1,5 @@
-use Rattle.std.proofs.Common.{◌∙◌, sym, ap, subst, map, string_bytes}
+use Rattle.std.proofs.Common.{◌∙◌, sym, ap, subst}
+use Rattle.std.specs.Prelude.{map, string_bytes}
 use Rattle.proclab.specs.Commands.{HasWorkers, work_of}
 use Rattle.proclab.proofs.CommandLemmas.{words-workers}
 use Rattle.proclab.proofs.serving.serve.Goals as goal

@@ -16,10 +16,11 @@ unfolding ran
 returns-in-Ok g c =
     let w = seen kern_view c.args.world in
     let history = c.into_history-history.ensures ∙ ap (λ (k : Kernel). k.history) c.into_kernel.ensures in
+    let printed : c.in-Ok.reports.items ≡ reports_of w = rw c.in-Ok.is at c.reports_of-reports.ensures in
     let same =
     ap (λ (e : End). ran_so c.args.showing e c.into_history-history.result.entries c.in-Ok.reports.items) (ended-is w c.args.end c.requires)
     ∙ (ap (λ (h : List Entry). ran_so c.args.showing (end_of w) h c.in-Ok.reports.items) history
-    ∙ ap (λ (rs : List Report). ran_so c.args.showing (end_of w) c.args.world.kernel.history rs) c.in-Ok.ensures) in
+    ∙ ap (λ (rs : List Report). ran_so c.args.showing (end_of w) c.args.world.kernel.history rs) printed) in
     gives-else (ran_so c.args.showing c.args.end c.into_history-history.result.entries c.in-Ok.reports.items) (ran c.args.showing w) ⊥ _ _ _ _ _ _ _ same (λ never. absurd never) c.report.ensures
 
 pub returns-in-Err : goal.returns-in-Err
