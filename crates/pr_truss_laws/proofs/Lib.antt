@@ -9,3 +9,4 @@ pub mod OwnLemmas
 pub mod ReleaseLemmas
 pub mod SequenceLemmas
 pub mod StepLemmas
+pub mod StillLemmas

@@ -1,3 +1,4 @@
 pub mod Exchanges
 pub mod Given
 pub mod Handles
+pub mod Stills

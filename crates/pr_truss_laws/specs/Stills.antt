@@ -1,0 +1,31 @@
+use Rattle.std.specs.Prelude.{◌≡◌, ◌||◌, ℕ, Bool, true, false, Some}
+use Rattle.pr_model.specs.LwpTurns.{with_counted}
+use Rattle.pr_model.specs.Machines.{stopped_as_directed}
+use Rattle.pr_model.specs.State.{TracedLwp, TracedProcess, lwp_of, with_lwp}
+use Rattle.pr_model.specs.Stops.{has_event_stop}
+use Rattle.pr_model.specs.declared.events.Did.TheVariants.{Stopped}
+
+-- Processes that stand still, and those that come to stand still.
+
+-- whether an lwp stands on an event of interest or is suspended
+abbrev pub stands_still : TracedLwp → Bool
+stands_still l = has_event_stop l || l.suspended
+
+-- a process each lwp of which stands so
+pub record IsFrozen (p : TracedProcess) : Type 0 where
+  pub each : (id : ℕ) (l : TracedLwp) → lwp_of p id ≡ Some l → stands_still l ≡ true
+
+-- whether an lwp stands so, or will stop before it does anything
+abbrev pub will_stop : TracedLwp → Bool
+will_stop l = stands_still l || l.control.directed
+
+-- a process each lwp of which does: there an lwp can only stop as it was directed to
+pub record IsHalting (p : TracedProcess) : Type 0 where
+  pub each : (id : ℕ) (l : TracedLwp) → lwp_of p id ≡ Some l → will_stop l ≡ true
+
+-- an lwp that stopped as it was directed to, and its process after that turn
+abbrev pub stopped_lwp : TracedLwp → TracedLwp
+stopped_lwp l = record l { control = stopped_as_directed l.control }
+
+abbrev pub with_lwp_stopped : ℕ → TracedProcess → TracedProcess
+with_lwp_stopped id p = with_counted Stopped false (with_lwp id stopped_lwp p)

@@ -1,0 +1,26 @@
+ghost use Rattle.std.specs.Prelude.{◌≡◌, ℕ, None, Some, false};
+ghost use Rattle.pr_model.specs.LwpTurns.{LwpTurn, can_move, turn_of};
+ghost use Rattle.pr_model.specs.State.{TracedProcess, TracedSystem, live_process};
+ghost use Rattle.pr_model.specs.declared.events.Did.TheVariants.{Stopped};
+ghost use Rattle.pr_truss_laws.specs.Stills.{IsFrozen, IsHalting, with_lwp_stopped};
+
+/// No lwp has a turn in a process each lwp of which stands on an event of interest or is suspended.
+#[tactic(auto, using(crate::proofs::StillLemmas::stills))]
+pub fn a_frozen_process_stands_still()
+    ensures moves { (s : TracedSystem) (pid : ℕ) (p : TracedProcess) → live_process s pid ≡ Some p → IsFrozen p
+        → (id : ℕ) → can_move s pid id ≡ false }
+    ensures turns { (s : TracedSystem) (pid : ℕ) (p : TracedProcess) → live_process s pid ≡ Some p → IsFrozen p
+        → (id : ℕ) → turn_of s pid id ≡ None }
+{}
+
+/// Where each lwp of a process stands so or is directed to stop, a turn of one does nothing but that it stops as it was
+/// directed to, and so it stays.
+#[tactic(auto, using(crate::proofs::StillLemmas::stills))]
+pub fn a_halting_process_only_stops()
+    ensures did { (s : TracedSystem) (pid : ℕ) (p : TracedProcess) → live_process s pid ≡ Some p → IsHalting p
+        → (id : ℕ) (t : LwpTurn) → turn_of s pid id ≡ Some t → t.turned ≡ record { did = Stopped; stop = false } }
+    ensures leaves { (s : TracedSystem) (pid : ℕ) (p : TracedProcess) → live_process s pid ≡ Some p → IsHalting p
+        → (id : ℕ) (t : LwpTurn) → turn_of s pid id ≡ Some t → live_process t.system pid ≡ Some (with_lwp_stopped id p) }
+    ensures stays { (s : TracedSystem) (pid : ℕ) (p : TracedProcess) → live_process s pid ≡ Some p → IsHalting p
+        → (id : ℕ) (t : LwpTurn) → turn_of s pid id ≡ Some t → IsHalting (with_lwp_stopped id p) }
+{}
