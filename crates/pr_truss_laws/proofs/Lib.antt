@@ -1,6 +1,7 @@
 pub mod AnswerLemmas
 pub mod ClosesLemmas
 pub mod FedLemmas
+pub mod FrameLemmas
 pub mod GivenLemmas
 pub mod HeldLemmas
 pub mod OpeningLemmas

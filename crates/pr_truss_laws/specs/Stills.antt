@@ -29,3 +29,12 @@ stopped_lwp l = record l { control = stopped_as_directed l.control }
 
 abbrev pub with_lwp_stopped : ℕ → TracedProcess → TracedProcess
 with_lwp_stopped id p = with_counted Stopped false (with_lwp id stopped_lwp p)
+
+-- ---- a process with which others have to do
+
+-- A process that others left alone but for signals, which came to pend for it or for its lwps, were deleted, or ended its
+-- job stop, and for its parent, which ended.
+pub record IsUndisturbed (p q : TracedProcess) : Type 0 where
+  pub rest : q ≡ record p { parent = q.parent; pending = q.pending; job_stop = q.job_stop; lwps = q.lwps }
+  pub each : (id : ℕ) (k : TracedLwp) → lwp_of q id ≡ Some k
+      → (l : TracedLwp) × ((lwp_of p id ≡ Some l) × (k ≡ record l { pending = k.pending }))

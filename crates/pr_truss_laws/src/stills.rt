@@ -1,8 +1,9 @@
-ghost use Rattle.std.specs.Prelude.{◌≡◌, ℕ, None, Some, false};
+ghost use Rattle.std.specs.Prelude.{◌≡◌, ◌≢◌, ℕ, None, Some, false};
+ghost use Rattle.pr_model.specs.Lawful.{IsLawfulSystem};
 ghost use Rattle.pr_model.specs.LwpTurns.{LwpTurn, can_move, turn_of};
 ghost use Rattle.pr_model.specs.State.{TracedProcess, TracedSystem, live_process};
 ghost use Rattle.pr_model.specs.declared.events.Did.TheVariants.{Stopped};
-ghost use Rattle.pr_truss_laws.specs.Stills.{IsFrozen, IsHalting, with_lwp_stopped};
+ghost use Rattle.pr_truss_laws.specs.Stills.{IsFrozen, IsHalting, IsUndisturbed, with_lwp_stopped};
 
 /// No lwp has a turn in a process each lwp of which stands on an event of interest or is suspended.
 #[tactic(auto, using(crate::proofs::StillLemmas::stills))]
@@ -23,4 +24,13 @@ pub fn a_halting_process_only_stops()
         → (id : ℕ) (t : LwpTurn) → turn_of s pid id ≡ Some t → live_process t.system pid ≡ Some (with_lwp_stopped id p) }
     ensures stays { (s : TracedSystem) (pid : ℕ) (p : TracedProcess) → live_process s pid ≡ Some p → IsHalting p
         → (id : ℕ) (t : LwpTurn) → turn_of s pid id ≡ Some t → IsHalting (with_lwp_stopped id p) }
+{}
+
+/// What an lwp of another process does leaves a process alone, where it lives still, but for signals and an end of its
+/// parent.
+#[tactic(auto, using(crate::proofs::FrameLemmas::frames))]
+pub fn a_turn_leaves_other_processes_alone()
+    ensures { (s : TracedSystem) (pid other id : ℕ) (t : LwpTurn) (p q : TracedProcess) → IsLawfulSystem s
+        → live_process s pid ≡ Some p → other ≢ pid → turn_of s other id ≡ Some t → live_process t.system pid ≡ Some q
+        → IsUndisturbed p q }
 {}
