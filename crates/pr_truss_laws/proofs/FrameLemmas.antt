@@ -14,7 +14,7 @@ use Rattle.pr_lawful.proofs.ChangeLemmas.{changed-lawful}
 use Rattle.pr_lawful.proofs.EndLemmas.{found-live}
 use Rattle.pr_lawful.proofs.MadeLemmas.{either-grows, generated-grows, same-grows}
 use Rattle.pr_lawful.proofs.SuitingLemmas.{SuitChanges}
-use Rattle.pr_lawful.proofs.TurnLemmas.{acting as acting_in, row-suits, turn-taken}
+use Rattle.pr_lawful.proofs.TurnLemmas.{acting as acting_in, row-suits}
 use Rattle.pr_parts.specs.SignalRules.{deleted_by}
 use Rattle.pr_model.specs.Generation.{ends_job_stop, lwp_with_pending, lwp_without_pending, told, with_deletions, with_pending, without_job_stop, without_pending}
 use Rattle.pr_model.specs.Changes.{Change, changed, files_are, space_is, signals, signals_itself, takes_shared, job_stops, disposition_is, held_is, resumes, forks, reaps, becomes, makes_lwp, suspends, all_changed, ended, Ending, ends_process, ends_lwp, with_fds}
@@ -28,6 +28,7 @@ use Rattle.pr_model.specs.Transitions.{Transition, after_transition, ended_if}
 use Rattle.pr_model.specs.Signals.{generated, is_kill}
 use Rattle.pr_model.specs.State.{TracedLwp, TracedProcess, TracedSystem, live_process, lwp_of, process_of, with_lwp, with_lwp_of, with_process}
 use Rattle.pr_truss_laws.specs.Stills.{IsUndisturbed}
+use Rattle.pr_model.proofs.TurnLemmas.{turn-taken}
 
 -- What others do to a process: signals, and no more.
 
