@@ -26,6 +26,7 @@ use Rattle.pr_world.specs.Controllers.{after_reply, call_by, feed_at, next_call,
 use Rattle.pr_world.specs.Cores.{Core, Truss}
 use Rattle.pr_world.specs.Protocol.{Follows, FollowsAt, controllers_after, controllers_at}
 use Rattle.pr_run_laws.specs.TrussRuns.{HasDone, IsTrussKept, truss_at}
+use Rattle.pr_num.specs.Limits.{handle_limit}
 
 -- A truss among the controllers of a run.
 
@@ -98,7 +99,7 @@ none-held k (suc n) (suc number) = none-held k n number
 
 pub nothing-held : (k : ℕ) (s : TracedState) → s.opens ≡ nothing_open → HasNothingOpen k s
 unfolding handle_of nothing_open
-nothing-held k s none = record { none = λ number. ap (λ (opens : Places). own k (slice_get opens number)) none ∙ none-held k _ number }
+nothing-held k s none = record { none = λ number. ap (λ (opens : Places). own k (slice_get opens number)) none ∙ none-held k handle_limit number }
 
 pub truss-kept : (controllers : List Core) (n : ℕ) (first : TracedState) (h : List Entry) (k : ℕ) (o : Options) → slice_get controllers k ≡ Some (Truss (first_truss o)) → HasNothingOpen k first → IsLegal n first h → Follows controllers first h → IsTrussKept controllers first h k o
 truss-kept controllers n first h k o at none legal follows =
