@@ -14,8 +14,9 @@ ghost use Rattle.pr_truss.specs.Trusses.{TrussState};
 ghost use Rattle.pr_world.specs.Cores.{Core};
 ghost use Rattle.pr_world.specs.Protocol.{Follows};
 
-/// Whatever truss has learnt, the control message that it sends next, if it sends one, is passive: PCSTOP, PCRUN without
-/// flags, those that set what is traced, PCUNSET, and PCSET of the modes to follow forks and to run on the last close.
+/// Whatever truss has learnt, the control message that it sends next, if it sends one, is passive: PCSTOP, PCRUN
+/// without flags, those that set what is traced, PCUNSET, and PCSET of the modes to follow forks and to run on the last
+/// close.
 pub fn truss_sends_passive_messages()
     ensures { (t : TrussState) → IfSome (trusses.next_call_of t) IsPassiveCall }
 {}
@@ -26,10 +27,11 @@ pub fn tools_send_passive_messages()
     ensures { (t : ToolState) → IfSome (tools.next_call_of t) IsPassiveCall }
 {}
 
-/// A call that sends a passive message, or none, is passive as the machine answers it. A set of signals, faults or calls
-/// that lies outside its column is refused.
+/// A call that sends a passive message, or none, is passive as the machine answers it. A set of signals, faults or
+/// calls that lies outside its column is refused.
 pub fn calls_that_send_passive_messages_are_passive()
-    ensures { (s : TracedState) (by : ℕ) (c : Call) (a : Answer) → answer_to s by c ≡ Some a → IsPassiveCall c → is_passive_call c a.reply ≡ true }
+    ensures { (s : TracedState) (by : ℕ) (c : Call) (a : Answer) → answer_to s by c ≡ Some a → IsPassiveCall c
+        → is_passive_call c a.reply ≡ true }
 {}
 
 /// A legal history is passive in which each controller is a truss or a tool and makes the calls that come after the
