@@ -13,6 +13,7 @@ use Rattle.pr_world.specs.Protocol.{controllers_at}
 
 -- The controller of a number is a tool of this kind and process, other than pstack: when it has finished, and was not
 -- refused, it prints the text of one state.
-pub record IsToolKept (controllers : List Core) (first : TracedState) (h : List Entry) (programs : List Program) (k : ℕ) (kind : ToolKind) (pid : ℕ) : Type 0 where
+pub record IsToolKept (controllers : List Core) (first : TracedState) (h : List Entry) (programs : List Program)
+    (k : ℕ) (kind : ToolKind) (pid : ℕ) : Type 0 where
   pub shows : (t : ToolState) → slice_get (controllers_at controllers h) k ≡ Some (Tool t) → has_ended t ≡ true
       → t.refusal ≡ None → reads_once kind ≡ true → IsOfOneState k kind pid first h (printed t programs)

@@ -62,7 +62,8 @@ IsReadBack Ptree pid s = AreProcessesRead s
 
 -- This text is that of a state of the history: of the one that a call of this controller finds. It is the text of what
 -- a read gives there, and so, where that can be read back, the text of what stands there.
-pub record IsOfOneState (k : ℕ) (kind : ToolKind) (pid : ℕ) (first : TracedState) (h : List Entry) (text : List ℕ) : Type 0 where
+pub record IsOfOneState (k : ℕ) (kind : ToolKind) (pid : ℕ) (first : TracedState) (h : List Entry)
+    (text : List ℕ) : Type 0 where
   pub before : List Entry
   pub call : Call
   pub reply : Reply
