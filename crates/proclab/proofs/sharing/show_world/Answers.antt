@@ -1,4 +1,5 @@
 use Rattle.std.proofs.Common.{◌≡◌, ◌∙◌, List, refl, ap}
+use Rattle.pr_api.specs.Views.{kernel_of}
 use Rattle.pr_kern.specs.Kernels.{Kernel}
 use Rattle.pr_model.specs.declared.events.Entry.{Entry}
 use Rattle.pr_output.specs.declared.reports.Report.{Report}
@@ -12,7 +13,7 @@ use Rattle.proclab.proofs.RunLemmas.{ended-is}
 use Rattle.proclab.proofs.sharing.show_world.Goals as goal
 
 pub returns-in-Ok : goal.returns-in-Ok
-unfolding ran
+unfolding ran kernel_of
 returns-in-Ok g c =
     let w = seen kern_view c.args.world in
     let history = c.into_history-history.ensures ∙ ap (λ (k : Kernel). k.history) c.into_kernel.ensures in
@@ -24,6 +25,7 @@ returns-in-Ok g c =
     gives-else (ran_so c.args.showing c.args.end c.into_history-history.result.entries c.in-Ok.reports.items) (ran c.args.showing w) ⊥ _ _ _ _ _ _ _ same (λ never. absurd never) c.report.ensures
 
 pub returns-in-Err : goal.returns-in-Err
+unfolding kernel_of
 returns-in-Err g c =
     let history = c.into_history-history.ensures ∙ ap (λ (k : Kernel). k.history) c.into_kernel.ensures in
     gives-nothing _ _ _ _ _ _ c.out_of_memory.ensures.status (record { unwritten = refl; is = c.out_of_memory.ensures.history ∙ history })
