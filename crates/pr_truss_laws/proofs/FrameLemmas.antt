@@ -110,7 +110,7 @@ module _ (pid : ℕ) where
   spares-there : (s u : TracedSystem) → process_of u pid ≡ process_of s pid → Spares s u
   spares-there s u same = record { from = λ q there live. (q, (sym same ∙ there, undisturbed-self q)) }
 
-  spares-if : (b : Bool) (s u v : TracedSystem) → Spares s u → Spares s v → Spares s (cond b u v)
+  pub spares-if : (b : Bool) (s u v : TracedSystem) → Spares s u → Spares s v → Spares s (cond b u v)
   spares-if true s u v p q = p
   spares-if false s u v p q = q
 
@@ -137,11 +137,11 @@ module _ (pid : ℕ) where
   unfolding with_parent_told
   parent-spares parent gone status s = spares-if (parent == 0) s s _ (spares-same s) (told-spares parent None Cld _ s)
 
-  made-spares : (p : TracedProcess) (s : TracedSystem) → s.made ≢ pid → Spares s (with_made p s)
+  pub made-spares : (p : TracedProcess) (s : TracedSystem) → s.made ≢ pid → Spares s (with_made p s)
   unfolding with_made
   made-spares p s new = spares-there s (with_made p s) (under-inserted_other s.made pid p new s.processes)
 
-  reaped-spares : (gone : ℕ) (s : TracedSystem) → gone ≢ pid → Spares s (with_reaped gone s)
+  pub reaped-spares : (gone : ℕ) (s : TracedSystem) → gone ≢ pid → Spares s (with_reaped gone s)
   unfolding with_reaped
   reaped-spares gone s other = spares-there s (with_reaped gone s) (under-without_id_other gone pid other s.processes)
 
@@ -290,7 +290,7 @@ module _ (pid : ℕ) where
           spares-next s counted_one _ (spares-next s made counted_one (transition-spares row.transition s h below suits) (other-spares acting _ made other)) (other-spares acting _ counted_one other)
 
   -- a process that stands was made
-  was-made : (s : TracedSystem) (p : TracedProcess) → IsLawfulSystem s → process_of s pid ≡ Some p → pid < s.made
+  pub was-made : (s : TracedSystem) (p : TracedProcess) → IsLawfulSystem s → process_of s pid ≡ Some p → pid < s.made
   was-made s p h there = let it = All-under (IsNumberedBelow s.made) pid p s.processes h.numbered there in it.id
 
   pub turn-spares : (s : TracedSystem) (acting id : ℕ) (t : LwpTurn) (p : TracedProcess) → IsLawfulSystem s → process_of s pid ≡ Some p → acting ≢ pid → turn_of s acting id ≡ Some t → Spares s t.system

@@ -1,12 +1,14 @@
 pub mod AnswerLemmas
 pub mod ClosesLemmas
 pub mod FedLemmas
+pub mod ForeignLemmas
 pub mod FrameLemmas
 pub mod GivenLemmas
 pub mod HeldLemmas
 pub mod OpeningLemmas
 pub mod OpensLemmas
 pub mod OwnLemmas
+pub mod OwnTurnLemmas
 pub mod ReleaseLemmas
 pub mod SequenceLemmas
 pub mod StepLemmas

@@ -30,7 +30,7 @@ get-set [] i x y at = absurd (none-some y at)
 get-set (z ∷ xs) zero x y at = refl
 get-set (z ∷ xs) (suc i) x y at = get-set xs i x y at
 
-get-set_other : {X : Type 0} (xs : List X) (i j : ℕ) (x : X) → i ≢ j → slice_get (slice_set xs i x) j ≡ slice_get xs j
+pub get-set_other : {X : Type 0} (xs : List X) (i j : ℕ) (x : X) → i ≢ j → slice_get (slice_set xs i x) j ≡ slice_get xs j
 get-set_other [] i j x other = refl
 get-set_other (z ∷ xs) zero zero x other = absurd (other refl)
 get-set_other (z ∷ xs) zero (suc j) x other = refl
@@ -91,6 +91,7 @@ pub record Refuses (s : TracedState) (r : Reply) (opens : Places) : Type 0 where
 pub record NotOpen (s : TracedState) (by number : ℕ) (a : Answer) : Type 0 where
   pub none : handle_of s.opens by number ≡ None
   pub is : a.state.opens ≡ s.opens
+  pub system : a.state.system ≡ s.system
 
 -- A close of a handle that was open.
 pub record ClosesOne (s : TracedState) (by number : ℕ) (h : Held) (a : Answer) : Type 0 where
@@ -116,7 +117,7 @@ open-opens s by pid id file mode a is = open-does s by (held_by by pid id file m
 
 close-does : (s : TracedState) (by number : ℕ) → (o : Option Held) → handle_of s.opens by number ≡ o → (a : Answer) → close_held s number o ≡ a → NotOpen s by number a ⊎ ((h : Held) × ClosesOne s by number h a)
 unfolding with_closed
-close-does s by number None is a at = inl (record { none = is; is = ap (λ (x : Answer). x.state.opens) (sym at) })
+close-does s by number None is a at = inl (record { none = is; is = ap (λ (x : Answer). x.state.opens) (sym at); system = ap (λ (x : Answer). x.state.system) (sym at) })
 close-does s by number (Some h) is a at = inr (h, record { held = is; state = ap (λ (x : Answer). x.state) (sym at); is = ap (λ (x : Answer). x.state.opens) (sym at) })
 
 pub close-closes : (s : TracedState) (by number : ℕ) (a : Answer) → answer_to s by (call.Close number) ≡ Some a → NotOpen s by number a ⊎ ((h : Held) × ClosesOne s by number h a)
@@ -125,98 +126,121 @@ close-closes s by number a is = close-does s by number (handle_of s.opens by num
 
 -- ---- every other call leaves the handles
 
-Leaves : TracedState → Option Answer → Type 0
-Leaves s None = Unit {0}
-Leaves s (Some a) = a.state.opens ≡ s.opens
+-- a state in which a controller may have seen that it was interrupted, or be interrupted, and else as it was
+Stays : TracedState → Option Answer → Type 0
+Stays s None = Unit {0}
+Stays s (Some a) = a.state ≡ record s { interrupted = a.state.interrupted }
 
--- whether a call opens or closes
+-- whether a call opens or closes; and whether it only waits, reads or interrupts
 abbrev pub keeps_handles : Call → Bool
 keeps_handles (call.Open pid id file mode) = false
 keeps_handles (call.Close number) = false
 keeps_handles _ = true
 
-leaves-waited : (s : TracedState) (by : ℕ) (r : Reply) → (waited s by r).state.opens ≡ s.opens
-leaves-waited s by (reply.Fail errno) = refused-wait errno
+abbrev pub only_looks : Call → Bool
+only_looks (call.CtlWait handle until bytes) = true
+only_looks (call.Read handle from len) = true
+only_looks (call.Poll handles) = true
+only_looks (call.Interrupt controller) = true
+only_looks (call.Until moment) = true
+only_looks call.List = true
+only_looks _ = false
+
+stays-some : (s : TracedState) (a : Answer) → a.state ≡ record s { interrupted = a.state.interrupted } → Stays s (Some a)
+unfolding Stays
+stays-some s a is = is
+
+stays-none : (s : TracedState) → Stays s None
+unfolding Stays
+stays-none s = tt
+
+stays-waited : (s : TracedState) (by : ℕ) (r : Reply) → Stays s (Some (waited s by r))
+unfolding Stays
+stays-waited s by (reply.Fail errno) = refused-wait errno
   where
-    refused-wait : (e : Errno) → (waited s by (reply.Fail e)).state.opens ≡ s.opens
+    refused-wait : (e : Errno) → (waited s by (reply.Fail e)).state ≡ record s { interrupted = (waited s by (reply.Fail e)).state.interrupted }
     refused-wait Intr = refl
     refused-wait _ = refl
-leaves-waited s by (reply.Handle h) = refl
-leaves-waited s by reply.Done = refl
-leaves-waited s by (reply.Used n) = refl
-leaves-waited s by (reply.Half n) = refl
-leaves-waited s by (reply.Bytes bytes) = refl
-leaves-waited s by (reply.Pid pid) = refl
-leaves-waited s by (reply.Ready h) = refl
+stays-waited s by (reply.Handle h) = refl
+stays-waited s by reply.Done = refl
+stays-waited s by (reply.Used n) = refl
+stays-waited s by (reply.Half n) = refl
+stays-waited s by (reply.Bytes bytes) = refl
+stays-waited s by (reply.Pid pid) = refl
+stays-waited s by (reply.Ready h) = refl
 
-leaves-wait : (s : TracedState) (by : ℕ) (r : Option Reply) → Leaves s (option_map (waited s by) r)
-unfolding Leaves
-leaves-wait s by None = tt
-leaves-wait s by (Some r) = leaves-waited s by r
+stays-wait : (s : TracedState) (by : ℕ) (r : Option Reply) → Stays s (option_map (waited s by) r)
+stays-wait s by None = stays-none s
+stays-wait s by (Some r) = stays-waited s by r
 
-leaves-if : (s : TracedState) (b : Bool) (x y : Option Answer) → Leaves s x → Leaves s y → Leaves s (cond b x y)
-leaves-if s true x y p q = p
-leaves-if s false x y p q = q
+stays-if : (s : TracedState) (b : Bool) (x y : Option Answer) → Stays s x → Stays s y → Stays s (cond b x y)
+stays-if s true x y p q = p
+stays-if s false x y p q = q
 
-leaves-some : (s : TracedState) (a : Answer) → a.state.opens ≡ s.opens → Leaves s (Some a)
-unfolding Leaves
-leaves-some s a is = is
+stays-ready : (s : TracedState) (h : Option ℕ) → Stays s (ready_answer s h)
+stays-ready s None = stays-none s
+stays-ready s (Some h) = stays-some s _ refl
 
-leaves-none : (s : TracedState) → Leaves s None
-unfolding Leaves
-leaves-none s = tt
-
-leaves-ready : (s : TracedState) (h : Option ℕ) → Leaves s (ready_answer s h)
-unfolding Leaves
-leaves-ready s None = tt
-leaves-ready s (Some h) = refl
-
-leaves-poll : (s : TracedState) (by : ℕ) (handles : List ℕ) → Leaves s (poll_answer s by handles)
+stays-poll : (s : TracedState) (by : ℕ) (handles : List ℕ) → Stays s (poll_answer s by handles)
 unfolding poll_answer
-leaves-poll s by handles =
+stays-poll s by handles =
     let ready : Option Answer = ready_answer s (find (is_polled_ready s by) handles) in
     let interrupted : Answer = interrupted_answer s by in
     let third : Option Answer = cond (is_interrupted s by) (Some interrupted) ready in
     let second : Option Answer = cond ((length handles == 0) || nat_lt handle_limit (length handles)) (Some (refused s Inval)) third in
-    leaves-if s (not (list_all (is_open_by s.opens by) handles)) (Some (refused s Badf)) second (leaves-some s (refused s Badf) refl) (leaves-if s ((length handles == 0) || nat_lt handle_limit (length handles)) (Some (refused s Inval)) third (leaves-some s (refused s Inval) refl) (leaves-if s (is_interrupted s by) (Some interrupted) ready (leaves-some s interrupted refl) (leaves-ready s (find (is_polled_ready s by) handles))))
+    stays-if s (not (list_all (is_open_by s.opens by) handles)) (Some (refused s Badf)) second (stays-some s (refused s Badf) refl) (stays-if s ((length handles == 0) || nat_lt handle_limit (length handles)) (Some (refused s Inval)) third (stays-some s (refused s Inval) refl) (stays-if s (is_interrupted s by) (Some interrupted) ready (stays-some s interrupted refl) (stays-ready s (find (is_polled_ready s by) handles))))
 
-leaves-until : (s : TracedState) (by moment : ℕ) → Leaves s (until_answer s by moment)
+stays-until : (s : TracedState) (by moment : ℕ) → Stays s (until_answer s by moment)
 unfolding until_answer
-leaves-until s by moment =
+stays-until s by moment =
     let done : Answer = answered s reply.Done in
     let interrupted : Answer = interrupted_answer s by in
     let waited_for : Option Answer = cond (nat_le moment s.system.clock) (Some done) None in
-    leaves-if s (is_interrupted s by) (Some interrupted) waited_for (leaves-some s interrupted refl) (leaves-if s (nat_le moment s.system.clock) (Some done) None (leaves-some s done refl) (leaves-none s))
+    stays-if s (is_interrupted s by) (Some interrupted) waited_for (stays-some s interrupted refl) (stays-if s (nat_le moment s.system.clock) (Some done) None (stays-some s done refl) (stays-none s))
 
-leaves-interrupt : (s : TracedState) (by controller : ℕ) → (interrupt_answer s controller).state.opens ≡ s.opens
+stays-interrupt : (s : TracedState) (controller : ℕ) → Stays s (Some (interrupt_answer s controller))
 unfolding interrupt_answer
-leaves-interrupt s by controller = elim (nat_lt controller controller_limit) as (λ b. (cond b (record { state = record s { interrupted = with_number s.interrupted (controller + 1) }; reply = reply.Done }) (refused s Inval)).state.opens ≡ s.opens) [ true ↦ refl | false ↦ refl ]
+stays-interrupt s controller = elim (nat_lt controller controller_limit) as (λ b. Stays s (Some (cond b (record { state = record s { interrupted = with_number s.interrupted (controller + 1) }; reply = reply.Done }) (refused s Inval)))) [ true ↦ stays-some s _ refl | false ↦ stays-some s _ refl ]
 
-leaves-spawn : (s : TracedState) (held : Bool) (program : Option Program) → (spawn_found s held program).state.opens ≡ s.opens
-leaves-spawn s held None = refl
-leaves-spawn s held (Some program) = by (spawn_refusal s.system program)
+call-stays : (s : TracedState) (by : ℕ) (c : Call) → only_looks c ≡ true → Stays s (answer_to s by c)
+unfolding answer_to
+call-stays s by (call.CtlWait handle until bytes) looks = stays-wait s by _
+call-stays s by (call.Read handle from len) looks = stays-some s _ refl
+call-stays s by (call.Poll handles) looks = stays-poll s by handles
+call-stays s by (call.Interrupt controller) looks = stays-interrupt s controller
+call-stays s by (call.Until moment) looks = stays-until s by moment
+call-stays s by call.List looks = stays-some s _ refl
+call-stays s by (call.Open pid id file mode) looks = cc
+call-stays s by (call.Close number) looks = cc
+call-stays s by (call.Ctl handle bytes) looks = cc
+call-stays s by (call.Spawn program held) looks = cc
+call-stays s by (call.Kill pid sig) looks = cc
+
+pub looking-stays : (s : TracedState) (by : ℕ) (c : Call) (a : Answer) → only_looks c ≡ true → answer_to s by c ≡ Some a → a.state ≡ record s { interrupted = a.state.interrupted }
+unfolding Stays
+looking-stays s by c a looks is = subst (Stays s) is (call-stays s by c looks)
+
+spawn-leaves : (s : TracedState) (held : Bool) (program : Option Program) → (spawn_found s held program).state.opens ≡ s.opens
+spawn-leaves s held None = refl
+spawn-leaves s held (Some program) = by (spawn_refusal s.system program)
   where
     by : (o : Option Errno) → (spawn_unless s program held o).state.opens ≡ s.opens
     by None = refl
     by (Some e) = refl
 
-call-leaves : (s : TracedState) (by : ℕ) (c : Call) → keeps_handles c ≡ true → Leaves s (answer_to s by c)
-unfolding answer_to spawn_answer kill_answer Leaves
-call-leaves s by (call.Open pid id file mode) keeps = cc
-call-leaves s by (call.Close number) keeps = cc
-call-leaves s by (call.Ctl handle bytes) keeps = refl
-call-leaves s by (call.CtlWait handle until bytes) keeps = leaves-wait s by _
-call-leaves s by (call.Read handle from len) keeps = refl
-call-leaves s by (call.Poll handles) keeps = leaves-poll s by handles
-call-leaves s by (call.Interrupt controller) keeps = leaves-interrupt s by controller
-call-leaves s by (call.Spawn program held) keeps = leaves-spawn s held _
-call-leaves s by (call.Kill pid sig) keeps = refl
-call-leaves s by (call.Until moment) keeps = leaves-until s by moment
-call-leaves s by call.List keeps = refl
-
 pub plain-leaves : (s : TracedState) (by : ℕ) (c : Call) (a : Answer) → keeps_handles c ≡ true → answer_to s by c ≡ Some a → a.state.opens ≡ s.opens
-unfolding Leaves
-plain-leaves s by c a keeps is = subst (Leaves s) is (call-leaves s by c keeps)
+unfolding answer_to spawn_answer kill_answer
+plain-leaves s by (call.Open pid id file mode) a keeps is = cc
+plain-leaves s by (call.Close number) a keeps is = cc
+plain-leaves s by (call.Ctl handle bytes) a keeps is = ap (λ (x : Answer). x.state.opens) (sym (same_Some _ a is))
+plain-leaves s by (call.Spawn program held) a keeps is = ap (λ (x : Answer). x.state.opens) (sym (same_Some _ a is)) ∙ spawn-leaves s held _
+plain-leaves s by (call.Kill pid sig) a keeps is = ap (λ (x : Answer). x.state.opens) (sym (same_Some _ a is))
+plain-leaves s by (call.CtlWait handle until bytes) a keeps is = ap (λ (x : TracedState). x.opens) (looking-stays s by (call.CtlWait handle until bytes) a refl is)
+plain-leaves s by (call.Read handle from len) a keeps is = ap (λ (x : TracedState). x.opens) (looking-stays s by (call.Read handle from len) a refl is)
+plain-leaves s by (call.Poll handles) a keeps is = ap (λ (x : TracedState). x.opens) (looking-stays s by (call.Poll handles) a refl is)
+plain-leaves s by (call.Interrupt controller) a keeps is = ap (λ (x : TracedState). x.opens) (looking-stays s by (call.Interrupt controller) a refl is)
+plain-leaves s by (call.Until moment) a keeps is = ap (λ (x : TracedState). x.opens) (looking-stays s by (call.Until moment) a refl is)
+plain-leaves s by call.List a keeps is = ap (λ (x : TracedState). x.opens) (looking-stays s by call.List a refl is)
 
 -- ---- the handles of another controller stay
 

@@ -1,9 +1,11 @@
-use Rattle.std.specs.Prelude.{◌≡◌, ◌||◌, ℕ, Bool, true, false, Some}
+use Rattle.std.specs.Prelude.{◌≡◌, ◌||◌, ℕ, Bool, true, false, None, Some}
 use Rattle.pr_model.specs.LwpTurns.{with_counted}
 use Rattle.pr_model.specs.Machines.{stopped_as_directed}
 use Rattle.pr_model.specs.State.{TracedLwp, TracedProcess, lwp_of, with_lwp}
 use Rattle.pr_model.specs.Stops.{has_event_stop}
 use Rattle.pr_model.specs.declared.events.Did.TheVariants.{Stopped}
+use Rattle.pr_model.specs.declared.stops.Stop.{Stop}
+use Rattle.pr_model.specs.declared.stops.Stop.TheVariants.{Requested}
 
 -- Processes that stand still, and those that come to stand still.
 
@@ -38,3 +40,27 @@ pub record IsUndisturbed (p q : TracedProcess) : Type 0 where
   pub rest : q ≡ record p { parent = q.parent; pending = q.pending; job_stop = q.job_stop; lwps = q.lwps }
   pub each : (id : ℕ) (k : TracedLwp) → lwp_of q id ≡ Some k
       → (l : TracedLwp) × ((lwp_of p id ≡ Some l) × (k ≡ record l { pending = k.pending }))
+
+-- ---- the turns of its own lwps
+
+-- a process none of whose lwps stands on an event of interest or is directed to stop
+pub record HasNoStop (l : TracedLwp) : Type 0 where
+  pub no_stop : l.control.stop ≡ None
+  pub not_directed : l.control.directed ≡ false
+
+pub record IsQuiet (p : TracedProcess) : Type 0 where
+  pub each : (id : ℕ) (l : TracedLwp) → lwp_of p id ≡ Some l → HasNoStop l
+
+-- what a turn of one of its lwps leaves of what is set on a process: all but its watched areas and its usage
+pub record HasSameSettings (p q : TracedProcess) : Type 0 where
+  pub control : q.control ≡ record p.control { areas = q.control.areas; usage = q.control.usage }
+
+-- an lwp that stands on an event of interest other than a requested stop
+abbrev pub is_met : Stop → Bool
+is_met Requested = false
+is_met _ = true
+
+pub record StandsOnEvent (l : TracedLwp) : Type 0 where
+  pub stop : Stop
+  pub is : l.control.stop ≡ Some stop
+  pub met : is_met stop ≡ true
