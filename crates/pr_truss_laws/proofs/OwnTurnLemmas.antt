@@ -2,17 +2,19 @@ use Rattle.std.proofs.Common.{◌≡◌, ◌≢◌, ◌==◌, ◌||◌, ◌&&◌
 use Rattle.std.proofs.lemmas.Bool.{false≢true, cases_Bool, eqb-true, eqb-false, eq-eqb}
 use Rattle.std.proofs.lemmas.Option.{same_Some, none-some}
 use Rattle.std.specs.Option.{option_map}
-use Rattle.pr_num.proofs.ByIdLaws.{under-change_under, under-change_under_other, under-inserted, under-inserted_other, under-map_each}
-use Rattle.pr_num.specs.ById.{change_under, inserted, map_each, under}
+use Rattle.pr_num.proofs.ByIdLaws.{under-change_under, under-change_under_other, under-inserted, under-inserted_other, under-map_each, under-without_id, under-without_id_other, All-under}
+use Rattle.pr_num.specs.ById.{IsRising, change_under, inserted, map_each, under, without_id}
 use Rattle.pr_num.specs.Control.{async_mode, has_flags}
 use Rattle.pr_num.specs.Files.{FileTable}
 use Rattle.pr_num.specs.Programs.{Program}
 use Rattle.pr_parts.specs.FileCalls.{with_all_shared}
 use Rattle.pr_lawful.proofs.EndLemmas.{found-live}
-use Rattle.pr_lawful.proofs.SuitingLemmas.{SuitChanges, SuitsChange, SuitsProgram}
+use Rattle.pr_lawful.proofs.SuitingLemmas.{SuitChanges, SuitsChange, SuitsProgram, SuitsTransition, is_stop}
+use Rattle.pr_lawful.proofs.TransitionLemmas.{stayed}
 use Rattle.pr_lawful.proofs.TurnLemmas.{acting, row-suits, turn-taken}
 use Rattle.pr_model.specs.Changes.{Change, changed, files_are, space_is, signals, signals_itself, takes_shared, job_stops, disposition_is, held_is, resumes, forks, reaps, becomes, makes_lwp, suspends, all_changed, ended, Ending, ends_process, ends_lwp, resumed, with_disposition_of, with_fds, with_held, with_job_stop, with_shared_taken, with_space, with_suspended}
 use Rattle.pr_model.specs.Lives.{forked, new_lwp, started, with_child, with_lwp_ended, with_made, with_reaped, with_new_lwp, with_program, without_lwp}
+use Rattle.pr_model.specs.Lawful.{IsLawfulProcess, IsLawfulSystem}
 use Rattle.pr_model.specs.LwpTurns.{LwpTurn, settled, turn_of, with_counted}
 use Rattle.pr_model.specs.Machines.{call_over, exec_control, fault_incurred, fault_posted, no_marks, step_taken, stopped_as_directed, traced}
 use Rattle.pr_model.specs.Moves.{Move, moved, stays, stops, posts, returns, runs, enters, incurs, traps, leaves, sleeps, takes, drops, catches}
@@ -213,3 +215,231 @@ module _ (pid : ℕ) where
     changes-carry (c ∷ cs) s suits =
         let next : TracedSystem = changed traced pid p id l c s in
         carried-next s next _ (change-carries c s suits.0) (changes-carry cs next suits.1)
+
+    -- ---- the move, the end, the counts
+
+    moved-stop : (m : Move) (k : TracedLwp) → is_stop m ≡ false → ((moved traced m k).control.stop ≡ k.control.stop) × ((moved traced m k).control.directed ≡ k.control.directed)
+    unfolding moved traced fault_posted fault_incurred step_taken call_over
+    moved-stop stops k not_stop = cc
+    moved-stop stays k not_stop = (refl, refl)
+    moved-stop (posts f address) k not_stop = (refl, refl)
+    moved-stop returns k not_stop = (refl, refl)
+    moved-stop (runs regs) k not_stop = (refl, refl)
+    moved-stop (enters call regs) k not_stop = (refl, refl)
+    moved-stop (incurs f address) k not_stop = (refl, refl)
+    moved-stop (traps f address regs) k not_stop = (refl, refl)
+    moved-stop (leaves call args result) k not_stop = (refl, refl)
+    moved-stop (sleeps call args since) k not_stop = (refl, refl)
+    moved-stop (takes c own) k not_stop = (refl, refl)
+    moved-stop drops k not_stop = (refl, refl)
+    moved-stop (catches frames regs held) k not_stop = (refl, refl)
+
+    -- where ids rise an lwp that ends is gone
+    goes_on-without : (x : TracedProcess) → IsRising x.lwps → GoesOn x (without_lwp id x)
+    unfolding without_lwp
+    goes_on-without x rises = record {
+      ended = refl;
+      settings = record { control = refl };
+      lwps = λ own k there. elim (cases_Bool (id == own)) [ inl same ↦ absurd (none-some k (sym (under-without_id 0 own x.lwps rises) ∙ subst (λ n. under own (without_id n x.lwps) ≡ Some k) (eqb-true id own same) there)) | inr not_same ↦ old k (sym (under-without_id_other id own (eqb-false id own not_same) x.lwps) ∙ there) refl refl ];
+    }
+
+    ended-carries : (how : Option Ending) (s : TracedSystem) → ((x : TracedProcess) (e : Ending) → how ≡ Some e → process_of s pid ≡ Some x → IsRising x.lwps) → Carried s (ended_if traced pid p id l how s)
+    unfolding ended with_lwp_ended
+    ended-carries None s rises = carried-same s
+    ended-carries (Some (ends_process status)) s rises = carried-spared s _ (end-spares pid pid p status s)
+    ended-carries (Some ends_lwp) s rises = carried-if (length p.lwps == 1) s _ _ (carried-spared s _ (end-spares pid pid p 0 s)) (own-carried (without_lwp id) s (λ x at. goes_on-without x (rises x ends_lwp refl at)))
+
+    -- what ends its lwp changes nothing else
+    end-rises : (t : Transition) (s : TracedSystem) → IsLawfulSystem s → SuitsTransition s pid p id l t → (x : TracedProcess) (e : Ending) → t.ending ≡ Some e → process_of (with_lwp_of pid id (moved traced t.move) (all_changed traced pid p id l t.changes s)) pid ≡ Some x → IsRising x.lwps
+    unfolding all_changed
+    end-rises t s h suits x e is at =
+        let alone = suits.alone e is in
+        let same : with_lwp_of pid id (moved traced t.move) (all_changed traced pid p id l t.changes s) ≡ s = ap (λ cs. with_lwp_of pid id (moved traced t.move) (all_changed traced pid p id l cs s)) alone.0 ∙ ap (λ m. with_lwp_of pid id (moved traced m) s) alone.1 ∙ stayed pid id s in
+        let own = All-under IsLawfulProcess pid x s.processes h.processes (ap (λ (v : TracedSystem). process_of v pid) (sym same) ∙ at) in
+        own.rising
+
+    row-carries : (row : Row) (s : TracedSystem) → IsLawfulSystem s → is_stop row.transition.move ≡ false → SuitsTransition s pid p id l row.transition → Carried s (with_process pid (with_counted row.did row.begun) (after_transition traced pid p id l row.transition s))
+    unfolding after_transition with_lwp_of with_counted
+    row-carries row s h not_stop suits =
+        let t : Transition = row.transition in
+        let changes : TracedSystem = all_changed traced pid p id l t.changes s in
+        let moves : TracedSystem = with_process pid (with_lwp id (moved traced t.move)) changes in
+        let ends : TracedSystem = ended_if traced pid p id l t.ending moves in
+        let one = carried-next s changes moves (changes-carry t.changes s suits.changes) (own-carried (with_lwp id (moved traced t.move)) changes (λ x at. goes_on-lwp id (moved traced t.move) (λ k. (moved-stop t.move k not_stop).0) (λ k. (moved-stop t.move k not_stop).1) x)) in
+        let two = carried-next s moves ends one (ended-carries t.ending moves (end-rises t s h suits)) in
+        carried-next s ends _ two (own-carried (with_counted row.did row.begun) ends (λ x at. counted-on row x))
+      where
+        counted-on : (r : Row) (x : TracedProcess) → GoesOn x (with_counted r.did r.begun x)
+        counted-on r x = record { ended = refl; settings = record { control = refl }; lwps = λ own k there. old k there refl refl }
+
+-- ---- the point that was met
+
+traced-same : (p q : TracedProcess) → HasSameSettings p q → (pt : Point) → is_traced q.control pt ≡ is_traced p.control pt
+unfolding is_traced
+traced-same p q same (Signal g) = ap (λ (c : TracedControl). is_traced c (Signal g)) same.control
+traced-same p q same (Fault f) = ap (λ (c : TracedControl). is_traced c (Fault f)) same.control
+traced-same p q same (Entry c) = ap (λ (x : TracedControl). is_traced x (Entry c)) same.control
+traced-same p q same (Exit c) = ap (λ (x : TracedControl). is_traced x (Exit c)) same.control
+
+quiet-on : (p q : TracedProcess) → GoesOn p q → IsQuiet p → IsQuiet q
+quiet-on p q g quiet = record { each = λ id k there. by id k (g.lwps id k there) }
+  where
+    by : (id : ℕ) (k : TracedLwp) → Carries p id k → HasNoStop k
+    by id k (new none) = none
+    by id k (old l there stop mark) = let n = quiet.each id l there in record { no_stop = stop ∙ n.no_stop; not_directed = mark ∙ n.not_directed }
+
+-- an lwp that was directed will stop
+or-true : (a : Bool) → (a || true) ≡ true
+or-true true = refl
+or-true false = refl
+
+directed-stops : (l : TracedLwp) → will_stop (directed l) ≡ true
+unfolding directed
+directed-stops l = by (is_some l.control.stop) refl
+  where
+    by : (b : Bool) → is_some l.control.stop ≡ b → will_stop (cond b l (record l { control = record l.control { directed = true } })) ≡ true
+    by true is = rw is refl
+    by false is = or-true (is_some l.control.stop || l.suspended)
+
+all-directed : (x : TracedProcess) → IsHalting (with_all_directed x)
+unfolding with_all_directed
+all-directed x = record { each = λ id k there. by (under id x.lwps) k (sym (under-map_each id directed x.lwps) ∙ there) }
+  where
+    by : (o : Option TracedLwp) (k : TracedLwp) → option_map directed o ≡ Some k → will_stop k ≡ true
+    by None k is = absurd (none-some k is)
+    by (Some l) k is = subst (λ (y : TracedLwp). will_stop y ≡ true) (same_Some (directed l) k is) (directed-stops l)
+
+-- the lwp that met the point stands on its event, also after all are directed
+met-stands : (pt : Point) (l : TracedLwp) → StandsOnEvent (directed (stopped_at pt l))
+unfolding directed stopped_at
+met-stands (Signal g) l = record { stop = stop_at (Signal g); is = refl; met = refl }
+met-stands (Fault f) l = record { stop = stop_at (Fault f); is = refl; met = refl }
+met-stands (Entry c) l = record { stop = stop_at (Entry c); is = refl; met = refl }
+met-stands (Exit c) l = record { stop = stop_at (Exit c); is = refl; met = refl }
+
+module _ (pt : Point) (id : ℕ) (x : TracedProcess) where
+  -- without PR_ASYNC
+  halted : TracedProcess
+  halted = with_all_directed (with_lwp id (stopped_at pt) x)
+
+  stop-is : has_flags x.control.modes async_mode ≡ false → with_stop_at pt id x ≡ with_all_directed (with_lwp id (stopped_at pt) x)
+  unfolding with_stop_at with_others_directed with_lwp
+  stop-is off = rw off refl
+
+  halted-on : GoesOn x x → HasSameSettings x (with_all_directed (with_lwp id (stopped_at pt) x))
+  unfolding with_all_directed with_lwp
+  halted-on g = record { control = refl }
+
+  halted-stands : (l : TracedLwp) → lwp_of (with_all_directed (with_lwp id (stopped_at pt) x)) id ≡ Some l → StandsOnEvent l
+  unfolding with_all_directed with_lwp
+  halted-stands l there = by (lwp_of x id) (ap (option_map directed) (sym (under-change_under id (stopped_at pt) x.lwps)) ∙ sym (under-map_each id directed (change_under id (stopped_at pt) x.lwps)) ∙ there)
+    where
+      by : (o : Option TracedLwp) → option_map directed (option_map (stopped_at pt) o) ≡ Some l → StandsOnEvent l
+      by None is = absurd (none-some l is)
+      by (Some k) is = subst StandsOnEvent (same_Some (directed (stopped_at pt k)) l is) (met-stands pt k)
+
+-- ---- a turn of a quiet process
+
+pub data AfterTurn (p : TracedProcess) (id : ℕ) (stop : Bool) (q : TracedProcess) : Type 0 where
+  quiet : stop ≡ false → IsQuiet q → HasSameSettings p q → AfterTurn p id stop q
+  met : stop ≡ true → IsHalting q → HasSameSettings p q → ((l : TracedLwp) → lwp_of q id ≡ Some l → StandsOnEvent l) → AfterTurn p id stop q
+
+after-point : (p x : TracedProcess) (id : ℕ) (point : Option Point) → GoesOn p x → IsQuiet p → has_flags p.control.modes async_mode ≡ false → AfterTurn p id (meets p.control point) (after_meeting point id x)
+unfolding after_meeting
+after-point p x id None g still off = quiet refl (quiet-on p x g still) g.settings
+after-point p x id (Some pt) g still off = by (is_traced x.control pt) refl
+  where
+    same : is_traced x.control pt ≡ is_traced p.control pt
+    same = traced-same p x g.settings pt
+
+    off-too : has_flags x.control.modes async_mode ≡ false
+    off-too = ap (λ (c : TracedControl). has_flags c.modes async_mode) g.settings.control ∙ off
+
+    by : (b : Bool) → is_traced x.control pt ≡ b → AfterTurn p id (is_traced p.control pt) (cond b (with_stop_at pt id x) x)
+    by false is = quiet (sym same ∙ is) (quiet-on p x g still) g.settings
+    by true is =
+        let h : TracedProcess = with_all_directed (with_lwp id (stopped_at pt) x) in
+        subst (λ (q : TracedProcess). AfterTurn p id (is_traced p.control pt) q) (sym (stop-is pt id x off-too))
+        (met (sym same ∙ is) (all-directed (with_lwp id (stopped_at pt) x)) (next-settings p x h g.settings (halted-on pt id x (goes_on-self x))) (halted-stands pt id x))
+
+module _ (s : TracedSystem) (pid : ℕ) (p : TracedProcess) (id : ℕ) (t : LwpTurn) (h : IsLawfulSystem s) (live : live_process s pid ≡ Some p) (still : IsQuiet p) (off : has_flags p.control.modes async_mode ≡ false) (turn : turn_of s pid id ≡ Some t) where
+  -- no lwp of a quiet process stops as directed
+  no-request : (l : TracedLwp) (tr : Transition) → lwp_of p id ≡ Some l → SuitsTransition s pid p id l tr → is_stop tr.move ≡ false
+  no-request l tr there suits = elim (cases_Bool (is_stop tr.move)) [ inl is ↦ absurd (false≢true (sym (let n = still.each id l there in n.not_directed) ∙ (suits.stop is).0)) | inr not_stop ↦ not_stop ]
+
+  meeting-ended : (point : Option Point) (x : TracedProcess) → (after_meeting point id x).ended ≡ x.ended
+  unfolding after_meeting with_stop_at with_others_directed with_lwp with_all_directed
+  meeting-ended None x = refl
+  meeting-ended (Some pt) x = elim (is_traced x.control pt) as (λ b. (cond b (with_stop_at pt id x) x).ended ≡ x.ended) [ true ↦ elim (has_flags x.control.modes async_mode) as (λ b. (cond b (with_lwp id (stopped_at pt) x) (with_all_directed (with_lwp id (stopped_at pt) x))).ended ≡ x.ended) [ true ↦ refl | false ↦ refl ] | false ↦ refl ]
+
+  -- the system before the point is looked at
+  counted_system : TracedLwp → Row → TracedSystem
+  counted_system l row = with_process pid (with_counted row.did row.begun) (after_transition traced pid p id l row.transition s)
+
+  carried-before : (l : TracedLwp) (row : Row) → lwp_of p id ≡ Some l → SuitsTransition s pid p id l row.transition → Carried pid s (counted_system l row)
+  unfolding counted_system
+  carried-before l row there suits = row-carries pid p id l row s h (no-request l row.transition there suits) suits
+
+  from-point : (l : TracedLwp) (row : Row) (q x : TracedProcess) → lwp_of p id ≡ Some l → SuitsTransition s pid p id l row.transition → process_of (counted_system l row) pid ≡ Some x → after_meeting row.point id x ≡ q → q.ended ≡ None → AfterTurn p id (meets p.control row.point) q
+  from-point l row q x there suits at is over =
+      let c = carried-before l row there suits in
+      let a = c.from x at (sym (meeting-ended row.point x) ∙ ap (λ (y : TracedProcess). y.ended) is ∙ over) in
+      let was = found-live s pid p live in
+      let g : GoesOn p x = subst (λ (y : TracedProcess). GoesOn y x) (same_Some a.0 p (sym a.1.0 ∙ was.0)) a.1.1 in
+      subst (AfterTurn p id (meets p.control row.point)) is (after-point p x id row.point g still off)
+
+  by-place : (l : TracedLwp) (row : Row) (q : TracedProcess) → lwp_of p id ≡ Some l → SuitsTransition s pid p id l row.transition → (o : Option TracedProcess) → process_of (counted_system l row) pid ≡ o → option_map (after_meeting row.point id) o ≡ Some q → q.ended ≡ None → AfterTurn p id (meets p.control row.point) q
+  by-place l row q there suits None at is over = absurd (none-some q is)
+  by-place l row q there suits (Some x) at is over = from-point l row q x there suits at (same_Some (after_meeting row.point id x) q is) over
+
+  settled-found : (l : TracedLwp) (row : Row) (q : TracedProcess) → process_of (settled s pid p id l row).system pid ≡ Some q → option_map (after_meeting row.point id) (process_of (counted_system l row) pid) ≡ Some q
+  unfolding settled with_process counted_system
+  settled-found l row q at = sym (under-change_under pid (after_meeting row.point id) (counted_system l row).processes) ∙ at
+
+  settled-stop : (l : TracedLwp) (row : Row) → (settled s pid p id l row).turned.stop ≡ meets p.control row.point
+  unfolding settled
+  settled-stop l row = refl
+
+  settled-after : (l : TracedLwp) (row : Row) (q : TracedProcess) → lwp_of p id ≡ Some l → SuitsTransition s pid p id l row.transition → live_process (settled s pid p id l row).system pid ≡ Some q → AfterTurn p id (settled s pid p id l row).turned.stop q
+  settled-after l row q there suits after =
+      let now = found-live (settled s pid p id l row).system pid q after in
+      subst (λ b. AfterTurn p id b q) (sym (settled-stop l row)) (by-place l row q there suits (process_of (counted_system l row) pid) refl (settled-found l row q now.0) now.1)
+
+  turn-after : (q : TracedProcess) → live_process t.system pid ≡ Some q → AfterTurn p id t.turned.stop q
+  turn-after q after =
+      let it = turn-taken s pid id t turn in
+      let same : it.process ≡ p = same_Some it.process p (sym it.live ∙ live) in
+      let there : lwp_of p id ≡ Some it.lwp = subst (λ (y : TracedProcess). lwp_of y id ≡ Some it.lwp) same it.there in
+      let is : t ≡ settled s pid p id it.lwp (row_for s pid p id it.lwp) = it.is ∙ ap (λ (y : TracedProcess). settled s pid y id it.lwp (row_for s pid y id it.lwp)) same in
+      let suits = row-suits s pid p id it.lwp (acting s pid id p it.lwp h live there) in
+      subst (λ (v : LwpTurn). AfterTurn p id v.turned.stop q) (sym is) (settled-after it.lwp (row_for s pid p id it.lwp) q there suits (ap (λ (v : LwpTurn). live_process v.system pid) (sym is) ∙ after))
+
+  pub quiet-stays : (q : TracedProcess) → live_process t.system pid ≡ Some q → t.turned.stop ≡ false → IsQuiet q
+  quiet-stays q after stop = by (turn-after q after)
+    where
+      by : AfterTurn p id t.turned.stop q → IsQuiet q
+      by (quiet is its same) = its
+      by (met is halting same stands) = absurd (false≢true (sym stop ∙ is))
+
+  pub quiet-halts : (q : TracedProcess) → live_process t.system pid ≡ Some q → t.turned.stop ≡ true → IsHalting q
+  quiet-halts q after stop = by (turn-after q after)
+    where
+      by : AfterTurn p id t.turned.stop q → IsHalting q
+      by (quiet is its same) = absurd (false≢true (sym is ∙ stop))
+      by (met is halting same stands) = halting
+
+  pub quiet-stands : (q : TracedProcess) (l : TracedLwp) → live_process t.system pid ≡ Some q → t.turned.stop ≡ true → lwp_of q id ≡ Some l → StandsOnEvent l
+  quiet-stands q l after stop there = by (turn-after q after)
+    where
+      by : AfterTurn p id t.turned.stop q → StandsOnEvent l
+      by (quiet is its same) = absurd (false≢true (sym is ∙ stop))
+      by (met is halting same stands) = stands l there
+
+  pub quiet-settings : (q : TracedProcess) → live_process t.system pid ≡ Some q → HasSameSettings p q
+  quiet-settings q after = by (turn-after q after)
+    where
+      by : AfterTurn p id t.turned.stop q → HasSameSettings p q
+      by (quiet is its same) = same
+      by (met is halting same stands) = same
+
+pub ruleset quiets = (quiet-stays, quiet-halts, quiet-stands, quiet-settings)

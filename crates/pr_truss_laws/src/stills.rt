@@ -1,14 +1,15 @@
-ghost use Rattle.std.specs.Prelude.{◌≡◌, ◌≢◌, ℕ, None, Some, false};
+ghost use Rattle.std.specs.Prelude.{◌≡◌, ◌≢◌, ℕ, None, Some, false, true};
 ghost use Rattle.pr_model.specs.Lawful.{IsLawful, IsLawfulSystem};
 ghost use Rattle.pr_model.specs.Calls.{Answer, answer_to};
 ghost use Rattle.pr_model.specs.Handles.{handle_of};
 ghost use Rattle.pr_model.specs.LwpTurns.{LwpTurn, can_move, turn_of};
-ghost use Rattle.pr_model.specs.State.{TracedProcess, TracedState, TracedSystem, live_process};
+ghost use Rattle.pr_model.specs.State.{TracedLwp, TracedProcess, TracedState, TracedSystem, live_process, lwp_of};
+ghost use Rattle.pr_num.specs.Control.{async_mode, has_flags};
 ghost use Rattle.pr_model.specs.declared.calls.Call as calls;
 ghost use Rattle.pr_model.specs.declared.calls.Mode.TheVariants.{WriteExcl};
 ghost use Rattle.pr_model.specs.declared.handles.Held.{Held};
 ghost use Rattle.pr_model.specs.declared.events.Did.TheVariants.{Stopped};
-ghost use Rattle.pr_truss_laws.specs.Stills.{IsFrozen, IsHalting, IsUndisturbed, with_lwp_stopped};
+ghost use Rattle.pr_truss_laws.specs.Stills.{HasSameSettings, IsFrozen, IsHalting, IsQuiet, IsUndisturbed, StandsOnEvent, with_lwp_stopped};
 
 /// No lwp has a turn in a process each lwp of which stands on an event of interest or is suspended.
 #[tactic(auto, using(crate::proofs::StillLemmas::stills))]
@@ -46,4 +47,27 @@ pub fn other_controllers_leave_an_exclusive_process_alone()
     ensures { (s : TracedState) (k number by : ℕ) (h : Held) (c : calls.Call) (a : Answer) (p q : TracedProcess)
         → IsLawful s → handle_of s.opens k number ≡ Some h → h.mode ≡ WriteExcl → by ≢ k → answer_to s by c ≡ Some a
         → live_process s.system h.pid ≡ Some p → live_process a.state.system h.pid ≡ Some q → IsUndisturbed p q }
+{}
+
+/// A turn in a process without PR_ASYNC, of which no lwp stands on an event of interest or is directed to stop: it meets
+/// nothing traced, and this stays so; or its lwp stops on what it met, and each other one stands still or is directed to
+/// stop. Both hold where the process lives still, and what is set on it stays, but for its watched areas.
+#[tactic(auto, using(crate::proofs::OwnTurnLemmas::quiets))]
+pub fn a_quiet_process_halts_at_one_event()
+    ensures stays { (s : TracedSystem) (pid : ℕ) (p : TracedProcess) (id : ℕ) (t : LwpTurn) → IsLawfulSystem s
+        → live_process s pid ≡ Some p → IsQuiet p → has_flags p.control.modes async_mode ≡ false
+        → turn_of s pid id ≡ Some t → (q : TracedProcess) → live_process t.system pid ≡ Some q
+        → t.turned.stop ≡ false → IsQuiet q }
+    ensures halts { (s : TracedSystem) (pid : ℕ) (p : TracedProcess) (id : ℕ) (t : LwpTurn) → IsLawfulSystem s
+        → live_process s pid ≡ Some p → IsQuiet p → has_flags p.control.modes async_mode ≡ false
+        → turn_of s pid id ≡ Some t → (q : TracedProcess) → live_process t.system pid ≡ Some q
+        → t.turned.stop ≡ true → IsHalting q }
+    ensures stands { (s : TracedSystem) (pid : ℕ) (p : TracedProcess) (id : ℕ) (t : LwpTurn) → IsLawfulSystem s
+        → live_process s pid ≡ Some p → IsQuiet p → has_flags p.control.modes async_mode ≡ false
+        → turn_of s pid id ≡ Some t → (q : TracedProcess) (l : TracedLwp) → live_process t.system pid ≡ Some q
+        → t.turned.stop ≡ true → lwp_of q id ≡ Some l → StandsOnEvent l }
+    ensures settings { (s : TracedSystem) (pid : ℕ) (p : TracedProcess) (id : ℕ) (t : LwpTurn) → IsLawfulSystem s
+        → live_process s pid ≡ Some p → IsQuiet p → has_flags p.control.modes async_mode ≡ false
+        → turn_of s pid id ≡ Some t → (q : TracedProcess) → live_process t.system pid ≡ Some q
+        → HasSameSettings p q }
 {}
