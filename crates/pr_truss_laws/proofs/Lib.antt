@@ -13,3 +13,4 @@ pub mod ReleaseLemmas
 pub mod SequenceLemmas
 pub mod StepLemmas
 pub mod StillLemmas
+pub mod ToldLemmas

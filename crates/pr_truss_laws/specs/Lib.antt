@@ -2,3 +2,4 @@ pub mod Exchanges
 pub mod Given
 pub mod Handles
 pub mod Stills
+pub mod Told
