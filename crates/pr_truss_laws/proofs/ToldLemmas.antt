@@ -13,27 +13,43 @@ use Rattle.pr_num.specs.Spaces.{Space, bytes_for}
 use Rattle.pr_parts.specs.WatchedAreas.{hit_in}
 use Rattle.pr_num.specs.declared.errnos.Errno.TheVariants.{Intr}
 use Rattle.pr_num.specs.declared.faults.Flt.{Flt}
+use Rattle.pr_num.specs.declared.faults.Flt.TheVariants.{Trace, Watch}
 use Rattle.pr_num.specs.declared.instructions.Instruction.{Instruction}
 use Rattle.pr_num.specs.declared.mappings.Area.{Area}
 use Rattle.pr_num.specs.declared.mappings.BadByte.{BadByte}
 use Rattle.pr_num.specs.declared.mappings.BadByte.TheVariants.{Hole, NotAllowed}
 use Rattle.pr_num.specs.Syscalls.{syscall_number}
 use Rattle.pr_rec.specs.Fields.{disposition_of as class_of}
-use Rattle.pr_model.specs.Signals.{disposition_of}
+use Rattle.pr_model.specs.Signals.{action_for, current_of, disposition_of, own_takeable, shared_takeable}
+use Rattle.pr_model.specs.declared.events.How.TheVariants.{Died, Ignored, JobStop}
 use Rattle.pr_model.specs.declared.events.Res.{Res}
 use Rattle.pr_model.specs.declared.events.Res.TheVariants.{Value, Error, Ended}
 use Rattle.pr_model.specs.declared.lwps.Current.{Current}
+use Rattle.pr_model.specs.declared.lwps.Phase.{Phase}
 use Rattle.pr_model.specs.declared.lwps.Phase.TheVariants as phase
 use Rattle.pr_model.specs.declared.stops.Stop.TheVariants as stop
 use Rattle.pr_num.specs.declared.signals.Sig.{Sig}
 use Rattle.pr_num.specs.declared.syscalls.Sysno.{Sysno}
 use Rattle.pr_model.specs.Events.{Event as MachineEvent, entry, event_of, exit, fault, gone, signal}
 use Rattle.pr_model.specs.InstructionEffects.{InstructionEffect, access_fault, calls, faults, instruction_effect, runs, runs_into_watch, trapped_after, unless_watched, load_effect, store_effect, executed, of_instruction, of_fetch, unless_exec_watched, hit_before, decoded, Decoded, faults_itself, enters_call, leaves, loads, stores, Store, Load, is_stack_load, loaded}
-use Rattle.pr_model.specs.Registers.{arguments, moved_on, pc_of, with_pc}
-use Rattle.pr_model.specs.State.{TracedLwp, TracedProcess}
+use Rattle.pr_parts.specs.declared.actions.Action.{Action}
+use Rattle.pr_parts.specs.declared.actions.Action.TheVariants as act
+use Rattle.pr_model.specs.CallEffects.{call_effect}
+use Rattle.pr_model.specs.Changes.{Change, takes_shared, Effect, does, sleeps, ends}
+use Rattle.pr_model.specs.Machines.{traced}
+use Rattle.pr_model.specs.Moves.{Move, moved}
+use Rattle.pr_model.specs.Moves as move
+use Rattle.pr_model.specs.Points.{stop_at}
+use Rattle.pr_model.specs.Rows.{Row, acted_row, call_row, caught_row, current_row_or, handler_row, posted_row, posted_row_or, requested_row, row_for, row_in, signal_row_or, taken_or, entered_row, executed_row, finished, incurred_row, instruction_row, interrupted_row, own_taken_row, performed_row, point_row, quiet_row, ran_row, returned_row, shared_taken_row, watched_row}
+use Rattle.pr_model.specs.Transitions.{died, dropped, entered, incurred, interrupted, job_stopped, own_taken, performed, ran, returned, shared_taken, trapped}
+use Rattle.pr_model.specs.declared.events.Did.TheVariants.{Acted, Faulted, Made, Ran, Returned, Took, Woke}
+use Rattle.pr_model.specs.declared.stops.Point.{Point}
+use Rattle.pr_model.specs.declared.stops.Point.TheVariants.{Signal, Fault, Entry, Exit}
+use Rattle.pr_model.specs.Registers.{address_at, arguments, moved_on, pc_of, with_pc}
+use Rattle.pr_model.specs.State.{TracedLwp, TracedProcess, TracedSystem}
 use Rattle.pr_model.specs.Statuses.{arguments_in, call_in, disposition_in, errno_in, result_in, info_in, lwpstatus_of, reason_shown, what_shown}
 use Rattle.pr_model.specs.Stops.{shown}
-use Rattle.pr_truss_laws.specs.Told.{TellsItsEvent, result_told, told}
+use Rattle.pr_truss_laws.specs.Told.{TellsItsEvent, has_ended, result_told, told}
 
 -- The status of an lwp right after the turn in which it stopped on an event tells that event.
 
@@ -146,3 +162,203 @@ module _ (q : TracedProcess) (id : ℕ) (k : TracedLwp) where
   fault-told : (f : Flt) → k.control.stop ≡ Some (stop.Faulted f) → event_shown (lwpstatus_of q id k) ≡ Some (Incurred f (pc_of k.regs))
   unfolding event_shown lwpstatus_of shown reason_shown what_shown
   fault-told f stops = rw stops (ap (option_map (λ (x : Flt). Incurred x (pc_of k.regs))) (fault_of_number-number f))
+
+-- ---- the row of a turn
+
+-- what the lwp is after its move, whatever else became of it
+pub record Follows (m : Move) (y k : TracedLwp) : Type 0 where
+  pub phase_is : k.phase ≡ (moved traced m y).phase
+  pub regs_are : k.regs ≡ (moved traced m y).regs
+  pub current_is : k.current ≡ (moved traced m y).current
+
+-- changes that leave the dispositions, as those of a turn that takes a signal do
+abbrev pub KeepsDispositions : List Change → TracedProcess → TracedProcess → Type 0
+KeepsDispositions [] p q = q.dispositions ≡ p.dispositions
+KeepsDispositions (takes_shared g ∷ []) p q = q.dispositions ≡ p.dispositions
+KeepsDispositions _ p q = Unit {0}
+
+module _ (p : TracedProcess) (l : TracedLwp) where
+  abbrev pub TellsRow : Row → Type 0
+  TellsRow row = (pt : Point) (y k : TracedLwp) (q : TracedProcess) (id : ℕ) → row.point ≡ Some pt → Follows row.transition.move y k → k.control.stop ≡ Some (stop_at pt) → KeepsDispositions row.transition.changes p q → has_ended row.did ≡ false → (row.transition.ending ≡ None) × TellsItsEvent p l row.did q id k
+
+  quiet-tells : (row : Row) → row.point ≡ None → TellsRow row
+  quiet-tells row none pt y k q id is f stops kept lives = absurd (none-some pt (sym none ∙ is))
+
+  -- the stop of the point that a row met
+  met-stop : (own pt : Point) (k : TracedLwp) → Some own ≡ Some pt → k.control.stop ≡ Some (stop_at pt) → k.control.stop ≡ Some (stop_at own)
+  met-stop own pt k is stops = stops ∙ ap (λ x. Some (stop_at x)) (sym (same_Some own pt is))
+
+  finished-logs : (woken : Bool) (call : Sysno) (args : List ℕ) (result : Res) (k : TracedLwp) → arguments_in l.regs l.phase ≡ args → is_result result ≡ true → event_of p l (Some k) (finished woken call result) ≡ Some (exit call args result)
+  unfolding event_of
+  finished-logs true call args (Value v) k same is = ap (λ a. Some (exit call a (Value v))) same
+  finished-logs true call args (Error e) k same is = ap (λ a. Some (exit call a (Error e))) same
+  finished-logs true call args Ended k same is = cc
+  finished-logs false call args (Value v) k same is = ap (λ a. Some (exit call a (Value v))) same
+  finished-logs false call args (Error e) k same is = ap (λ a. Some (exit call a (Error e))) same
+  finished-logs false call args Ended k same is = cc
+
+  told-exit : (call : Sysno) (args : List ℕ) (result : Res) → told (exit call args result) ≡ option_map (Left call args) (result_told result)
+  unfolding told
+  told-exit call args result = refl
+
+  left-phase : (call : Sysno) (args : List ℕ) (result : Res) (y k : TracedLwp) → Follows (move.leaves call args result) y k → k.phase ≡ phase.Exiting call args result
+  unfolding moved traced
+  left-phase call args result y k f = f.phase_is
+
+  exit-tells : (woken : Bool) (call : Sysno) (args : List ℕ) (result : Res) (row : Row) → row.did ≡ finished woken call result → row.point ≡ Some (Exit call) → row.transition.move ≡ move.leaves call args result → row.transition.ending ≡ None → arguments_in l.regs l.phase ≡ args → is_result result ≡ true → TellsRow row
+  exit-tells woken call args result row did point move ending same is pt y k q id met f stops kept lives = (ending, record {
+    event = exit call args result;
+    logged = ap (event_of p l (Some k)) did ∙ finished-logs woken call args result k same is;
+    tells = exit-told q id k call args result (met-stop (Exit call) pt k (sym point ∙ met) stops) (left-phase call args result y k (subst (λ m. Follows m y k) move f)) is ∙ sym (told-exit call args result);
+  })
+
+  interrupted-tells : (woken : Bool) (call : Sysno) (args : List ℕ) → arguments_in l.regs l.phase ≡ args → TellsRow (interrupted_row woken call args)
+  unfolding interrupted_row interrupted
+  interrupted-tells woken call args same = exit-tells woken call args (Error Intr) (interrupted_row woken call args) refl refl refl refl same refl
+
+  ended-finished : (woken : Bool) (call : Sysno) → has_ended (finished woken call Ended) ≡ true
+  ended-finished true call = refl
+  ended-finished false call = refl
+
+  performed-tells : (woken : Bool) (call : Sysno) (args : List ℕ) (since : ℕ) (effect : Effect) → arguments_in l.regs l.phase ≡ args → TellsRow (performed_row woken call args since effect)
+  unfolding performed_row performed
+  performed-tells woken call args since (does (Value v) changes) same = exit-tells woken call args (Value v) (performed_row woken call args since (does (Value v) changes)) refl refl refl refl same refl
+  performed-tells woken call args since (does (Error e) changes) same = exit-tells woken call args (Error e) (performed_row woken call args since (does (Error e) changes)) refl refl refl refl same refl
+  performed-tells woken call args since (does Ended changes) same = λ pt y k q id met f stops kept lives. absurd (false≢true (sym lives ∙ ended-finished woken call))
+  performed-tells woken call args since sleeps same = quiet-tells (performed_row woken call args since sleeps) refl
+  performed-tells woken call args since (ends how) same = quiet-tells (performed_row woken call args since (ends how)) refl
+
+  -- ---- signals
+
+  took-tells : (g : Sig) (c : Current) (own : Bool) (row : Row) → c.signal ≡ g → row.did ≡ Took g → row.point ≡ Some (Signal g) → row.transition.move ≡ move.takes c own → row.transition.ending ≡ None → ((x : TracedProcess) → KeepsDispositions row.transition.changes p x → x.dispositions ≡ p.dispositions) → TellsRow row
+  unfolding event_of told moved info_in
+  took-tells g c own row sig did point takes ending keeps pt y k q id met f stops kept lives =
+      let holds : k.current ≡ Some c = (subst (λ m. Follows m y k) takes f).current_is in
+      let same : q.dispositions ≡ p.dispositions = keeps q kept in
+      (ending, record {
+        event = signal g (disposition_of p.dispositions g) c.info;
+        logged = ap (event_of p l (Some k)) did ∙ ap (λ o. Some (signal g (disposition_of p.dispositions g) (info_in o))) holds;
+        tells = signal-told q id k g c (met-stop (Signal g) pt k (sym point ∙ met) stops) holds ∙ ap (λ d. Some (Received g (class_of (disposition_of d c.signal)) c.info)) same ∙ ap (λ x. Some (Received g (class_of (disposition_of p.dispositions x)) c.info)) sig;
+      })
+
+  own-tells : (g : Sig) → TellsRow (own_taken_row l g)
+  unfolding own_taken_row own_taken
+  own-tells g = took-tells g (current_of g l.pending) true (own_taken_row l g) refl refl refl refl refl (λ x keeps. keeps)
+
+  shared-tells : (g : Sig) → TellsRow (shared_taken_row p g)
+  unfolding shared_taken_row shared_taken
+  shared-tells g = took-tells g (current_of g p.pending) false (shared_taken_row p g) refl refl refl refl refl (λ x keeps. keeps)
+
+  -- ---- faults
+
+  fault-tells : (f : Flt) (row : Row) → row.did ≡ Faulted f → row.point ≡ Some (Fault f) → row.transition.ending ≡ None → TellsRow row
+  unfolding event_of told
+  fault-tells f row did point ending pt y k q id met fol stops kept lives = (ending, record {
+    event = fault f (pc_of k.regs);
+    logged = ap (event_of p l (Some k)) did;
+    tells = fault-told q id k f (met-stop (Fault f) pt k (sym point ∙ met) stops);
+  })
+
+  -- ---- instructions
+
+  entered-tells : (call : Sysno) (regs : List ℕ) → regs ≡ moved_on l.regs → TellsRow (entered_row call regs)
+  unfolding entered_row entered event_of told moved traced moved_on
+  entered-tells call regs on pt y k q id met f stops kept lives =
+      let args : arguments k.regs ≡ arguments l.regs = ap arguments f.regs_are ∙ ap arguments on ∙ arguments-pc l.regs (address_at (pc_of l.regs) 16) in
+      (refl, record {
+        event = entry call (arguments l.regs);
+        logged = refl;
+        tells = entry-told q id k call (met-stop (Entry call) pt k met stops) f.phase_is ∙ ap (λ a. Some (Entered call a)) args;
+      })
+
+  either-tells : (b : Bool) (x y : Row) → TellsRow x → TellsRow y → TellsRow (cond b x y)
+  either-tells true x y one other = one
+  either-tells false x y one other = other
+
+  ran-tells : (regs : List ℕ) (store : Option Store) → TellsRow (ran_row p l regs store)
+  unfolding ran_row trapped
+  ran-tells regs store =
+      let traps : Row = instruction_row (Faulted Trace) (Some (Fault Trace)) (trapped Trace (pc_of regs) p.space regs store) in
+      let goes : Row = instruction_row Ran None (ran p.space regs store) in
+      either-tells l.control.step traps goes (fault-tells Trace traps refl refl refl) (quiet-tells goes refl)
+
+  executed-tells : (e : InstructionEffect) → MovesOn l.regs e → TellsRow (executed_row p l e)
+  unfolding executed_row watched_row incurred_row trapped incurred
+  executed-tells (runs regs store) on = ran-tells regs store
+  executed-tells (calls call regs) on = entered-tells call regs on
+  executed-tells (faults f address) on = fault-tells f (incurred_row f address) refl refl refl
+  executed-tells (runs_into_watch address regs store) on = fault-tells Watch (watched_row address p regs store) refl refl refl
+
+  returned-tells : (call : Sysno) → TellsRow (returned_row p l call)
+  unfolding returned_row trapped
+  returned-tells call =
+      let traps : Row = point_row (Faulted Trace) (Fault Trace) (trapped Trace (pc_of l.regs) p.space l.regs None) in
+      let goes : Row = quiet_row (Returned call) returned in
+      either-tells l.control.step traps goes (fault-tells Trace traps refl refl refl) (quiet-tells goes refl)
+
+  -- ---- the table
+
+  caught-tells : (c : Current) (handler : ℕ) (ph : Phase) → l.phase ≡ ph → TellsRow (caught_row l c handler ph)
+  unfolding caught_row handler_row arguments_in
+  caught-tells c handler (phase.Entered call) at = interrupted-tells false call (arguments l.regs) (ap (arguments_in l.regs) at)
+  caught-tells c handler (phase.Asleep call args since) at = interrupted-tells true call args (ap (arguments_in l.regs) at)
+  caught-tells c handler phase.User at = quiet-tells (handler_row l c handler) refl
+  caught-tells c handler (phase.Exiting call args result) at = quiet-tells (handler_row l c handler) refl
+  caught-tells c handler (phase.Faulted f address) at = quiet-tells (handler_row l c handler) refl
+
+  acted-tells : (c : Current) → TellsRow (acted_row p l c)
+  unfolding acted_row
+  acted-tells c = by (action_for p.dispositions c.signal) refl
+    where
+      by : (a : Action) → action_for p.dispositions c.signal ≡ a → TellsRow (acted_row p l c)
+      by act.Ignore is = rw is (quiet-tells (quiet_row (Acted c.signal Ignored) dropped) refl)
+      by act.Stop is = rw is (quiet-tells (quiet_row (Acted c.signal JobStop) (job_stopped c.signal)) refl)
+      by act.Die is = rw is (quiet-tells (quiet_row (Acted c.signal Died) (died c.signal)) refl)
+      by (act.Catch handler) is = rw is (caught-tells c handler l.phase refl)
+
+  module _ (s : TracedSystem) (pid id : ℕ) where
+    call-tells : (woken : Bool) (call : Sysno) (args : List ℕ) (since : ℕ) → arguments_in l.regs l.phase ≡ args → TellsRow (call_row s pid p id l woken call args since)
+    unfolding call_row
+    call-tells woken call args since same = either-tells l.control.abort (interrupted_row woken call args) (performed_row woken call args since (call_effect s pid p id l since call args)) (interrupted-tells woken call args same) (performed-tells woken call args since (call_effect s pid p id l since call args) same)
+
+    in-phase : (ph : Phase) → l.phase ≡ ph → TellsRow (row_in s pid p id l ph)
+    unfolding row_in arguments_in posted_row
+    in-phase phase.User at = executed-tells (instruction_effect p.space p.control.areas l.regs) (effect-on l.regs p.space p.control.areas)
+    in-phase (phase.Entered call) at = call-tells false call (arguments l.regs) s.clock (ap (arguments_in l.regs) at)
+    in-phase (phase.Asleep call args since) at = call-tells true call args since (ap (arguments_in l.regs) at)
+    in-phase (phase.Exiting call args result) at = returned-tells call
+    in-phase (phase.Faulted f address) at = quiet-tells (posted_row f address) refl
+
+    taken-tells : (own shared : Option Sig) (otherwise : Row) → TellsRow otherwise → TellsRow (taken_or s pid p id l own shared otherwise)
+    taken-tells (Some g) shared otherwise tells = own-tells g
+    taken-tells None (Some g) otherwise tells = shared-tells g
+    taken-tells None None otherwise tells = tells
+
+    signal-tells : (ph : Phase) (otherwise : Row) → TellsRow otherwise → TellsRow (signal_row_or s pid p id l ph otherwise)
+    unfolding signal_row_or
+    signal-tells phase.User otherwise tells = taken-tells (own_takeable l) (shared_takeable p l) otherwise tells
+    signal-tells (phase.Entered call) otherwise tells = tells
+    signal-tells (phase.Asleep call args since) otherwise tells = taken-tells (own_takeable l) (shared_takeable p l) otherwise tells
+    signal-tells (phase.Exiting call args result) otherwise tells = taken-tells (own_takeable l) (shared_takeable p l) otherwise tells
+    signal-tells (phase.Faulted f address) otherwise tells = tells
+
+    current-tells : (c : Option Current) (otherwise : Row) → TellsRow otherwise → TellsRow (current_row_or s pid p id l c otherwise)
+    current-tells (Some c) otherwise tells = acted-tells c
+    current-tells None otherwise tells = tells
+
+    posted-tells : (ph : Phase) (otherwise : Row) → TellsRow otherwise → TellsRow (posted_row_or s pid p id l ph otherwise)
+    unfolding posted_row
+    posted-tells (phase.Faulted f address) otherwise tells = quiet-tells (posted_row f address) refl
+    posted-tells phase.User otherwise tells = tells
+    posted-tells (phase.Entered call) otherwise tells = tells
+    posted-tells (phase.Asleep call args since) otherwise tells = tells
+    posted-tells (phase.Exiting call args result) otherwise tells = tells
+
+    pub row-tells : TellsRow (row_for s pid p id l)
+    unfolding row_for requested_row
+    row-tells =
+        let here : Row = row_in s pid p id l l.phase in
+        let signalled : Row = signal_row_or s pid p id l l.phase here in
+        let acted : Row = current_row_or s pid p id l l.current signalled in
+        let posted_first : Row = posted_row_or s pid p id l l.phase acted in
+        either-tells l.control.directed requested_row posted_first (quiet-tells requested_row refl) (posted-tells l.phase acted (current-tells l.current signalled (signal-tells l.phase here (in-phase l.phase refl))))

@@ -1,4 +1,4 @@
-use Rattle.std.specs.Prelude.{◌≡◌, ℕ, List, Option, Some, None, Result, Ok, Err, option_map}
+use Rattle.std.specs.Prelude.{◌≡◌, ℕ, Bool, true, false, List, Option, Some, None, Result, Ok, Err, option_map}
 use Rattle.pr_line.specs.Events.{event_of as event_shown}
 use Rattle.pr_line.specs.declared.events.Event.{Event}
 use Rattle.pr_line.specs.declared.events.Event.TheVariants.{Entered, Left, Received, Incurred}
@@ -6,6 +6,7 @@ use Rattle.pr_model.specs.Events.{Event as MachineEvent, entry, event_of, exit, 
 use Rattle.pr_model.specs.State.{TracedLwp, TracedProcess}
 use Rattle.pr_model.specs.Statuses.{lwpstatus_of}
 use Rattle.pr_model.specs.declared.events.Did.{Did}
+use Rattle.pr_model.specs.declared.events.Did.TheVariants.{Made, Woke}
 use Rattle.pr_model.specs.declared.events.Res.{Res}
 use Rattle.pr_model.specs.declared.events.Res.TheVariants.{Value, Error, Ended}
 use Rattle.pr_num.specs.declared.errnos.Errno.{Errno}
@@ -25,6 +26,12 @@ told (exit call args result) = option_map (Left call args) (result_told result)
 told (gone call args) = None
 told (signal g disposition info) = Some (Received g (class_of disposition) info)
 told (fault f pc) = Some (Incurred f pc)
+
+-- whether a turn ended its lwp or its process by a call
+abbrev pub has_ended : Did → Bool
+has_ended (Made call Ended) = true
+has_ended (Woke call Ended) = true
+has_ended _ = false
 
 -- After a turn that did this, of an lwp that was l in a process p, the status of the lwp k that is in q then tells the
 -- event that the turn logged.
