@@ -1,4 +1,5 @@
 pub mod AnswerLemmas
+pub mod BridgeLemmas
 pub mod ClosesLemmas
 pub mod FedLemmas
 pub mod ForeignLemmas

@@ -136,7 +136,7 @@ module _ (id : ℕ) (l : TracedLwp) where
 
 module _ (pid : ℕ) where
   -- the process of this id, where it lives later, lived before and went on
-  record Carried (s u : TracedSystem) : Type 0 where
+  pub record Carried (s u : TracedSystem) : Type 0 where
     pub from : (q : TracedProcess) → process_of u pid ≡ Some q → q.ended ≡ None → (p : TracedProcess) × ((process_of s pid ≡ Some p) × GoesOn p q)
 
   carried-same : (s : TracedSystem) → Carried s s
@@ -258,7 +258,7 @@ module _ (pid : ℕ) where
         let own = All-under IsLawfulProcess pid x s.processes h.processes (ap (λ (v : TracedSystem). process_of v pid) (sym same) ∙ at) in
         own.rising
 
-    row-carries : (row : Row) (s : TracedSystem) → IsLawfulSystem s → is_stop row.transition.move ≡ false → SuitsTransition s pid p id l row.transition → Carried s (with_process pid (with_counted row.did row.begun) (after_transition traced pid p id l row.transition s))
+    pub row-carries : (row : Row) (s : TracedSystem) → IsLawfulSystem s → is_stop row.transition.move ≡ false → SuitsTransition s pid p id l row.transition → Carried s (with_process pid (with_counted row.did row.begun) (after_transition traced pid p id l row.transition s))
     unfolding after_transition with_lwp_of with_counted
     row-carries row s h not_stop suits =
         let t : Transition = row.transition in
@@ -274,7 +274,7 @@ module _ (pid : ℕ) where
 
 -- ---- the point that was met
 
-traced-same : (p q : TracedProcess) → HasSameSettings p q → (pt : Point) → is_traced q.control pt ≡ is_traced p.control pt
+pub traced-same : (p q : TracedProcess) → HasSameSettings p q → (pt : Point) → is_traced q.control pt ≡ is_traced p.control pt
 unfolding is_traced
 traced-same p q same (Signal g) = ap (λ (c : TracedControl). is_traced c (Signal g)) same.control
 traced-same p q same (Fault f) = ap (λ (c : TracedControl). is_traced c (Fault f)) same.control

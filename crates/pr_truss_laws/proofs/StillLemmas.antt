@@ -68,7 +68,7 @@ live-changed s pid f p live same =
     let found = found-live s pid p live in
     ap (option_and_then if_live) (under-change_under pid f s.processes ∙ ap (option_map f) found.0) ∙ if-live-none (f p) (same ∙ found.1)
 
-row-directed : (s : TracedSystem) (pid : ℕ) (p : TracedProcess) (id : ℕ) (l : TracedLwp) → l.control.directed ≡ true → row_for s pid p id l ≡ requested_row
+pub row-directed : (s : TracedSystem) (pid : ℕ) (p : TracedProcess) (id : ℕ) (l : TracedLwp) → l.control.directed ≡ true → row_for s pid p id l ≡ requested_row
 unfolding row_for
 row-directed s pid p id l is = rw is refl
 
