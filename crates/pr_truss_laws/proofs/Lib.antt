@@ -1,3 +1,4 @@
+pub mod AloneLemmas
 pub mod AnswerLemmas
 pub mod BridgeLemmas
 pub mod ClosesLemmas

@@ -10,7 +10,8 @@ mod told;
 pub use given::{each_given_process_is_handled, each_handle_is_closed};
 pub use handles::{nothing_stays_open, what_is_closed_is_released};
 pub use stills::{
-    a_frozen_process_stands_still, a_halting_process_only_stops, a_quiet_process_halts_at_one_event,
+    a_frozen_process_stands_still, a_halting_process_only_stops,
+    a_process_left_alone_stands_as_it_stood, a_quiet_process_halts_at_one_event,
     a_turn_leaves_other_processes_alone, other_controllers_leave_an_exclusive_process_alone,
 };
 pub use told::a_stop_tells_its_event;

@@ -8,6 +8,9 @@ ghost use Rattle.pr_num.specs.Control.{async_mode, has_flags};
 ghost use Rattle.pr_model.specs.declared.calls.Call as calls;
 ghost use Rattle.pr_model.specs.declared.calls.Mode.TheVariants.{WriteExcl};
 ghost use Rattle.pr_model.specs.declared.handles.Held.{Held};
+ghost use Rattle.pr_line.specs.Events.{event_of};
+ghost use Rattle.pr_model.specs.Statuses.{lwpstatus_of};
+ghost use Rattle.pr_model.specs.declared.stops.Stop.{Stop};
 ghost use Rattle.pr_model.specs.declared.events.Did.TheVariants.{Stopped};
 ghost use Rattle.pr_truss_laws.specs.Stills.{HasSameSettings, IsFrozen, IsHalting, IsQuiet, IsUndisturbed, StandsOnEvent, with_lwp_stopped};
 
@@ -70,4 +73,16 @@ pub fn a_quiet_process_halts_at_one_event()
         → live_process s pid ≡ Some p → IsQuiet p → has_flags p.control.modes async_mode ≡ false
         → turn_of s pid id ≡ Some t → (q : TracedProcess) → live_process t.system pid ≡ Some q
         → HasSameSettings p q }
+{}
+
+/// A process that was left alone stands as it stood: where no lwp could move none can, where each stood still or was
+/// directed to stop this is so, and where none was stopped none is. An lwp that stood on an event tells the same event.
+#[tactic(auto, using(crate::proofs::AloneLemmas::alones))]
+pub fn a_process_left_alone_stands_as_it_stood()
+    ensures frozen { (p q : TracedProcess) → IsUndisturbed p q → IsFrozen p → IsFrozen q }
+    ensures halting { (p q : TracedProcess) → IsUndisturbed p q → IsHalting p → IsHalting q }
+    ensures quiet { (p q : TracedProcess) → IsUndisturbed p q → IsQuiet p → IsQuiet q }
+    ensures tells { (p q : TracedProcess) → IsUndisturbed p q → (id : ℕ) (l k : TracedLwp) (stop : Stop)
+        → lwp_of p id ≡ Some l → lwp_of q id ≡ Some k → l.control.stop ≡ Some stop
+        → event_of (lwpstatus_of q id k) ≡ event_of (lwpstatus_of p id l) }
 {}
