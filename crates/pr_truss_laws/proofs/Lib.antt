@@ -7,6 +7,7 @@ pub mod ForeignLemmas
 pub mod FrameLemmas
 pub mod GivenLemmas
 pub mod HeldLemmas
+pub mod OneEventLemmas
 pub mod OpeningLemmas
 pub mod OpensLemmas
 pub mod OwnLemmas

@@ -1,6 +1,7 @@
-use Rattle.std.specs.Prelude.{◌≡◌, ◌||◌, ℕ, Bool, true, false, None, Some}
+use Rattle.std.specs.Prelude.{◌≡◌, ◌≢◌, ◌||◌, ℕ, Bool, true, false, None, Some}
 use Rattle.pr_model.specs.LwpTurns.{with_counted}
 use Rattle.pr_model.specs.Machines.{stopped_as_directed}
+use Rattle.pr_model.specs.Running.{shows_run}
 use Rattle.pr_model.specs.State.{TracedLwp, TracedProcess, lwp_of, with_lwp}
 use Rattle.pr_model.specs.Stops.{has_event_stop}
 use Rattle.pr_model.specs.declared.events.Did.TheVariants.{Stopped}
@@ -64,3 +65,13 @@ pub record StandsOnEvent (l : TracedLwp) : Type 0 where
   pub stop : Stop
   pub is : l.control.stop ≡ Some stop
   pub met : is_met stop ≡ true
+
+-- ---- one event
+
+-- One lwp of a process stands on an event other than a requested stop, and each other one shows a requested stop or a
+-- suspension.
+pub record HasOneEvent (p : TracedProcess) (id : ℕ) : Type 0 where
+  pub lwp : TracedLwp
+  pub there : lwp_of p id ≡ Some lwp
+  pub stands : StandsOnEvent lwp
+  pub others : (other : ℕ) (k : TracedLwp) → other ≢ id → lwp_of p other ≡ Some k → shows_run p.job_stop (other, k) ≡ true

@@ -13,5 +13,6 @@ pub use stills::{
     a_frozen_process_stands_still, a_halting_process_only_stops,
     a_process_left_alone_stands_as_it_stood, a_quiet_process_halts_at_one_event,
     a_turn_leaves_other_processes_alone, other_controllers_leave_an_exclusive_process_alone,
+    running_from_one_event_leaves_a_quiet_process,
 };
 pub use told::a_stop_tells_its_event;

@@ -3,16 +3,18 @@ ghost use Rattle.pr_model.specs.Lawful.{IsLawful, IsLawfulSystem};
 ghost use Rattle.pr_model.specs.Calls.{Answer, answer_to};
 ghost use Rattle.pr_model.specs.Handles.{handle_of};
 ghost use Rattle.pr_model.specs.LwpTurns.{LwpTurn, can_move, turn_of};
-ghost use Rattle.pr_model.specs.State.{TracedLwp, TracedProcess, TracedState, TracedSystem, live_process, lwp_of};
+ghost use Rattle.pr_model.specs.State.{TracedLwp, TracedProcess, TracedState, TracedSystem, has_agent, live_process, lwp_of};
 ghost use Rattle.pr_num.specs.Control.{async_mode, has_flags};
 ghost use Rattle.pr_model.specs.declared.calls.Call as calls;
 ghost use Rattle.pr_model.specs.declared.calls.Mode.TheVariants.{WriteExcl};
 ghost use Rattle.pr_model.specs.declared.handles.Held.{Held};
 ghost use Rattle.pr_line.specs.Events.{event_of};
+ghost use Rattle.pr_num.specs.ById.{IsRising};
+ghost use Rattle.pr_model.specs.Running.{run_refused, with_run};
 ghost use Rattle.pr_model.specs.Statuses.{lwpstatus_of};
 ghost use Rattle.pr_model.specs.declared.stops.Stop.{Stop};
 ghost use Rattle.pr_model.specs.declared.events.Did.TheVariants.{Stopped};
-ghost use Rattle.pr_truss_laws.specs.Stills.{HasSameSettings, IsFrozen, IsHalting, IsQuiet, IsUndisturbed, StandsOnEvent, with_lwp_stopped};
+ghost use Rattle.pr_truss_laws.specs.Stills.{HasOneEvent, HasSameSettings, IsFrozen, IsHalting, IsQuiet, IsUndisturbed, StandsOnEvent, with_lwp_stopped};
 
 /// No lwp has a turn in a process each lwp of which stands on an event of interest or is suspended.
 #[tactic(auto, using(crate::proofs::StillLemmas::stills))]
@@ -85,4 +87,13 @@ pub fn a_process_left_alone_stands_as_it_stood()
     ensures tells { (p q : TracedProcess) → IsUndisturbed p q → (id : ℕ) (l k : TracedLwp) (stop : Stop)
         → lwp_of p id ≡ Some l → lwp_of q id ≡ Some k → l.control.stop ≡ Some stop
         → event_of (lwpstatus_of q id k) ≡ event_of (lwpstatus_of p id l) }
+{}
+
+/// PCRUN without flags of a process without an agent, one lwp of which stands on an event while each other one shows a
+/// requested stop or a suspension: it is granted, and no lwp is stopped on an event or directed to stop then.
+pub fn running_from_one_event_leaves_a_quiet_process()
+    ensures granted { (p : TracedProcess) (id : ℕ) → IsRising p.lwps → has_agent p ≡ false → HasOneEvent p id
+        → run_refused p ≡ false }
+    ensures quiet { (p : TracedProcess) (id : ℕ) → IsRising p.lwps → has_agent p ≡ false → HasOneEvent p id
+        → IsQuiet (with_run 0 p) }
 {}
