@@ -11,7 +11,7 @@ use Rattle.pr_parts.specs.FileCalls.{with_all_shared}
 use Rattle.pr_lawful.proofs.EndLemmas.{found-live}
 use Rattle.pr_lawful.proofs.SuitingLemmas.{SuitChanges, SuitsChange, SuitsProgram, SuitsTransition, is_stop}
 use Rattle.pr_lawful.proofs.TransitionLemmas.{stayed}
-use Rattle.pr_lawful.proofs.TurnLemmas.{acting, row-suits, turn-taken}
+use Rattle.pr_lawful.proofs.TurnLemmas.{acting, row-suits}
 use Rattle.pr_model.specs.Changes.{Change, changed, files_are, space_is, signals, signals_itself, takes_shared, job_stops, disposition_is, held_is, resumes, forks, reaps, becomes, makes_lwp, suspends, all_changed, ended, Ending, ends_process, ends_lwp, resumed, with_disposition_of, with_fds, with_held, with_job_stop, with_shared_taken, with_space, with_suspended}
 use Rattle.pr_model.specs.Lives.{forked, new_lwp, started, with_child, with_lwp_ended, with_made, with_reaped, with_new_lwp, with_program, without_lwp}
 use Rattle.pr_model.specs.Lawful.{IsLawfulProcess, IsLawfulSystem}
@@ -29,6 +29,7 @@ use Rattle.pr_model.specs.declared.stops.Point.{Point}
 use Rattle.pr_model.specs.declared.stops.Point.TheVariants.{Signal, Fault, Entry, Exit}
 use Rattle.pr_truss_laws.proofs.FrameLemmas.{Spares, end-spares, generated-spares, made-spares, reaped-spares}
 use Rattle.pr_truss_laws.specs.Stills.{HasNoStop, HasSameSettings, IsHalting, IsQuiet, IsUndisturbed, StandsOnEvent, will_stop}
+use Rattle.pr_model.proofs.TurnLemmas.{turn-taken}
 
 -- What a turn of one of its own lwps makes of a process.
 

@@ -206,11 +206,14 @@ module _ (p : TracedProcess) (l : TracedLwp) where
   left-phase call args result y k f = f.phase_is
 
   exit-tells : (woken : Bool) (call : Sysno) (args : List ℕ) (result : Res) (row : Row) → row.did ≡ finished woken call result → row.point ≡ Some (Exit call) → row.transition.move ≡ move.leaves call args result → row.transition.ending ≡ None → arguments_in l.regs l.phase ≡ args → is_result result ≡ true → TellsRow row
-  exit-tells woken call args result row did point move ending same is pt y k q id met f stops kept lives = (ending, record {
-    event = exit call args result;
-    logged = ap (event_of p l (Some k)) did ∙ finished-logs woken call args result k same is;
-    tells = exit-told q id k call args result (met-stop (Exit call) pt k (sym point ∙ met) stops) (left-phase call args result y k (subst (λ m. Follows m y k) move f)) is ∙ sym (told-exit call args result);
-  })
+  exit-tells woken call args result row did point move ending same is pt y k q id met f stops kept lives = (
+    ending,
+    record {
+      event = exit call args result;
+      logged = ap (event_of p l (Some k)) did ∙ finished-logs woken call args result k same is;
+      tells = exit-told q id k call args result (met-stop (Exit call) pt k (sym point ∙ met) stops) (left-phase call args result y k (subst (λ m. Follows m y k) move f)) is ∙ sym (told-exit call args result);
+    },
+  )
 
   interrupted-tells : (woken : Bool) (call : Sysno) (args : List ℕ) → arguments_in l.regs l.phase ≡ args → TellsRow (interrupted_row woken call args)
   unfolding interrupted_row interrupted
@@ -234,12 +237,14 @@ module _ (p : TracedProcess) (l : TracedLwp) where
   unfolding event_of told moved info_in
   took-tells g c own row sig did point takes ending keeps pt y k q id met f stops kept lives =
       let holds : k.current ≡ Some c = (subst (λ m. Follows m y k) takes f).current_is in
-      let same : q.dispositions ≡ p.dispositions = keeps q kept in
-      (ending, record {
-        event = signal g (disposition_of p.dispositions g) c.info;
-        logged = ap (event_of p l (Some k)) did ∙ ap (λ o. Some (signal g (disposition_of p.dispositions g) (info_in o))) holds;
-        tells = signal-told q id k g c (met-stop (Signal g) pt k (sym point ∙ met) stops) holds ∙ ap (λ d. Some (Received g (class_of (disposition_of d c.signal)) c.info)) same ∙ ap (λ x. Some (Received g (class_of (disposition_of p.dispositions x)) c.info)) sig;
-      })
+      let same : q.dispositions ≡ p.dispositions = keeps q kept in (
+        ending,
+        record {
+          event = signal g (disposition_of p.dispositions g) c.info;
+          logged = ap (event_of p l (Some k)) did ∙ ap (λ o. Some (signal g (disposition_of p.dispositions g) (info_in o))) holds;
+          tells = signal-told q id k g c (met-stop (Signal g) pt k (sym point ∙ met) stops) holds ∙ ap (λ d. Some (Received g (class_of (disposition_of d c.signal)) c.info)) same ∙ ap (λ x. Some (Received g (class_of (disposition_of p.dispositions x)) c.info)) sig;
+        },
+      )
 
   own-tells : (g : Sig) → TellsRow (own_taken_row l g)
   unfolding own_taken_row own_taken
@@ -253,23 +258,28 @@ module _ (p : TracedProcess) (l : TracedLwp) where
 
   fault-tells : (f : Flt) (row : Row) → row.did ≡ Faulted f → row.point ≡ Some (Fault f) → row.transition.ending ≡ None → TellsRow row
   unfolding event_of told
-  fault-tells f row did point ending pt y k q id met fol stops kept lives = (ending, record {
-    event = fault f (pc_of k.regs);
-    logged = ap (event_of p l (Some k)) did;
-    tells = fault-told q id k f (met-stop (Fault f) pt k (sym point ∙ met) stops);
-  })
+  fault-tells f row did point ending pt y k q id met fol stops kept lives = (
+    ending,
+    record {
+      event = fault f (pc_of k.regs);
+      logged = ap (event_of p l (Some k)) did;
+      tells = fault-told q id k f (met-stop (Fault f) pt k (sym point ∙ met) stops);
+    },
+  )
 
   -- ---- instructions
 
   entered-tells : (call : Sysno) (regs : List ℕ) → regs ≡ moved_on l.regs → TellsRow (entered_row call regs)
   unfolding entered_row entered event_of told moved traced moved_on
   entered-tells call regs on pt y k q id met f stops kept lives =
-      let args : arguments k.regs ≡ arguments l.regs = ap arguments f.regs_are ∙ ap arguments on ∙ arguments-pc l.regs (address_at (pc_of l.regs) 16) in
-      (refl, record {
-        event = entry call (arguments l.regs);
-        logged = refl;
-        tells = entry-told q id k call (met-stop (Entry call) pt k met stops) f.phase_is ∙ ap (λ a. Some (Entered call a)) args;
-      })
+      let args : arguments k.regs ≡ arguments l.regs = ap arguments f.regs_are ∙ ap arguments on ∙ arguments-pc l.regs (address_at (pc_of l.regs) 16) in (
+        refl,
+        record {
+          event = entry call (arguments l.regs);
+          logged = refl;
+          tells = entry-told q id k call (met-stop (Entry call) pt k met stops) f.phase_is ∙ ap (λ a. Some (Entered call a)) args;
+        },
+      )
 
   either-tells : (b : Bool) (x y : Row) → TellsRow x → TellsRow y → TellsRow (cond b x y)
   either-tells true x y one other = one
