@@ -2,7 +2,6 @@ use Rattle.std.proofs.Common.{◌≡◌, ◌==◌, ℕ, zero, suc, Bool, true, f
 use Rattle.std.proofs.lemmas.Bool.{eqb-true, eqb-false}
 use Rattle.std.specs.List.{cons_option, slice_get}
 use Rattle.std.specs.Option.{option_and_then}
-use Rattle.pr_file.proofs.PlaceLemmas.{slice_get-set_other, slice_get-set_same}
 use Rattle.pr_line.specs.declared.options.Options.{Options}
 use Rattle.pr_model.specs.Handles.{handle_of, own}
 use Rattle.pr_model.specs.Legal.{IsLegal, after}
@@ -22,11 +21,12 @@ use Rattle.pr_truss_laws.proofs.GivenLemmas.{given-handled}
 use Rattle.pr_truss_laws.proofs.OwnLemmas.{nothing-open}
 use Rattle.pr_truss_laws.specs.Exchanges.{Ends, Exchange, Makes, exchange_in, exchange_of, exchanges, truss_after}
 use Rattle.pr_truss_laws.specs.Handles.{HasNothingOpen}
-use Rattle.pr_world.specs.Controllers.{after_reply, call_by, feed_at, next_call, with_fed}
+use Rattle.pr_world.specs.Controllers.{after_reply, call_by, next_call, with_fed}
 use Rattle.pr_world.specs.Cores.{Core, Truss}
 use Rattle.pr_world.specs.Protocol.{Follows, FollowsAt, controllers_after, controllers_at}
 use Rattle.pr_run_laws.specs.TrussRuns.{HasDone, IsTrussKept, truss_at}
 use Rattle.pr_num.specs.Limits.{handle_limit}
+use Rattle.pr_tool_laws.proofs.ConductLemmas.{fed-other, fed-own}
 
 -- A truss among the controllers of a run.
 
@@ -37,16 +37,8 @@ unfolding call_by next_call
 truss-next controllers k t c at calls = sym (ap (option_and_then next_call) at) ∙ calls
 
 truss-fed : (controllers : List Core) (k : ℕ) (t : TrussState) (r : Reply) → slice_get controllers k ≡ Some (Truss t) → slice_get (with_fed k r controllers) k ≡ Some (Truss (fed t r))
-unfolding with_fed after_reply
-truss-fed controllers k t r at = ap (λ o. slice_get (feed_at k r controllers o) k) at ∙ slice_get-set_same controllers k (Truss t) (Truss (fed t r)) at
-
-other-fed : (controllers : List Core) (k by : ℕ) (r : Reply) → (by == k) ≡ false → slice_get (with_fed by r controllers) k ≡ slice_get controllers k
-unfolding with_fed
-other-fed controllers k by r other = of (slice_get controllers by)
-  where
-    of : (o : Option Core) → slice_get (feed_at by r controllers o) k ≡ slice_get controllers k
-    of None = refl
-    of (Some core) = slice_get-set_other controllers by k (after_reply core r) (λ same. eqb-false by k other (sym same))
+unfolding after_reply
+truss-fed controllers k t r at = fed-own controllers k r (Truss t) at
 
 -- ---- an entry
 
@@ -64,7 +56,7 @@ call-stays controllers h k by t c r xs true is at calls rest =
     let here = subst (λ n. slice_get (with_fed n r controllers) k ≡ Some (Truss (fed t r))) (sym same) (truss-fed controllers k t r at) in
     let it = rest (fed t r) here in
     ((next, it.0), it.1)
-call-stays controllers h k by t c r xs false is at calls rest = rest t (other-fed controllers k by r is ∙ at)
+call-stays controllers h k by t c r xs false is at calls rest = rest t (fed-other controllers by k r (eqb-false by k is) ∙ at)
 
 entry-stays : (controllers : List Core) (s : TracedState) (h : List Entry) (k : ℕ) (t : TrussState) (actor : Actor) (it : Act) (xs : List Exchange) → slice_get controllers k ≡ Some (Truss t) → FollowsAt controllers s (record { actor = actor; act = it }) → Rest (controllers_after controllers (record { actor = actor; act = it })) h k xs → Stays (controllers_after controllers (record { actor = actor; act = it })) h k t (cons_option (exchange_in k actor it) xs)
 unfolding FollowsAt controllers_after

@@ -25,11 +25,11 @@ use Rattle.pr_tool_laws.proofs.StandingLemmas.{IsOther}
 
 -- ---- the controllers after a call
 
-fed-own : (controllers : List Core) (k : ℕ) (r : Reply) (core : Core) → slice_get controllers k ≡ Some core → slice_get (with_fed k r controllers) k ≡ Some (after_reply core r)
+pub fed-own : (controllers : List Core) (k : ℕ) (r : Reply) (core : Core) → slice_get controllers k ≡ Some core → slice_get (with_fed k r controllers) k ≡ Some (after_reply core r)
 unfolding with_fed
 fed-own controllers k r core found = rw found (slice_get-set_same controllers k core (after_reply core r) found)
 
-fed-other : (controllers : List Core) (j k : ℕ) (r : Reply) → j ≢ k → slice_get (with_fed j r controllers) k ≡ slice_get controllers k
+pub fed-other : (controllers : List Core) (j k : ℕ) (r : Reply) → j ≢ k → slice_get (with_fed j r controllers) k ≡ slice_get controllers k
 unfolding with_fed
 fed-other controllers j k r other = of (slice_get controllers j)
   where

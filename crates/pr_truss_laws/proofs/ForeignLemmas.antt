@@ -32,8 +32,9 @@ use Rattle.pr_model.specs.declared.calls.Call.TheVariants as call
 use Rattle.pr_model.specs.declared.calls.Mode.TheVariants.{WriteExcl}
 use Rattle.pr_model.specs.declared.handles.Held.{Held}
 use Rattle.pr_truss_laws.proofs.FrameLemmas.{Spares, end-spares, generated-spares, made-spares, other-spares, spares-if, spares-same, was-made}
-use Rattle.pr_truss_laws.proofs.OpensLemmas.{ClosesOne, NotOpen, close-closes, get-set_other, handle-controller, looking-stays, only_looks}
+use Rattle.pr_truss_laws.proofs.OpensLemmas.{ClosesOne, NotOpen, close-closes, handle-controller, looking-stays, only_looks}
 use Rattle.pr_truss_laws.proofs.ReleaseLemmas.{none-left}
+use Rattle.pr_file.proofs.PlaceLemmas.{slice_get-set_other}
 
 -- What other controllers do to a process that one has open exclusively: signals, and no more.
 
@@ -69,7 +70,7 @@ module _ (s : TracedState) (k number : ℕ) (h : Held) (lawful : IsLawful s) (mi
 
       still : number ≢ m → has_writer h.pid (slice_set s.opens number None) ≡ true
       still apart =
-          let at : slice_get (slice_set s.opens number None) m ≡ Some (Some g) = get-set_other s.opens number m None apart ∙ handle-at s.opens by m g held in
+          let at : slice_get (slice_set s.opens number None) m ≡ Some (Some g) = slice_get-set_other s.opens number m None (λ same. apart (sym same)) ∙ handle-at s.opens by m g held in
           any-at (is_writer h.pid) (slice_set s.opens number None) m (Some g) at (ap (λ b. b && is_writable g.mode) (eq-eqb g.pid h.pid same) ∙ writes)
 
   -- ---- a write of control messages

@@ -20,33 +20,20 @@ use Rattle.pr_num.specs.Programs.{Program}
 use Rattle.pr_num.specs.Sets.{with_number}
 use Rattle.pr_num.specs.declared.errnos.Errno.{Errno}
 use Rattle.pr_num.specs.declared.errnos.Errno.TheVariants.{Badf, Inval, Intr}
+use Rattle.pr_file.proofs.PlaceLemmas.{slice_get-set_other, slice_get-set_same}
 
 -- What a call does to the open handles.
-
--- ---- places
-
-get-set : {X : Type 0} (xs : List X) (i : ℕ) (x y : X) → slice_get xs i ≡ Some y → slice_get (slice_set xs i x) i ≡ Some x
-get-set [] i x y at = absurd (none-some y at)
-get-set (z ∷ xs) zero x y at = refl
-get-set (z ∷ xs) (suc i) x y at = get-set xs i x y at
-
-pub get-set_other : {X : Type 0} (xs : List X) (i j : ℕ) (x : X) → i ≢ j → slice_get (slice_set xs i x) j ≡ slice_get xs j
-get-set_other [] i j x other = refl
-get-set_other (z ∷ xs) zero zero x other = absurd (other refl)
-get-set_other (z ∷ xs) zero (suc j) x other = refl
-get-set_other (z ∷ xs) (suc i) zero x other = refl
-get-set_other (z ∷ xs) (suc i) (suc j) x other = get-set_other xs i j x (λ same. other (ap suc same))
 
 -- ---- one handle more, and one less
 
 -- the handles of a controller, where another one stands at a place
 pub own-other : (opens : Places) (k place number : ℕ) (o : Option Held) → place ≢ number → handle_of (slice_set opens place o) k number ≡ handle_of opens k number
 unfolding handle_of
-own-other opens k place number o other = ap (own k) (get-set_other opens place number o other)
+own-other opens k place number o other = ap (own k) (slice_get-set_other opens place number o (λ same. other (sym same)))
 
 pub own-set : (opens : Places) (k place : ℕ) (o x : Option Held) → slice_get opens place ≡ Some x → handle_of (slice_set opens place o) k place ≡ own k (Some o)
 unfolding handle_of
-own-set opens k place o x at = ap (own k) (get-set opens place o x at)
+own-set opens k place o x at = ap (own k) (slice_get-set_same opens place x o at)
 
 pub own-free : (opens : Places) (k place : ℕ) → slice_get opens place ≡ Some None → handle_of opens k place ≡ None
 unfolding handle_of
