@@ -8,7 +8,7 @@ use Rattle.pr_num.specs.Control.{async_mode, has_flags}
 use Rattle.pr_num.specs.declared.signals.Sig.{Sig}
 use Rattle.pr_lawful.proofs.EndLemmas.{found-live}
 use Rattle.pr_lawful.proofs.SuitingLemmas.{SuitsTransition, is_stop}
-use Rattle.pr_lawful.proofs.TurnLemmas.{acting, row-suits, turn-taken}
+use Rattle.pr_lawful.proofs.TurnLemmas.{acting, row-suits}
 use Rattle.pr_model.specs.Changes.{Change, all_changed, changed, takes_shared, with_shared_taken}
 use Rattle.pr_model.specs.Lawful.{IsLawfulSystem}
 use Rattle.pr_model.specs.LwpTurns.{LwpTurn, settled, turn_of, with_counted}
@@ -24,6 +24,7 @@ use Rattle.pr_truss_laws.proofs.OwnTurnLemmas.{Carried, GoesOn, row-carries, tra
 use Rattle.pr_truss_laws.proofs.StillLemmas.{row-directed}
 use Rattle.pr_truss_laws.proofs.ToldLemmas.{Follows, KeepsDispositions, row-tells}
 use Rattle.pr_truss_laws.specs.Told.{TellsItsEvent, has_ended}
+use Rattle.pr_model.proofs.TurnLemmas.{turn-taken}
 
 -- The status of an lwp right after the turn in which it stopped on an event tells that event: the turn as a whole.
 
