@@ -4,5 +4,5 @@ use Rattle.proclab.specs.Commands.{HasWorkers, work_of}
 use Rattle.proclab.proofs.CommandLemmas.{words-workers}
 use Rattle.proclab.proofs.serving.serve.Goals as goal
 
-pub carry_out-requires : goal.carry_out-requires
-carry_out-requires g c = subst HasWorkers (sym (c.work_of.ensures ∙ ap work_of c.command_of.ensures)) (words-workers (map string_bytes c.args.words.now))
+pub carry_out-requires-clause-workers : goal.carry_out-requires-clause-workers
+carry_out-requires-clause-workers g c κs within = subst HasWorkers (sym (c.work_of.ensures ∙ ap work_of c.command_of.ensures)) (words-workers (map string_bytes c.args.words.now))
