@@ -1,5 +1,5 @@
 #!/usr/bin/env bash
-# The proved program against plain Rust: plain.rs makes the same run as proclab on the loop of turns.sh, keeps the same
+# The proved program against plain Rust: plain/ makes the same run as proclab on the loop of turns.sh, keeps the same
 # history and writes the same bytes, which are compared. Prints the seconds of both and their ratio at 10,000, 30,000 and
 # 100,000 turns, for `run -q`, which keeps the history, and for `run`, which also writes it.
 #
@@ -13,7 +13,7 @@ tries=7  # runs of milliseconds
 
 yardstick=$(mktemp)
 trap 'rm -f "$input" "$output" "$yardstick"' EXIT
-rustc --edition 2021 -C opt-level=3 -o "$yardstick" "$here/plain.rs"
+rustc --edition 2021 -C opt-level=3 -o "$yardstick" "$here/plain/main.rs"
 programs=("${programs[0]}" "$yardstick")
 
 # scenario TURNS: the loop of turns.sh
