@@ -1,6 +1,6 @@
 # Sourced by the measures beside it; it does nothing by itself. A measure sets `programs` by `programs_of`, and may set
-# `words`, with which a program is run, and `ends`, the statuses that a run may end with. It has a function `scenario SIZE`,
-# which writes the input of a size.
+# `words`, with which a program is run, and `ends`, the statuses that a run may end with. It has a function
+# `scenario SIZE`, which writes the input of a size; what two measures write stands here.
 
 words=(run -q)
 ends=(0)
@@ -56,4 +56,41 @@ measure() {
         'BEGIN { printf "%d %s: %.3f s, ratio %.2f of %.2f  %s\n", n, u, s, (f > 0 ? s / f : 0), n / m, p }'
     done
   done
+}
+
+# countdown TURNS: a program counts down in a loop of two instructions, which has more turns than these
+countdown() {
+  cat <<END
+turns $1
+program p
+set r1, 1000000
+set r2, 1
+again:
+sub r1, r2
+jnz r1, again
+set r1, 0
+sys exit
+end
+spawn p
+END
+}
+
+# long_script BYTES: a scenario of about so many bytes, with 100,000 turns: a process is stopped, and a script of 16
+# opens reads its status and writes to it in turn; at last it is run
+long_script() {
+  awk -v most="$1" 'BEGIN {
+    text = "turns 100000\nprogram p\nsys getpid\nsys exit\nend\nspawn p\nscript\n"
+    text = text "open v0 1 ctl w\nwrite v0 dstop\nwrite v0 wstop\n"
+    for (k = 1; k < 16; k++) text = text "open v" k " 1 " (k % 2 ? "status r" : "ctl w") "\n"
+    last = "write v0 run\nend\n"
+    size = length(text) + length(last)
+    printf "%s", text
+    for (k = 0; ; k++) {
+      line = k % 2 == 0 ? "read v1 0 344\n" : "write v0 dstop\n"
+      size += length(line)
+      if (size > most) break
+      printf "%s", line
+    }
+    printf "%s", last
+  }'
 }

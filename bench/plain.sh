@@ -1,33 +1,42 @@
 #!/usr/bin/env bash
-# The proved program against plain Rust: plain/ makes the same run as proclab on the loop of turns.sh, keeps the same
-# history and writes the same bytes, which are compared. Prints the seconds of both and their ratio at 10,000, 30,000 and
-# 100,000 turns, for `run -q`, which keeps the history, and for `run`, which also writes it.
+# The proved program against plain Rust: plain/ makes the same run as proclab, keeps the same history and writes the
+# same bytes, which are compared. Prints the seconds of both and their ratio: for `run -q`, which keeps the history, and
+# for `run`, which also writes it, on the loop of turns.sh at 10,000, 30,000 and 100,000 turns; and for `run` on the
+# script of first-path.sh at a quarter, a half and the whole of 1 MiB.
 #
 # A word is a program to time in place of the proved program of this state. It needs rustc on the path.
 set -eu
 here=$(dirname "${BASH_SOURCE[0]}")
 . "$here/measure.bash"
 programs_of "$@"
-ends=(3) # the turns do not suffice
-tries=7  # runs of milliseconds
+tries=7 # runs of milliseconds
 
 yardstick=$(mktemp)
 trap 'rm -f "$input" "$output" "$yardstick"' EXIT
-rustc --edition 2021 -C opt-level=3 -o "$yardstick" "$here/plain/main.rs"
+# in one unit, as the proved program is
+rustc --edition 2021 -C opt-level=3 -C codegen-units=1 -o "$yardstick" "$here/plain/main.rs"
 programs=("${programs[0]}" "$yardstick")
 
-# scenario TURNS: the loop of turns.sh
-scenario() {
-  printf 'turns %s\nprogram p\nset r1, 1000000\nset r2, 1\nagain:\nsub r1, r2\njnz r1, again\nset r1, 0\nsys exit\nend\nspawn p\n' "$1"
-}
-
-for line in "run -q" run; do
-  read -ra words <<<"$line"
-  for turns in 10000 30000 100000; do
-    scenario "$turns" >"$input"
+# compare UNIT SIZE..: times both programs at each size
+compare() {
+  local unit=$1 size
+  shift
+  for size in "$@"; do
+    scenario "$size" >"$input"
     cmp <("${programs[0]}" "${words[@]}" <"$input") <("$yardstick" "${words[@]}" <"$input")
     least_times
-    awk -v n="$turns" -v w="$line" -v a="${least[${programs[0]}]}" -v b="${least[$yardstick]}" \
-      'BEGIN { printf "%s, %d turns: %.4f s, in plain Rust %.4f s, ratio %.2f\n", w, n, a, b, a / b }'
+    awk -v n="$size" -v u="$unit" -v w="${words[*]}" -v a="${least[${programs[0]}]}" -v b="${least[$yardstick]}" \
+      'BEGIN { printf "%s, %d %s: %.4f s, in plain Rust %.4f s, ratio %.2f\n", w, n, u, a, b, a / b }'
   done
-done
+}
+
+scenario() { countdown "$1"; }
+ends=(3) # the turns do not suffice
+words=(run -q)
+compare turns 10000 30000 100000
+words=(run)
+compare turns 10000 30000 100000
+
+scenario() { long_script "$1"; }
+ends=(0)
+compare bytes 262144 524288 1048576

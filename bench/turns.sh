@@ -9,9 +9,5 @@ set -eu
 programs_of "$@"
 ends=(3) # the turns do not suffice
 
-# scenario TURNS: a loop that has more turns than these
-scenario() {
-  printf 'turns %s\nprogram p\nset r1, 1000000\nset r2, 1\nagain:\nsub r1, r2\njnz r1, again\nset r1, 0\nsys exit\nend\nspawn p\n' "$1"
-}
-
+scenario() { countdown "$1"; }
 measure turns 10000 30000 100000

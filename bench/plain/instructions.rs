@@ -3,7 +3,7 @@
 use crate::names::{Fault, Sysno};
 use crate::processes::Lwp;
 use crate::spaces::{
-    is_watched, Area, Space, EXECUTE, READ, WATCH_EXECUTE, WATCH_READ, WATCH_WRITE,
+    unless_watched, Area, Incurred, Space, EXECUTE, READ, WATCH_EXECUTE, WATCH_READ, WATCH_WRITE,
 };
 
 pub const SP: usize = 8;
@@ -16,7 +16,7 @@ pub type Registers = [u64; 11];
 pub enum Effect {
     Ran,
     Calls(Sysno),
-    Faults(Fault),
+    Faults(Incurred),
 }
 
 fn word(bytes: &[u8]) -> u64 {
@@ -33,12 +33,12 @@ pub fn step(lwp: &mut Lwp, space: &mut Space, areas: &[Area]) -> Effect {
         Ok((registers, None)) => {
             lwp.registers = registers;
             if std::mem::take(&mut lwp.is_stepping) {
-                Effect::Faults(Fault::Trace)
+                Effect::Faults(Fault::Trace.at(lwp.registers[PC]))
             } else {
                 Effect::Ran
             }
         }
-        Err(fault) => Effect::Faults(fault),
+        Err(incurred) => Effect::Faults(incurred),
     }
 }
 
@@ -59,28 +59,26 @@ fn execute(
     old: &Registers,
     space: &mut Space,
     areas: &[Area],
-) -> Result<(Registers, Option<Sysno>), Fault> {
+) -> Result<(Registers, Option<Sysno>), Incurred> {
     let bytes: [u8; 16] = space.read(old[PC], EXECUTE)?;
-    if is_watched(areas, old[PC], 16, WATCH_EXECUTE) {
-        return Err(Fault::Watch);
-    }
-    let (op, a, b, value) = decode(&bytes)?;
+    unless_watched(areas, old[PC], 16, WATCH_EXECUTE)?;
+    let (op, a, b, value) = decode(&bytes).ok_or(Fault::Ill.at(old[PC]))?;
     let mut new = *old;
     let next = old[PC].wrapping_add(16);
     new[PC] = next;
     let address = old[b].wrapping_add(value);
-    if access(op, old, address).is_some_and(|(flag, at, len)| is_watched(areas, at, len, flag)) {
-        return Err(Fault::Watch);
+    if let Some((flag, at, len)) = access(op, old, address) {
+        unless_watched(areas, at, len, flag)?;
     }
     match op {
-        1 => return Err(Fault::Bpt),
+        1 => return Err(Fault::Bpt.at(old[PC])),
         2 => {}
         3 => new[a] = value,
         4 => new[a] = old[b],
         5 => new[a] = old[a].wrapping_add(old[b]),
         6 => new[a] = old[a].wrapping_sub(old[b]),
         7 => new[a] = old[a].wrapping_mul(old[b]),
-        8 => new[a] = old[a].checked_div(old[b]).ok_or(Fault::Izdiv)?,
+        8 => new[a] = old[a].checked_div(old[b]).ok_or(Fault::Izdiv.at(old[PC]))?,
         9 => new[a] = u64::from_le_bytes(space.read(address, READ)?),
         10 => space.write(address, &old[a].to_le_bytes())?,
         11 => new[a] = u64::from(space.read::<1>(address, READ)?[0]),
@@ -96,11 +94,15 @@ fn execute(
             let mut frame = [0; 16];
             frame[..8].copy_from_slice(&old[FP].to_le_bytes());
             frame[8..].copy_from_slice(&next.to_le_bytes());
-            space.write(at, &frame).map_err(|_| Fault::Stack)?;
+            space
+                .write(at, &frame)
+                .map_err(|bad| Fault::Stack.at(bad.address))?;
             (new[SP], new[FP], new[PC]) = (at, at, value);
         }
         18 => {
-            let frame: [u8; 16] = space.read(old[FP], READ).map_err(|_| Fault::Stack)?;
+            let frame: [u8; 16] = space
+                .read(old[FP], READ)
+                .map_err(|bad| Fault::Stack.at(bad.address))?;
             (new[SP], new[FP], new[PC]) = (
                 old[FP].wrapping_add(16),
                 word(&frame[..8]),
@@ -113,7 +115,7 @@ fn execute(
 }
 
 /// The operation, its registers and its immediate word; unused fields have to be 0.
-fn decode(bytes: &[u8; 16]) -> Result<(u8, usize, usize, u64), Fault> {
+fn decode(bytes: &[u8; 16]) -> Option<(u8, usize, usize, u64)> {
     let (op, a, b, value) = (bytes[0], bytes[1], bytes[2], word(&bytes[8..]));
     let has_a = matches!(op, 3..=12 | 14..=16);
     let has_b = matches!(op, 4..=12 | 16);
@@ -124,9 +126,5 @@ fn decode(bytes: &[u8; 16]) -> Result<(u8, usize, usize, u64), Fault> {
         && (has_value || value == 0)
         && bytes[3..8] == [0; 5]
         && (op != 19 || Sysno::of(value).is_some());
-    if is_spelt {
-        Ok((op, a.into(), b.into(), value))
-    } else {
-        Err(Fault::Ill)
-    }
+    is_spelt.then_some((op, a.into(), b.into(), value))
 }

@@ -1,53 +1,37 @@
-//! The machine with its history, and its run.
+//! The machine: its processes and its clock, and the handles that controllers have open.
 
-use crate::history::{Did, Entry};
-use crate::instructions::{PC, SP};
-use crate::processes::{take_signal, Lwp, Phase, Process, Traced, Usage};
-use crate::programs::TEXT;
+use crate::history::{Call, Did, File, Reply};
+use crate::messages::Message;
+use crate::names::Errno;
+use crate::processes::Process;
 use crate::scenarios::Scenario;
-use crate::spaces::{Space, STACK_TOP};
+use crate::statuses::status;
 use std::collections::BTreeMap;
 
+const MOST_HANDLES: usize = 1024;
+const LONGEST_READ: u64 = 20_480;
+
+/// What a handle stands for, and the controller that has it open.
+#[derive(Clone, Copy)]
+struct Held {
+    by: usize,
+    pid: u32,
+    file: File,
+}
+
 pub struct Machine {
-    pub processes: BTreeMap<u32, Process>,
-    pub history: Vec<Entry>,
-    pub turns: usize,
+    processes: BTreeMap<u32, Process>,
+    handles: Vec<Option<Held>>,
+    pub clock: u64,
 }
 
 impl Machine {
     pub fn new(scenario: &Scenario) -> Machine {
-        let mut processes = BTreeMap::new();
-        for (place, name) in scenario.spawns.iter().enumerate() {
-            let mut registers = [0; 11];
-            registers[PC] = TEXT;
-            registers[SP] = STACK_TOP;
-            let lwp = Lwp {
-                registers,
-                phase: Phase::User,
-                pending: 0,
-                held: 0,
-                current: None,
-                is_directed: false,
-                is_stepping: false,
-                is_stopped: false,
-                is_suspended: false,
-            };
-            let process = Process {
-                space: Space::new(&scenario.programs[name]),
-                pending: 0,
-                job_stop: None,
-                lwps: BTreeMap::from([(1, lwp)]),
-                usage: Usage::default(),
-                traced: Traced::default(),
-                areas: Vec::new(),
-                ended: None,
-            };
-            processes.insert(place as u32 + 1, process);
-        }
+        let programs = scenario.spawns.iter().map(|name| &scenario.programs[name]);
         Machine {
-            processes,
-            history: Vec::with_capacity(scenario.turns),
-            turns: scenario.turns,
+            processes: (1..).zip(programs.map(Process::new)).collect(),
+            handles: Vec::new(),
+            clock: 0,
         }
     }
 
@@ -59,7 +43,7 @@ impl Machine {
             }
             let from = if pid == after.0 { after.1 + 1 } else { 0 };
             for (&id, lwp) in process.lwps.range(from..) {
-                if !lwp.is_stopped && !lwp.is_suspended {
+                if lwp.stop.is_none() && !lwp.is_suspended {
                     return Some((pid, id));
                 }
             }
@@ -67,63 +51,139 @@ impl Machine {
         None
     }
 
-    /// One turn of an lwp: the first row that fits.
-    pub fn turn(&mut self, pid: u32, id: u32) -> Did {
+    /// One turn of an lwp: what it did, and whether it stopped on that.
+    pub fn turn(&mut self, pid: u32, id: u32) -> (Did, bool) {
         let process = self.processes.get_mut(&pid).unwrap();
-        let lwp = process.lwps.get_mut(&id).unwrap();
-        if lwp.is_directed {
-            lwp.is_directed = false;
-            lwp.is_stopped = true;
-            return Did::Stopped;
-        }
-        if let Phase::Faulted(fault) = lwp.phase {
-            lwp.phase = Phase::User;
-            lwp.pending |= 1 << (fault.signal() - 1);
-            return Did::Posted(fault, fault.signal());
-        }
-        if let Some(signal) = lwp.current {
-            process.end(u64::from(signal));
-            return Did::Died(signal);
-        }
-        if !matches!(lwp.phase, Phase::Entered(_)) {
-            if let Some(signal) = take_signal(&mut process.pending, lwp) {
-                lwp.current = Some(signal);
-                process.usage.signals += 1;
-                return Did::Took(signal);
-            }
-        }
-        match lwp.phase {
-            Phase::Exiting(call) => {
-                lwp.phase = Phase::User;
-                Did::Returned(call)
-            }
-            Phase::Entered(call) => process.make(pid, id, call),
-            _ => process.run_instruction(id),
+        let did = process.turn(pid, id);
+        (did, process.meet(id, did))
+    }
+
+    /// Whether a call of a controller is ready, which a wait alone may not be.
+    pub fn is_ready(&self, by: usize, call: &Call) -> bool {
+        match *call {
+            Call::CtlWait {
+                handle,
+                until,
+                ref bytes,
+            } => self.wait(by, handle, until, bytes).is_some(),
+            _ => true,
         }
     }
 
-    /// Gives lwps their turns in rounds, and says how it ended.
-    pub fn run(&mut self) -> u8 {
-        let mut last = (0, 0);
-        loop {
-            let Some(next) = self.next_lwp(last).or_else(|| self.next_lwp((0, 0))) else {
-                return 0;
-            };
-            if self.history.len() == self.turns {
-                return 3;
-            }
-            let did = self.turn(next.0, next.1);
-            let is_stop = self
-                .processes
-                .get_mut(&next.0)
-                .is_some_and(|process| process.meet(next.1, did));
-            self.history.push(Entry {
-                process: next.0,
-                lwp: next.1,
-                did,
-                is_stop,
-            });
-            last = next;
+    /// Answers a call that is ready.
+    pub fn answer(&mut self, by: usize, call: &Call) -> Reply {
+        let reply = match *call {
+            Call::Open { pid, file } => self.open(Held { by, pid, file }),
+            Call::Close { handle } => self.close(by, handle),
+            Call::Read { handle, at, len } => self.read(by, handle, at, len),
+            Call::Ctl { handle, ref bytes } => self.control(by, handle, bytes),
+            Call::CtlWait {
+                handle,
+                until,
+                ref bytes,
+            } => self
+                .wait(by, handle, until, bytes)
+                .expect("the call is ready"),
+        };
+        reply.unwrap_or_else(Reply::Fail)
+    }
+
+    fn live(&self, pid: u32) -> Result<&Process, Errno> {
+        self.processes
+            .get(&pid)
+            .filter(|process| process.ended.is_none())
+            .ok_or(Errno::Noent)
+    }
+
+    fn live_mut(&mut self, pid: u32) -> Result<&mut Process, Errno> {
+        self.processes
+            .get_mut(&pid)
+            .filter(|process| process.ended.is_none())
+            .ok_or(Errno::Noent)
+    }
+
+    /// What a handle stands for that this controller has open.
+    fn held(&self, by: usize, handle: u32) -> Result<Held, Errno> {
+        self.handles
+            .get(handle as usize)
+            .copied()
+            .flatten()
+            .filter(|held| held.by == by)
+            .ok_or(Errno::Badf)
+    }
+
+    /// The process of a handle of this file, which may have ended.
+    fn pid_of(&self, by: usize, handle: u32, file: File) -> Result<u32, Errno> {
+        let held = self.held(by, handle)?;
+        if held.file == file {
+            Ok(held.pid)
+        } else {
+            Err(Errno::Badf)
         }
+    }
+
+    /// Opens a file, with the least handle that is free.
+    fn open(&mut self, held: Held) -> Result<Reply, Errno> {
+        self.live(held.pid)?;
+        let place = match self.handles.iter().position(Option::is_none) {
+            Some(place) => place,
+            None if self.handles.len() < MOST_HANDLES => {
+                self.handles.push(None);
+                self.handles.len() - 1
+            }
+            None => return Err(Errno::Mfile),
+        };
+        self.handles[place] = Some(held);
+        Ok(Reply::Handle(place as u32))
+    }
+
+    /// Closes a handle. No process has a mode by which the last close for writing would do more.
+    fn close(&mut self, by: usize, handle: u32) -> Result<Reply, Errno> {
+        self.held(by, handle)?;
+        self.handles[handle as usize] = None;
+        Ok(Reply::Done)
+    }
+
+    fn read(&self, by: usize, handle: u32, at: u64, len: u64) -> Result<Reply, Errno> {
+        let pid = self.pid_of(by, handle, File::Status)?;
+        if !(1..=LONGEST_READ).contains(&len) {
+            return Err(Errno::Inval);
+        }
+        let bytes = status(pid, self.live(pid)?);
+        let from = bytes.len().min(at as usize);
+        let to = bytes.len().min(from + len as usize);
+        Ok(Reply::Bytes(bytes[from..to].to_vec()))
+    }
+
+    /// Handles the first message of a write.
+    fn control(&mut self, by: usize, handle: u32, bytes: &[u8]) -> Result<Reply, Errno> {
+        let pid = self.pid_of(by, handle, File::Ctl)?;
+        let clock = self.clock;
+        let process = self.live_mut(pid)?;
+        let (message, len) = Message::first(bytes).ok_or(Errno::Inval)?;
+        match message {
+            Message::Dstop => process.direct_all(),
+            Message::Run => process.run()?,
+            Message::Wstop | Message::Twstop(0) => return Ok(Reply::Half(0)),
+            Message::Twstop(milliseconds) => return Ok(Reply::Half(clock + milliseconds)),
+        }
+        Ok(Reply::Used(len))
+    }
+
+    /// The reply to a wait for a stop, if the wait is over.
+    fn wait(
+        &self,
+        by: usize,
+        handle: u32,
+        until: u64,
+        bytes: &[u8],
+    ) -> Option<Result<Reply, Errno>> {
+        let waited = || {
+            let process = self.live(self.pid_of(by, handle, File::Ctl)?)?;
+            let (_, len) = Message::first(bytes).ok_or(Errno::Inval)?;
+            let is_over = process.is_stopped() || until != 0 && until <= self.clock;
+            Ok(is_over.then_some(Reply::Used(len)))
+        };
+        waited().transpose()
     }
 }

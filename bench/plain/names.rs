@@ -1,4 +1,4 @@
-//! Names and numbers of faults, signals and system calls.
+//! Names and numbers of faults, signals, system calls and errnos.
 
 #[derive(Clone, Copy, PartialEq)]
 pub enum Fault {
@@ -85,5 +85,26 @@ impl Sysno {
         [Sysno::Exit, Sysno::Getpid]
             .into_iter()
             .find(|call| call.number() == number)
+    }
+}
+
+#[derive(Clone, Copy)]
+pub enum Errno {
+    Noent,
+    Badf,
+    Busy,
+    Inval,
+    Mfile,
+}
+
+impl Errno {
+    pub fn name(self) -> &'static str {
+        match self {
+            Errno::Noent => "ENOENT",
+            Errno::Badf => "EBADF",
+            Errno::Busy => "EBUSY",
+            Errno::Inval => "EINVAL",
+            Errno::Mfile => "EMFILE",
+        }
     }
 }

@@ -1,6 +1,7 @@
 //! Programs, from their lines.
 
 use crate::names::Sysno;
+use crate::scenarios::number;
 use std::collections::HashMap;
 
 pub const TEXT: u64 = 0x1_0000;
@@ -9,13 +10,6 @@ pub const DATA: u64 = 0x8_0000;
 pub struct Program {
     pub text: Vec<u8>,
     pub data: Vec<u8>,
-}
-
-pub fn number(word: &str) -> Option<u64> {
-    match word.strip_prefix("0x") {
-        Some(digits) => u64::from_str_radix(digits, 16).ok(),
-        None => word.parse().ok(),
-    }
 }
 
 pub fn assemble(block: &[Vec<&str>]) -> Result<Program, String> {

@@ -12,6 +12,22 @@ pub const READ: u8 = 4;
 pub const WRITE: u8 = 2;
 pub const EXECUTE: u8 = 1;
 
+/// A fault that was incurred, and its address.
+#[derive(Clone, Copy)]
+pub struct Incurred {
+    pub fault: Fault,
+    pub address: u64,
+}
+
+impl Fault {
+    pub fn at(self, address: u64) -> Incurred {
+        Incurred {
+            fault: self,
+            address,
+        }
+    }
+}
+
 pub struct Mapping {
     pub at: u64,
     pub protection: u8,
@@ -43,41 +59,36 @@ impl Space {
         Space { mappings }
     }
 
-    /// The place of the mapping that has the byte at an address.
-    pub fn mapping(&self, address: u64) -> Option<usize> {
+    /// The place of the mapping that has the byte at an address, for an access that needs this protection.
+    fn mapping(&self, address: u64, need: u8) -> Result<usize, Incurred> {
         let place = self
             .mappings
             .partition_point(|m| m.at + m.bytes.len() as u64 <= address);
-        self.mappings
-            .get(place)
-            .filter(|m| m.at <= address)
-            .map(|_| place)
+        match self.mappings.get(place) {
+            Some(m) if m.at <= address && m.protection & need != 0 => Ok(place),
+            Some(m) if m.at <= address => Err(Fault::Access.at(address)),
+            _ => Err(Fault::Bounds.at(address)),
+        }
     }
 
     /// The fault of the first byte at which an access fails, if it does.
-    pub fn check(&self, at: u64, len: usize, need: u8) -> Result<(), Fault> {
+    fn check(&self, at: u64, len: usize, need: u8) -> Result<(), Incurred> {
         let mut done = 0;
         while done < len {
             let address = at.wrapping_add(done as u64);
-            let mapping = &self.mappings[self.mapping(address).ok_or(Fault::Bounds)?];
-            if mapping.protection & need == 0 {
-                return Err(Fault::Access);
-            }
+            let mapping = &self.mappings[self.mapping(address, need)?];
             let left = mapping.bytes.len() - (address - mapping.at) as usize;
             done += left.min(len - done);
         }
         Ok(())
     }
 
-    pub fn read<const N: usize>(&self, at: u64, need: u8) -> Result<[u8; N], Fault> {
+    pub fn read<const N: usize>(&self, at: u64, need: u8) -> Result<[u8; N], Incurred> {
         let mut out = [0; N];
         let mut done = 0;
         while done < N {
             let address = at.wrapping_add(done as u64);
-            let mapping = &self.mappings[self.mapping(address).ok_or(Fault::Bounds)?];
-            if mapping.protection & need == 0 {
-                return Err(Fault::Access);
-            }
+            let mapping = &self.mappings[self.mapping(address, need)?];
             let from = (address - mapping.at) as usize;
             let run = (mapping.bytes.len() - from).min(N - done);
             out[done..done + run].copy_from_slice(&mapping.bytes[from..from + run]);
@@ -86,12 +97,12 @@ impl Space {
         Ok(out)
     }
 
-    pub fn write(&mut self, at: u64, bytes: &[u8]) -> Result<(), Fault> {
+    pub fn write(&mut self, at: u64, bytes: &[u8]) -> Result<(), Incurred> {
         self.check(at, bytes.len(), WRITE)?;
         let mut done = 0;
         while done < bytes.len() {
             let address = at.wrapping_add(done as u64);
-            let place = self.mapping(address).ok_or(Fault::Bounds)?;
+            let place = self.mapping(address, WRITE)?;
             let mapping = &mut self.mappings[place];
             let from = (address - mapping.at) as usize;
             let run = (mapping.bytes.len() - from).min(bytes.len() - done);
@@ -112,9 +123,10 @@ pub struct Area {
     pub flags: u8,
 }
 
-/// Whether an access of bytes is watched.
-pub fn is_watched(areas: &[Area], at: u64, len: u64, flag: u8) -> bool {
-    areas.iter().any(|area| {
+/// Faults at the first byte of an access that is watched, if one is.
+pub fn unless_watched(areas: &[Area], at: u64, len: u64, flag: u8) -> Result<(), Incurred> {
+    let hit = areas.iter().find(|area| {
         area.flags & flag != 0 && at < area.at + area.size && area.at < at.wrapping_add(len)
-    })
+    });
+    hit.map_or(Ok(()), |area| Err(Fault::Watch.at(at.max(area.at))))
 }
