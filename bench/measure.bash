@@ -40,8 +40,8 @@ least_times() {
   done
 }
 
-# measure UNIT SIZE..: times each program at each size. Beside the ratio of its time to that at the first size stands the
-# ratio of the sizes; where time is linear the first is not above the second.
+# measure UNIT SIZE..: times each program at each size. Beside the ratio of its time to that at the first size stands
+# the ratio of the sizes; where time is linear the first is not above the second.
 measure() {
   local unit=$1 size program
   local -A first=()
