@@ -1,5 +1,5 @@
 //! What no clause says: that several threads make a run, each at the gate as its worker.
-ghost use Rattle.std.specs.Prelude.{◌≡◌, [], IfSome};
+ghost use Rattle.std.specs.Prelude.{◌≡◌, [], IfOk, IfSome};
 
 use pr_asm::{Program, read_program};
 use pr_io::Gate;
@@ -156,6 +156,16 @@ fn world(alloc: Global) -> Option<World<Kern>>
     World::new(alloc, kernel, controllers, Vec::new(alloc)).ok()
 }
 
+/// The same, or what is missing.
+fn a_world(alloc: Global) -> Result<World<Kern>, &'static str>
+    ensures { IfOk result (λ world. world.kernel.history ≡ []) }
+{
+    match world(alloc) {
+        Some(world) => Ok(world),
+        None => Err("a world"),
+    }
+}
+
 /// How many entries are of controllers, and how many of lwps and the clock.
 fn counts(world: &World<Kern>) -> (u64, u64) {
     let history = world.kernel().history();
@@ -176,7 +186,7 @@ fn counts(world: &World<Kern>) -> (u64, u64) {
 #[test]
 #[tactic(auto, unfolding(pr_api::specs::Views::kernel_of))]
 fn several_threads_make_a_run(rt: HostRuntime) -> Result<(), Fail> {
-    let world = world(rt.alloc()).ok_or("a world")?;
+    let world = a_world(rt.alloc())?;
     let gate = Meeting::new();
     let (world, end) = run_many(&rt, rt.alloc(), world, PROCESSORS, &gate)?;
     assert_eq!(rt; end, Ok(End::Quiet));
