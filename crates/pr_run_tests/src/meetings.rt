@@ -184,7 +184,6 @@ fn counts(world: &World<Kern>) -> (u64, u64) {
 // Workers 1 and 2 are both at the gate at one time, so two threads make the run. Each move was made after a pass of a
 // worker of its kind.
 #[test]
-#[tactic(auto, unfolding(pr_api::specs::Views::kernel_of))]
 fn several_threads_make_a_run(rt: HostRuntime) -> Result<(), Fail> {
     let world = a_world(rt.alloc())?;
     let gate = Meeting::new();
