@@ -1,13 +1,12 @@
-use Rattle.std.proofs.Common.{◌≡◌, ◌||◌, ℕ, Bool, true, false, None, Some, Option, refl, sym, subst, ap, ◌∙◌}
-use Rattle.std.proofs.lemmas.Option.{same_Some, none-some}
+use Rattle.std.proofs.Common.{◌≡◌, ℕ, Some, refl, sym, ap, ◌∙◌}
+use Rattle.std.proofs.lemmas.Option.{same_Some}
 use Rattle.pr_line.specs.Events.{event_of as event_shown}
 use Rattle.pr_parts.specs.PendingSignals.{Pending}
 use Rattle.pr_model.specs.State.{TracedLwp, TracedProcess, lwp_of}
-use Rattle.pr_model.specs.Statuses.{lwpstatus_of, disposition_in}
+use Rattle.pr_model.specs.Statuses.{lwpstatus_of}
 use Rattle.pr_model.specs.Stops.{shown}
-use Rattle.pr_model.specs.declared.lwps.LwpControl.{LwpControl}
 use Rattle.pr_model.specs.declared.stops.Stop.{Stop}
-use Rattle.pr_truss_laws.specs.Stills.{HasNoStop, IsFrozen, IsHalting, IsQuiet, IsUndisturbed, stands_still, will_stop}
+use Rattle.pr_truss_laws.specs.Stills.{IsFrozen, IsHalting, IsQuiet, IsUndisturbed, stands_still, will_stop}
 
 -- A process that was left alone stands as it stood, and its lwps tell the same events.
 

@@ -1,4 +1,4 @@
-use Rattle.std.proofs.Common.{◌≡◌, ◌==◌, ℕ, Bool, true, false, cond, None, Some, Option, List, [], ◌∷◌, refl, sym, subst, ap, ◌∙◌, inl, inr, ◌⊎◌}
+use Rattle.std.proofs.Common.{◌≡◌, ℕ, Bool, true, false, cond, None, Some, Option, List, [], ◌∷◌, refl, sym, subst, ap, ◌∙◌, inl, inr}
 use Rattle.std.proofs.lemmas.Bool.{false≢true, cases_Bool}
 use Rattle.std.proofs.lemmas.Option.{same_Some, none-some}
 use Rattle.std.specs.Option.{option_map}
@@ -18,9 +18,9 @@ use Rattle.pr_model.specs.Points.{after_meeting, is_traced, meets, stop_at, stop
 use Rattle.pr_model.specs.Rows.{Row, requested_row, row_for}
 use Rattle.pr_model.specs.State.{TracedLwp, TracedProcess, TracedSystem, live_process, lwp_of, process_of, with_lwp, with_lwp_of, with_process}
 use Rattle.pr_model.specs.Stops.{directed, with_all_directed}
-use Rattle.pr_model.specs.Transitions.{Transition, after_transition}
+use Rattle.pr_model.specs.Transitions.{after_transition}
 use Rattle.pr_model.specs.declared.stops.Point.{Point}
-use Rattle.pr_truss_laws.proofs.OwnTurnLemmas.{Carried, GoesOn, row-carries, traced-same}
+use Rattle.pr_truss_laws.proofs.OwnTurnLemmas.{GoesOn, row-carries, traced-same}
 use Rattle.pr_truss_laws.proofs.StillLemmas.{row-directed}
 use Rattle.pr_truss_laws.proofs.ToldLemmas.{Follows, KeepsDispositions, row-tells}
 use Rattle.pr_truss_laws.specs.Told.{TellsItsEvent, has_ended}
@@ -30,7 +30,7 @@ use Rattle.pr_model.proofs.TurnLemmas.{turn-taken}
 
 -- ---- the lwp that met the point
 
-mapped-some : {X Y : Type 0} (f : X → Y) (o : Option X) (y : Y) → option_map f o ≡ Some y → (x : X) × ((o ≡ Some x) × (f x ≡ y))
+pub mapped-some : {X Y : Type 0} (f : X → Y) (o : Option X) (y : Y) → option_map f o ≡ Some y → (x : X) × ((o ≡ Some x) × (f x ≡ y))
 mapped-some f None y is = absurd (none-some y is)
 mapped-some f (Some x) y is = (x, (refl, same_Some (f x) y is))
 

@@ -16,4 +16,5 @@ pub mod ReleaseLemmas
 pub mod SequenceLemmas
 pub mod StepLemmas
 pub mod StillLemmas
+pub mod StoresLemmas
 pub mod ToldLemmas

@@ -1,11 +1,10 @@
-use Rattle.std.proofs.Common.{◌≡◌, ◌≢◌, ◌==◌, ◌||◌, ◌&&◌, ◌<◌, ◌≤◌, ◌+◌, ℕ, Bool, true, false, cond, is_some, None, Some, Option, List, [], ◌∷◌, length, refl, sym, subst, ap, ◌∙◌, arith, inl, inr, ◌⊎◌}
+use Rattle.std.proofs.Common.{◌≡◌, ◌≢◌, ◌==◌, ◌||◌, ◌&&◌, ◌≤◌, ◌+◌, ℕ, Bool, true, false, cond, is_some, None, Some, Option, List, [], ◌∷◌, refl, sym, ap, ◌∙◌, arith, inl, inr}
 use Rattle.std.proofs.lemmas.Bool.{false≢true, cases_Bool, eqb-true, eqb-false, eq-eqb, ne_eqb}
 use Rattle.std.proofs.lemmas.Option.{same_Some, none-some}
 use Rattle.std.specs.List.{All, find, list_all, list_any}
-use Rattle.std.specs.Option.{IsSome, option_or}
+use Rattle.std.specs.Option.{option_or}
 use Rattle.pr_num.proofs.ByIdLaws.{All-under}
 use Rattle.pr_num.proofs.ByIdLemmas.{rises_from-tail}
-use Rattle.pr_num.proofs.SearchLemmas.{list_any-find}
 use Rattle.pr_num.specs.Agents.{agent_id}
 use Rattle.pr_num.specs.ById.{IsRising, rises_from, under, without_id}
 use Rattle.pr_num.specs.declared.signals.Sig.{Sig}
@@ -19,19 +18,19 @@ use Rattle.pr_model.specs.declared.stops.Shown.{Shown}
 use Rattle.pr_model.specs.declared.stops.Shown.TheVariants.{Event, Suspended, JobControl}
 use Rattle.pr_model.specs.declared.stops.Stop.{Stop}
 use Rattle.pr_model.specs.declared.stops.Stop.TheVariants as stop
-use Rattle.pr_truss_laws.specs.Stills.{HasNoStop, HasOneEvent, IsQuiet, StandsOnEvent, is_met}
+use Rattle.pr_truss_laws.specs.Stills.{HasOneEvent, IsQuiet, StandsOnEvent, is_met}
 
 -- PCRUN of a process of which one lwp stands on an event, and each other one shows a requested stop or a suspension.
 
 -- ---- lists under rising ids
 
-under-above : {X : Type 0} (low other : ℕ) (x : X) (es : List (ℕ × X)) → rises_from low es ≡ true → under other es ≡ Some x → low ≤ other
+pub under-above : {X : Type 0} (low other : ℕ) (x : X) (es : List (ℕ × X)) → rises_from low es ≡ true → under other es ≡ Some x → low ≤ other
 under-above {X} low other x es rises at = All-under (λ (e : ℕ × X). low ≤ e.0) other x es (ids-above low es rises) at
 
-under-later : {X : Type 0} (low other : ℕ) (x : X) (e : ℕ × X) (es : List (ℕ × X)) → rises_from low (e ∷ es) ≡ true → under other es ≡ Some x → under other (e ∷ es) ≡ Some x
+pub under-later : {X : Type 0} (low other : ℕ) (x : X) (e : ℕ × X) (es : List (ℕ × X)) → rises_from low (e ∷ es) ≡ true → under other es ≡ Some x → under other (e ∷ es) ≡ Some x
 under-later low other x e es rises at = let above = under-above (e.0 + 1) other x es (rises_from-tail low e es rises) at in rw (ne_eqb e.0 other (λ same. absurd (omega arith))) at
 
-under-first : {X : Type 0} (e : ℕ × X) (es : List (ℕ × X)) → under e.0 (e ∷ es) ≡ Some e.1
+pub under-first : {X : Type 0} (e : ℕ × X) (es : List (ℕ × X)) → under e.0 (e ∷ es) ≡ Some e.1
 under-first e es = rw (eq-eqb e.0 e.0 refl) refl
 
 both : (a b : Bool) → a ≡ true → b ≡ true → (a && b) ≡ true
@@ -42,7 +41,7 @@ all-of : {X : Type 0} (f : ℕ × X → Bool) (low : ℕ) (es : List (ℕ × X))
 all-of f low [] rises each = refl
 all-of f low (e ∷ es) rises each = both (f e) (list_all f es) (each e.0 e.1 (under-first e es)) (all-of f (e.0 + 1) es (rises_from-tail low e es rises) (λ other x at. each other x (under-later low other x e es rises at)))
 
-all-others : {X : Type 0} (f : ℕ × X → Bool) (low id : ℕ) (es : List (ℕ × X)) → rises_from low es ≡ true → ((other : ℕ) (x : X) → other ≢ id → under other es ≡ Some x → f (other, x) ≡ true) → list_all f (without_id id es) ≡ true
+pub all-others : {X : Type 0} (f : ℕ × X → Bool) (low id : ℕ) (es : List (ℕ × X)) → rises_from low es ≡ true → ((other : ℕ) (x : X) → other ≢ id → under other es ≡ Some x → f (other, x) ≡ true) → list_all f (without_id id es) ≡ true
 all-others f low id [] rises each = refl
 all-others {X} f low id (e ∷ es) rises each = by (e.0 == id) refl (all-others f (e.0 + 1) id es tail (λ other x differs at. each other x differs (under-later low other x e es rises at)))
   where
@@ -84,11 +83,11 @@ run-class (Some (Event (stop.SysEntry c))) is = cc
 run-class (Some (Event (stop.SysExit c))) is = cc
 run-class (Some (Event (stop.Faulted f))) is = cc
 
-some-or : {X : Type 0} (a b : Option X) → is_some b ≡ true → is_some (option_or a b) ≡ true
+pub some-or : {X : Type 0} (a b : Option X) → is_some b ≡ true → is_some (option_or a b) ≡ true
 some-or None b is = is
 some-or (Some x) b is = refl
 
-or-some : {X : Type 0} (a b : Option X) → is_some a ≡ true → is_some (option_or a b) ≡ true
+pub or-some : {X : Type 0} (a b : Option X) → is_some a ≡ true → is_some (option_or a b) ≡ true
 or-some None b is = cc
 or-some (Some x) b is = refl
 

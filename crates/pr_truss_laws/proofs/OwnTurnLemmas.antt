@@ -1,9 +1,9 @@
-use Rattle.std.proofs.Common.{◌≡◌, ◌≢◌, ◌==◌, ◌||◌, ◌&&◌, ◌<◌, ◌≤◌, ◌+◌, ℕ, Bool, true, false, cond, not, is_none, is_some, None, Some, Option, List, [], ◌∷◌, length, refl, sym, subst, ap, ◌∙◌, arith, inl, inr, ◌⊎◌}
-use Rattle.std.proofs.lemmas.Bool.{false≢true, cases_Bool, eqb-true, eqb-false, eq-eqb}
+use Rattle.std.proofs.Common.{◌≡◌, ◌==◌, ◌||◌, ◌&&◌, ◌+◌, ℕ, Bool, true, false, cond, is_some, None, Some, Option, List, [], ◌∷◌, length, refl, sym, subst, ap, ◌∙◌, inl, inr}
+use Rattle.std.proofs.lemmas.Bool.{false≢true, cases_Bool, eqb-true, eqb-false}
 use Rattle.std.proofs.lemmas.Option.{same_Some, none-some}
 use Rattle.std.specs.Option.{option_map}
 use Rattle.pr_num.proofs.ByIdLaws.{under-change_under, under-change_under_other, under-inserted, under-inserted_other, under-map_each, under-without_id, under-without_id_other, All-under}
-use Rattle.pr_num.specs.ById.{IsRising, change_under, inserted, map_each, under, without_id}
+use Rattle.pr_num.specs.ById.{IsRising, change_under, inserted, under, without_id}
 use Rattle.pr_num.specs.Control.{async_mode, has_flags}
 use Rattle.pr_num.specs.Files.{FileTable}
 use Rattle.pr_num.specs.Programs.{Program}
@@ -16,13 +16,13 @@ use Rattle.pr_model.specs.Changes.{Change, changed, files_are, space_is, signals
 use Rattle.pr_model.specs.Lives.{forked, new_lwp, started, with_child, with_lwp_ended, with_made, with_reaped, with_new_lwp, with_program, without_lwp}
 use Rattle.pr_model.specs.Lawful.{IsLawfulProcess, IsLawfulSystem}
 use Rattle.pr_model.specs.LwpTurns.{LwpTurn, settled, turn_of, with_counted}
-use Rattle.pr_model.specs.Machines.{call_over, exec_control, fault_incurred, fault_posted, no_marks, step_taken, stopped_as_directed, traced}
+use Rattle.pr_model.specs.Machines.{call_over, exec_control, fault_incurred, fault_posted, no_marks, step_taken, traced}
 use Rattle.pr_model.specs.Moves.{Move, moved, stays, stops, posts, returns, runs, enters, incurs, traps, leaves, sleeps, takes, drops, catches}
 use Rattle.pr_model.specs.Points.{after_meeting, is_traced, meets, stop_at, stopped_at, with_others_directed, with_stop_at}
 use Rattle.pr_model.specs.Rows.{Row, row_for}
-use Rattle.pr_model.specs.Signals.{generated, is_kill}
+use Rattle.pr_model.specs.Signals.{is_kill}
 use Rattle.pr_model.specs.State.{TracedControl, TracedLwp, TracedProcess, TracedSystem, live_process, lwp_of, process_of, with_lwp, with_lwp_of, with_process}
-use Rattle.pr_model.specs.Stops.{directed, has_event_stop, with_all_directed}
+use Rattle.pr_model.specs.Stops.{directed, with_all_directed}
 use Rattle.pr_model.specs.Transitions.{Transition, after_transition, ended_if}
 use Rattle.pr_model.specs.declared.lwps.LwpControl.{LwpControl}
 use Rattle.pr_model.specs.declared.stops.Point.{Point}
@@ -210,7 +210,7 @@ module _ (pid : ℕ) where
     change-carries (makes_lwp fresh regs held) s suits = own-carried (with_new_lwp traced fresh regs held) s (λ x at. goes_on-new fresh held regs x)
     change-carries (suspends target suspended) s suits = own-carried (with_lwp target (with_suspended suspended)) s (λ x at. goes_on-lwp target (with_suspended suspended) (λ k. refl) (λ k. refl) x)
 
-    changes-carry : (cs : List Change) (s : TracedSystem) → SuitChanges pid p id l s cs → Carried s (all_changed traced pid p id l cs s)
+    pub changes-carry : (cs : List Change) (s : TracedSystem) → SuitChanges pid p id l s cs → Carried s (all_changed traced pid p id l cs s)
     unfolding all_changed
     changes-carry [] s suits = carried-same s
     changes-carry (c ∷ cs) s suits =
@@ -302,7 +302,7 @@ directed-stops l = by (is_some l.control.stop) refl
     by true is = rw is refl
     by false is = or-true (is_some l.control.stop || l.suspended)
 
-all-directed : (x : TracedProcess) → IsHalting (with_all_directed x)
+pub all-directed : (x : TracedProcess) → IsHalting (with_all_directed x)
 unfolding with_all_directed
 all-directed x = record { each = λ id k there. by (under id x.lwps) k (sym (under-map_each id directed x.lwps) ∙ there) }
   where

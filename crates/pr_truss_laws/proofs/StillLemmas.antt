@@ -1,5 +1,5 @@
-use Rattle.std.proofs.Common.{◌≡◌, ◌≢◌, ◌==◌, ◌||◌, ◌&&◌, ℕ, Bool, true, false, not, cond, is_none, None, Some, Option, List, refl, sym, subst, ap, ◌∙◌, inl, inr, ◌⊎◌}
-use Rattle.std.proofs.lemmas.Bool.{false≢true, cases_Bool, eqb-true, eqb-false, eq-eqb}
+use Rattle.std.proofs.Common.{◌≡◌, ◌==◌, ◌||◌, ℕ, Bool, true, false, not, cond, None, Some, Option, refl, sym, subst, ap, ◌∙◌, inl, inr}
+use Rattle.std.proofs.lemmas.Bool.{false≢true, cases_Bool, eqb-true, eqb-false}
 use Rattle.std.proofs.lemmas.Option.{same_Some, none-some}
 use Rattle.std.specs.Option.{option_and_then, option_map}
 use Rattle.pr_num.proofs.ByIdLaws.{under-change_under, under-change_under_other}
@@ -10,12 +10,11 @@ use Rattle.pr_model.specs.LwpTurns.{LwpTurn, can_move, is_held_back, may_turn, m
 use Rattle.pr_model.specs.Machines.{stopped_as_directed, traced}
 use Rattle.pr_model.specs.Moves.{moved}
 use Rattle.pr_model.specs.Points.{after_meeting}
-use Rattle.pr_model.specs.Rows.{Row, requested_row, row_for}
-use Rattle.pr_model.specs.State.{TracedLwp, TracedProcess, TracedSystem, if_live, live_process, lwp_of, process_of, with_lwp, with_lwp_of, with_process}
+use Rattle.pr_model.specs.Rows.{requested_row, row_for}
+use Rattle.pr_model.specs.State.{TracedLwp, TracedProcess, TracedSystem, if_live, live_process, lwp_of, with_lwp, with_lwp_of, with_process}
 use Rattle.pr_model.specs.Stops.{has_event_stop}
 use Rattle.pr_model.specs.Transitions.{after_transition, requested}
 use Rattle.pr_model.specs.declared.events.Did.TheVariants.{Stopped}
-use Rattle.pr_model.specs.declared.events.Turned.{Turned}
 use Rattle.pr_truss_laws.specs.Stills.{IsFrozen, IsHalting, stands_still, stopped_lwp, will_stop, with_lwp_stopped}
 
 -- A process that stands still stays so.
@@ -58,7 +57,7 @@ module _ (s : TracedSystem) (pid : ℕ) (p : TracedProcess) (live : live_process
 
 -- ---- who is directed only stops
 
-if-live-none : (q : TracedProcess) → q.ended ≡ None → if_live q ≡ Some q
+pub if-live-none : (q : TracedProcess) → q.ended ≡ None → if_live q ≡ Some q
 if-live-none q is = rw is refl
 
 -- a live process that is changed under its id
@@ -81,12 +80,12 @@ may-not-still : (s : TracedSystem) (pid : ℕ) (p : TracedProcess) (id : ℕ) (l
 may-not-still s pid p id l may = elim (cases_Bool (stands_still l)) [ inl still ↦ absurd (false≢true (sym (still-waits s pid p id l still) ∙ may)) | inr not ↦ not ]
 
 -- what the turn of a directed lwp makes of the system
-stop-settled : (s : TracedSystem) (pid : ℕ) (p : TracedProcess) (id : ℕ) (l : TracedLwp) → settled s pid p id l requested_row ≡ record { system = with_process pid (after_meeting None id) (with_process pid (with_counted Stopped false) (with_lwp_of pid id stopped_lwp s)); turned = record { did = Stopped; stop = false } }
+pub stop-settled : (s : TracedSystem) (pid : ℕ) (p : TracedProcess) (id : ℕ) (l : TracedLwp) → settled s pid p id l requested_row ≡ record { system = with_process pid (after_meeting None id) (with_process pid (with_counted Stopped false) (with_lwp_of pid id stopped_lwp s)); turned = record { did = Stopped; stop = false } }
 unfolding settled requested_row after_transition requested moved all_changed traced
 stop-settled s pid p id l = refl
 
 module _ (s : TracedSystem) (pid : ℕ) (p : TracedProcess) (live : live_process s pid ≡ Some p) where
-  stopped-live : (id : ℕ) → live_process (with_process pid (after_meeting None id) (with_process pid (with_counted Stopped false) (with_lwp_of pid id stopped_lwp s))) pid ≡ Some (with_lwp_stopped id p)
+  pub stopped-live : (id : ℕ) → live_process (with_process pid (after_meeting None id) (with_process pid (with_counted Stopped false) (with_lwp_of pid id stopped_lwp s))) pid ≡ Some (with_lwp_stopped id p)
   unfolding with_lwp_of with_lwp with_counted after_meeting
   stopped-live id =
       let one = live-changed s pid (with_lwp id stopped_lwp) p live refl in

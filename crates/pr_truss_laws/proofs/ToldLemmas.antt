@@ -1,10 +1,8 @@
-use Rattle.std.proofs.Common.{◌≡◌, ◌==◌, ℕ, zero, suc, Bool, true, false, cond, not, None, Some, Option, List, [], ◌∷◌, take, drop, length, Result, Ok, Err, refl, sym, subst, ap, ◌∙◌}
+use Rattle.std.proofs.Common.{◌≡◌, ℕ, Bool, true, false, cond, None, Some, Option, List, [], ◌∷◌, length, Result, Ok, Err, refl, sym, subst, ap, ◌∙◌}
 use Rattle.std.proofs.lemmas.Bool.{false≢true, eq-eqb}
 use Rattle.std.proofs.lemmas.Option.{same_Some, none-some}
-use Rattle.std.specs.List.{slice_set}
-use Rattle.std.specs.Option.{option_and_then, option_map}
+use Rattle.std.specs.Option.{option_map}
 use Rattle.pr_line.specs.Events.{event_of as event_shown, named_call}
-use Rattle.pr_line.specs.declared.events.Event.{Event}
 use Rattle.pr_line.specs.declared.events.Event.TheVariants.{Entered, Left, Received, Incurred}
 use Rattle.pr_num.proofs.EntryLemmas.{fault_of_number-number, signal_of_number-number}
 use Rattle.pr_num.specs.Instructions.{instruction_in}
@@ -30,8 +28,8 @@ use Rattle.pr_model.specs.declared.lwps.Phase.TheVariants as phase
 use Rattle.pr_model.specs.declared.stops.Stop.TheVariants as stop
 use Rattle.pr_num.specs.declared.signals.Sig.{Sig}
 use Rattle.pr_num.specs.declared.syscalls.Sysno.{Sysno}
-use Rattle.pr_model.specs.Events.{Event as MachineEvent, entry, event_of, exit, fault, gone, signal}
-use Rattle.pr_model.specs.InstructionEffects.{InstructionEffect, access_fault, calls, faults, instruction_effect, runs, runs_into_watch, trapped_after, unless_watched, load_effect, store_effect, executed, of_instruction, of_fetch, unless_exec_watched, hit_before, decoded, Decoded, faults_itself, enters_call, leaves, loads, stores, Store, Load, is_stack_load, loaded}
+use Rattle.pr_model.specs.Events.{entry, event_of, exit, fault, signal}
+use Rattle.pr_model.specs.InstructionEffects.{InstructionEffect, access_fault, calls, faults, instruction_effect, runs, runs_into_watch, trapped_after, unless_watched, load_effect, store_effect, executed, of_instruction, of_fetch, unless_exec_watched, decoded, Decoded, faults_itself, enters_call, leaves, loads, stores, Store, Load, is_stack_load, loaded}
 use Rattle.pr_parts.specs.declared.actions.Action.{Action}
 use Rattle.pr_parts.specs.declared.actions.Action.TheVariants as act
 use Rattle.pr_model.specs.CallEffects.{call_effect}
@@ -42,7 +40,7 @@ use Rattle.pr_model.specs.Moves as move
 use Rattle.pr_model.specs.Points.{stop_at}
 use Rattle.pr_model.specs.Rows.{Row, acted_row, call_row, caught_row, current_row_or, handler_row, posted_row, posted_row_or, requested_row, row_for, row_in, signal_row_or, taken_or, entered_row, executed_row, finished, incurred_row, instruction_row, interrupted_row, own_taken_row, performed_row, point_row, quiet_row, ran_row, returned_row, shared_taken_row, watched_row}
 use Rattle.pr_model.specs.Transitions.{died, dropped, entered, incurred, interrupted, job_stopped, own_taken, performed, ran, returned, shared_taken, trapped}
-use Rattle.pr_model.specs.declared.events.Did.TheVariants.{Acted, Faulted, Made, Ran, Returned, Took, Woke}
+use Rattle.pr_model.specs.declared.events.Did.TheVariants.{Acted, Faulted, Ran, Returned, Took}
 use Rattle.pr_model.specs.declared.stops.Point.{Point}
 use Rattle.pr_model.specs.declared.stops.Point.TheVariants.{Signal, Fault, Entry, Exit}
 use Rattle.pr_model.specs.Registers.{address_at, arguments, moved_on, pc_of, with_pc}

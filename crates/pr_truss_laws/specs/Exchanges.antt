@@ -1,5 +1,6 @@
 use Rattle.std.specs.Prelude.{◌≡◌, ◌==◌, ℕ, List, [], ◌∷◌, ◌++◌, Option, Some, None, map, if◌then◌else◌}
 use Rattle.std.specs.List.{filter_map}
+use Rattle.pr_line.specs.declared.options.Options.{Options}
 use Rattle.pr_model.specs.declared.calls.Call.{Call}
 use Rattle.pr_model.specs.declared.calls.Call.TheVariants as call
 use Rattle.pr_model.specs.declared.calls.File.{File}
@@ -14,7 +15,7 @@ use Rattle.pr_model.specs.declared.events.Entry.{Entry}
 use Rattle.pr_num.specs.declared.errnos.Errno.{Errno}
 use Rattle.pr_truss.specs.Feeding.{fed}
 use Rattle.pr_truss.specs.NextCalls.{next_call_of}
-use Rattle.pr_truss.specs.Trusses.{TrussState}
+use Rattle.pr_truss.specs.Trusses.{TrussState, first_truss}
 
 -- What a controller asks of the kernel, and what it is told: its calls with their replies, in order.
 
@@ -42,6 +43,10 @@ exchanges k h = filter_map (exchange_of k) h
 abbrev pub truss_after : TrussState → List Exchange → TrussState
 truss_after s [] = s
 truss_after s (x ∷ xs) = truss_after (fed s x.reply) xs
+
+-- the truss of a number after a history, where it began with these options
+abbrev pub truss_at : ℕ → Options → List Entry → TrussState
+truss_at k o h = truss_after (first_truss o) (exchanges k h)
 
 -- whether each call is the one that truss makes next
 abbrev pub Makes : TrussState → List Exchange → Type 0

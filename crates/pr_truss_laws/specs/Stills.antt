@@ -1,4 +1,6 @@
 use Rattle.std.specs.Prelude.{◌≡◌, ◌≢◌, ◌||◌, ℕ, Bool, true, false, None, Some}
+use Rattle.pr_num.specs.ById.{map_each}
+use Rattle.pr_parts.specs.PendingSignals.{nothing_pending}
 use Rattle.pr_model.specs.LwpTurns.{with_counted}
 use Rattle.pr_model.specs.Machines.{stopped_as_directed}
 use Rattle.pr_model.specs.Running.{shows_run}
@@ -35,12 +37,17 @@ with_lwp_stopped id p = with_counted Stopped false (with_lwp id stopped_lwp p)
 
 -- ---- a process with which others have to do
 
--- A process that others left alone but for signals, which came to pend for it or for its lwps, were deleted, or ended its
--- job stop, and for its parent, which ended.
+-- an lwp as it is with no signal that pends for it alone
+abbrev pub unsignalled : TracedLwp → TracedLwp
+unsignalled l = record l { pending = nothing_pending }
+
+-- A process that others left alone but for signals, which came to pend for it or for its lwps, were deleted, or ended
+-- its job stop, and for its parent, which ended. No lwp came and none went away: they are the same but for what pends.
 pub record IsUndisturbed (p q : TracedProcess) : Type 0 where
   pub rest : q ≡ record p { parent = q.parent; pending = q.pending; job_stop = q.job_stop; lwps = q.lwps }
   pub each : (id : ℕ) (k : TracedLwp) → lwp_of q id ≡ Some k
       → (l : TracedLwp) × ((lwp_of p id ≡ Some l) × (k ≡ record l { pending = k.pending }))
+  pub same : map_each unsignalled q.lwps ≡ map_each unsignalled p.lwps
 
 -- ---- the turns of its own lwps
 

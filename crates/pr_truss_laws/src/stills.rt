@@ -39,7 +39,6 @@ pub fn a_halting_process_only_stops()
 
 /// What an lwp of another process does leaves a process alone, where it lives still, but for signals and an end of its
 /// parent.
-#[tactic(auto, using(crate::proofs::FrameLemmas::frames))]
 pub fn a_turn_leaves_other_processes_alone()
     ensures { (s : TracedSystem) (pid other id : ℕ) (t : LwpTurn) (p q : TracedProcess) → IsLawfulSystem s
         → live_process s pid ≡ Some p → other ≢ pid → turn_of s other id ≡ Some t → live_process t.system pid ≡ Some q
@@ -47,7 +46,6 @@ pub fn a_turn_leaves_other_processes_alone()
 {}
 
 /// So does what another controller calls, where one controller has the process open exclusively.
-#[tactic(auto, using(crate::proofs::ForeignLemmas::foreign))]
 pub fn other_controllers_leave_an_exclusive_process_alone()
     ensures { (s : TracedState) (k number by : ℕ) (h : Held) (c : calls.Call) (a : Answer) (p q : TracedProcess)
         → IsLawful s → handle_of s.opens k number ≡ Some h → h.mode ≡ WriteExcl → by ≢ k → answer_to s by c ≡ Some a
