@@ -1,0 +1,5 @@
+pub mod AllRecords
+pub mod ByteHistories
+pub mod InRange
+pub mod Mapped
+pub mod Used
