@@ -1,0 +1,222 @@
+use Rattle.std.proofs.Common.{◌≡◌, ◌==◌, ℕ, Bool, true, false, cond, None, Some, Option, List, [], ◌∷◌, Ok, refl, sym, ap, ◌∙◌}
+use Rattle.std.proofs.lemmas.Option.{none-some, same_Some}
+use Rattle.std.specs.Option.{option_and_then}
+use Rattle.pr_line.specs.declared.events.Event.TheVariants.{Left}
+use Rattle.pr_num.specs.Agents.{agent_id}
+use Rattle.pr_num.specs.Limits.{process_limit}
+use Rattle.pr_num.specs.declared.errnos.Errno.{Errno}
+use Rattle.pr_num.specs.declared.errnos.Errno.TheVariants.{Again, Intr, Nomem, Notsup}
+use Rattle.pr_num.specs.declared.faults.Flt.{Flt}
+use Rattle.pr_num.specs.declared.signals.Sig.{Sig}
+use Rattle.pr_num.specs.declared.syscalls.Sysno.{Sysno}
+use Rattle.pr_num.specs.declared.syscalls.Sysno.TheVariants as call
+use Rattle.pr_parts.specs.declared.actions.Action.{Action}
+use Rattle.pr_parts.specs.declared.actions.Action.TheVariants as act
+use Rattle.pr_model.specs.CallEffects.{call_effect}
+use Rattle.pr_model.specs.Changes.{Effect, does, ends, forks, gives, fails, sleeps}
+use Rattle.pr_model.specs.Events.{event_of}
+use Rattle.pr_model.specs.InstructionEffects.{InstructionEffect, calls, faults, instruction_effect, runs, runs_into_watch}
+use Rattle.pr_model.specs.ProcessCalls.{fork_effect}
+use Rattle.pr_model.specs.Readers.{size_of, total_has_room}
+use Rattle.pr_model.specs.Registers.{arguments}
+use Rattle.pr_model.specs.Rows.{Row, acted_row, call_row, caught_row, current_row_or, entered_row, executed_row, finished, handler_row, incurred_row, interrupted_row, own_taken_row, performed_row, posted_row, posted_row_or, ran_row, requested_row, returned_row, row_for, row_in, shared_taken_row, signal_row_or, taken_or, watched_row}
+use Rattle.pr_model.specs.Signals.{action_for, own_takeable, shared_takeable}
+use Rattle.pr_model.specs.State.{TracedLwp, TracedProcess, TracedSystem}
+use Rattle.pr_model.specs.Transitions.{performed}
+use Rattle.pr_model.specs.declared.events.Did.{Did}
+use Rattle.pr_model.specs.declared.events.Did.TheVariants as did
+use Rattle.pr_model.specs.declared.events.Res.{Res}
+use Rattle.pr_model.specs.declared.events.Res.TheVariants.{Value, Error, Ended}
+use Rattle.pr_model.specs.declared.lwps.Current.{Current}
+use Rattle.pr_model.specs.declared.lwps.Phase.{Phase}
+use Rattle.pr_model.specs.declared.lwps.Phase.TheVariants as phase
+use Rattle.pr_truss_laws.specs.Told.{told}
+use Rattle.std.specs.Prelude.{nat_le}
+use Rattle.pr_report_laws.specs.Births.{child_made, is_fork}
+
+-- The turn that makes a child by fork.
+
+-- ---- what a turn did, by the event that is told of it
+
+fork-by : (c d : Sysno) (v w : ℕ) → is_fork c ≡ true → d ≡ c → w ≡ v → cond (is_fork d) (Some w) None ≡ Some v
+fork-by c d v w fork same value = rw (same, fork) (ap (λ n. Some n) value)
+
+made-left : (c : Sysno) (v w : ℕ) (args own : List ℕ) → Some (Left c own (Ok w)) ≡ Some (Left call.Fork args (Ok v)) → cond (is_fork c) (Some w) None ≡ Some v
+made-left c v w args own is =
+    let same : c ≡ call.Fork = cc in
+    let value : w ≡ v = cc in
+    fork-by call.Fork c v w refl same value
+
+-- The exit of a fork is told of the turn that made its child.
+pub told-made : (p : TracedProcess) (l : TracedLwp) (new : Option TracedLwp) (d : Did) (args : List ℕ) (v : ℕ) → option_and_then told (event_of p l new d) ≡ Some (Left call.Fork args (Ok v)) → child_made d ≡ Some v
+unfolding event_of told
+told-made p l new did.Stopped args v is = cc
+told-made p l new did.Ran args v is = cc
+told-made p l new (did.Entered c) args v is = cc
+told-made p l new (did.Made c (Value w)) args v is = made-left c v w args _ is
+told-made p l new (did.Made c (Error e)) args v is = cc
+told-made p l new (did.Made c Ended) args v is = cc
+told-made p l new (did.Slept c) args v is = cc
+told-made p l new (did.Woke c (Value w)) args v is = made-left c v w args _ is
+told-made p l new (did.Woke c (Error e)) args v is = cc
+told-made p l new (did.Woke c Ended) args v is = cc
+told-made p l new (did.Returned c) args v is = cc
+told-made p l new (did.Faulted f) args v is = cc
+told-made p l new (did.Posted f) args v is = cc
+told-made p l new (did.Took g) args v is = cc
+told-made p l new (did.Acted g how) args v is = cc
+
+-- ---- the row of the turn
+
+module _ (s : TracedSystem) (pid : ℕ) (p : TracedProcess) (id : ℕ) (l : TracedLwp) where
+  -- where the turn made a child, that is the next process, and its row does that and no more
+  pub record MakesChild (row : Row) : Type 0 where
+    pub child : (c : ℕ) → child_made row.did ≡ Some c → (c ≡ s.made) × ((args : List ℕ) × ((row.transition.changes ≡ forks args ∷ []) × (row.transition.ending ≡ None)))
+
+  none-makes : (row : Row) → child_made row.did ≡ None → MakesChild row
+  none-makes row none = record { child = λ c is. absurd (none-some c (sym none ∙ is)) }
+
+  either-makes : (b : Bool) (x y : Row) → MakesChild x → MakesChild y → MakesChild (cond b x y)
+  either-makes true x y one other = one
+  either-makes false x y one other = other
+
+  -- ---- calls
+
+  failed-none : (woken : Bool) (c : Sysno) (e : Errno) → child_made (finished woken c (Error e)) ≡ None
+  failed-none true c e = refl
+  failed-none false c e = refl
+
+  ended-none : (woken : Bool) (c : Sysno) → child_made (finished woken c Ended) ≡ None
+  ended-none true c = refl
+  ended-none false c = refl
+
+  other-none : (woken : Bool) (c : Sysno) (r : Res) → is_fork c ≡ false → child_made (finished woken c r) ≡ None
+  other-none true c (Value v) other = rw other refl
+  other-none false c (Value v) other = rw other refl
+  other-none woken c (Error e) other = failed-none woken c e
+  other-none woken c Ended other = ended-none woken c
+
+  interrupted-makes : (woken : Bool) (c : Sysno) (args : List ℕ) → MakesChild (interrupted_row woken c args)
+  unfolding interrupted_row
+  interrupted-makes woken c args = none-makes (interrupted_row woken c args) (failed-none woken c Intr)
+
+  performed-none : (woken : Bool) (c : Sysno) (args : List ℕ) (since : ℕ) (effect : Effect) → is_fork c ≡ false → MakesChild (performed_row woken c args since effect)
+  unfolding performed_row
+  performed-none woken c args since (does r changes) other = none-makes (performed_row woken c args since (does r changes)) (other-none woken c r other)
+  performed-none woken c args since sleeps other = none-makes (performed_row woken c args since sleeps) refl
+  performed-none woken c args since (ends how) other = none-makes (performed_row woken c args since (ends how)) (ended-none woken c)
+
+  -- fork itself
+  fails-makes : (woken : Bool) (args : List ℕ) (since : ℕ) (e : Errno) → MakesChild (performed_row woken call.Fork args since (fails e))
+  unfolding performed_row
+  fails-makes woken args since e = none-makes (performed_row woken call.Fork args since (fails e)) (failed-none woken call.Fork e)
+
+  gave : (woken : Bool) (v : ℕ) → child_made (finished woken call.Fork (Value v)) ≡ Some v
+  gave true v = refl
+  gave false v = refl
+
+  gives-makes : (woken : Bool) (args : List ℕ) (since : ℕ) → MakesChild (performed_row woken call.Fork args since (gives s.made (forks args ∷ [])))
+  unfolding performed_row performed
+  gives-makes woken args since = record { child = λ c is. (same_Some c s.made (sym is ∙ gave woken s.made), (args, (refl, refl))) }
+
+  either-effect : (woken : Bool) (args : List ℕ) (since : ℕ) (b : Bool) (x y : Effect) → MakesChild (performed_row woken call.Fork args since x) → MakesChild (performed_row woken call.Fork args since y) → MakesChild (performed_row woken call.Fork args since (cond b x y))
+  either-effect woken args since true x y one other = one
+  either-effect woken args since false x y one other = other
+
+  fork-makes : (woken : Bool) (args : List ℕ) (since : ℕ) → MakesChild (performed_row woken call.Fork args since (fork_effect s p id args))
+  unfolding fork_effect
+  fork-makes woken args since =
+      either-effect woken args since (id == agent_id) _ _ (fails-makes woken args since Notsup)
+      (either-effect woken args since (nat_le process_limit s.made) _ _ (fails-makes woken args since Again)
+      (either-effect woken args since (total_has_room s (size_of p) 0) _ _ (gives-makes woken args since) (fails-makes woken args since Nomem)))
+
+  performed-makes : (woken : Bool) (c : Sysno) (args : List ℕ) (since : ℕ) → MakesChild (performed_row woken c args since (call_effect s pid p id l since c args))
+  unfolding call_effect
+  performed-makes woken call.Fork args since = fork-makes woken args since
+  performed-makes woken c args since = performed-none woken c args since (call_effect s pid p id l since c args) refl
+
+  call-makes : (woken : Bool) (c : Sysno) (args : List ℕ) (since : ℕ) → MakesChild (call_row s pid p id l woken c args since)
+  unfolding call_row
+  call-makes woken c args since = either-makes l.control.abort _ _ (interrupted-makes woken c args) (performed-makes woken c args since)
+
+  -- ---- other turns
+
+  returned-makes : (c : Sysno) → MakesChild (returned_row p l c)
+  unfolding returned_row
+  returned-makes c = either-makes l.control.step _ _ (none-makes _ refl) (none-makes _ refl)
+
+  executed-makes : (e : InstructionEffect) → MakesChild (executed_row p l e)
+  unfolding executed_row ran_row entered_row incurred_row watched_row
+  executed-makes (runs regs store) = either-makes l.control.step _ _ (none-makes _ refl) (none-makes _ refl)
+  executed-makes (calls c regs) = none-makes _ refl
+  executed-makes (faults f address) = none-makes _ refl
+  executed-makes (runs_into_watch address regs store) = none-makes _ refl
+
+  posted-makes : (f : Flt) (address : ℕ) → MakesChild (posted_row f address)
+  unfolding posted_row
+  posted-makes f address = none-makes _ refl
+
+  handler-makes : (c : Current) (handler : ℕ) → MakesChild (handler_row l c handler)
+  unfolding handler_row
+  handler-makes c handler = none-makes _ refl
+
+  caught-makes : (c : Current) (handler : ℕ) (ph : Phase) → MakesChild (caught_row l c handler ph)
+  unfolding caught_row
+  caught-makes c handler (phase.Entered made) = interrupted-makes false made (arguments l.regs)
+  caught-makes c handler (phase.Asleep made args since) = interrupted-makes true made args
+  caught-makes c handler phase.User = handler-makes c handler
+  caught-makes c handler (phase.Exiting made args result) = handler-makes c handler
+  caught-makes c handler (phase.Faulted f address) = handler-makes c handler
+
+  acted-makes : (c : Current) → MakesChild (acted_row p l c)
+  unfolding acted_row
+  acted-makes c = by (action_for p.dispositions c.signal) refl
+    where
+      by : (a : Action) → action_for p.dispositions c.signal ≡ a → MakesChild (acted_row p l c)
+      by act.Ignore is = rw is (none-makes _ refl)
+      by act.Stop is = rw is (none-makes _ refl)
+      by act.Die is = rw is (none-makes _ refl)
+      by (act.Catch handler) is = rw is (caught-makes c handler l.phase)
+
+  -- ---- the table
+
+  in-phase : (ph : Phase) → MakesChild (row_in s pid p id l ph)
+  unfolding row_in
+  in-phase phase.User = executed-makes (instruction_effect p.space p.control.areas l.regs)
+  in-phase (phase.Entered c) = call-makes false c (arguments l.regs) s.clock
+  in-phase (phase.Asleep c args since) = call-makes true c args since
+  in-phase (phase.Exiting c args result) = returned-makes c
+  in-phase (phase.Faulted f address) = posted-makes f address
+
+  taken-makes : (own shared : Option Sig) (otherwise : Row) → MakesChild otherwise → MakesChild (taken_or s pid p id l own shared otherwise)
+  unfolding own_taken_row shared_taken_row
+  taken-makes (Some g) shared otherwise makes = none-makes _ refl
+  taken-makes None (Some g) otherwise makes = none-makes _ refl
+  taken-makes None None otherwise makes = makes
+
+  signal-makes : (ph : Phase) (otherwise : Row) → MakesChild otherwise → MakesChild (signal_row_or s pid p id l ph otherwise)
+  unfolding signal_row_or
+  signal-makes phase.User otherwise makes = taken-makes (own_takeable l) (shared_takeable p l) otherwise makes
+  signal-makes (phase.Entered c) otherwise makes = makes
+  signal-makes (phase.Asleep c args since) otherwise makes = taken-makes (own_takeable l) (shared_takeable p l) otherwise makes
+  signal-makes (phase.Exiting c args result) otherwise makes = taken-makes (own_takeable l) (shared_takeable p l) otherwise makes
+  signal-makes (phase.Faulted f address) otherwise makes = makes
+
+  current-makes : (c : Option Current) (otherwise : Row) → MakesChild otherwise → MakesChild (current_row_or s pid p id l c otherwise)
+  current-makes (Some c) otherwise makes = acted-makes c
+  current-makes None otherwise makes = makes
+
+  first-makes : (ph : Phase) (otherwise : Row) → MakesChild otherwise → MakesChild (posted_row_or s pid p id l ph otherwise)
+  first-makes (phase.Faulted f address) otherwise makes = posted-makes f address
+  first-makes phase.User otherwise makes = makes
+  first-makes (phase.Entered c) otherwise makes = makes
+  first-makes (phase.Asleep c args since) otherwise makes = makes
+  first-makes (phase.Exiting c args result) otherwise makes = makes
+
+  requested-makes : MakesChild requested_row
+  unfolding requested_row
+  requested-makes = none-makes requested_row refl
+
+  pub row-makes : MakesChild (row_for s pid p id l)
+  unfolding row_for
+  row-makes = either-makes l.control.directed requested_row _ requested-makes (first-makes l.phase _ (current-makes l.current _ (signal-makes l.phase _ (in-phase l.phase))))

@@ -1,0 +1,413 @@
+use Rattle.std.proofs.Common.{◌≡◌, ◌≢◌, ◌==◌, ◌&&◌, ◌<◌, ◌≤◌, ◌+◌, ℕ, Bool, true, false, cond, is_none, length, None, Some, Option, List, [], ◌∷◌, Result, Ok, Err, refl, sym, subst, ap, ◌∙◌, arith, inl, inr}
+use Rattle.std.proofs.lemmas.Bool.{cases_Bool, eqb-false, eqb-true}
+use Rattle.std.proofs.lemmas.List.Elements.{All-cons, All-nil, All-weaker}
+use Rattle.std.proofs.lemmas.Option.{none-some, same_Some}
+use Rattle.std.specs.List.{All, position, slice_set}
+use Rattle.std.specs.Option.{option_and_then}
+use Rattle.pr_num.proofs.ByIdLaws.{All-change_under, All-inserted, All-map_each, All-under, All-without_id}
+use Rattle.pr_num.proofs.ByIdLemmas.{rises_from-tail}
+use Rattle.pr_num.specs.ById.{change_under, rises_from, under}
+use Rattle.pr_num.specs.Control.{has_flags, klc_mode, rlc_mode}
+use Rattle.pr_num.specs.Infos.{killed_by}
+use Rattle.pr_num.specs.Messages.{first_message}
+use Rattle.pr_num.specs.Programs.{Program}
+use Rattle.pr_num.specs.Signals.{signal_number}
+use Rattle.pr_num.specs.declared.errnos.Errno.{Errno}
+use Rattle.pr_num.specs.declared.infos.Info.{Info}
+use Rattle.pr_num.specs.declared.messages.Message.{Message}
+use Rattle.pr_num.specs.declared.messages.MsgFault.{MsgFault}
+use Rattle.pr_num.specs.declared.signals.Sig.{Sig}
+use Rattle.pr_num.specs.declared.signals.Sig.TheVariants.{Cld, Kill}
+use Rattle.pr_parts.specs.FileCalls.{with_all_shared}
+use Rattle.pr_laws.proofs.RepresentativeLemmas.{ids-above}
+use Rattle.pr_lawful.proofs.EndLemmas.{buried, found-live}
+use Rattle.pr_lawful.proofs.FileLemmas.{choice}
+use Rattle.pr_lawful.proofs.MadeLemmas.{Grows, closed-grows, ended-grows, generated-grows, process-grows, same-grows, settled-grows, spawned-grows}
+use Rattle.pr_lawful.proofs.MessageLemmas.{Makes, a_process, a_signal, an_end, message-makes, nothing}
+use Rattle.pr_model.proofs.TurnLemmas.{turn-taken}
+use Rattle.pr_model.specs.Calls.{Answer, answer_to, close_answer, close_held, kill_answer, open_answer, open_unless, opened, spawn_answer, spawn_found, spawn_unless}
+use Rattle.pr_model.specs.Changes.{Change, files_are, space_is, signals, signals_itself, takes_shared, job_stops, disposition_is, held_is, resumes, forks, reaps, becomes, makes_lwp, suspends, Ending, ends_process, ends_lwp, all_changed, changed, ended, with_fds}
+use Rattle.pr_model.specs.ControlMessages.{aim_of, control_answer, control_handle, decoded_answer, held_answer, still_there, tail_of, target_of, targeted_answer}
+use Rattle.pr_model.specs.Generation.{told}
+use Rattle.pr_model.specs.Handles.{after_last_close, handle_of, is_control, open_refusal, was_last_writer, with_closed, with_last_close, with_opened}
+use Rattle.pr_model.specs.Lawful.{IsLawful, IsLawfulProcess, IsLawfulSystem}
+use Rattle.pr_model.specs.Legal.{IsLegalEntry, after}
+use Rattle.pr_model.specs.Lives.{ended_if_live, forked, new_process, orphaned, with_child, with_ended, with_lwp_ended, with_made, with_parent_told, with_reaped, with_spawned, with_this_ended, zombie}
+use Rattle.pr_model.specs.LwpTurns.{LwpTurn, settled, turn_of, with_counted}
+use Rattle.pr_model.specs.Machines.{traced}
+use Rattle.pr_model.specs.Messages.{Controlled}
+use Rattle.pr_model.specs.Moves.{moved}
+use Rattle.pr_model.specs.Points.{after_meeting}
+use Rattle.pr_model.specs.ProcessCalls.{program_named}
+use Rattle.pr_model.specs.Rows.{Row, row_for}
+use Rattle.pr_model.specs.SignalCalls.{Sending, refuses, sends_nothing, sends, with_sent}
+use Rattle.pr_model.specs.Signals.{generated, is_kill}
+use Rattle.pr_model.specs.Spawning.{spawn_refusal}
+use Rattle.pr_model.specs.State.{TracedLwp, TracedProcess, TracedState, TracedSystem, if_live, live_process, process_of, with_lwp, with_lwp_of, with_process}
+use Rattle.pr_model.specs.Transitions.{Transition, after_transition, ended_if}
+use Rattle.pr_model.specs.declared.calls.Call.{Call}
+use Rattle.pr_model.specs.declared.calls.Call.TheVariants as call
+use Rattle.pr_model.specs.declared.calls.File.{File}
+use Rattle.pr_model.specs.declared.calls.Mode.{Mode}
+use Rattle.pr_model.specs.declared.events.Act.{Act}
+use Rattle.pr_model.specs.declared.events.Act.TheVariants as act
+use Rattle.pr_model.specs.declared.events.Actor.{Actor}
+use Rattle.pr_model.specs.declared.events.Actor.TheVariants.{Controller, Lwp, Clock}
+use Rattle.pr_model.specs.declared.events.Entry.{Entry}
+use Rattle.pr_model.specs.declared.handles.Held.{Held}
+use Rattle.pr_truss_laws.proofs.FrameLemmas.{ended-same, orphaned-undisturbed, told-undisturbed}
+use Rattle.pr_truss_laws.proofs.OpensLemmas.{looking-stays, only_looks}
+
+-- A process that does not live, and whose id was given out, never lives again: no process is made under an id that was
+-- given out, and none that has ended becomes live.
+
+-- ---- what a call of a controller does to the system
+
+-- It leaves the system; it writes a control message to a live process; it is the last close for writing of one; it
+-- makes a process; or it sends a signal.
+pub data CallDoes (s t : TracedSystem) : Type 0 where
+  leaves : t ≡ s → CallDoes s t
+  writes : (target : ℕ) (p : TracedProcess) → live_process s target ≡ Some p → Makes s target p t → CallDoes s t
+  closes_last : (target : ℕ) (p : TracedProcess) → live_process s target ≡ Some p → t ≡ with_last_close target p s → CallDoes s t
+  makes_process : (program : Program) (held : Bool) → t ≡ with_spawned traced program held s → CallDoes s t
+  sends_signal : (target : ℕ) (g : Sig) (info : Info) → t ≡ generated traced target None g info s → CallDoes s t
+
+module _ (s : TracedState) (lawful : IsLawful s) where
+  abbrev Does : Answer → Type 0
+  Does a = CallDoes s.system a.state.system
+
+  abbrev DoesOf : Controlled → Type 0
+  DoesOf c = CallDoes s.system c.system
+
+  -- ---- opens and closes
+
+  open-does : (by pid id : ℕ) (file : File) (mode : Mode) → Does (open_answer s by pid id file mode)
+  unfolding open_answer with_opened
+  open-does by pid id file mode = of (open_refusal s pid id file mode)
+    where
+      held : Held
+      held = record { controller = by; pid = pid; lwp = id; file = file; mode = mode }
+
+      at : (o : Option ℕ) → Does (opened s held o)
+      at None = leaves refl
+      at (Some place) = leaves refl
+
+      of : (o : Option Errno) → Does (open_unless s held o)
+      of (Some e) = leaves refl
+      of None = at (position is_none s.opens)
+
+  close-does : (by handle : ℕ) → Does (close_answer s by handle)
+  unfolding close_answer with_closed
+  close-does by handle = of (handle_of s.opens by handle)
+    where
+      last : (h : Held) (o : Option TracedProcess) → live_process s.system h.pid ≡ o → CallDoes s.system (after_last_close h.pid o s.system)
+      last h None live = leaves refl
+      last h (Some p) live = closes_last h.pid p live refl
+
+      of : (o : Option Held) → Does (close_held s handle o)
+      of None = leaves refl
+      of (Some h) = choice (λ t. CallDoes s.system t) (was_last_writer h (slice_set s.opens handle None)) _ _ (λ was. last h (live_process s.system h.pid) refl) (λ not. leaves refl)
+
+  -- ---- a control message, which goes to a live process
+
+  decoded-does : (held : Held) (p : TracedProcess) (bytes : List ℕ) (r : Result (Message × ℕ) MsgFault) → live_process s.system held.pid ≡ Some p → DoesOf (decoded_answer s.system held p bytes r)
+  decoded-does held p bytes (Err fault) live = leaves refl
+  decoded-does held p bytes (Ok (m, len)) live =
+      let it = found-live s.system held.pid p live in
+      let own = All-under IsLawfulProcess held.pid p s.system.processes lawful.system.processes it.0 in
+      choice DoesOf (held.pid == 0) _ _ (λ system. leaves refl) (λ user. writes held.pid p live (message-makes s.system held.pid p lawful.system it.1 own (aim_of held) m (tail_of m bytes) len))
+
+  targeted-does : (held : Held) (bytes : List ℕ) → DoesOf (targeted_answer s.system held (target_of s.system held) bytes)
+  unfolding target_of
+  targeted-does held bytes = of (live_process s.system held.pid) refl
+    where
+      of : (o : Option TracedProcess) → live_process s.system held.pid ≡ o → DoesOf (targeted_answer s.system held (still_there held o) bytes)
+      of None live = leaves refl
+      of (Some p) live = choice (λ (x : Option TracedProcess). DoesOf (targeted_answer s.system held x bytes)) _ (Some p) None (λ there. decoded-does held p bytes (first_message bytes) live) (λ gone. leaves refl)
+
+  ctl-does : (by handle : ℕ) (bytes : List ℕ) → DoesOf (control_answer s.system s.opens by handle bytes)
+  unfolding control_answer
+  ctl-does by handle bytes = of (handle_of s.opens by handle)
+    where
+      of : (o : Option Held) → DoesOf (held_answer s.system (control_handle o) bytes)
+      of None = leaves refl
+      of (Some held) = choice (λ (x : Option Held). DoesOf (held_answer s.system x bytes)) (is_control held.file) (Some held) None (λ control. targeted-does held bytes) (λ no. leaves refl)
+
+  -- ---- what comes from outside
+
+  spawn-does : (name : List ℕ) (held : Bool) → Does (spawn_answer s name held)
+  unfolding spawn_answer
+  spawn-does name held = of (program_named s.system.programs name)
+    where
+      unless : (program : Program) (o : Option Errno) → Does (spawn_unless s program held o)
+      unless program None = makes_process program held refl
+      unless program (Some e) = leaves refl
+
+      of : (o : Option Program) → Does (spawn_found s held o)
+      of None = leaves refl
+      of (Some program) = unless program (spawn_refusal s.system program)
+
+  sent-does : (target : ℕ) (info : Info) (sent : Sending) → CallDoes s.system (with_sent traced target info sent s.system)
+  unfolding with_sent
+  sent-does target info (refuses e) = leaves refl
+  sent-does target info sends_nothing = leaves refl
+  sent-does target info (sends g) = sends_signal target g info refl
+
+  -- ---- every call
+
+  looking-does : (by : ℕ) (c : Call) (a : Answer) → only_looks c ≡ true → answer_to s by c ≡ Some a → Does a
+  looking-does by c a looks is = leaves (ap (λ (x : TracedState). x.system) (looking-stays s by c a looks is))
+
+  pub call-does : (by : ℕ) (c : Call) (a : Answer) → answer_to s by c ≡ Some a → CallDoes s.system a.state.system
+  unfolding answer_to kill_answer
+  call-does by (call.Open pid id file mode) a is = subst Does (same_Some _ a is) (open-does by pid id file mode)
+  call-does by (call.Close handle) a is = subst Does (same_Some _ a is) (close-does by handle)
+  call-does by (call.Ctl handle bytes) a is = subst Does (same_Some _ a is) (ctl-does by handle bytes)
+  call-does by (call.Spawn program held) a is = subst Does (same_Some _ a is) (spawn-does program held)
+  call-does by (call.Kill pid sig) a is = subst Does (same_Some _ a is) (sent-does pid (killed_by 0) _)
+  call-does by (call.CtlWait handle until bytes) a is = looking-does by (call.CtlWait handle until bytes) a refl is
+  call-does by (call.Read handle from len) a is = looking-does by (call.Read handle from len) a refl is
+  call-does by (call.Poll handles) a is = looking-does by (call.Poll handles) a refl is
+  call-does by (call.Interrupt controller) a is = looking-does by (call.Interrupt controller) a refl is
+  call-does by (call.Until moment) a is = looking-does by (call.Until moment) a refl is
+  call-does by call.List a is = looking-does by call.List a refl is
+
+-- ---- how many processes were made
+
+made-by : (s : TracedSystem) (target : ℕ) (p : TracedProcess) (t : TracedSystem) → Makes s target p t → Grows s t
+made-by s target p t (nothing is) = subst (Grows s) (sym is) (same-grows s)
+made-by s target p t (a_process f replaces is) = subst (Grows s) (sym is) (process-grows s target f)
+made-by s target p t (an_end status is) = subst (Grows s) (sym is) (ended-grows s target p status)
+made-by s target p t (a_signal own g info new is) = subst (Grows s) (sym is) (generated-grows s target own g info)
+
+pub call-grows : (s t : TracedSystem) → CallDoes s t → Grows s t
+call-grows s t (leaves is) = subst (Grows s) (sym is) (same-grows s)
+call-grows s t (writes target p live makes) = made-by s target p t makes
+call-grows s t (closes_last target p live is) = subst (Grows s) (sym is) (closed-grows s target (Some p))
+call-grows s t (makes_process program held is) = subst (Grows s) (sym is) (spawned-grows s program held)
+call-grows s t (sends_signal target g info is) = subst (Grows s) (sym is) (generated-grows s target None g info)
+
+pub turn-grows : (s : TracedSystem) (acting id : ℕ) (t : LwpTurn) → turn_of s acting id ≡ Some t → Grows s t.system
+turn-grows s acting id t turn =
+    let it = turn-taken s acting id t turn in
+    subst (λ (v : LwpTurn). Grows s v.system) (sym it.is) (settled-grows acting it.process id it.lwp s (row_for s acting it.process id it.lwp))
+
+-- no entry makes it less
+entry-grows : (n : ℕ) (s : TracedState) (actor : Actor) (it : Act) → IsLawful s → IsLegalEntry n s (record { actor = actor; act = it }) → Grows s.system (after s (record { actor = actor; act = it })).system
+unfolding IsLegalEntry after
+entry-grows n s (Controller by) (act.Call c r) lawful legal =
+    let a : Answer = record { state = legal.1.0; reply = r } in
+    let answer : answer_to s by c ≡ Some a = legal.1.1 in
+    rw answer (call-grows s.system a.state.system (call-does s lawful by c a answer))
+entry-grows n s (Lwp acting id) (act.Turn turned) lawful legal =
+    let t : LwpTurn = record { system = legal.0; turned = turned } in
+    let taken : turn_of s.system acting id ≡ Some t = legal.1 in
+    rw taken (turn-grows s.system acting id t taken)
+entry-grows n s Clock (act.Tick moment) lawful legal = same-grows s.system
+entry-grows n s _ _ lawful legal = absurd legal
+
+-- an id that was given out stays given out
+pub stays-made : (n : ℕ) (s : TracedState) (e : Entry) (pid : ℕ) → IsLawful s → IsLegalEntry n s e → pid < s.system.made → pid < (after s e).system.made
+stays-made n s e pid lawful legal made = let more = entry-grows n s e.actor e.act lawful legal in omega arith
+
+-- ---- a process that does not live, whose id was given out
+
+-- what stands in a system, if it stands under this id, does not live
+pub record IsOverAt (pid : ℕ) (e : ℕ × TracedProcess) : Type 0 where
+  pub over : e.0 ≡ pid → is_none e.1.ended ≡ false
+
+-- an id was given out, and what stands under it, if anything does, does not live
+pub record IsOver (pid : ℕ) (s : TracedSystem) : Type 0 where
+  pub made : pid < s.made
+  pub none : All (IsOverAt pid) s.processes
+
+module _ (pid : ℕ) where
+  not-live : (p : TracedProcess) → if_live p ≡ None → is_none p.ended ≡ false
+  not-live p = by (is_none p.ended)
+    where
+      by : (b : Bool) → cond b (Some p) None ≡ None → b ≡ false
+      by true is = absurd (none-some p (sym is))
+      by false is = refl
+
+  -- among rising ids it is enough that nothing that lives is found under this one
+  over-from : (low : ℕ) (es : List (ℕ × TracedProcess)) → rises_from low es ≡ true → option_and_then if_live (under pid es) ≡ None → All (IsOverAt pid) es
+  over-from low [] rises none = All-nil (IsOverAt pid)
+  over-from low (e ∷ es) rises none = elim (cases_Bool (e.0 == pid)) [ inl same ↦ here (eqb-true e.0 pid same) (rw same at none) | inr differs ↦ All-cons (IsOverAt pid) e es (record { over = λ is. absurd (eqb-false e.0 pid differs is) }) (over-from (e.0 + 1) es tail (rw differs at none)) ]
+    where
+      tail : rises_from (e.0 + 1) es ≡ true
+      tail = rises_from-tail low e es rises
+
+      here : e.0 ≡ pid → if_live e.1 ≡ None → All (IsOverAt pid) (e ∷ es)
+      here same none = All-cons (IsOverAt pid) e es (record { over = λ is. not-live e.1 none }) (All-weaker (λ (d : ℕ × TracedProcess). e.0 + 1 ≤ d.0) (IsOverAt pid) (λ d above. record { over = λ is. absurd (omega arith) }) es (ids-above (e.0 + 1) es tail))
+
+  pub over-now : (s : TracedSystem) → IsLawfulSystem s → pid < s.made → live_process s pid ≡ None → IsOver pid s
+  unfolding live_process
+  over-now s lawful made none = record { made = made; none = over-from 0 s.processes lawful.rising none }
+
+  pub over-none : (s : TracedSystem) → IsOver pid s → live_process s pid ≡ None
+  unfolding live_process
+  over-none s o = by (process_of s pid) refl
+    where
+      by : (x : Option TracedProcess) → process_of s pid ≡ x → option_and_then if_live x ≡ None
+      by None there = refl
+      by (Some p) there = let it = All-under (IsOverAt pid) pid p s.processes o.none there in ap (λ b. cond b (Some p) None) (it.over refl)
+
+  -- a process that lives is another one
+  over-other : (s : TracedSystem) (other : ℕ) (p : TracedProcess) → IsOver pid s → live_process s other ≡ Some p → other ≢ pid
+  over-other s other p o live same = none-some p (sym (over-none s o) ∙ subst (λ n. live_process s n ≡ Some p) same live)
+
+  -- ---- a process is changed: another one, or any one by a signal that pends
+
+  -- only the processes, and how many were made, matter
+  files-over : (s t : TracedSystem) → t.made ≡ s.made → t.processes ≡ s.processes → IsOver pid s → IsOver pid t
+  files-over s t made processes o = record { made = omega arith; none = subst (All (IsOverAt pid)) (sym processes) o.none }
+
+  change-over : (other : ℕ) (f : TracedProcess → TracedProcess) (s : TracedSystem) → other ≢ pid → IsOver pid s → IsOver pid (with_process other f s)
+  unfolding with_process
+  change-over other f s differs o = record { made = o.made; none = All-change_under (IsOverAt pid) other f s.processes (λ x found it. record { over = λ same. absurd (differs same) }) o.none }
+
+  told-over : (other : ℕ) (target : Option ℕ) (g : Sig) (info : Info) (s : TracedSystem) → IsOver pid s → IsOver pid (with_process other (told target g info) s)
+  unfolding with_process
+  told-over other target g info s o = record {
+    made = o.made;
+    none = All-change_under (IsOverAt pid) other (told target g info) s.processes (λ x found it. record { over = λ same. ap (λ (e : Option ℕ). is_none e) (ended-same x (told target g info x) (told-undisturbed target g info x)) ∙ it.over same }) o.none;
+  }
+
+  -- ---- processes end, are made and are reaped
+
+  parent-over : (parent gone status : ℕ) (s : TracedSystem) → IsOver pid s → IsOver pid (with_parent_told parent gone status s)
+  unfolding with_parent_told
+  parent-over parent gone status s o = choice (IsOver pid) (parent == 0) _ _ (λ none. o) (λ some. told-over parent None Cld _ s o)
+
+  buried-over : (gone : ℕ) (p : TracedProcess) (status : ℕ) (s : TracedSystem) → IsOver pid s → IsOver pid (buried gone p status s)
+  unfolding zombie
+  buried-over gone p status s o =
+      let dead : All (IsOverAt pid) (change_under gone (zombie traced status) s.processes) = All-change_under (IsOverAt pid) gone (zombie traced status) s.processes (λ x found it. record { over = λ same. refl }) o.none in
+      record {
+        made = o.made;
+        none = All-map_each (IsOverAt pid) (IsOverAt pid) (orphaned gone) (λ e it. record { over = λ same. ap (λ (x : Option ℕ). is_none x) (ended-same e.1 (orphaned gone e.1) (orphaned-undisturbed gone e.1)) ∙ it.over same }) (change_under gone (zombie traced status) s.processes) dead;
+      }
+
+  end-over : (gone : ℕ) (p : TracedProcess) (status : ℕ) (s : TracedSystem) → IsOver pid s → IsOver pid (with_this_ended traced gone p status s)
+  unfolding with_this_ended
+  end-over gone p status s o = parent-over p.parent gone status (buried gone p status s) (buried-over gone p status s o)
+
+  generated-over : (target : ℕ) (own : Option ℕ) (g : Sig) (info : Info) (s : TracedSystem) → IsOver pid s → IsOver pid (generated traced target own g info s)
+  unfolding generated with_ended
+  generated-over target own g info s o = choice (IsOver pid) (is_kill g) _ _ (λ kill. ends (live_process s target)) (λ other. told-over target own g info s o)
+    where
+      ends : (x : Option TracedProcess) → IsOver pid (ended_if_live traced target (signal_number g) s x)
+      ends None = o
+      ends (Some p) = end-over target p (signal_number g) s o
+
+  made-over : (p : TracedProcess) (s : TracedSystem) → IsOver pid s → IsOver pid (with_made p s)
+  unfolding with_made
+  made-over p s o = let below : pid < s.made = o.made in record { made = omega arith; none = All-inserted (IsOverAt pid) s.made p s.processes (record { over = λ same. absurd (omega arith) }) o.none }
+
+  reaped-over : (gone : ℕ) (s : TracedSystem) → IsOver pid s → IsOver pid (with_reaped gone s)
+  unfolding with_reaped
+  reaped-over gone s o = record { made = o.made; none = All-without_id (IsOverAt pid) gone s.processes o.none }
+
+  -- ---- a turn of an lwp of another process
+
+  module _ (acting : ℕ) (p : TracedProcess) (id : ℕ) (l : TracedLwp) (other : acting ≢ pid) where
+    acting-over : (f : TracedProcess → TracedProcess) (s : TracedSystem) → IsOver pid s → IsOver pid (with_process acting f s)
+    acting-over f s o = change-over acting f s other o
+
+    unless-over : (b : Bool) (s t : TracedSystem) → IsOver pid s → IsOver pid t → IsOver pid (cond b s t)
+    unless-over b s t o done = choice (IsOver pid) b s t (λ is. o) (λ is. done)
+
+    child-over : (args : List ℕ) (s : TracedSystem) → IsOver pid s → IsOver pid (with_child traced acting p l args s)
+    unfolding with_child
+    child-over args s o =
+        let shared : TracedSystem = record s { files = with_all_shared s.files p.fds } in
+        made-over (forked traced acting p l args s.clock) shared (files-over s shared refl refl o)
+
+    changed-over : (c : Change) (s : TracedSystem) → IsOver pid s → IsOver pid (changed traced acting p id l c s)
+    unfolding changed
+    changed-over (files_are files fds) s o = let filed : TracedSystem = record s { files = files } in acting-over (with_fds fds) filed (files-over s filed refl refl o)
+    changed-over (space_is space) s o = acting-over _ s o
+    changed-over (signals target g info) s o = unless-over (is_kill g && (target == acting)) s _ o (generated-over target None g info s o)
+    changed-over (signals_itself g info) s o = unless-over (is_kill g) s _ o (generated-over acting (Some id) g info s o)
+    changed-over (takes_shared g) s o = acting-over _ s o
+    changed-over (job_stops g) s o = acting-over _ s o
+    changed-over (disposition_is g disposition) s o = acting-over _ s o
+    changed-over (held_is held) s o = acting-over _ s o
+    changed-over (resumes frame frames) s o = acting-over _ s o
+    changed-over (forks args) s o = unless-over (s.made == acting) s _ o (child-over args s o)
+    changed-over (reaps child) s o = unless-over (child == acting) s _ o (reaped-over child s o)
+    changed-over (becomes program) s o = acting-over _ s o
+    changed-over (makes_lwp fresh regs held) s o = acting-over _ s o
+    changed-over (suspends target suspended) s o = acting-over _ s o
+
+    all_changed-over : (cs : List Change) (s : TracedSystem) → IsOver pid s → IsOver pid (all_changed traced acting p id l cs s)
+    unfolding all_changed
+    all_changed-over [] s o = o
+    all_changed-over (c ∷ cs) s o = all_changed-over cs (changed traced acting p id l c s) (changed-over c s o)
+
+    ending-over : (how : Option Ending) (s : TracedSystem) → IsOver pid s → IsOver pid (ended_if traced acting p id l how s)
+    unfolding ended with_lwp_ended
+    ending-over None s o = o
+    ending-over (Some (ends_process status)) s o = end-over acting p status s o
+    ending-over (Some ends_lwp) s o = choice (IsOver pid) (length p.lwps == 1) _ _ (λ last. end-over acting p 0 s o) (λ more. acting-over _ s o)
+
+    transition-over : (t : Transition) (s : TracedSystem) → IsOver pid s → IsOver pid (after_transition traced acting p id l t s)
+    unfolding after_transition with_lwp_of
+    transition-over t s o =
+        let changes : TracedSystem = all_changed traced acting p id l t.changes s in
+        ending-over t.ending (with_process acting (with_lwp id (moved traced t.move)) changes) (acting-over (with_lwp id (moved traced t.move)) changes (all_changed-over t.changes s o))
+
+    settled-over : (row : Row) (s : TracedSystem) → IsOver pid s → IsOver pid (settled s acting p id l row).system
+    unfolding settled
+    settled-over row s o =
+        let made : TracedSystem = after_transition traced acting p id l row.transition s in
+        let counted_one : TracedSystem = with_process acting (with_counted row.did row.begun) made in
+        acting-over (after_meeting row.point id) counted_one (acting-over (with_counted row.did row.begun) made (transition-over row.transition s o))
+
+  pub turn-over : (s : TracedSystem) (acting id : ℕ) (t : LwpTurn) → IsOver pid s → turn_of s acting id ≡ Some t → IsOver pid t.system
+  turn-over s acting id t o turn =
+      let it = turn-taken s acting id t turn in
+      subst (λ (v : LwpTurn). IsOver pid v.system) (sym it.is) (settled-over acting it.process id it.lwp (over-other s acting it.process o it.live) (row_for s acting it.process id it.lwp) s o)
+
+  -- ---- a call of a controller
+
+  message-over : (s : TracedSystem) (target : ℕ) (p : TracedProcess) (t : TracedSystem) → target ≢ pid → IsOver pid s → Makes s target p t → IsOver pid t
+  message-over s target p t other o (nothing is) = subst (IsOver pid) (sym is) o
+  message-over s target p t other o (a_process f replaces is) = subst (IsOver pid) (sym is) (change-over target f s other o)
+  message-over s target p t other o (an_end status is) = subst (IsOver pid) (sym is) (end-over target p status s o)
+  message-over s target p t other o (a_signal own g info new is) = subst (IsOver pid) (sym is) (generated-over target own g info s o)
+
+  last-over : (s : TracedSystem) (target : ℕ) (p : TracedProcess) → target ≢ pid → IsOver pid s → IsOver pid (with_last_close target p s)
+  unfolding with_last_close
+  last-over s target p other o =
+      choice (IsOver pid) (has_flags p.control.modes klc_mode) _ _ (λ kills. end-over target p (signal_number Kill) s o) (λ spares.
+      choice (IsOver pid) (has_flags p.control.modes rlc_mode) _ _ (λ runs. change-over target _ s other o) (λ stays. o))
+
+  spawned-over : (s : TracedSystem) (program : Program) (held : Bool) → IsOver pid s → IsOver pid (with_spawned traced program held s)
+  unfolding with_spawned
+  spawned-over s program held o = made-over (new_process traced program s.clock held) s o
+
+  pub call-over : (s t : TracedSystem) → IsOver pid s → CallDoes s t → IsOver pid t
+  call-over s t o (leaves is) = subst (IsOver pid) (sym is) o
+  call-over s t o (writes target p live makes) = message-over s target p t (over-other s target p o live) o makes
+  call-over s t o (closes_last target p live is) = subst (IsOver pid) (sym is) (last-over s target p (over-other s target p o live) o)
+  call-over s t o (makes_process program held is) = subst (IsOver pid) (sym is) (spawned-over s program held o)
+  call-over s t o (sends_signal target g info is) = subst (IsOver pid) (sym is) (generated-over target None g info s o)
+
+  -- ---- every entry
+
+  entry-over : (n : ℕ) (s : TracedState) (actor : Actor) (it : Act) → IsLawful s → IsLegalEntry n s (record { actor = actor; act = it }) → IsOver pid s.system → IsOver pid (after s (record { actor = actor; act = it })).system
+  unfolding IsLegalEntry after
+  entry-over n s (Controller by) (act.Call c r) lawful legal o =
+      let a : Answer = record { state = legal.1.0; reply = r } in
+      let answer : answer_to s by c ≡ Some a = legal.1.1 in
+      rw answer (call-over s.system a.state.system o (call-does s lawful by c a answer))
+  entry-over n s (Lwp acting id) (act.Turn turned) lawful legal o =
+      let t : LwpTurn = record { system = legal.0; turned = turned } in
+      let taken : turn_of s.system acting id ≡ Some t = legal.1 in
+      rw taken (turn-over s.system acting id t o taken)
+  entry-over n s Clock (act.Tick moment) lawful legal o = files-over s.system _ refl refl o
+  entry-over n s _ _ lawful legal o = absurd legal
+
+pub stays-over : (n : ℕ) (s : TracedState) (e : Entry) (pid : ℕ) → IsLawful s → IsLegalEntry n s e → pid < s.system.made → live_process s.system pid ≡ None → live_process (after s e).system pid ≡ None
+stays-over n s e pid lawful legal made none = over-none pid (after s e).system (entry-over pid n s e.actor e.act lawful legal (over-now pid s.system lawful.system made none))
