@@ -10,3 +10,4 @@ pub mod ReaderLemmas
 pub mod StageLemmas
 pub mod StandingLemmas
 pub mod ToolLemmas
+pub mod WholeLemmas

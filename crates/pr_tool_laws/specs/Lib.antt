@@ -1,4 +1,5 @@
 pub mod OneState
 pub mod Reads
+pub mod ShownStates
 pub mod TextsOfRecords
 pub mod ToolTexts
