@@ -11,6 +11,9 @@ use Rattle.pr_model.specs.FirstState.{first_state}
 use Rattle.pr_model.specs.Legal.{IsLegal}
 use Rattle.pr_model.specs.declared.events.Entry.{Entry}
 use Rattle.pr_model.specs.declared.tools.ToolKind.{ToolKind}
+use Rattle.pr_lawful.proofs.StartLemmas.{first-lawful}
+use Rattle.pr_range_laws.proofs.HistoryRanges.{first-state-range}
+use Rattle.pr_report_laws.proofs.FitHistoryLemmas.{first-fits}
 use Rattle.pr_scen.specs.Scenarios.{Scenario, script_in, scripts_of}
 use Rattle.pr_scen.specs.declared.plans.Plan.{Plan}
 use Rattle.pr_scen.specs.declared.plans.Plan.TheVariants as plan
@@ -18,15 +21,18 @@ use Rattle.pr_truss.specs.Trusses.{first_truss}
 use Rattle.pr_truss_laws.specs.Handles.{HasNothingOpen}
 use Rattle.pr_world.proofs.RunLemmas.{moves-led}
 use Rattle.pr_tool_laws.proofs.LawLemmas.{tool-of-one-state}
-use Rattle.pr_tools.specs.Tools.{first_tool}
+use Rattle.pr_tool_laws.proofs.WholeLemmas.{stands-there}
+use Rattle.pr_tools.specs.Tools.{first_tool, printed}
 use Rattle.pr_world.specs.Cores.{Tool, Truss}
 use Rattle.pr_world.specs.Protocol.{Follows}
 use Rattle.pr_world.specs.Runs.{CameFrom, IsFresh, IsMachineRun, IsTold, LedFrom}
 use Rattle.pr_world.specs.Worlds.{WorldState}
 use Rattle.pr_run_laws.specs.ScenarioRuns.{IsKept, controller_of, controllers_of, files_of, first_state_of, first_world, history_after, world_after}
+use Rattle.pr_run_laws.specs.ScenarioRanges.{IsScenarioInRange}
 use Rattle.pr_run_laws.specs.ToolRuns.{IsToolKept}
 use Rattle.pr_run_laws.specs.Tracers.{IsTracer}
 use Rattle.pr_run_laws.specs.TrussRuns.{IsTrussKept}
+use Rattle.pr_run_laws.proofs.ByteLemmas.{follows-bytes}
 use Rattle.pr_run_laws.proofs.TracerLemmas.{tracers-passive}
 use Rattle.pr_run_laws.proofs.TrussLemmas.{nothing-held, truss-kept}
 
@@ -65,9 +71,10 @@ truss-first : (s : Scenario) (k : ℕ) (o : Options) → slice_get s.controllers
 unfolding controller_of
 truss-first s k o at = slice_get-map controller_of s.controllers k ∙ ap (option_map controller_of) at
 
-trusses-kept : (s : Scenario) (h : List Entry) → IsLegal (length (controllers_of s)) (first_state_of s) h → Follows (controllers_of s) (first_state_of s) h → (k : ℕ) (o : Options) → slice_get s.controllers k ≡ Some (plan.Truss o) → IsTrussKept (controllers_of s) (first_state_of s) h k o
-trusses-kept s h legal follows k o at =
-    truss-kept (controllers_of s) (length (controllers_of s)) (first_state_of s) h k o (truss-first s k o at) (first-held s k) legal follows
+trusses-kept : (s : Scenario) (h : List Entry) → IsScenarioInRange s → IsLegal (length (controllers_of s)) (first_state_of s) h → Follows (controllers_of s) (first_state_of s) h → (k : ℕ) (o : Options) → slice_get s.controllers k ≡ Some (plan.Truss o) → IsTrussKept (controllers_of s) (first_state_of s) h k o
+trusses-kept s h range legal follows k o at =
+    truss-kept (controllers_of s) (length (controllers_of s)) (first_state_of s) h k o (first-lawful s.programs (files_of s) s.spawns range.start) (first-fits s.programs (files_of s) s.spawns)
+    (first-state-range s.programs (files_of s) s.spawns range.range) (follows-bytes (controllers_of s) (length (controllers_of s)) (first_state_of s) h range.bytes legal follows) (truss-first s k o at) (first-held s k) legal follows
 
 -- ---- tools
 
@@ -75,10 +82,13 @@ tool-first : (s : Scenario) (k : ℕ) (kind : ToolKind) (pid : ℕ) → slice_ge
 unfolding controller_of
 tool-first s k kind pid at = slice_get-map controller_of s.controllers k ∙ ap (option_map controller_of) at
 
-tools-kept : (s : Scenario) (h : List Entry) → IsLegal (length (controllers_of s)) (first_state_of s) h → Follows (controllers_of s) (first_state_of s) h → (k : ℕ) (kind : ToolKind) (pid : ℕ) → slice_get s.controllers k ≡ Some (plan.Tool kind pid) → IsToolKept (controllers_of s) (first_state_of s) h s.programs k kind pid
-tools-kept s h legal follows k kind pid at = record {
+tools-kept : (s : Scenario) (h : List Entry) → IsScenarioInRange s → IsLegal (length (controllers_of s)) (first_state_of s) h → Follows (controllers_of s) (first_state_of s) h → (k : ℕ) (kind : ToolKind) (pid : ℕ) → slice_get s.controllers k ≡ Some (plan.Tool kind pid) → IsToolKept (controllers_of s) (first_state_of s) h s.programs k kind pid
+tools-kept s h range legal follows k kind pid at = record {
   shows = λ t ends ended accepted once.
-      tool-of-one-state (controllers_of s) (length (controllers_of s)) k kind pid (first_state_of s) h t s.programs once (tool-first s k kind pid at) legal follows ends ended accepted;
+      let n = length (controllers_of s) in
+      stands-there n k kind pid (first_state_of s) h (printed t s.programs) (first-lawful s.programs (files_of s) s.spawns range.start) (first-state-range s.programs (files_of s) s.spawns range.range)
+      (follows-bytes (controllers_of s) n (first_state_of s) h range.bytes legal follows) legal once
+      (tool-of-one-state (controllers_of s) n k kind pid (first_state_of s) h t s.programs once (tool-first s k kind pid at) legal follows ends ended accepted);
 }
 
 -- ---- runs
@@ -92,21 +102,21 @@ led-history : (s : Scenario) (w : WorldState) (led : LedFrom (first_world s) w) 
 unfolding first_world kernel_of
 led-history s w led = led.history
 
-led-kept : (s : Scenario) (w : WorldState) → LedFrom (first_world s) w → IsKept s w.kernel.history
-led-kept s w led =
+led-kept : (s : Scenario) (w : WorldState) → IsScenarioInRange s → LedFrom (first_world s) w → IsKept s w.kernel.history
+led-kept s w range led =
     let run = led-run s w led in
     let kept : IsKept s led.entries = record {
       legal = run.legal;
       follows = run.follows;
       transparent = transparent-first (length (controllers_of s)) s.programs (files_of s) s.spawns led.entries run.legal;
       transparent_without_scripts = transparent-tracers s led.entries run.legal run.follows;
-      trusses = trusses-kept s led.entries run.legal run.follows;
-      tools = tools-kept s led.entries run.legal run.follows;
+      trusses = trusses-kept s led.entries range run.legal run.follows;
+      tools = tools-kept s led.entries range run.legal run.follows;
     } in
     subst (IsKept s) (sym (led-history s w led)) kept
 
-pub came-kept : (s : Scenario) (w : WorldState) → CameFrom (first_world s) w → IsKept s w.kernel.history
-came-kept s w came = led-kept s w came.led
+pub came-kept : (s : Scenario) (w : WorldState) → IsScenarioInRange s → CameFrom (first_world s) w → IsKept s w.kernel.history
+came-kept s w range came = led-kept s w range came.led
 
-pub run-kept : (s : Scenario) (n : ℕ) → IsKept s (history_after n s)
-run-kept s n = led-kept s (world_after n s) (moves-led (first_world s) n (first-told s))
+pub run-kept : (s : Scenario) (n : ℕ) → IsScenarioInRange s → IsKept s (history_after n s)
+run-kept s n range = led-kept s (world_after n s) range (moves-led (first_world s) n (first-told s))

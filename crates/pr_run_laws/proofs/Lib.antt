@@ -1,6 +1,11 @@
 pub mod AnswerLemmas
+pub mod ByteLemmas
 pub mod GrowthLemmas
 pub mod KeptLemmas
 pub mod PassiveLemmas
+pub mod ProgramRanges
+pub mod ScenarioRangeLemmas
 pub mod TracerLemmas
 pub mod TrussLemmas
+pub mod WordRanges
+pub mod WritingRanges

@@ -14,6 +14,12 @@ use Rattle.pr_model.specs.declared.events.Actor.{Actor}
 use Rattle.pr_model.specs.declared.events.Actor.TheVariants.{Controller, Lwp, Clock}
 use Rattle.pr_model.specs.declared.events.Entry.{Entry}
 use Rattle.pr_model.specs.declared.handles.Held.{Held}
+use Rattle.pr_model.specs.Lawful.{IsLawful}
+use Rattle.pr_range_laws.specs.ByteHistories.{HasBytes}
+use Rattle.pr_range_laws.specs.InRange.{IsInRange}
+use Rattle.pr_report_laws.proofs.BeginLaws.{finished-watches-none}
+use Rattle.pr_report_laws.proofs.Births.{births-report}
+use Rattle.pr_report_laws.specs.Fits.{IsFitSystem}
 use Rattle.pr_truss.specs.Feeding.{fed}
 use Rattle.pr_truss.specs.NextCalls.{next_call_of}
 use Rattle.pr_truss.specs.Trusses.{TrussState, first_truss}
@@ -24,7 +30,7 @@ use Rattle.pr_truss_laws.specs.Handles.{HasNothingOpen}
 use Rattle.pr_world.specs.Controllers.{after_reply, call_by, next_call, with_fed}
 use Rattle.pr_world.specs.Cores.{Core, Truss}
 use Rattle.pr_world.specs.Protocol.{Follows, FollowsAt, controllers_after, controllers_at}
-use Rattle.pr_run_laws.specs.TrussRuns.{HasDone, IsTrussKept, truss_at}
+use Rattle.pr_run_laws.specs.TrussRuns.{IsTrussKept}
 use Rattle.pr_num.specs.Limits.{handle_limit}
 use Rattle.pr_tool_laws.proofs.ConductLemmas.{fed-other, fed-own}
 
@@ -93,13 +99,14 @@ pub nothing-held : (k : ℕ) (s : TracedState) → s.opens ≡ nothing_open → 
 unfolding handle_of nothing_open
 nothing-held k s none = record { none = λ number. ap (λ (opens : Places). own k (slice_get opens number)) none ∙ none-held k handle_limit number }
 
-pub truss-kept : (controllers : List Core) (n : ℕ) (first : TracedState) (h : List Entry) (k : ℕ) (o : Options) → slice_get controllers k ≡ Some (Truss (first_truss o)) → HasNothingOpen k first → IsLegal n first h → Follows controllers first h → IsTrussKept controllers first h k o
-truss-kept controllers n first h k o at none legal follows =
+pub truss-kept : (controllers : List Core) (n : ℕ) (first : TracedState) (h : List Entry) (k : ℕ) (o : Options) → IsLawful first → IsFitSystem first.system → IsInRange first.system → HasBytes h → slice_get controllers k ≡ Some (Truss (first_truss o)) → HasNothingOpen k first → IsLegal n first h → Follows controllers first h → IsTrussKept controllers first h k o
+truss-kept controllers n first h k o lawful fit range bytes at none legal follows =
     let stays = truss-stays h controllers first k (first_truss o) at follows in
     record {
       makes = stays.0;
       truss = stays.1;
+      shows = λ pid named forks. births-report n k o pid first h lawful fit none legal stays.0 range bytes named forks;
       done = λ finished.
           let ends : Ends (first_truss o) (exchanges k h) = record { makes = stays.0; finished = finished } in
-          record { handled = given-handled o (exchanges k h) ends; nothing_open = nothing-open n k o first h none legal ends };
+          record { handled = given-handled o (exchanges k h) ends; nothing_open = nothing-open n k o first h none legal ends; watches_none = λ pid. finished-watches-none k o pid h finished };
     }

@@ -1,4 +1,5 @@
 pub mod Prefixes
+pub mod ScenarioRanges
 pub mod ScenarioRuns
 pub mod ToolRuns
 pub mod Tracers

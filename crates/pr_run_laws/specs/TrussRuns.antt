@@ -1,11 +1,14 @@
-use Rattle.std.specs.Prelude.{◌≡◌, ℕ, List, Some, None, slice_get}
+use Rattle.std.specs.Prelude.{◌≡◌, ℕ, false, List, Some, None, slice_get}
 use Rattle.pr_line.specs.declared.options.Options.{Options}
 use Rattle.pr_model.specs.Legal.{state_after}
 use Rattle.pr_model.specs.State.{TracedState}
 use Rattle.pr_model.specs.declared.events.Entry.{Entry}
 use Rattle.pr_truss.specs.NextCalls.{next_call_of}
-use Rattle.pr_truss.specs.Trusses.{TrussState, first_truss}
-use Rattle.pr_truss_laws.specs.Exchanges.{Makes, exchanges, truss_after}
+use Rattle.pr_truss.specs.Trusses.{first_truss}
+use Rattle.pr_report_laws.specs.Births.{LeavesForks, NamesMade}
+use Rattle.pr_report_laws.specs.Reported.{IsReported}
+use Rattle.pr_report_laws.specs.Watching.{watches}
+use Rattle.pr_truss_laws.specs.Exchanges.{Makes, exchanges, truss_at}
 use Rattle.pr_truss_laws.specs.Given.{IsHandled}
 use Rattle.pr_truss_laws.specs.Handles.{HasNothingOpen}
 use Rattle.pr_world.specs.Cores.{Core, Truss}
@@ -13,19 +16,18 @@ use Rattle.pr_world.specs.Protocol.{controllers_at}
 
 -- What a run keeps of each truss.
 
--- the truss of a number after a history, where it began with these options
-abbrev pub truss_at : ℕ → Options → List Entry → TrussState
-truss_at k o h = truss_after (first_truss o) (exchanges k h)
-
 -- A truss that has finished: each process that it was given was attached or its refusal is reported, unless it was
--- interrupted before; and it has nothing open.
+-- interrupted before; it has nothing open, and it watches no process any more.
 pub record HasDone (k : ℕ) (o : Options) (first : TracedState) (h : List Entry) : Type 0 where
   pub handled : IsHandled o o.program (truss_at k o h).reports (exchanges k h)
   pub nothing_open : HasNothingOpen k (state_after first h)
+  pub watches_none : (pid : ℕ) → watches (truss_at k o h) pid ≡ false
 
 -- The controller of a number is a truss with these options, whose calls are those that it makes after the replies that
--- it got.
+-- it got. Of each process it has shown what was selected of its events while it watched the process, where what its
+-- options name was there at first, and no other controller is granted a handle for writing of a child of a fork.
 pub record IsTrussKept (controllers : List Core) (first : TracedState) (h : List Entry) (k : ℕ) (o : Options) : Type 0 where
   pub makes : Makes (first_truss o) (exchanges k h)
   pub truss : slice_get (controllers_at controllers h) k ≡ Some (Truss (truss_at k o h))
+  pub shows : (pid : ℕ) → NamesMade o first → LeavesForks k h → IsReported k o pid first h
   pub done : next_call_of (truss_at k o h) ≡ None → HasDone k o first h

@@ -1,16 +1,25 @@
-ghost use Rattle.std.specs.Prelude.{◌≤◌, ℕ};
+ghost use Rattle.std.specs.Prelude.{◌≡◌, ◌≤◌, ℕ, List, Ok};
 ghost use Rattle.pr_run_laws.specs.Prefixes.{IsPrefix};
+ghost use Rattle.pr_run_laws.specs.ScenarioRanges.{IsScenarioInRange};
 ghost use Rattle.pr_run_laws.specs.ScenarioRuns.{IsKept, first_world, history_after};
+ghost use Rattle.pr_scen.specs.Reading.{scenario_of};
 ghost use Rattle.pr_scen.specs.Scenarios.{Scenario};
 ghost use Rattle.pr_world.specs.Runs.{CameFrom};
 ghost use Rattle.pr_world.specs.Worlds.{WorldState};
 
-/// The history of a scenario's run is legal from the first state and follows the protocol of its controllers, and where
-/// it is passive, tracing is transparent in it. This holds in whatever order the actors moved, and of the run on one
-/// thread after any number of moves.
+/// The history of a scenario's run is legal from the first state and follows the protocol of its controllers; where it is
+/// passive, tracing is transparent in it; each truss has shown the selected events; and each tool other than pstack shows
+/// one state. This holds in whatever order the actors moved, and of the run on one
+/// thread after any number of moves. The scenario is in range, as each one is that was read.
 pub fn histories_of_runs_are_kept()
-    ensures any_order { (s : Scenario) (w : WorldState) → CameFrom (first_world s) w → IsKept s w.kernel.history }
-    ensures one_thread { (s : Scenario) (n : ℕ) → IsKept s (history_after n s) }
+    ensures any_order { (s : Scenario) (w : WorldState) → IsScenarioInRange s → CameFrom (first_world s) w → IsKept s w.kernel.history }
+    ensures one_thread { (s : Scenario) (n : ℕ) → IsScenarioInRange s → IsKept s (history_after n s) }
+{}
+
+/// A scenario that was read from a text is in range: its first state is one that can be started, of programs and files in
+/// range, and what its scripts write is bytes.
+pub fn scenarios_that_were_read_are_in_range()
+    ensures { (input : List ℕ) (s : Scenario) → scenario_of input ≡ Ok s → IsScenarioInRange s }
 {}
 
 /// On one thread a run grows at its end: its history after some moves is a prefix of the one after more of them.

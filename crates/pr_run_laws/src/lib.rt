@@ -5,7 +5,7 @@
 mod laws;
 mod tracers;
 
-pub use laws::{histories_of_runs_are_kept, runs_grow};
+pub use laws::{histories_of_runs_are_kept, runs_grow, scenarios_that_were_read_are_in_range};
 pub use tracers::{
     calls_that_send_passive_messages_are_passive, histories_of_tracers_are_passive,
     tools_send_passive_messages, truss_sends_passive_messages,

@@ -9,6 +9,7 @@ use Rattle.pr_num.specs.Limits.{scenario_limit}
 use Rattle.pr_run_laws.specs.Prefixes.{IsPrefix}
 use Rattle.pr_run_laws.specs.ScenarioRuns.{IsKept, first_world, run_of}
 use Rattle.pr_run_laws.proofs.KeptLemmas.{first-fresh, first-told, run-kept}
+use Rattle.pr_run_laws.proofs.ScenarioRangeLemmas.{scenario-range}
 use Rattle.pr_scen.specs.Reading.{scenario_of}
 use Rattle.pr_scen.specs.declared.refusals.ScenFault.{ScenFault}
 use Rattle.pr_scen.specs.Scenarios.{Scenario}
@@ -37,7 +38,7 @@ of_scenario showing old new input (Err fault) read took h is = inl is
 of_scenario showing old new input (Ok s) read took h is =
     let prefix : IsPrefix h (run_of s).kernel.history = record { more = []; is = sym is ∙ sym (append-nil h) } in
     let run : IsAfterMoves input h = record { scenario = s; read = read; moves = s.turns; within = omega arith; is = is; prefix = prefix } in
-    inr (record { input = input; took = took; run = run; kept = subst (λ (x : List Entry). IsKept s x) (sym is) (run-kept s s.turns) })
+    inr (record { input = input; took = took; run = run; kept = subst (λ (x : List Entry). IsKept s x) (sym is) (run-kept s s.turns (scenario-range input s read)) })
 
 of_answer : (showing : Showing) (old new : Option (List ℕ)) (input : Option (List ℕ)) (h : List Entry) → Took scenario_limit old new input → h ≡ (answer_to showing input).history → HistoryIsKept in_rounds old new h
 unfolding answer_to refused_at
@@ -47,7 +48,7 @@ of_answer showing old new (Some input) h took is = of_scenario showing old new i
 of_way : (old new : Option (List ℕ)) (input : List ℕ) (h : List Entry) → TookAll scenario_limit old new input → (h ≡ []) ⊎ IsAfterMoves input h → HistoryIsKept in_rounds old new h
 of_way old new input h took (inl none) = inl none
 of_way old new input h took (inr run) =
-    inr (record { input = input; took = took; run = run; kept = subst (λ (x : List Entry). IsKept run.scenario x) (sym run.is) (run-kept run.scenario run.moves) })
+    inr (record { input = input; took = took; run = run; kept = subst (λ (x : List Entry). IsKept run.scenario x) (sym run.is) (run-kept run.scenario run.moves (scenario-range input run.scenario run.read)) })
 
 of_early : (old new : Option (List ℕ)) (input : Option (List ℕ)) (h : List Entry) (w v : Option (List ℕ)) → Took scenario_limit old new input → RanOutEarly in_rounds input h w v → HistoryIsKept in_rounds old new h
 of_early old new None h w v took early = inl early.left

@@ -8,6 +8,7 @@ use Rattle.pr_num.specs.Limits.{scenario_limit}
 use Rattle.pr_num.specs.declared.memory.NoMemory.{NoMemory}
 use Rattle.pr_run_laws.specs.ScenarioRuns.{IsKept, first_world}
 use Rattle.pr_run_laws.proofs.KeptLemmas.{came-kept}
+use Rattle.pr_run_laws.proofs.ScenarioRangeLemmas.{scenario-range}
 use Rattle.pr_scen.specs.Reading.{scenario_of}
 use Rattle.pr_scen.specs.Scenarios.{Scenario}
 use Rattle.pr_scen.specs.declared.refusals.ScenFault.{ScenFault}
@@ -106,7 +107,7 @@ shown-one showing s w (Err e) status h old new before after came told within end
 module _ (showing : Showing) where
   of_led : (old new : Option (List ℕ)) (input : List ℕ) (h : List Entry) → TookAll scenario_limit old new input → IsMadeByThreads input h → HistoryIsKept by_threads old new h
   of_led old new input h took made =
-      inr (record { input = input; took = took; made = made; kept = subst (λ (x : List Entry). IsKept made.scenario x) (sym made.led.is) (came-kept made.scenario made.led.world made.led.came) })
+      inr (record { input = input; took = took; made = made; kept = subst (λ (x : List Entry). IsKept made.scenario x) (sym made.led.is) (came-kept made.scenario made.led.world (scenario-range input made.scenario made.read) made.led.came) })
 
   of_read : (old new : Option (List ℕ)) (input : List ℕ) (s : Result Scenario ScenFault) (answer : Answer) (h : List Entry) → scenario_of input ≡ s → TookAll scenario_limit old new input → MayAnswerRead showing s answer → h ≡ answer.history → HistoryIsKept by_threads old new h
   unfolding refused_at

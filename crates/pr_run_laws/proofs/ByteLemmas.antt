@@ -1,0 +1,285 @@
+use Rattle.std.proofs.Common.{◌≡◌, ◌+◌, ℕ, Bool, true, false, Option, Some, None, List, [], ◌∷◌, ◌++◌, IfSome, cond, drop, length, nat_le, option_map, slice_get, refl, sym, subst}
+use Rattle.std.specs.List.{All}
+use Rattle.std.specs.Option.{option_and_then}
+use Rattle.std.proofs.lemmas.List.Elements.{All-append, All-cons, All-drop, All-nil, All-set}
+use Rattle.pr_codec.proofs.WordLemmas.{AreBytes-words_bytes}
+use Rattle.pr_model.specs.Legal.{IsLegal, IsLegalEntry, after}
+use Rattle.pr_model.specs.Replies.{handle_in}
+use Rattle.pr_model.specs.State.{TracedState}
+use Rattle.pr_model.specs.declared.calls.Call.{Call}
+use Rattle.pr_model.specs.declared.calls.Call.TheVariants as call
+use Rattle.pr_model.specs.declared.calls.Reply.{Reply}
+use Rattle.pr_model.specs.declared.calls.Reply.TheVariants as reply
+use Rattle.pr_model.specs.declared.events.Act.{Act}
+use Rattle.pr_model.specs.declared.events.Act.TheVariants as act
+use Rattle.pr_model.specs.declared.events.Actor.{Actor}
+use Rattle.pr_model.specs.declared.events.Actor.TheVariants.{Controller, Lwp, Clock}
+use Rattle.pr_model.specs.declared.events.Entry.{Entry}
+use Rattle.pr_num.proofs.SearchLemmas.{All-at}
+use Rattle.pr_num.specs.Control.{fork_mode, rlc_mode}
+use Rattle.pr_num.specs.Messages.{message_code, operands, spelling}
+use Rattle.pr_num.specs.Words.{IsByte, words_bytes}
+use Rattle.pr_num.specs.declared.messages.Message.{Message}
+use Rattle.pr_num.specs.declared.messages.Message.TheVariants as message
+use Rattle.pr_range_laws.specs.ByteHistories.{HasBytes, IsActOfBytes, IsEntryOfBytes, IsOfBytes}
+use Rattle.pr_run_laws.specs.ScenarioRanges.{IsCoreOfBytes, IsLineOfBytes}
+use Rattle.pr_scen.specs.Bindings.{handle_of}
+use Rattle.pr_scen.specs.Scripts as scripts
+use Rattle.pr_scen.specs.Scripts.{ScriptState}
+use Rattle.pr_scen.specs.declared.script_lines.ScriptLine.{ScriptLine}
+use Rattle.pr_scen.specs.declared.script_lines.ScriptLine.TheVariants as line
+use Rattle.pr_tools.specs.Handles.{last_open}
+use Rattle.pr_tools.specs.Tools as tools
+use Rattle.pr_tools.specs.declared.steps.Step.{Step}
+use Rattle.pr_tools.specs.declared.steps.Step.TheVariants as step
+use Rattle.pr_truss.specs.Messages.{all_modes, traced_entries, traced_exits}
+use Rattle.pr_truss.specs.NextCalls as trusses
+use Rattle.pr_truss.specs.Trusses.{TrussState, traced_at}
+use Rattle.pr_truss.specs.declared.processes.Traced.{Traced}
+use Rattle.pr_truss.specs.declared.stages.ChildStep.{ChildStep}
+use Rattle.pr_truss.specs.declared.stages.ChildStep.TheVariants as child
+use Rattle.pr_truss.specs.declared.stages.FreeingStep.{FreeingStep}
+use Rattle.pr_truss.specs.declared.stages.FreeingStep.TheVariants as freeing
+use Rattle.pr_truss.specs.declared.stages.OpeningStep.{OpeningStep}
+use Rattle.pr_truss.specs.declared.stages.OpeningStep.TheVariants as opening
+use Rattle.pr_truss.specs.declared.stages.Stage.{Stage}
+use Rattle.pr_truss.specs.declared.stages.Stage.TheVariants as stage
+use Rattle.pr_world.specs.Controllers.{after_reply, call_by, feed_at, next_call, with_fed}
+use Rattle.pr_world.specs.Cores.{Core, Script, Truss, Tool}
+use Rattle.pr_world.specs.Protocol.{Follows, FollowsAt, controllers_after}
+
+-- What the controllers of a run write is bytes.
+
+-- ---- a message without a tail is spelt in bytes, whatever its operands
+
+spelt-bytes : (m : Message) → All IsByte (spelling m [])
+spelt-bytes m =
+    let words : List ℕ = words_bytes (message_code m ∷ operands m) in
+    let with_tail : All IsByte (words ++ []) = All-append IsByte words [] (AreBytes-words_bytes (message_code m ∷ operands m)) (All-nil IsByte) in
+    All-append IsByte (words ++ []) [] with_tail (All-nil IsByte)
+
+-- ---- truss, a row a step
+
+opening-bytes : (s : TrussState) (t : Traced) (o : OpeningStep) → IsOfBytes (trusses.opening_call s.options t o)
+unfolding trusses.opening_call
+opening-bytes s t opening.OpenStatus = tt
+opening-bytes s t opening.OpenLstatus = tt
+opening-bytes s t opening.OpenMemory = tt
+opening-bytes s t opening.ClearModes = spelt-bytes (message.Unset all_modes)
+opening-bytes s t opening.SetRelease = spelt-bytes (message.Set rlc_mode)
+opening-bytes s t opening.Stop = spelt-bytes message.Stop
+opening-bytes s t (opening.AwaitStop until) = tt
+opening-bytes s t opening.ReadLwps = tt
+opening-bytes s t opening.TraceSignals = spelt-bytes (message.Strace s.options.signals)
+opening-bytes s t opening.TraceFaults = spelt-bytes (message.Sfault s.options.faults)
+opening-bytes s t opening.TraceEntries = spelt-bytes (message.Sentry (traced_entries s.options))
+opening-bytes s t opening.TraceExits = spelt-bytes (message.Sexit (traced_exits s.options))
+opening-bytes s t opening.Follow = spelt-bytes (message.Set fork_mode)
+opening-bytes s t opening.Start = spelt-bytes (message.Run 0)
+
+child-bytes : (t : Traced) (c : ChildStep) → IsOfBytes (trusses.child_call t c)
+unfolding trusses.child_call
+child-bytes t child.SetRelease = spelt-bytes (message.Set rlc_mode)
+child-bytes t child.OpenStatus = tt
+child-bytes t child.OpenLstatus = tt
+child-bytes t child.OpenMemory = tt
+child-bytes t child.Start = spelt-bytes (message.Run 0)
+
+freeing-bytes : (pid : ℕ) (f : FreeingStep) → IsOfBytes (trusses.freeing_call pid f)
+unfolding trusses.freeing_call
+freeing-bytes pid freeing.OpenControl = tt
+freeing-bytes pid (freeing.SetRelease control) = spelt-bytes (message.Set rlc_mode)
+freeing-bytes pid (freeing.Close control) = tt
+
+stage-bytes : (s : TrussState) (g : Stage) → IfSome (trusses.call_of s g) IsOfBytes
+unfolding trusses.call_of
+stage-bytes s (stage.Spawning program) = tt
+stage-bytes s (stage.OpeningControl pid) = tt
+stage-bytes s (stage.Opening place o) = opening-bytes s (traced_at s place) o
+stage-bytes s stage.Polling = tt
+stage-bytes s (stage.ReadingStatus place) = tt
+stage-bytes s (stage.ReadingText place lwp at len) = tt
+stage-bytes s (stage.OpeningChildControl parent pid) = tt
+stage-bytes s (stage.OpeningChild parent place c) = child-bytes (traced_at s place) c
+stage-bytes s (stage.Running place) = spelt-bytes (message.Run 0)
+stage-bytes s (stage.Closing place next) = tt
+stage-bytes s stage.Unfollowing = spelt-bytes (message.Unset fork_mode)
+stage-bytes s stage.ReadingLwps = tt
+stage-bytes s (stage.FreeingChild pid f) = freeing-bytes pid f
+stage-bytes s stage.Finished = tt
+
+truss-bytes : (s : TrussState) → IfSome (trusses.next_call_of s) IsOfBytes
+unfolding trusses.next_call_of
+truss-bytes s = stage-bytes s s.stage
+
+-- ---- the tools, a row a step
+
+closing-bytes : (o : Option ℕ) → IfSome (option_map call.Close o) IsOfBytes
+closing-bytes None = tt
+closing-bytes (Some handle) = tt
+
+step-bytes : (s : tools.ToolState) (p : Step) → IfSome (tools.call_of s p) IsOfBytes
+unfolding tools.call_of
+step-bytes s step.OpenCtl = tt
+step-bytes s step.OpenFile = tt
+step-bytes s step.OpenMemory = tt
+step-bytes s step.ReadFirst = tt
+step-bytes s step.Stop = spelt-bytes message.Stop
+step-bytes s step.AwaitStop = tt
+step-bytes s step.Direct = spelt-bytes message.Dstop
+step-bytes s step.AwaitEnd = tt
+step-bytes s step.ReadFile = tt
+step-bytes s step.ReadText = tt
+step-bytes s step.ReadFrame = tt
+step-bytes s step.Run = spelt-bytes (message.Run 0)
+step-bytes s step.List = tt
+step-bytes s step.Release = spelt-bytes (message.Run 0)
+step-bytes s step.Close = closing-bytes (last_open s.opened)
+
+tool-bytes : (s : tools.ToolState) → IfSome (tools.next_call_of s) IsOfBytes
+unfolding tools.next_call_of
+tool-bytes s = step-bytes s s.step
+
+-- ---- a script writes what is left of a line's bytes
+
+write-bytes : (wait : Option ℕ) (handle : ℕ) (left : List ℕ) → All IsByte left → IsOfBytes (scripts.write_call wait handle left)
+write-bytes None handle left all = all
+write-bytes (Some until) handle left all = tt
+
+line-bytes : (s : ScriptState) (l : ScriptLine) → IsLineOfBytes l → IsOfBytes (scripts.call_of s l)
+unfolding scripts.call_of
+line-bytes s (line.Open name pid lwp file mode) all = tt
+line-bytes s (line.Close name) all = tt
+line-bytes s (line.Read name at len) all = tt
+line-bytes s (line.Poll names) all = tt
+line-bytes s (line.Write name bytes) all = write-bytes s.wait (handle_of s.bindings name) (drop s.taken bytes) (All-drop IsByte s.taken bytes all)
+line-bytes s (line.Interrupt controller) all = tt
+line-bytes s (line.Spawn program held) all = tt
+line-bytes s (line.Kill pid sig) all = tt
+line-bytes s (line.Until moment) all = tt
+line-bytes s line.List all = tt
+
+script-bytes : (s : ScriptState) → All IsLineOfBytes s.lines → IfSome (scripts.next_call_of s) IsOfBytes
+unfolding scripts.next_call_of
+script-bytes s all = of (slice_get s.lines s.place) refl
+  where
+    of : (o : Option ScriptLine) → slice_get s.lines s.place ≡ o → IfSome (scripts.call_at s o) IsOfBytes
+    of None found = tt
+    of (Some l) found = line-bytes s l (All-at IsLineOfBytes s.lines s.place l found all)
+
+-- ---- a reply leaves the lines of a script as they are
+
+over-lines : (s : ScriptState) → (scripts.with_line_over s).lines ≡ s.lines
+unfolding scripts.with_line_over
+over-lines s = refl
+
+taken-lines : (s : ScriptState) (total n : ℕ) → (scripts.with_taken s total n).lines ≡ s.lines
+unfolding scripts.with_taken
+taken-lines s total n = of (nat_le total (s.taken + n))
+  where
+    of : (all : Bool) → (cond all (scripts.with_line_over s) (record s { taken = s.taken + n; wait = None })).lines ≡ s.lines
+    of true = over-lines s
+    of false = refl
+
+ctl-lines : (s : ScriptState) (total : ℕ) (r : Reply) → (scripts.with_ctl_answered s total r).lines ≡ s.lines
+unfolding scripts.with_ctl_answered
+ctl-lines s total (reply.Used n) = taken-lines s total n
+ctl-lines s total (reply.Bytes bytes) = taken-lines s total scripts.read_length
+ctl-lines s total (reply.Half until) = refl
+ctl-lines s total (reply.Handle handle) = over-lines s
+ctl-lines s total reply.Done = over-lines s
+ctl-lines s total (reply.Pid pid) = over-lines s
+ctl-lines s total (reply.Ready handle) = over-lines s
+ctl-lines s total (reply.Fail errno) = over-lines s
+
+wait-lines : (s : ScriptState) (total : ℕ) (r : Reply) → (scripts.with_wait_answered s total r).lines ≡ s.lines
+unfolding scripts.with_wait_answered
+wait-lines s total (reply.Used n) = taken-lines s total n
+wait-lines s total (reply.Bytes bytes) = over-lines s
+wait-lines s total (reply.Half until) = over-lines s
+wait-lines s total (reply.Handle handle) = over-lines s
+wait-lines s total reply.Done = over-lines s
+wait-lines s total (reply.Pid pid) = over-lines s
+wait-lines s total (reply.Ready handle) = over-lines s
+wait-lines s total (reply.Fail errno) = over-lines s
+
+write-lines : (wait : Option ℕ) (s : ScriptState) (total : ℕ) (r : Reply) → (scripts.with_write_answered wait s total r).lines ≡ s.lines
+write-lines None s total r = ctl-lines s total r
+write-lines (Some until) s total r = wait-lines s total r
+
+-- the line whose reply it is, a row a line
+answer-lines : (s : ScriptState) (r : Reply) (o : Option ScriptLine) → (scripts.with_answer s r (scripts.present_of o)).lines ≡ s.lines
+unfolding scripts.present_of scripts.with_answer
+answer-lines s r None = refl
+answer-lines s r (Some (line.Open name pid lwp file mode)) = over-lines (scripts.with_bound s name (handle_in r))
+answer-lines s r (Some (line.Close name)) = over-lines s
+answer-lines s r (Some (line.Read name at len)) = over-lines s
+answer-lines s r (Some (line.Poll names)) = over-lines s
+answer-lines s r (Some (line.Write name bytes)) = write-lines s.wait s (length bytes) r
+answer-lines s r (Some (line.Interrupt controller)) = over-lines s
+answer-lines s r (Some (line.Spawn program held)) = over-lines s
+answer-lines s r (Some (line.Kill pid sig)) = over-lines s
+answer-lines s r (Some (line.Until moment)) = over-lines s
+answer-lines s r (Some line.List) = over-lines s
+
+fed-lines : (s : ScriptState) (r : Reply) → (scripts.fed s r).lines ≡ s.lines
+unfolding scripts.fed
+fed-lines s r = answer-lines s r (slice_get s.lines s.place)
+
+-- ---- a controller whose lines write bytes writes bytes, and goes on so after a reply
+
+core-bytes : (c : Core) → IsCoreOfBytes c → IfSome (next_call c) IsOfBytes
+unfolding next_call IsCoreOfBytes
+core-bytes (Script s) bytes = script-bytes s bytes
+core-bytes (Truss t) bytes = truss-bytes t
+core-bytes (Tool t) bytes = tool-bytes t
+
+reply-bytes : (c : Core) (r : Reply) → IsCoreOfBytes c → IsCoreOfBytes (after_reply c r)
+unfolding after_reply IsCoreOfBytes
+reply-bytes (Script s) r bytes = subst (All IsLineOfBytes) (sym (fed-lines s r)) bytes
+reply-bytes (Truss t) r bytes = tt
+reply-bytes (Tool t) r bytes = tt
+
+-- the call of a controller
+call-bytes : (controllers : List Core) (k : ℕ) (c : Call) → All IsCoreOfBytes controllers → call_by controllers k ≡ Some c → IsOfBytes c
+unfolding call_by
+call-bytes controllers k c all is = of (slice_get controllers k) refl is
+  where
+    of : (o : Option Core) → slice_get controllers k ≡ o → option_and_then next_call o ≡ Some c → IsOfBytes c
+    of None found is = absurd (cc)
+    of (Some core) found is = subst (λ next. IfSome next IsOfBytes) is (core-bytes core (All-at IsCoreOfBytes controllers k core found all))
+
+-- ---- a history
+
+-- Each entry. A legal one is no call of an lwp or of the clock.
+entry-bytes : (controllers : List Core) (n : ℕ) (s : TracedState) (actor : Actor) (it : Act) → All IsCoreOfBytes controllers → IsLegalEntry n s (record { actor = actor; act = it }) → FollowsAt controllers s (record { actor = actor; act = it }) → IsActOfBytes it
+unfolding IsLegalEntry FollowsAt
+entry-bytes controllers n s (Controller k) (act.Call c r) all legal follows = call-bytes controllers k c all follows
+entry-bytes controllers n s actor (act.Turn t) all legal follows = tt
+entry-bytes controllers n s actor (act.Tick moment) all legal follows = tt
+entry-bytes controllers n s (Lwp p l) (act.Call c r) all legal follows = absurd legal
+entry-bytes controllers n s Clock (act.Call c r) all legal follows = absurd legal
+
+-- the controllers after it write bytes too
+fed-bytes : (controllers : List Core) (k : ℕ) (r : Reply) → All IsCoreOfBytes controllers → All IsCoreOfBytes (with_fed k r controllers)
+unfolding with_fed
+fed-bytes controllers k r all = of (slice_get controllers k) refl
+  where
+    of : (o : Option Core) → slice_get controllers k ≡ o → All IsCoreOfBytes (feed_at k r controllers o)
+    of None found = all
+    of (Some c) found = All-set IsCoreOfBytes controllers k (after_reply c r) (reply-bytes c r (All-at IsCoreOfBytes controllers k c found all)) all
+
+after-bytes : (controllers : List Core) (actor : Actor) (it : Act) → All IsCoreOfBytes controllers → All IsCoreOfBytes (controllers_after controllers (record { actor = actor; act = it }))
+unfolding controllers_after
+after-bytes controllers (Controller k) (act.Call c r) all = fed-bytes controllers k r all
+after-bytes controllers (Controller k) (act.Turn t) all = all
+after-bytes controllers (Controller k) (act.Tick moment) all = all
+after-bytes controllers (Lwp p l) it all = all
+after-bytes controllers Clock it all = all
+
+pub follows-bytes : (controllers : List Core) (n : ℕ) (s : TracedState) (h : List Entry) → All IsCoreOfBytes controllers → IsLegal n s h → Follows controllers s h → HasBytes h
+follows-bytes controllers n s [] all legal follows = All-nil IsEntryOfBytes
+follows-bytes controllers n s (e ∷ h) all legal follows =
+    let here = entry-bytes controllers n s e.actor e.act all legal.0 follows.0 in
+    let rest = follows-bytes (controllers_after controllers e) n (after s e) h (after-bytes controllers e.actor e.act all) legal.1 follows.1 in
+    All-cons IsEntryOfBytes e h here rest

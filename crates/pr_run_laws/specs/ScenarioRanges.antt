@@ -1,0 +1,29 @@
+use Rattle.std.specs.List.{All}
+use Rattle.pr_lawful.specs.Starts.{IsStart}
+use Rattle.pr_num.specs.Words.{IsByte}
+use Rattle.pr_range_laws.specs.InRange.{IsStartInRange}
+use Rattle.pr_scen.specs.Scenarios.{Scenario}
+use Rattle.pr_scen.specs.declared.script_lines.ScriptLine.{ScriptLine}
+use Rattle.pr_scen.specs.declared.script_lines.ScriptLine.TheVariants as line
+use Rattle.pr_run_laws.specs.ScenarioRuns.{controllers_of, files_of}
+use Rattle.pr_world.specs.Cores.{Core, Script, Truss, Tool}
+
+-- What is so of each scenario that was read, beside its limits.
+
+-- what a line of a script writes is bytes
+abbrev pub IsLineOfBytes : ScriptLine → Type 0
+IsLineOfBytes (line.Write name bytes) = All IsByte bytes
+IsLineOfBytes _ = Unit {0}
+
+-- what a controller writes is bytes; of truss and the tools it always is
+unfoldable pub IsCoreOfBytes : Core → Type 0
+IsCoreOfBytes (Script s) = All IsLineOfBytes s.lines
+IsCoreOfBytes (Truss t) = Unit {0}
+IsCoreOfBytes (Tool t) = Unit {0}
+
+-- A scenario in range: its first state is one that can be started, of programs and files in range, and what its scripts
+-- write is bytes.
+pub record IsScenarioInRange (s : Scenario) : Type 0 where
+  pub start : IsStart s.programs (files_of s) s.spawns
+  pub range : IsStartInRange s.programs (files_of s)
+  pub bytes : All IsCoreOfBytes (controllers_of s)
