@@ -1,81 +1,108 @@
 #!/usr/bin/env bash
 # What the gate costs from nothing: processor seconds of each crate for its proofs, its tests and its must-fail edits,
-# and their sums. The last commit is measured, in a copy that has no work of its own, a crate after those that it stands
-# on. `rt check` takes over what other checkouts on this machine proved of the same files: for the whole cost no other one
-# may have proved them. Words are the crates to measure, or all; those that they stand on are proved first and not measured.
+# and their sum. The last commit is measured, in a copy that has no work of its own, by `rt ci` itself; `rt` takes over
+# what other checkouts on this machine proved of the same files, so for the whole cost no other one may have proved them.
+# Words are a command that is measured in the copy instead, such as `sh -c "cd crates/pr_num && rt check"`.
+#
+# The processor time of the command and of all that it starts is exact. Its parts are read twice a second from /proc for
+# each run of the prover, so what a run takes after the last reading is in the row `other`, with what is no prover.
 set -eu
 top=$(cd "$(dirname "${BASH_SOURCE[0]}")/.." && pwd)
-copy=$(mktemp -d)
-trap 'rm -rf "$copy"' EXIT
-git clone -q "$top" "$copy/repository"
-cd "$copy/repository"
+work=$(mktemp -d)
+trap 'rm -rf "$work"' EXIT
+git clone -q "$top" "$work/copy"
+cd "$work/copy"
+[ $# -gt 0 ] || set -- rt ci
 
-# in_order: the crates of crates.txt, each after those that it names
-in_order() {
-  awk '
-    /^[ \t]*(#|$)/ { next }
-    { colon = index($0, ":"); split(substr($0, 1, colon - 1), head, " "); names[++count] = head[1]
-      below[head[1]] = substr($0, colon + 1) }
-    function take(crate,  n, i, name) {
-      if (crate in taken) return
-      taken[crate] = 1
-      n = split(below[crate], name, " ")
-      for (i = 1; i <= n; i++) if (name[i] in below) take(name[i])
-      print crate
-    }
-    END { for (i = 1; i <= count; i++) take(names[i]) }
-  ' crates.txt
+# kind_of FOLDER WORDS: what a run of the prover in this folder, with these words, is for
+kind_of() {
+  case "$1 $2" in
+    *rt-edit-*) echo edits ;;
+    *" --test "*) echo tests ;;
+    *) echo proofs ;;
+  esac
 }
 
-# below CRATE..: those crates, and all that they stand on
-below() {
-  awk -v wanted="$*" '
-    /^[ \t]*(#|$)/ { next }
-    { colon = index($0, ":"); split(substr($0, 1, colon - 1), head, " "); named[head[1]] = substr($0, colon + 1) }
-    function take(crate,  n, i, name) {
-      if (crate in taken || !(crate in named)) return
-      taken[crate] = 1
-      n = split(named[crate], name, " ")
-      for (i = 1; i <= n; i++) take(name[i])
-      print crate
-    }
-    END { n = split(wanted, crate, " "); for (i = 1; i <= n; i++) take(crate[i]) }
-  ' crates.txt
+# crate_of WORD..: the crate that these words of the prover name
+crate_of() {
+  while [ $# -gt 0 ]; do
+    [ "$1" != --crate-name ] || { echo "$2"; return; }
+    shift
+  done
+  echo other
 }
 
-# seconds COMMAND..: processor seconds of the command, its output apart; it may fail, and then says so
-seconds() {
-  local TIMEFORMAT='%U %S' spent
-  spent=$({ time "$@" >"$copy/said" 2>&1 || echo "failed: $*" >>"$copy/failed"; } 2>&1)
-  awk '{ printf "%.0f", $1 + $2 }' <<<"$spent"
+declare -A crates kinds ticks
+
+# is_ours PID: whether the measured command started it, or started what did
+is_ours() {
+  local line fields pid=$1
+  while [ "$pid" -gt 1 ]; do
+    read -r line <"/proc/$pid/stat" || return 1
+    read -ra fields <<<"${line##*) }"
+    [ "${fields[3]}" != "$session" ] || return 0
+    pid=${fields[1]}
+  done
+  return 1
 }
 
-prove() { (cd "crates/$1" && rt check); }
-try_tests() { (cd "crates/$1" && rt test); }
-try_edits() { rt must-fail --anew "$1"; }
+# read_run PID STAT: the ticks of a run of the prover, from its line in /proc
+read_run() {
+  local fields run=$1 words folder
+  read -ra fields <<<"${2##*) }"
+  run="$run.${fields[19]}"
+  if [ -z "${crates[$run]-}" ]; then
+    is_ours "$1" || return 0
+    mapfile -d '' -t words <"/proc/$1/cmdline" || return 0
+    folder=$(readlink "/proc/$1/cwd") || return 0
+    crates[$run]=$(crate_of "${words[@]}")
+    kinds[$run]=$(kind_of "$folder" "${words[*]} ")
+  fi
+  ticks[$run]=$((fields[11] + fields[12]))
+}
 
-has_tests() { grep -q '^#\[test\]' "crates/$1"/src/*.rt; }
+# read_runs: the same of all that there are now
+read_runs() {
+  local file line
+  for file in /proc/[0-9]*/stat; do
+    { read -r line <"$file"; } 2>/dev/null || continue
+    [[ $line != *"(rattle)"* && $line != *"(antt-kernel)"* ]] || read_run "${file//[!0-9]/}" "$line" 2>/dev/null
+  done
+}
 
-wanted=("$@")
-[ "${#wanted[@]}" -gt 0 ] || mapfile -t wanted < <(in_order)
-mapfile -t needed < <(below "${wanted[@]}")
+# measured COMMAND..: runs it, with the processor seconds of all that it starts in the file `spent`
+measured() {
+  local TIMEFORMAT='%U %S'
+  { time "$@" >"$work/said" 2>&1; } 2>"$work/spent"
+}
 
-printf '%-16s %8s %8s %8s %6s %8s\n' crate proofs tests edits '' sum
-sum_proofs=0 sum_tests=0 sum_edits=0 sum_count=0
-while read -r crate; do
-  [[ " ${needed[*]} " = *" $crate "* ]] || continue
-  proofs=$(seconds prove "$crate")
-  [[ " ${wanted[*]} " = *" $crate "* ]] || continue
-  tests=0
-  ! has_tests "$crate" || tests=$(seconds try_tests "$crate")
-  count=$(find "crates/$crate/must-fail" -name '*.edit' 2>/dev/null | wc -l)
-  edits=0
-  [ "$count" = 0 ] || edits=$(seconds try_edits "$crate")
-  printf '%-16s %8d %8d %8d %6s %8d\n' "$crate" "$proofs" "$tests" "$edits" "($count)" $((proofs + tests + edits))
-  sum_proofs=$((sum_proofs + proofs)) sum_tests=$((sum_tests + tests)) sum_edits=$((sum_edits + edits))
-  sum_count=$((sum_count + count))
-done < <(in_order)
-total=$((sum_proofs + sum_tests + sum_edits))
-printf '%-16s %8d %8d %8d %6s %8d\n' all "$sum_proofs" "$sum_tests" "$sum_edits" "($sum_count)" "$total"
-echo "$((total / 60)) processor minutes"
-[ ! -s "$copy/failed" ] || { cat "$copy/failed" >&2; exit 1; }
+export -f measured
+export work
+setsid bash -c 'measured "$@"' gate "$@" &
+session=$!
+while kill -0 "$session" 2>/dev/null; do
+  read_runs
+  sleep 0.5
+done
+status=0
+wait "$session" || status=$?
+
+per_second=$(getconf CLK_TCK)
+for run in "${!ticks[@]}"; do echo "${crates[$run]} ${kinds[$run]} ${ticks[$run]}"; done | sort |
+  awk -v per_second="$per_second" -v spent="$(cat "$work/spent")" '
+    function row(name, proofs, tests, edits, sum) { printf "%-18s %8d %8d %8d %8d\n", name, proofs, tests, edits, sum }
+    { seconds = $3 / per_second; all[$2] += seconds; seen += seconds
+      if (!($1 in sum)) crate[++count] = $1
+      sum[$1] += seconds; took[$1, $2] += seconds }
+    END {
+      split(spent, part, " "); total = part[1] + part[2]
+      printf "%-18s %8s %8s %8s %8s\n", "crate", "proofs", "tests", "edits", "sum"
+      for (i = 1; i <= count; i++) {
+        name = crate[i]
+        row(name, took[name, "proofs"], took[name, "tests"], took[name, "edits"], sum[name])
+      }
+      row("other", 0, 0, 0, total - seen)
+      row("all", all["proofs"], all["tests"], all["edits"], total)
+      printf "%.0f processor minutes\n", total / 60
+    }'
+[ "$status" = 0 ] || { tail -20 "$work/said" >&2; exit "$status"; }
