@@ -1,4 +1,4 @@
-use Rattle.std.proofs.Common.{◌≡◌, ◌≢◌, ◌==◌, ◌<◌, ◌≤◌, ◌⊎◌, ℕ, zero, suc, Bool, true, false, cond, None, Some, Option, List, [], ◌∷◌, length, refl, sym, subst, ap, ◌∙◌, arith, inl, inr}
+use Rattle.std.proofs.Common.{◌≡◌, ◌≢◌, ◌==◌, ◌<◌, ◌⊎◌, ℕ, suc, Bool, true, false, cond, None, Some, Option, List, [], ◌∷◌, length, refl, sym, subst, ap, ◌∙◌, arith, inl, inr}
 use Rattle.std.proofs.lemmas.Bool.{cases_Bool, eq-eqb, eqb-true, false≢true}
 use Rattle.std.proofs.lemmas.Option.{none-some, same_Some}
 use Rattle.std.specs.List.{slice_get}
@@ -19,6 +19,7 @@ use Rattle.pr_model.specs.declared.calls.Mode.TheVariants.{Read, WriteExcl}
 use Rattle.pr_model.specs.declared.calls.Reply.{Reply}
 use Rattle.pr_model.specs.declared.calls.Reply.TheVariants as reply
 use Rattle.pr_model.specs.declared.events.Act.TheVariants as act
+use Rattle.pr_model.specs.declared.events.Actor.TheVariants.{Controller}
 use Rattle.pr_model.specs.declared.events.Entry.{Entry}
 use Rattle.pr_num.specs.Control.{fork_mode, has_flags, rlc_mode}
 use Rattle.pr_num.specs.Sets.{has_number}
@@ -52,10 +53,10 @@ use Rattle.pr_report_laws.proofs.FileUses as uses
 use Rattle.pr_report_laws.proofs.ForkTurns.{HasForked, alone-forked, quiet-forked}
 use Rattle.pr_report_laws.proofs.FrameLaws.{alone-control}
 use Rattle.pr_report_laws.proofs.Leaving.{IsLeaving}
-use Rattle.pr_report_laws.proofs.NewBorn.{IsNewBorn, new-born-on, new-on}
-use Rattle.pr_report_laws.proofs.OverLaws.{stays-made}
+use Rattle.pr_report_laws.proofs.NewBorn.{IsNewBorn, new-born-on, new-on, untouched-now}
 use Rattle.pr_report_laws.proofs.OwnCalls.{Misses}
 use Rattle.pr_report_laws.proofs.OwnLooks.{IsCall}
+use Rattle.pr_report_laws.proofs.OwnOpens.{granted-handle}
 use Rattle.pr_report_laws.proofs.RecordLaws as reads
 use Rattle.pr_report_laws.proofs.SettingLaws.{follow-has, other-added}
 use Rattle.pr_report_laws.proofs.StandLemmas.{Leaves, busy}
@@ -116,17 +117,15 @@ child-reads x child.OpenMemory pid lwp f mode is writes = reads-only mode (cc) w
 child-reads x child.SetRelease pid lwp f mode is writes = cc
 child-reads x child.Start pid lwp f mode is writes = cc
 
-module _ (n k base : ℕ) (o : Options) (t : TrussState) (s : TracedState) (c : Call) (a : Answer) (own : IsOwn n k o t s c a) (leaves : IsLeaving t) (h : List Entry) (named : (place pid : ℕ) → slice_get o.pids place ≡ Some pid → pid < base) (f : Follows k base o t s (call_entry k c a ∷ h)) (on : (fed t a.reply).leaving ≡ false) where
+module _ (n k : ℕ) (o : Options) (t : TrussState) (s : TracedState) (c : Call) (a : Answer) (own : IsOwn n k o t s c a) (leaves : IsLeaving t) (h : List Entry) (f : Follows k o t s (call_entry k c a ∷ h)) (on : (fed t a.reply).leaving ≡ false) where
   i : IsCall k o 0 t s c a
   i = own.call 0
 
   abbrev u : TrussState
   u = fed t a.reply
 
-  comes : Comes base t a.reply u
-  comes =
-      let w = i.owns in
-      fed-comes base t a.reply (λ place pid is. named place pid (ap (λ (x : Options). slice_get x.pids place) (sym i.options) ∙ is)) leaves w.fits f.names on
+  comes : Comes t a.reply u
+  comes = let w = i.owns in fed-comes t a.reply leaves w.fits (subst (λ (x : Options). Names x t.traced t.stage) (sym i.options) f.names) on
 
   -- ---- a status that is read
 
@@ -290,12 +289,17 @@ module _ (n k base : ℕ) (o : Options) (t : TrussState) (s : TracedState) (c : 
           let later = follow-set s k (traced_at t place).control (held_by k (traced_at t place).pid 0 file.Ctl WriteExcl) held refl before.0 before.1 a is accepted in
           ap (λ (y : TracedProcess). has_flags y.control.modes fork_mode) (sym (same_Some _ q (sym later ∙ now))) ∙ follow-set-has before.0
 
-    -- a child that is opened now, or could not be
-    born-flag : (parent pid : ℕ) → t.stage ≡ OpeningChildControl parent pid → (q : TracedProcess) → live_process a.state.system pid ≡ Some q → has_flags q.control.modes fork_mode ≡ true
-    born-flag parent pid at q now =
+    -- a child that is opened now
+    born-flag : (parent pid : ℕ) → t.stage ≡ OpeningChildControl parent pid → answer_of a.reply ≡ Accepted → (q : TracedProcess) → live_process a.state.system pid ≡ Some q → has_flags q.control.modes fork_mode ≡ true
+    unfolding call_of
+    born-flag parent pid at accepted q now =
         let new = f.born (traced_at t parent).pid pid (parent-claims parent pid at) in
+        let same : c ≡ call.Open pid 0 file.Ctl WriteExcl = call-same n k o t s c a own (OpeningChildControl parent pid) (call.Open pid 0 file.Ctl WriteExcl) at refl in
+        let given = granted-handle s k pid 0 file.Ctl WriteExcl a (call-is n k o t s c a own (OpeningChildControl parent pid) (call.Open pid 0 file.Ctl WriteExcl) at refl) accepted in
+        let entry : call_entry k c a ≡ granted k pid 0 file.Ctl WriteExcl given.0 = ap (λ x. record { actor = Controller k; act = act.Call x a.reply }) same ∙ ap (λ x. record { actor = Controller k; act = act.Call (call.Open pid 0 file.Ctl WriteExcl) x }) given.1 in
+        let untouched = untouched-now k o s h pid 0 given.0 file.Ctl WriteExcl (call_entry k c a) entry refl new in
         let later : live_process (after s (call_entry k c a)).system pid ≡ Some q = ap (λ (x : TracedState). live_process x.system pid) own.later ∙ now in
-        let is = new-on n k base o s h pid (call_entry k c a) i.lawful own.legal new q later in
+        let is = new-on n k o s h pid (call_entry k c a) i.lawful own.legal new.made untouched q later in
         is.follows
 
     flags-later : (place : ℕ) → IsSet u.traced u.stage place → (q : TracedProcess) → live_process a.state.system (at_place u.traced place).pid ≡ Some q → has_flags q.control.modes fork_mode ≡ true
@@ -305,7 +309,7 @@ module _ (n k base : ℕ) (o : Options) (t : TrussState) (s : TracedState) (c : 
         by (was_set before y same done) = set-flag before (set-within before y) q (ap (live_process a.state.system) same ∙ now) y done
         by (set_now before there same at accepted) = now-flag before there q (ap (live_process a.state.system) same ∙ now) at accepted
         by (not_followed off) = absurd (false≢true (sym off ∙ ap (λ (y : Options). y.follow) i.options ∙ follow))
-        by (is_child parent at) = born-flag parent (at_place u.traced place).pid at q now
+        by (is_child parent at accepted) = born-flag parent (at_place u.traced place).pid at accepted q now
 
   -- ---- the children
 
@@ -345,14 +349,14 @@ module _ (n k base : ℕ) (o : Options) (t : TrussState) (s : TracedState) (c : 
     its_claim : Claims o t.traced t.stage s.system pid of
     its_claim = claims-before pid of claim
 
-    not-named : (other : ℕ) → other ≡ of → (other < base) ⊎ (t.traced ≡ []) → ⊥
-    not-named other same (inl before) = let new = f.born pid of its_claim in absurd (omega (arith, before, same, new.late))
+    not-named : (other : ℕ) → other ≡ of → ((place : ℕ) × (slice_get o.pids place ≡ Some other)) ⊎ (t.traced ≡ []) → ⊥
+    not-named other same (inl named) = let new = f.born pid of its_claim in new.unnamed named.0 (named.1 ∙ ap (λ m. Some m) same)
     not-named other same (inr none) = no-place pid of none its_claim
 
     module _ (lwp handle : ℕ) (opened_file : File) (mode : Mode) (writes : is_writable mode ≡ true) (given : a.reply ≡ reply.Handle handle) where
       open-in : (stage : Stage) → t.stage ≡ stage → Leaves t.leaving stage → call_of t stage ≡ Some (call.Open of lwp opened_file mode) → ⊥
       unfolding call_of freeing_call
-      open-in (OpeningControl other) at goes is = not-named other (cc) (subst (Names base t.traced) at f.names)
+      open-in (OpeningControl other) at goes is = not-named other (cc) (subst (Names o t.traced) at f.names)
       open-in (OpeningChildControl parent other) at goes is =
           let same : other ≡ of = cc in
           let here : t.stage ≡ OpeningChildControl parent of = at ∙ ap (OpeningChildControl parent) same in
@@ -380,27 +384,17 @@ module _ (n k base : ℕ) (o : Options) (t : TrussState) (s : TracedState) (c : 
         let st = w.stands in
         open-in lwp handle opened_file mode writes given t.stage refl st.leaves (i.next ∙ ap (λ x. Some x) same)
 
-    born-later : IsNewBorn k base o a.state h of
+    born-later : IsNewBorn k o a.state h of
     born-later =
-        subst (λ (x : TracedState). IsNewBorn k base o x h of) own.later
-        (new-born-on n k base o s h of (call_entry k c a) i.lawful own.legal (f.born pid of its_claim) not-opened)
+        subst (λ (x : TracedState). IsNewBorn k o x h of) own.later
+        (new-born-on n k o s h of (call_entry k c a) i.lawful own.legal (f.born pid of its_claim) not-opened)
 
   -- ---- all
 
-  late-later : base ≤ a.state.system.made
-  late-later = by base f.late
-    where
-      by : (m : ℕ) → m ≤ s.system.made → m ≤ a.state.system.made
-      by zero less = omega arith
-      by (suc m) less =
-          let more : m < a.state.system.made = subst (λ (x : TracedState). m < x.system.made) own.later (stays-made n s (call_entry k c a) m i.lawful own.legal (omega arith)) in
-          omega (arith, more)
-
-  pub call-follows : Follows k base o u a.state h
+  pub call-follows : Follows k o u a.state h
   call-follows = record {
     flags = flags-later;
     born = λ pid of claim. born-later pid of claim;
     one = λ pid other of x y. f.one pid other of (claims-before pid of x) (claims-before other of y);
-    names = comes.names;
-    late = late-later;
+    names = subst (λ (x : Options). Names x u.traced u.stage) i.options comes.names;
   }

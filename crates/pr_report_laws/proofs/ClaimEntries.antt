@@ -1,4 +1,4 @@
-use Rattle.std.proofs.Common.{◌≡◌, ◌≢◌, ◌==◌, ◌<◌, ◌≤◌, ℕ, zero, suc, true, false, Some, List, ◌∷◌, length, refl, sym, subst, ap, ◌∙◌, arith, inl, inr}
+use Rattle.std.proofs.Common.{◌≡◌, ◌≢◌, ◌==◌, ◌<◌, ℕ, suc, true, false, Some, List, ◌∷◌, length, refl, sym, subst, ap, ◌∙◌, arith, inl, inr}
 use Rattle.std.proofs.lemmas.Bool.{cases_Bool, cases_eq, eqb-false, eqb-true, false≢true}
 use Rattle.std.proofs.lemmas.Option.{same_Some}
 use Rattle.pr_lawful.proofs.HandleLemmas.{handle-at}
@@ -34,16 +34,16 @@ use Rattle.pr_report_laws.proofs.Claims as claims
 use Rattle.pr_report_laws.proofs.ClaimStands.{IsStanding, stood-at}
 use Rattle.pr_report_laws.proofs.EntrySteps.{made-at}
 use Rattle.pr_report_laws.proofs.FileLaws.{HasFiles}
-use Rattle.pr_report_laws.proofs.ForkTurns.{HasForked, alone-forked, forked-born, forked-next}
+use Rattle.pr_report_laws.proofs.ForkTurns.{HasForked, alone-forked, LeavesChildren, forked-born, forked-next}
 use Rattle.pr_report_laws.proofs.FrameLaws.{alone-control, others-entry}
 use Rattle.pr_report_laws.proofs.NewBorn.{IsNewBorn, new-born-on}
 use Rattle.pr_report_laws.proofs.OtherSteps.{lives-later}
-use Rattle.pr_report_laws.proofs.OverLaws.{stays-made, stays-over}
+use Rattle.pr_report_laws.proofs.OverLaws.{stays-over}
 use Rattle.pr_report_laws.proofs.OwnTurnLaws.{event-halts, state-after}
 use Rattle.pr_report_laws.proofs.Standing as st
 use Rattle.pr_report_laws.proofs.Standing.{Position}
 use Rattle.pr_report_laws.proofs.TurnSettings.{turn-settings}
-use Rattle.pr_report_laws.specs.Births.{LeavesForks, granted}
+use Rattle.pr_report_laws.specs.Births.{granted}
 use Rattle.pr_report_laws.specs.Fits.{IsFitSystem}
 use Rattle.pr_report_laws.proofs.Positions.{IsTracedBy}
 use Rattle.pr_report_laws.specs.Shown.{LwpEvent}
@@ -77,7 +77,7 @@ data Left (pid : ℕ) (s : TracedState) (e : Entry) (q : TracedProcess) : Type 0
   alone : (p : TracedProcess) → live_process s.system pid ≡ Some p → IsUndisturbed p q → Left pid s e q
   turned : (id : ℕ) (d : LwpTurn) (p : TracedProcess) → e ≡ turn_entry pid id d → turn_of s.system pid id ≡ Some d → live_process s.system pid ≡ Some p → live_process d.system pid ≡ Some q → Left pid s e q
 
-module _ (n k base : ℕ) (o : Options) (t : TrussState) (s : TracedState) (e : Entry) (h : List Entry) (lawful : IsLawful s) (fit : IsFitSystem s.system) (files : HasFiles k t s) (stand : (pid : ℕ) → IsStanding o pid t s) (stays : t.leaving ≡ false) (legal : IsLegalEntry n s e) (later : IsLawful (after s e)) (others : e.actor ≢ Controller k) where
+module _ (n k : ℕ) (o : Options) (t : TrussState) (s : TracedState) (e : Entry) (h : List Entry) (lawful : IsLawful s) (fit : IsFitSystem s.system) (files : HasFiles k t s) (stand : (pid : ℕ) → IsStanding o pid t s) (stays : t.leaving ≡ false) (legal : IsLegalEntry n s e) (later : IsLawful (after s e)) (others : e.actor ≢ Controller k) where
   module _ (place : ℕ) (within : place < length t.traced) where
     abbrev pid : ℕ
     pid = (traced_at t place).pid
@@ -125,11 +125,11 @@ module _ (n k base : ℕ) (o : Options) (t : TrussState) (s : TracedState) (e : 
 
   -- ---- the children
 
-  module _ (forks : LeavesForks k (e ∷ h)) (f : Follows k base o t s (e ∷ h)) where
+  module _ (forks : LeavesChildren k o (e ∷ h)) (f : Follows k o t s (e ∷ h)) where
     -- a child that is to be opened was to be opened before, or is made now
     data WasClaimed (pid c : ℕ) : Type 0 where
       claimed : Claims o t.traced t.stage s.system pid c → WasClaimed pid c
-      made : (id : ℕ) → e.actor ≡ Lwp pid id → c ≡ s.system.made → IsNewBorn k base o (after s e) h c → WasClaimed pid c
+      made : (id : ℕ) → e.actor ≡ Lwp pid id → c ≡ s.system.made → IsNewBorn k o (after s e) h c → WasClaimed pid c
 
     later-is : (pid id : ℕ) (d : LwpTurn) → e ≡ turn_entry pid id d → turn_of s.system pid id ≡ Some d → after s e ≡ record s { system = d.system }
     later-is pid id d is taken = ap (after s) is ∙ state-after s pid id d taken
@@ -154,9 +154,9 @@ module _ (n k base : ℕ) (o : Options) (t : TrussState) (s : TracedState) (e : 
             let flag = f.flags follow place (watched free.within free.attached free.here) p live in
             made id (ap (λ (x : Entry). x.actor) is)
             (forked-next o s (traced_at t place).pid id p d lawful fit live traced quiet taken q there c forked)
-            (subst (λ (x : TracedState). IsNewBorn k base o x h c) (sym after_it)
-            (forked-born o s (traced_at t place).pid id p d lawful fit live traced quiet taken q there c forked flag follow k base h f.late
-            (let w : IsLawful (record s { system = d.system }) = subst IsLawful after_it later in w.system) (subst (λ x. LeavesForks k (x ∷ h)) is forks)))
+            (subst (λ (x : TracedState). IsNewBorn k o x h c) (sym after_it)
+            (forked-born o s (traced_at t place).pid id p d lawful fit live traced quiet taken q there c forked flag follow k h
+            (let w : IsLawful (record s { system = d.system }) = subst IsLawful after_it later in w.system) (subst (λ x. LeavesChildren k o (x ∷ h)) is forks)))
         by traced (st.has_event other event read none one waits whole) =
             let halting = event-halts p other event one in
             let now : live_process d.system (traced_at t place).pid ≡ Some (with_lwp_stopped id p) = halting-leaves s.system (traced_at t place).pid p live halting id d taken in
@@ -173,10 +173,10 @@ module _ (n k base : ℕ) (o : Options) (t : TrussState) (s : TracedState) (e : 
     not-own : (c lwp handle : ℕ) (opened_file : File) (mode : Mode) → e ≡ granted k c lwp opened_file mode handle → is_writable mode ≡ true → ⊥
     not-own c lwp handle opened_file mode is writes = others (ap (λ (x : Entry). x.actor) is)
 
-    claimed-born : (pid c : ℕ) → Claims o t.traced t.stage s.system pid c → IsNewBorn k base o (after s e) h c
-    claimed-born pid c claim = new-born-on n k base o s h c e lawful legal (f.born pid c claim) (λ lwp handle opened_file mode is writes. not-own c lwp handle opened_file mode is writes)
+    claimed-born : (pid c : ℕ) → Claims o t.traced t.stage s.system pid c → IsNewBorn k o (after s e) h c
+    claimed-born pid c claim = new-born-on n k o s h c e lawful legal (f.born pid c claim) (λ lwp handle opened_file mode is writes. not-own c lwp handle opened_file mode is writes)
 
-    born-later : (pid c : ℕ) → WasClaimed pid c → IsNewBorn k base o (after s e) h c
+    born-later : (pid c : ℕ) → WasClaimed pid c → IsNewBorn k o (after s e) h c
     born-later of c (claimed claim) = claimed-born of c claim
     born-later of c (made id actor next new) = new
 
@@ -208,18 +208,10 @@ module _ (n k base : ℕ) (o : Options) (t : TrussState) (s : TracedState) (e : 
             let same : HasSameSettings p q = turn-settings s.system (traced_at t place).pid p id d lawful.system live taken q there in
             ap (λ (y : TracedControl). has_flags y.modes fork_mode) same.control ∙ f.flags follow place x p live
 
-    late-later : base ≤ (after s e).system.made
-    late-later = by base f.late
-      where
-        by : (m : ℕ) → m ≤ s.system.made → m ≤ (after s e).system.made
-        by zero less = omega arith
-        by (suc m) less = let more = stays-made n s e m lawful legal (omega arith) in omega (arith, more)
-
-    pub entry-follows : Follows k base o t (after s e) h
+    pub entry-follows : Follows k o t (after s e) h
     entry-follows = record {
       flags = flags-later;
       born = λ pid c claim. born-later pid c (claims-were pid c claim);
       one = λ pid other c x y. one-later pid other c (claims-were pid c x) (claims-were other c y);
       names = f.names;
-      late = late-later;
     }

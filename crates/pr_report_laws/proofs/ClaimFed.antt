@@ -1,4 +1,4 @@
-use Rattle.std.proofs.Common.{◌≡◌, ◌<◌, ◌-◌, nat_lt, not, ℕ, Bool, true, false, cond, Option, Some, None, refl, sym, subst, ap, ◌∙◌}
+use Rattle.std.proofs.Common.{◌≡◌, ◌-◌, nat_lt, not, ℕ, Bool, true, false, cond, Option, Some, None, refl, sym, subst, ap, ◌∙◌}
 use Rattle.std.proofs.lemmas.Bool.{false≢true}
 use Rattle.std.specs.List.{slice_get}
 use Rattle.pr_line.specs.Events.{event_of}
@@ -106,9 +106,9 @@ module _ (t : TrussState) (r : Reply) where
 
 -- ---- every stage
 
-module _ (base : ℕ) (t : TrussState) (r : Reply) (named : (place pid : ℕ) → slice_get t.options.pids place ≡ Some pid → pid < base) (leaves : IsLeaving t) where
+module _ (t : TrussState) (r : Reply) (leaves : IsLeaving t) where
   abbrev Goes : TrussState → Type 0
-  Goes u = u.leaving ≡ false → Comes base t r u
+  Goes u = u.leaving ≡ false → Comes t r u
 
   gone : {X : Type 0} (u : TrussState) → t.leaving ≡ true → u.leaving ≡ t.leaving → u.leaving ≡ false → X
   gone u is same stays = absurd (false≢true (sym stays ∙ same ∙ is))
@@ -130,31 +130,31 @@ module _ (base : ℕ) (t : TrussState) (r : Reply) (named : (place pid : ℕ) �
   -- truss has finished
   finished-goes : t.stage ≡ Finished → Goes t
   finished-goes is stays =
-      idle-comes base t r named t t stays (λ place within. known-beside t r Finished place is within refl refl)
+      idle-comes t r t t stays (λ place within. known-beside t r Finished place is within refl refl)
       (record {
         same = refl;
         claims = λ place. ap (λ (st : Stage). claim_of t.options st place) is;
         sets = λ place. ap (λ (st : Stage). sets st place) is;
-        names = subst (Names base t.traced) (sym is) tt;
+        names = subst (Names t.options t.traced) (sym is) tt;
       })
 
-  reply-goes : (stage : Stage) → t.stage ≡ stage → Fits t.traced stage → Names base t.traced stage → Goes (with_reply t r stage)
+  reply-goes : (stage : Stage) → t.stage ≡ stage → Fits t.traced stage → Names t.options t.traced stage → Goes (with_reply t r stage)
   unfolding with_reply
-  reply-goes (Spawning program) is fits names = spawn-goes base t r named program is names (answer_of r)
-  reply-goes (OpeningControl pid) is fits names = control-goes base t r named pid is (answer_of r)
-  reply-goes (Opening at step) is fits names = opening-goes base t r named at step is fits.0 (answer_of r) refl
-  reply-goes Polling is fits names = poll-goes base t r named is (answer_of r)
-  reply-goes (ReadingStatus at) is fits names = status-goes base t r named at is fits (answer_of r) refl
-  reply-goes (ReadingText at l from len) is fits names = text-answered-goes base t r named at l from len is fits
-  reply-goes (OpeningChildControl parent c) is fits names = child-control-goes base t r named parent c is fits (answer_of r)
-  reply-goes (OpeningChild parent at step) is fits names = child-goes base t r named parent at step is fits.0 (answer_of r) refl
-  reply-goes (Running at) is fits names = run-goes base t r named at is fits (answer_of r)
-  reply-goes (Closing at next) is fits names = closing-file-goes base t r named at fits.0 next is (next-last at next fits.1)
+  reply-goes (Spawning program) is fits names = spawn-goes t r program is names (answer_of r)
+  reply-goes (OpeningControl pid) is fits names = control-goes t r pid is (answer_of r)
+  reply-goes (Opening at step) is fits names = opening-goes t r at step is fits.0 (answer_of r) refl
+  reply-goes Polling is fits names = poll-goes t r is (answer_of r)
+  reply-goes (ReadingStatus at) is fits names = status-goes t r at is fits (answer_of r) refl
+  reply-goes (ReadingText at l from len) is fits names = text-answered-goes t r at l from len is fits
+  reply-goes (OpeningChildControl parent c) is fits names = child-control-goes t r parent c is fits (answer_of r) refl
+  reply-goes (OpeningChild parent at step) is fits names = child-goes t r parent at step is fits.0 (answer_of r) refl
+  reply-goes (Running at) is fits names = run-goes t r at is fits (answer_of r)
+  reply-goes (Closing at next) is fits names = closing-file-goes t r at fits.0 next is (next-last at next fits.1)
   reply-goes Unfollowing is fits names = gone (with_unfollowed t (answer_of r)) (leaves.leaving (ap leaving_stage is)) (unfollowed-leaving t r (answer_of r))
   reply-goes ReadingLwps is fits names = gone (with_lwps_answered t r (answer_of r)) (leaves.leaving (ap leaving_stage is)) (lwps-leaving t r (answer_of r))
   reply-goes (FreeingChild c step) is fits names = gone (with_freeing_answered t c step r) (leaves.leaving (ap leaving_stage is)) (freed-leaving t r c step)
   reply-goes Finished is fits names = finished-goes is
 
-  pub fed-comes : Fits t.traced t.stage → Names base t.traced t.stage → (fed t r).leaving ≡ false → Comes base t r (fed t r)
+  pub fed-comes : Fits t.traced t.stage → Names t.options t.traced t.stage → (fed t r).leaving ≡ false → Comes t r (fed t r)
   unfolding fed
   fed-comes fits names = reply-goes t.stage refl fits names

@@ -1,7 +1,6 @@
 use Rattle.std.proofs.Common.{◌≡◌, ◌≢◌, ◌==◌, ◌<◌, ◌⊎◌, ℕ, Bool, true, false, cond, Option, Some, None, List, length, refl, sym, subst, ap, ◌∙◌, arith, inl, inr}
 use Rattle.std.proofs.lemmas.Bool.{cases_eq, eq-eqb, false≢true, ne_eqb}
 use Rattle.std.proofs.lemmas.Option.{none-some}
-use Rattle.std.specs.List.{slice_get}
 use Rattle.pr_line.specs.declared.options.Options.{Options}
 use Rattle.pr_model.specs.Replies.{handle_in}
 use Rattle.pr_model.specs.declared.calls.Reply.{Reply}
@@ -70,9 +69,9 @@ child-pid x r child.OpenLstatus = refl
 child-pid x r child.OpenMemory = refl
 child-pid x r child.Start = refl
 
-module _ (base : ℕ) (t : TrussState) (r : Reply) (named : (place pid : ℕ) → slice_get t.options.pids place ≡ Some pid → pid < base) where
+module _ (t : TrussState) (r : Reply) where
   abbrev Goes : TrussState → Type 0
-  Goes u = u.leaving ≡ false → Comes base t r u
+  Goes u = u.leaving ≡ false → Comes t r u
 
   -- ---- the opening of a process
 
@@ -103,7 +102,7 @@ module _ (base : ℕ) (t : TrussState) (r : Reply) (named : (place pid : ℕ) �
     step-apart _ place other = refl
 
     next-goes : answer_of r ≡ Accepted → (next : OpeningStep) → step_after t.options r step ≡ Some next → Goes (with_stage after_step (Opening at next))
-    next-goes accepted next comes stays = about-comes base t r named (with_stage after_step (Opening at next)) at stays (record {
+    next-goes accepted next comes stays = about-comes t r (with_stage after_step (Opening at next)) at stays (record {
       others = λ place inside other. known-at t r (Opening at next) place _ (but-set (Known t r) t.traced at later opening-others place inside other);
       free = λ f. not-itself at f.here;
       set = λ x. subst (WasSet t r) (sym same-pid) (step-set accepted next comes x);
@@ -127,7 +126,7 @@ module _ (base : ℕ) (t : TrussState) (r : Reply) (named : (place pid : ℕ) �
         }
 
     started-goes : answer_of r ≡ Accepted → step ≡ opening.Start → Goes (at_step after_step at None)
-    started-goes accepted last = next_opening-goes base t r named after_step (λ leaves. leaves) refl (each-set (Known t r) t.traced at later within opening-others (subst (Known t r) (sym (learnt-start (traced_at t at) r step last)) (start-known accepted last)))
+    started-goes accepted last = next_opening-goes t r after_step (λ leaves. leaves) refl (each-set (Known t r) t.traced at later within opening-others (subst (Known t r) (sym (learnt-start (traced_at t at) r step last)) (start-known accepted last)))
 
     done-goes : answer_of r ≡ Accepted → (next : Option OpeningStep) → step_after t.options r step ≡ next → Goes (at_step after_step at next)
     done-goes accepted None comes = started-goes accepted (last-start t.options r step comes)
@@ -135,12 +134,12 @@ module _ (base : ℕ) (t : TrussState) (r : Reply) (named : (place pid : ℕ) �
 
     refused-goes : (errno : Errno) → Goes (with_refused_step t at errno)
     unfolding with_refused_step
-    refused-goes errno = closing-goes base t r named (with_report t (CannotTrace (traced_at t at).pid errno)) at OpenNext (λ leaves. leaves) (λ place inside other. known-at t r (Closing at OpenNext) place _ (opening-others place inside other))
+    refused-goes errno = closing-goes t r (with_report t (CannotTrace (traced_at t at).pid errno)) at OpenNext (λ leaves. leaves) (λ place inside other. known-at t r (Closing at OpenNext) place _ (opening-others place inside other))
 
     pub opening-goes : (a : Answer) → answer_of r ≡ a → Goes (with_step_answered t at step r a)
     unfolding with_step_answered with_step_done
     opening-goes Accepted answer = done-goes answer (step_after t.options r step) refl
-    opening-goes Interrupted answer = interrupt-goes base t r named _
+    opening-goes Interrupted answer = interrupt-goes t r _
     opening-goes Gone answer = refused-goes Noent
     opening-goes (Refused errno) answer = refused-goes errno
 
@@ -155,12 +154,12 @@ module _ (base : ℕ) (t : TrussState) (r : Reply) (named : (place pid : ℕ) �
         let before : place < length t.traced = omega (arith, opened-length t (new control)) in
         subst (KnownAt t r (OpeningChild parent (length t.traced) child.SetRelease) place) (sym (opened-before t (new control) place before)) (known-beside-at t r (OpeningChildControl parent c) (OpeningChild parent (length t.traced) child.SetRelease) place is before refl (λ read. read))
 
-    child-opens : (control : ℕ) → Goes (with_child_control t parent c control)
+    child-opens : answer_of r ≡ Accepted → (control : ℕ) → Goes (with_child_control t parent c control)
     unfolding with_child_control newly_traced
-    child-opens control stays = about-comes base t r named (with_stage (with_opened t (new control)) (OpeningChild parent (length t.traced) child.SetRelease)) (length t.traced) stays (record {
+    child-opens accepted control stays = about-comes t r (with_stage (with_opened t (new control)) (OpeningChild parent (length t.traced) child.SetRelease)) (length t.traced) stays (record {
       others = child-others control;
       free = λ f. not-itself (length t.traced) f.here;
-      set = λ x. subst (λ (y : Traced). WasSet t r y.pid) (sym (opened-last t (new control))) (is_child parent is);
+      set = λ x. subst (λ (y : Traced). WasSet t r y.pid) (sym (opened-last t (new control))) (is_child parent is accepted);
       sets = λ place other. apart-eqb (length t.traced) place other;
       none = λ place other. refl;
       claims = λ d none. absurd (none-some d none);
@@ -169,19 +168,19 @@ module _ (base : ℕ) (t : TrussState) (r : Reply) (named : (place pid : ℕ) �
 
     parent-runs : (errno : Errno) → Goes (with_refused_child t parent c errno)
     unfolding with_refused_child
-    parent-runs errno = running-goes base t r named (with_report t (CannotTrace c errno)) parent (record {
+    parent-runs errno = running-goes t r (with_report t (CannotTrace c errno)) parent (record {
       leaves = λ stays. stays;
       options = refl;
       others = λ place inside other. known-beside t r (OpeningChildControl parent c) place is inside refl (apart-eqb parent place other);
       set = λ on. let away = ap (λ (st : Stage). is_away false st parent) is in was_set parent (watched within on away) refl (done-here t r parent away);
     })
 
-    pub child-control-goes : (a : Answer) → Goes (with_child_control_answered t parent c r a)
+    pub child-control-goes : (a : Answer) → answer_of r ≡ a → Goes (with_child_control_answered t parent c r a)
     unfolding with_child_control_answered
-    child-control-goes Accepted = child-opens (handle_in r)
-    child-control-goes Interrupted = interrupt-goes base t r named _
-    child-control-goes Gone = parent-runs Noent
-    child-control-goes (Refused errno) = parent-runs errno
+    child-control-goes Accepted answer = child-opens answer (handle_in r)
+    child-control-goes Interrupted answer = interrupt-goes t r _
+    child-control-goes Gone answer = parent-runs Noent
+    child-control-goes (Refused errno) answer = parent-runs errno
 
   -- ---- the files of a child
 
@@ -205,7 +204,7 @@ module _ (base : ℕ) (t : TrussState) (r : Reply) (named : (place pid : ℕ) �
 
     child-refused : (u : TrussState) → u.leaving ≡ t.leaving → u.traced ≡ t.traced → Goes (with_stage u (Closing at (RunParent parent)))
     child-refused u same traced =
-        closing-goes base t r named u at (RunParent parent) (λ stays. sym same ∙ stays)
+        closing-goes t r u at (RunParent parent) (λ stays. sym same ∙ stays)
         (λ place inside other. subst (λ (ts : List Traced). KnownAt t r (Closing at (RunParent parent)) place (at_place ts place)) (sym traced)
         (beside-child (Closing at (RunParent parent)) (λ q. refl) place (subst (λ (ts : List Traced). place < length ts) traced inside) other))
 
@@ -216,7 +215,7 @@ module _ (base : ℕ) (t : TrussState) (r : Reply) (named : (place pid : ℕ) �
     learnt-same = ap (λ (x : Traced). x.pid) (set-at t.traced at (child_learnt (traced_at t at) r step) child-within) ∙ child-pid (traced_at t at) r step
 
     next-child : answer_of r ≡ Accepted → (next : ChildStep) → Goes (with_stage with_learnt (OpeningChild parent at next))
-    next-child accepted next stays = about-comes base t r named (with_stage with_learnt (OpeningChild parent at next)) at stays (record {
+    next-child accepted next stays = about-comes t r (with_stage with_learnt (OpeningChild parent at next)) at stays (record {
       others = λ place inside other. subst (KnownAt t r (OpeningChild parent at next) place) (sym (set-other t at (child_learnt (traced_at t at) r step) place other))
           (beside-child (OpeningChild parent at next) (λ q. refl) place (omega (arith, set-length t at (child_learnt (traced_at t at) r step))) other);
       free = λ f. not-itself at f.here;
@@ -229,7 +228,7 @@ module _ (base : ℕ) (t : TrussState) (r : Reply) (named : (place pid : ℕ) �
 
     -- the child runs, and its parent is run next
     parent-next : step ≡ child.Start → Goes (with_stage t (Running parent))
-    parent-next start stays = about-comes base t r named (with_stage t (Running parent)) parent stays (record {
+    parent-next start stays = about-comes t r (with_stage t (Running parent)) parent stays (record {
       others = others;
       free = λ f. not-itself parent f.read;
       set = parent-set;
@@ -275,7 +274,7 @@ module _ (base : ℕ) (t : TrussState) (r : Reply) (named : (place pid : ℕ) �
     step-answered : (next : ChildStep) → child_step_after step ≡ Some next → (a : Answer) → answer_of r ≡ a → Goes (with_child_step_answered t parent at step r a)
     unfolding with_child_step_answered with_child_step_done
     step-answered next comes Accepted answer = rw comes (next-child answer next)
-    step-answered next comes Interrupted answer = interrupt-goes base t r named _
+    step-answered next comes Interrupted answer = interrupt-goes t r _
     step-answered next comes Gone answer = child-refuses Noent
     step-answered next comes (Refused errno) answer = child-refuses errno
 
@@ -294,7 +293,7 @@ module _ (base : ℕ) (t : TrussState) (r : Reply) (named : (place pid : ℕ) �
     less-goes : (next : AfterClosing) → t.stage ≡ Closing at next → (x : Traced) → Goes (with_traced t at x)
     less-goes next is x =
         subst (λ (st : Stage). Goes (record t { traced = (with_traced t at x).traced; stage = st })) (sym is)
-        (closing-goes base t r named (with_traced t at x) at next (λ stays. stays)
+        (closing-goes t r (with_traced t at x) at next (λ stays. stays)
         (λ place inside other. subst (KnownAt t r (Closing at next) place) (sym (set-other t at x place other)) (known-beside-at t r (Closing at next) (Closing at next) place is (omega (arith, set-length t at x)) (apart-eqb at place other) (λ read. read))))
 
     -- it held none any more
@@ -302,7 +301,7 @@ module _ (base : ℕ) (t : TrussState) (r : Reply) (named : (place pid : ℕ) �
     removed-known next is none = each-remove (Known t r) t.traced at within (λ place inside other. known-beside t r (Closing at next) place is inside (apart-eqb at place other) (none place))
 
     parent-left : (parent : ℕ) → t.stage ≡ Closing at (RunParent parent) → IsLast t.traced parent at → Goes (with_stage (without_traced t at) (Running parent))
-    parent-left parent is last stays = about-comes base t r named (with_stage (without_traced t at) (Running parent)) parent stays (record {
+    parent-left parent is last stays = about-comes t r (with_stage (without_traced t at) (Running parent)) parent stays (record {
       others = λ place inside other. left place inside;
       free = λ f. not-itself parent f.read;
       set = parent-set;
@@ -323,8 +322,8 @@ module _ (base : ℕ) (t : TrussState) (r : Reply) (named : (place pid : ℕ) �
 
     removed-goes : (next : AfterClosing) → t.stage ≡ Closing at next → ((parent : ℕ) → next ≡ RunParent parent → IsLast t.traced parent at) → Goes (after_closing (without_traced t at) next)
     unfolding after_closing
-    removed-goes OpenNext is last = next_opening-goes base t r named (without_traced t at) (λ stays. stays) refl (removed-known OpenNext is (λ place. refl))
-    removed-goes GoOn is last = going_on-goes base t r named (without_traced t at) (λ stays. stays) (removed-known GoOn is (λ place. refl))
+    removed-goes OpenNext is last = next_opening-goes t r (without_traced t at) (λ stays. stays) refl (removed-known OpenNext is (λ place. refl))
+    removed-goes GoOn is last = going_on-goes t r (without_traced t at) (λ stays. stays) (removed-known GoOn is (λ place. refl))
     removed-goes (RunParent parent) is last = parent-left parent is (last parent refl)
 
     closed-goes : (next : AfterClosing) → t.stage ≡ Closing at next → ((parent : ℕ) → next ≡ RunParent parent → IsLast t.traced parent at) → (x : Option Traced) → Goes (closed_or_removed t at next x)

@@ -1,7 +1,7 @@
 use Rattle.std.proofs.Common.{◌≡◌, ◌≢◌, ◌<◌, ◌≤◌, ◌-◌, nat_lt, not, ℕ, Bool, true, false, cond, Option, Some, None, List, [], length, refl, sym, subst, ap, ◌∙◌, arith, inr}
 use Rattle.std.proofs.lemmas.Bool.{cond_both, eq-eqb, false≢true, ltb-false, ne_eqb}
 use Rattle.std.proofs.lemmas.Option.{none-some}
-use Rattle.std.specs.List.{position, slice_get}
+use Rattle.std.specs.List.{position}
 use Rattle.std.specs.Option.{option_and_then}
 use Rattle.pr_line.specs.Events.{event_of}
 use Rattle.pr_line.specs.Selections.{is_selected}
@@ -33,9 +33,9 @@ use Rattle.pr_report_laws.specs.Watching.{is_away}
 -- What the replies to the calls of truss leave of the children of forks that it is to open: where it watches processes,
 -- reads stops, and begins to open a process.
 
-module _ (base : ℕ) (t : TrussState) (r : Reply) (named : (place pid : ℕ) → slice_get t.options.pids place ≡ Some pid → pid < base) where
+module _ (t : TrussState) (r : Reply) where
   abbrev Goes : TrussState → Type 0
-  Goes u = u.leaving ≡ false → Comes base t r u
+  Goes u = u.leaving ≡ false → Comes t r u
 
   -- a step that is about no process
   known-all : (stage : Stage) → t.stage ≡ stage → ((place : ℕ) → is_away false stage place ≡ false) → ((place : ℕ) → has_read stage place ≡ false) → Each (Known t r) t.traced
@@ -50,18 +50,18 @@ module _ (base : ℕ) (t : TrussState) (r : Reply) (named : (place pid : ℕ) �
     own-known : (at_place t.traced at).attached ≡ true → WasSet t r (at_place t.traced at).pid
     own-known on = let away = ap (λ (st : Stage). is_away false st at) is ∙ here at in was_set at (watched within on away) refl (done-here t r at away)
 
-    ready-here : Ready base t r named t at
+    ready-here : Ready t r t at
     ready-here = record { leaves = λ stays. stays; options = refl; others = others-known; set = own-known }
 
     -- a report more
-    ready-reported : (report : Report) → Ready base t r named (with_report t report) at
+    ready-reported : (report : Report) → Ready t r (with_report t report) at
     ready-reported report = record { leaves = λ stays. stays; options = refl; others = others-known; set = own-known }
 
     -- one old stop less
     abbrev less_old : Traced
     less_old = record (traced_at t at) { old = (traced_at t at).old - 1 }
 
-    ready-less : Ready base t r named (with_traced t at less_old) at
+    ready-less : Ready t r (with_traced t at less_old) at
     ready-less =
         let same : at_place (with_traced t at less_old).traced at ≡ less_old = set-at t.traced at less_old within in
         record {
@@ -73,12 +73,12 @@ module _ (base : ℕ) (t : TrussState) (r : Reply) (named : (place pid : ℕ) �
 
     shown-goes : (l : LwpStatus) → ((c : ℕ) → followed_child t.options l ≡ Some c → WasClaimed t r (at_place t.traced at).pid c) → (text : Option (List ℕ × Bool)) → Goes (with_event_over (with_event_shown t at l text) at l)
     unfolding with_event_shown
-    shown-goes l known text = event_over-goes base t r named (with_event_shown t at l text) at (ready-reported _) l known
+    shown-goes l known text = event_over-goes t r (with_event_shown t at l text) at (ready-reported _) l known
 
   -- ---- a process is run
 
   module _ (at : ℕ) (is : t.stage ≡ Running at) (within : at < length t.traced) where
-    run-ready : Ready base t r named t at
+    run-ready : Ready t r t at
     run-ready = ready-here at (Running at) is within (λ place. refl) (λ place other. ne_eqb at place (λ same. other (sym same)))
 
     run-known : Each (Known t r) t.traced
@@ -89,37 +89,37 @@ module _ (base : ℕ) (t : TrussState) (r : Reply) (named : (place pid : ℕ) �
 
     pub run-goes : (a : Answer) → Goes (with_run_answered t at a)
     unfolding with_run_answered
-    run-goes Accepted = going_on-goes base t r named t (λ stays. stays) run-known
-    run-goes (Refused errno) = going_on-goes base t r named t (λ stays. stays) run-known
-    run-goes Gone = over-goes base t r named t at run-ready GoOn
-    run-goes Interrupted = interrupt-goes base t r named _
+    run-goes Accepted = going_on-goes t r t (λ stays. stays) run-known
+    run-goes (Refused errno) = going_on-goes t r t (λ stays. stays) run-known
+    run-goes Gone = over-goes t r t at run-ready GoOn
+    run-goes Interrupted = interrupt-goes t r _
 
   -- ---- a status is read
 
   module _ (at : ℕ) (is : t.stage ≡ ReadingStatus at) (within : at < length t.traced) where
-    status-ready : Ready base t r named t at
+    status-ready : Ready t r t at
     status-ready = ready-here at (ReadingStatus at) is within (λ place. refl) (λ place other. refl)
 
     abbrev there : {X : Type 0} → ((stage : Stage) → t.stage ≡ stage → at < length t.traced → ((place : ℕ) → is_away false stage place ≡ false) → ((place : ℕ) → place ≢ at → has_read stage place ≡ false) → X) → X
     there f = f (ReadingStatus at) is within (λ place. refl) (λ place other. refl)
 
     stop-goes : Goes (with_stop_over t at)
-    stop-goes = stop_over-goes base t r named t at status-ready
+    stop-goes = stop_over-goes t r t at status-ready
 
     module _ (l : LwpStatus) (known : (at_place t.traced at).old ≡ 0 → (c : ℕ) → followed_child t.options l ≡ Some c → WasClaimed t r (at_place t.traced at).pid c) where
       old-goes : Goes (with_old_stop_over t at)
       unfolding with_old_stop_over
-      old-goes = stop_over-goes base t r named (with_traced t at _) at (there (ready-less at))
+      old-goes = stop_over-goes t r (with_traced t at _) at (there (ready-less at))
 
       text_or-goes : (at_place t.traced at).old ≡ 0 → (range : Option (ℕ × ℕ)) → Goes (with_text_or_shown t at l range)
       text_or-goes none None = there (shown-goes at) l (known none) None
-      text_or-goes none (Some range) = text-goes base t r named t at status-ready l (known none) range.0 range.1
+      text_or-goes none (Some range) = text-goes t r t at status-ready l (known none) range.0 range.1
 
       event-goes : (at_place t.traced at).old ≡ 0 → (e : Option Event) → Goes (with_event t at l e)
       event-goes none None = stop-goes
       event-goes none (Some e) =
           cond_both (is_selected t.options e) (with_text_or_shown t at l (asked_range t.options e)) (with_event_over t at l) Goes
-          (λ chosen. text_or-goes none (asked_range t.options e)) (λ chosen. event_over-goes base t r named t at status-ready l (known none))
+          (λ chosen. text_or-goes none (asked_range t.options e)) (λ chosen. event_over-goes t r t at status-ready l (known none))
 
       read-goes : Goes (with_stop t at l)
       unfolding with_stop
@@ -137,8 +137,8 @@ module _ (base : ℕ) (t : TrussState) (r : Reply) (named : (place pid : ℕ) �
     unfolding with_status_answered
     status-goes Accepted answer = told-goes answer (option_and_then status_lwp (bytes_in r)) refl
     status-goes (Refused errno) answer = stop-goes
-    status-goes Gone answer = over-goes base t r named t at status-ready GoOn
-    status-goes Interrupted answer = interrupt-goes base t r named t
+    status-goes Gone answer = over-goes t r t at status-ready GoOn
+    status-goes Interrupted answer = interrupt-goes t r t
 
   -- ---- the memory of an event is read
 
@@ -152,15 +152,15 @@ module _ (base : ℕ) (t : TrussState) (r : Reply) (named : (place pid : ℕ) �
     text-shown : (text : Option (List ℕ × Bool)) → Goes (with_event_over (with_event_shown t at l text) at l)
     text-shown text = shown-goes at reads_text is within (λ place. refl) (λ place other. ne_eqb at place (λ same. other (sym same))) l text-claimed text
 
-    text-ready : (report : Report) → Ready base t r named (with_report t report) at
+    text-ready : (report : Report) → Ready t r (with_report t report) at
     text-ready report = ready-reported at reads_text is within (λ place. refl) (λ place other. ne_eqb at place (λ same. other (sym same))) report
 
     after-text-goes : (text : Option (List ℕ × Bool)) (a : Answer) → Goes (after_text (with_event_shown t at l text) at l a)
     unfolding after_text with_event_shown
     after-text-goes text Accepted = text-shown text
     after-text-goes text (Refused errno) = text-shown text
-    after-text-goes text Gone = over-goes base t r named (with_event_shown t at l text) at (text-ready _) GoOn
-    after-text-goes text Interrupted = cond_both t.leaving (with_event_over (with_event_shown t at l text) at l) _ Goes (λ leaving. text-shown text) (λ stays. interrupt-goes base t r named _)
+    after-text-goes text Gone = over-goes t r (with_event_shown t at l text) at (text-ready _) GoOn
+    after-text-goes text Interrupted = cond_both t.leaving (with_event_over (with_event_shown t at l text) at l) _ Goes (λ leaving. text-shown text) (λ stays. interrupt-goes t r _)
 
     pub text-answered-goes : Goes (with_text_answered t at l len r)
     unfolding with_text_answered
@@ -174,24 +174,24 @@ module _ (base : ℕ) (t : TrussState) (r : Reply) (named : (place pid : ℕ) �
 
     same-goes : Goes t
     same-goes stays =
-        idle-comes base t r named t t stays poll-known
+        idle-comes t r t t stays poll-known
         (record {
           same = refl;
           claims = λ place. ap (λ (st : Stage). claim_of t.options st place) is;
           sets = λ place. ap (λ (st : Stage). sets st place) is;
-          names = subst (Names base t.traced) (sym is) tt;
+          names = subst (Names t.options t.traced) (sym is) tt;
         })
 
     polled-goes : (place : Option ℕ) → Goes (with_polled t place)
     polled-goes None stays = same-goes stays
-    polled-goes (Some at) stays = idle-comes base t r named t (with_stage t (ReadingStatus at)) stays poll-known (record { same = refl; claims = λ place. refl; sets = λ place. refl; names = tt })
+    polled-goes (Some at) stays = idle-comes t r t (with_stage t (ReadingStatus at)) stays poll-known (record { same = refl; claims = λ place. refl; sets = λ place. refl; names = tt })
 
     pub poll-goes : (a : Answer) → Goes (with_poll_answered t r a)
     unfolding with_poll_answered
     poll-goes Accepted = polled-goes (option_and_then (λ handle. position (has_control handle) t.traced) (ready_in r))
     poll-goes (Refused errno) = same-goes
     poll-goes Gone = same-goes
-    poll-goes Interrupted = interrupt-goes base t r named t
+    poll-goes Interrupted = interrupt-goes t r t
 
   -- ---- the process of a program, and the control file of a process
 
@@ -201,10 +201,10 @@ module _ (base : ℕ) (t : TrussState) (r : Reply) (named : (place pid : ℕ) �
 
     pub spawn-goes : (a : Answer) → Goes (with_start_answered t program r a)
     unfolding with_start_answered with_refused_start
-    spawn-goes Accepted stays = idle-comes base t r named t (with_stage t (OpeningControl (pid_in r))) stays spawn-known (record { same = refl; claims = λ place. refl; sets = λ place. refl; names = inr nobody })
-    spawn-goes Interrupted stays = interrupt-goes base t r named t stays
-    spawn-goes Gone stays = going_on-goes base t r named _ (λ leaves. leaves) spawn-known stays
-    spawn-goes (Refused errno) stays = going_on-goes base t r named _ (λ leaves. leaves) spawn-known stays
+    spawn-goes Accepted stays = idle-comes t r t (with_stage t (OpeningControl (pid_in r))) stays spawn-known (record { same = refl; claims = λ place. refl; sets = λ place. refl; names = inr nobody })
+    spawn-goes Interrupted stays = interrupt-goes t r t stays
+    spawn-goes Gone stays = going_on-goes t r _ (λ leaves. leaves) spawn-known stays
+    spawn-goes (Refused errno) stays = going_on-goes t r _ (λ leaves. leaves) spawn-known stays
 
   module _ (pid : ℕ) (is : t.stage ≡ OpeningControl pid) where
     control-known : Each (Known t r) t.traced
@@ -215,7 +215,7 @@ module _ (base : ℕ) (t : TrussState) (r : Reply) (named : (place pid : ℕ) �
     opens-goes control stays =
         let new = newly_traced pid control in
         let q = length t.traced in
-        about-comes base t r named (with_stage (with_opened t new) (Opening q opening.OpenStatus)) q stays (record {
+        about-comes t r (with_stage (with_opened t new) (Opening q opening.OpenStatus)) q stays (record {
           others = λ place within other. known-at t r (Opening q opening.OpenStatus) place _ (but-append (Known t r) t.traced new control-known place within other);
           free = λ f. not-itself q f.here;
           set = own-set q;
@@ -232,6 +232,6 @@ module _ (base : ℕ) (t : TrussState) (r : Reply) (named : (place pid : ℕ) �
     pub control-goes : (a : Answer) → Goes (with_control_answered t pid r a)
     unfolding with_control_answered with_refused_control
     control-goes Accepted = opens-goes (handle_in r)
-    control-goes Interrupted = interrupt-goes base t r named t
-    control-goes Gone = next_opening-goes base t r named _ (λ leaves. leaves) refl control-known
-    control-goes (Refused errno) = next_opening-goes base t r named _ (λ leaves. leaves) refl control-known
+    control-goes Interrupted = interrupt-goes t r t
+    control-goes Gone = next_opening-goes t r _ (λ leaves. leaves) refl control-known
+    control-goes (Refused errno) = next_opening-goes t r _ (λ leaves. leaves) refl control-known

@@ -56,10 +56,10 @@ known-beside t r stage place is within here read =
       set = λ on. was_set place (watched within on away) refl (done-here t r place away);
     }
 
-module _ (base : ℕ) (t : TrussState) (r : Reply) (named : (place pid : ℕ) → slice_get t.options.pids place ≡ Some pid → pid < base) where
+module _ (t : TrussState) (r : Reply) where
   -- what is asked of a state that comes next, if truss does not leave its processes
   abbrev pub Goes : TrussState → Type 0
-  Goes u = u.leaving ≡ false → Comes base t r u
+  Goes u = u.leaving ≡ false → Comes t r u
 
   -- ---- nothing is to be done for a process
 
@@ -67,9 +67,9 @@ module _ (base : ℕ) (t : TrussState) (r : Reply) (named : (place pid : ℕ) �
     pub same : u.traced ≡ w.traced
     pub claims : (place : ℕ) → claim_of t.options u.stage place ≡ None
     pub sets : (place : ℕ) → sets u.stage place ≡ false
-    pub names : Names base u.traced u.stage
+    pub names : Names t.options u.traced u.stage
 
-  pub idle-comes : (w u : TrussState) → t.leaving ≡ false → Each (Known t r) w.traced → IsIdle w u → Comes base t r u
+  pub idle-comes : (w u : TrussState) → t.leaving ≡ false → Each (Known t r) w.traced → IsIdle w u → Comes t r u
   idle-comes w u stays known idle = record {
     stays = stays;
     free = λ place f. let k : Known t r (at_place u.traced place) = same place f.within in k.free f.attached f.none;
@@ -113,7 +113,7 @@ module _ (base : ℕ) (t : TrussState) (r : Reply) (named : (place pid : ℕ) �
       by None is stays = going_on-goes w leaves known stays
       by (Some pid) is stays =
           idle-comes w (opening_or w (with_going_on w) (Some pid)) (leaves stays) known
-          (record { same = refl; claims = λ place. refl; sets = λ place. refl; names = inl (named w.begun pid (ap (λ x. slice_get x.pids w.begun) (sym same) ∙ is)) })
+          (record { same = refl; claims = λ place. refl; sets = λ place. refl; names = inl (w.begun, ap (λ x. slice_get x.pids w.begun) (sym same) ∙ is) })
 
   pub interrupt-goes : (w : TrussState) → Goes (with_interrupt w)
   unfolding with_interrupt with_next_left
@@ -128,9 +128,9 @@ module _ (base : ℕ) (t : TrussState) (r : Reply) (named : (place pid : ℕ) �
     pub sets : (place : ℕ) → place ≢ q → sets u.stage place ≡ false
     pub none : (place : ℕ) → place ≢ q → claim_of t.options u.stage place ≡ None
     pub claims : (c : ℕ) → claim_of t.options u.stage q ≡ Some c → WasClaimed t r (at_place u.traced q).pid c
-    pub names : Names base u.traced u.stage
+    pub names : Names t.options u.traced u.stage
 
-  pub about-comes : (u : TrussState) (q : ℕ) → t.leaving ≡ false → IsAbout u q → Comes base t r u
+  pub about-comes : (u : TrussState) (q : ℕ) → t.leaving ≡ false → IsAbout u q → Comes t r u
   about-comes u q stays a = record { stays = stays; free = free; claims = claims; set = set; names = a.names }
     where
       free : (place : ℕ) → IsFree u.traced u.stage place → WasFree t r (at_place u.traced place).pid

@@ -1,4 +1,5 @@
-use Rattle.std.proofs.Common.{◌≡◌, ◌==◌, ◌<◌, ◌≤◌, ◌⊎◌, ℕ, Bool, true, false, cond, Option, Some, None, List, [], length}
+use Rattle.std.proofs.Common.{◌≡◌, ◌==◌, ◌<◌, ◌⊎◌, ℕ, Bool, true, false, cond, Option, Some, None, List, [], length}
+use Rattle.std.specs.List.{slice_get}
 use Rattle.std.specs.Option.{option_and_then}
 use Rattle.pr_line.specs.declared.options.Options.{Options}
 use Rattle.pr_model.specs.Replies.{bytes_in}
@@ -60,11 +61,11 @@ runs (Opening at opening.Start) place = at == place
 runs (OpeningChild parent at child.Start) place = at == place
 runs _ place = false
 
--- A process that truss opens by its id was made before a number of processes was; or truss traces none yet.
-abbrev pub Names : ℕ → List Traced → Stage → Type 0
-Names base ts (Spawning program) = ts ≡ []
-Names base ts (OpeningControl pid) = (pid < base) ⊎ (ts ≡ [])
-Names base ts _ = Unit {0}
+-- A process that truss opens by its id is one that its options name; or truss traces none yet.
+abbrev pub Names : Options → List Traced → Stage → Type 0
+Names o ts (Spawning program) = ts ≡ []
+Names o ts (OpeningControl pid) = ((place : ℕ) × (slice_get o.pids place ≡ Some pid)) ⊎ (ts ≡ [])
+Names o ts _ = Unit {0}
 
 -- ---- the children
 
@@ -73,13 +74,12 @@ pub data Claims (o : Options) (ts : List Traced) (stage : Stage) (s : TracedSyst
   reads : (place : ℕ) → place < length ts → (at_place ts place).pid ≡ pid → claim_of o stage place ≡ Some c → Claims o ts stage s pid c
   stands : (place : ℕ) → IsFree ts stage place → (at_place ts place).pid ≡ pid → o.follow ≡ true → (p : TracedProcess) → live_process s pid ≡ Some p → HasForked p c → Claims o ts stage s pid c
 
--- Each of them stands at its birth, if it lives. No two processes made the same child.
-pub record Follows (k base : ℕ) (o : Options) (t : TrussState) (s : TracedState) (h : List Entry) : Type 0 where
+-- Each of them stands at its birth, if it lives; or truss never opens it. No two processes made the same child.
+pub record Follows (k : ℕ) (o : Options) (t : TrussState) (s : TracedState) (h : List Entry) : Type 0 where
   pub flags : o.follow ≡ true → (place : ℕ) → IsSet t.traced t.stage place → (p : TracedProcess) → live_process s.system (at_place t.traced place).pid ≡ Some p → has_flags p.control.modes fork_mode ≡ true
-  pub born : (pid c : ℕ) → Claims o t.traced t.stage s.system pid c → IsNewBorn k base o s h c
+  pub born : (pid c : ℕ) → Claims o t.traced t.stage s.system pid c → IsNewBorn k o s h c
   pub one : (pid other c : ℕ) → Claims o t.traced t.stage s.system pid c → Claims o t.traced t.stage s.system other c → pid ≡ other
-  pub names : Names base t.traced t.stage
-  pub late : base ≤ s.system.made
+  pub names : Names o t.traced t.stage
 
 -- ---- what a reply leaves of that
 
@@ -111,11 +111,11 @@ pub data WasSet (t : TrussState) (r : Reply) (pid : ℕ) : Type 0 where
   was_set : (place : ℕ) → IsSet t.traced t.stage place → (at_place t.traced place).pid ≡ pid → IsDone t r place → WasSet t r pid
   set_now : (place : ℕ) → place < length t.traced → (at_place t.traced place).pid ≡ pid → t.stage ≡ Opening place opening.Follow → answer_of r ≡ Accepted → WasSet t r pid
   not_followed : t.options.follow ≡ false → WasSet t r pid
-  is_child : (parent : ℕ) → t.stage ≡ OpeningChildControl parent pid → WasSet t r pid
+  is_child : (parent : ℕ) → t.stage ≡ OpeningChildControl parent pid → answer_of r ≡ Accepted → WasSet t r pid
 
-pub record Comes (base : ℕ) (t : TrussState) (r : Reply) (u : TrussState) : Type 0 where
+pub record Comes (t : TrussState) (r : Reply) (u : TrussState) : Type 0 where
   pub stays : t.leaving ≡ false
   pub free : (place : ℕ) → IsFree u.traced u.stage place → WasFree t r (at_place u.traced place).pid
   pub claims : (place c : ℕ) → place < length u.traced → claim_of t.options u.stage place ≡ Some c → WasClaimed t r (at_place u.traced place).pid c
   pub set : (place : ℕ) → IsSet u.traced u.stage place → WasSet t r (at_place u.traced place).pid
-  pub names : Names base u.traced u.stage
+  pub names : Names t.options u.traced u.stage

@@ -32,16 +32,16 @@ use Rattle.pr_model.specs.declared.lwps.Phase.{Phase}
 use Rattle.pr_model.specs.declared.lwps.Phase.TheVariants as phase
 use Rattle.pr_truss_laws.specs.Told.{told}
 use Rattle.std.specs.Prelude.{nat_le}
-use Rattle.pr_report_laws.specs.Births.{child_made, is_fork}
+use Rattle.pr_report_laws.specs.Births.{child_made, is_fork_call}
 
 -- The turn that makes a child by fork.
 
 -- ---- what a turn did, by the event that is told of it
 
-fork-by : (c d : Sysno) (v w : ℕ) → is_fork c ≡ true → d ≡ c → w ≡ v → cond (is_fork d) (Some w) None ≡ Some v
+fork-by : (c d : Sysno) (v w : ℕ) → is_fork_call c ≡ true → d ≡ c → w ≡ v → cond (is_fork_call d) (Some w) None ≡ Some v
 fork-by c d v w fork same value = rw (same, fork) (ap (λ n. Some n) value)
 
-made-left : (c : Sysno) (v w : ℕ) (args own : List ℕ) → Some (Left c own (Ok w)) ≡ Some (Left call.Fork args (Ok v)) → cond (is_fork c) (Some w) None ≡ Some v
+made-left : (c : Sysno) (v w : ℕ) (args own : List ℕ) → Some (Left c own (Ok w)) ≡ Some (Left call.Fork args (Ok v)) → cond (is_fork_call c) (Some w) None ≡ Some v
 made-left c v w args own is =
     let same : c ≡ call.Fork = cc in
     let value : w ≡ v = cc in
@@ -90,7 +90,7 @@ module _ (s : TracedSystem) (pid : ℕ) (p : TracedProcess) (id : ℕ) (l : Trac
   ended-none true c = refl
   ended-none false c = refl
 
-  other-none : (woken : Bool) (c : Sysno) (r : Res) → is_fork c ≡ false → child_made (finished woken c r) ≡ None
+  other-none : (woken : Bool) (c : Sysno) (r : Res) → is_fork_call c ≡ false → child_made (finished woken c r) ≡ None
   other-none true c (Value v) other = rw other refl
   other-none false c (Value v) other = rw other refl
   other-none woken c (Error e) other = failed-none woken c e
@@ -100,7 +100,7 @@ module _ (s : TracedSystem) (pid : ℕ) (p : TracedProcess) (id : ℕ) (l : Trac
   unfolding interrupted_row
   interrupted-makes woken c args = none-makes (interrupted_row woken c args) (failed-none woken c Intr)
 
-  performed-none : (woken : Bool) (c : Sysno) (args : List ℕ) (since : ℕ) (effect : Effect) → is_fork c ≡ false → MakesChild (performed_row woken c args since effect)
+  performed-none : (woken : Bool) (c : Sysno) (args : List ℕ) (since : ℕ) (effect : Effect) → is_fork_call c ≡ false → MakesChild (performed_row woken c args since effect)
   unfolding performed_row
   performed-none woken c args since (does r changes) other = none-makes (performed_row woken c args since (does r changes)) (other-none woken c r other)
   performed-none woken c args since sleeps other = none-makes (performed_row woken c args since sleeps) refl

@@ -1,4 +1,4 @@
-use Rattle.std.proofs.Common.{◌≡◌, ◌≢◌, ◌==◌, ◌<◌, ◌≤◌, ◌+◌, ℕ, true, false, cond, None, Some, Option, List, [], ◌∷◌, Ok, refl, sym, subst, ap, ◌∙◌, arith, inl, inr}
+use Rattle.std.proofs.Common.{◌≡◌, ◌≢◌, ◌==◌, ◌<◌, ◌+◌, ℕ, true, false, cond, None, Some, Option, List, [], ◌∷◌, Ok, refl, sym, subst, ap, ◌∙◌, arith, inl, inr}
 use Rattle.std.proofs.lemmas.Bool.{cases_Bool, cases_eq, eq-eqb, false≢true, ne_eqb, or_right}
 use Rattle.std.proofs.lemmas.Option.{none-some, same_Some}
 use Rattle.std.specs.Option.{option_and_then}
@@ -50,12 +50,16 @@ use Rattle.pr_report_laws.proofs.OwnTurnLaws.{AfterTurn, quiet-turn, state-after
 use Rattle.pr_report_laws.proofs.StayingLwps.{live-by}
 use Rattle.pr_report_laws.proofs.StoppedLaws.{count-cons}
 use Rattle.pr_report_laws.proofs.TracedPoints.{call_number-range, fit-row}
-use Rattle.pr_report_laws.specs.Births.{LeavesForks, child_made}
+use Rattle.pr_report_laws.specs.Births.{LeavesForks, NamesNoChild, child_made}
 use Rattle.pr_report_laws.specs.Fits.{IsFitSystem}
 use Rattle.pr_report_laws.specs.Shown.{LwpEvent}
 use Rattle.pr_report_laws.proofs.Positions.{HasEvent, IsTracedBy, has_met, is_met_if}
 
 -- A process that truss traces makes a child by fork: the child stands at its birth.
+
+-- what a history leaves to one controller of the children that fork makes in it
+abbrev pub LeavesChildren : ℕ → Options → List Entry → Type 0
+LeavesChildren k o h = LeavesForks k o h × NamesNoChild o h
 
 -- an lwp of a process stands at the exit of the fork that made this child
 pub record HasForked (p : TracedProcess) (c : ℕ) : Type 0 where
@@ -263,18 +267,21 @@ module _ (o : Options) (s : TracedState) (pid id : ℕ) (p : TracedProcess) (t :
         let x : TracedProcess = forked traced pid p w.0 f.0 s.system.clock in
         subst (IsNew o) (same_Some x r (sym (live-by t.system c x f.1 refl) ∙ now)) (child-new o pid p w.0 f.0 s.system.clock by flag follow)
 
-    -- A child that is made so is new, where the rest of the history leaves it to one controller.
-    pub forked-born : (k base : ℕ) (h : List Entry) → base ≤ s.system.made → IsLawfulSystem t.system → LeavesForks k (record { actor = Lwp pid id; act = Turn t.turned } ∷ h) → IsNewBorn k base o (record s { system = t.system }) h c
-    forked-born k base h late after leaves =
+    -- A child that is made so is new, where the history leaves it to one controller.
+    pub forked-born : (k : ℕ) (h : List Entry) → IsLawfulSystem t.system → LeavesChildren k o (record { actor = Lwp pid id; act = Turn t.turned } ∷ h) → IsNewBorn k o (record s { system = t.system }) h c
+    forked-born k h after leaves =
         let w = taken in
         let f = found w.0 w.1.0 w.1.1 in
         record {
-          late = subst (λ n. base ≤ n) (sym forked-next) late;
+          unnamed = λ place. leaves.1.none follow [] h pid id place c t.turned refl forked-did;
           made = was-made c t.system (forked traced pid p w.0 f.0 s.system.clock) after f.1;
-          alone = ap (λ n. has_writer n s.opens) forked-next ∙ new-unopened s lawful;
-          born = born-new;
-          left = record {
-            each = λ before behind other lwp handle file mode rest writes.
-                leaves.each [] before behind pid id t.turned other c lwp handle file mode (ap (λ (es : List Entry). record { actor = Lwp pid id; act = Turn t.turned } ∷ es) rest) forked-did writes;
-          };
+          now = inl (record {
+            alone = ap (λ n. has_writer n s.opens) forked-next ∙ new-unopened s lawful;
+            born = born-new;
+            left = record {
+              each = λ before between behind other lwp handle own_lwp own_handle opened_file own_file mode own_mode rest.
+                  leaves.0.each follow [] before between behind pid id t.turned other c lwp handle own_lwp own_handle opened_file own_file mode own_mode
+                  (ap (λ (es : List Entry). record { actor = Lwp pid id; act = Turn t.turned } ∷ es) rest) forked-did;
+            };
+          });
         }

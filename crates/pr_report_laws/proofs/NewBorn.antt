@@ -1,4 +1,4 @@
-use Rattle.std.proofs.Common.{◌≡◌, ◌≢◌, ◌==◌, ◌&&◌, ◌||◌, ◌<◌, ◌≤◌, ℕ, true, false, None, Some, Option, List, [], ◌∷◌, ◌++◌, refl, sym, subst, ap, ◌∙◌, inl, inr}
+use Rattle.std.proofs.Common.{◌≡◌, ◌≢◌, ◌==◌, ◌&&◌, ◌||◌, ◌<◌, ◌⊎◌, ℕ, true, false, None, Some, Option, List, [], ◌∷◌, ◌++◌, refl, sym, subst, ap, ◌∙◌, inl, inr}
 use Rattle.std.proofs.lemmas.Bool.{and_parts, cases_Bool, eq-eqb, eqb-true, false≢true, or_parts}
 use Rattle.std.proofs.lemmas.Option.{none-some, same_Some}
 use Rattle.std.specs.List.{list_any, slice_get, slice_set}
@@ -36,26 +36,48 @@ use Rattle.pr_report_laws.proofs.Positions.{IsAtBirth}
 
 -- ---- what is said of it
 
--- the rest of a history leaves a process to one controller
+-- In the rest of a history no other controller opens a process for writing, before one controller does.
 pub record IsLeftTo (k c : ℕ) (h : List Entry) : Type 0 where
-  pub each : (before later : List Entry) (by lwp handle : ℕ) (file : File) (mode : Mode) → h ≡ before ++ granted by c lwp file mode handle ∷ later → is_writable mode ≡ true → by ≡ k
+  pub each : (before between later : List Entry) (by lwp handle own_lwp own_handle : ℕ) (file own_file : File) (mode own_mode : Mode)
+      → h ≡ before ++ granted by c lwp file mode handle ∷ (between ++ granted k c own_lwp own_file own_mode own_handle ∷ later) → is_writable mode ≡ true → is_writable own_mode ≡ true → by ≡ k
 
-pub left-later : (k c : ℕ) (e : Entry) (h : List Entry) → IsLeftTo k c (e ∷ h) → IsLeftTo k c h
-left-later k c e h left = record { each = λ before later by lwp handle file mode is writes. left.each (e ∷ before) later by lwp handle file mode (ap (λ (es : List Entry). e ∷ es) is) writes }
+left-later : (k c : ℕ) (e : Entry) (h : List Entry) → IsLeftTo k c (e ∷ h) → IsLeftTo k c h
+left-later k c e h left = record {
+  each = λ before between later by lwp handle own_lwp own_handle file own_file mode own_mode is.
+      left.each (e ∷ before) between later by lwp handle own_lwp own_handle file own_file mode own_mode (ap (λ (es : List Entry). e ∷ es) is);
+}
+
+-- a controller never opens a process for writing in the rest of a history
+pub record IsNeverGranted (k c : ℕ) (h : List Entry) : Type 0 where
+  pub none : (before later : List Entry) (lwp handle : ℕ) (file : File) (mode : Mode) → h ≡ before ++ granted k c lwp file mode handle ∷ later → is_writable mode ≡ true → ⊥
+
+never-later : (k c : ℕ) (e : Entry) (h : List Entry) → IsNeverGranted k c (e ∷ h) → IsNeverGranted k c h
+never-later k c e h never = record { none = λ before later lwp handle file mode is. never.none (e ∷ before) later lwp handle file mode (ap (λ (es : List Entry). e ∷ es) is) }
 
 -- it stands at its birth, and its own children are to be followed too
 pub record IsNew (o : Options) (p : TracedProcess) : Type 0 where
   pub birth : IsAtBirth o p
   pub follows : has_flags p.control.modes fork_mode ≡ true
 
--- A process that was made when so many others were there: while it lives it stands at its birth, nobody has it open for
--- writing, and the rest of the history leaves it to one controller.
-pub record IsNewBorn (k base : ℕ) (o : Options) (s : TracedState) (h : List Entry) (c : ℕ) : Type 0 where
-  pub late : base ≤ c
-  pub made : c < s.system.made
+-- While the process lives it stands at its birth, nobody has it open for writing, and the rest of the history leaves it
+-- to one controller.
+pub record IsUntouched (k : ℕ) (o : Options) (s : TracedState) (h : List Entry) (c : ℕ) : Type 0 where
   pub alone : has_writer c s.opens ≡ false
   pub born : (p : TracedProcess) → live_process s.system c ≡ Some p → IsNew o p
   pub left : IsLeftTo k c h
+
+-- A process that the options do not name: it stands at its birth, or the controller never opens it.
+pub record IsNewBorn (k : ℕ) (o : Options) (s : TracedState) (h : List Entry) (c : ℕ) : Type 0 where
+  pub unnamed : (place : ℕ) → slice_get o.pids place ≡ Some c → ⊥
+  pub made : c < s.system.made
+  pub now : IsUntouched k o s h c ⊎ IsNeverGranted k c h
+
+-- where the controller opens it now, it stands at its birth
+pub untouched-now : (k : ℕ) (o : Options) (s : TracedState) (h : List Entry) (c lwp handle : ℕ) (file : File) (mode : Mode) (e : Entry) → e ≡ granted k c lwp file mode handle → is_writable mode ≡ true → IsNewBorn k o s (e ∷ h) c → IsUntouched k o s (e ∷ h) c
+untouched-now k o s h c lwp handle file mode e is writes new = elim new.now [
+  | inl untouched ↦ untouched
+  | inr never ↦ absurd (never.none [] h lwp handle file mode (ap (λ x. x ∷ h) is) writes)
+]
 
 -- ---- nobody has it open for writing
 
@@ -112,7 +134,7 @@ module _ (c : ℕ) where
 
 -- ---- an entry of a history
 
-module _ (n k base : ℕ) (o : Options) (s : TracedState) (h : List Entry) (c : ℕ) where
+module _ (n k : ℕ) (o : Options) (s : TracedState) (h : List Entry) (c : ℕ) where
   -- a frozen process has no turn
   new-still : (id : ℕ) (it : Act) (p : TracedProcess) → live_process s.system c ≡ Some p → IsNew o p → IsLegalEntry n s (record { actor = Lwp c id; act = it }) → ⊥
   unfolding IsLegalEntry
@@ -134,7 +156,7 @@ module _ (n k base : ℕ) (o : Options) (s : TracedState) (h : List Entry) (c : 
   entry-alone Clock (act.Tick moment) legal none other = none
   entry-alone _ _ legal none other = absurd legal
 
-  module _ (e : Entry) (lawful : IsLawful s) (legal : IsLegalEntry n s e) (new : IsNewBorn k base o s (e ∷ h) c) where
+  module _ (e : Entry) (lawful : IsLawful s) (legal : IsLegalEntry n s e) (made : c < s.system.made) (new : IsUntouched k o s (e ∷ h) c) where
     -- it is still new, if it lives
     pub new-on : (q : TracedProcess) → live_process (after s e).system c ≡ Some q → IsNew o q
     new-on q later = by (live_process s.system c) refl
@@ -146,17 +168,29 @@ module _ (n k base : ℕ) (o : Options) (s : TracedState) (h : List Entry) (c : 
         left p was (killed z none at status) = absurd (none-some q (sym none ∙ later))
 
         by : (x : Option TracedProcess) → live_process s.system c ≡ x → IsNew o q
-        by None is = absurd (none-some q (sym (stays-over n s e c lawful legal new.made is) ∙ later))
+        by None is = absurd (none-some q (sym (stays-over n s e c lawful legal made is) ∙ later))
         by (Some p) is = let was = new.born p is in left p was (alone-outlasts c s lawful p is new.alone n e.actor e.act legal (own-actor e.actor e.act p is was legal))
 
-    -- An entry leaves it so, but for an open of that controller.
-    pub new-born-on : ((lwp handle : ℕ) (file : File) (mode : Mode) → e ≡ granted k c lwp file mode handle → is_writable mode ≡ true → ⊥) → IsNewBorn k base o (after s e) h c
-    new-born-on not_own = record {
-      late = new.late;
-      made = stays-made n s e c lawful legal new.made;
-      alone = entry-alone e.actor e.act legal new.alone (λ by lwp handle file mode is writes.
-          let mine : by ≡ k = new.left.each [] h by lwp handle file mode (ap (λ x. x ∷ h) is) writes in
-          not_own lwp handle file mode (is ∙ ap (λ b. granted b c lwp file mode handle) mine) writes);
-      born = new-on;
-      left = left-later k c e h new.left;
-    }
+    -- An entry leaves it so, or another controller opens it, and that controller never does.
+    untouched-on : ((lwp handle : ℕ) (file : File) (mode : Mode) → e ≡ granted k c lwp file mode handle → is_writable mode ≡ true → ⊥) → IsUntouched k o (after s e) h c ⊎ IsNeverGranted k c h
+    untouched-on not_own = elim (cases_Bool (has_writer c (after s e).opens)) [
+      | inr none ↦ inl (record { alone = none; born = new-on; left = left-later k c e h new.left })
+      | inl taken ↦ inr (record {
+        none = λ between later own_lwp own_handle own_file own_mode rest own_writes.
+            false≢true
+            (sym (entry-alone e.actor e.act legal new.alone (λ by lwp handle file mode is writes.
+            let mine : by ≡ k = new.left.each [] between later by lwp handle own_lwp own_handle file own_file mode own_mode (ap (λ x. x ∷ h) is ∙ ap (λ (es : List Entry). granted by c lwp file mode handle ∷ es) rest) writes own_writes in
+            not_own lwp handle file mode (is ∙ ap (λ b. granted b c lwp file mode handle) mine) writes)) ∙ taken);
+      })
+    ]
+
+  -- An entry leaves a process so, but for an open of that controller.
+  pub new-born-on : (e : Entry) → IsLawful s → IsLegalEntry n s e → IsNewBorn k o s (e ∷ h) c → ((lwp handle : ℕ) (file : File) (mode : Mode) → e ≡ granted k c lwp file mode handle → is_writable mode ≡ true → ⊥) → IsNewBorn k o (after s e) h c
+  new-born-on e lawful legal new not_own = record {
+    unnamed = new.unnamed;
+    made = stays-made n s e c lawful legal new.made;
+    now = elim new.now [
+      | inl untouched ↦ untouched-on e lawful legal new.made untouched not_own
+      | inr never ↦ inr (never-later k c e h never)
+    ];
+  }

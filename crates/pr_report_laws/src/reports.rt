@@ -6,7 +6,7 @@ ghost use Rattle.pr_model.specs.State.{TracedState};
 ghost use Rattle.pr_model.specs.declared.events.Entry.{Entry};
 ghost use Rattle.pr_range_laws.specs.ByteHistories.{HasBytes};
 ghost use Rattle.pr_range_laws.specs.InRange.{IsInRange};
-ghost use Rattle.pr_report_laws.specs.Births.{LeavesForks, NamesMade};
+ghost use Rattle.pr_report_laws.specs.Births.{LeavesForks, NamesNoChild};
 ghost use Rattle.pr_report_laws.specs.Fits.{IsFitSystem};
 ghost use Rattle.pr_report_laws.specs.Reported.{IsReported};
 ghost use Rattle.pr_truss.specs.Trusses.{first_truss};
@@ -15,12 +15,14 @@ ghost use Rattle.pr_truss_laws.specs.Handles.{HasNothingOpen};
 
 /// Of each process truss has shown exactly the selected events that came while truss watched it, once and in order. The
 /// last one of them may be missing: where truss still watches the process, or where SIGKILL ended the process while truss
-/// watched it. Nothing is said here of the bytes of memory that stand in a line. The history is legal, from a state in which truss has nothing open and of which the
-/// processes are that its options name, and truss makes its calls in it. No other controller is granted a handle for
-/// writing of a child that fork made in it; what else other controllers do does not matter.
+/// watched it. Nothing is said here of the bytes of memory that stand in a line.
+///
+/// The history is legal, from a state in which truss has nothing open, and truss makes its calls in it. Where children are
+/// followed, fork makes none of the processes that the options name, and between a fork and the opening of its child no
+/// other controller is granted a handle for writing of the child. What else other controllers do does not matter.
 #[tactic(auto, using(crate::proofs::Births::reports))]
 pub fn truss_shows_the_selected_events()
     ensures { (n k : ℕ) (o : Options) (pid : ℕ) (s : TracedState) (h : List Entry) → IsLawful s → IsFitSystem s.system
         → HasNothingOpen k s → IsLegal n s h → Makes (first_truss o) (exchanges k h) → IsInRange s.system → HasBytes h
-        → NamesMade o s → LeavesForks k h → IsReported k o pid s h }
+        → NamesNoChild o h → LeavesForks k o h → IsReported k o pid s h }
 {}
