@@ -5,7 +5,7 @@ use Rattle.pr_model.specs.State.{TracedState}
 use Rattle.pr_model.specs.declared.events.Entry.{Entry}
 use Rattle.pr_truss.specs.NextCalls.{next_call_of}
 use Rattle.pr_truss.specs.Trusses.{first_truss}
-use Rattle.pr_report_laws.specs.Births.{LeavesForks, NamesMade}
+use Rattle.pr_report_laws.specs.Births.{LeavesForks, NamesNoChild}
 use Rattle.pr_report_laws.specs.Reported.{IsReported}
 use Rattle.pr_report_laws.specs.Watching.{watches}
 use Rattle.pr_truss_laws.specs.Exchanges.{Makes, exchanges, truss_at}
@@ -24,10 +24,11 @@ pub record HasDone (k : ℕ) (o : Options) (first : TracedState) (h : List Entry
   pub watches_none : (pid : ℕ) → watches (truss_at k o h) pid ≡ false
 
 -- The controller of a number is a truss with these options, whose calls are those that it makes after the replies that
--- it got. Of each process it has shown what was selected of its events while it watched the process, where what its
--- options name was there at first, and no other controller is granted a handle for writing of a child of a fork.
+-- it got. Of each process it has shown what was selected of its events while it watched the process. Where it follows
+-- children, fork makes none of the processes that its options name, and between a fork and the opening of its child no
+-- other controller is granted a handle for writing of the child.
 pub record IsTrussKept (controllers : List Core) (first : TracedState) (h : List Entry) (k : ℕ) (o : Options) : Type 0 where
   pub makes : Makes (first_truss o) (exchanges k h)
   pub truss : slice_get (controllers_at controllers h) k ≡ Some (Truss (truss_at k o h))
-  pub shows : (pid : ℕ) → NamesMade o first → LeavesForks k h → IsReported k o pid first h
+  pub shows : (pid : ℕ) → NamesNoChild o h → LeavesForks k o h → IsReported k o pid first h
   pub done : next_call_of (truss_at k o h) ≡ None → HasDone k o first h
