@@ -150,7 +150,7 @@ unfolding opening_calls
 opening-begins o pid xs is = with-begins o pid (handle_in (reply_at xs 0)) (handle_in (reply_at xs 2)) (until_in (reply_at xs 6)) xs is
 
 -- a call that is not the next one
-next-call : (t u : TrussState) (c : Call) → u ≡ t → next_call_of u ≡ Some c → next_call_of t ≡ Some c
+pub next-call : (t u : TrussState) (c : Call) → u ≡ t → next_call_of u ≡ Some c → next_call_of t ≡ Some c
 next-call t u c same is = subst (λ (v : TrussState). next_call_of v ≡ Some c) same is
 
 born-messages : (t : TrussState) (parent pid control of : ℕ) → next_call_of (with_child_control t parent pid control) ≡ Some (open_file of file.Status) → ⊥
@@ -186,18 +186,18 @@ module _ (o : Options) (pid : ℕ) (t : TrussState) (same : t.options ≡ o) whe
 
 -- ---- the child of a fork
 
-record BeginsChild (pid control : ℕ) (xs : List Exchange) : Type 0 where
-  one : Exchange
-  two : Exchange
-  three : Exchange
-  more : List Exchange
-  is : xs ≡ one ∷ two ∷ three ∷ more
-  opens : one.call ≡ open_control pid
-  sets : two.call ≡ message_call control (message.Set rlc_mode)
-  status : three.call ≡ open_file pid file.Status
-  left : suc (length (two ∷ three ∷ more)) ≡ 5
+pub record BeginsChild (pid control : ℕ) (xs : List Exchange) : Type 0 where
+  pub one : Exchange
+  pub two : Exchange
+  pub three : Exchange
+  pub more : List Exchange
+  pub is : xs ≡ one ∷ two ∷ three ∷ more
+  pub opens : one.call ≡ open_control pid
+  pub sets : two.call ≡ message_call control (message.Set rlc_mode)
+  pub status : three.call ≡ open_file pid file.Status
+  pub left : suc (length (two ∷ three ∷ more)) ≡ 5
 
-child-begins : (pid control : ℕ) (last : Exchange) (xs : List Exchange) → calls_in (xs ++ last ∷ []) ≡ child_calls pid control → BeginsChild pid control xs
+pub child-begins : (pid control : ℕ) (last : Exchange) (xs : List Exchange) → calls_in (xs ++ last ∷ []) ≡ child_calls pid control → BeginsChild pid control xs
 child-begins pid control last [] is = cc
 child-begins pid control last (x ∷ []) is = cc
 child-begins pid control last (x ∷ y ∷ []) is = cc
@@ -213,15 +213,15 @@ child-begins pid control last (x ∷ y ∷ z ∷ zs) is = record {
   left = omega (arith, ap (λ (cs : List Call). length cs) is, length-map (zs ++ last ∷ []) (λ (e : Exchange). e.call), length-append zs (last ∷ []));
 }
 
-given-opens : (t : TrussState) (pid control handle : ℕ) → next_call_of (with_control t pid control) ≡ Some (message_call handle (message.Set rlc_mode)) → ⊥
+pub given-opens : (t : TrussState) (pid control handle : ℕ) → next_call_of (with_control t pid control) ≡ Some (message_call handle (message.Set rlc_mode)) → ⊥
 unfolding next_call_of call_of opening_call with_control
 given-opens t pid control handle is = cc
 
-freed-fed-again : (t : TrussState) (pid control : ℕ) (x : Exchange) → fed (with_stage t (FreeingChild pid (freeing.SetRelease control))) x.reply ≡ with_stage t (FreeingChild pid (freeing.Close control))
+pub freed-fed-again : (t : TrussState) (pid control : ℕ) (x : Exchange) → fed (with_stage t (FreeingChild pid (freeing.SetRelease control))) x.reply ≡ with_stage t (FreeingChild pid (freeing.Close control))
 unfolding fed with_reply with_freeing_answered
 freed-fed-again t pid control x = refl
 
-freed-closes : (t : TrussState) (pid control of : ℕ) → next_call_of (with_stage t (FreeingChild pid (freeing.Close control))) ≡ Some (open_file of file.Status) → ⊥
+pub freed-closes : (t : TrussState) (pid control of : ℕ) → next_call_of (with_stage t (FreeingChild pid (freeing.Close control))) ≡ Some (open_file of file.Status) → ⊥
 unfolding next_call_of call_of freeing_call
 freed-closes t pid control of is = cc
 

@@ -230,7 +230,7 @@ module _ (n k : ℕ) (o : Options) (pid : ℕ) (s : TracedState) (before : List 
           | inr b ↦ begun-so w.0 b.of b.attached b.begins
         ]
 
-  stays-off : exchange_of k e ≡ None → ⊥
+  pub stays-off : exchange_of k e ≡ None → ⊥
   stays-off none = false≢true (sym off ∙ subst (λ (u : TrussState). watches u pid ≡ true) (truss_at-push k o before e ∙ ap (with_exchange (truss_at k o before)) none) on)
 
   -- What an entry makes truss watch, it has just opened.

@@ -63,16 +63,16 @@ use Rattle.pr_report_laws.specs.Watching.{told_of, with_exchange}
 -- ---- what holds before an entry
 
 -- what holds for a process, whatever may be missing of it
-record Holding (k : ℕ) (o : Options) (pid : ℕ) (t : TrussState) (s : TracedState) : Type 1 where
-  K : Type 0
-  so_far : List LwpEvent
-  holds : Holds K k o pid t s so_far
+pub record Holding (k : ℕ) (o : Options) (pid : ℕ) (t : TrussState) (s : TracedState) : Type 1 where
+  pub K : Type 0
+  pub so_far : List LwpEvent
+  pub holds : Holds K k o pid t s so_far
 
 -- what holds for all of them, and for the children of forks
-record Going (k : ℕ) (o : Options) (t : TrussState) (s : TracedState) (h : List Entry) : Type 1 where
-  each : (pid : ℕ) → Holding k o pid t s
-  leaves : IsLeaving t
-  children : t.leaving ≡ false → Follows k o t s h
+pub record Going (k : ℕ) (o : Options) (t : TrussState) (s : TracedState) (h : List Entry) : Type 1 where
+  pub each : (pid : ℕ) → Holding k o pid t s
+  pub leaves : IsLeaving t
+  pub children : t.leaving ≡ false → Follows k o t s h
 
 -- where truss leaves its processes it opens none by its id
 names-leaving : (o : Options) (ts : List Traced) (leaving : Bool) (stage : Stage) → Leaves leaving stage → leaving ≡ true → Names o ts stage
@@ -81,7 +81,7 @@ names-leaving o ts leaving (OpeningControl pid) goes is = absurd (false≢true (
 names-leaving o ts leaving _ goes is = tt
 
 -- the rest of a history leaves the children of forks to truss too
-forks-later : (k : ℕ) (o : Options) (e : Entry) (h : List Entry) → LeavesChildren k o (e ∷ h) → LeavesChildren k o h
+pub forks-later : (k : ℕ) (o : Options) (e : Entry) (h : List Entry) → LeavesChildren k o (e ∷ h) → LeavesChildren k o h
 forks-later k o e h forks = (
   record {
     each = λ follow before between behind later parent id turned by pid lwp handle own_lwp own_handle opened_file own_file mode own_mode is.
@@ -91,10 +91,10 @@ forks-later k o e h forks = (
 )
 
 -- the entry of a call of truss, by what it learns
-abbrev entry_by : Actor → Act → Entry
+abbrev pub entry_by : Actor → Act → Entry
 entry_by actor it = record { actor = actor; act = it }
 
-entry-of : (k : ℕ) (actor : Actor) (it : Act) (x : Exchange) → exchange_in k actor it ≡ Some x → entry_by actor it ≡ entry_by (Controller k) (act.Call x.call x.reply)
+pub entry-of : (k : ℕ) (actor : Actor) (it : Act) (x : Exchange) → exchange_in k actor it ≡ Some x → entry_by actor it ≡ entry_by (Controller k) (act.Call x.call x.reply)
 entry-of k (Controller by) (act.Call c r) x is = own (by == k) refl is
   where
     own : (mine : Bool) → (by == k) ≡ mine → cond mine (Some (record { call = c; reply = r })) None ≡ Some x → entry_by (Controller by) (act.Call c r) ≡ entry_by (Controller k) (act.Call x.call x.reply)
@@ -106,7 +106,7 @@ module _ (n k : ℕ) (o : Options) (t : TrussState) (s : TracedState) (h : List 
   -- ---- where truss opens a child
 
   -- the entry in which its control file is opened
-  child-granted : (e : Entry) (x : Exchange) (pid handle parent : ℕ) → MakesNext t (exchange_of k e) → exchange_of k e ≡ Some x → t.stage ≡ OpeningChildControl parent pid → x.reply ≡ Handle handle → e ≡ granted k pid 0 file.Ctl WriteExcl handle
+  pub child-granted : (e : Entry) (x : Exchange) (pid handle parent : ℕ) → MakesNext t (exchange_of k e) → exchange_of k e ≡ Some x → t.stage ≡ OpeningChildControl parent pid → x.reply ≡ Handle handle → e ≡ granted k pid 0 file.Ctl WriteExcl handle
   unfolding next_call_of call_of
   child-granted e x pid handle parent next is at given =
       let makes : next_call_of t ≡ Some x.call = subst (MakesNext t) is next in
@@ -134,7 +134,7 @@ module _ (n k : ℕ) (o : Options) (t : TrussState) (s : TracedState) (h : List 
 
   -- ---- what an entry leaves
 
-  stand : (e : Entry) → Going k o t s (e ∷ h) → (pid : ℕ) → IsStanding o pid t s
+  pub stand : (e : Entry) → Going k o t s (e ∷ h) → (pid : ℕ) → IsStanding o pid t s
   stand e g pid = let x = g.each pid in let holds = x.holds in record { Why = _; so_far = x.so_far; standing = holds.standing; prepares = holds.prepares }
 
   module _ (e : Entry) (g : Going k o t s (e ∷ h)) (reads : (pid : ℕ) → ReadsBack pid s) (legal : IsLegalEntry n s e) (next : MakesNext t (exchange_of k e)) where
@@ -157,14 +157,14 @@ module _ (n k : ℕ) (o : Options) (t : TrussState) (s : TracedState) (h : List 
     own-next : MakesNext t (exchange_of k (call_entry k c a))
     own-next = subst (MakesNext t) (sym own-exchange) next
 
-    own-after : after s (call_entry k c a) ≡ a.state
+    pub own-after : after s (call_entry k c a) ≡ a.state
     unfolding after
     own-after = ap (after_call s) answer
 
     told-is : told_of k t (call_entry k c a) ≡ fed t a.reply
     told-is = ap (with_exchange t) own-exchange
 
-    is-call : (pid : ℕ) → IsCall k o pid t s c a
+    pub is-call : (pid : ℕ) → IsCall k o pid t s c a
     is-call pid =
         let x = g.each pid in
         let holds = x.holds in
@@ -190,7 +190,7 @@ module _ (n k : ℕ) (o : Options) (t : TrussState) (s : TracedState) (h : List 
     ]
 
     -- truss that does not leave its processes did not leave them before
-    own-stays : (fed t a.reply).leaving ≡ false → t.leaving ≡ false
+    pub own-stays : (fed t a.reply).leaving ≡ false → t.leaving ≡ false
     own-stays on =
         let x = g.each 0 in
         let holds = x.holds in
@@ -239,7 +239,7 @@ module _ (n k : ℕ) (o : Options) (t : TrussState) (s : TracedState) (h : List 
     told-leaves None leaves = leaves
     told-leaves (Some x) leaves = fed-leaving t x.reply leaves
 
-    going-on : (e : Entry) → Going k o t s (e ∷ h) → LeavesChildren k o (e ∷ h) → IsLegalEntry n s e → MakesNext t (exchange_of k e) → Going k o (told_of k t e) (after s e) h
+    pub going-on : (e : Entry) → Going k o t s (e ∷ h) → LeavesChildren k o (e ∷ h) → IsLegalEntry n s e → MakesNext t (exchange_of k e) → Going k o (told_of k t e) (after s e) h
     going-on e g forks legal next = record {
       each = each-later e g reads legal next;
       leaves = told-leaves (exchange_of k e) g.leaves;
@@ -291,7 +291,7 @@ program-traced : (o : Options) (x : Option (List ℕ)) → (first_of_program o x
 program-traced o None = opening-traced o (slice_get o.pids 0)
 program-traced o (Some program) = refl
 
-first-traced : (o : Options) → (first_truss o).traced ≡ []
+pub first-traced : (o : Options) → (first_truss o).traced ≡ []
 unfolding first_truss
 first-traced o = program-traced o o.program
 
@@ -301,7 +301,7 @@ none-names o ts (OpeningControl pid) none = inr none
 none-names o ts _ none = tt
 
 -- truss that traces no process yet
-first-follows : (k : ℕ) (o : Options) (t : TrussState) (s : TracedState) (h : List Entry) → t.traced ≡ [] → Follows k o t s h
+pub first-follows : (k : ℕ) (o : Options) (t : TrussState) (s : TracedState) (h : List Entry) → t.traced ≡ [] → Follows k o t s h
 first-follows k o t s h none = record {
   flags = λ follow place x p live. nowhere place (set-there place x);
   born = λ pid c claim. unclaimed pid c claim;

@@ -58,7 +58,7 @@ not-requested : (x : TracedLwp) → (stopped_lwp x).control.stop ≡ Some (SysEx
 unfolding stopped_as_directed
 not-requested x is = cc
 
-stopped-forked : (p : TracedProcess) (id c : ℕ) → HasForked (with_lwp_stopped id p) c → HasForked p c
+pub stopped-forked : (p : TracedProcess) (id c : ℕ) → HasForked (with_lwp_stopped id p) c → HasForked p c
 unfolding with_counted with_lwp
 stopped-forked p id c f = elim (cases_eq id f.id) [
   | inl same ↦
@@ -73,7 +73,7 @@ abbrev turn_entry : ℕ → ℕ → LwpTurn → Entry
 turn_entry pid id d = record { actor = Lwp pid id; act = act.Turn d.turned }
 
 -- what an entry leaves of a process that lives afterwards: it was left alone, or had a turn
-data Left (pid : ℕ) (s : TracedState) (e : Entry) (q : TracedProcess) : Type 0 where
+pub data Left (pid : ℕ) (s : TracedState) (e : Entry) (q : TracedProcess) : Type 0 where
   alone : (p : TracedProcess) → live_process s.system pid ≡ Some p → IsUndisturbed p q → Left pid s e q
   turned : (id : ℕ) (d : LwpTurn) (p : TracedProcess) → e ≡ turn_entry pid id d → turn_of s.system pid id ≡ Some d → live_process s.system pid ≡ Some p → live_process d.system pid ≡ Some q → Left pid s e q
 
@@ -120,14 +120,14 @@ module _ (n k : ℕ) (o : Options) (t : TrussState) (s : TracedState) (e : Entry
     left-in (Lwp other id) (act.Call c r) is itself q now = absurd itself
     left-in (Lwp other id) (act.Tick moment) is itself q now = absurd itself
 
-    left : (q : TracedProcess) → live_process (after s e).system pid ≡ Some q → Left pid s e q
+    pub left : (q : TracedProcess) → live_process (after s e).system pid ≡ Some q → Left pid s e q
     left q now = left-in e.actor e.act refl legal q now
 
   -- ---- the children
 
   module _ (forks : LeavesChildren k o (e ∷ h)) (f : Follows k o t s (e ∷ h)) where
     -- a child that is to be opened was to be opened before, or is made now
-    data WasClaimed (pid c : ℕ) : Type 0 where
+    pub data WasClaimed (pid c : ℕ) : Type 0 where
       claimed : Claims o t.traced t.stage s.system pid c → WasClaimed pid c
       made : (id : ℕ) → e.actor ≡ Lwp pid id → c ≡ s.system.made → IsNewBorn k o (after s e) h c → WasClaimed pid c
 
@@ -162,7 +162,7 @@ module _ (n k : ℕ) (o : Options) (t : TrussState) (s : TracedState) (e : Entry
             let now : live_process d.system (traced_at t place).pid ≡ Some (with_lwp_stopped id p) = halting-leaves s.system (traced_at t place).pid p live halting id d taken in
             claimed (stands place free refl follow p live (stopped-forked p id c (subst (λ (x : TracedProcess). HasForked x c) (sym (same_Some (with_lwp_stopped id p) q (sym now ∙ there))) forked)))
 
-    claims-were : (pid c : ℕ) → Claims o t.traced t.stage (after s e).system pid c → WasClaimed pid c
+    pub claims-were : (pid c : ℕ) → Claims o t.traced t.stage (after s e).system pid c → WasClaimed pid c
     claims-were of c (claims.reads place within same claim) = claimed (claims.reads place within same claim)
     claims-were of c (stands place free same follow q now forked) = subst (λ m. WasClaimed m c) same (by (left place free.within q (ap (live_process (after s e).system) same ∙ now)))
       where

@@ -84,7 +84,7 @@ pub run-reads : ReadsAs (message.Run 0) (first_message (spelling (message.Run 0)
 unfolding message_code operands nth_word word_bytes word_of message_read one_word
 run-reads = read-as (spelling (message.Run 0) []) (message.Run 0) refl refl
 
-clear-reads : ReadsAs (message.Unset all_modes) (first_message (spelling (message.Unset all_modes) []))
+pub clear-reads : ReadsAs (message.Unset all_modes) (first_message (spelling (message.Unset all_modes) []))
 unfolding message_code operands nth_word word_bytes word_of message_read one_word
 clear-reads = read-as (spelling (message.Unset all_modes) []) (message.Unset all_modes) refl refl
 
@@ -92,11 +92,11 @@ pub unfollow-reads : ReadsAs (message.Unset fork_mode) (first_message (spelling 
 unfolding message_code operands nth_word word_bytes word_of message_read one_word
 unfollow-reads = read-as (spelling (message.Unset fork_mode) []) (message.Unset fork_mode) refl refl
 
-follow-reads : ReadsAs (message.Set fork_mode) (first_message (spelling (message.Set fork_mode) []))
+pub follow-reads : ReadsAs (message.Set fork_mode) (first_message (spelling (message.Set fork_mode) []))
 unfolding message_code operands nth_word word_bytes word_of message_read one_word
 follow-reads = read-as (spelling (message.Set fork_mode) []) (message.Set fork_mode) refl refl
 
-release-reads : ReadsAs (message.Set rlc_mode) (first_message (spelling (message.Set rlc_mode) []))
+pub release-reads : ReadsAs (message.Set rlc_mode) (first_message (spelling (message.Set rlc_mode) []))
 unfolding message_code operands nth_word word_bytes word_of message_read one_word
 release-reads = read-as (spelling (message.Set rlc_mode) []) (message.Set rlc_mode) refl refl
 
@@ -114,25 +114,25 @@ word-wrapped n =
     added _ _ _ _ _ _ _ _ (n % 2 ^ 8) (n % 2 ^ 16) (n % 2 ^ 24) (n % 2 ^ 32) (n % 2 ^ 40) (n % 2 ^ 48) (n % 2 ^ 56) (n % 2 ^ 64)
     refl (mod-pow-add n 8 8) (mod-pow-add n 8 16) (mod-pow-add n 8 24) (mod-pow-add n 8 32) (mod-pow-add n 8 40) (mod-pow-add n 8 48) (mod-pow-add n 8 56)
 
-signals-read : (w : ℕ) → ReadsAs (message.Strace (w % 2 ^ 64)) (first_message (spelling (message.Strace w) []))
+pub signals-read : (w : ℕ) → ReadsAs (message.Strace (w % 2 ^ 64)) (first_message (spelling (message.Strace w) []))
 unfolding message_code operands nth_word word_bytes word_of message_read one_word
 signals-read w =
     let bytes : List ℕ = spelling (message.Strace w) [] in
     subst (λ v. ReadsAs (message.Strace v) (first_message bytes)) (word-wrapped w) (read-as bytes (message.Strace (nth_word bytes 1)) refl refl)
 
-faults-read : (w : ℕ) → ReadsAs (message.Sfault (w % 2 ^ 64)) (first_message (spelling (message.Sfault w) []))
+pub faults-read : (w : ℕ) → ReadsAs (message.Sfault (w % 2 ^ 64)) (first_message (spelling (message.Sfault w) []))
 unfolding message_code operands nth_word word_bytes word_of message_read one_word
 faults-read w =
     let bytes : List ℕ = spelling (message.Sfault w) [] in
     subst (λ v. ReadsAs (message.Sfault v) (first_message bytes)) (word-wrapped w) (read-as bytes (message.Sfault (nth_word bytes 1)) refl refl)
 
-entries-read : (w : ℕ) → ReadsAs (message.Sentry (w % 2 ^ 64)) (first_message (spelling (message.Sentry w) []))
+pub entries-read : (w : ℕ) → ReadsAs (message.Sentry (w % 2 ^ 64)) (first_message (spelling (message.Sentry w) []))
 unfolding message_code operands nth_word word_bytes word_of message_read one_word
 entries-read w =
     let bytes : List ℕ = spelling (message.Sentry w) [] in
     subst (λ v. ReadsAs (message.Sentry v) (first_message bytes)) (word-wrapped w) (read-as bytes (message.Sentry (nth_word bytes 1)) refl refl)
 
-exits-read : (w : ℕ) → ReadsAs (message.Sexit (w % 2 ^ 64)) (first_message (spelling (message.Sexit w) []))
+pub exits-read : (w : ℕ) → ReadsAs (message.Sexit (w % 2 ^ 64)) (first_message (spelling (message.Sexit w) []))
 unfolding message_code operands nth_word word_bytes word_of message_read one_word
 exits-read w =
     let bytes : List ℕ = spelling (message.Sexit w) [] in

@@ -82,7 +82,7 @@ first-files k o s = idle-files k (first_truss o) s (first-idle o)
 pub record IsUninterrupted (k : ℕ) (s : TracedState) : Type 0 where
   pub calm : (c : Call) (a : Answer) → can_wait c ≡ false → answer_to s k c ≡ Some a → answer_of a.reply ≢ Interrupted
 
-calm-call : (a : Answered) (c : Call) → (can_wait c ≡ false → a ≢ Interrupted) → IsCalm a (Some c)
+pub calm-call : (a : Answered) (c : Call) → (can_wait c ≡ false → a ≢ Interrupted) → IsCalm a (Some c)
 calm-call Accepted c calm = tt
 calm-call Interrupted c calm = elim (cases_Bool (can_wait c)) [ inl waits ↦ waits | inr not ↦ absurd (calm not refl) ]
 calm-call Gone c calm = tt
@@ -226,7 +226,7 @@ entry-owns n k t s e o legal next = subst (λ (u : TrussState). Owns k u (after 
 pub entry-lawful : (n : ℕ) (s : TracedState) (e : Entry) → IsLawful s → IsLegalEntry n s e → IsLawful (after s e)
 entry-lawful n s e lawful legal = history-state n s (e ∷ []) lawful (legal, tt)
 
-opens-turn : (s : TracedState) (t : Option LwpTurn) → (after_turn s t).opens ≡ s.opens
+pub opens-turn : (s : TracedState) (t : Option LwpTurn) → (after_turn s t).opens ≡ s.opens
 opens-turn s None = refl
 opens-turn s (Some t) = refl
 

@@ -83,7 +83,7 @@ reads-back pid s lawful range = record {
 
 -- ---- what is selected of a history
 
-selected-both : (o : Options) (pid : ℕ) (xs ys : List Logged) → selected o pid (xs ++ ys) ≡ selected o pid xs ++ selected o pid ys
+pub selected-both : (o : Options) (pid : ℕ) (xs ys : List Logged) → selected o pid (xs ++ ys) ≡ selected o pid xs ++ selected o pid ys
 unfolding selected
 selected-both o pid xs ys = filter_map-append (event_selected o pid) xs ys
 

@@ -33,6 +33,11 @@ pub mod FitMessageLemmas
 pub mod FitRowLemmas
 pub mod FitSignalLemmas
 pub mod FitTurnLemmas
+pub mod FollowCalm
+pub mod FollowForks
+pub mod FollowLaws
+pub mod FollowOpenings
+pub mod FollowUnseen
 pub mod ForkRows
 pub mod ForkTurns
 pub mod FrameLaws
@@ -45,6 +50,9 @@ pub mod LeaveSteps
 pub mod Leaving
 pub mod Moves
 pub mod NewBorn
+pub mod NewbornForks
+pub mod NewbornLaws
+pub mod NewbornTurns
 pub mod NextStages
 pub mod OpeningCalls
 pub mod OpeningFacts
@@ -69,6 +77,14 @@ pub mod PollLaws
 pub mod PollSteps
 pub mod Positions
 pub mod RecordLaws
+pub mod ReleaseCalls
+pub mod ReleaseFreed
+pub mod ReleaseGrants
+pub mod ReleaseLaws
+pub mod ReleaseMarks
+pub mod ReleaseModes
+pub mod ReleaseStays
+pub mod ReleaseSteps
 pub mod RunLaws
 pub mod RunSteps
 pub mod SettingLaws

@@ -51,7 +51,7 @@ left-later k c e h left = record {
 pub record IsNeverGranted (k c : ℕ) (h : List Entry) : Type 0 where
   pub none : (before later : List Entry) (lwp handle : ℕ) (file : File) (mode : Mode) → h ≡ before ++ granted k c lwp file mode handle ∷ later → is_writable mode ≡ true → ⊥
 
-never-later : (k c : ℕ) (e : Entry) (h : List Entry) → IsNeverGranted k c (e ∷ h) → IsNeverGranted k c h
+pub never-later : (k c : ℕ) (e : Entry) (h : List Entry) → IsNeverGranted k c (e ∷ h) → IsNeverGranted k c h
 never-later k c e h never = record { none = λ before later lwp handle file mode is. never.none (e ∷ before) later lwp handle file mode (ap (λ (es : List Entry). e ∷ es) is) }
 
 -- it stands at its birth, and its own children are to be followed too

@@ -260,7 +260,7 @@ child-attached u r child.OpenLstatus next is last = absurd (false≢true (ap at_
 child-attached u r child.OpenMemory next is last = refl
 child-attached u r child.Start next is last = absurd (none-some next is)
 
-next-left : (step next : ChildStep) → child_step_after step ≡ Some next → child_left step ≡ suc (child_left next)
+pub next-left : (step next : ChildStep) → child_step_after step ≡ Some next → child_left step ≡ suc (child_left next)
 unfolding child_step_after
 next-left child.SetRelease next is = ap (λ n. suc (child_left n)) (same_Some _ next is)
 next-left child.OpenStatus next is = ap (λ n. suc (child_left n)) (same_Some _ next is)

@@ -155,7 +155,7 @@ module _ (t : TrussState) (r : Reply) where
 
   -- how the opening of the process at a place goes on
   pub data Opens (place : ℕ) (u : TrussState) : Type 0 where
-    no : opens u.stage ≡ false → Opens place u
+    no : opens u.stage ≡ false → StaysAt t u place → Opens place u
     starts : (pid : ℕ) → t.stage ≡ OpeningControl pid → answer_of r ≡ Accepted → u ≡ with_control t pid (handle_in r) → Opens place u
     goes : (step next : OpeningStep) → t.stage ≡ Opening place step → answer_of r ≡ Accepted → step_after t.options r step ≡ Some next
         → u ≡ with_stage (with_traced t place (learnt (traced_at t place) r step)) (Opening place next) → Opens place u
@@ -207,10 +207,10 @@ module _ (t : TrussState) (r : Reply) where
   }
 
   -- the files of a process are closed
-  pub closing-comes : (v : TrussState) (place : ℕ) (next : AfterClosing) → v.leaving ≡ t.leaving → ((other : ℕ) → other ≢ place → StaysAt t v other) → ((other : ℕ) → other ≢ place → is_away t.leaving t.stage other ≡ false) → Ends place → Comes (with_stage v (Closing place next))
-  closing-comes v place next leaving others before ends = record {
+  pub closing-comes : (v : TrussState) (place : ℕ) (next : AfterClosing) → v.leaving ≡ t.leaving → ((other : ℕ) → StaysAt t v other) → ((other : ℕ) → other ≢ place → is_away t.leaving t.stage other ≡ false) → Ends place → Comes (with_stage v (Closing place next))
+  closing-comes v place next leaving places before ends = record {
     leaves = λ on. stays-leaving v leaving on;
-    how = at place (record { others = λ other apart. both-stay t v (with_stage v (Closing place next)) other (others other apart) refl; away = eq-eqb place place refl; alone = λ other apart. ne_eqb place other (λ same. apart (sym same)); before = before; ends = ends; opens = no refl });
+    how = at place (record { others = λ other apart. both-stay t v (with_stage v (Closing place next)) other (places other) refl; away = eq-eqb place place refl; alone = λ other apart. ne_eqb place other (λ same. apart (sym same)); before = before; ends = ends; opens = no refl (both-stay t v (with_stage v (Closing place next)) place (places place) refl) });
   }
 
   pub goes_on-comes : (v : TrussState) → ((place : ℕ) → StaysAt t v place) → v.leaving ≡ t.leaving → AllBegin → Comes (with_going_on v)
@@ -260,7 +260,7 @@ module _ (t : TrussState) (r : Reply) where
     left-comes : (v : TrussState) (stage : Stage) → IsBased v → t.leaving ≡ true → is_away v.leaving stage place ≡ true → ((other : ℕ) → other ≢ place → is_away v.leaving stage other ≡ false) → opens stage ≡ false → Comes (with_stage v stage)
     left-comes v stage b leaving away alone opens = record {
       leaves = λ on. stays-leaving v b.leaving on;
-      how = at place (record { others = λ other apart. both-stay t v (with_stage v stage) other (b.places other) refl; away = away; alone = alone; before = l.others; ends = l.ends leaving; opens = no opens });
+      how = at place (record { others = λ other apart. both-stay t v (with_stage v stage) other (b.places other) refl; away = away; alone = alone; before = l.others; ends = l.ends leaving; opens = no opens (both-stay t v (with_stage v stage) place (b.places place) refl) });
     }
 
     pub over-comes : (v : TrussState) → IsBased v → Comes (with_stop_over v place)

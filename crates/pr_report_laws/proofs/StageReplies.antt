@@ -1,6 +1,7 @@
 use Rattle.std.proofs.Common.{◌≡◌, ◌≢◌, ◌==◌, ◌&&◌, ◌<◌, ℕ, Bool, true, false, cond, Option, Some, None, List, length, refl, sym, subst, ap, ◌∙◌, arith, inl, inr}
 use Rattle.std.proofs.lemmas.Bool.{cases_eq, eq-eqb, false≢true, ne_eqb}
 use Rattle.std.specs.List.{position, slice_get}
+use Rattle.std.proofs.lemmas.Option.{none-some, same_Some}
 use Rattle.std.specs.Option.{option_and_then}
 use Rattle.pr_line.specs.ArgumentTexts.{Came}
 use Rattle.pr_line.specs.declared.options.Options.{Options}
@@ -95,7 +96,7 @@ module _ (t : TrussState) (r : Reply) where
   }
 
   of-closes : (place : ℕ) (v : TrussState) (next : AfterClosing) → IsOf place → v.traced ≡ t.traced → v.leaving ≡ t.leaving → Comes t r (with_stage v (Closing place next))
-  of-closes place v next w same leaving = closing-comes t r v place next leaving (λ other apart. same-stays t v same other) w.alone (away_before w.away)
+  of-closes place v next w same leaving = closing-comes t r v place next leaving (same-stays t v same) w.alone (away_before w.away)
 
   -- ---- processes and their control files
 
@@ -226,7 +227,7 @@ module _ (t : TrussState) (r : Reply) where
   unfolding with_status_answered
   status-comes place is within stays Accepted answer = stop_read-comes t r place (status-looks place is within stays) (option_and_then status_lwp (bytes_in r))
   status-comes place is within stays (Refused errno) answer = over-comes t r place (status-looks place is within stays) t (based t r)
-  status-comes place is within stays Gone answer = closing-comes t r t place GoOn refl (λ other apart. same-stays t t refl other) (λ other apart. stage-idle (ReadingStatus place) is (λ q. refl) other) (gone answer (status is))
+  status-comes place is within stays Gone answer = closing-comes t r t place GoOn refl (same-stays t t refl) (λ other apart. stage-idle (ReadingStatus place) is (λ q. refl) other) (gone answer (status is))
   status-comes place is within stays Interrupted answer = interrupted-comes t r t (same-stays t t refl) answer (idle-begins t r (stage-idle (ReadingStatus place) is (λ other. refl)))
 
   text-away : (place : ℕ) (l : LwpStatus) (from len other : ℕ) → t.stage ≡ ReadingText place l from len → is_away t.leaving t.stage other ≡ (t.leaving && (place == other))
@@ -255,7 +256,7 @@ module _ (t : TrussState) (r : Reply) where
   unfolding after_text with_event_shown
   text-comes place l from len came is within first Accepted answer = let w = text-looks place l from len is within first in event_over-comes t r place w (with_report t _) l (record { places = report-stays _; leaving = refl })
   text-comes place l from len came is within first (Refused errno) answer = let w = text-looks place l from len is within first in event_over-comes t r place w (with_report t _) l (record { places = report-stays _; leaving = refl })
-  text-comes place l from len came is within first Gone answer = closing-comes t r (with_report t _) place GoOn refl (λ other apart. report-stays _ other) (text-others place l from len is) (gone answer (text l from len is))
+  text-comes place l from len came is within first Gone answer = closing-comes t r (with_report t _) place GoOn refl (report-stays _) (text-others place l from len is) (gone answer (text l from len is))
   text-comes place l from len came is within first Interrupted answer = by t.leaving refl
     where
       w : IsLooking t r place
@@ -272,7 +273,7 @@ module _ (t : TrussState) (r : Reply) where
   unfolding with_run_answered
   run-comes place is within Accepted answer = goes_on-comes t r t (same-stays t t refl) refl (idle-begins t r (stage-idle (Running place) is (λ other. refl)))
   run-comes place is within (Refused errno) answer = goes_on-comes t r t (same-stays t t refl) refl (idle-begins t r (stage-idle (Running place) is (λ other. refl)))
-  run-comes place is within Gone answer = closing-comes t r t place GoOn refl (λ other apart. same-stays t t refl other) (λ other apart. stage-idle (Running place) is (λ q. refl) other) (gone answer (runs is))
+  run-comes place is within Gone answer = closing-comes t r t place GoOn refl (same-stays t t refl) (λ other apart. stage-idle (Running place) is (λ q. refl) other) (gone answer (runs is))
   run-comes place is within Interrupted answer = seen-comes t r t place refl within answer (idle-begins t r (stage-idle (Running place) is (λ other. refl)))
 
   -- ---- leaving
@@ -282,7 +283,7 @@ module _ (t : TrussState) (r : Reply) where
   unfollowed-comes is Accepted answer = plain-comes t r t ReadingLwps refl refl (λ other. refl) refl (idle-begins t r (stage-idle Unfollowing is (λ other. refl)))
   unfollowed-comes is (Refused errno) answer = plain-comes t r t ReadingLwps refl refl (λ other. refl) refl (idle-begins t r (stage-idle Unfollowing is (λ other. refl)))
   unfollowed-comes is Interrupted answer = plain-comes t r t ReadingLwps refl refl (λ other. refl) refl (idle-begins t r (stage-idle Unfollowing is (λ other. refl)))
-  unfollowed-comes is Gone answer = closing-comes t r t 0 GoOn refl (λ other apart. same-stays t t refl other) (λ other apart. stage-idle Unfollowing is (λ q. refl) other) (gone answer (unfollows is refl))
+  unfollowed-comes is Gone answer = closing-comes t r t 0 GoOn refl (same-stays t t refl) (λ other apart. stage-idle Unfollowing is (λ q. refl) other) (gone answer (unfollows is refl))
 
   lwps-looks : t.stage ≡ ReadingLwps → 0 < length t.traced → t.leaving ≡ true → IsLooking t r 0
   lwps-looks is within on = record {
@@ -294,7 +295,7 @@ module _ (t : TrussState) (r : Reply) where
   }
 
   lwps-closes : t.stage ≡ ReadingLwps → Comes t r (with_closing t 0)
-  lwps-closes is = closing-comes t r t 0 GoOn refl (λ other apart. same-stays t t refl other) (λ other apart. stage-idle ReadingLwps is (λ q. refl) other) (looked is refl)
+  lwps-closes is = closing-comes t r t 0 GoOn refl (same-stays t t refl) (λ other apart. stage-idle ReadingLwps is (λ q. refl) other) (looked is refl)
 
   lwps-comes : t.stage ≡ ReadingLwps → 0 < length t.traced → t.leaving ≡ true → (a : Answer) → Comes t r (with_lwps_answered t r a)
   unfolding with_lwps_answered
@@ -307,7 +308,7 @@ module _ (t : TrussState) (r : Reply) where
   free-of pid step is = record { away = ap (λ x. is_away t.leaving x 0) is; alone = λ other apart. ap (λ x. is_away t.leaving x other) is ∙ ne_eqb other 0 apart }
 
   frees-on : (pid : ℕ) (step next : FreeingStep) → t.stage ≡ FreeingChild pid step → Comes t r (with_stage t (FreeingChild pid next))
-  frees-on pid step next is = of-comes 0 (with_stage t (FreeingChild pid next)) (free-of pid step is) refl (λ other apart. same-stays t _ refl other) refl (λ other apart. ne_eqb other 0 apart) (no refl)
+  frees-on pid step next is = of-comes 0 (with_stage t (FreeingChild pid next)) (free-of pid step is) refl (λ other apart. same-stays t _ refl other) refl (λ other apart. ne_eqb other 0 apart) (no refl (same-stays t _ refl 0))
 
   begun-comes : (pid : ℕ) → t.stage ≡ FreeingChild pid freeing.OpenControl → (a : Answer) → Comes t r (with_freeing_begun t pid r a)
   unfolding with_freeing_begun with_refused_freeing
@@ -324,6 +325,18 @@ module _ (t : TrussState) (r : Reply) where
 
   -- ---- closing
 
+  -- a process that has lost a file is the same
+  left-fields : (pid control : ℕ) (st ls memory : Option ℕ) (attached : Bool) (old : ℕ) (seen : Bool) (x : Traced)
+      → without_last (record { pid = pid; control = control; status = st; lstatus = ls; memory = memory; attached = attached; old = old; seen = seen }) ≡ Some x → (x.pid ≡ pid) × (x.attached ≡ attached)
+  unfolding without_last
+  left-fields pid control st ls (Some m) attached old seen x is = let same = same_Some _ x is in (ap (λ (y : Traced). y.pid) (sym same), ap (λ (y : Traced). y.attached) (sym same))
+  left-fields pid control st (Some l) None attached old seen x is = let same = same_Some _ x is in (ap (λ (y : Traced). y.pid) (sym same), ap (λ (y : Traced). y.attached) (sym same))
+  left-fields pid control (Some st) None None attached old seen x is = let same = same_Some _ x is in (ap (λ (y : Traced). y.pid) (sym same), ap (λ (y : Traced). y.attached) (sym same))
+  left-fields pid control None None None attached old seen x is = absurd (none-some x is)
+
+  left-same : (u x : Traced) → without_last u ≡ Some x → (x.pid ≡ u.pid) × (x.attached ≡ u.attached)
+  left-same u x is = left-fields u.pid u.control u.status u.lstatus u.memory u.attached u.old u.seen x is
+
   removed-comes : (place : ℕ) (next : AfterClosing) (u : TrussState) → t.stage ≡ Closing place next → ComesNext (without_traced t place) u → u.leaving ≡ t.leaving → Comes t r u
   removed-comes place next u is c leaving = record { leaves = λ on. inl (sym leaving ∙ on); how = less place next is c.traced (record { here = c.here; opens = c.opens }) }
 
@@ -333,11 +346,12 @@ module _ (t : TrussState) (r : Reply) where
   last-comes place GoOn is = let v : TrussState = without_traced t place in removed-comes place GoOn (with_going_on v) is (going_on-comes v) (going_on-leaving v)
   last-comes place (RunParent parent) is = record { leaves = λ on. inl on; how = less place (RunParent parent) is refl (record { here = λ other on. refl; opens = refl }) }
 
-  closed-comes : (place : ℕ) (next : AfterClosing) → t.stage ≡ Closing place next → (left : Option Traced) → Comes t r (closed_or_removed t place next left)
-  closed-comes place next is None = last-comes place next is
-  closed-comes place next is (Some x) =
+  closed-comes : (place : ℕ) (next : AfterClosing) → t.stage ≡ Closing place next → place < length t.traced → (left : Option Traced) → without_last (traced_at t place) ≡ left → Comes t r (closed_or_removed t place next left)
+  closed-comes place next is within None closes = last-comes place next is
+  closed-comes place next is within (Some x) closes =
       let w = stage-of place (Closing place next) is (λ other. refl) in
-      of-comes place (with_traced t place x) w refl (λ other apart. set-other t place x other apart) w.away w.alone (no (ap NextStages.opens is))
+      let kept = left-same (traced_at t place) x closes in
+      of-comes place (with_traced t place x) w refl (λ other apart. set-other t place x other apart) w.away w.alone (no (ap NextStages.opens is) (set-stays t place x within kept.0 kept.1 place))
 
   -- ---- every stage
 
@@ -352,7 +366,7 @@ module _ (t : TrussState) (r : Reply) where
   stage-comes (OpeningChildControl parent pid) is f l = child_control-comes parent pid is f (answer_of r) refl
   stage-comes (OpeningChild parent place step) is f l = child-comes parent place step is f.0
   stage-comes (Running place) is f l = run-comes place is f (answer_of r) refl
-  stage-comes (Closing place next) is f l = closed-comes place next is (without_last (traced_at t place))
+  stage-comes (Closing place next) is f l = closed-comes place next is f.0 (without_last (traced_at t place)) refl
   stage-comes Unfollowing is f l = unfollowed-comes is (answer_of r) refl
   stage-comes ReadingLwps is f l = lwps-comes is f l (answer_of r)
   stage-comes (FreeingChild pid step) is f l = freeing-comes pid step is

@@ -237,7 +237,7 @@ module _ (o : Options) (t : TrussState) (past : List Exchange) (x : Exchange) (s
       }
 
   opens-remembers : (place : ℕ) (u : TrussState) → Opens t x.reply place u → Remembers o u (past ++ x ∷ []) u.stage
-  opens-remembers place u (no none) = remembers-none o u (past ++ x ∷ []) u.stage none
+  opens-remembers place u (no none stays) = remembers-none o u (past ++ x ∷ []) u.stage none
   opens-remembers place u (starts pid is accepted same_as) = subst (λ (v : TrussState). Remembers o v (past ++ x ∷ []) v.stage) (sym same_as) (started pid is accepted)
   opens-remembers place u (child_starts parent pid is accepted same_as) = subst (λ (v : TrussState). Remembers o v (past ++ x ∷ []) v.stage) (sym same_as) (child-started parent pid is accepted)
   opens-remembers place u (goes step after is accepted comes same_as) = subst (λ (v : TrussState). Remembers o v (past ++ x ∷ []) v.stage) (sym same_as) (gone_on place step after is accepted comes)

@@ -1,6 +1,9 @@
 pub mod Births
 pub mod Fits
+pub mod Follows
 pub mod Grips
+pub mod Newborn
+pub mod Releases
 pub mod Reported
 pub mod Shown
 pub mod Watching

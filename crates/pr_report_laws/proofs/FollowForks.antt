@@ -1,0 +1,142 @@
+use Rattle.std.proofs.Common.{◌≡◌, ◌==◌, ◌&&◌, ◌^◌, nat_lt, not, is_none, is_some, ℕ, Bool, true, false, cond, Option, Some, None, List, refl, sym, subst, ap, ◌∙◌}
+use Rattle.std.proofs.lemmas.Bool.{and_parts, false≢true}
+use Rattle.std.proofs.lemmas.Option.{none-some, same_Some}
+use Rattle.std.specs.Option.{option_and_then, option_map}
+use Rattle.pr_line.specs.Events.{event_for, event_of, named_call, result_of}
+use Rattle.pr_line.specs.Selections.{is_selected}
+use Rattle.pr_line.specs.TextRanges.{text_range}
+use Rattle.pr_line.specs.declared.events.Event.{Event}
+use Rattle.pr_line.specs.declared.events.Event.TheVariants.{Left}
+use Rattle.pr_line.specs.declared.options.Options.{Options}
+use Rattle.pr_model.specs.Replies.{bytes_in}
+use Rattle.pr_model.specs.ShownBytes.{range_from}
+use Rattle.pr_model.specs.declared.calls.Reply.{Reply}
+use Rattle.pr_model.specs.declared.calls.Reply.TheVariants as reply
+use Rattle.pr_num.specs.Syscalls.{syscall_args, syscall_number}
+use Rattle.pr_num.specs.declared.stop_reasons.StopReason.{StopReason}
+use Rattle.pr_num.specs.declared.stop_reasons.StopReason.TheVariants.{Requested, Signalled, SysEntry, SysExit, JobControl, Faulted, Suspended}
+use Rattle.pr_num.specs.declared.syscalls.Sysno.{Sysno}
+use Rattle.pr_num.specs.declared.syscalls.Sysno.TheVariants.{Fork}
+use Rattle.pr_rec.specs.declared.lwps.LwpStatus.{LwpStatus}
+use Rattle.pr_truss.specs.Feeding.{fed, with_reply}
+use Rattle.pr_truss.specs.Records.{child_of, has_ended_fork, is_exit, is_fork, is_on_event, status_lwp}
+use Rattle.pr_truss.specs.Replies.{answer_of}
+use Rattle.pr_truss.specs.Stops.{asked_range, followed_child, with_child_or, with_event, with_event_over, with_event_shown, with_old_stop_over, with_status_answered, with_stop, with_stop_over, with_stop_read, with_text_or_shown}
+use Rattle.pr_truss.specs.Trusses.{TrussState, traced_at, with_report}
+use Rattle.pr_truss.specs.declared.replies.Answer.TheVariants.{Accepted}
+use Rattle.pr_truss.specs.declared.reports.Report.TheVariants.{Event as Shown}
+use Rattle.pr_truss.specs.declared.stages.FreeingStep.TheVariants.{OpenControl}
+use Rattle.pr_truss.specs.declared.stages.Stage.TheVariants.{OpeningChildControl, FreeingChild}
+use Rattle.pr_report_laws.specs.Follows.{ReadsFork}
+
+-- What truss makes of the return of a fork that it has read: it comes to the control file of the child.
+
+-- ---- the event of a fork has no text
+
+fork-text : (arguments : List ℕ) (size : Option ℕ) → range_from arguments size (syscall_args Fork) 0 ≡ None
+unfolding range_from syscall_args
+fork-text arguments size = refl
+
+-- a status that tells a child stands at the exit of a fork
+child-forked : (l : LwpStatus) (c : ℕ) → child_of l ≡ Some c → (l.why ≡ Some SysExit) × (l.call ≡ Some Fork)
+unfolding child_of has_ended_fork
+child-forked l c is = by (has_ended_fork l && not (l.result == 0) && nat_lt l.result (2 ^ 32)) refl is
+  where
+    exits : (w : Option StopReason) → is_exit w ≡ true → w ≡ Some SysExit
+    exits (Some SysExit) e = refl
+    exits None e = absurd (false≢true e)
+    exits (Some Requested) e = absurd (false≢true e)
+    exits (Some Signalled) e = absurd (false≢true e)
+    exits (Some SysEntry) e = absurd (false≢true e)
+    exits (Some JobControl) e = absurd (false≢true e)
+    exits (Some Faulted) e = absurd (false≢true e)
+    exits (Some Suspended) e = absurd (false≢true e)
+
+    forks : (n : Option Sysno) → is_fork n ≡ true → n ≡ Some Fork
+    forks (Some Fork) e = refl
+    forks _ e = absurd (false≢true e)
+
+    by : (b : Bool) → (has_ended_fork l && not (l.result == 0) && nat_lt l.result (2 ^ 32)) ≡ b → cond b (Some l.result) None ≡ Some c → (l.why ≡ Some SysExit) × (l.call ≡ Some Fork)
+    by false tests e = absurd (none-some c e)
+    by true tests e =
+        let all = and_parts (has_ended_fork l && not (l.result == 0)) (nat_lt l.result (2 ^ 32)) tests in
+        let some = and_parts (has_ended_fork l) (not (l.result == 0)) all.0 in
+        let fork = and_parts (is_exit l.why && is_fork l.call) (is_none l.errno) some.0 in
+        let call = and_parts (is_exit l.why) (is_fork l.call) fork.0 in
+        (exits l.why call.0, forks l.call call.1)
+
+left-text : (l : LwpStatus) (named : Bool) (e : Event) → option_map (λ call. Left call l.arguments (result_of l.result l.errno)) (cond named (Some Fork) None) ≡ Some e → text_range e ≡ None
+unfolding text_range
+left-text l true e is = ap text_range (sym (same_Some _ e is)) ∙ fork-text l.arguments _
+left-text l false e is = absurd (none-some e is)
+
+event-text : (l : LwpStatus) (c : ℕ) (e : Event) → child_of l ≡ Some c → event_of l ≡ Some e → text_range e ≡ None
+unfolding event_of
+event-text l c e made is =
+    let at = child-forked l c made in
+    left-text l (syscall_number Fork == l.what) e (sym (ap (λ w. option_and_then (event_for l) w) at.0 ∙ ap (λ n. option_map (λ call. Left call l.arguments (result_of l.result l.errno)) (option_and_then (named_call l.what) n)) at.1) ∙ is)
+
+-- ---- the reply
+
+bytes-accepted : (r : Reply) (l : LwpStatus) → option_and_then status_lwp (bytes_in r) ≡ Some l → answer_of r ≡ Accepted
+unfolding bytes_in answer_of
+bytes-accepted (reply.Fail errno) l is = absurd (none-some l is)
+bytes-accepted _ l is = refl
+
+-- Truss comes to the control file of the child, and what it knows of its processes stays.
+pub record ComesToChild (t u : TrussState) (place child : ℕ) : Type 0 where
+  pub stage : u.stage ≡ OpeningChildControl place child
+  pub traced : u.traced ≡ t.traced
+
+module _ (t : TrussState) (place child : ℕ) (l : LwpStatus) (follows : t.options.follow ≡ true) (stays : t.leaving ≡ false) (made : child_of l ≡ Some child) where
+  abbrev Comes : TrussState → Type 0
+  Comes u = ComesToChild t u place child
+
+  over : (u : TrussState) → u.options ≡ t.options → u.leaving ≡ t.leaving → u.traced ≡ t.traced → Comes (with_event_over u place l)
+  unfolding with_event_over followed_child
+  over u options leaving traced = subst (λ c. Comes (with_child_or u place c)) (sym is) (record { stage = ap (λ b. cond b (FreeingChild child OpenControl) (OpeningChildControl place child)) (leaving ∙ stays); traced = traced })
+    where
+      is : cond u.options.follow (child_of l) None ≡ Some child
+      is = ap (λ (o : Options). cond o.follow (child_of l) None) options ∙ ap (λ b. cond b (child_of l) None) follows ∙ made
+
+  module _ (e : Event) (is : event_of l ≡ Some e) where
+    no-range : asked_range t.options e ≡ None
+    unfolding asked_range
+    no-range = by t.options.count
+      where
+        by : (b : Bool) → cond b None (text_range e) ≡ None
+        by true = refl
+        by false = event-text l child e made is
+
+    shown : Comes (with_text_or_shown t place l None)
+    unfolding with_event_shown
+    shown = over (with_report t (Shown (traced_at t place).pid l None)) refl refl refl
+
+    selected : (b : Bool) → Comes (cond b (with_text_or_shown t place l (asked_range t.options e)) (with_event_over t place l))
+    selected true = subst (λ range. Comes (with_text_or_shown t place l range)) (sym no-range) shown
+    selected false = over t refl refl refl
+
+    looked : Comes (with_event t place l (event_of l))
+    looked = subst (λ x. Comes (with_event t place l x)) (sym is) (selected (is_selected t.options e))
+
+  on-event : is_on_event l ≡ true → Comes (with_event t place l (event_of l))
+  unfolding is_on_event
+  on-event on = by (event_of l) refl on
+    where
+      by : (x : Option Event) → event_of l ≡ x → is_some x ≡ true → Comes (with_event t place l (event_of l))
+      by None is none = absurd (false≢true none)
+      by (Some e) is some = looked e is
+
+  new-event : is_on_event l ≡ true → (traced_at t place).old ≡ 0 → (traced_at t place).seen ≡ false → Comes (with_stop t place l)
+  unfolding with_stop
+  new-event on none unseen =
+      subst (λ b. Comes (cond (not b) (with_stop_over t place) (cond (nat_lt 0 (traced_at t place).old) (with_old_stop_over t place) (cond (traced_at t place).seen (with_stop_over t place) (with_event t place l (event_of l)))))) (sym on)
+      (subst (λ n. Comes (cond (nat_lt 0 n) (with_old_stop_over t place) (cond (traced_at t place).seen (with_stop_over t place) (with_event t place l (event_of l))))) (sym none)
+      (subst (λ b. Comes (cond b (with_stop_over t place) (with_event t place l (event_of l)))) (sym unseen) (on-event on)))
+
+pub fork-comes : (t : TrussState) (r : Reply) (place child : ℕ) → t.options.follow ≡ true → t.leaving ≡ false → (traced_at t place).seen ≡ false → ReadsFork t r place child → ComesToChild t (fed t r) place child
+unfolding fed with_reply with_status_answered
+fork-comes t r place child follows stays unseen f =
+    subst (λ stage. ComesToChild t (with_reply t r stage) place child) (sym f.stage)
+    (subst (λ a. ComesToChild t (with_status_answered t place r a) place child) (sym (bytes-accepted r f.lwp f.read))
+    (subst (λ l. ComesToChild t (with_stop_read t place l) place child) (sym f.read) (new-event t place child f.lwp follows stays f.made f.event f.new unseen)))

@@ -1,0 +1,112 @@
+use Rattle.std.specs.Prelude.{◌≡◌, ◌≢◌, ◌<◌, ℕ, true, List, [], ◌∷◌, ◌++◌, Option, Some, None, All, length, option_and_then, take}
+use Rattle.std.specs.List.{cons_option}
+use Rattle.pr_model.specs.Replies.{bytes_in, handle_in}
+use Rattle.pr_model.specs.declared.calls.Call.{Call}
+use Rattle.pr_model.specs.declared.calls.Call.TheVariants as call
+use Rattle.pr_model.specs.declared.calls.Reply.{Reply}
+use Rattle.pr_model.specs.declared.calls.Reply.TheVariants as reply
+use Rattle.pr_num.specs.declared.errnos.Errno.{Errno}
+use Rattle.pr_num.specs.declared.errnos.Errno.TheVariants.{Intr, Noent}
+use Rattle.pr_rec.specs.declared.lwps.LwpStatus.{LwpStatus}
+use Rattle.pr_truss.specs.NextCalls.{run_call}
+use Rattle.pr_truss.specs.Records.{child_of, is_on_event, status_lwp}
+use Rattle.pr_truss.specs.Trusses.{TrussState, traced_at}
+use Rattle.pr_truss.specs.declared.reports.Report.{Report}
+use Rattle.pr_truss.specs.declared.reports.Report.TheVariants.{CannotTrace}
+use Rattle.pr_truss.specs.declared.stages.Stage.TheVariants.{ReadingStatus}
+use Rattle.pr_truss_laws.specs.Exchanges.{Exchange, IsGranted, calls_in}
+use Rattle.pr_truss_laws.specs.Given.{reply_at}
+use Rattle.pr_report_laws.specs.Grips.{child_calls}
+
+-- What becomes of the child of a fork that truss(1) has read, by its exchanges and its reports alone.
+
+-- ---- the fork
+
+-- Truss reads the status of the process at a place, and this reply tells that its lwp stands on the return of a fork,
+-- which made this child. The stop is not an old one.
+pub record ReadsFork (t : TrussState) (r : Reply) (place child : ℕ) : Type 0 where
+  pub stage : t.stage ≡ ReadingStatus place
+  pub new : (traced_at t place).old ≡ 0
+  pub lwp : LwpStatus
+  pub read : option_and_then status_lwp (bytes_in r) ≡ Some lwp
+  pub event : is_on_event lwp ≡ true
+  pub made : child_of lwp ≡ Some child
+
+-- ---- what comes after the child
+
+-- the handle that an open gave
+abbrev pub opened_by : Call → Reply → Option ℕ
+opened_by (call.Open pid id file mode) r = Some (handle_in r)
+opened_by _ r = None
+
+-- the handles that these exchanges opened, the last one first, and then these
+abbrev pub with_opened_by : List ℕ → List Exchange → List ℕ
+with_opened_by handles [] = handles
+with_opened_by handles (x ∷ xs) = with_opened_by (cons_option (opened_by x.call x.reply) handles) xs
+
+-- These handles are closed, in this order, and then the process with this control file runs, unless the exchanges end
+-- before.
+abbrev pub RunsThen : ℕ → List ℕ → List Exchange → Type 0
+RunsThen control handles [] = Unit {0}
+RunsThen control [] (x ∷ xs) = x.call ≡ run_call control
+RunsThen control (handle ∷ handles) (x ∷ xs) = (x.call ≡ call.Close handle) × RunsThen control handles xs
+
+-- ---- the opening of the child
+
+-- the calls of its opening, with the handle that the first reply gave
+abbrev pub following_calls : ℕ → List Exchange → List Call
+following_calls child xs = child_calls child (handle_in (reply_at xs 0))
+
+-- None of its calls was refused before the last one, by which the child runs. The parent runs next; where the last
+-- reply tells that the child has ended, the files of the child are closed before.
+pub record IsAttachedChild (child control : ℕ) (xs : List Exchange) : Type 0 where
+  pub opening : List Exchange
+  pub last : Exchange
+  pub later : List Exchange
+  pub is : xs ≡ opening ++ last ∷ later
+  pub calls : calls_in (opening ++ last ∷ []) ≡ following_calls child (opening ++ last ∷ [])
+  pub granted : All IsGranted opening
+  pub lives : last.reply ≢ reply.Fail Noent → RunsThen control [] later
+  pub ended : last.reply ≡ reply.Fail Noent → RunsThen control (with_opened_by [] opening) later
+
+-- The opening up to its first call that was refused, which is not the last one.
+pub record IsRefusedFollowing (child : ℕ) (errno : Errno) (xs : List Exchange) : Type 0 where
+  pub before : List Exchange
+  pub call : Call
+  pub last : xs ≡ before ++ record { call = call; reply = reply.Fail errno } ∷ []
+  pub calls : calls_in xs ≡ take (length xs) (following_calls child xs)
+  pub granted : All IsGranted before
+  pub not_last : length xs < 6
+
+-- It was refused, which is the next report, for this reason. What was opened of the child is closed, and the parent
+-- runs.
+pub record IsRefusedChild (child control : ℕ) (base reports : List Report) (xs : List Exchange) : Type 0 where
+  pub errno : Errno
+  pub opening : List Exchange
+  pub later : List Exchange
+  pub more : List Report
+  pub is : xs ≡ opening ++ later
+  pub refused : IsRefusedFollowing child errno opening
+  pub reported : reports ≡ base ++ CannotTrace child errno ∷ more
+  pub parent : RunsThen control (with_opened_by [] refused.before) later
+
+-- Truss was interrupted before the opening was done.
+pub record IsLeftChild (child : ℕ) (xs : List Exchange) : Type 0 where
+  pub opening : List Exchange
+  pub later : List Exchange
+  pub is : xs ≡ opening ++ later
+  pub interrupted : IsRefusedFollowing child Intr opening
+
+-- The exchanges end before the opening is done, and none of its calls was refused so far.
+pub record IsBegunChild (child : ℕ) (xs : List Exchange) : Type 0 where
+  pub calls : calls_in xs ≡ take (length xs) (following_calls child xs)
+  pub granted : All IsGranted xs
+  pub not_done : length xs < 6
+
+-- What the exchanges after the read do with the child, where the parent has this control file, and truss had reported
+-- so much then.
+pub data IsFollowedUp (child control : ℕ) (base reports : List Report) (xs : List Exchange) : Type 0 where
+  attached : IsAttachedChild child control xs → IsFollowedUp child control base reports xs
+  refused : IsRefusedChild child control base reports xs → IsFollowedUp child control base reports xs
+  left : IsLeftChild child xs → IsFollowedUp child control base reports xs
+  begun : IsBegunChild child xs → IsFollowedUp child control base reports xs

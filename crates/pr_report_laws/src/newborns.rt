@@ -1,0 +1,45 @@
+ghost use Rattle.std.specs.Prelude.{◌≡◌, ◌++◌, ℕ, false, List, [], ◌∷◌};
+ghost use Rattle.std.specs.List.{All};
+ghost use Rattle.pr_line.specs.declared.options.Options.{Options};
+ghost use Rattle.pr_model.specs.Events.{events_from};
+ghost use Rattle.pr_model.specs.Lawful.{IsLawful};
+ghost use Rattle.pr_model.specs.Legal.{IsLegal};
+ghost use Rattle.pr_model.specs.State.{TracedState};
+ghost use Rattle.pr_model.specs.declared.events.Entry.{Entry};
+ghost use Rattle.pr_range_laws.specs.ByteHistories.{HasBytes};
+ghost use Rattle.pr_range_laws.specs.InRange.{IsInRange};
+ghost use Rattle.pr_report_laws.specs.Births.{LeavesForks, NamesNoChild};
+ghost use Rattle.pr_report_laws.specs.Fits.{IsFitSystem};
+ghost use Rattle.pr_report_laws.specs.Grips.{HasFollowed};
+ghost use Rattle.pr_report_laws.specs.Newborn.{IsNoTurnOf, WasForked};
+ghost use Rattle.pr_report_laws.specs.Shown.{selected};
+ghost use Rattle.pr_report_laws.specs.Watching.{watches};
+ghost use Rattle.pr_truss.specs.Trusses.{first_truss};
+ghost use Rattle.pr_truss_laws.specs.Exchanges.{Makes, exchanges, truss_at};
+ghost use Rattle.pr_truss_laws.specs.Handles.{HasNothingOpen};
+
+/// Nothing is lost between a fork and the watch of its child. In a history of which truss shows the selected events,
+/// where the last entry makes truss watch a process by the calls with which it opens the child of a fork: that process
+/// was made by a fork of this history, no lwp of it has had a turn in it, and so no event of it that the options select
+/// was logged before truss watches it.
+#[tactic(auto, using(crate::proofs::NewbornLaws::newborns))]
+pub fn a_followed_child_does_nothing_before_it_is_watched()
+    ensures forked { (n k : ℕ) (o : Options) (pid : ℕ) (s : TracedState) (before : List Entry) (e : Entry) → IsLawful s
+        → IsFitSystem s.system → HasNothingOpen k s → IsLegal n s (before ++ e ∷ [])
+        → Makes (first_truss o) (exchanges k (before ++ e ∷ [])) → IsInRange s.system → HasBytes (before ++ e ∷ [])
+        → NamesNoChild o (before ++ e ∷ []) → LeavesForks k o (before ++ e ∷ [])
+        → watches (truss_at k o before) pid ≡ false → HasFollowed k pid (before ++ e ∷ [])
+        → WasForked pid (before ++ e ∷ []) }
+    ensures still { (n k : ℕ) (o : Options) (pid : ℕ) (s : TracedState) (before : List Entry) (e : Entry) → IsLawful s
+        → IsFitSystem s.system → HasNothingOpen k s → IsLegal n s (before ++ e ∷ [])
+        → Makes (first_truss o) (exchanges k (before ++ e ∷ [])) → IsInRange s.system → HasBytes (before ++ e ∷ [])
+        → NamesNoChild o (before ++ e ∷ []) → LeavesForks k o (before ++ e ∷ [])
+        → watches (truss_at k o before) pid ≡ false → HasFollowed k pid (before ++ e ∷ [])
+        → All (IsNoTurnOf pid) (before ++ e ∷ []) }
+    ensures silent { (n k : ℕ) (o : Options) (pid : ℕ) (s : TracedState) (before : List Entry) (e : Entry) → IsLawful s
+        → IsFitSystem s.system → HasNothingOpen k s → IsLegal n s (before ++ e ∷ [])
+        → Makes (first_truss o) (exchanges k (before ++ e ∷ [])) → IsInRange s.system → HasBytes (before ++ e ∷ [])
+        → NamesNoChild o (before ++ e ∷ []) → LeavesForks k o (before ++ e ∷ [])
+        → watches (truss_at k o before) pid ≡ false → HasFollowed k pid (before ++ e ∷ [])
+        → selected o pid (events_from s (before ++ e ∷ [])) ≡ [] }
+{}
