@@ -1,10 +1,11 @@
-use Rattle.std.proofs.Common.{◌≡◌, ◌==◌, ℕ, zero, suc, Bool, true, false, cond, Option, Some, None, List, [], ◌∷◌, replicate, refl, sym, ◌∙◌, ap, subst}
+use Rattle.std.proofs.Common.{◌≡◌, ◌==◌, ◌++◌, ℕ, zero, suc, Bool, true, false, cond, Option, Some, None, List, [], ◌∷◌, replicate, refl, sym, ◌∙◌, ap, subst}
 use Rattle.std.proofs.lemmas.Bool.{eqb-true, eqb-false}
+use Rattle.std.proofs.lemmas.List.Elements.{filter_map-append}
 use Rattle.std.specs.List.{cons_option, slice_get}
 use Rattle.std.specs.Option.{option_and_then}
 use Rattle.pr_line.specs.declared.options.Options.{Options}
 use Rattle.pr_model.specs.Handles.{handle_of, own}
-use Rattle.pr_model.specs.Legal.{IsLegal, after}
+use Rattle.pr_model.specs.Legal.{IsLegal, after, state_after}
 use Rattle.pr_model.specs.State.{Places, TracedState, nothing_open}
 use Rattle.pr_model.specs.declared.calls.Call.{Call}
 use Rattle.pr_model.specs.declared.calls.Reply.{Reply}
@@ -19,18 +20,21 @@ use Rattle.pr_range_laws.specs.ByteHistories.{HasBytes}
 use Rattle.pr_range_laws.specs.InRange.{IsInRange}
 use Rattle.pr_report_laws.proofs.BeginLaws.{finished-watches-none}
 use Rattle.pr_report_laws.proofs.Births.{births-report}
+use Rattle.pr_report_laws.proofs.ReleaseLaws.{traced-released}
+use Rattle.pr_report_laws.proofs.WatchHistories.{makes-front}
+use Rattle.pr_tool_laws.proofs.WholeLemmas.{front-legal}
 use Rattle.pr_report_laws.specs.Fits.{IsFitSystem}
 use Rattle.pr_truss.specs.Feeding.{fed}
 use Rattle.pr_truss.specs.NextCalls.{next_call_of}
 use Rattle.pr_truss.specs.Trusses.{TrussState, first_truss}
 use Rattle.pr_truss_laws.proofs.GivenLemmas.{given-handled}
 use Rattle.pr_truss_laws.proofs.OwnLemmas.{nothing-open}
-use Rattle.pr_truss_laws.specs.Exchanges.{Ends, Exchange, Makes, exchange_in, exchange_of, exchanges, truss_after}
+use Rattle.pr_truss_laws.specs.Exchanges.{Ends, Exchange, Makes, exchange_in, exchange_of, exchanges, truss_after, truss_at}
 use Rattle.pr_truss_laws.specs.Handles.{HasNothingOpen}
 use Rattle.pr_world.specs.Controllers.{after_reply, call_by, next_call, with_fed}
 use Rattle.pr_world.specs.Cores.{Core, Truss}
 use Rattle.pr_world.specs.Protocol.{Follows, FollowsAt, controllers_after, controllers_at}
-use Rattle.pr_run_laws.specs.TrussRuns.{IsTrussKept}
+use Rattle.pr_run_laws.specs.TrussRuns.{Releases, IsTrussKept}
 use Rattle.pr_num.specs.Limits.{handle_limit}
 use Rattle.pr_tool_laws.proofs.ConductLemmas.{fed-other, fed-own}
 
@@ -99,6 +103,20 @@ pub nothing-held : (k : ℕ) (s : TracedState) → s.opens ≡ nothing_open → 
 unfolding handle_of nothing_open
 nothing-held k s none = record { none = λ number. ap (λ (opens : Places). own k (slice_get opens number)) none ∙ none-held k handle_limit number }
 
+-- a truss makes its calls in the front of a history too
+exchanges-both : (k : ℕ) (xs ys : List Entry) → exchanges k (xs ++ ys) ≡ exchanges k xs ++ exchanges k ys
+unfolding exchanges
+exchanges-both k xs ys = filter_map-append (exchange_of k) xs ys
+
+truss-releases : (n k : ℕ) (o : Options) (first : TracedState) (h before later : List Entry) → IsLawful first → HasNothingOpen k first → IsLegal n first h → Makes (first_truss o) (exchanges k h) → h ≡ before ++ later → Releases k (truss_at k o before) (state_after first before)
+truss-releases n k o first h before later lawful none legal makes is = record {
+  each = λ place p a within set live closed.
+      traced-released n k o first before lawful none
+      (front-legal n first before later (subst (IsLegal n first) is legal))
+      (makes-front (first_truss o) (exchanges k before) (exchanges k later) (subst (Makes (first_truss o)) (ap (exchanges k) is ∙ exchanges-both k before later) makes))
+      place within p a set live closed;
+}
+
 pub truss-kept : (controllers : List Core) (n : ℕ) (first : TracedState) (h : List Entry) (k : ℕ) (o : Options) → IsLawful first → IsFitSystem first.system → IsInRange first.system → HasBytes h → slice_get controllers k ≡ Some (Truss (first_truss o)) → HasNothingOpen k first → IsLegal n first h → Follows controllers first h → IsTrussKept controllers first h k o
 truss-kept controllers n first h k o lawful fit range bytes at none legal follows =
     let stays = truss-stays h controllers first k (first_truss o) at follows in
@@ -106,6 +124,7 @@ truss-kept controllers n first h k o lawful fit range bytes at none legal follow
       makes = stays.0;
       truss = stays.1;
       shows = λ pid named forks. births-report n k o pid first h lawful fit none legal stays.0 range bytes named forks;
+      releases = λ before later is. truss-releases n k o first h before later lawful none legal stays.0 is;
       done = λ finished.
           let ends : Ends (first_truss o) (exchanges k h) = record { makes = stays.0; finished = finished } in
           record { handled = given-handled o (exchanges k h) ends; nothing_open = nothing-open n k o first h none legal ends; watches_none = λ pid. finished-watches-none k o pid h finished };

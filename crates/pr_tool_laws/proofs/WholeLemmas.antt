@@ -142,7 +142,7 @@ module _ (pid : ℕ) (s : TracedSystem) (lawful : IsLawfulSystem s) (ranged : Is
 
 -- ---- the front of a history
 
-front-legal : (n : ℕ) (s : TracedState) (before rest : List Entry) → IsLegal n s (before ++ rest) → IsLegal n s before
+pub front-legal : (n : ℕ) (s : TracedState) (before rest : List Entry) → IsLegal n s (before ++ rest) → IsLegal n s before
 front-legal n s [] rest legal = tt
 front-legal n s (e ∷ before) rest legal = (legal.0, front-legal n (after s e) before rest legal.1)
 
