@@ -38,8 +38,9 @@ pub record Releases (k : ℕ) (t : TrussState) (s : TracedState) : Type 0 where
 
 -- The controller of a number is a truss with these options, whose calls are those that it makes after the replies that
 -- it got. Of each process it has shown what was selected of its events while it watched the process. Where it follows
--- children, fork makes none of the processes that its options name, and between a fork and the opening of its child no
--- other controller is granted a handle for writing of the child. Wherever it has come to, it releases what it closes.
+-- children, this is said only if fork makes none of the processes that its options name, and if between a fork and the
+-- opening of its child no other controller is granted a handle for writing of the child. Wherever it has come to, it
+-- releases the processes that it has attached when it closes their control files.
 pub record IsTrussKept (controllers : List Core) (first : TracedState) (h : List Entry) (k : ℕ) (o : Options) : Type 0 where
   pub makes : Makes (first_truss o) (exchanges k h)
   pub truss : slice_get (controllers_at controllers h) k ≡ Some (Truss (truss_at k o h))
