@@ -1,8 +1,7 @@
 #!/usr/bin/env bash
 # What the gate costs from nothing: processor seconds of each crate for its proofs, its tests and its must-fail edits,
-# and their sum. The last commit is measured, in a copy that has no work of its own, by `rt ci` itself; `rt` takes over
-# what other checkouts on this machine proved of the same files, so for the whole cost no other one may have proved them.
-# Words are a command that is measured in the copy instead, such as `sh -c "cd crates/pr_num && rt check"`.
+# and their sum. The last commit is measured, in a copy that has no work of its own, by `rt ci` itself. Words are a
+# command that is measured in the copy instead, such as `.ci/run` or `sh -c "cd crates/pr_num && rt check"`.
 #
 # The processor time of the command and of all that it starts is exact. Its parts are read twice a second from /proc for
 # each run of the prover, so what a run takes after the last reading is in the row `other`, with what is no prover.

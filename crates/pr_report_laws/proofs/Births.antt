@@ -42,9 +42,10 @@ use Rattle.pr_report_laws.proofs.ClaimRuns.{call_entry}
 use Rattle.pr_report_laws.proofs.ClaimStands.{IsStanding}
 use Rattle.pr_report_laws.proofs.FileLaws.{HasFiles}
 use Rattle.pr_report_laws.proofs.FileSteps.{MakesNext, entry-lawful, first-files, makes-next}
+use Rattle.pr_report_laws.proofs.UnreadLaws.{truss-reports}
 use Rattle.pr_report_laws.proofs.WatchHistories.{uninterrupted}
 use Rattle.pr_report_laws.proofs.ForkTurns.{LeavesChildren}
-use Rattle.pr_report_laws.proofs.HistoryLaw.{BirthsFrom, OpensAtBirth, after-next, first-is, first-prepares, no-exchanges, reads-back, truss-reports}
+use Rattle.pr_report_laws.proofs.HistoryLaw.{BirthsFrom, OpensAtBirth, after-next, first-is, first-prepares, no-exchanges, reads-back}
 use Rattle.pr_report_laws.proofs.HistorySteps.{Holds, IsBorn, entry-holds}
 use Rattle.pr_report_laws.proofs.Leaving.{IsLeaving, fed-leaving, first-leaving}
 use Rattle.pr_report_laws.proofs.NewBorn.{untouched-now}

@@ -35,10 +35,11 @@ use Rattle.pr_report_laws.proofs.ClaimStands.{IsStanding, stood-at}
 use Rattle.pr_report_laws.proofs.EntrySteps.{made-at}
 use Rattle.pr_report_laws.proofs.FileLaws.{HasFiles}
 use Rattle.pr_report_laws.proofs.ForkTurns.{HasForked, alone-forked, LeavesChildren, forked-born, forked-next}
-use Rattle.pr_report_laws.proofs.FrameLaws.{alone-control, others-entry}
+use Rattle.pr_truss_laws.proofs.OutlastLemmas.{others-entry}
+use Rattle.pr_report_laws.proofs.FrameLaws.{alone-control}
 use Rattle.pr_report_laws.proofs.NewBorn.{IsNewBorn, new-born-on}
 use Rattle.pr_report_laws.proofs.OtherSteps.{lives-later}
-use Rattle.pr_report_laws.proofs.OverLaws.{stays-over}
+use Rattle.pr_truss_laws.proofs.OverLemmas.{stays-over}
 use Rattle.pr_report_laws.proofs.OwnTurnLaws.{event-halts, state-after}
 use Rattle.pr_report_laws.proofs.Standing as st
 use Rattle.pr_report_laws.proofs.Standing.{Position}

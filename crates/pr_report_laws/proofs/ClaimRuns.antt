@@ -29,10 +29,10 @@ use Rattle.pr_report_laws.proofs.ClaimStands.{IsStanding, stood-at}
 use Rattle.pr_report_laws.proofs.ClaimReach.{Reaches, reaches}
 use Rattle.pr_report_laws.proofs.EntrySteps.{made-at}
 use Rattle.pr_report_laws.proofs.FileUses as uses
-use Rattle.pr_report_laws.proofs.FrameLaws.{Outlasts, killed, lives, own-call-elsewhere}
+use Rattle.pr_truss_laws.proofs.OutlastLemmas.{Outlasts, killed, lives, own-call-elsewhere}
 use Rattle.pr_report_laws.proofs.OpeningFacts.{opening-done}
 use Rattle.pr_report_laws.proofs.OpeningParts.{HasStarted, IsStepDone}
-use Rattle.pr_report_laws.proofs.OverLaws.{stays-over}
+use Rattle.pr_truss_laws.proofs.OverLemmas.{stays-over}
 use Rattle.pr_report_laws.proofs.OwnCalls.{Misses}
 use Rattle.pr_report_laws.proofs.OwnLooks.{IsCall}
 use Rattle.pr_report_laws.proofs.RunLaws.{HasRun, run-accepted, run-control, run-granted, run-live}

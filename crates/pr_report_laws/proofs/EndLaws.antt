@@ -41,7 +41,7 @@ use Rattle.pr_report_laws.proofs.StandLemmas.{Stands}
 use Rattle.pr_report_laws.proofs.WatchHistories.{IsAnswered, IsRun, Reaches, exchange-answered, run-front, run-last, run-next, run-reaches, truss_at-push}
 use Rattle.pr_report_laws.proofs.WatchMemory.{HasInterrupt, reached-comes, run-recalls}
 use Rattle.pr_report_laws.proofs.WatchedPlaces.{IsWatched, place-watched, watched-place}
-use Rattle.pr_report_laws.specs.Grips.{Lets, ended, left}
+use Rattle.pr_report_laws.specs.Grips.{IsLetGo, ended, left}
 use Rattle.pr_report_laws.specs.Watching.{is_away, watches, with_exchange}
 
 -- Truss lets a process go in no other way than these: it has ended; or truss was interrupted, and looked at its lwps.
@@ -183,11 +183,11 @@ module _ (n k : ℕ) (o : Options) (pid : ℕ) (s : TracedState) (before : List 
     unfolding now
     answered = exchange-answered n k (state_after s before) e x (run-last n k o s before e run) its
 
-    over : (place : ℕ) → (traced_at t place).pid ≡ pid → live_process now.system (traced_at t place).pid ≡ None → Lets k pid s before e
+    over : (place : ℕ) → (traced_at t place).pid ≡ pid → live_process now.system (traced_at t place).pid ≡ None → IsLetGo k pid s before e
     unfolding now
     over place of none = ended (subst (λ p. live_process (state_after s before).system p ≡ None) of none)
 
-    left-it : t.stage ≡ ReadingLwps → (traced_at t 0).pid ≡ pid → GivesBytes x.reply → Lets k pid s before e
+    left-it : t.stage ≡ ReadingLwps → (traced_at t 0).pid ≡ pid → GivesBytes x.reply → IsLetGo k pid s before e
     unfolding t now call_of
     left-it is of b =
         let g = reached in
@@ -210,10 +210,10 @@ module _ (n k : ℕ) (o : Options) (pid : ℕ) (s : TracedState) (before : List 
           file = refl;
         })
 
-    looked-at : t.stage ≡ ReadingLwps → (traced_at t 0).pid ≡ pid → Lets k pid s before e
+    looked-at : t.stage ≡ ReadingLwps → (traced_at t 0).pid ≡ pid → IsLetGo k pid s before e
     looked-at is of = elim (lwps-known k t now x next-is reached answered is) [ inl none ↦ over 0 of none | inr b ↦ left-it is of b ]
 
-    ends-so : (place : ℕ) → IsWatched t pid place → Ends t x.reply place → Lets k pid s before e
+    ends-so : (place : ℕ) → IsWatched t pid place → Ends t x.reply place → IsLetGo k pid s before e
     ends-so place w (away_before away) = absurd (false≢true (sym w.here ∙ away))
     ends-so place w (is_new last) = absurd (nowhere w.within last)
       where
@@ -226,7 +226,7 @@ module _ (n k : ℕ) (o : Options) (pid : ℕ) (s : TracedState) (before : List 
     unfolding t
     later-is = truss_at-push k o before e ∙ ap (with_exchange (truss_at k o before)) its
 
-    let-go : Lets k pid s before e
+    let-go : IsLetGo k pid s before e
     unfolding t
     let-go =
         let g = reached in
@@ -244,9 +244,9 @@ module _ (n k : ℕ) (o : Options) (pid : ℕ) (s : TracedState) (before : List 
   stays-on none = false≢true (sym off ∙ subst (λ (u : TrussState). watches u pid ≡ true) (sym (truss_at-push k o before e ∙ ap (with_exchange (truss_at k o before)) none)) on)
 
   -- Why an entry makes truss watch a process no more.
-  pub watched-let : Lets k pid s before e
+  pub watched-let : IsLetGo k pid s before e
   watched-let = by (exchange_of k e) refl
     where
-      by : (x : Option Exchange) → exchange_of k e ≡ x → Lets k pid s before e
+      by : (x : Option Exchange) → exchange_of k e ≡ x → IsLetGo k pid s before e
       by None none = absurd (stays-on none)
       by (Some x) its = let-go x its

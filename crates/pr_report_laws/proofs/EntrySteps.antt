@@ -22,9 +22,9 @@ use Rattle.pr_truss_laws.proofs.OpensLemmas.{held_by}
 use Rattle.pr_truss_laws.proofs.OwnLemmas.{Owns}
 use Rattle.pr_report_laws.proofs.FileLaws.{HasFiles}
 use Rattle.pr_report_laws.proofs.FileUses.{place-is}
-use Rattle.pr_report_laws.proofs.FrameLaws.{Outlasts, others-entry}
+use Rattle.pr_truss_laws.proofs.OutlastLemmas.{Outlasts, others-entry}
 use Rattle.pr_report_laws.proofs.OtherSteps.{accounted-why, prepares-on, standing-on}
-use Rattle.pr_report_laws.proofs.OverLaws.{stays-made, stays-over}
+use Rattle.pr_truss_laws.proofs.OverLemmas.{stays-made, stays-over}
 use Rattle.pr_report_laws.proofs.Standing.{Prepares, Standing, apart, lives, over}
 use Rattle.pr_report_laws.specs.Shown.{LwpEvent, shown}
 use Rattle.pr_report_laws.specs.Watching.{place_of, watches, watches_at}

@@ -103,6 +103,15 @@ module _ (s : TracedState) (k m : ℕ) (h : Held) (held : handle_of s.opens k m 
       by false None told = refl
       by false (Some p) told = absurd (live-there s.system h.pid h.lwp from len p f read told)
 
+  -- A read that gives bytes: the process lives.
+  pub read-lives : (from len : ℕ) (f : File) (bytes : List ℕ) → h.file ≡ f → is_read f ≡ true → answer_to s k (call.Read m from len) ≡ Some a → a.reply ≡ reply.Bytes bytes → live_process s.system h.pid ≢ None
+  read-lives from len f bytes same read is given = by ((len == 0) || nat_lt read_limit len) (live_process s.system h.pid) (sym (reply-is from len f same read is) ∙ given)
+    where
+      by : (b : Bool) (o : Option TracedProcess) → cond b (reply.Fail Inval) (of_process s.system h.pid h.lwp from len f o) ≡ reply.Bytes bytes → o ≢ None
+      by true o told none = cc
+      by false None told none = cc
+      by false (Some p) told none = cc
+
   -- The statuses of its lwps are read, or the process has ended.
   pub lwps-given : h.file ≡ file.Lstatus → answer_to s k (call.Read m 0 read_limit) ≡ Some a → (live_process s.system h.pid ≡ None) ⊎ GivesBytes a.reply
   unfolding file_reply

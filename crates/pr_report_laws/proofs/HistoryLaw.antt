@@ -35,7 +35,7 @@ use Rattle.pr_report_laws.proofs.Standing.{Accounted, Position, Prepares, Standi
 use Rattle.pr_report_laws.proofs.WatchHistories.{uninterrupted}
 use Rattle.pr_report_laws.specs.Fits.{IsFitSystem}
 use Rattle.pr_report_laws.proofs.Positions.{IsAtBirth}
-use Rattle.pr_report_laws.specs.Reported.{IsKilled, IsReported}
+use Rattle.pr_report_laws.specs.Reported.{IsKilled}
 use Rattle.pr_report_laws.specs.Shown.{LwpEvent, event_selected, selected, shown}
 use Rattle.pr_report_laws.specs.Watching.{events_watched, told_of, watches, with_exchange}
 
@@ -95,6 +95,30 @@ killed-first k pid t s e h w = record { before = []; entry = e; later = h; is = 
 killed-later : (k pid : ℕ) (t : TrussState) (s : TracedState) (e : Entry) (h : List Entry) → IsKilled k pid (told_of k t e) (after s e) h → IsKilled k pid t s (e ∷ h)
 killed-later k pid t s e h w = record { before = e ∷ w.before; entry = w.entry; later = w.later; is = ap (λ (es : List Entry). e ∷ es) w.is; watched = ap (λ (u : TrussState). watches u pid) (after-next k t e w.before) ∙ w.watched; process = w.process; lived = w.lived; zombie = w.zombie; left = w.left; status = w.status }
 
+-- ---- what holds along a history
+
+-- what holds before these entries, where so much was selected, and what is asked of them
+pub record Along (K : Type 0) (n k : ℕ) (o : Options) (pid : ℕ) (t : TrussState) (s : TracedState) (base : List LwpEvent) (h : List Entry) : Type 0 where
+  pub holds : Holds K k o pid t s base
+  pub legal : IsLegal n s h
+  pub makes : Makes t (exchanges k h)
+  pub range : IsInRange s.system
+  pub bytes : HasBytes h
+  pub births : BirthsFrom k o pid t s h
+
+pub along-next : (K : Type 0) (n k : ℕ) (o : Options) (pid : ℕ) (t : TrussState) (s : TracedState) (base : List LwpEvent) (e : Entry) (h : List Entry) → Along K n k o pid t s base (e ∷ h) → Along (K ⊎ EndsByKill pid t s e) n k o pid (told_of k t e) (after s e) (base ++ selected_of o pid t s e) h
+along-next K n k o pid t s base e h g =
+    let holds : Holds K k o pid t s base = g.holds in
+    let first = makes-next k t e h g.makes in
+    record {
+      holds = entry-holds K n k o pid t s base holds (uninterrupted k s) (reads-back pid s holds.lawful g.range) e (births-now k o pid t s e h g.births) g.legal.0 first.0;
+      legal = g.legal.1;
+      makes = first.1;
+      range = history-range n s (e ∷ []) holds.lawful g.range (All-cons IsEntryOfBytes e [] (All-head IsEntryOfBytes e h g.bytes) (All-nil IsEntryOfBytes)) (g.legal.0, tt);
+      bytes = All-tail IsEntryOfBytes e h g.bytes;
+      births = births-later k o pid t s e h g.births;
+    }
+
 -- ---- histories
 
 -- what truss has shown after these entries, where so much was selected before, and why an event may be missing
@@ -145,15 +169,18 @@ module _ (k : ℕ) (o : Options) (pid : ℕ) where
   causes-on K t s e h (inl (inr now)) = inr (killed-first k pid t s e h now)
   causes-on K t s e h (inr later) = inr (killed-later k pid t s e h later)
 
+  -- what is selected of these entries is what is selected of the first one and of the others
+  pub watched-next : (t : TrussState) (s : TracedState) (base : List LwpEvent) (e : Entry) (h : List Entry) → base ++ selected o pid (events_watched k pid t s (e ∷ h)) ≡ (base ++ selected_of o pid t s e) ++ selected o pid (events_watched k pid (told_of k t e) (after s e) h)
+  watched-next t s base e h =
+      ap (λ (xs : List LwpEvent). base ++ xs) (selected-both o pid (cond (watches t pid) (events_of s e) []) (events_watched k pid (told_of k t e) (after s e) h))
+      ∙ sym (append_assoc base (selected_of o pid t s e) (selected o pid (events_watched k pid (told_of k t e) (after s e) h)))
+
   next-reports : (K : Type 0) (t : TrussState) (s : TracedState) (base : List LwpEvent) (e : Entry) (h : List Entry) → Reports ((K ⊎ EndsByKill pid t s e) ⊎ IsKilled k pid (told_of k t e) (after s e) h) k o pid (told_of k t e) (after s e) (base ++ selected_of o pid t s e) h → Reports (K ⊎ IsKilled k pid t s (e ∷ h)) k o pid t s base (e ∷ h)
   next-reports K t s base e h r =
       let same = after-next k t e h in
       record {
         missing = r.missing;
-        is =
-            ap (λ (xs : List LwpEvent). base ++ xs) (selected-both o pid (cond (watches t pid) (events_of s e) []) (events_watched k pid (told_of k t e) (after s e) h))
-            ∙ sym (append_assoc base (selected_of o pid t s e) (selected o pid (events_watched k pid (told_of k t e) (after s e) h)))
-            ∙ r.is ∙ ap (λ (u : TrussState). shown pid u ++ r.missing) (sym same);
+        is = watched-next t s base e h ∙ r.is ∙ ap (λ (u : TrussState). shown pid u ++ r.missing) (sym same);
         few = subst (λ (u : TrussState). (r.missing ≡ []) ⊎ ((event : LwpEvent) × ((r.missing ≡ event ∷ []) × ((watches u pid ≡ true) ⊎ (K ⊎ IsKilled k pid t s (e ∷ h)))))) (sym same)
             (elim r.few [ inl none ↦ inl none | inr one ↦ inr (one.0, (one.1.0, elim one.1.1 [ inl on ↦ inl on | inr cause ↦ inr (causes-on K t s e h cause) ])) ]);
       }
@@ -161,12 +188,9 @@ module _ (k : ℕ) (o : Options) (pid : ℕ) where
   weaker : (K L : Type 0) (t : TrussState) (s : TracedState) (base : List LwpEvent) → (K → L) → Reports K k o pid t s base [] → Reports L k o pid t s base []
   weaker K L t s base more r = record { missing = r.missing; is = r.is; few = elim r.few [ inl none ↦ inl none | inr one ↦ inr (one.0, (one.1.0, elim one.1.1 [ inl on ↦ inl on | inr cause ↦ inr (more cause) ])) ] }
 
-  history-reports : (h : List Entry) (K : Type 0) (n : ℕ) (t : TrussState) (s : TracedState) (base : List LwpEvent) → Holds K k o pid t s base → IsLegal n s h → Makes t (exchanges k h) → IsInRange s.system → HasBytes h → BirthsFrom k o pid t s h → Reports (K ⊎ IsKilled k pid t s h) k o pid t s base h
-  history-reports [] K n t s base holds legal makes range bytes births = weaker K (K ⊎ IsKilled k pid t s []) t s base (λ cause. inl cause) (last-reports K t s base holds.standing)
-  history-reports (e ∷ h) K n t s base holds legal makes range bytes births =
-      let first = makes-next k t e h makes in
-      let next = entry-holds K n k o pid t s base holds (uninterrupted k s) (reads-back pid s holds.lawful range) e (births-now k o pid t s e h births) legal.0 first.0 in
-      next-reports K t s base e h (history-reports h (K ⊎ EndsByKill pid t s e) n (told_of k t e) (after s e) (base ++ selected_of o pid t s e) next legal.1 first.1 (history-range n s (e ∷ []) holds.lawful range (All-cons IsEntryOfBytes e [] (All-head IsEntryOfBytes e h bytes) (All-nil IsEntryOfBytes)) (legal.0, tt)) (All-tail IsEntryOfBytes e h bytes) (births-later k o pid t s e h births))
+  pub history-reports : (h : List Entry) (K : Type 0) (n : ℕ) (t : TrussState) (s : TracedState) (base : List LwpEvent) → Along K n k o pid t s base h → Reports (K ⊎ IsKilled k pid t s h) k o pid t s base h
+  history-reports [] K n t s base g = let holds : Holds K k o pid t s base = g.holds in weaker K (K ⊎ IsKilled k pid t s []) t s base (λ cause. inl cause) (last-reports K t s base holds.standing)
+  history-reports (e ∷ h) K n t s base g = next-reports K t s base e h (history-reports h (K ⊎ EndsByKill pid t s e) n (told_of k t e) (after s e) (base ++ selected_of o pid t s e) (along-next K n k o pid t s base e h g))
 
 -- ---- the first state
 
@@ -200,25 +224,23 @@ first-prepares o pid s t first = record {
   new = λ parent place step stage. absurd (first.follows parent place step stage);
 }
 
-pub truss-reports : (n k : ℕ) (o : Options) (pid : ℕ) (s : TracedState) (h : List Entry) → IsLawful s → IsFitSystem s.system → HasNothingOpen k s → IsLegal n s h → Makes (first_truss o) (exchanges k h) → IsInRange s.system → HasBytes h → OpensAtBirth k o pid s h → IsReported k o pid s h
-truss-reports n k o pid s h lawful fit none legal makes range bytes births =
+-- so it is along a whole history
+pub first-along : (n k : ℕ) (o : Options) (pid : ℕ) (s : TracedState) (h : List Entry) → IsLawful s → IsFitSystem s.system → HasNothingOpen k s → IsLegal n s h → Makes (first_truss o) (exchanges k h) → IsInRange s.system → HasBytes h → OpensAtBirth k o pid s h → Along ⊥ n k o pid (first_truss o) s [] h
+first-along n k o pid s h lawful fit none legal makes range bytes births =
     let first = first-is o pid in
-    let r = history-reports k o pid h ⊥ n (first_truss o) s [] (record {
-      lawful = lawful;
-      fit = fit;
-      owns = first-owns k o s none;
-      files = first-files k o s;
-      options = first.options;
-      prepares = first-prepares o pid s (first_truss o) first;
-      standing = apart first.nobody (record { missing = []; is = sym (append-nil (shown pid (first_truss o)) ∙ first.nothing); few = inl refl });
-    }) legal makes
-    range bytes
-    (record { child = λ before later e x handle parent p is own stage reply live. births.child before later e x handle parent p is own stage reply live }) in
     record {
-      missing = r.missing;
-      is = r.is;
-      few = elim r.few [
-        | inl nothing ↦ inl nothing
-        | inr one ↦ inr (record { event = one.0; one = one.1.0; cause = elim one.1.1 [ inl on ↦ inl on | inr cause ↦ elim cause [ inl never ↦ absurd never | inr killed ↦ inr killed ] ] })
-      ];
+      holds = record {
+        lawful = lawful;
+        fit = fit;
+        owns = first-owns k o s none;
+        files = first-files k o s;
+        options = first.options;
+        prepares = first-prepares o pid s (first_truss o) first;
+        standing = apart first.nobody (record { missing = []; is = sym (append-nil (shown pid (first_truss o)) ∙ first.nothing); few = inl refl });
+      };
+      legal = legal;
+      makes = makes;
+      range = range;
+      bytes = bytes;
+      births = record { child = λ before later e x handle parent p is own stage reply live. births.child before later e x handle parent p is own stage reply live };
     }

@@ -29,7 +29,7 @@ use Rattle.pr_report_laws.proofs.FileSteps.{IsUninterrupted, MakesNext, entry-fi
 use Rattle.pr_report_laws.proofs.OptionLemmas.{told-options}
 use Rattle.pr_report_laws.proofs.FitHistoryLemmas.{history-fits}
 use Rattle.pr_report_laws.proofs.FrameLaws.{no-events}
-use Rattle.pr_report_laws.proofs.OverLaws.{stays-made, stays-over}
+use Rattle.pr_truss_laws.proofs.OverLemmas.{stays-made, stays-over}
 use Rattle.pr_report_laws.proofs.OwnCallSteps.{call-goes}
 use Rattle.pr_report_laws.proofs.OwnCalls.{Leaves}
 use Rattle.pr_report_laws.proofs.OwnLooks.{IsCall, ReadsBack}

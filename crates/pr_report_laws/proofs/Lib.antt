@@ -1,3 +1,4 @@
+pub mod AnsweredReads
 pub mod BeginLaws
 pub mod BeginsOnlyLaws
 pub mod Births
@@ -63,7 +64,6 @@ pub mod OpeningSteps
 pub mod OptionLemmas
 pub mod Orderly
 pub mod OtherSteps
-pub mod OverLaws
 pub mod OwnCallSteps
 pub mod OwnCalls
 pub mod OwnChild
@@ -88,6 +88,7 @@ pub mod ReleaseSteps
 pub mod RunLaws
 pub mod RunSteps
 pub mod SettingLaws
+pub mod ShownGrows
 pub mod StageChanges
 pub mod StageReplies
 pub mod StandLemmas
@@ -101,6 +102,7 @@ pub mod TextSteps
 pub mod TracedPlaces
 pub mod TracedPoints
 pub mod TurnSettings
+pub mod UnreadLaws
 pub mod Unwatched
 pub mod WatchHistories
 pub mod WatchMemory

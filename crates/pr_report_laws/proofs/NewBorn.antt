@@ -27,8 +27,9 @@ use Rattle.pr_truss_laws.proofs.ForeignLemmas.{call-passes}
 use Rattle.pr_truss_laws.proofs.FrameLemmas.{undisturbed-self}
 use Rattle.pr_truss_laws.proofs.OpensLemmas.{close-closes, held_by, open-opens, plain-leaves}
 use Rattle.pr_truss_laws.proofs.StillLemmas.{frozen-turns}
-use Rattle.pr_report_laws.proofs.FrameLaws.{Outlasts, alone-birth, alone-control, killed, lives, others-turn, outlasts, ticked-live}
-use Rattle.pr_report_laws.proofs.OverLaws.{stays-made, stays-over}
+use Rattle.pr_truss_laws.proofs.OutlastLemmas.{Outlasts, killed, lives, others-turn, outlasts, ticked-live}
+use Rattle.pr_report_laws.proofs.FrameLaws.{alone-birth, alone-control}
+use Rattle.pr_truss_laws.proofs.OverLemmas.{stays-made, stays-over}
 use Rattle.pr_report_laws.specs.Births.{granted}
 use Rattle.pr_report_laws.proofs.Positions.{IsAtBirth}
 

@@ -58,7 +58,7 @@ use Rattle.pr_report_laws.proofs.NewBorn.{IsNeverGranted, never-later}
 use Rattle.pr_report_laws.proofs.NewbornForks.{IsForkOf, claims-forked, forked-before, forked-last}
 use Rattle.pr_report_laws.proofs.NextStages.{opens}
 use Rattle.pr_report_laws.proofs.OpeningRuns.{born-following, child-pid}
-use Rattle.pr_report_laws.proofs.OverLaws.{stays-made}
+use Rattle.pr_truss_laws.proofs.OverLemmas.{stays-made}
 use Rattle.pr_report_laws.proofs.OwnLooks.{ReadsBack}
 use Rattle.pr_report_laws.proofs.OwnOpens.{granted-handle}
 use Rattle.pr_report_laws.proofs.StageChanges.{How, Opens, at, child_goes, child_starts, free, goes, less, no, starts}

@@ -14,7 +14,8 @@ use Rattle.pr_truss.specs.declared.stages.OpeningStep.TheVariants as opening
 use Rattle.pr_truss.specs.declared.stages.Stage.{Stage}
 use Rattle.pr_truss_laws.proofs.AloneLemmas.{alone-halting, alone-quiet}
 use Rattle.pr_truss_laws.specs.Stills.{IsUndisturbed}
-use Rattle.pr_report_laws.proofs.FrameLaws.{Outlasts, lives, killed, alone-agent, alone-birth, alone-lwp, alone-event, alone-met, alone-traced, alone-waits}
+use Rattle.pr_truss_laws.proofs.OutlastLemmas.{Outlasts, lives, killed}
+use Rattle.pr_report_laws.proofs.FrameLaws.{alone-agent, alone-birth, alone-lwp, alone-event, alone-met, alone-traced, alone-waits}
 use Rattle.pr_report_laws.proofs.Standing.{Accounted, HasEntries, HasExits, HasFaults, HasSignals, HasStop, IsAttached, IsCounted, IsSpared, Opened, Position, Prepares, Standing, apart, goes, has_event, old_stops, over, stop_read, unread}
 use Rattle.pr_report_laws.proofs.Standing as standing
 use Rattle.pr_report_laws.proofs.Positions.{Waits, met_in}

@@ -20,7 +20,7 @@ use Rattle.pr_truss_laws.proofs.OwnLemmas.{Owns}
 use Rattle.pr_report_laws.proofs.EntrySteps.{Lost, made-at, nowhere-prepares, unwatched}
 use Rattle.pr_report_laws.proofs.FileLaws.{HasFiles}
 use Rattle.pr_report_laws.proofs.FileUses.{place-is}
-use Rattle.pr_report_laws.proofs.FrameLaws.{Outlasts, own-call-elsewhere}
+use Rattle.pr_truss_laws.proofs.OutlastLemmas.{Outlasts, own-call-elsewhere}
 use Rattle.pr_report_laws.proofs.OtherSteps.{accounted-why, prepares-on, standing-on}
 use Rattle.pr_report_laws.proofs.Standing.{Prepares, Standing, apart, lives, over}
 use Rattle.pr_report_laws.specs.Shown.{LwpEvent, shown}

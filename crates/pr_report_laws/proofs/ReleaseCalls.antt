@@ -42,9 +42,9 @@ use Rattle.pr_report_laws.proofs.EntrySteps.{made-at}
 use Rattle.pr_report_laws.proofs.FileLaws.{HasFiles}
 use Rattle.pr_report_laws.proofs.FileUses as uses
 use Rattle.pr_report_laws.proofs.FileUses.{stage_place}
-use Rattle.pr_report_laws.proofs.FrameLaws.{Outlasts, killed, lives, outlasts}
+use Rattle.pr_truss_laws.proofs.OutlastLemmas.{Outlasts, killed, lives, outlasts}
 use Rattle.pr_report_laws.proofs.OwnOpens.{open-stays}
-use Rattle.pr_report_laws.proofs.OverLaws.{stays-over}
+use Rattle.pr_truss_laws.proofs.OverLemmas.{stays-over}
 use Rattle.pr_report_laws.proofs.ReleaseModes.{HasSameFlags, alone-flags, clear-accepted, clear-refused, entries-keep, exits-keep, faults-keep, flags-keep, follow-keep, release-accepted, release-refused, run-keep, signals-keep, stop-keep, unfollow-keep}
 use Rattle.pr_report_laws.proofs.ReleaseStays.{not-allowed}
 use Rattle.pr_report_laws.specs.Releases.{HasModes, Modes, released, if_accepted, modes_next, spared}

@@ -46,7 +46,7 @@ use Rattle.pr_report_laws.proofs.FileSteps.{MakesNext, calm-call}
 use Rattle.pr_report_laws.proofs.FileUses as uses
 use Rattle.pr_report_laws.proofs.FileUses.{freed_control}
 use Rattle.pr_report_laws.proofs.KeepLemmas.{FreedIs, Grants, IsCalm, Keeps}
-use Rattle.pr_report_laws.proofs.OverLaws.{stays-over}
+use Rattle.pr_truss_laws.proofs.OverLemmas.{stays-over}
 use Rattle.pr_report_laws.proofs.ReleaseGrants.{release-granted}
 use Rattle.pr_report_laws.proofs.StageChanges.{Comes, How, IsFree, Opens, StaysAt, at, child_goes, child_starts, free, goes, less, no, starts}
 use Rattle.pr_report_laws.proofs.StageReplies.{fed-comes}

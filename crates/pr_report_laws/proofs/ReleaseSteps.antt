@@ -29,8 +29,8 @@ use Rattle.pr_truss_laws.specs.Handles.{HasNothingOpen}
 use Rattle.pr_report_laws.proofs.ClaimRuns.{call_entry}
 use Rattle.pr_report_laws.proofs.EntrySteps.{made-at}
 use Rattle.pr_report_laws.proofs.FileSteps.{MakesNext, makes-next, opens-turn}
-use Rattle.pr_report_laws.proofs.FrameLaws.{Outlasts, killed, lives, others-entry}
-use Rattle.pr_report_laws.proofs.OverLaws.{stays-over}
+use Rattle.pr_truss_laws.proofs.OutlastLemmas.{Outlasts, killed, lives, others-entry}
+use Rattle.pr_truss_laws.proofs.OverLemmas.{stays-over}
 use Rattle.pr_report_laws.proofs.ReleaseCalls.{KeepsModes, call-modes}
 use Rattle.pr_report_laws.proofs.ReleaseModes.{HasSameFlags, alone-flags, flags-keep, settings-flags}
 use Rattle.pr_report_laws.proofs.TurnSettings.{turn-settings}

@@ -47,7 +47,7 @@ pub record HasFollowed (k : ℕ) (pid : ℕ) (h : List Entry) : Type 0 where
   pub lives : last.reply ≢ reply.Fail Noent
 
 -- In an entry truss read a file of a process, and got bytes.
-pub record Looks (k pid : ℕ) (f : File) (s : TracedState) (e : Entry) : Type 0 where
+pub record ReadsFile (k pid : ℕ) (f : File) (s : TracedState) (e : Entry) : Type 0 where
   pub handle : ℕ
   pub from : ℕ
   pub len : ℕ
@@ -67,6 +67,6 @@ pub record WasInterrupted (k : ℕ) (h : List Entry) : Type 0 where
 
 -- Why truss does not watch a process any more: it has ended; or an earlier call of truss was refused with EINTR, and in
 -- this entry truss has read the statuses of the lwps of the process.
-pub data Lets (k pid : ℕ) (s : TracedState) (before : List Entry) (e : Entry) : Type 0 where
-  ended : live_process (state_after s before).system pid ≡ None → Lets k pid s before e
-  left : WasInterrupted k before → Looks k pid file.Lstatus (state_after s before) e → Lets k pid s before e
+pub data IsLetGo (k pid : ℕ) (s : TracedState) (before : List Entry) (e : Entry) : Type 0 where
+  ended : live_process (state_after s before).system pid ≡ None → IsLetGo k pid s before e
+  left : WasInterrupted k before → ReadsFile k pid file.Lstatus (state_after s before) e → IsLetGo k pid s before e

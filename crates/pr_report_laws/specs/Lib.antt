@@ -2,6 +2,7 @@ pub mod Births
 pub mod Fits
 pub mod Follows
 pub mod Grips
+pub mod Memories
 pub mod Newborn
 pub mod Releases
 pub mod Reported

@@ -8,7 +8,7 @@ ghost use Rattle.pr_truss.specs.NextCalls.{next_call_of};
 ghost use Rattle.pr_truss.specs.Trusses.{first_truss};
 ghost use Rattle.pr_truss_laws.specs.Exchanges.{Makes, exchanges, truss_at};
 ghost use Rattle.pr_truss_laws.specs.Handles.{HasNothingOpen};
-ghost use Rattle.pr_report_laws.specs.Grips.{HasFollowed, HasOpened, Lets};
+ghost use Rattle.pr_report_laws.specs.Grips.{HasFollowed, HasOpened, IsLetGo};
 ghost use Rattle.pr_report_laws.specs.Watching.{watches};
 
 /// A truss that has made no call yet watches no process, and neither does one that has finished.
@@ -50,5 +50,5 @@ pub fn a_watched_process_is_let_go_for_a_reason()
     ensures { (n k : ℕ) (o : Options) (pid : ℕ) (s : TracedState) (before : List Entry) (e : Entry) → IsLawful s
         → HasNothingOpen k s → IsLegal n s (before ++ e ∷ []) → Makes (first_truss o) (exchanges k (before ++ e ∷ []))
         → watches (truss_at k o before) pid ≡ true → watches (truss_at k o (before ++ e ∷ [])) pid ≡ false
-        → Lets k pid s before e }
+        → IsLetGo k pid s before e }
 {}

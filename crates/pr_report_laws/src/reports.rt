@@ -15,7 +15,9 @@ ghost use Rattle.pr_truss_laws.specs.Handles.{HasNothingOpen};
 
 /// Of each process truss has shown exactly the selected events that came while truss watched it, once and in order. The
 /// last one of them may be missing: where truss still watches the process, or where SIGKILL ended the process while truss
-/// watched it. Nothing is said here of the bytes of memory that stand in a line.
+/// watched it. Truss had no answer that told the missing one: it was the only selected event of its entry, and since
+/// that entry no read by truss of the status of the process, or of the statuses of its lwps, got bytes. Nothing is said
+/// here of the bytes of memory that stand in a line.
 ///
 /// The history is legal, from a state in which truss has nothing open, and truss makes its calls in it. Where children are
 /// followed, fork makes none of the processes that the options name, and between a fork and the opening of its child no

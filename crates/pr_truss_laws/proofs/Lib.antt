@@ -10,6 +10,8 @@ pub mod HeldLemmas
 pub mod OneEventLemmas
 pub mod OpeningLemmas
 pub mod OpensLemmas
+pub mod OutlastLemmas
+pub mod OverLemmas
 pub mod OwnLemmas
 pub mod OwnTurnLemmas
 pub mod ReleaseLemmas
