@@ -49,6 +49,7 @@ pub mod HistorySteps
 pub mod KeepLemmas
 pub mod LeaveSteps
 pub mod Leaving
+pub mod MemoryReads
 pub mod Moves
 pub mod NewBorn
 pub mod NewbornForks
@@ -98,6 +99,7 @@ pub mod StayingLwps
 pub mod StoppedLaws
 pub mod StopsOver
 pub mod StopsRead
+pub mod TextReports
 pub mod TextSteps
 pub mod TracedPlaces
 pub mod TracedPoints

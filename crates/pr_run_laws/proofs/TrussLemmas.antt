@@ -20,6 +20,7 @@ use Rattle.pr_range_laws.specs.ByteHistories.{HasBytes}
 use Rattle.pr_range_laws.specs.InRange.{IsInRange}
 use Rattle.pr_report_laws.proofs.BeginLaws.{finished-watches-none}
 use Rattle.pr_report_laws.proofs.Births.{births-report}
+use Rattle.pr_report_laws.proofs.MemoryReads.{read-texts}
 use Rattle.pr_report_laws.proofs.ReleaseLaws.{traced-released}
 use Rattle.pr_report_laws.proofs.WatchHistories.{makes-front}
 use Rattle.pr_tool_laws.proofs.WholeLemmas.{front-legal}
@@ -124,6 +125,7 @@ truss-kept controllers n first h k o lawful fit range bytes at none legal follow
       makes = stays.0;
       truss = stays.1;
       shows = λ pid named forks. births-report n k o pid first h lawful fit none legal stays.0 range bytes named forks;
+      texts = read-texts n k o first h lawful none legal stays.0;
       releases = λ before later is. truss-releases n k o first h before later lawful none legal stays.0 is;
       done = λ finished.
           let ends : Ends (first_truss o) (exchanges k h) = record { makes = stays.0; finished = finished } in

@@ -9,6 +9,7 @@ use Rattle.pr_truss.specs.NextCalls.{next_call_of}
 use Rattle.pr_truss.specs.Trusses.{TrussState, first_truss, traced_at}
 use Rattle.pr_report_laws.specs.Births.{LeavesForks, NamesNoChild}
 use Rattle.pr_laws.specs.LastCloses.{IsReleased}
+use Rattle.pr_report_laws.specs.Memories.{HaveTheirTexts}
 use Rattle.pr_report_laws.specs.Releases.{has_set_at}
 use Rattle.pr_report_laws.specs.Reported.{IsReported}
 use Rattle.pr_report_laws.specs.Watching.{watches}
@@ -39,11 +40,13 @@ pub record Releases (k : ℕ) (t : TrussState) (s : TracedState) : Type 0 where
 -- The controller of a number is a truss with these options, whose calls are those that it makes after the replies that
 -- it got. Of each process it has shown what was selected of its events while it watched the process. Where it follows
 -- children, this is said only if fork makes none of the processes that its options name, and if between a fork and the
--- opening of its child no other controller is granted a handle for writing of the child. Wherever it has come to, it
--- releases the processes that it has attached when it closes their control files.
+-- opening of its child no other controller is granted a handle for writing of the child. The memory that stands in the
+-- line of an event is that of the state in which truss read it. Wherever it has come to, it releases the processes that
+-- it has attached when it closes their control files.
 pub record IsTrussKept (controllers : List Core) (first : TracedState) (h : List Entry) (k : ℕ) (o : Options) : Type 0 where
   pub makes : Makes (first_truss o) (exchanges k h)
   pub truss : slice_get (controllers_at controllers h) k ≡ Some (Truss (truss_at k o h))
   pub shows : (pid : ℕ) → NamesNoChild o h → LeavesForks k o h → IsReported k o pid first h
+  pub texts : HaveTheirTexts k o first h (truss_at k o h).reports
   pub releases : (before later : List Entry) → h ≡ before ++ later → Releases k (truss_at k o before) (state_after first before)
   pub done : next_call_of (truss_at k o h) ≡ None → HasDone k o first h

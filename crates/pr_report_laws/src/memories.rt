@@ -1,0 +1,20 @@
+ghost use Rattle.std.specs.Prelude.{ℕ, List};
+ghost use Rattle.pr_line.specs.declared.options.Options.{Options};
+ghost use Rattle.pr_model.specs.Lawful.{IsLawful};
+ghost use Rattle.pr_model.specs.Legal.{IsLegal};
+ghost use Rattle.pr_model.specs.State.{TracedState};
+ghost use Rattle.pr_model.specs.declared.events.Entry.{Entry};
+ghost use Rattle.pr_report_laws.specs.Memories.{HaveTheirTexts};
+ghost use Rattle.pr_truss.specs.Trusses.{first_truss};
+ghost use Rattle.pr_truss_laws.specs.Exchanges.{Makes, exchanges, truss_at};
+ghost use Rattle.pr_truss_laws.specs.Handles.{HasNothingOpen};
+
+/// The memory in a line is that of one state. In a legal history of a lawful state, in which a truss with nothing open
+/// makes its calls: the text that truss has reported with an event is what stood in the memory of the process, where
+/// the line of the event asks for it, in the state in which truss read it, which was after its report before and before
+/// this one. An event whose line asks for none has no text.
+#[tactic(auto, using(crate::proofs::MemoryReads::memories))]
+pub fn the_text_of_an_event_is_what_stood_in_memory()
+    ensures { (n k : ℕ) (o : Options) (s : TracedState) (h : List Entry) → IsLawful s → HasNothingOpen k s
+        → IsLegal n s h → Makes (first_truss o) (exchanges k h) → HaveTheirTexts k o s h (truss_at k o h).reports }
+{}
