@@ -20,9 +20,8 @@ use Rattle.pr_scen.specs.declared.plans.Plan.TheVariants as plan
 use Rattle.pr_truss.specs.Trusses.{first_truss}
 use Rattle.pr_truss_laws.specs.Handles.{HasNothingOpen}
 use Rattle.pr_world.proofs.RunLemmas.{moves-led}
-use Rattle.pr_tool_laws.proofs.LawLemmas.{tool-of-one-state}
-use Rattle.pr_tool_laws.proofs.WholeLemmas.{stands-there}
-use Rattle.pr_tools.specs.Tools.{first_tool, printed}
+use Rattle.pr_tool_laws.proofs.WholeLemmas.{tool-shows}
+use Rattle.pr_tools.specs.Tools.{first_tool}
 use Rattle.pr_world.specs.Cores.{Tool, Truss}
 use Rattle.pr_world.specs.Protocol.{Follows}
 use Rattle.pr_world.specs.Runs.{CameFrom, IsFresh, IsMachineRun, IsTold, LedFrom}
@@ -86,9 +85,8 @@ tools-kept : (s : Scenario) (h : List Entry) → IsScenarioInRange s → IsLegal
 tools-kept s h range legal follows k kind pid at = record {
   shows = λ t ends ended accepted once.
       let n = length (controllers_of s) in
-      stands-there n k kind pid (first_state_of s) h (printed t s.programs) (first-lawful s.programs (files_of s) s.spawns range.start) (first-state-range s.programs (files_of s) s.spawns range.range)
-      (follows-bytes (controllers_of s) n (first_state_of s) h range.bytes legal follows) legal once
-      (tool-of-one-state (controllers_of s) n k kind pid (first_state_of s) h t s.programs once (tool-first s k kind pid at) legal follows ends ended accepted);
+      tool-shows (controllers_of s) n k kind pid (first_state_of s) h t s.programs (first-lawful s.programs (files_of s) s.spawns range.start) (first-state-range s.programs (files_of s) s.spawns range.range)
+      (follows-bytes (controllers_of s) n (first_state_of s) h range.bytes legal follows) once (tool-first s k kind pid at) legal follows ends ended accepted;
 }
 
 -- ---- runs

@@ -1,4 +1,5 @@
 pub mod ConductLemmas
+pub mod EndedLemmas
 pub mod EntryLemmas
 pub mod KindLemmas
 pub mod LawLemmas

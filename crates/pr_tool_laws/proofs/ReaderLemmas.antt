@@ -125,8 +125,12 @@ module _ (kind : ToolKind) (pid : ℕ) (is : IsReader kind) where
   unfolding bytes_in
   bytes-given bytes = refl
 
-  -- after the wait it reads, or was refused
-  pub wait-fed : step_after kind step.AwaitEnd ≡ step.ReadFile → (number : ℕ) (r : Reply) → (fed (with_file kind pid step.AwaitEnd number) r ≡ with_file kind pid step.ReadFile number) ⊎ WasRefused (fed (with_file kind pid step.AwaitEnd number) r)
+  -- its wait was not refused, and it reads
+  pub record HasAwaited (number : ℕ) (r : Reply) : Type 0 where
+    pub accepted : refusal_in step.AwaitEnd r ≡ None
+    pub reads : fed (with_file kind pid step.AwaitEnd number) r ≡ with_file kind pid step.ReadFile number
+
+  pub wait-fed : step_after kind step.AwaitEnd ≡ step.ReadFile → (number : ℕ) (r : Reply) → HasAwaited number r ⊎ WasRefused (fed (with_file kind pid step.AwaitEnd number) r)
   unfolding fed refusal_in accepted advanced with_next first_tool is_passed_over
   wait-fed waits number (reply.Fail e) = inr (refused-fed (with_file kind pid step.AwaitEnd number) e refl (is.leaves step.AwaitEnd))
-  wait-fed waits number _ = inl (rw waits refl)
+  wait-fed waits number _ = inl (record { accepted = refl; reads = rw waits refl })

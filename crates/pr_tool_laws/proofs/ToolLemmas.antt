@@ -71,10 +71,10 @@ module _ (k : ℕ) (kind : ToolKind) (pid : ℕ) (first : TracedState) where
     pub place : h ≡ before ++ call_entry k call reply ∷ after
     pub shows : bytes_shown kind pid (state_after first before).system ≡ Some bytes
 
-  pub showed-here : (h : List Entry) (c : Call) (r : Reply) (bytes : List ℕ) → bytes_shown kind pid (state_after first h).system ≡ Some bytes → Showed (h ++ call_entry k c r ∷ []) bytes
+  unfoldable pub showed-here : (h : List Entry) (c : Call) (r : Reply) (bytes : List ℕ) → bytes_shown kind pid (state_after first h).system ≡ Some bytes → Showed (h ++ call_entry k c r ∷ []) bytes
   showed-here h c r bytes shows = record { before = h; call = c; reply = r; after = []; place = refl; shows = shows }
 
-  pub showed-still : (h : List Entry) (e : Entry) (bytes : List ℕ) → Showed h bytes → Showed (h ++ e ∷ []) bytes
+  unfoldable pub showed-still : (h : List Entry) (e : Entry) (bytes : List ℕ) → Showed h bytes → Showed (h ++ e ∷ []) bytes
   showed-still h e bytes showed = record {
     before = showed.before;
     call = showed.call;
@@ -90,10 +90,10 @@ module _ (k : ℕ) (kind : ToolKind) (pid : ℕ) (first : TracedState) where
     pub is : t ≡ having_read kind pid opened bytes
     pub showed : Showed h bytes
 
-  pub read-still : (h : List Entry) (e : Entry) (t : ToolState) → HasRead h t → HasRead (h ++ e ∷ []) t
+  unfoldable pub read-still : (h : List Entry) (e : Entry) (t : ToolState) → HasRead h t → HasRead (h ++ e ∷ []) t
   read-still h e t has = record { opened = has.opened; bytes = has.bytes; is = has.is; showed = showed-still h e has.bytes has.showed }
 
-  pub read-goes-on : (h : List Entry) (e : Entry) (t : ToolState) (r : Reply) → HasRead h t → HasRead (h ++ e ∷ []) (fed t r)
+  unfoldable pub read-goes-on : (h : List Entry) (e : Entry) (t : ToolState) (r : Reply) → HasRead h t → HasRead (h ++ e ∷ []) (fed t r)
   read-goes-on h e t r has = record {
     opened = without_last has.opened;
     bytes = has.bytes;
@@ -128,7 +128,7 @@ module _ (k : ℕ) (kind : ToolKind) (pid : ℕ) (first : TracedState) where
       text-printed t programs ended accepted ∙ ap (λ (u : ToolState). text_of u programs u.kind) has.is ∙ text-made has.opened has.bytes programs once
 
   -- the text that is made of what was read at a place; and what is read back is given
-  pub of-one-state : ((s : TracedSystem) → IsReadBack kind pid s → text_read kind pid s ≡ tool_text kind pid s) → (h : List Entry) (text bytes : List ℕ) → text ≡ text_made kind pid bytes → Showed h bytes → IsOfOneState k kind pid first h text
+  unfoldable pub of-one-state : ((s : TracedSystem) → IsReadBack kind pid s → text_read kind pid s ≡ tool_text kind pid s) → (h : List Entry) (text bytes : List ℕ) → text ≡ text_made kind pid bytes → Showed h bytes → IsOfOneState k kind pid first h text
   unfolding text_read
   of-one-state back h text bytes made showed =
       let at = (state_after first showed.before).system in

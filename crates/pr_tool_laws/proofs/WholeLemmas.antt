@@ -1,4 +1,4 @@
-use Rattle.std.proofs.Common.{◌≡◌, ◌+◌, ◌≤◌, ◌++◌, ◌∷◌, ℕ, suc, true, List, [], length, Option, Some, None, IfSome, refl, ap, subst, arith}
+use Rattle.std.proofs.Common.{◌≡◌, ◌+◌, ◌≤◌, ◌++◌, ◌∷◌, ℕ, suc, true, List, [], length, Option, Some, None, IfSome, slice_get, refl, ap, subst, arith}
 use Rattle.std.proofs.lemmas.Bool.{leb-true}
 use Rattle.std.proofs.lemmas.List.{length-map}
 use Rattle.std.proofs.lemmas.List.Elements.{All-cons, All-head, All-nil, All-tail}
@@ -19,6 +19,7 @@ use Rattle.pr_model.specs.declared.tools.ToolKind.TheVariants.{Pflags, Psig, Pst
 use Rattle.pr_num.proofs.ByIdLaws.{All-under}
 use Rattle.pr_num.specs.Files.{Descriptors, FileTable}
 use Rattle.pr_num.specs.Limits.{list_limit, read_limit, spawn_limit}
+use Rattle.pr_num.specs.Programs.{Program}
 use Rattle.pr_num.specs.declared.files.OpenFile.{OpenFile}
 use Rattle.pr_parts.specs.FileTables.{at_place}
 use Rattle.pr_range_laws.proofs.EntryRanges.{records-range}
@@ -33,11 +34,15 @@ use Rattle.pr_rec.proofs.EntryLemmas.{length-entries}
 use Rattle.pr_rec.specs.InRange.{IsPsinfo}
 use Rattle.pr_rec.specs.RecordBytes.{list_bytes, map_bytes}
 use Rattle.pr_rec.specs.RecordWords.{list_entry_words_of, map_entry_words_of}
+use Rattle.pr_tool_laws.proofs.LawLemmas.{EndsIfAwaited, IsOfKnownState, tool-of-known-state}
 use Rattle.pr_tool_laws.specs.OneState.{AreDescriptorsRead, AreDispositionsRead, AreLwpsRead, AreMappingsRead, IsOfOneState, IsReadBack}
 use Rattle.pr_tool_laws.specs.ShownStates.{ShowsOneState}
 use Rattle.pr_tool_laws.specs.ToolTexts.{reads_once}
+use Rattle.pr_tools.specs.Tools.{ToolState, first_tool, has_ended, printed}
+use Rattle.pr_world.specs.Cores.{Core, Tool}
+use Rattle.pr_world.specs.Protocol.{Follows, controllers_at}
 
--- In a lawful system in range one read has what stands there, with its fields in their ranges.
+-- In a lawful system in range one read has what stands there, with its fields in their ranges; so a tool shows that.
 
 -- ---- how long the records are
 
@@ -154,8 +159,9 @@ front-bytes (e ∷ before) rest bytes =
 -- ---- what a tool shows
 
 -- a text of one state is what stands there
-pub stands-there : (n k : ℕ) (kind : ToolKind) (pid : ℕ) (s : TracedState) (h : List Entry) (text : List ℕ) → IsLawful s → IsInRange s.system → HasBytes h → IsLegal n s h → reads_once kind ≡ true → IsOfOneState k kind pid s h text → ShowsOneState k kind pid s h text
-stands-there n k kind pid s h text lawful ranged bytes legal once it =
+stands-there : (n k : ℕ) (kind : ToolKind) (pid : ℕ) (s : TracedState) (h : List Entry) (text : List ℕ) → IsLawful s → IsInRange s.system → HasBytes h → IsLegal n s h → reads_once kind ≡ true → IsOfKnownState k kind pid s (EndsIfAwaited kind pid) h text → ShowsOneState k kind pid s h text
+stands-there n k kind pid s h text lawful ranged bytes legal once of_known =
+    let it : IsOfOneState k kind pid s h text = of_known.one in
     let legal_before : IsLegal n s it.before = front-legal n s it.before _ (subst (λ (g : List Entry). IsLegal n s g) it.place legal) in
     let bytes_before : HasBytes it.before = front-bytes it.before _ (subst HasBytes it.place bytes) in
     let system : IsLawfulSystem (state_after s it.before).system = (history-state n s it.before lawful legal_before).system in
@@ -168,4 +174,11 @@ stands-there n k kind pid s h text lawful ranged bytes legal once it =
       place = it.place;
       read = it.read;
       shown = it.shown (all-read pid (state_after s it.before).system system range kind once);
+      over = of_known.known;
     }
+
+-- from a lawful state in range a tool shows what stands in one state
+pub tool-shows : (controllers : List Core) (n k : ℕ) (kind : ToolKind) (pid : ℕ) (s : TracedState) (h : List Entry) (t : ToolState) (programs : List Program) → IsLawful s → IsInRange s.system → HasBytes h → reads_once kind ≡ true → slice_get controllers k ≡ Some (Tool (first_tool kind pid)) → IsLegal n s h → Follows controllers s h → slice_get (controllers_at controllers h) k ≡ Some (Tool t) → has_ended t ≡ true → t.refusal ≡ None → ShowsOneState k kind pid s h (printed t programs)
+tool-shows controllers n k kind pid s h t programs lawful ranged bytes once begins legal follows ends ended accepted =
+    stands-there n k kind pid s h (printed t programs) lawful ranged bytes legal once
+    (tool-of-known-state controllers n k kind pid s h t programs lawful once begins legal follows ends ended accepted)
