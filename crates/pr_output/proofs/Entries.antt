@@ -1,5 +1,5 @@
 -- The lines of entries, cut at one of them.
-use Rattle.std.proofs.Common.{rules, ◌≡◌, ℕ, ◌+◌, List, [], ◌∷◌, ◌++◌, Some, None, Option, Bor, ◌<◌, length, get_or, take, drop, sym, ap, ◌∙◌, arith, append_assoc}
+use Rattle.std.proofs.Common.{rules, ◌≡◌, ℕ, ◌+◌, List, [], ◌∷◌, ◌++◌, Some, None, Option, Bor, ◌<◌, ◌≤◌, length, get_or, take, drop, sym, ap, ◌∙◌, arith, append_assoc, length-append, eq-or-lt_of_le, ⊎_elim}
 use Rattle.std.proofs.lemmas.List.{take-append-drop, length-take-le}
 use Rattle.std.proofs.lemmas.Option.{slice_get_within, slice_get-get_or}
 use Rattle.std.specs.List.{slice_get}
@@ -43,6 +43,12 @@ pub block-more : (at from : ℕ) (h : List Entry) (e : Entry) (block new : List 
 block-more at from h e block new here is grown =
     entries_text-next at h e here ∙ ap (λ text. text ++ entry_text at e) is
     ∙ append_assoc (entries_text 0 (take from h)) block (entry_text at e) ∙ ap (λ text. entries_text 0 (take from h) ++ text) (sym grown)
+
+-- where these lines are too short for a block, and those of fewer entries are, so are all up to here
+pub least-more : (at from size : ℕ) (h : List Entry) (block : List ℕ) → entries_text 0 (take at h) ≡ entries_text 0 (take from h) ++ block → length block < size → ((n : ℕ) → from ≤ n → n < at → length (entries_text 0 (take n h)) < length (entries_text 0 (take from h)) + size) → (n : ℕ) → from ≤ n → n < at + 1 → length (entries_text 0 (take n h)) < length (entries_text 0 (take from h)) + size
+least-more at from size h block is short before n begins ends =
+    let until : n ≤ at = omega arith in
+    ⊎_elim (λ e. rw e (omega (arith, ap length is, length-append (entries_text 0 (take from h)) block))) (λ earlier. before n begins earlier) (eq-or-lt_of_le until)
 
 -- within a history there is an entry at each place
 pub found : (at : Option (Bor Entry)) (h : List Entry) (i : ℕ) → option_copied at ≡ slice_get h i → i < length h → IsSome at

@@ -32,7 +32,7 @@ pub(crate) fn put_heading<K: Sink>(
     put(sink, block)
 }
 
-/// Lines are put as soon as they have so many bytes together.
+/// Lines are put as soon as they have so many bytes together. Contracts know the number as `block_size`.
 const BLOCK: usize = 65_536;
 
 /// Writes the lines of the entries from a place on into a buffer, until that is a block or no entry is left. Answers
@@ -53,6 +53,9 @@ fn fill_block(block: &mut Vec<u8>, history: &History, from: usize) -> Result<usi
 }
 
 /// Puts the lines of all entries, a block at a time. `block` is a buffer.
+///
+/// How large a block is, `fill_block` says. How many writes are made is said nowhere: of a sink its bytes and its
+/// faults are known, and not its writes.
 pub(crate) fn put_entries<K: Sink>(
     block: &mut Vec<u8>,
     sink: &mut K,

@@ -1,11 +1,11 @@
-ghost use Rattle.std.specs.Prelude.{◌≡◌, ◌++◌, [], ◌∷◌, decimal, take, IsOk, IsErr, OnOk, OnErr};
+ghost use Rattle.std.specs.Prelude.{◌≡◌, ◌++◌, OnOk, OnErr};
 ghost use Rattle.pr_plain.specs.Buffers.{StartsWith};
-ghost use Rattle.pr_text.specs.TextLines.{newline};
-ghost use Rattle.pr_text.specs.SpacedWords.{joined, spaced};
+ghost use Rattle.pr_text.specs.SpacedWords.{spaced};
 ghost use Rattle.pr_plain.specs.HistoryText.{act_words, entry_text, heading_text, status_text};
 
 use crate::actors::write_actor;
 use crate::calls::{write_call, write_reply};
+use crate::lines::{whole_or_nothing, write_pair};
 use crate::turns::write_turn;
 use crate::words::{append, write_digits, write_number, write_word};
 use pr_model::{Act, Entry};
@@ -41,32 +41,6 @@ fn append_entry(out: &mut Vec<u8>, number: usize, entry: &Entry) -> Result<(), A
     append(out, b"\n")
 }
 
-// A line of a word and a number, or a part of it.
-#[tactic(auto, using(crate::proofs::BufferLemmas::kept), unfolding(pr_text::specs::SpacedWords::joined))]
-fn append_pair(out: &mut Vec<u8>, word: &[u8], number: u64) -> Result<(), AllocError>
-    ensures all { OnOk result (out.new.items ≡ out.old.items ++ (joined (word.now ∷ decimal number ∷ []) ++ newline ∷ [])) }
-    ensures kept { StartsWith out.new.items out.old.items }
-{
-    append(out, word)?;
-    write_number(out, number)?;
-    append(out, b"\n")
-}
-
-// Leaves a buffer as it was at this length, where what was to be written after that was not.
-fn whole_or_nothing(
-    out: &mut Vec<u8>,
-    before: usize,
-    written: Result<(), AllocError>,
-) -> Result<(), NoMemory>
-    ensures whole { OnOk written (IsOk result × (out.new.items ≡ out.old.items)) }
-    ensures nothing { OnErr written (IsErr result × (out.new.items ≡ take before out.old.items)) }
-{
-    if written.is_err() {
-        out.truncate(before);
-    }
-    Ok(written?)
-}
-
 /// Writes the line of an entry of a history, with the newline that ends it. `number` is the entry's place, which counts
 /// from 0.
 ///
@@ -83,23 +57,19 @@ pub fn write_entry(out: &mut Vec<u8>, number: usize, entry: &Entry) -> Result<()
 
 /// Writes the line above the entries of a history, of which there are so many. Where memory runs out the buffer is as
 /// it was.
-#[tactic(auto, unfolding(crate::specs::HistoryText::heading_text), using(crate::proofs::BufferLemmas::cut))]
+#[tactic(auto, unfolding(crate::specs::HistoryText::heading_text))]
 pub fn write_heading(out: &mut Vec<u8>, entries: usize) -> Result<(), NoMemory>
     ensures written { OnOk result (out.new.items ≡ out.old.items ++ heading_text entries) }
     ensures unchanged { OnErr result (out.new.items ≡ out.old.items) }
 {
-    let before = out.len();
-    let written = append_pair(out, b"history", entries as u64);
-    whole_or_nothing(out, before, written)
+    write_pair(out, b"history", entries as u64)
 }
 
 /// Writes the line that tells a status. Where memory runs out the buffer is as it was.
-#[tactic(auto, unfolding(crate::specs::HistoryText::status_text), using(crate::proofs::BufferLemmas::cut))]
+#[tactic(auto, unfolding(crate::specs::HistoryText::status_text))]
 pub fn write_status(out: &mut Vec<u8>, status: u8) -> Result<(), NoMemory>
     ensures written { OnOk result (out.new.items ≡ out.old.items ++ status_text status) }
     ensures unchanged { OnErr result (out.new.items ≡ out.old.items) }
 {
-    let before = out.len();
-    let written = append_pair(out, b"status", status as u64);
-    whole_or_nothing(out, before, written)
+    write_pair(out, b"status", status as u64)
 }

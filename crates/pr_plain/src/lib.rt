@@ -8,6 +8,7 @@ mod entries;
 mod entry_readers;
 mod generated;
 mod laws;
+mod lines;
 mod names;
 mod numerals;
 mod pieces;
