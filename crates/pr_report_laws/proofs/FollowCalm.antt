@@ -7,16 +7,21 @@ use Rattle.pr_model.specs.declared.calls.Call.{Call}
 use Rattle.pr_model.specs.declared.calls.Reply.TheVariants as reply
 use Rattle.pr_model.specs.declared.events.Entry.{Entry}
 use Rattle.pr_num.specs.declared.errnos.Errno.TheVariants.{Intr}
+use Rattle.pr_truss.specs.NextCalls.{open_control}
 use Rattle.pr_truss.specs.Replies.{answer_of}
+use Rattle.pr_truss.specs.declared.processes.Traced.{Traced}
 use Rattle.pr_truss.specs.declared.replies.Answer.TheVariants.{Interrupted}
+use Rattle.pr_truss.specs.declared.reports.Report.{Report}
 use Rattle.pr_truss_laws.specs.Exchanges.{Exchange, calls_in, exchange_of, exchanges}
 use Rattle.pr_truss_laws.specs.Given.{reply_at}
 use Rattle.pr_report_laws.proofs.KeepLemmas.{can_wait}
 use Rattle.pr_report_laws.proofs.WatchHistories.{answered-calm, cons-exchanges, exchange-answered, no-exchanges}
 use Rattle.pr_report_laws.specs.Follows.{IsLeftChild, following_calls}
+use Rattle.pr_report_laws.specs.Freed.{IsInterruptedFreeing}
 use Rattle.pr_report_laws.specs.Grips.{child_calls}
 
--- In a legal history no call of the opening of a child is interrupted: none of them waits.
+-- In a legal history no call of the opening of a child is interrupted, nor is the open of one that is set free: none of
+-- them waits.
 
 head-same : {X : Type 0} {x y : X} {xs ys : List X} → x ∷ xs ≡ y ∷ ys → x ≡ y
 head-same is = cc
@@ -63,3 +68,9 @@ never-left n k of s h before later legal is d =
     let split : exchanges k h ≡ (before ++ b.before) ++ y ∷ d.later = is ∙ ap (λ ys. before ++ ys) (d.is ∙ ap (λ ys. ys ++ d.later) b.last ∙ append_assoc b.before (y ∷ []) d.later) ∙ sym (append_assoc before b.before (y ∷ d.later)) in
     calm-exchanges h n k s (before ++ b.before) d.later y legal split
     (last-calm b.before y (following_calls of d.opening) (length d.opening) (child-calm of (handle_in (reply_at d.opening 0))) (ap calls_in (sym b.last) ∙ b.calls)) refl
+
+-- nor is the open of a child that is set free
+pub never-kept : (n k of : ℕ) (s : TracedState) (h : List Entry) (before later : List Exchange) (parent : Traced) (base reports : List Report) → IsLegal n s h → exchanges k h ≡ before ++ later → IsInterruptedFreeing of parent base reports later → ⊥
+unfolding answer_of
+never-kept n k of s h before later parent base reports legal is d =
+    calm-exchanges h n k s before d.later (record { call = open_control of; reply = reply.Fail Intr }) legal (is ∙ ap (λ ys. before ++ ys) d.is) refl refl

@@ -1,6 +1,8 @@
-use Rattle.std.proofs.Common.{◌≡◌, ◌==◌, ◌&&◌, ◌^◌, nat_lt, not, is_none, is_some, ℕ, Bool, true, false, cond, Option, Some, None, List, refl, sym, subst, ap, ◌∙◌}
+use Rattle.std.proofs.Common.{◌≡◌, ◌==◌, ◌&&◌, ◌^◌, nat_lt, not, is_none, is_some, ℕ, Bool, true, false, cond, Option, Some, None, List, [], slice_get, unwrap_or, refl, sym, subst, ap, ◌∙◌}
 use Rattle.std.proofs.lemmas.Bool.{and_parts, false≢true}
 use Rattle.std.proofs.lemmas.Option.{none-some, same_Some}
+use Rattle.std.proofs.lemmas.List.Elements.{filter_passes}
+use Rattle.std.specs.List.{filter}
 use Rattle.std.specs.Option.{option_and_then, option_map}
 use Rattle.pr_line.specs.Events.{event_for, event_of, named_call, result_of}
 use Rattle.pr_line.specs.Selections.{is_selected}
@@ -12,6 +14,7 @@ use Rattle.pr_model.specs.Replies.{bytes_in}
 use Rattle.pr_model.specs.ShownBytes.{range_from}
 use Rattle.pr_model.specs.declared.calls.Reply.{Reply}
 use Rattle.pr_model.specs.declared.calls.Reply.TheVariants as reply
+use Rattle.pr_num.proofs.SearchLemmas.{All-at}
 use Rattle.pr_num.specs.Syscalls.{syscall_args, syscall_number}
 use Rattle.pr_num.specs.declared.stop_reasons.StopReason.{StopReason}
 use Rattle.pr_num.specs.declared.stop_reasons.StopReason.TheVariants.{Requested, Signalled, SysEntry, SysExit, JobControl, Faulted, Suspended}
@@ -19,15 +22,17 @@ use Rattle.pr_num.specs.declared.syscalls.Sysno.{Sysno}
 use Rattle.pr_num.specs.declared.syscalls.Sysno.TheVariants.{Fork}
 use Rattle.pr_rec.specs.declared.lwps.LwpStatus.{LwpStatus}
 use Rattle.pr_truss.specs.Feeding.{fed, with_reply}
-use Rattle.pr_truss.specs.Records.{child_of, has_ended_fork, is_exit, is_fork, is_on_event, status_lwp}
+use Rattle.pr_truss.specs.Records.{child_of, event_stops, has_ended_fork, is_exit, is_fork, is_on_event, lstatus_lwps, status_lwp}
 use Rattle.pr_truss.specs.Replies.{answer_of}
-use Rattle.pr_truss.specs.Stops.{asked_range, followed_child, with_child_or, with_event, with_event_over, with_event_shown, with_old_stop_over, with_status_answered, with_stop, with_stop_over, with_stop_read, with_text_or_shown}
+use Rattle.pr_truss.specs.Stops.{asked_range, followed_child, with_child_or, with_event, with_event_over, with_event_shown, with_lwps_answered, with_old_stop_over, with_status_answered, with_stop, with_stop_over, with_stop_read, with_text_or_shown}
 use Rattle.pr_truss.specs.Trusses.{TrussState, traced_at, with_report}
 use Rattle.pr_truss.specs.declared.replies.Answer.TheVariants.{Accepted}
 use Rattle.pr_truss.specs.declared.reports.Report.TheVariants.{Event as Shown}
 use Rattle.pr_truss.specs.declared.stages.FreeingStep.TheVariants.{OpenControl}
+use Rattle.pr_truss.specs.declared.stages.Stage.{Stage}
 use Rattle.pr_truss.specs.declared.stages.Stage.TheVariants.{OpeningChildControl, FreeingChild}
 use Rattle.pr_report_laws.specs.Follows.{ReadsFork}
+use Rattle.pr_report_laws.specs.Freed.{ReadsLastFork}
 
 -- What truss makes of the return of a fork that it has read: it comes to the control file of the child.
 
@@ -83,18 +88,22 @@ unfolding bytes_in answer_of
 bytes-accepted (reply.Fail errno) l is = absurd (none-some l is)
 bytes-accepted _ l is = refl
 
--- Truss comes to the control file of the child, and what it knows of its processes stays.
-pub record ComesToChild (t u : TrussState) (place child : ℕ) : Type 0 where
-  pub stage : u.stage ≡ OpeningChildControl place child
+-- Truss comes to this step, and what it knows of its processes stays.
+pub record ComesTo (next : Stage) (t u : TrussState) : Type 0 where
+  pub stage : u.stage ≡ next
   pub traced : u.traced ≡ t.traced
 
-module _ (t : TrussState) (place child : ℕ) (l : LwpStatus) (follows : t.options.follow ≡ true) (stays : t.leaving ≡ false) (made : child_of l ≡ Some child) where
+-- the control file of the child is opened, to set the child free where truss leaves
+abbrev opens_child : Bool → ℕ → ℕ → Stage
+opens_child leaving place child = cond leaving (FreeingChild child OpenControl) (OpeningChildControl place child)
+
+module _ (t : TrussState) (place child : ℕ) (l : LwpStatus) (follows : t.options.follow ≡ true) (made : child_of l ≡ Some child) where
   abbrev Comes : TrussState → Type 0
-  Comes u = ComesToChild t u place child
+  Comes u = ComesTo (opens_child t.leaving place child) t u
 
   over : (u : TrussState) → u.options ≡ t.options → u.leaving ≡ t.leaving → u.traced ≡ t.traced → Comes (with_event_over u place l)
   unfolding with_event_over followed_child
-  over u options leaving traced = subst (λ c. Comes (with_child_or u place c)) (sym is) (record { stage = ap (λ b. cond b (FreeingChild child OpenControl) (OpeningChildControl place child)) (leaving ∙ stays); traced = traced })
+  over u options leaving traced = subst (λ c. Comes (with_child_or u place c)) (sym is) (record { stage = ap (λ b. opens_child b place child) leaving; traced = traced })
     where
       is : cond u.options.follow (child_of l) None ≡ Some child
       is = ap (λ (o : Options). cond o.follow (child_of l) None) options ∙ ap (λ b. cond b (child_of l) None) follows ∙ made
@@ -134,9 +143,31 @@ module _ (t : TrussState) (place child : ℕ) (l : LwpStatus) (follows : t.optio
       (subst (λ n. Comes (cond (nat_lt 0 n) (with_old_stop_over t place) (cond (traced_at t place).seen (with_stop_over t place) (with_event t place l (event_of l))))) (sym none)
       (subst (λ b. Comes (cond b (with_stop_over t place) (with_event t place l (event_of l)))) (sym unseen) (on-event on)))
 
-pub fork-comes : (t : TrussState) (r : Reply) (place child : ℕ) → t.options.follow ≡ true → t.leaving ≡ false → (traced_at t place).seen ≡ false → ReadsFork t r place child → ComesToChild t (fed t r) place child
+pub fork-comes : (t : TrussState) (r : Reply) (place child : ℕ) → t.options.follow ≡ true → t.leaving ≡ false → (traced_at t place).seen ≡ false → ReadsFork t r place child → ComesTo (OpeningChildControl place child) t (fed t r)
 unfolding fed with_reply with_status_answered
 fork-comes t r place child follows stays unseen f =
-    subst (λ stage. ComesToChild t (with_reply t r stage) place child) (sym f.stage)
-    (subst (λ a. ComesToChild t (with_status_answered t place r a) place child) (sym (bytes-accepted r f.lwp f.read))
-    (subst (λ l. ComesToChild t (with_stop_read t place l) place child) (sym f.read) (new-event t place child f.lwp follows stays f.made f.event f.new unseen)))
+    subst (λ b. ComesTo (opens_child b place child) t (fed t r)) stays
+    (subst (λ stage. ComesTo (opens_child t.leaving place child) t (with_reply t r stage)) (sym f.stage)
+    (subst (λ a. ComesTo (opens_child t.leaving place child) t (with_status_answered t place r a)) (sym (bytes-accepted r f.lwp f.read))
+    (subst (λ l. ComesTo (opens_child t.leaving place child) t (with_stop_read t place l)) (sym f.read) (new-event t place child f.lwp follows f.made f.event f.new unseen))))
+
+-- ---- the reply where it leaves
+
+stops-accepted : (r : Reply) (l : LwpStatus) → slice_get (event_stops (bytes_in r)) 0 ≡ Some l → answer_of r ≡ Accepted
+unfolding bytes_in answer_of event_stops
+stops-accepted (reply.Fail errno) l is = absurd (none-some l is)
+stops-accepted _ l is = refl
+
+first-on : (bytes : Option (List ℕ)) (l : LwpStatus) → slice_get (event_stops bytes) 0 ≡ Some l → is_on_event l ≡ true
+unfolding event_stops
+first-on bytes l is =
+    let lwps = unwrap_or (option_and_then lstatus_lwps bytes) [] in
+    All-at (λ x. is_on_event x ≡ true) (filter is_on_event lwps) 0 l is (filter_passes is_on_event lwps)
+
+pub leaving-comes : (t : TrussState) (r : Reply) (child : ℕ) → t.options.follow ≡ true → t.leaving ≡ true → ReadsLastFork t r child → ComesTo (FreeingChild child OpenControl) t (fed t r)
+unfolding fed with_reply with_lwps_answered
+leaving-comes t r child follows leaves f =
+    subst (λ b. ComesTo (opens_child b 0 child) t (fed t r)) leaves
+    (subst (λ stage. ComesTo (opens_child t.leaving 0 child) t (with_reply t r stage)) (sym f.stage)
+    (subst (λ a. ComesTo (opens_child t.leaving 0 child) t (with_lwps_answered t r a)) (sym (stops-accepted r f.lwp f.first))
+    (subst (λ l. ComesTo (opens_child t.leaving 0 child) t (with_stop_read t 0 l)) (sym f.first) (new-event t 0 child f.lwp follows f.made (first-on (bytes_in r) f.lwp f.first) f.new f.unseen))))

@@ -26,12 +26,13 @@ use Rattle.pr_truss_laws.proofs.HeldLemmas.{Fits, Grown}
 use Rattle.pr_truss_laws.specs.Exchanges.{Exchange, IsGranted, Makes, errno_in, truss_after}
 use Rattle.pr_report_laws.proofs.BeginLaws.{at-options}
 use Rattle.pr_report_laws.proofs.FollowForks.{fork-comes}
-use Rattle.pr_report_laws.proofs.FollowOpenings.{Broken, ChildEnd, IsAt, begun-calls, chain, child-end, failed, runs-now, stopped, unfinished, whole}
+use Rattle.pr_report_laws.proofs.FollowOpenings.{Broken, ChildEnd, IsAt, begun-calls, child-end, failed, runs-now, stopped, unfinished, whole}
 use Rattle.pr_report_laws.proofs.FollowUnseen.{Stays, reached-fresh}
 use Rattle.pr_report_laws.proofs.OpeningRuns.{born-fed}
 use Rattle.pr_report_laws.proofs.TracedPlaces.{opened-before}
 use Rattle.pr_report_laws.proofs.WatchHistories.{after-append, makes-rest}
 use Rattle.pr_report_laws.proofs.WatchMemory.{child-calls}
+use Rattle.pr_report_laws.specs.Freed.{handles_of}
 use Rattle.pr_report_laws.specs.Follows.{IsFollowedUp, IsRefusedFollowing, ReadsFork, RunsThen, opened_by, with_opened_by, attached, begun, left, refused}
 
 -- What becomes of the child of each fork that truss has read.
@@ -90,7 +91,7 @@ module _ (f t : TrussState) (parent of control : ℕ) (stage : t.stage ≡ Openi
       all-granted : (ys : List Exchange) → All IsGranted ys → All IsGranted (x ∷ ys)
       all-granted ys all = All-cons IsGranted x ys (record { not_refused = granted }) all
 
-      opened-first : (ys : List Exchange) → with_opened_by [] (x ∷ ys) ≡ with_opened_by (chain new) ys
+      opened-first : (ys : List Exchange) → with_opened_by [] (x ∷ ys) ≡ with_opened_by (handles_of new) ys
       unfolding newly_traced
       opened-first ys = ap (λ c. with_opened_by (cons_option (opened_by c x.reply) []) ys) call
 

@@ -21,6 +21,7 @@ use Rattle.pr_truss.specs.declared.replies.Answer.{Answer}
 use Rattle.pr_truss.specs.declared.replies.Answer.TheVariants.{Accepted, Interrupted, Gone, Refused}
 use Rattle.pr_truss.specs.declared.reports.Report.{Report}
 use Rattle.pr_truss.specs.declared.reports.Report.TheVariants.{CannotTrace}
+use Rattle.pr_truss.specs.declared.stages.AfterClosing.{AfterClosing}
 use Rattle.pr_truss.specs.declared.stages.AfterClosing.TheVariants.{RunParent}
 use Rattle.pr_truss.specs.declared.stages.ChildStep.{ChildStep}
 use Rattle.pr_truss.specs.declared.stages.ChildStep.TheVariants as child
@@ -33,6 +34,7 @@ use Rattle.pr_report_laws.proofs.OpeningRuns.{child-fed, child-pid, child-starte
 use Rattle.pr_report_laws.proofs.TracedPlaces.{removed-before, set-length, set-other}
 use Rattle.pr_report_laws.proofs.WatchMemory.{GoesChild}
 use Rattle.pr_report_laws.specs.Follows.{opened_by, with_opened_by, RunsThen}
+use Rattle.pr_report_laws.specs.Freed.{handles_of}
 use Rattle.pr_report_laws.specs.Grips.{child_calls}
 
 -- How the opening of a child ends, and that its parent runs then.
@@ -85,14 +87,10 @@ before-start s parent place r child.Start next a after = absurd (none-some next 
 
 -- ---- the handles of a child
 
--- the handles of its files, in the order of closing
-abbrev pub chain : Traced → List ℕ
-chain u = cons_option u.memory (cons_option u.lstatus (cons_option u.status (u.control ∷ [])))
-
 -- the file that was opened last is closed first
-abbrev ClosesFirst : Traced → Option Traced → Type 0
-ClosesFirst u None = chain u ≡ last_handle u ∷ []
-ClosesFirst u (Some v) = chain u ≡ last_handle u ∷ chain v
+abbrev pub ClosesFirst : Traced → Option Traced → Type 0
+ClosesFirst u None = handles_of u ≡ last_handle u ∷ []
+ClosesFirst u (Some v) = handles_of u ≡ last_handle u ∷ handles_of v
 
 first-fields : (pid control : ℕ) (status lstatus memory : Option ℕ) (attached : Bool) (old : ℕ) (seen : Bool)
     → let u : Traced = record { pid = pid; control = control; status = status; lstatus = lstatus; memory = memory; attached = attached; old = old; seen = seen } in ClosesFirst u (without_last u)
@@ -102,17 +100,26 @@ first-fields pid control status (Some l) None attached old seen = refl
 first-fields pid control (Some s) None None attached old seen = refl
 first-fields pid control None None None attached old seen = refl
 
-closes-first : (u : Traced) → ClosesFirst u (without_last u)
+pub closes-first : (u : Traced) → ClosesFirst u (without_last u)
 closes-first u = first-fields u.pid u.control u.status u.lstatus u.memory u.attached u.old u.seen
 
 -- what a step opens is the last one then
-chain-step : (u : Traced) (r : Reply) (step next : ChildStep) → child_step_after step ≡ Some next → IsFreshChild u step → cons_option (opened_by (child_call u step) r) (chain u) ≡ chain (child_learnt u r step)
+chain-step : (u : Traced) (r : Reply) (step next : ChildStep) → child_step_after step ≡ Some next → IsFreshChild u step → cons_option (opened_by (child_call u step) r) (handles_of u) ≡ handles_of (child_learnt u r step)
 unfolding child_call child_learnt child_step_after
 chain-step u r child.SetRelease next after f = refl
 chain-step u r child.OpenStatus next after f = rw (f.memory, f.lstatus, f.status) refl
 chain-step u r child.OpenLstatus next after f = rw (f.memory, f.lstatus) refl
 chain-step u r child.OpenMemory next after f = rw f refl
 chain-step u r child.Start next after f = absurd (none-some next after)
+
+-- a file of a process is closed, whatever comes then
+pub close-fed : (s : TrussState) (r : Reply) (place : ℕ) (next : AfterClosing) → s.stage ≡ Closing place next → fed s r ≡ closed_or_removed s place next (without_last (traced_at s place))
+unfolding fed with_reply with_closed
+close-fed s r place next stage = ap (with_reply s r) stage
+
+pub close-call : (s : TrussState) (x : Exchange) (u : Traced) (place : ℕ) (next : AfterClosing) → s.stage ≡ Closing place next → traced_at s place ≡ u → next_call_of s ≡ Some x.call → x.call ≡ call.Close (last_handle u)
+unfolding next_call_of call_of
+close-call s x u place next stage at is = same_Some x.call (call.Close (last_handle u)) (sym is ∙ ap (call_of s) stage ∙ ap (λ t. Some (call.Close (last_handle t))) at)
 
 -- ---- the parent runs
 
@@ -130,15 +137,7 @@ module _ (control : ℕ) where
     child : traced_at s place ≡ u
     of : (traced_at s parent).control ≡ control
 
-  close-fed : (s : TrussState) (r : Reply) (parent place : ℕ) → s.stage ≡ Closing place (RunParent parent) → fed s r ≡ closed_or_removed s place (RunParent parent) (without_last (traced_at s place))
-  unfolding fed with_reply with_closed
-  close-fed s r parent place stage = ap (with_reply s r) stage
-
-  close-call : (s : TrussState) (x : Exchange) (u : Traced) (parent place : ℕ) → IsClosing s u parent place → next_call_of s ≡ Some x.call → x.call ≡ call.Close (last_handle u)
-  unfolding next_call_of call_of
-  close-call s x u parent place c next = same_Some x.call (call.Close (last_handle u)) (sym next ∙ ap (call_of s) c.stage ∙ ap (λ t. Some (call.Close (last_handle t))) c.child)
-
-  closed-runs : (s : TrussState) (u : Traced) (parent place : ℕ) (x : Exchange) (xs : List Exchange) → IsClosing s u parent place → x.call ≡ call.Close (last_handle u) → ((t : TrussState) (v : Traced) → IsClosing t v parent place → Makes t xs → RunsThen control (chain v) xs) → (left : Option Traced) → ClosesFirst u left → Makes (closed_or_removed s place (RunParent parent) left) xs → RunsThen control (chain u) (x ∷ xs)
+  closed-runs : (s : TrussState) (u : Traced) (parent place : ℕ) (x : Exchange) (xs : List Exchange) → IsClosing s u parent place → x.call ≡ call.Close (last_handle u) → ((t : TrussState) (v : Traced) → IsClosing t v parent place → Makes t xs → RunsThen control (handles_of v) xs) → (left : Option Traced) → ClosesFirst u left → Makes (closed_or_removed s place (RunParent parent) left) xs → RunsThen control (handles_of u) (x ∷ xs)
   unfolding after_closing
   closed-runs s u parent place x xs c call later None first makes =
       subst (λ hs. RunsThen control hs (x ∷ xs)) (sym first) (call, runs-now (with_stage (without_traced s place) (Running parent)) parent xs refl (ap (λ (t : Traced). t.control) (removed-before s place c.within parent c.behind) ∙ c.of) makes)
@@ -158,11 +157,11 @@ module _ (control : ℕ) where
   none-left [] = tt
   none-left (handle ∷ handles) = tt
 
-  closing-runs : (xs : List Exchange) (s : TrussState) (u : Traced) (parent place : ℕ) → IsClosing s u parent place → Makes s xs → RunsThen control (chain u) xs
-  closing-runs [] s u parent place c makes = none-left (chain u)
+  closing-runs : (xs : List Exchange) (s : TrussState) (u : Traced) (parent place : ℕ) → IsClosing s u parent place → Makes s xs → RunsThen control (handles_of u) xs
+  closing-runs [] s u parent place c makes = none-left (handles_of u)
   closing-runs (x ∷ xs) s u parent place c makes =
-      closed-runs s u parent place x xs c (close-call s x u parent place c makes.0) (λ t v. closing-runs xs t v parent place) (without_last u) (closes-first u)
-      (subst (λ w. Makes (closed_or_removed s place (RunParent parent) (without_last w)) xs) c.child (subst (λ t. Makes t xs) (close-fed s x.reply parent place c.stage) makes.1))
+      closed-runs s u parent place x xs c (close-call s x u place (RunParent parent) c.stage c.child makes.0) (λ t v. closing-runs xs t v parent place) (without_last u) (closes-first u)
+      (subst (λ w. Makes (closed_or_removed s place (RunParent parent) (without_last w)) xs) c.child (subst (λ t. Makes t xs) (close-fed s x.reply place (RunParent parent) c.stage) makes.1))
 
 -- ---- how an opening ends
 
@@ -176,7 +175,7 @@ module _ (f : TrussState) (control pid : ℕ) (base : List Report) where
     pub goes : GoesChild u (Some step) (opening ++ last ∷ [])
     pub granted : All IsGranted opening
     pub lives : last.reply ≢ reply.Fail Noent → RunsThen control [] later
-    pub ended : last.reply ≡ reply.Fail Noent → RunsThen control (with_opened_by (chain u) opening) later
+    pub ended : last.reply ≡ reply.Fail Noent → RunsThen control (with_opened_by (handles_of u) opening) later
 
   pub record Broken (u : Traced) (step : ChildStep) (errno : Errno) (xs : List Exchange) : Type 0 where
     pub opening : List Exchange
@@ -194,7 +193,7 @@ module _ (f : TrussState) (control pid : ℕ) (base : List Report) where
     pub broken : Broken u step errno xs
     pub more : List Report
     pub reported : f.reports ≡ base ++ CannotTrace pid errno ∷ more
-    pub parent : RunsThen control (with_opened_by (chain u) broken.before) broken.later
+    pub parent : RunsThen control (with_opened_by (handles_of u) broken.before) broken.later
 
   pub record Begun (u : Traced) (step : ChildStep) (xs : List Exchange) : Type 0 where
     pub goes : BeginsChild u (Some step) xs
@@ -227,8 +226,8 @@ module _ (f : TrussState) (control pid : ℕ) (base : List Report) where
     abbrev then : Traced
     then = child_learnt u x.reply step
 
-    opened-then : (ys : List Exchange) → with_opened_by (chain u) (x ∷ ys) ≡ with_opened_by (chain then) ys
-    opened-then ys = ap (λ hs. with_opened_by hs ys) (ap (λ c. cons_option (opened_by c x.reply) (chain u)) call ∙ chain-step u x.reply step next after fresh)
+    opened-then : (ys : List Exchange) → with_opened_by (handles_of u) (x ∷ ys) ≡ with_opened_by (handles_of then) ys
+    opened-then ys = ap (λ hs. with_opened_by hs ys) (ap (λ c. cons_option (opened_by c x.reply) (handles_of u)) call ∙ chain-step u x.reply step next after fresh)
 
     broken-more : (errno : Errno) → Broken then next errno xs → Broken u step errno (x ∷ xs)
     broken-more errno d = record {
@@ -272,7 +271,7 @@ module _ (f : TrussState) (control pid : ℕ) (base : List Report) where
 
     -- PCRUN
     module _ (at : IsAt s u parent place child.Start) (call : x.call ≡ child_call u child.Start) (makes : Makes (fed s x.reply) xs) where
-      started : (x.reply ≢ reply.Fail Noent → RunsThen control [] xs) → (x.reply ≡ reply.Fail Noent → RunsThen control (chain u) xs) → ChildEnd u child.Start (x ∷ xs)
+      started : (x.reply ≢ reply.Fail Noent → RunsThen control [] xs) → (x.reply ≡ reply.Fail Noent → RunsThen control (handles_of u) xs) → ChildEnd u child.Start (x ∷ xs)
       unfolding child_step_after
       started lives ended = whole (record { opening = []; last = x; later = xs; is = refl; goes = (call, refl); granted = All-nil IsGranted; lives = lives; ended = ended })
 

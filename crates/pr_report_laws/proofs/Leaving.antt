@@ -1,4 +1,4 @@
-use Rattle.std.proofs.Common.{◌≡◌, ◌-◌, nat_lt, not, ℕ, Bool, true, false, cond, Option, Some, None, List, position, slice_get, refl, sym, ap, ◌∙◌}
+use Rattle.std.proofs.Common.{◌≡◌, ◌-◌, nat_lt, not, ℕ, Bool, true, false, cond, Option, Some, None, List, [], ◌∷◌, position, slice_get, refl, sym, ap, ◌∙◌}
 use Rattle.std.proofs.lemmas.Bool.{cond_both, false≢true}
 use Rattle.std.specs.Option.{option_and_then}
 use Rattle.pr_line.specs.Events.{event_of}
@@ -29,6 +29,7 @@ use Rattle.pr_truss.specs.declared.stages.FreeingStep.TheVariants as freeing
 use Rattle.pr_truss.specs.declared.stages.OpeningStep.{OpeningStep}
 use Rattle.pr_truss.specs.declared.stages.Stage.{Stage}
 use Rattle.pr_truss.specs.declared.stages.Stage.TheVariants.{Spawning, OpeningControl, Opening, Polling, ReadingStatus, ReadingText, OpeningChildControl, OpeningChild, Running, Closing, Unfollowing, ReadingLwps, FreeingChild, Finished}
+use Rattle.pr_truss_laws.specs.Exchanges.{Exchange, truss_after}
 
 -- Truss leaves its processes wherever its step is one of those that leave one.
 
@@ -294,3 +295,12 @@ first-leaving o = by o.program
     by : (program : Option (List ℕ)) → IsLeaving (first_of_program o program)
     by None = opened_or (slice_get o.pids 0)
     by (Some program) = other (with_stage (idle o) (Spawning program)) refl
+
+-- ---- after any exchanges
+
+after-leaving : (xs : List Exchange) (t : TrussState) → IsLeaving t → IsLeaving (truss_after t xs)
+after-leaving [] t h = h
+after-leaving (x ∷ xs) t h = after-leaving xs (fed t x.reply) (fed-leaving t x.reply h)
+
+pub reached-leaving : (o : Options) (xs : List Exchange) → IsLeaving (truss_after (first_truss o) xs)
+reached-leaving o xs = after-leaving xs (first_truss o) (first-leaving o)

@@ -42,6 +42,7 @@ pub mod FollowUnseen
 pub mod ForkRows
 pub mod ForkTurns
 pub mod FrameLaws
+pub mod FreedLaws
 pub mod GoneLaws
 pub mod GripLaws
 pub mod HistoryLaw

@@ -1,6 +1,7 @@
 pub mod Births
 pub mod Fits
 pub mod Follows
+pub mod Freed
 pub mod Grips
 pub mod Memories
 pub mod Newborn

@@ -11,7 +11,10 @@ mod releases;
 mod reports;
 
 pub use fits::reached_states_are_fit;
-pub use follows::{each_child_that_was_read_is_handled, no_opening_of_a_child_is_interrupted};
+pub use follows::{
+    each_child_that_was_read_is_handled, each_child_that_was_read_while_leaving_is_set_free,
+    no_freeing_of_a_child_is_interrupted, no_opening_of_a_child_is_interrupted,
+};
 pub use grips::{
     a_watched_process_is_let_go_for_a_reason, an_opened_process_is_watched,
     no_process_is_watched_at_first_or_at_last, only_an_opened_process_is_watched,

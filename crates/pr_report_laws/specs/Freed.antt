@@ -1,0 +1,92 @@
+use Rattle.std.specs.Prelude.{◌≡◌, ◌≢◌, ◌≤◌, ℕ, false, List, [], ◌∷◌, ◌++◌, Some, None, length, map, slice_get}
+use Rattle.std.specs.List.{cons_option}
+use Rattle.pr_model.specs.Replies.{bytes_in, handle_in}
+use Rattle.pr_model.specs.declared.calls.Call.{Call}
+use Rattle.pr_model.specs.declared.calls.Call.TheVariants as call
+use Rattle.pr_model.specs.declared.calls.Reply.{Reply}
+use Rattle.pr_model.specs.declared.calls.Reply.TheVariants as reply
+use Rattle.pr_num.specs.Control.{rlc_mode}
+use Rattle.pr_num.specs.declared.errnos.Errno.{Errno}
+use Rattle.pr_num.specs.declared.errnos.Errno.TheVariants.{Intr}
+use Rattle.pr_num.specs.declared.messages.Message.TheVariants as message
+use Rattle.pr_rec.specs.declared.lwps.LwpStatus.{LwpStatus}
+use Rattle.pr_truss.specs.Messages.{message_call}
+use Rattle.pr_truss.specs.NextCalls.{open_control}
+use Rattle.pr_truss.specs.Records.{child_of, event_stops}
+use Rattle.pr_truss.specs.Trusses.{TrussState, traced_at}
+use Rattle.pr_truss.specs.declared.processes.Traced.{Traced}
+use Rattle.pr_truss.specs.declared.reports.Report.{Report}
+use Rattle.pr_truss.specs.declared.reports.Report.TheVariants.{CannotTrace}
+use Rattle.pr_truss.specs.declared.stages.Stage.TheVariants.{ReadingLwps}
+use Rattle.pr_truss_laws.specs.Exchanges.{Exchange, errno_in}
+use Rattle.pr_truss_laws.specs.Given.{reply_at}
+
+-- What becomes of the child of a fork that truss(1) reads while it leaves a process, by its exchanges and its reports
+-- alone.
+
+-- ---- the fork
+
+-- Truss leaves its first process and reads the statuses of its lwps, and this reply tells that the first lwp on an event
+-- stands on the return of a fork, which made this child. The stop is not an old one, and truss has not looked at it
+-- before.
+pub record ReadsLastFork (t : TrussState) (r : Reply) (child : ℕ) : Type 0 where
+  pub stage : t.stage ≡ ReadingLwps
+  pub new : (traced_at t 0).old ≡ 0
+  pub unseen : (traced_at t 0).seen ≡ false
+  pub lwp : LwpStatus
+  pub first : slice_get (event_stops (bytes_in r)) 0 ≡ Some lwp
+  pub made : child_of lwp ≡ Some child
+
+-- ---- the calls
+
+-- These calls come next, in this order, unless the exchanges end before.
+abbrev pub ComeNext : List Call → List Exchange → Type 0
+ComeNext [] xs = Unit {0}
+ComeNext (c ∷ cs) [] = Unit {0}
+ComeNext (c ∷ cs) (x ∷ xs) = (x.call ≡ c) × ComeNext cs xs
+
+-- the handles of a process; the file that was opened last comes first
+abbrev pub handles_of : Traced → List ℕ
+handles_of t = cons_option t.memory (cons_option t.lstatus (cons_option t.status (t.control ∷ [])))
+
+-- its files are closed
+abbrev pub closing_calls : Traced → List Call
+closing_calls t = map call.Close (handles_of t)
+
+-- The child's control file is opened, which gives this handle; the child is to run when that file is closed, and it is
+-- closed. Then the files of the parent are closed.
+abbrev pub freeing_calls : ℕ → ℕ → Traced → List Call
+freeing_calls child control parent =
+    open_control child ∷ message_call control (message.Set rlc_mode) ∷ call.Close control ∷ closing_calls parent
+
+-- ---- what comes after the fork
+
+-- The open of the child's control file was granted, or the exchanges end before it. Nothing is reported up to the last
+-- of these calls.
+pub record IsFreed (child : ℕ) (parent : Traced) (base reports : List Report) (xs : List Exchange) : Type 0 where
+  pub granted : errno_in (reply_at xs 0) ≡ None
+  pub calls : ComeNext (freeing_calls child (handle_in (reply_at xs 0)) parent) xs
+  pub silent : length xs ≤ length (freeing_calls child (handle_in (reply_at xs 0)) parent) → reports ≡ base
+
+-- It was refused, which is the next report, for this reason, and the files of the parent are closed.
+pub record IsRefusedFreeing (child : ℕ) (parent : Traced) (base reports : List Report) (xs : List Exchange) : Type 0 where
+  pub errno : Errno
+  pub later : List Exchange
+  pub more : List Report
+  pub is : xs ≡ record { call = open_control child; reply = reply.Fail errno } ∷ later
+  pub not_interrupted : errno ≢ Intr
+  pub reported : reports ≡ base ++ CannotTrace child errno ∷ more
+  pub closes : ComeNext (closing_calls parent) later
+
+-- It was interrupted, and the files of the parent are closed. Nothing is reported up to the last of these calls.
+pub record IsInterruptedFreeing (child : ℕ) (parent : Traced) (base reports : List Report) (xs : List Exchange) : Type 0 where
+  pub later : List Exchange
+  pub is : xs ≡ record { call = open_control child; reply = reply.Fail Intr } ∷ later
+  pub closes : ComeNext (closing_calls parent) later
+  pub silent : length later ≤ length (closing_calls parent) → reports ≡ base
+
+-- What the exchanges after the read do with the child of this process, where truss had reported so much then.
+pub data IsSetFree (child : ℕ) (parent : Traced) (base reports : List Report) (xs : List Exchange) : Type 0 where
+  freed : IsFreed child parent base reports xs → IsSetFree child parent base reports xs
+  refused : IsRefusedFreeing child parent base reports xs → IsSetFree child parent base reports xs
+  interrupted : IsInterruptedFreeing child parent base reports xs → IsSetFree child parent base reports xs
