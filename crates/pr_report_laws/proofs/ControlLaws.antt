@@ -1,14 +1,13 @@
-use Rattle.std.proofs.Common.{◌≡◌, ◌==◌, ◌||◌, ◌&&◌, ◌<◌, ◌+◌, ◌-◌, ◌*◌, ◌/◌, ◌%◌, ◌^◌, ℕ, Bool, true, false, not, cond, nat_le, nat_lt, is_some, None, Some, Option, List, [], Result, Ok, Err, IfOk, length, refl, sym, subst, ap, ◌∙◌, arith}
+use Rattle.std.proofs.Common.{◌≡◌, ◌≢◌, ◌==◌, ◌||◌, ◌&&◌, ◌<◌, ◌+◌, ◌-◌, ◌*◌, ◌%◌, ◌^◌, ℕ, Bool, true, false, not, cond, nat_le, is_some, None, Some, Option, List, [], Ok, Err, refl, sym, subst, ap, ◌∙◌, arith}
 use Rattle.std.proofs.lemmas.Nat.{and_mod, and_le_r, mod-pow-add}
 use Rattle.std.proofs.lemmas.Option.{none-some, same_Some}
 use Rattle.std.specs.Int.RustNames.{bit_and}
-use Rattle.std.specs.List.{list_all, slice_range}
 use Rattle.std.specs.Option.{option_map}
 use Rattle.pr_line.specs.declared.options.Options.{Options}
 use Rattle.pr_model.specs.Calls.{Answer, answer_to, controlled, is_interrupted, waited}
-use Rattle.pr_model.specs.ControlMessages.{aim_of, control_answer, control_handle, decoded_answer, decoded_wait, held_answer, held_wait, still_there, system_refusal, tail_of, target_of, target_stopped, targeted_answer, targeted_wait, wait_over, wait_reply}
+use Rattle.pr_model.specs.ControlMessages.{decoded_wait, held_wait, target_stopped, targeted_answer, targeted_wait, wait_over, wait_reply}
 use Rattle.pr_model.specs.Handles.{handle_of, is_of_lwp}
-use Rattle.pr_model.specs.Messages.{at_process, message_answer, refused, tracing_entries, tracing_exits, tracing_faults, tracing_signals, with_aim_directed, with_control, with_modes, with_set, without_modes}
+use Rattle.pr_model.specs.Messages.{message_answer, tracing_entries, tracing_exits, tracing_faults, tracing_signals, with_aim_directed, with_control, with_modes, with_set, without_modes}
 use Rattle.pr_model.specs.Replies.{until_in}
 use Rattle.pr_model.specs.State.{TracedControl, TracedLwp, TracedProcess, TracedState, has_agent, live_process, lwp_of}
 use Rattle.pr_model.specs.Stops.{directed, is_stopped, stands_on_event, with_all_directed}
@@ -21,7 +20,7 @@ use Rattle.pr_num.proofs.ByIdLaws.{under-map_each}
 use Rattle.pr_num.proofs.SetLemmas.{with_number-lt}
 use Rattle.pr_num.specs.Agents.{agent_id}
 use Rattle.pr_num.specs.Control.{fork_mode, rlc_mode}
-use Rattle.pr_num.specs.Messages.{bad_operand, encoded_length, first_message, in_columns, message_code, message_read, nth_word, one_word, operands, spelling, unless_bad, unpadded_length, with_tail, ◌>>=◌}
+use Rattle.pr_num.specs.Messages.{first_message, message_code, message_read, nth_word, one_word, operands, spelling}
 use Rattle.pr_num.specs.Sets.{common_word, minus_word, with_number, without_number}
 use Rattle.pr_num.specs.Signals.{signal_number}
 use Rattle.pr_num.specs.Syscalls.{syscall_number}
@@ -30,8 +29,6 @@ use Rattle.pr_num.specs.declared.errnos.Errno.{Errno}
 use Rattle.pr_num.specs.declared.errnos.Errno.TheVariants.{Busy, Intr, Inval, Noent}
 use Rattle.pr_num.specs.declared.messages.Message.{Message}
 use Rattle.pr_num.specs.declared.messages.Message.TheVariants as message
-use Rattle.pr_num.specs.declared.messages.MsgFault.{MsgFault}
-use Rattle.pr_num.specs.declared.messages.MsgFault.TheVariants.{BadOperand, Short}
 use Rattle.pr_num.specs.declared.signals.Sig.TheVariants.{Kill}
 use Rattle.pr_num.specs.declared.syscalls.Sysno.TheVariants.{Exit, Fork, LwpExit}
 use Rattle.pr_truss.specs.Messages.{all_modes, ending_calls, message_call, traced_entries, traced_exits}
@@ -40,6 +37,7 @@ use Rattle.pr_truss.specs.declared.replies.Answer.TheVariants.{Accepted, Gone}
 use Rattle.pr_truss_laws.proofs.OpensLemmas.{looking-stays}
 use Rattle.pr_truss_laws.proofs.OwnTurnLemmas.{all-directed}
 use Rattle.pr_truss_laws.proofs.StillLemmas.{live-changed}
+use Rattle.pr_truss_laws.proofs.TakenLemmas.{IsTaken, Read, ReadsAs, control-held, ctl-is, read-as, stop-directs, stop-reads, taken-unless, target-live}
 use Rattle.pr_truss_laws.specs.Stills.{IsHalting}
 
 -- What the control messages of truss do to the process of a control file that it holds, where they are accepted: each
@@ -47,39 +45,7 @@ use Rattle.pr_truss_laws.specs.Stills.{IsHalting}
 
 -- ---- how messages are read
 
-abbrev Read : Type 0
-Read = Result (Message × ℕ) MsgFault
-
--- bytes are read as this message, or refused
-abbrev pub ReadsAs : Message → Read → Type 0
-ReadsAs m r = IfOk r (λ first. first.0 ≡ m)
-
-tail-reads : (bytes : List ℕ) (m : Message) → ReadsAs m (with_tail bytes m)
-unfolding with_tail
-tail-reads bytes m = of (nat_lt (length bytes) (encoded_length m)) (list_all (λ b. b == 0) (slice_range bytes (unpadded_length m) (encoded_length m))) (encoded_length m / 8 - 1)
-  where
-    of : (short zeros : Bool) (word : ℕ) → ReadsAs m (let r : Read = cond short (Err Short) (cond zeros (let ok : Read = Ok (m, encoded_length m) in ok) (Err (BadOperand word))) in r)
-    of true zeros word = tt
-    of false true word = refl
-    of false false word = tt
-
-columns-reads : (bytes : List ℕ) (m : Message) → ReadsAs m (in_columns m >>= with_tail bytes)
-unfolding in_columns
-columns-reads bytes m = of (bad_operand m)
-  where
-    of : (o : Option ℕ) → ReadsAs m (unless_bad m o >>= with_tail bytes)
-    of None = tail-reads bytes m
-    of (Some word) = tt
-
-read-as : (bytes : List ℕ) (m : Message) → nat_lt (length bytes) 8 ≡ false → message_read (nth_word bytes 0) bytes ≡ Ok m → ReadsAs m (first_message bytes)
-unfolding first_message
-read-as bytes m long read = rw (long, read) (columns-reads bytes m)
-
 -- these messages of truss are the same whatever its options
-pub stop-reads : ReadsAs message.Stop (first_message (spelling message.Stop []))
-unfolding message_code operands nth_word word_bytes word_of message_read
-stop-reads = read-as (spelling message.Stop []) message.Stop refl refl
-
 pub run-reads : ReadsAs (message.Run 0) (first_message (spelling (message.Run 0) []))
 unfolding message_code operands nth_word word_bytes word_of message_read one_word
 run-reads = read-as (spelling (message.Run 0) []) (message.Run 0) refl refl
@@ -184,11 +150,6 @@ pub record IsGone (s : TracedState) (a : Answer) : Type 0 where
   pub gone : answer_of a.reply ≡ Gone
   pub state : a.state ≡ s
 
--- A message that was taken does what its row says.
-pub record IsTaken (s : TracedState) (pid : ℕ) (p : TracedProcess) (msg : Message) (bytes : List ℕ) (a : Answer) : Type 0 where
-  pub len : ℕ
-  pub is : a ≡ controlled s (message_answer s.system pid p at_process msg (tail_of msg bytes) len)
-
 -- A stop that was asked for: each lwp of the process stands still or will stop, what is set stays, and the wait for it
 -- has no end.
 pub record IsStopAsked (p : TracedProcess) (pid : ℕ) (a : Answer) : Type 0 where
@@ -221,6 +182,10 @@ refusal-not e is = not-accepted e is
 pub refused-not : (a : Answer) (t : TracedState) (e : Errno) → a ≡ record { state = t; reply = reply.Fail e } → answer_of a.reply ≡ Accepted → ⊥
 refused-not a t e is accepted = refusal-not e (ap (λ (x : Answer). answer_of x.reply) (sym is) ∙ accepted)
 
+-- what is accepted is not refused
+accepted-not : (a : Answer) → answer_of a.reply ≡ Accepted → (e : Errno) → a.reply ≢ reply.Fail e
+accepted-not a accepted e refuses = refusal-not e (ap answer_of (sym refuses) ∙ accepted)
+
 -- the reply of a wait stays, also where an interrupt was seen
 waited-reply : (s : TracedState) (by : ℕ) (r : Reply) → (waited s by r).reply ≡ r
 waited-reply s by (reply.Fail e) = refused-reply e
@@ -234,41 +199,19 @@ gone-is : (s : TracedState) (a : Answer) → a ≡ record { state = s; reply = r
 unfolding answer_of
 gone-is s a is = record { gone = ap (λ (x : Answer). answer_of x.reply) is; state = ap (λ (x : Answer). x.state) is }
 
--- what the control file of a process stands for is that process
-pub process-aim : (h : Held) → h.file ≡ Ctl → aim_of h ≡ at_process
-process-aim h control = rw control refl
-
 pub target-process : (h : Held) (p : TracedProcess) → h.file ≡ Ctl → target_stopped h p ≡ is_stopped p
 unfolding target_stopped
 target-process h p control = ap (λ f. cond (is_of_lwp f) (stands_on_event (lwp_of p h.lwp)) (is_stopped p)) control
 
 module _ (s : TracedState) (k m : ℕ) (h : Held) (held : handle_of s.opens k m ≡ Some h) (control : h.file ≡ Ctl) where
-  control-held : control_handle (handle_of s.opens k m) ≡ Some h
-  control-held = ap control_handle held ∙ rw control refl
-
-  pub target-live : target_of s.system h ≡ live_process s.system h.pid
-  unfolding target_of
-  target-live = by (live_process s.system h.pid)
-    where
-      by : (o : Option TracedProcess) → still_there h o ≡ o
-      by None = refl
-      by (Some p) = rw control refl
-
-  write-is : (bytes : List ℕ) → control_answer s.system s.opens k m bytes ≡ targeted_answer s.system h (live_process s.system h.pid) bytes
-  unfolding control_answer
-  write-is bytes = ap (λ o. held_answer s.system o bytes) control-held ∙ ap (λ o. targeted_answer s.system h o bytes) target-live
-
-  pub ctl-is : (bytes : List ℕ) (a : Answer) → answer_to s k (call.Ctl m bytes) ≡ Some a → a ≡ controlled s (targeted_answer s.system h (live_process s.system h.pid) bytes)
-  unfolding answer_to
-  ctl-is bytes a is = sym (same_Some _ a is) ∙ ap (controlled s) (write-is bytes)
-
   -- The process has ended.
   pub message-gone : (msg : Message) (a : Answer) → live_process s.system h.pid ≡ None → answer_to s k (message_call m msg) ≡ Some a → IsGone s a
-  message-gone msg a ended is = gone-is s a (ctl-is (spelling msg []) a is ∙ ap (λ o. controlled s (targeted_answer s.system h o (spelling msg []))) ended)
+  message-gone msg a ended is = gone-is s a (ctl-is s k m h held control (spelling msg []) a is ∙ ap (λ o. controlled s (targeted_answer s.system h o (spelling msg []))) ended)
 
   wait-is : (until : ℕ) (interrupted : Bool) (bytes : List ℕ) → wait_reply s.system s.opens k m until interrupted bytes ≡ targeted_wait s.system h (live_process s.system h.pid) until interrupted bytes
   unfolding wait_reply
-  wait-is until interrupted bytes = ap (λ o. held_wait s.system o until interrupted bytes) control-held ∙ ap (λ o. targeted_wait s.system h o until interrupted bytes) target-live
+  wait-is until interrupted bytes =
+      ap (λ o. held_wait s.system o until interrupted bytes) (control-held s k m h held control) ∙ ap (λ o. targeted_wait s.system h o until interrupted bytes) (target-live s k m h held control)
 
   stop-wait : (a : Answer) → answer_to s k (call.CtlWait m 0 (spelling message.Stop [])) ≡ Some a → option_map (waited s k) (targeted_wait s.system h (live_process s.system h.pid) 0 (is_interrupted s k) (spelling message.Stop [])) ≡ Some a
   unfolding answer_to
@@ -285,18 +228,7 @@ module _ (s : TracedState) (k m : ℕ) (h : Held) (held : handle_of s.opens k m 
     -- ---- a message that is accepted is taken
 
     pub taken : (bytes : List ℕ) (msg : Message) (a : Answer) → ReadsAs msg (first_message bytes) → answer_to s k (call.Ctl m bytes) ≡ Some a → answer_of a.reply ≡ Accepted → IsTaken s h.pid p msg bytes a
-    taken bytes msg a reads is accepted = by-read (first_message bytes) reads (ctl-is bytes a is ∙ ap (λ o. controlled s (targeted_answer s.system h o bytes)) live)
-      where
-        by-process : (n : Message) (len : ℕ) → n ≡ msg → (b : Bool) → a ≡ controlled s (cond b (refused s.system (system_refusal n)) (message_answer s.system h.pid p (aim_of h) n (tail_of n bytes) len)) → IsTaken s h.pid p msg bytes a
-        by-process n len same true it = absurd (refused-not a s (system_refusal n) it accepted)
-        by-process n len same false it = record {
-          len = len;
-          is = it ∙ ap (λ x. controlled s (message_answer s.system h.pid p x n (tail_of n bytes) len)) (process-aim h control) ∙ ap (λ x. controlled s (message_answer s.system h.pid p at_process x (tail_of x bytes) len)) same;
-        }
-
-        by-read : (r : Read) → ReadsAs msg r → a ≡ controlled s (decoded_answer s.system h p bytes r) → IsTaken s h.pid p msg bytes a
-        by-read (Err fault) same it = absurd (refused-not a s _ it accepted)
-        by-read (Ok first) same it = by-process first.0 first.1 same (h.pid == 0) it
+    taken bytes msg a reads is accepted = taken-unless s k m h held control p live bytes msg a reads is (accepted-not a accepted)
 
     -- ---- what is set on the process
 
@@ -358,7 +290,7 @@ module _ (s : TracedState) (k m : ℕ) (h : Held) (held : handle_of s.opens k m 
         let t = taken (spelling message.Stop []) message.Stop a stop-reads is accepted in
         record {
           process = with_all_directed p;
-          live = ap (λ (x : Answer). live_process x.state.system h.pid) t.is ∙ live-changed s.system h.pid with_all_directed p live refl;
+          live = stop-directs s k m h held control p live a is (accepted-not a accepted);
           is = refl;
           halting = all-directed p;
           control = refl;

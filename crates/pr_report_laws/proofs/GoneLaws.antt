@@ -25,8 +25,9 @@ use Rattle.pr_truss.specs.Messages.{message_call}
 use Rattle.pr_truss.specs.NextCalls.{run_call}
 use Rattle.pr_truss.specs.Replies.{answer_of}
 use Rattle.pr_truss.specs.declared.replies.Answer.TheVariants.{Gone}
-use Rattle.pr_report_laws.proofs.ControlLaws.{ReadsAs, ctl-is, process-aim, run-reads, unfollow-reads}
+use Rattle.pr_report_laws.proofs.ControlLaws.{run-reads, unfollow-reads}
 use Rattle.pr_report_laws.proofs.RecordLaws.{held-is, lives-by, read-is}
+use Rattle.pr_truss_laws.proofs.TakenLemmas.{ReadsAs, ctl-is, process-aim}
 
 -- The machine says that a process is gone only where it has ended.
 

@@ -33,8 +33,9 @@ use Rattle.pr_truss_laws.proofs.ForeignLemmas.{names}
 use Rattle.pr_truss_laws.proofs.HeldLemmas.{Fits}
 use Rattle.pr_truss_laws.proofs.OpensLemmas.{held_by}
 use Rattle.pr_truss_laws.proofs.StillLemmas.{live-changed}
+use Rattle.pr_truss_laws.proofs.TakenLemmas.{ctl-is, process-aim}
 use Rattle.pr_report_laws.proofs.CloseSteps.{closing-stands, freeing-stands}
-use Rattle.pr_report_laws.proofs.ControlLaws.{ctl-is, message-gone, process-aim}
+use Rattle.pr_report_laws.proofs.ControlLaws.{message-gone}
 use Rattle.pr_report_laws.proofs.ControlSteps.{control-standing, system-standing}
 use Rattle.pr_report_laws.proofs.EntrySteps.{Lost}
 use Rattle.pr_report_laws.proofs.FileUses as uses

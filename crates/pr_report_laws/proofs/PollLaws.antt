@@ -47,8 +47,9 @@ use Rattle.pr_truss.specs.Replies.{answer_of}
 use Rattle.pr_truss.specs.declared.replies.Answer.TheVariants.{Interrupted}
 use Rattle.pr_truss_laws.proofs.AnswerLemmas.{IsAnswer, answer-is}
 use Rattle.pr_truss_laws.proofs.OpensLemmas.{looking-stays}
+use Rattle.pr_truss_laws.proofs.TakenLemmas.{target-live}
 use Rattle.pr_report_laws.proofs.KeepLemmas.{can_wait}
-use Rattle.pr_report_laws.proofs.ControlLaws.{target-live, target-process}
+use Rattle.pr_report_laws.proofs.ControlLaws.{target-process}
 
 -- What a poll says of the processes whose control files it names, and which calls can be interrupted.
 

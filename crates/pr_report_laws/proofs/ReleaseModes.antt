@@ -22,11 +22,12 @@ use Rattle.pr_truss.specs.NextCalls.{run_call}
 use Rattle.pr_truss.specs.Replies.{answer_of}
 use Rattle.pr_truss.specs.declared.replies.Answer.TheVariants.{Accepted}
 use Rattle.pr_truss_laws.specs.Stills.{HasSameSettings, IsUndisturbed}
-use Rattle.pr_report_laws.proofs.ControlLaws.{ReadsAs, clear-reads, ctl-is, entries-read, entries-set, exits-read, exits-set, faults-read, faults-set, follow-cleared, follow-reads, follow-set, modes-cleared, process-aim, release-reads, release-set, run-reads, signals-read, signals-set, stop-asked, stop-reads, unfollow-reads}
+use Rattle.pr_report_laws.proofs.ControlLaws.{clear-reads, entries-read, entries-set, exits-read, exits-set, faults-read, faults-set, follow-cleared, follow-reads, follow-set, modes-cleared, release-reads, release-set, run-reads, signals-read, signals-set, stop-asked, unfollow-reads}
 use Rattle.pr_report_laws.proofs.FrameLaws.{alone-control}
 use Rattle.pr_report_laws.proofs.RunLaws.{run-control, run-live}
 use Rattle.pr_report_laws.proofs.SettingLaws.{cleared-plain, other-added, other-taken, release-has}
 use Rattle.pr_report_laws.specs.Releases.{HasModes, Modes, released, spared}
+use Rattle.pr_truss_laws.proofs.TakenLemmas.{ReadsAs, ctl-is, process-aim, stop-reads}
 
 -- What is done to a process leaves its PR_RLC and its PR_KLC, but for the messages that set them.
 

@@ -35,9 +35,10 @@ use Rattle.pr_truss.specs.declared.replies.Answer.TheVariants.{Accepted}
 use Rattle.pr_truss_laws.proofs.BridgeLemmas.{mapped-some}
 use Rattle.pr_truss_laws.proofs.OneEventLemmas.{all-others}
 use Rattle.pr_truss_laws.proofs.StillLemmas.{live-changed}
+use Rattle.pr_truss_laws.proofs.TakenLemmas.{ctl-is, process-aim}
 use Rattle.pr_truss_laws.specs.Stills.{IsFrozen, IsQuiet, stands_still}
 use Rattle.pr_report_laws.proofs.Positions.{IsTracedBy, Waits, has_met, met_in}
-use Rattle.pr_report_laws.proofs.ControlLaws.{ctl-is, process-aim, refused-not, run-reads, some-mapped, taken}
+use Rattle.pr_report_laws.proofs.ControlLaws.{refused-not, run-reads, some-mapped, taken}
 use Rattle.pr_report_laws.proofs.StoppedLaws.{StandsFirst, count-changed, count-mapped, count-others, no-thing, none-counts, none-under, quiet-runs, shows-unmet, stopped-first, stopped-frozen, unmet-shows, waits-first}
 
 -- PCRUN of a process that is stopped on an event of interest: the event of its representative is over, and where that

@@ -11,6 +11,7 @@ use Rattle.pr_model.specs.FirstState.{first_state}
 use Rattle.pr_model.specs.Legal.{IsLegal}
 use Rattle.pr_model.specs.declared.events.Entry.{Entry}
 use Rattle.pr_model.specs.declared.tools.ToolKind.{ToolKind}
+use Rattle.pr_model.specs.declared.tools.ToolKind.TheVariants.{Pstack}
 use Rattle.pr_lawful.proofs.StartLemmas.{first-lawful}
 use Rattle.pr_range_laws.proofs.HistoryRanges.{first-state-range}
 use Rattle.pr_report_laws.proofs.FitHistoryLemmas.{first-fits}
@@ -20,6 +21,7 @@ use Rattle.pr_scen.specs.declared.plans.Plan.TheVariants as plan
 use Rattle.pr_truss.specs.Trusses.{first_truss}
 use Rattle.pr_truss_laws.specs.Handles.{HasNothingOpen}
 use Rattle.pr_world.proofs.RunLemmas.{moves-led}
+use Rattle.pr_tool_laws.proofs.StackLaw.{shows-one-stack}
 use Rattle.pr_tool_laws.proofs.WholeLemmas.{tool-shows}
 use Rattle.pr_tools.specs.Tools.{first_tool}
 use Rattle.pr_world.specs.Cores.{Tool, Truss}
@@ -87,6 +89,11 @@ tools-kept s h range legal follows k kind pid at = record {
       let n = length (controllers_of s) in
       tool-shows (controllers_of s) n k kind pid (first_state_of s) h t s.programs (first-lawful s.programs (files_of s) s.spawns range.start) (first-state-range s.programs (files_of s) s.spawns range.range)
       (follows-bytes (controllers_of s) n (first_state_of s) h range.bytes legal follows) once (tool-first s k kind pid at) legal follows ends ended accepted;
+  stack = λ t ends ended accepted same.
+      let n = length (controllers_of s) in
+      let begins : slice_get (controllers_of s) k ≡ Some (Tool (first_tool Pstack pid)) = tool-first s k kind pid at ∙ ap (λ (which : ToolKind). Some (Tool (first_tool which pid))) same in
+      shows-one-stack (controllers_of s) n k pid (first_state_of s) h t s.programs (first-lawful s.programs (files_of s) s.spawns range.start) (first-state-range s.programs (files_of s) s.spawns range.range)
+      (follows-bytes (controllers_of s) n (first_state_of s) h range.bytes legal follows) begins legal follows ends ended accepted;
 }
 
 -- ---- runs

@@ -57,8 +57,8 @@ first_world s = record {
 -- and if controllers only stopped, ran and read, the programs did what they could have done without controllers. Truss
 -- and the tools do no more than that: where no controller is a script, the programs always did so. Each truss has shown
 -- what was selected while it watched, on the conditions of TrussRuns; when it has finished, it has attached what it was
--- given or reported its refusal, unless it was interrupted before, and it has nothing open. What a tool other than pstack
--- shows stood so in one state.
+-- given or reported its refusal, unless it was interrupted before, and it has nothing open. What a tool shows stood so in
+-- one state.
 pub record IsKept (s : Scenario) (h : List Entry) : Type 0 where
   pub legal : IsLegal (length (controllers_of s)) (first_state_of s) h
   pub follows : Follows (controllers_of s) (first_state_of s) h

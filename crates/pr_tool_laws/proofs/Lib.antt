@@ -8,6 +8,16 @@ pub mod OtherStages
 pub mod ReadBackLemmas
 pub mod ReadTextLemmas
 pub mod ReaderLemmas
+pub mod StackCalls
+pub mod StackEnds
+pub mod StackHalts
+pub mod StackLaw
+pub mod StackReads
+pub mod StackStages
+pub mod StackSteps
+pub mod StackTexts
+pub mod StackWalks
+pub mod StackWords
 pub mod StageLemmas
 pub mod StandingLemmas
 pub mod ToolLemmas

@@ -78,7 +78,7 @@ module _ (pid : ℕ) (lwps : List LwpStatus) (few : length lwps ≤ lwp_limit) (
       let number : (word_at bytes 0 == lwp_places bytes) ≡ true = eq-eqb _ _ (lwps-number ∙ sym lwps-places) in
       rw (long, whole, number) refl
 
-  lwps-back : lwps_in bytes ≡ Some words
+  pub lwps-back : lwps_in bytes ≡ Some words
   unfolding lwps_in lstatus_bytes
   lwps-back =
       let behind : drop 8 bytes ≡ words_bytes (entries_words words) = behind-number (length words) (entries_words words) in

@@ -29,7 +29,7 @@ use Rattle.pr_tool_laws.specs.ToolTexts.{tool_text}
 -- What a tool makes of one read is the text of what stands in the state.
 
 -- a record that is no longer than a read is read whole
-whole-read : (kind : ToolKind) (bytes : List ℕ) → length bytes ≤ read_limit → length bytes ≤ record_room kind → take (record_room kind) (part_read bytes 0 read_limit) ≡ bytes
+pub whole-read : (kind : ToolKind) (bytes : List ℕ) → length bytes ≤ read_limit → length bytes ≤ record_room kind → take (record_room kind) (part_read bytes 0 read_limit) ≡ bytes
 unfolding part_read
 whole-read kind bytes fits room = ap (take (record_room kind)) (take_all read_limit bytes fits) ∙ take_all (record_room kind) bytes room
 

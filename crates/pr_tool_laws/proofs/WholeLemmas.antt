@@ -151,7 +151,7 @@ pub front-legal : (n : ℕ) (s : TracedState) (before rest : List Entry) → IsL
 front-legal n s [] rest legal = tt
 front-legal n s (e ∷ before) rest legal = (legal.0, front-legal n (after s e) before rest legal.1)
 
-front-bytes : (before rest : List Entry) → HasBytes (before ++ rest) → HasBytes before
+pub front-bytes : (before rest : List Entry) → HasBytes (before ++ rest) → HasBytes before
 front-bytes [] rest bytes = All-nil IsEntryOfBytes
 front-bytes (e ∷ before) rest bytes =
     All-cons IsEntryOfBytes e before (All-head IsEntryOfBytes e (before ++ rest) bytes) (front-bytes before rest (All-tail IsEntryOfBytes e (before ++ rest) bytes))

@@ -16,7 +16,7 @@ use Rattle.pr_tools.specs.Tools.{first_tool, text_of}
 abbrev pub record_in : ToolKind → ℕ → TracedSystem → Option (List ℕ)
 record_in kind pid s = option_map (take (record_room kind)) (bytes_in (file_read s pid 0 0 read_limit (file_of kind)))
 
--- What a tool reads in a state, a row a tool. pstop and prun read nothing, and nothing is said of pstack.
+-- What a tool reads in a state, a row a tool. pstop and prun read nothing, and pstack reads more than once.
 unfoldable pub bytes_shown : ToolKind → ℕ → TracedSystem → Option (List ℕ)
 bytes_shown Pflags pid s = record_in Pflags pid s
 bytes_shown Psig pid s = record_in Psig pid s

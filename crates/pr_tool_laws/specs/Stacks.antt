@@ -12,7 +12,7 @@ use Rattle.pr_model.specs.declared.calls.Reply.{Reply}
 use Rattle.pr_model.specs.declared.events.Entry.{Entry}
 use Rattle.pr_num.specs.Layout.{text_base}
 use Rattle.pr_num.specs.Programs.{Program}
-use Rattle.pr_parts.specs.AddressSpaces.{Space}
+use Rattle.pr_num.specs.Spaces.{Space}
 use Rattle.pr_rec.specs.declared.lwps.LwpStatus.{LwpStatus}
 use Rattle.pr_tools.specs.Pstack.{frame_line, program_of}
 use Rattle.pr_tools.specs.Steps.{read_frames}

@@ -20,7 +20,7 @@ reads_once Pwait = true
 reads_once Ptree = true
 
 -- The text that a tool prints of a process as it is in one state, a row a tool. None: there is no such process, or it
--- has ended, which hides it from all tools but pwait. Nothing is said of pstack.
+-- has ended, which hides it from all tools but pwait. What pstack prints is not of one read, and has a file of its own.
 unfoldable pub tool_text : ToolKind → ℕ → TracedSystem → Option (List ℕ)
 tool_text Pflags pid s = option_map (λ p. lwps_text pid (lstatus_of p)) (live_process s pid)
 tool_text Psig pid s = option_map (λ p. dispositions_text pid p.dispositions) (live_process s pid)

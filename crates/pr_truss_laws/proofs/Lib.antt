@@ -19,4 +19,5 @@ pub mod SequenceLemmas
 pub mod StepLemmas
 pub mod StillLemmas
 pub mod StoresLemmas
+pub mod TakenLemmas
 pub mod ToldLemmas

@@ -1,0 +1,37 @@
+ghost use Rattle.std.specs.Prelude.{◌≡◌, ℕ, List, None, Some, slice_get, true};
+ghost use Rattle.pr_lawful.specs.Starts.{IsStart};
+ghost use Rattle.pr_model.specs.FirstState.{first_state};
+ghost use Rattle.pr_model.specs.Lawful.{IsLawful};
+ghost use Rattle.pr_model.specs.Legal.{IsLegal};
+ghost use Rattle.pr_model.specs.State.{TracedState};
+ghost use Rattle.pr_model.specs.declared.events.Entry.{Entry};
+ghost use Rattle.pr_model.specs.declared.tools.ToolKind.TheVariants.{Pstack};
+ghost use Rattle.pr_num.specs.Programs.{Program};
+ghost use Rattle.pr_num.specs.declared.files.StoredFile.{StoredFile};
+ghost use Rattle.pr_range_laws.specs.ByteHistories.{HasBytes};
+ghost use Rattle.pr_range_laws.specs.InRange.{IsInRange, IsStartInRange};
+ghost use Rattle.pr_tool_laws.specs.Stacks.{ShowsOneStack};
+ghost use Rattle.pr_tools.specs.Tools.{ToolState, first_tool, has_ended, printed};
+ghost use Rattle.pr_world.specs.Cores.{Core};
+ghost use Rattle.pr_world.specs.Cores as cores;
+ghost use Rattle.pr_world.specs.Protocol.{Follows, controllers_at};
+
+/// In a legal history that follows the protocol of its controllers, from a lawful state in range or from a first state,
+/// and in which controllers write bytes, a pstack that has finished, and was not refused, prints the stacks of one state:
+/// of one that a call of its own finds, although it reads frame by frame.
+pub fn pstack_shows_one_state()
+    ensures later { (controllers : List Core) (n k : ℕ) (pid : ℕ) (s : TracedState) (h : List Entry) (t : ToolState)
+        → (programs : List Program)
+        → IsLawful s → IsInRange s.system → HasBytes h
+        → slice_get controllers k ≡ Some (cores.Tool (first_tool Pstack pid))
+        → IsLegal n s h → Follows controllers s h
+        → slice_get (controllers_at controllers h) k ≡ Some (cores.Tool t) → has_ended t ≡ true → t.refusal ≡ None
+        → ShowsOneStack k pid programs s h (printed t programs) }
+    ensures first { (programs : List Program) (files : List StoredFile) (spawns : List ℕ)
+        → (controllers : List Core) (n k : ℕ) (pid : ℕ) (h : List Entry) (t : ToolState)
+        → IsStart programs files spawns → IsStartInRange programs files → HasBytes h
+        → slice_get controllers k ≡ Some (cores.Tool (first_tool Pstack pid))
+        → IsLegal n (first_state programs files spawns) h → Follows controllers (first_state programs files spawns) h
+        → slice_get (controllers_at controllers h) k ≡ Some (cores.Tool t) → has_ended t ≡ true → t.refusal ≡ None
+        → ShowsOneStack k pid programs (first_state programs files spawns) h (printed t programs) }
+{}
