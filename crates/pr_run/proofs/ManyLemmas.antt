@@ -7,7 +7,7 @@ use Rattle.std.proofs.lemmas.Option.{none-some, same_Some}
 use Rattle.std.specs.List.{enumerate_from, slice_get, slice_index_or}
 use Rattle.std.specs.Option.{ForSome, option_and_then}
 use Rattle.pr_api.specs.Views.{IsLawful}
-use Rattle.pr_lock.specs.History.{AreAll, StartsWith, added}
+use Rattle.pr_lock.specs.History.{AreAll, IsInOrder, StartsWith, added}
 use Rattle.pr_lock.specs.Seats.{IsOutside, own_of, shares_of}
 use Rattle.pr_lock.specs.declared.seats.Seat.{Seat}
 use Rattle.pr_lock.specs.declared.seats.Shared.{Shared}
@@ -24,7 +24,7 @@ use Rattle.pr_world.specs.Moves.{entry_of}
 use Rattle.pr_world.specs.Runs.{CameFrom}
 use Rattle.pr_world.specs.Worlds.{WorldState, as_lwp, can_act, clock_if_awaited, end_of, ended_as, first_lwp, from_lwp, goes_on, next_actor}
 use Rattle.pr_world.specs.declared.ends.End.{End}
-use Rattle.pr_run.specs.ManyRuns.{AtPlaces, HasWorked, IsMadeBy, IsMovedBy, IsTurnOf, IsWorkOf, Makes, is_done, next_for, next_of_controller, next_on_processor}
+use Rattle.pr_run.specs.ManyRuns.{AtPlaces, GoesOn, HasWorked, IsMadeBy, IsMovedBy, IsNextOf, IsReady, IsTurnOf, IsWorkOf, Makes, MovesNext, Rests, is_done, last_lwp, lwp_of, next_for, next_of_controller, next_on_processor}
 use Rattle.pr_run.specs.declared.workers.Progress.{Progress}
 use Rattle.pr_run.specs.declared.workers.Progress.TheVariants.{Moved, Idle, Done}
 
@@ -129,40 +129,90 @@ going-place processors worker w e = of (nat_lt (length w.kernel.history) w.kerne
 
 -- ---- one turn
 
-pub made-turn : (processors worker : ℕ) (last : Option (ℕ × ℕ)) (w v : WorldState) (p : Progress) → Makes processors worker last w v p → IsTurnOf processors worker w v
-made-turn processors worker last w v Moved m = inr (record { actor = m.actor; its = (next-moves processors worker last w m.actor m.next).its; moves = m.moves })
-made-turn processors worker last w v Idle m = inl m.0
-made-turn processors worker last w v Done m = inl m.0
+pub made-turn : (processors worker : ℕ) (old new : Option (ℕ × ℕ)) (w v : WorldState) (p : Progress) → Makes processors worker old new w v p → IsTurnOf processors worker old new w v
+made-turn processors worker old new w v Moved m = inr m
+made-turn processors worker old new w v Idle m = inl m.0
+made-turn processors worker old new w v Done m = inl m.0
 
-module _ (processors worker : ℕ) (w v : WorldState) where
+module _ (processors worker : ℕ) (old new : Option (ℕ × ℕ)) (w v : WorldState) where
   -- the history begins as it was
-  pub turn-grows : IsTurnOf processors worker w v → StartsWith v.kernel.history w.kernel.history
-  turn-grows (inl same) = ap (λ (x : WorldState). take (length w.kernel.history) x.kernel.history) same ∙ take_all (length w.kernel.history) w.kernel.history (omega arith)
+  pub turn-grows : IsTurnOf processors worker old new w v → StartsWith v.kernel.history w.kernel.history
+  turn-grows (inl r) = ap (λ (x : WorldState). take (length w.kernel.history) x.kernel.history) r.world ∙ take_all (length w.kernel.history) w.kernel.history (omega arith)
   turn-grows (inr m) = ap (take (length w.kernel.history)) m.moves.leads.history ∙ take_at w.kernel.history (entry_of m.actor m.moves.leads.act ∷ []) (length w.kernel.history) refl
 
-  -- what was added is the worker's
-  pub turn-adds : IsTurnOf processors worker w v → All (λ (e : ℕ × Entry). IsMovedBy processors worker e.1.actor) (added w.kernel.history v.kernel.history)
-  turn-adds (inl same) =
-      let none : drop (length w.kernel.history) v.kernel.history ≡ [] = ap (λ (x : WorldState). drop (length w.kernel.history) x.kernel.history) same ∙ drop_all (length w.kernel.history) w.kernel.history (omega arith) in
-      subst (λ (es : List Entry). All (λ (e : ℕ × Entry). IsMovedBy processors worker e.1.actor) (enumerate_from (length w.kernel.history) es)) (sym none) (All-nil (λ (e : ℕ × Entry). IsMovedBy processors worker e.1.actor))
-  turn-adds (inr m) =
-      let entry = entry_of m.actor m.moves.leads.act in
-      let one : drop (length w.kernel.history) v.kernel.history ≡ entry ∷ [] = ap (drop (length w.kernel.history)) m.moves.leads.history ∙ drop_at w.kernel.history (entry ∷ []) (length w.kernel.history) refl in
-      subst (λ (es : List Entry). All (λ (e : ℕ × Entry). IsMovedBy processors worker e.1.actor) (enumerate_from (length w.kernel.history) es)) (sym one)
-      (All-cons (λ (e : ℕ × Entry). IsMovedBy processors worker e.1.actor) (length w.kernel.history, entry) [] m.its (All-nil (λ (e : ℕ × Entry). IsMovedBy processors worker e.1.actor)))
-
   -- a world that came from another, came from it after a turn too
-  pub turn-came : (first : WorldState) → IsLawful w.kernel → CameFrom first w → IsTurnOf processors worker w v → CameFrom first v
-  turn-came first lawful came (inl same) = subst (CameFrom first) (sym same) came
+  pub turn-came : (first : WorldState) → IsLawful w.kernel → CameFrom first w → IsTurnOf processors worker old new w v → CameFrom first v
+  turn-came first lawful came (inl r) = subst (CameFrom first) (sym r.world) came
   turn-came first lawful came (inr m) = came-on first w v m.actor lawful came m.moves
 
--- all entries of a worker are its own after a turn too
-pub turn-work : (processors worker : ℕ) (w v : WorldState) (own after : List (ℕ × Entry)) (entered : List Entry) → IsTurnOf processors worker w v → All (λ (e : ℕ × Entry). IsMovedBy processors worker e.1.actor) own
-    → entered ≡ w.kernel.history → after ≡ own ++ added entered v.kernel.history → All (λ (e : ℕ × Entry). IsMovedBy processors worker e.1.actor) after
-turn-work processors worker w v own after entered turn its same is =
+  -- what a turn adds without a move, and by one
+  rest-adds : Rests old new w v → added w.kernel.history v.kernel.history ≡ []
+  rest-adds r =
+      let none : drop (length w.kernel.history) v.kernel.history ≡ [] = ap (λ (x : WorldState). drop (length w.kernel.history) x.kernel.history) r.world ∙ drop_all (length w.kernel.history) w.kernel.history (omega arith) in
+      ap (enumerate_from (length w.kernel.history)) none
+
+  move-adds : (m : MovesNext processors worker old new w v) → added w.kernel.history v.kernel.history ≡ (length w.kernel.history, entry_of m.actor m.moves.leads.act) ∷ []
+  move-adds m =
+      let entry = entry_of m.actor m.moves.leads.act in
+      let one : drop (length w.kernel.history) v.kernel.history ≡ entry ∷ [] = ap (drop (length w.kernel.history)) m.moves.leads.history ∙ drop_at w.kernel.history (entry ∷ []) (length w.kernel.history) refl in
+      ap (enumerate_from (length w.kernel.history)) one
+
+  -- what was added is the worker's
+  turn-adds : IsTurnOf processors worker old new w v → All (λ (e : ℕ × Entry). IsMovedBy processors worker e.1.actor) (added w.kernel.history v.kernel.history)
+  turn-adds (inl r) = let P : ℕ × Entry → Type 0 = λ e. IsMovedBy processors worker e.1.actor in subst (All P) (sym (rest-adds r)) (All-nil P)
+  turn-adds (inr m) =
+      let P : ℕ × Entry → Type 0 = λ e. IsMovedBy processors worker e.1.actor in
+      let its = (next-moves processors worker old w m.actor m.next).its in
+      subst (All P) (sym (move-adds m)) (All-cons P (length w.kernel.history, entry_of m.actor m.moves.leads.act) [] its (All-nil P))
+
+  -- with what was added the worker went on
+  turn-goes_on : (first : WorldState) → CameFrom first w → IsTurnOf processors worker old new w v → GoesOn first processors worker old (added w.kernel.history v.kernel.history)
+  turn-goes_on first came (inl r) = subst (GoesOn first processors worker old) (sym (rest-adds r)) tt
+  turn-goes_on first came (inr m) =
+      let next : IsNextOf first processors worker old (length w.kernel.history, entry_of m.actor m.moves.leads.act) = record { world = w; came = came; place = refl; next = m.next } in
+      subst (GoesOn first processors worker old) (sym (move-adds m)) (next, tt)
+
+  turn-last : IsTurnOf processors worker old new w v → new ≡ last_lwp old (added w.kernel.history v.kernel.history)
+  turn-last (inl r) = r.last ∙ ap (last_lwp old) (sym (rest-adds r))
+  turn-last (inr m) = m.last ∙ ap (last_lwp old) (sym (move-adds m))
+
+-- ---- the entries of a worker
+
+-- entries, and further ones
+goes-on : (first : WorldState) (processors worker : ℕ) (last : Option (ℕ × ℕ)) (own more : List (ℕ × Entry)) → GoesOn first processors worker last own → GoesOn first processors worker (last_lwp last own) more → GoesOn first processors worker last (own ++ more)
+goes-on first processors worker last [] more goes on = on
+goes-on first processors worker last (e ∷ own) more goes on = (goes.0, goes-on first processors worker (lwp_of e.1.actor) own more goes.1 on)
+
+last-on : (last : Option (ℕ × ℕ)) (own more : List (ℕ × Entry)) → last_lwp last (own ++ more) ≡ last_lwp (last_lwp last own) more
+last-on last [] more = refl
+last-on last (e ∷ own) more = last-on (lwp_of e.1.actor) own more
+
+-- The entries of a worker after a turn, and the lwp that it moved last.
+pub record HasGrown (first : WorldState) (processors worker : ℕ) (new : Option (ℕ × ℕ)) (own : List (ℕ × Entry)) : Type 0 where
+  pub work : IsWorkOf first processors worker own
+  pub last : new ≡ last_lwp None own
+
+pub turn-work : (first : WorldState) (processors worker : ℕ) (old new : Option (ℕ × ℕ)) (w v : WorldState) (own after : List (ℕ × Entry)) (entered : List Entry)
+    → IsTurnOf processors worker old new w v → CameFrom first w → IsWorkOf first processors worker own → old ≡ last_lwp None own
+    → entered ≡ w.kernel.history → after ≡ own ++ added entered v.kernel.history → (IsInOrder own → IsInOrder after) → HasGrown first processors worker new after
+turn-work first processors worker old new w v own after entered turn came work last same is order =
     let P : ℕ × Entry → Type 0 = λ e. IsMovedBy processors worker e.1.actor in
-    let more : All P (added entered v.kernel.history) = subst (λ (l : List Entry). All P (added l v.kernel.history)) (sym same) (turn-adds processors worker w v turn) in
-    subst (All P) (sym is) (All-append P own (added entered v.kernel.history) its more)
+    let more = added w.kernel.history v.kernel.history in
+    let grown : after ≡ own ++ more = is ∙ ap (λ (l : List Entry). own ++ added l v.kernel.history) same in
+    let its = All-append P own more work.its (turn-adds processors worker old new w v turn) in
+    let goes = subst (λ (l : Option (ℕ × ℕ)). GoesOn first processors worker l more) last (turn-goes_on processors worker old new w v first came turn) in
+    record {
+      work = record {
+        order = order work.order;
+        its = subst (All P) (sym grown) its;
+        rounds = subst (GoesOn first processors worker None) (sym grown) (goes-on first processors worker None own more work.rounds goes);
+      };
+      last = turn-last processors worker old new w v turn ∙ (ap (λ (l : Option (ℕ × ℕ)). last_lwp l more) last ∙ (sym (last-on None own more) ∙ ap (last_lwp None) (sym grown)));
+    }
+
+-- a worker that made no entry yet
+pub no-work : (first : WorldState) (processors worker : ℕ) (own : List (ℕ × Entry)) → own ≡ [] → IsWorkOf first processors worker own
+no-work first processors worker own none = subst (IsWorkOf first processors worker) (sym none) (record { order = λ i j d before within. absurd (omega arith); its = All-nil (λ (e : ℕ × Entry). IsMovedBy processors worker e.1.actor); rounds = tt })
 
 -- as many controllers as there were at first
 pub came-count : (first w : WorldState) → CameFrom first w → length w.controllers ≡ length first.controllers
@@ -192,8 +242,11 @@ pub written-back : {X : Type 0} (xs items : List X) (n : ℕ) → length xs ≡ 
 written-back xs items n same all =
     ap (take n) (ap (λ (l : List _). xs ++ l) (drop_all (length xs) items (omega (arith, same))) ∙ append-nil xs) ∙ take_all n xs (omega (arith, same, all))
 
-module _ {V : Type 0} (processors : ℕ) (lock : Shared V Entry) where
-  pub all-out : (seats : List (Seat V Entry)) → AtPlaces (HasWorked processors lock) seats → All (λ seat. IsOutside seat lock × (shares_of seat ≡ 1)) seats
+module _ {V : Type 0} (first : WorldState) (processors : ℕ) (lock : Shared V Entry) where
+  pub ready-worked : (worker : ℕ) (seat : Seat V Entry) → IsReady lock seat → HasWorked first processors lock worker seat
+  ready-worked worker seat ready = record { outside = ready.outside; share = ready.share; work = no-work first processors worker (own_of seat) ready.none }
+
+  pub all-out : (seats : List (Seat V Entry)) → AtPlaces (HasWorked first processors lock) seats → All (λ seat. IsOutside seat lock × (shares_of seat ≡ 1)) seats
   all-out seats worked = λ k d h. let it = worked k d h in (it.outside, it.share)
 
   -- a seat that added nothing, and took in these
@@ -202,11 +255,11 @@ module _ {V : Type 0} (processors : ℕ) (lock : Shared V Entry) where
       is ∙ (ap (λ (o : List (ℕ × Entry)). o ++ flat_map (λ (seat : Seat V Entry). own_of seat) back) none ∙ ap (λ (l : List (Seat V Entry)). flat_map (λ (seat : Seat V Entry). own_of seat) l) same)
 
   -- What the seats of all workers have is the history.
-  pub all-made : (seats : List (Seat V Entry)) (controllers : ℕ) (history : List Entry) (own : List (ℕ × Entry)) → AtPlaces (HasWorked processors lock) seats → length seats ≡ processors + controllers → own ≡ flat_map (λ seat. own_of seat) seats → AreAll history own
-      → IsMadeBy processors controllers history
-  all-made seats controllers history own worked count is all = record {
+  pub all-made : (seats : List (Seat V Entry)) (history : List Entry) (own : List (ℕ × Entry)) → AtPlaces (HasWorked first processors lock) seats → length seats ≡ processors + length first.controllers → own ≡ flat_map (λ seat. own_of seat) seats → AreAll history own
+      → IsMadeBy first processors history
+  all-made seats history own worked count is all = record {
     made = map (λ (seat : Seat V Entry). own_of seat) seats;
     workers = length-map seats (λ (seat : Seat V Entry). own_of seat) ∙ count;
-    work = map-places (λ (seat : Seat V Entry). own_of seat) (IsWorkOf processors) seats (λ k d h. (worked k d h).work);
+    work = map-places (λ (seat : Seat V Entry). own_of seat) (IsWorkOf first processors) seats (λ k d h. (worked k d h).work);
     all = subst (AreAll history) (is ∙ flat_map-map (λ (seat : Seat V Entry). own_of seat) seats) all;
   }

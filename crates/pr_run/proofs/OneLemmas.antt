@@ -1,4 +1,4 @@
-use Rattle.std.proofs.Common.{◌≡◌, ◌<◌, ◌≤◌, ◌+◌, ◌-◌, ◌&&◌, ℕ, zero, suc, Bool, true, false, Option, Some, None, is_some, IsSome, Result, Ok, Err, OnErr, OnOk, length, nat_lt, cond, refl, sym, ◌∙◌, ap, subst, arith}
+use Rattle.std.proofs.Common.{◌≡◌, ◌<◌, ◌≤◌, ◌+◌, ◌-◌, ◌&&◌, inl, inr, ℕ, zero, suc, Bool, true, false, Option, Some, None, is_some, IsSome, Result, Ok, Err, OnErr, OnOk, length, nat_lt, cond, refl, sym, ◌∙◌, ap, subst, arith}
 use borrow.Author.Tests.{ltb-true}
 use Rattle.std.specs.Option.{option_map}
 use Rattle.pr_api.specs.Views.{KernelView}
@@ -53,18 +53,32 @@ pub record Picked {K : Type 0} (view : K → KernelView) (w u : WorldOf K) (a : 
   pub actor : pick.actor ≡ a
   pub world : seen view u ≡ with_pick pick (seen view w)
 
-module _ {K : Type 0} (view : K → KernelView) (w u : WorldOf K) (place : u ≡ picked (next_pick (seen view w)) w) where
-  picked-as : (o : Option Pick) → u ≡ picked o w → StandsAs (seen view w) (seen view u)
-  unfolding with_pick
-  picked-as None e = record { kernel = ap (λ (x : WorldOf K). view x.kernel) e; controllers = ap (λ (x : WorldOf K). x.controllers) e }
-  picked-as (Some p) e = record { kernel = ap (λ (x : WorldOf K). view x.kernel) e; controllers = ap (λ (x : WorldOf K). x.controllers) e }
+-- Kernel and controllers of a world are those of another.
+pub record HasThose (w v : WorldState) : Type 0 where
+  pub kernel : v.kernel ≡ w.kernel
+  pub controllers : v.controllers ≡ w.controllers
 
-  -- kernel and controllers stay
+picked-those : (w v : WorldState) (o : Option Pick) → v ≡ picked o w → HasThose w v
+unfolding with_pick
+picked-those w v None e = record { kernel = ap (λ (x : WorldState). x.kernel) e; controllers = ap (λ (x : WorldState). x.controllers) e }
+picked-those w v (Some p) e = record { kernel = ap (λ (x : WorldState). x.kernel) e; controllers = ap (λ (x : WorldState). x.controllers) e }
+
+stands-those : (w v : WorldState) → StandsAs w v → HasThose w v
+stands-those w v (inl same) = picked-those w v None same
+stands-those w v (inr is) = picked-those w v (next_pick w) is
+
+module _ {K : Type 0} (view : K → KernelView) (w u : WorldOf K) (place : u ≡ picked (next_pick (seen view w)) w) where
+  seen-picked : (o : Option Pick) → seen view (picked o w) ≡ picked o (seen view w)
+  unfolding with_pick
+  seen-picked None = refl
+  seen-picked (Some p) = refl
+
+  -- it stands, with the actor picked
   pub stands : StandsAs (seen view w) (seen view u)
-  stands = picked-as (next_pick (seen view w)) place
+  stands = inr (ap (seen view) place ∙ seen-picked (next_pick (seen view w)))
 
   pub has-place : length (view w.kernel).history < (view w.kernel).places → length (view u.kernel).history < (view u.kernel).places
-  has-place h = subst (λ (k : KernelView). length k.history < k.places) (sym stands.kernel) h
+  has-place h = subst (λ (k : KernelView). length k.history < k.places) (sym (stands-those (seen view w) (seen view u) stands).kernel) h
 
   pub picked-some : (next : Option Actor) → next ≡ next_actor (seen view w) → (a : Actor) → next ≡ Some a → Picked view w u a
   unfolding next_actor with_pick
@@ -147,14 +161,13 @@ module _ (first w : WorldState) (i e p : ℕ) (begin : e ≡ length first.kernel
       run-function (i - length first.kernel.history) first w t run ∙ ap (λ (n : ℕ). after_moves n first) same
 
   pub stopped : (v : WorldState) → i ≤ p → StandsAs w v → StoppedIn first v
-  stopped v h stands = record {
-    made = i - length first.kernel.history;
-    within = omega arith;
-    world = w;
-    runs = run;
-    kernel = stands.kernel;
-    controllers = stands.controllers;
-  }
-
-pub stands-same : (w v : WorldState) → v ≡ w → StandsAs w v
-stands-same w v e = record { kernel = ap (λ (x : WorldState). x.kernel) e; controllers = ap (λ (x : WorldState). x.controllers) e }
+  stopped v h stands =
+      let those = stands-those w v stands in
+      record {
+        made = i - length first.kernel.history;
+        within = omega arith;
+        world = w;
+        runs = run;
+        kernel = those.kernel;
+        controllers = those.controllers;
+      }

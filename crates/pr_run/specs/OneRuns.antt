@@ -1,6 +1,6 @@
-use Rattle.std.specs.Prelude.{◌≡◌, ◌-◌, ℕ, Bool, true, false, None, length}
+use Rattle.std.specs.Prelude.{◌≡◌, ◌-◌, ◌⊎◌, ℕ, Bool, true, false, None, length}
 use Rattle.pr_world.specs.Runs.{RunsFor, Steps, after_moves}
-use Rattle.pr_world.specs.Worlds.{WorldState, next_pick}
+use Rattle.pr_world.specs.Worlds.{WorldState, next_pick, picked}
 
 -- A run on one thread: at each step the actor that is picked moves.
 
@@ -9,15 +9,20 @@ abbrev pub Advanced : Bool → WorldState → WorldState → Type 0
 Advanced true w v = Steps w v
 Advanced false w v = (v ≡ w) × (next_pick w ≡ None)
 
--- Kernel and controllers of a world are those of another.
-pub record StandsAs (w v : WorldState) : Type 0 where
-  pub kernel : v.kernel ≡ w.kernel
-  pub controllers : v.controllers ≡ w.controllers
+-- A world stands as another: it is that one, or that one with the actor picked that comes next.
+abbrev pub StandsAs : WorldState → WorldState → Type 0
+StandsAs w v = (v ≡ w) ⊎ (v ≡ picked (next_pick w) w)
 
 -- One world led to another by a run of some steps.
 pub record LedTo (first last : WorldState) : Type 0 where
   pub steps : ℕ
   pub runs : RunsFor steps first last
+
+-- The same of a run that was stopped: after its steps one more actor may have been picked, and no further one.
+pub record LedUpTo (first last : WorldState) : Type 0 where
+  pub world : WorldState
+  pub led : LedTo first world
+  pub stands : StandsAs world last
 
 -- the world at the end of a run, where its machine is told: as many moves were made as there are places left, or until
 -- no actor could move

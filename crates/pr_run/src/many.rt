@@ -1,7 +1,8 @@
 //! Runs of a world on several threads.
-ghost use Rattle.std.specs.Prelude.{◌≡◌, ◌+◌, ◌≤◌, ◌<◌, ◌^◌, ◌++◌, [], Some, All, length, flat_map, vec_len, IfOk, IsOkUnless};
+ghost use Rattle.std.specs.Prelude.{◌≡◌, ◌+◌, ◌≤◌, ◌<◌, ◌^◌, ◌++◌, [], None, Some, All, length, flat_map, vec_len, IfOk, OnOk, IsOkUnless};
 ghost use Rattle.pr_lock.specs.Seats.{IsOutside, first_of, own_of, shares_of};
-ghost use Rattle.pr_run.specs.ManyRuns.{AtPlaces, HasWorked, IsMadeBy};
+ghost use Rattle.pr_num.specs.Limits.{worker_limit};
+ghost use Rattle.pr_run.specs.ManyRuns.{AtPlaces, HasWorked, IsMadeBy, IsReady, first_world, last_lwp};
 ghost use Rattle.pr_world.specs.Runs.{CameFrom};
 ghost use Rattle.pr_world.specs.Worlds.{ended_as, seen};
 
@@ -17,7 +18,8 @@ use std::sync::Wait;
 use std::thread;
 use std::thread::Threads;
 
-/// One turn of a worker: it takes the world, makes its move, and gives the world back.
+/// One turn of a worker: it takes the world, makes its move, and gives the world back. `last` is the lwp that it moved
+/// last.
 fn take_turn<R: Wait, Q: Kernel + Send>(
     rt: &R,
     lock: &Shared<SharedWorld<Q>>,
@@ -25,9 +27,11 @@ fn take_turn<R: Wait, Q: Kernel + Send>(
     worker: Worker,
     last: &mut Option<(u32, u32)>,
 ) -> Progress
-    requires seat { HasWorked worker.processors lock.now worker.number seat.old }
+    requires seat { HasWorked (first_world Q.view lock.now) worker.processors lock.now worker.number seat.old }
     requires number { worker.number < worker.processors + length (first_of lock.now).world.controllers }
-    ensures { HasWorked worker.processors lock.now worker.number seat.new }
+    requires last { last.old ≡ last_lwp None (own_of seat.old) }
+    ensures seat { HasWorked (first_world Q.view lock.now) worker.processors lock.now worker.number seat.new }
+    ensures last { last.new ≡ last_lwp None (own_of seat.new) }
 {
     let mut shared = lock.enter(rt, seat);
     let progress = shared.take_turn(worker, last);
@@ -43,9 +47,9 @@ fn take_turns<R: Wait, Q: Kernel + Send, G: Gate>(
     worker: Worker,
     gate: &G,
 )
-    requires seat { HasWorked worker.processors lock.now worker.number seat.old }
+    requires seat { IsReady lock.now seat.old }
     requires number { worker.number < worker.processors + length (first_of lock.now).world.controllers }
-    ensures { HasWorked worker.processors lock.now worker.number seat.new }
+    ensures { HasWorked (first_world Q.view lock.now) worker.processors lock.now worker.number seat.new }
 {
     let mut last = None;
     let mut turn = 0u64;
@@ -71,8 +75,8 @@ fn seats_of<Q: Kernel + Send>(
     requires lock { IsOutside seat.old lock.now }
     requires shares { shares_of seat.old ≡ workers + 1 }
     requires own { own_of seat.old ≡ [] }
-    ensures seat { IfOk result (λ seats. IsOutside seat.new lock.now × (shares_of seat.new ≡ 1) × (own_of seat.new ≡ [])) }
-    ensures workers { IfOk result (λ seats. All (λ seat. IsOutside seat lock.now × (shares_of seat ≡ 1) × (own_of seat ≡ [])) seats.items × (vec_len seats ≡ workers)) }
+    ensures seat { OnOk result (IsReady lock.now seat.new) }
+    ensures workers { IfOk result (λ seats. All (IsReady lock.now) seats.items × (vec_len seats ≡ workers)) }
 {
     let mut seats = Vec::with_capacity(alloc, workers as usize)?;
     for _ in 0..workers {
@@ -91,8 +95,8 @@ fn work<R: Threads + Wait + Sync, Q: Kernel + Send, G: Gate + Sync>(
 )
     requires few { length seats.old < 2 ^ 32 }
     requires number { length seats.old ≤ processors + length (first_of lock.now).world.controllers }
-    requires seats { AtPlaces (HasWorked processors lock.now) seats.old }
-    ensures seats { AtPlaces (HasWorked processors lock.now) seats.new }
+    requires seats { All (IsReady lock.now) seats.old }
+    ensures seats { AtPlaces (HasWorked (first_world Q.view lock.now) processors lock.now) seats.new }
 {
     let threads = seats.len().max(1);
     thread::for_each_mut(
@@ -102,8 +106,8 @@ fn work<R: Threads + Wait + Sync, Q: Kernel + Send, G: Gate + Sync>(
         &|number: usize, seat: &mut Seat<SharedWorld<Q>>|
             requires few { number < 2 ^ 32 }
             requires number { number < processors + length (first_of lock.now).world.controllers }
-            requires seat { HasWorked processors lock.now number seat.old }
-            ensures { HasWorked processors lock.entry.now number seat.new }
+            requires seat { IsReady lock.now seat.old }
+            ensures { HasWorked (first_world Q.view lock.entry.now) processors lock.entry.now number seat.new }
         {
             let worker = Worker {
                 processors,
@@ -170,8 +174,8 @@ fn ended<R: Wait, Q: Kernel>(rt: &R, shared: SharedWorld<Q>) -> (World<Q>, Resul
 
 /// Makes the run of a world by workers, each in a thread of its own: so many that share the processor and move lwps and
 /// the clock, and one for each controller. They take the world in turn under a lock, in any order; its schedule is not
-/// used. It ends where the world has ended, and says how; where memory runs out on the way, the world is handed back as it
-/// stands. The refusal of a lock, or of its seats, comes before any move. It waits for its workers: what is said here
+/// used. It ends where the world has ended, and says how; where memory runs out on the way, the world is handed back as
+/// it stands. The refusal of a lock, or of its seats, comes before any move. It waits for its workers: what is said here
 /// holds if it returns.
 pub fn run_many<R: Threads + Wait + Sync, Q: Kernel + Send, G: Gate + Sync>(
     rt: &R,
@@ -181,14 +185,15 @@ pub fn run_many<R: Threads + Wait + Sync, Q: Kernel + Send, G: Gate + Sync>(
     gate: &G,
 ) -> Result<(World<Q>, Result<End, NoMemory>), NewNo>
     requires some { 1 ≤ workers }
-    requires most { workers ≤ 16 }
+    requires most { workers ≤ worker_limit }
     requires empty { (Q.view world.kernel).history ≡ [] }
-    // Each controller made its next calls, and got replies of their shapes; of a machine that is told the history is legal
-    // and follows the protocol, and its state is the one after it.
+    // Each controller made its next calls, and got replies of their shapes; of a machine that is told the history is
+    // legal and follows the protocol, and its state is the one after it.
     ensures came { IfOk result (λ made. CameFrom (seen Q.view world) (seen Q.view made.0)) }
 
-    // The entries of the history are those that the workers made, each once.
-    ensures made { IfOk result (λ made. IsMadeBy workers (length world.controllers) (Q.view made.0.kernel).history) }
+    // The entries of the history are those that the workers made, each once. A worker of the processor went on after
+    // the lwp that it had moved last.
+    ensures made { IfOk result (λ made. IsMadeBy (seen Q.view world) workers (Q.view made.0.kernel).history) }
 
     ensures within { IfOk result (λ made. length (Q.view made.0.kernel).history ≤ (Q.view made.0.kernel).places) }
     ensures end { IfOk result (λ made. IfOk made.1 (λ end. ended_as (seen Q.view made.0) ≡ Some end)) }

@@ -1,5 +1,5 @@
 ghost use Rattle.std.specs.Prelude.{◌≡◌, ◌<◌, false, Some, length, IfOk, OnOk, OnErr};
-ghost use Rattle.pr_run.specs.OneRuns.{Advanced, LedTo, StandsAs, end_of_run};
+ghost use Rattle.pr_run.specs.OneRuns.{Advanced, LedUpTo, LedTo, StandsAs, end_of_run};
 ghost use Rattle.pr_world.specs.Runs.{IsTold, StoppedIn};
 ghost use Rattle.pr_world.specs.Worlds.{ended_as, goes_on, seen};
 
@@ -7,8 +7,8 @@ use pr_api::Kernel;
 use pr_num::NoMemory;
 use pr_world::{End, World};
 
-/// Picks who moves next and gives it its turn, and says whether there was an actor. Where memory runs out, kernel and
-/// controllers are as they were.
+/// Picks who moves next and gives it its turn, and says whether there was an actor. Where memory runs out, the world is
+/// as it was, or the actor was picked and did not move.
 fn advance<Q: Kernel>(world: &mut World<Q>) -> Result<bool, NoMemory>
     requires place { length (Q.view world.old.kernel).history < (Q.view world.old.kernel).places }
     ensures ok { IfOk result (λ moved. Advanced moved (seen Q.view world.old) (seen Q.view world.new)) }
@@ -32,14 +32,16 @@ fn end<Q: Kernel>(world: &mut World<Q>) -> Result<End, NoMemory>
     Ok(world.ended()?.unwrap())
 }
 
-/// Picks actors and gives them their turns until the world has ended, and says how. Over a kernel that tells its machine
-/// the world at the end is a function of the one at the beginning. Where memory runs out, the world is the one after some
-/// of the steps, in which an actor may have been picked. Waits for nobody.
+/// Picks actors and gives them their turns until the world has ended, and says how. Over a kernel that tells its
+/// machine the world at the end is a function of the one at the beginning. Where memory runs out, the world is the one
+/// after some of the steps, in which one more actor may have been picked. Waits for nobody.
 pub fn run_one<Q: Kernel>(world: &mut World<Q>) -> Result<End, NoMemory>
     ensures run { OnOk result (LedTo (seen Q.view world.old) (seen Q.view world.new)) }
     ensures end { IfOk result (λ end. ended_as (seen Q.view world.new) ≡ Some end) }
-    ensures told { OnOk result (IsTold (seen Q.view world.old) → seen Q.view world.new ≡ end_of_run (seen Q.view world.old)) }
+    ensures told { OnOk result (IsTold (seen Q.view world.old)
+        → seen Q.view world.new ≡ end_of_run (seen Q.view world.old)) }
     ensures err { OnErr result (StoppedIn (seen Q.view world.old) (seen Q.view world.new)) }
+    ensures picked { OnErr result (LedUpTo (seen Q.view world.old) (seen Q.view world.new)) }
 {
     for _ in world.kernel().entries()..world.kernel().places() {
         if !advance(world)? {

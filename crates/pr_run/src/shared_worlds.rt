@@ -35,13 +35,18 @@ impl<Q: Kernel> Logged for SharedWorld<Q> {
 }
 
 impl<Q: Kernel> SharedWorld<Q> {
-    /// One turn of a worker, with at most one move. Where it is refused memory, it leaves the mark.
+    /// One turn of a worker, with at most one move. `last` is the lwp that the worker moved last. Where it is refused
+    /// memory, it leaves the mark.
     pub fn take_turn(&mut self, worker: Worker, last: &mut Option<(u32, u32)>) -> Progress
         requires { worker.number < worker.processors + length self.old.world.controllers }
-        ensures turn { IsTurnOf worker.processors worker.number (seen Q.view self.old.world) (seen Q.view self.new.world) }
-        ensures came { (first : WorldState) → CameFrom first (seen Q.view self.old.world) → CameFrom first (seen Q.view self.new.world) }
-        ensures made { self.new.refusal ≡ None → Makes worker.processors worker.number last.old (seen Q.view self.old.world) (seen Q.view self.new.world) result }
-        ensures refused { IsSome self.new.refusal → (result ≡ Done) × (self.new.world ≡ self.old.world) }
+        ensures turn { IsTurnOf worker.processors worker.number last.old last.new
+            (seen Q.view self.old.world) (seen Q.view self.new.world) }
+        ensures came { (first : WorldState) → CameFrom first (seen Q.view self.old.world)
+            → CameFrom first (seen Q.view self.new.world) }
+        ensures made { self.new.refusal ≡ None → Makes worker.processors worker.number last.old last.new
+            (seen Q.view self.old.world) (seen Q.view self.new.world) result }
+        ensures refused { IsSome self.new.refusal
+            → (result ≡ Done) × (self.new.world ≡ self.old.world) × (last.new ≡ last.old) }
         ensures marked { IsSome self.old.refusal → self.new ≡ self.old }
     {
         if self.refusal.is_some() {

@@ -1,6 +1,6 @@
 //! What the workers of a run on several threads do in a world.
 ghost use Rattle.std.specs.Prelude.{◌≡◌, ◌+◌, ◌<◌, ◌≤◌, length, IfOk, OnErr};
-ghost use Rattle.pr_run.specs.ManyRuns.{Makes, is_done, next_for, next_of_controller, next_on_processor};
+ghost use Rattle.pr_run.specs.ManyRuns.{Makes, is_done, lwp_of, next_for, next_of_controller, next_on_processor};
 ghost use Rattle.pr_world.specs.Worlds.{seen};
 
 use pr_api::Kernel;
@@ -60,7 +60,9 @@ fn next_of_controller<Q: Kernel>(
 }
 
 /// The lwp that an actor is.
-fn lwp_of(actor: Actor) -> Option<(u32, u32)> {
+fn lwp_of(actor: Actor) -> Option<(u32, u32)>
+    ensures { result ≡ lwp_of actor }
+{
     match actor {
         Actor::Lwp(pid, lwp) => Some((pid, lwp)),
         Actor::Controller(_) | Actor::Clock => None,
@@ -100,15 +102,18 @@ impl Worker {
         world.finished(self.number - self.processors)
     }
 
-    /// One turn, with at most one move. Where memory runs out, the world is as it was.
+    /// One turn, with at most one move. `last` is the lwp that the worker moved last. Where memory runs out, both are as
+    /// they were.
     pub fn make_turn<Q: Kernel>(
         self,
         world: &mut World<Q>,
         last: &mut Option<(u32, u32)>,
     ) -> Result<Progress, NoMemory>
         requires { self.number < self.processors + length world.old.controllers }
-        ensures ok { IfOk result (λ progress. Makes self.processors self.number last.old (seen Q.view world.old) (seen Q.view world.new) progress) }
+        ensures ok { IfOk result (λ progress. Makes self.processors self.number last.old last.new
+            (seen Q.view world.old) (seen Q.view world.new) progress) }
         ensures err { OnErr result (world.new ≡ world.old) }
+        ensures kept { OnErr result (last.new ≡ last.old) }
     {
         if self.is_done(world)? {
             return Ok(Progress::Done);

@@ -2,10 +2,11 @@ use Rattle.std.proofs.Common.{◌≡◌, ◌+◌, ◌++◌, All, sym, ap, subst,
 use Rattle.pr_lock.specs.Seats.{IsOutside, own_of, shares_of}
 use Rattle.pr_lock.specs.declared.seats.Seat.{Seat}
 use Rattle.pr_model.specs.declared.events.Entry.{Entry}
-use Rattle.pr_run.specs.ManyRuns.{IsMadeBy}
+use Rattle.pr_run.specs.ManyRuns.{IsMadeBy, first_world}
+use Rattle.pr_run.specs.declared.shared_worlds.SharedWorld.{SharedWorld}
 use Rattle.pr_run.proofs.ManyLemmas.{all-made, all-out, taken-in, written-back}
 use Rattle.pr_world.proofs.RunLemmas.{came-first}
-use Rattle.pr_world.specs.Worlds.{WorldOf, seen}
+use Rattle.pr_world.specs.Worlds.{WorldOf, WorldState, seen}
 use Rattle.pr_run.proofs.many.run_many.Goals as goal
 
 pub new-requires-clause-source : goal.new-requires-clause-source
@@ -14,16 +15,21 @@ new-requires-clause-source g c κs within = came-first (seen g.Q.Kernel.view c.a
 pub gather-requires-clause-seats : goal.gather-requires-clause-seats
 gather-requires-clause-seats g c κs within =
     let back = written-back c.work.new.seats c.in_ok-seats.seats.items c.in_ok-seats.seats.len (omega (arith, c.work.auto.seats, ap length c.deref_mut.ensures.value)) (omega (arith, c.in_ok-seats.seats.ok)) in
-    subst (All (λ (seat : Seat _ Entry). IsOutside seat c.in_ok-lock.lock × (shares_of seat ≡ 1))) (sym back) (all-out c.args.workers c.in_ok-lock.lock c.work.new.seats c.work.ensures.seats)
+    subst (All (λ (seat : Seat _ Entry). IsOutside seat c.in_ok-lock.lock × (shares_of seat ≡ 1))) (sym back) (all-out (first_world g.Q.Kernel.view c.in_ok-lock.lock) c.args.workers c.in_ok-lock.lock c.work.new.seats c.work.ensures.seats)
 
 pub returns-clause-made : goal.returns-clause-made
 returns-clause-made g c =
     let view = g.Q.Kernel.view in
+    let lock = c.in_ok-lock.lock in
+    let workers = c.args.workers in
+    let first = first_world view lock in
+    let begun : first ≡ seen view c.args.world = ap (λ (v : SharedWorld _). seen view v.world) c.in_ok-lock.ensures.lock.1 in
     let seats = c.work.new.seats in
     let items = c.in_ok-seats.seats in
-    let count : length seats ≡ c.args.workers + length c.args.world.controllers =
-    omega (arith, c.work.auto.seats, ap length c.deref_mut.ensures.value, items.ok, c.in_ok-seats.ensures.workers.1, c.controllers.ensures.value) in
+    let count : length seats ≡ workers + length first.controllers =
+    omega (arith, c.work.auto.seats, ap length c.deref_mut.ensures.value, items.ok, c.in_ok-seats.ensures.workers.1, c.controllers.ensures.value, ap (λ (w : WorldState). length w.controllers) begun) in
     let back = written-back seats items.items items.len (omega (arith, c.work.auto.seats, ap length c.deref_mut.ensures.value)) (omega (arith, items.ok)) in
-    let own = taken-in c.args.workers c.in_ok-lock.lock c.seats_of.new.seat c.gather.new.seat (take items.len (seats ++ drop (length seats) items.items)) seats c.gather.ensures.own c.in_ok-seats.ensures.seat.2 back in
-    subst (λ (w : WorldOf _). IsMadeBy c.args.workers (length c.args.world.controllers) (view w.kernel).history) (sym c.ended.ensures.world)
-    (all-made c.args.workers c.in_ok-lock.lock seats (length c.args.world.controllers) (view c.close.result.world.kernel).history (own_of c.gather.new.seat) c.work.ensures.seats count own c.close.ensures.all)
+    let own = taken-in first workers lock c.seats_of.new.seat c.gather.new.seat (take items.len (seats ++ drop (length seats) items.items)) seats c.gather.ensures.own c.in_ok-seats.ensures.seat.none back in
+    let made = all-made first workers lock seats (view c.close.result.world.kernel).history (own_of c.gather.new.seat) c.work.ensures.seats count own c.close.ensures.all in
+    subst (λ (w : WorldOf _). IsMadeBy (seen view c.args.world) workers (view w.kernel).history) (sym c.ended.ensures.world)
+    (subst (λ (w : WorldState). IsMadeBy w workers (view c.close.result.world.kernel).history) begun made)

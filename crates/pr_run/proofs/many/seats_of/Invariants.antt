@@ -1,5 +1,6 @@
 use Rattle.std.proofs.Common.{◌≡◌, ◌+◌, [], All, vec_len}
 use Rattle.pr_lock.specs.Seats.{IsOutside, own_of, shares_of}
+use Rattle.pr_run.specs.ManyRuns.{IsReady}
 use Rattle.pr_run.proofs.many.seats_of.Given as goal
 
 abbrev pub invariant-loop : goal.invariant-loop
@@ -7,6 +8,6 @@ invariant-loop g l = record {
   seat : IsOutside l.seat l.lock;
   shares : shares_of l.seat + l.counter ≡ l.fn.workers + 1;
   own : own_of l.seat ≡ [];
-  workers : All (λ seat. IsOutside seat l.lock × (shares_of seat ≡ 1) × (own_of seat ≡ [])) l.seats.items;
+  workers : All (IsReady l.lock) l.seats.items;
   count : vec_len l.seats ≡ l.counter;
 }

@@ -1,10 +1,8 @@
-use Rattle.std.proofs.Common.{◌∙◌, ℕ, All, sym, subst, arith}
-use Rattle.pr_lock.specs.History.{IsInOrder}
+use Rattle.std.proofs.Common.{◌∙◌, sym, ap, subst, None, arith}
 use Rattle.pr_lock.specs.Seats.{entered_of, first_of, own_of}
-use Rattle.pr_model.specs.declared.events.Entry.{Entry}
 use Rattle.pr_world.specs.Worlds.{seen}
 use Rattle.pr_run.proofs.ManyLemmas.{came-count, turn-work}
-use Rattle.pr_run.specs.ManyRuns.{IsMovedBy}
+use Rattle.pr_run.specs.ManyRuns.{IsWorkOf, first_world, last_lwp}
 use Rattle.pr_run.proofs.many.take_turn.Goals as goal
 
 pub take_turn-progress-requires : goal.take_turn-progress-requires
@@ -22,15 +20,17 @@ returns g c =
     let view = g.Q.Kernel.view in
     let p = c.args.worker.processors in
     let n = c.args.worker.number in
+    let first = first_world view c.args.lock.now in
     let entered = c.enter-shared.new.seat in
     let kept = c.enter-shared.ensures.kept in
-    let its : All (λ (e : ℕ × Entry). IsMovedBy p n e.1.actor) (own_of entered) = subst (All (λ (e : ℕ × Entry). IsMovedBy p n e.1.actor)) (sym kept.1) c.requires.seat.work.its in
+    let grown = turn-work first p n c.args.last.now c.take_turn-progress.new.last (seen view c.enter-shared.result.world) (seen view c.take_turn-progress.new.self.world) (own_of entered) (own_of c.leave.new.seat) (entered_of entered)
+    c.take_turn-progress.ensures.turn c.enter-shared.ensures.source (subst (IsWorkOf first p n) (sym kept.1) c.requires.seat.work) (c.requires.last ∙ ap (last_lwp None) (sym kept.1))
+    c.enter-shared.ensures.lock.1 c.leave.ensures.own c.leave.ensures.order in
     record {
-      outside = c.leave.ensures.lock;
-      share = c.leave.ensures.shares ∙ (kept.2 ∙ c.requires.seat.share);
-      work = record {
-        order = c.leave.ensures.order (subst IsInOrder (sym kept.1) c.requires.seat.work.order);
-        its = turn-work p n (seen view c.enter-shared.result.world) (seen view c.take_turn-progress.new.self.world) (own_of entered) (own_of c.leave.new.seat) (entered_of entered)
-            c.take_turn-progress.ensures.turn its c.enter-shared.ensures.lock.1 c.leave.ensures.own;
+      seat = record {
+        outside = c.leave.ensures.lock;
+        share = omega (arith, c.leave.ensures.shares, kept.2, c.requires.seat.share);
+        work = grown.work;
       };
+      last = grown.last;
     }

@@ -1,4 +1,4 @@
-use Rattle.std.proofs.Common.{ap, ◌∙◌}
+use Rattle.std.proofs.Common.{sym, subst}
 use Rattle.pr_world.specs.Worlds.{WorldOf, seen}
 use Rattle.pr_run.specs.OneRuns.{StandsAs}
 use Rattle.pr_run.proofs.OneLemmas.{has-place, picked-acts, picked-none, picked-some, stands, step-made, whatever}
@@ -16,8 +16,7 @@ pub returns-in_err-turn-in-Some-clause-err : goal.returns-in_err-turn-in-Some-cl
 returns-in_err-turn-in-Some-clause-err g c =
     let view = g.Q.Kernel.view in
     let picked = stands view c.args.world.now c.pick.new.self c.in_ok-actor.ensures.place in
-    let same = c.in_err-turn-in-Some.ensures.err in
-    let it : StandsAs (seen view c.args.world.now) (seen view c.turn.new.self) = record { kernel = ap (λ (w : WorldOf _). view w.kernel) same ∙ picked.kernel; controllers = ap (λ (w : WorldOf _). w.controllers) same ∙ picked.controllers } in
+    let it = subst (λ (u : WorldOf _). StandsAs (seen view c.args.world.now) (seen view u)) (sym c.in_err-turn-in-Some.ensures.err) picked in
     whatever c.from_residual-in_err-turn-in-Some.result _ it
 
 pub returns-in_ok-turn-in-Some-clause-ok : goal.returns-in_ok-turn-in-Some-clause-ok

@@ -1,6 +1,6 @@
 use Rattle.std.proofs.Common.{◌≡◌, ◌≤◌, ℕ, length, ap, subst, sym, ◌∙◌, arith}
 use Rattle.pr_world.specs.Worlds.{goes_on, seen}
-use Rattle.pr_run.proofs.OneLemmas.{full-is, has-places, is-full, moved-on, run-on, run-start, stood, stuck-ends, stuck-is, whenever}
+use Rattle.pr_run.proofs.OneLemmas.{full-is, has-places, is-full, moved-on, run-on, run-start, stood, stopped, stuck-ends, stuck-is, whatever, whenever}
 use Rattle.pr_run.proofs.one.run_one.Goals as goal
 
 pub loop-init : goal.loop-init
@@ -15,6 +15,15 @@ advance-requires g c =
       place = has-places (seen view c.args.world.now) (seen view c.loop.world) c.loop.counter c.entries-counter.result c.places-end.result
           (c.entries-counter.ensures.value ∙ ap (λ k. length (view k).history) c.kernel.ensures) (c.places-end.ensures ∙ ap (λ k. (view k).places) c.kernel-2.ensures) c.loop.auto.counter c.loop.invariant c.loop-test.true;
     }
+
+pub returns-in_err-advance-clause-err : goal.returns-in_err-advance-clause-err
+returns-in_err-advance-clause-err g c =
+    let view = g.Q.Kernel.view in
+    let full = c.places-end.ensures ∙ ap (λ k. (view k).places) c.kernel-2.ensures in
+    let within : c.loop.counter ≤ c.places-end.result = omega (arith, c.loop-test.true) in
+    let stop = stopped (seen view c.args.world.now) (seen view c.loop.world) c.loop.counter c.entries-counter.result c.places-end.result
+    (c.entries-counter.ensures.value ∙ ap (λ k. length (view k).history) c.kernel.ensures) full c.loop.auto.counter c.loop.invariant (seen view c.advance.new.world) within c.in_err-advance.ensures.err in
+    whatever c.from_residual.result _ stop
 
 pub end-requires : goal.end-requires
 end-requires g c =
