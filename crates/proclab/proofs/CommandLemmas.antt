@@ -1,10 +1,11 @@
 -- How many threads words ask for.
-use Rattle.std.proofs.Common.{◌≡◌, ◌≤◌, ◌<◌, ◌+◌, ◌&&◌, ℕ, zero, suc, Bool, true, false, List, [], ◌∷◌, Option, Some, None, All, cond, find, refl, arith}
+use Rattle.std.proofs.Common.{◌≡◌, ◌≤◌, ◌<◌, ◌+◌, ◌&&◌, ℕ, zero, suc, Bool, true, false, List, [], ◌∷◌, Option, Some, None, All, cond, refl, arith}
 use Rattle.std.specs.Prelude.{codes, decimal}
 use Rattle.std.proofs.lemmas.List.Elements.{All-cons, All-nil, All-weaker}
 use Rattle.std.specs.List.{range_with_len}
 use Rattle.std.specs.Option.{option_map}
 use Rattle.std.specs.Str.{bytes_eq}
+use Rattle.pr_num.specs.Limits.{child_limit, worker_limit}
 use Rattle.pr_num.proofs.SearchLemmas.{All-find}
 use Rattle.proclab.specs.Commands.{HasWorkers, command_of, generation, number_up_to, of_four_words, of_one_word, of_three_words, of_two_words, shared_run, work_of}
 use Rattle.proclab.specs.declared.commands.Command.{Command}
@@ -21,22 +22,22 @@ unfolding number_up_to
 number-within most word n e =
     let h = All-find (λ n. (1 ≤ n) × (n < 1 + most)) (λ n. bytes_eq (decimal n) word) (range_with_len 1 most) n (range-all 1 most) e in (h.0, omega (arith, h.1))
 
-shared-within : (quiet : Bool) (n : ℕ) → (1 ≤ n) × (n ≤ 16) → HasWorkers (work_of (Some (Run quiet (Some n))))
+shared-within : (quiet : Bool) (n : ℕ) → (1 ≤ n) × (n ≤ worker_limit) → HasWorkers (work_of (Some (Run quiet (Some n))))
 unfolding work_of
 shared-within true n h = h
 shared-within false n h = h
 
 of_shared : (quiet : Bool) (word : List ℕ) → HasWorkers (work_of (shared_run quiet word))
 unfolding shared_run work_of
-of_shared quiet word = by (number_up_to 16 word) refl
+of_shared quiet word = by (number_up_to worker_limit word) refl
   where
-    by : (o : Option ℕ) → number_up_to 16 word ≡ o → HasWorkers (work_of (option_map (λ n. Run quiet (Some n)) o))
+    by : (o : Option ℕ) → number_up_to worker_limit word ≡ o → HasWorkers (work_of (option_map (λ n. Run quiet (Some n)) o))
     by None e = tt
-    by (Some n) e = shared-within quiet n (number-within 16 word n e)
+    by (Some n) e = shared-within quiet n (number-within worker_limit word n e)
 
 of_generation : (word : List ℕ) → HasWorkers (work_of (generation word))
 unfolding generation work_of
-of_generation word = by (number_up_to 64 word)
+of_generation word = by (number_up_to child_limit word)
   where
     by : (o : Option ℕ) → HasWorkers (work_of (option_map Generate o))
     by None = tt

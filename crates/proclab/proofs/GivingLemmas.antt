@@ -1,5 +1,5 @@
 -- How an answer is given, from what came of writing its text.
-use Rattle.std.proofs.Common.{◌≡◌, inl, inr, ⊎_elim, ℕ, List, [], Option, Result, Ok, Err, OnOk, OnErr, refl, sym, ◌∙◌, subst}
+use Rattle.std.proofs.Common.{◌≡◌, inl, inr, ⊎_elim, ℕ, List, Option, Result, Ok, Err, OnOk, OnErr, refl, sym, ◌∙◌, subst}
 use Rattle.pr_io.specs.Faults.{Rose}
 use Rattle.pr_io.specs.Known.{with_end}
 use Rattle.pr_io.specs.Writing.{AppendsFront}
@@ -11,7 +11,7 @@ use Rattle.pr_output.specs.declared.cuts.Cut.TheVariants as cut
 use Rattle.pr_world.specs.declared.ends.End.{End}
 use Rattle.pr_world.specs.declared.ends.End.TheVariants as end
 use Rattle.proclab.specs.Answers.{Answer, end_status}
-use Rattle.proclab.specs.Giving.{Responds, status_after}
+use Rattle.proclab.specs.Giving.{Responds, StopsEarly, status_after}
 use Rattle.proclab.specs.Statuses.{IsWhole}
 use Rattle.proclab.specs.declared.outcomes.Status.{Status}
 use Rattle.proclab.specs.declared.outcomes.Status.TheVariants.{Done, Usage, Refused, WriteFailed, OutOfMemory, NotLegal}
@@ -57,16 +57,22 @@ gives (Err cut.NoMemory) answer status h old new before after end same is put = 
   read = λ s. cc;
 }
 
+-- Memory ran out before there was an answer.
+pub gives-early : (answer : Answer) (early : Type 0) (status : Status) (h : List Entry) (old new : Option (List ℕ)) (before after : ℕ) → StopsEarly early status before after → Responds answer early status h old new before after
+gives-early answer early status h old new before after stops =
+    let is : status ≡ OutOfMemory = stops.status_is in
+    record {
+      whole = λ a b. absurd (b is);
+      cut = λ s. other-cut status s is;
+      rose = λ s. other-cut status s is;
+      memory = λ s. inl stops.left;
+      no_fault = λ s. stops.no_fault;
+      read = λ s. cc;
+    }
+
 -- Memory ran out before the text was begun.
 pub gives-nothing : (answer : Answer) (early : Type 0) (status : Status) (h : List Entry) (known : Option (List ℕ)) (faults : ℕ) → status ≡ OutOfMemory → early → Responds answer early status h known known faults faults
-gives-nothing answer early status h known faults is e = record {
-  whole = λ a b. absurd (b is);
-  cut = λ s. other-cut status s is;
-  rose = λ s. other-cut status s is;
-  memory = λ s. inl e;
-  no_fault = λ s. refl;
-  read = λ s. cc;
-}
+gives-nothing answer early status h known faults is e = gives-early answer early status h known known faults faults (record { status_is = is; left = e; no_fault = refl })
 
 -- The same answer, of which something else is said where memory ran out early.
 pub gives-else : (a b : Answer) (early other : Type 0) (status : Status) (h : List Entry) (old new : Option (List ℕ)) (before after : ℕ) → a ≡ b → (early → other) → Responds a early status h old new before after → Responds b other status h old new before after

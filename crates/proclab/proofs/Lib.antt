@@ -2,6 +2,7 @@ pub mod CheckLemmas
 pub mod CommandLemmas
 pub mod EarlyLemmas
 pub mod GivingLemmas
+pub mod MadeLemmas
 pub mod MarkLemmas
 pub mod PieceLemmas
 pub mod ReadingLemmas

@@ -1,5 +1,5 @@
 -- The run of a scenario: its first world, and what the driver says of the last.
-use Rattle.std.proofs.Common.{◌≡◌, ◌≤◌, ◌+◌, ◌-◌, ℕ, Bool, true, false, List, [], ◌∷◌, Option, Some, None, Result, Ok, Err, IfOk, OnOk, OnErr, length, refl, sym, ◌∙◌, ap, map, subst, arith}
+use Rattle.std.proofs.Common.{◌≡◌, ◌≤◌, ◌+◌, ◌-◌, ℕ, Bool, true, false, List, [], Option, Some, None, Result, Ok, Err, IfOk, OnErr, length, refl, sym, ◌∙◌, ap, map, subst, arith}
 use Rattle.std.specs.List.{slice_get, sum_by}
 use Rattle.std.proofs.lemmas.List.{length-map}
 use Rattle.pr_api.specs.Views.{KernelView, kernel_of}

@@ -1,6 +1,6 @@
 -- Runs on several threads: what is kept of them, and how their status is caused.
 use Rattle.std.proofs.Common.{◌≡◌, ◌≤◌, ◌⊎◌, inl, inr, ⊎_elim, ℕ, Bool, true, false, ◌&&◌, List, [], Option, Some, None, is_some, Result, Ok, Err, IfOk, IfSome, OnErr, OnOk, length, nat_lt, refl, sym, ◌∙◌, ap, subst, arith}
-use borrow.Author.Tests.{ltb-true, ltb-false}
+use borrow.Author.Tests.{ltb-false}
 use Rattle.pr_api.specs.Views.{IsLawful}
 use Rattle.pr_model.specs.declared.events.Actor.{Actor}
 use Rattle.pr_model.specs.declared.events.Entry.{Entry}
@@ -24,7 +24,7 @@ use Rattle.proclab.specs.Ends.{EndsAs}
 use Rattle.proclab.specs.Giving.{Responds, RespondsOne, StopsEarly}
 use Rattle.proclab.specs.Histories.{HistoryIsKept, IsLedTo, IsMadeByThreads, IsMadeSoFar, RanOutEarly, by_threads}
 use Rattle.proclab.specs.Inputs.{Took, TookAll, taken_of}
-use Rattle.proclab.specs.Made.{LeftAt, StoppedThreads}
+use Rattle.proclab.specs.Made.{LeftWith, StoppedThreads}
 use Rattle.proclab.specs.Rows.{Ends, EndsRun, GivesOne, LeftNothing, OneRanOut, RanOutAfter, Reads}
 use Rattle.proclab.specs.Statuses.{IsWhole}
 use Rattle.proclab.specs.declared.commands.Showing.{Showing}
@@ -77,22 +77,22 @@ shown-status : (showing : Showing) (w : WorldState) → (ran showing w).status �
 unfolding ran ran_so
 shown-status showing w = refl
 
-left-stopped : (s : Scenario) (w : WorldState) (h : List Entry) (old new : Option (List ℕ)) → CameFrom (first_world s) w → LeftAt w h old new → StoppedThreads s h old new
+left-stopped : (s : Scenario) (w : WorldState) (h : List Entry) (old new : Option (List ℕ)) → CameFrom (first_world s) w → LeftWith w.kernel.history h old new → StoppedThreads s h old new
 left-stopped s w h old new came left = record { unwritten = left.unwritten; so_far = inr (record { world = w; came = came; is = left.is }) }
 
-responds-left : (answer : Answer) (s : Scenario) (w : WorldState) (status : Status) (h : List Entry) (old new : Option (List ℕ)) (before after : ℕ) → CameFrom (first_world s) w → Responds answer (LeftAt w h old new) status h old new before after → Responds answer (StoppedThreads s h old new) status h old new before after
+responds-left : (answer : Answer) (s : Scenario) (w : WorldState) (status : Status) (h : List Entry) (old new : Option (List ℕ)) (before after : ℕ) → CameFrom (first_world s) w → Responds answer (LeftWith w.kernel.history h old new) status h old new before after → Responds answer (StoppedThreads s h old new) status h old new before after
 responds-left answer s w status h old new before after came r = record {
   whole = r.whole;
   cut = r.cut;
   rose = r.rose;
-  memory = λ m. ⊎_elim (λ (left : LeftAt w h old new). inl (left-stopped s w h old new came left)) (λ late. inr late) (r.memory m);
+  memory = λ m. ⊎_elim (λ (left : LeftWith w.kernel.history h old new). inl (left-stopped s w h old new came left)) (λ late. inr late) (r.memory m);
   no_fault = r.no_fault;
   read = r.read;
 }
 
 -- The run that led to a world was shown, or memory had run out in it.
 pub shown-one : (showing : Showing) (s : Scenario) (w : WorldState) (end : Result End NoMemory) (status : Status) (h : List Entry) (old new : Option (List ℕ)) (before after : ℕ) → CameFrom (first_world s) w → IsTold w → length w.kernel.history ≤ w.kernel.places → IfOk end (λ end. ended_as w ≡ Some end)
-    → OnOk end (Responds (ran showing w) (LeftAt w h old new) status h old new before after) → OnErr end (StopsEarly (LeftAt w h old new) status before after) → RespondsOne (ShowsEnd showing s) (StoppedThreads s h old new) status h old new before after
+    → OnOk end (Responds (ran showing w) (LeftWith w.kernel.history h old new) status h old new before after) → OnErr end (StopsEarly (LeftWith w.kernel.history h old new) status before after) → RespondsOne (ShowsEnd showing s) (StoppedThreads s h old new) status h old new before after
 shown-one showing s w (Ok end) status h old new before after came told within ended shown stopped =
     inl (record {
       answer = ran showing w;

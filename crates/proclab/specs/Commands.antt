@@ -69,7 +69,7 @@ work_of None = Explains
 
 -- how many threads share the processor in a piece of work: where it is shared, 1 to 16
 abbrev pub HasWorkers : Work → Type 0
-HasWorkers (Shares showing workers) = (1 ≤ workers) × (workers ≤ 16)
+HasWorkers (Shares showing workers) = (1 ≤ workers) × (workers ≤ worker_limit)
 HasWorkers (Runs showing) = Unit {0}
 HasWorkers Explains = Unit {0}
 HasWorkers Checks = Unit {0}

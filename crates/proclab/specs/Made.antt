@@ -27,10 +27,10 @@ pub record StoppedRun (s : Scenario) (history : List Entry) (old new : Option (L
   pub unwritten : new ≡ old
   pub so_far : IsBroughtSoFar s history
 
--- Memory ran out where threads had led to a world: nothing was written, and its history is left.
-pub record LeftAt (w : WorldState) (history : List Entry) (old new : Option (List ℕ)) : Type 0 where
+-- Memory ran out when this history was made: nothing was written, and just this history is left.
+pub record LeftWith (made history : List Entry) (old new : Option (List ℕ)) : Type 0 where
   pub unwritten : new ≡ old
-  pub is : history ≡ w.kernel.history
+  pub is : history ≡ made
 
 -- Memory ran out in a run by threads, or before it: nothing was written, and what they made is left.
 pub record StoppedThreads (s : Scenario) (history : List Entry) (old new : Option (List ℕ)) : Type 0 where

@@ -1,6 +1,5 @@
 -- What the controllers of a run print.
 use Rattle.std.specs.Prelude.{ℕ, ◌+◌, List, [], ◌∷◌, ◌++◌, Option, Some, None}
-use Rattle.pr_api.specs.Views.{KernelView}
 use Rattle.pr_model.specs.State.{TracedState}
 use Rattle.pr_num.specs.Programs.{Program}
 use Rattle.pr_output.specs.declared.reports.Printer.{Printer}

@@ -36,21 +36,23 @@ row_of (Runs showing) = reads scenario_limit (answer_to showing) in_rounds
 row_of (Shares showing workers) = shares showing
 row_of Checks = reads checked_limit check_of no_run
 
--- how a piece of work makes a run
-unfoldable pub making_of : Work → Making
-making_of Explains = no_run
-making_of (Generates children) = no_run
-making_of (Runs showing) = in_rounds
-making_of (Shares showing workers) = by_threads
-making_of Checks = no_run
+-- how a command of a row makes a run
+abbrev pub making_in : Row → Making
+making_in (says answer) = no_run
+making_in (reads limit answer making) = making
+making_in (shares showing) = by_threads
 
--- whether a piece of work leaves the source alone
+abbrev pub making_of : Work → Making
+making_of work = making_in (row_of work)
+
+-- whether a command of a row leaves the source alone
+abbrev pub is_unread : Row → Bool
+is_unread (says answer) = true
+is_unread (reads limit answer making) = false
+is_unread (shares showing) = false
+
 abbrev pub reads_nothing : Work → Bool
-reads_nothing Explains = true
-reads_nothing (Generates children) = true
-reads_nothing (Runs showing) = false
-reads_nothing (Shares showing workers) = false
-reads_nothing Checks = false
+reads_nothing work = is_unread (row_of work)
 
 -- What the source and the sink tell at one moment: the bytes that are left and those that were written, where they are
 -- told, and the faults.

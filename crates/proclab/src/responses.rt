@@ -1,5 +1,5 @@
 //! What the commands `run` and `plain` answer to an input.
-ghost use Rattle.std.specs.Prelude.{◌≡◌, ◌≤◌, length, Some, IfSome};
+ghost use Rattle.std.specs.Prelude.{◌≡◌, ◌≤◌, length, Some, IfOk, IfSome, OnErr};
 ghost use Rattle.pr_model.specs.UntracedSteps.{untraced_steps, untraced_trace};
 ghost use Rattle.pr_num.specs.Limits.{scenario_limit};
 ghost use Rattle.pr_output.specs.Output.{plain_run_text};
@@ -8,9 +8,9 @@ ghost use Rattle.pr_run_laws.specs.ScenarioRuns.{run_of};
 ghost use Rattle.pr_scen.specs.Reading.{scenario_of};
 ghost use Rattle.pr_scen.specs.Scenarios.{IsWithinLimits};
 ghost use Rattle.proclab.specs.Answers.{answer_of, answer_to, kind_name, ran, ran_so, refused_at, run_shown};
-ghost use Rattle.proclab.specs.Giving.{Responds};
+ghost use Rattle.proclab.specs.Giving.{Responds, StopsEarly};
 ghost use Rattle.proclab.specs.Histories.{RanOutEarly, in_rounds};
-ghost use Rattle.proclab.specs.Made.{StoppedRun};
+ghost use Rattle.proclab.specs.Made.{LeftWith, StoppedRun};
 
 use crate::answers::status_after;
 use crate::commands::Showing;
@@ -108,6 +108,22 @@ pub fn report<K: Sink>(
     }
 }
 
+/// Shows a run that was made, or leaves its history where memory ran out in it.
+fn show_made<K: Sink>(alloc: Global, showing: Showing, made: Made, sink: &mut K) -> Ending
+    ensures shown { IfOk made.ran (λ run. Responds (ran_so showing run.end made.history.entries run.reports.items) ⊥
+        result.status result.history.entries
+        (K.written sink.old) (K.written sink.new) (K.faults sink.old) (K.faults sink.new)) }
+    ensures stopped { OnErr made.ran (StopsEarly
+        (LeftWith made.history.entries result.history.entries (K.written sink.old) (K.written sink.new))
+        result.status (K.faults sink.old) (K.faults sink.new)) }
+{
+    let Made { ran, history } = made;
+    match ran {
+        Ok(ran) => report(alloc, showing, ran, history, sink),
+        Err(error) => out_of_memory(error, history),
+    }
+}
+
 /// Answers a scenario: its run is made, and written.
 fn run_scenario<K: Sink>(
     alloc: Global,
@@ -121,11 +137,8 @@ fn run_scenario<K: Sink>(
         result.status result.history.entries
         (K.written sink.old) (K.written sink.new) (K.faults sink.old) (K.faults sink.new) }
 {
-    let Made { ran, history } = make_run(alloc, scenario);
-    match ran {
-        Ok(ran) => report(alloc, showing, ran, history, sink),
-        Err(error) => out_of_memory(error, history),
-    }
+    let made = make_run(alloc, scenario);
+    show_made(alloc, showing, made, sink)
 }
 
 /// Answers a text: it is refused, or the run of its scenario is made, and written.

@@ -1,6 +1,6 @@
 //! Commands from a source to a sink.
 ghost use Rattle.std.specs.Prelude.{◌≡◌, ◌≤◌, true};
-ghost use Rattle.pr_num.specs.Limits.{checked_limit, scenario_limit};
+ghost use Rattle.pr_num.specs.Limits.{checked_limit, scenario_limit, worker_limit};
 ghost use Rattle.proclab.specs.Answers.{MayAnswer, answer_to, check_of};
 ghost use Rattle.proclab.specs.Commands.{HasWorkers};
 ghost use Rattle.proclab.specs.Histories.{HistoryIsKept, by_threads, in_rounds, no_run};
@@ -56,7 +56,7 @@ fn run_on_threads<R: Threads + Wait + Sync, S: Source, K: Sink, G: Gate + Sync>(
     gate: &G,
 ) -> Ending
     requires some { 1 ≤ workers }
-    requires most { workers ≤ 16 }
+    requires most { workers ≤ worker_limit }
     ensures { Reads scenario_limit (MayAnswer showing) by_threads
         (record { left = S.left source.old; read_faults = S.faults source.old; written = K.written sink.old; write_faults = K.faults sink.old })
         (record { left = S.left source.new; read_faults = S.faults source.new; written = K.written sink.new; write_faults = K.faults sink.new })
@@ -82,6 +82,7 @@ fn check<S: Source, K: Sink>(alloc: Global, source: &mut S, sink: &mut K) -> End
 }
 
 /// Does a piece of work: how it ends is said by its row. Only a run on several threads waits, for these.
+#[tactic(auto, unfolding(crate::specs::Rows::row_of))]
 pub fn carry_out<R: Threads + Wait + Sync, S: Source, K: Sink, G: Gate + Sync>(
     rt: &R,
     alloc: Global,

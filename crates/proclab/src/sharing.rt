@@ -1,13 +1,13 @@
 //! What the command `run` on several threads answers to an input.
 ghost use Rattle.std.specs.Prelude.{◌≡◌, ◌≤◌, length, Some, IfOk, IfSome, OnErr, OnOk};
-ghost use Rattle.pr_num.specs.Limits.{scenario_limit};
+ghost use Rattle.pr_num.specs.Limits.{scenario_limit, worker_limit};
 ghost use Rattle.pr_scen.specs.Reading.{scenario_of};
 ghost use Rattle.pr_scen.specs.Scenarios.{IsWithinLimits};
 ghost use Rattle.pr_world.specs.Worlds.{ended_as, seen};
 ghost use Rattle.proclab.specs.Answers.{MayAnswer, MayAnswerRead, ShowsEnd, ran};
 ghost use Rattle.proclab.specs.Giving.{Responds, RespondsOne, StopsEarly};
 ghost use Rattle.proclab.specs.Histories.{RanOutEarly, by_threads};
-ghost use Rattle.proclab.specs.Made.{LeftAt, StoppedThreads, kern_view};
+ghost use Rattle.proclab.specs.Made.{LeftWith, StoppedThreads, kern_view};
 
 use crate::commands::Showing;
 use crate::outcomes::{Ending, Status, out_of_memory, without_history};
@@ -36,7 +36,7 @@ fn show_world<K: Sink>(
 ) -> Ending
     requires { ended_as (seen kern_view world) ≡ Some end }
     ensures { Responds (ran showing (seen kern_view world))
-        (LeftAt (seen kern_view world) result.history.entries (K.written sink.old) (K.written sink.new))
+        (LeftWith world.kernel.history result.history.entries (K.written sink.old) (K.written sink.new))
         result.status result.history.entries
         (K.written sink.old) (K.written sink.new) (K.faults sink.old) (K.faults sink.new) }
 {
@@ -58,11 +58,11 @@ fn show_end<K: Sink>(
 ) -> Ending
     requires { IfOk end (λ end. ended_as (seen kern_view world) ≡ Some end) }
     ensures ended { OnOk end (Responds (ran showing (seen kern_view world))
-        (LeftAt (seen kern_view world) result.history.entries (K.written sink.old) (K.written sink.new))
+        (LeftWith world.kernel.history result.history.entries (K.written sink.old) (K.written sink.new))
         result.status result.history.entries
         (K.written sink.old) (K.written sink.new) (K.faults sink.old) (K.faults sink.new)) }
     ensures stopped { OnErr end (StopsEarly
-        (LeftAt (seen kern_view world) result.history.entries (K.written sink.old) (K.written sink.new))
+        (LeftWith world.kernel.history result.history.entries (K.written sink.old) (K.written sink.new))
         result.status (K.faults sink.old) (K.faults sink.new)) }
 {
     match end {
@@ -83,7 +83,7 @@ fn share_scenario<R: Threads + Wait + Sync, K: Sink, G: Gate + Sync>(
 ) -> Ending
     requires limits { IsWithinLimits scenario }
     requires some { 1 ≤ workers }
-    requires most { workers ≤ 16 }
+    requires most { workers ≤ worker_limit }
     ensures { RespondsOne (ShowsEnd showing scenario)
         (StoppedThreads scenario result.history.entries (K.written sink.old) (K.written sink.new))
         result.status result.history.entries
@@ -112,7 +112,7 @@ fn share_text<R: Threads + Wait + Sync, K: Sink, G: Gate + Sync>(
 ) -> Ending
     requires few { length text.now ≤ scenario_limit }
     requires some { 1 ≤ workers }
-    requires most { workers ≤ 16 }
+    requires most { workers ≤ worker_limit }
     ensures { RespondsOne (MayAnswerRead showing (scenario_of text.now))
         (RanOutEarly by_threads (Some text.now) result.history.entries (K.written sink.old) (K.written sink.new))
         result.status result.history.entries
@@ -137,7 +137,7 @@ pub fn share<R: Threads + Wait + Sync, K: Sink, G: Gate + Sync>(
 ) -> Ending
     requires few { IfSome input.now (λ bytes. length bytes ≤ scenario_limit) }
     requires some { 1 ≤ workers }
-    requires most { workers ≤ 16 }
+    requires most { workers ≤ worker_limit }
     ensures { RespondsOne (MayAnswer showing input.now)
         (RanOutEarly by_threads input.now result.history.entries (K.written sink.old) (K.written sink.new))
         result.status result.history.entries

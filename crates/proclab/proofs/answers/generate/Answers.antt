@@ -1,4 +1,4 @@
-use Rattle.std.proofs.Common.{rules, ◌≡◌, ◌∙◌, ℕ, List, Option, decimal, sym, subst, OnOk, OnErr}
+use Rattle.std.proofs.Common.{rules, ◌≡◌, ℕ, List, sym, subst, OnOk, OnErr}
 use Rattle.pr_io.specs.Known.{with_end}
 use Rattle.pr_io.specs.Writing.{AppendsFront}
 use Rattle.pr_plain.specs.Generated.{generated_text}

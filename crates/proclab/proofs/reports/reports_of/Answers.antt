@@ -1,4 +1,4 @@
-use Rattle.std.proofs.Common.{◌≡◌, arith, length}
+use Rattle.std.proofs.Common.{arith}
 use Rattle.pr_api.specs.Views.{kernel_of}
 use Rattle.proclab.specs.Reports.{reports_from, reports_of}
 use Rattle.proclab.proofs.ReportLemmas.{reports-step, reports-whole}

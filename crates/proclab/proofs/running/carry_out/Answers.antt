@@ -1,6 +1,7 @@
 use Rattle.std.proofs.Common.{◌≡◌, ◌≤◌, ℕ, refl}
+use Rattle.pr_num.specs.Limits.{worker_limit}
 use Rattle.proclab.specs.Commands.{HasWorkers}
-use Rattle.proclab.specs.Rows.{making_of, row_of}
+use Rattle.proclab.specs.Rows.{row_of}
 use Rattle.proclab.specs.declared.commands.Showing.{Showing}
 use Rattle.proclab.specs.declared.commands.Work.{Work}
 use Rattle.proclab.specs.declared.commands.Work.TheVariants.{Shares}
@@ -37,7 +38,7 @@ pub returns-in-Runs-clause-runs_scenario : goal.returns-in-Runs-clause-runs_scen
 returns-in-Runs-clause-runs_scenario g c = rw c.in-Runs.is (runs-scenario _ _ _ _ _ c.run.ensures)
 
 pub returns-in-Runs-clause-kept : goal.returns-in-Runs-clause-kept
-unfolding making_of
+unfolding row_of
 returns-in-Runs-clause-kept g c = rw c.in-Runs.is (history-kept _ _ _ _ _ c.run.ensures)
 
 pub returns-in-Checks-clause-ends : goal.returns-in-Checks-clause-ends
@@ -48,19 +49,19 @@ pub returns-in-Checks-clause-judges_history : goal.returns-in-Checks-clause-judg
 returns-in-Checks-clause-judges_history g c = rw c.in-Checks.is (judges-history _ _ _ _ c.check.ensures)
 
 pub returns-in-Checks-clause-kept : goal.returns-in-Checks-clause-kept
-unfolding making_of
+unfolding row_of
 returns-in-Checks-clause-kept g c = rw c.in-Checks.is (leaves-nothing _ _ _ _ c.check.ensures)
 
 pub returns-in-Explains-clause-kept : goal.returns-in-Explains-clause-kept
-unfolding making_of
+unfolding row_of
 returns-in-Explains-clause-kept g c = rw c.in-Explains.is c.explain.ensures.no_history
 
 pub returns-in-Generates-clause-kept : goal.returns-in-Generates-clause-kept
-unfolding making_of
+unfolding row_of
 returns-in-Generates-clause-kept g c = rw c.in-Generates.is c.generate.ensures.no_history
 
 -- the workers of a run on several threads
-workers : (work : Work) (showing : Showing) (n : ℕ) → work ≡ Shares showing n → HasWorkers work → (1 ≤ n) × (n ≤ 16)
+workers : (work : Work) (showing : Showing) (n : ℕ) → work ≡ Shares showing n → HasWorkers work → (1 ≤ n) × (n ≤ worker_limit)
 workers work showing n is h = rw is at h
 
 pub run_on_threads-requires-clause-some : goal.run_on_threads-requires-clause-some
@@ -77,5 +78,5 @@ pub returns-in-Shares-clause-runs_scenario : goal.returns-in-Shares-clause-runs_
 returns-in-Shares-clause-runs_scenario g c = rw c.in-Shares.is (shares-scenario _ _ _ _ _ c.run_on_threads.ensures)
 
 pub returns-in-Shares-clause-kept : goal.returns-in-Shares-clause-kept
-unfolding making_of
+unfolding row_of
 returns-in-Shares-clause-kept g c = rw c.in-Shares.is (shared-kept _ _ _ _ _ c.run_on_threads.ensures)

@@ -1,4 +1,4 @@
-use Rattle.std.proofs.Common.{◌≡◌, ◌≤◌, ◌∙◌, Result, Ok, Err, OnErr, length, ap, arith}
+use Rattle.std.proofs.Common.{◌≡◌, ◌≤◌, ◌∙◌, Err, length, ap, arith}
 use Rattle.pr_api.specs.Views.{kernel_of}
 use Rattle.pr_world.specs.Worlds.{WorldState, end_of, seen}
 use Rattle.proclab.specs.Made.{kern_view}

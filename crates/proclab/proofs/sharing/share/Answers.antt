@@ -1,6 +1,6 @@
 use Rattle.std.proofs.Common.{◌≡◌, ◌∙◌, refl, sym, ap, subst, ℕ, List, Option, Some}
 use Rattle.pr_scen.specs.Reading.{scenario_of}
-use Rattle.proclab.specs.Answers.{Answer, MayAnswer, MayAnswerRead, refused_at, too_long}
+use Rattle.proclab.specs.Answers.{MayAnswer, MayAnswerRead, refused_at, too_long}
 use Rattle.proclab.specs.Histories.{RanOutEarly, by_threads}
 use Rattle.proclab.proofs.SharedLemmas.{one-answer, one-else}
 use Rattle.proclab.proofs.sharing.share.Goals as goal

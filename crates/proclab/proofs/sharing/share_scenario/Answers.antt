@@ -1,4 +1,4 @@
-use Rattle.std.proofs.Common.{◌≡◌, ◌∙◌, inl, inr, refl, sym, subst}
+use Rattle.std.proofs.Common.{refl, subst}
 use Rattle.pr_api.specs.Views.{kernel_of}
 use Rattle.pr_world.specs.Runs.{CameFrom}
 use Rattle.pr_world.specs.Worlds.{WorldState, seen}

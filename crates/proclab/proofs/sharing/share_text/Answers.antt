@@ -1,8 +1,8 @@
-use Rattle.std.proofs.Common.{◌≡◌, inl, inr, refl, sym, subst, Result, Err, Ok}
+use Rattle.std.proofs.Common.{◌≡◌, refl, sym, subst, Result, Err}
 use Rattle.pr_scen.specs.Reading.{scenario_of}
 use Rattle.pr_scen.specs.declared.refusals.ScenFault.{ScenFault}
 use Rattle.pr_scen.specs.Scenarios.{Scenario}
-use Rattle.proclab.specs.Answers.{Answer, MayAnswerRead, ShowsEnd, kind_name, refused_at}
+use Rattle.proclab.specs.Answers.{MayAnswerRead, ShowsEnd, kind_name, refused_at}
 use Rattle.proclab.specs.Giving.{Responds}
 use Rattle.proclab.proofs.SharedLemmas.{one-answer, one-else, threads-left}
 use Rattle.proclab.proofs.sharing.share_text.Goals as goal

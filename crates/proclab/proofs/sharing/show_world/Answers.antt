@@ -25,7 +25,6 @@ returns-in-Ok g c =
     gives-else (ran_so c.args.showing c.args.end c.into_history-history.result.entries c.in-Ok.reports.items) (ran c.args.showing w) ⊥ _ _ _ _ _ _ _ same (λ never. absurd never) c.report.ensures
 
 pub returns-in-Err : goal.returns-in-Err
-unfolding kernel_of
 returns-in-Err g c =
     let history = c.into_history-history.ensures ∙ ap (λ (k : Kernel). k.history) c.into_kernel.ensures in
     gives-nothing _ _ _ _ _ _ c.out_of_memory.ensures.status (record { unwritten = refl; is = c.out_of_memory.ensures.history ∙ history })
