@@ -98,5 +98,7 @@ module _ (n k pid : ℕ) (first : TracedState) where
         reply = seen.reply;
         after = seen.after;
         place = seen.place;
+        reads = seen.reads;
+        stopped = seen.stopped;
         shown = ap (option_map (stacks_text pid programs)) seen.live ∙ ap (λ (x : List ℕ). Some x) (sym text);
       }
