@@ -159,45 +159,44 @@ module _ (n k pid : ℕ) (first : TracedState) (h : List Entry) (c : Call) (a : 
         of (inl was) = refused was
         of (inr goes_on) =
             going (fed (at step.Stop) a.reply) step.AwaitStop (record notes { until = until_in a.reply }) (plain-leaves s k (call.Ctl control stop_bytes) a refl its) (goes_on.1 ∙ steps.asked pid notes (with_memory control status memory) a.reply)
-            (none, stop-halts s k control pid a holds.holds_control its goes_on.0)
+            (let stops = stop-halts s k control pid a holds.holds_control its goes_on.0 in (none, stops.0, stops.1))
 
     -- where the system stays, so does what was said of it
     halts-still : (space : Space) → a.state.system ≡ s.system → HaltsWith pid space s.system → HaltsWith pid space a.state.system
     halts-still space same halts = subst (HaltsWith pid space) (sym same) halts
 
     -- the wait is over
-    stopped-here : c ≡ call.CtlWait control notes.until stop_bytes → ((e : Errno) → a.reply ≢ reply.Fail e) → HasStopped k pid first longer
+    stopped-here : c ≡ call.CtlWait control 0 stop_bytes → ((e : Errno) → a.reply ≢ reply.Fail e) → HasStopped k pid first longer
     stopped-here same accepted =
-        let its : answer_to s k (call.CtlWait control notes.until stop_bytes) ≡ Some a = ap (answer_to s k) (sym same) ∙ given in
-        let used = wait-used control notes.until stop_bytes a.reply accepted (machine-shaped s k (call.CtlWait control notes.until stop_bytes) a lawful.system its) in
+        let its : answer_to s k (call.CtlWait control 0 stop_bytes) ≡ Some a = ap (answer_to s k) (sym same) ∙ given in
+        let used = wait-used control 0 stop_bytes a.reply accepted (machine-shaped s k (call.CtlWait control 0 stop_bytes) a lawful.system its) in
         record {
           before = h;
           handle = control;
-          until = notes.until;
           used = used.0;
           after = [];
           held = control_of k pid;
-          place = ap (λ (d : Call). h ++ call_entry k d a.reply ∷ []) same ∙ ap (λ (r : Reply). h ++ call_entry k (call.CtlWait control notes.until stop_bytes) r ∷ []) used.1;
+          place = ap (λ (d : Call). h ++ call_entry k d a.reply ∷ []) same ∙ ap (λ (r : Reply). h ++ call_entry k (call.CtlWait control 0 stop_bytes) r ∷ []) used.1;
           there = holds.holds_control;
           of = refl;
           file = refl;
         }
 
-    wait-stage : notes.frames ≡ [] → (space : Space) → HaltsWith pid space s.system → next_call_of (at step.AwaitStop) ≡ Some c → Next (fed (at step.AwaitStop) a.reply)
+    wait-stage : notes.frames ≡ [] → (space : Space) → HaltsWith pid space s.system → notes.until ≡ 0 → next_call_of (at step.AwaitStop) ≡ Some c → Next (fed (at step.AwaitStop) a.reply)
     unfolding is_passed_over So
-    wait-stage none space halts next = of (unless-refused (at step.AwaitStop) a.reply (λ e. refl))
+    wait-stage none space halts endless next = of (unless-refused (at step.AwaitStop) a.reply (λ e. refl))
       where
-        call_is : next_call_of (at step.AwaitStop) ≡ Some (call.CtlWait control notes.until stop_bytes)
-        call_is = steps.wait-call pid control status memory notes
+        call_is : next_call_of (at step.AwaitStop) ≡ Some (call.CtlWait control 0 stop_bytes)
+        call_is = steps.wait-call pid control status memory notes ∙ ap (λ (until : ℕ). Some (call.CtlWait control until stop_bytes)) endless
 
         still : (a.state.opens ≡ s.opens) × (a.state.system ≡ s.system)
-        still = looks-still (call.CtlWait control notes.until stop_bytes) refl (its-answer (at step.AwaitStop) (call.CtlWait control notes.until stop_bytes) call_is next)
+        still = looks-still (call.CtlWait control 0 stop_bytes) refl (its-answer (at step.AwaitStop) (call.CtlWait control 0 stop_bytes) call_is next)
 
         of : IsSome (fed (at step.AwaitStop) a.reply).refusal ⊎ (((e : Errno) → a.reply ≢ reply.Fail e) × (fed (at step.AwaitStop) a.reply ≡ accepted (at step.AwaitStop) a.reply step.AwaitStop)) → Next (fed (at step.AwaitStop) a.reply)
         of (inl was) = refused was
         of (inr goes_on) =
             going (fed (at step.AwaitStop) a.reply) step.ReadFile notes still.0 (goes_on.1 ∙ steps.waited pid notes (with_memory control status memory) a.reply)
-            (none, (space, halts-still space still.1 halts), stopped-here (its-call (at step.AwaitStop) (call.CtlWait control notes.until stop_bytes) call_is next) goes_on.0)
+            (none, (space, halts-still space still.1 halts), stopped-here (its-call (at step.AwaitStop) (call.CtlWait control 0 stop_bytes) call_is next) goes_on.0)
 
     -- ---- the status of all lwps
 
@@ -323,7 +322,7 @@ module _ (n k pid : ℕ) (first : TracedState) (h : List Entry) (c : Call) (a : 
     unfolding So
     going-stage step.ReadFirst so next = look-stage so next
     going-stage step.Stop so next = stop-stage so next
-    going-stage step.AwaitStop so next = wait-stage so.0 so.1.0 so.1.1 next
+    going-stage step.AwaitStop so next = wait-stage so.0 so.1.0 so.1.1 so.2 next
     going-stage step.ReadFile so next = status-stage so.0 so.1.0 so.1.1 so.2 next
     going-stage step.ReadText so next = text-stage so next
     going-stage step.ReadFrame so next = frame-stage so next

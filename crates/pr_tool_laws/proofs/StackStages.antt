@@ -47,11 +47,10 @@ module _ (n k pid : ℕ) (first : TracedState) where
   stopped-still h e it = record {
     before = it.before;
     handle = it.handle;
-    until = it.until;
     used = it.used;
     after = it.after ++ e ∷ [];
     held = it.held;
-    place = place-still h it.before (call_entry k (CtlWait it.handle it.until stop_bytes) (Used it.used)) it.after e it.place;
+    place = place-still h it.before (call_entry k (CtlWait it.handle 0 stop_bytes) (Used it.used)) it.after e it.place;
     there = it.there;
     of = it.of;
     file = it.file;
@@ -117,7 +116,7 @@ module _ (n k pid : ℕ) (first : TracedState) where
   unfoldable pub So : List Entry → TracedSystem → Notes → Step → Type 0
   So h s notes step.ReadFirst = notes ≡ no_notes
   So h s notes step.Stop = notes.frames ≡ []
-  So h s notes step.AwaitStop = (notes.frames ≡ []) × ((space : Space) × HaltsWith pid space s)
+  So h s notes step.AwaitStop = (notes.frames ≡ []) × ((space : Space) × HaltsWith pid space s) × (notes.until ≡ 0)
   So h s notes step.ReadFile = (notes.frames ≡ []) × ((space : Space) × HaltsWith pid space s) × HasStopped k pid first h
   So h s notes step.ReadText = Reads h s notes
   So h s notes step.ReadFrame = Walks h s notes
@@ -173,7 +172,8 @@ module _ (n k pid : ℕ) (first : TracedState) where
     unfolding So
     others-so control notes step.ReadFirst stands so = so
     others-so control notes step.Stop stands so = so
-    others-so control notes step.AwaitStop stands so = (so.0, (so.1.0, others-halt n s control (control_of k pid) lawful stands refl so.1.0 actor it legal other so.1.1))
+    others-so control notes step.AwaitStop stands so =
+        (so.0, (so.1.0, others-halt n s control (control_of k pid) lawful stands refl so.1.0 actor it legal other so.1.1), so.2)
     others-so control notes step.ReadFile stands so =
         (so.0, (so.1.0, others-halt n s control (control_of k pid) lawful stands refl so.1.0 actor it legal other so.1.1), stopped-still h entry so.2)
     others-so control notes step.ReadText stands so = record {

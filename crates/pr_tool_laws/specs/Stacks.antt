@@ -68,15 +68,15 @@ stacks_in pid programs s = option_map (stacks_text pid programs) (live_process s
 
 -- ---- the state that it shows
 
--- A controller waited for the process to stop, by PCSTOP and a handle of its control file, and the wait was over.
+-- A controller waited for the process to stop, as PCSTOP does: by a handle of its control file, however long it took. The
+-- wait was over.
 pub record HasStopped (k pid : ℕ) (first : TracedState) (h : List Entry) : Type 0 where
   pub before : List Entry
   pub handle : ℕ
-  pub until : ℕ
   pub used : ℕ
   pub after : List Entry
   pub held : Held
-  pub place : h ≡ before ++ call_entry k (CtlWait handle until stop_bytes) (Used used) ∷ after
+  pub place : h ≡ before ++ call_entry k (CtlWait handle 0 stop_bytes) (Used used) ∷ after
   pub there : handle_of (state_after first before).opens k handle ≡ Some held
   pub of : held.pid ≡ pid
   pub file : held.file ≡ Ctl
