@@ -5,6 +5,7 @@ pub mod KindLemmas
 pub mod LawLemmas
 pub mod LineLemmas
 pub mod OtherStages
+pub mod ProgramLemmas
 pub mod ReadBackLemmas
 pub mod ReadTextLemmas
 pub mod ReaderLemmas
