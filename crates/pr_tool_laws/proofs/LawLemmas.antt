@@ -18,7 +18,7 @@ use Rattle.pr_tools.specs.declared.steps.Step.TheVariants as step
 use Rattle.pr_world.specs.Controllers.{after_reply, next_call}
 use Rattle.pr_world.specs.Cores.{Core, Script, Truss, Tool}
 use Rattle.pr_world.specs.Protocol.{Follows, controllers_at}
-use Rattle.pr_tool_laws.proofs.ConductLemmas.{KeptByCalls, KeptByOthers, conduct-keeps}
+use Rattle.pr_tool_laws.proofs.ProtocolLemmas.{KeptByCalls, KeptByOthers, protocol-keeps}
 use Rattle.pr_tool_laws.proofs.EndedLemmas.{IsAwaited, first-awaited, pwait-keeps}
 use Rattle.pr_tool_laws.proofs.OtherStages as other
 use Rattle.pr_tool_laws.proofs.ReadTextLemmas.{read-back}
@@ -60,7 +60,7 @@ module _ (n k : ℕ) (first : TracedState) (Q : List Entry → ToolState → Typ
 
   tool-keeps : (controllers : List Core) (h : List Entry) (t u : ToolState) → IsLegal n first h → Follows controllers first h → slice_get controllers k ≡ Some (Tool t) → slice_get (controllers_at controllers h) k ≡ Some (Tool u) → Q [] t → Q h u
   unfolding P
-  tool-keeps controllers h t u legal follows begins ends q = conduct-keeps n k first P others-core calls-core controllers h (Tool t) (Tool u) legal follows begins ends q
+  tool-keeps controllers h t u legal follows begins ends q = protocol-keeps n k first P others-core calls-core controllers h (Tool t) (Tool u) legal follows begins ends q
 
 -- ---- what is so of a tool at the end
 

@@ -1,4 +1,3 @@
-pub mod ConductLemmas
 pub mod EndedLemmas
 pub mod EntryLemmas
 pub mod KindLemmas
@@ -6,6 +5,7 @@ pub mod LawLemmas
 pub mod LineLemmas
 pub mod OtherStages
 pub mod ProgramLemmas
+pub mod ProtocolLemmas
 pub mod ReadBackLemmas
 pub mod ReadTextLemmas
 pub mod ReaderLemmas
