@@ -226,7 +226,7 @@ module _ (n k pid : ℕ) (first : TracedState) (h : List Entry) (c : Call) (a : 
             let own = halts.each p live in
             going (fed (at step.ReadFile) a.reply) step.ReadText (record notes { bytes = take read_limit (part_read (lstatus_bytes (lstatus_of p)) 0 read_limit) }) still.0
             (ap (fed (at step.ReadFile)) whole ∙ steps.status-read pid notes (with_memory control status memory) (part_read (lstatus_bytes (lstatus_of p)) 0 read_limit)) (record {
-              seen = seen-here n k pid first h c a.reply p reads stopped live;
+              seen = seen-here n k pid first h c a.reply p reads stopped live own.0;
               halts = halts-still (space_seen p) still.1 (subst (λ (x : Space). HaltsWith pid x s.system) (sym own.1) halts);
               status = λ are. status-whole p are;
               none = none;

@@ -30,6 +30,7 @@ use Rattle.pr_tool_laws.proofs.ToolLemmas.{place-still}
 use Rattle.pr_tool_laws.specs.OneState.{AreLwpsRead}
 use Rattle.pr_tool_laws.specs.Reads.{IsToolRead}
 use Rattle.pr_tool_laws.specs.Stacks.{HasStopped, first_instruction}
+use Rattle.pr_truss_laws.specs.Stills.{IsHalting}
 
 -- The stages of pstack, with what it read so far of the state that it shows, and what others leave of them.
 
@@ -68,10 +69,11 @@ module _ (n k pid : ℕ) (first : TracedState) where
     pub reads : IsToolRead Pstack k pid (state_after first before) call
     pub stopped : HasStopped k pid first before
     pub live : live_process (state_after first before).system pid ≡ Some process
+    pub still : IsHalting process
 
   -- its read now
-  abbrev pub seen-here : (h : List Entry) (c : Call) (r : Reply) (p : TracedProcess) → IsToolRead Pstack k pid (state_after first h) c → HasStopped k pid first h → live_process (state_after first h).system pid ≡ Some p → Seen (h ++ call_entry k c r ∷ [])
-  seen-here h c r p reads stopped live = record { process = p; before = h; call = c; reply = r; after = []; place = refl; reads = reads; stopped = stopped; live = live }
+  abbrev pub seen-here : (h : List Entry) (c : Call) (r : Reply) (p : TracedProcess) → IsToolRead Pstack k pid (state_after first h) c → HasStopped k pid first h → live_process (state_after first h).system pid ≡ Some p → IsHalting p → Seen (h ++ call_entry k c r ∷ [])
+  seen-here h c r p reads stopped live still = record { process = p; before = h; call = c; reply = r; after = []; place = refl; reads = reads; stopped = stopped; live = live; still = still }
 
   abbrev pub seen-still : (h : List Entry) (e : Entry) → Seen h → Seen (h ++ e ∷ [])
   seen-still h e seen = record {
@@ -84,6 +86,7 @@ module _ (n k pid : ℕ) (first : TracedState) where
     reads = seen.reads;
     stopped = seen.stopped;
     live = seen.live;
+    still = seen.still;
   }
 
   -- the status of all lwps, where a read has all of it

@@ -25,6 +25,7 @@ use Rattle.pr_tools.specs.Steps.{read_frames}
 use Rattle.pr_tools.specs.Texts.{header, line_end, lwp_label}
 use Rattle.pr_tools.specs.Tools.{short_read, stop_bytes}
 use Rattle.pr_tool_laws.specs.Reads.{IsToolRead}
+use Rattle.pr_truss_laws.specs.Stills.{IsHalting}
 
 -- The text of pstack(1) as a function of one state of the machine.
 
@@ -68,8 +69,8 @@ stacks_in pid programs s = option_map (stacks_text pid programs) (live_process s
 
 -- ---- the state that it shows
 
--- A controller waited for the process to stop, as PCSTOP does: by a handle of its control file, however long it took. The
--- wait was over.
+-- A controller waited until the process had stopped: it wrote PCSTOP to its control file, and the wait for that, which
+-- has no end of its own, was over.
 pub record HasStopped (k pid : ℕ) (first : TracedState) (h : List Entry) : Type 0 where
   pub before : List Entry
   pub handle : ℕ
@@ -81,8 +82,9 @@ pub record HasStopped (k pid : ℕ) (first : TracedState) (h : List Entry) : Typ
   pub of : held.pid ≡ pid
   pub file : held.file ≡ Ctl
 
--- This text is that of the stacks in a state of the history: in the one that the controller finds when it reads the status
--- of all lwps after it has stopped the process.
+-- This text is that of the stacks in a state of the history: in the one that the controller finds when it reads the
+-- status of all lwps after it has stopped the process. There each lwp stands on an event of interest, is suspended, or
+-- stops before it does anything else.
 pub record ShowsOneStack (k pid : ℕ) (programs : List Program) (first : TracedState) (h : List Entry)
     (text : List ℕ) : Type 0 where
   pub before : List Entry
@@ -92,4 +94,5 @@ pub record ShowsOneStack (k pid : ℕ) (programs : List Program) (first : Traced
   pub place : h ≡ before ++ call_entry k call reply ∷ after
   pub reads : IsToolRead Pstack k pid (state_after first before) call
   pub stopped : HasStopped k pid first before
+  pub still : (p : TracedProcess) → live_process (state_after first before).system pid ≡ Some p → IsHalting p
   pub shown : stacks_in pid programs (state_after first before).system ≡ Some text
