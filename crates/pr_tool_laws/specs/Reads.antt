@@ -29,8 +29,8 @@ pub record ReadsFile (k pid : ℕ) (name : File) (s : TracedState) (c : Call) : 
   pub of : held.pid ≡ pid
   pub file : held.file ≡ name
 
--- The call by which a tool reads what it shows, a row a tool. pstop and prun read nothing: any call will do. pstack goes on
--- to read the memory of the process.
+-- The call by which a tool reads what it shows, a row a tool. pstop and prun read nothing: any call will do. pstack
+-- goes on to read the memory of the process.
 unfoldable pub IsToolRead : ToolKind → ℕ → ℕ → TracedState → Call → Type 0
 IsToolRead Pflags k pid s c = ReadsFile k pid file.Lstatus s c
 IsToolRead Psig k pid s c = ReadsFile k pid file.Sigact s c

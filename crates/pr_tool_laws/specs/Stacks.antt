@@ -69,8 +69,8 @@ stacks_in pid programs s = option_map (stacks_text pid programs) (live_process s
 
 -- ---- the state that it shows
 
--- A controller waited until the process had stopped: it wrote PCSTOP to its control file, and the wait for that, which
--- has no end of its own, was over.
+-- A controller waited, as PCSTOP does, until the process had stopped: by a handle of its control file, however long
+-- that took. The wait was over.
 pub record HasStopped (k pid : ℕ) (first : TracedState) (h : List Entry) : Type 0 where
   pub before : List Entry
   pub handle : ℕ

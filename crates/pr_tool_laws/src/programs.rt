@@ -8,8 +8,8 @@ ghost use Rattle.pr_model.specs.declared.events.Entry.{Entry};
 ghost use Rattle.pr_num.specs.Programs.{Program};
 ghost use Rattle.pr_num.specs.declared.files.StoredFile.{StoredFile};
 
-/// A legal history from a lawful state leaves the programs of the system as they were. From a first state they are those
-/// that it was made of, and so the labels that pstack shows are those of these programs.
+/// A legal history from a lawful state leaves the programs of the system as they were. After one from a first state
+/// they are those that this was made of.
 pub fn programs_stay_as_they_were()
     ensures later { (n : ℕ) (s : TracedState) (h : List Entry) → IsLawful s → IsLegal n s h
         → (state_after s h).system.programs ≡ s.system.programs }

@@ -27,8 +27,8 @@ pub fn one_read_has_what_stands_there()
 
 /// In a legal history that follows the protocol of its controllers, from a lawful state in range or from a first state,
 /// and in which controllers write bytes, a tool other than pstack that has finished, and was not refused, prints what
-/// stands in one state: in the one that its read finds. In the state of which pwait prints the wait status the
-/// process has ended, and was not reaped yet.
+/// stands in one state: in the one that its read finds. In the state of which pwait prints the wait status the process
+/// has ended, and was not reaped yet.
 pub fn tools_show_what_stands_there()
     ensures later { (controllers : List Core) (n k : ℕ) (kind : ToolKind) (pid : ℕ) (s : TracedState) (h : List Entry)
         → (t : ToolState) (programs : List Program)

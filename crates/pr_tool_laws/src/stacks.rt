@@ -17,9 +17,9 @@ ghost use Rattle.pr_world.specs.Cores as cores;
 ghost use Rattle.pr_world.specs.Protocol.{Follows, controllers_at};
 
 /// In a legal history that follows the protocol of its controllers, from a lawful state in range or from a first state,
-/// and in which controllers write bytes, a pstack that has finished, and was not refused, prints the stacks of one state,
-/// although it reads frame by frame: of the one that it finds when it reads the status of all lwps after it has waited for
-/// the process to stop. This is so whatever programs it takes its labels from.
+/// and in which controllers write bytes, a pstack that has finished, and was not refused, prints the stacks of one
+/// state, although it reads frame by frame: of the one that it finds when it reads the status of all lwps, after it has
+/// waited for the process to stop. This is so whatever programs it takes its labels from.
 pub fn pstack_shows_one_state()
     ensures later { (controllers : List Core) (n k : ℕ) (pid : ℕ) (s : TracedState) (h : List Entry) (t : ToolState)
         → (programs : List Program)
