@@ -30,7 +30,7 @@ use Rattle.pr_truss.specs.declared.stages.FreeingStep.TheVariants as freeing
 use Rattle.pr_truss.specs.declared.stages.Stage.{Stage}
 use Rattle.pr_truss.specs.declared.stages.Stage.TheVariants.{Spawning, OpeningControl, Opening, Polling, ReadingStatus, ReadingText, OpeningChildControl, OpeningChild, Running, Closing, Unfollowing, ReadingLwps, FreeingChild, Finished}
 use Rattle.pr_truss_laws.proofs.HeldLemmas.{at_place, set-at}
-use Rattle.pr_truss_laws.proofs.LookLemmas.{Alike, SameFiles, alike-self, alike-shown, event-over, same-files, same-files-both, seen-over, stop-read}
+use Rattle.pr_truss_laws.proofs.LookLemmas.{Alike, SameFiles, alike-reported, alike-self, alike-shown, event-over, same-files-both, seen-over, stop-read}
 use Rattle.pr_truss_laws.specs.Exchanges.{Exchange, Makes, truss_after}
 use Rattle.pr_truss_laws.specs.Polled.{IsNoEndOf, IsNoFileOf}
 
@@ -311,8 +311,8 @@ module _ (p : Traced) where
     unfolding with_freeing_begun with_refused_freeing
     freeing-begun child c r Accepted = then _ (omega (arith, c.here)) (record { place = k; here = record { within = here.within; same = here.same }; leaves = leaves; soon = costs-fewer (traced_at s k).seen 3 2 k n left_then c (omega (arith, c.here)) (omega (arith, c.here)) })
     freeing-begun child c r Interrupted = first-closed s (alike-self s) (omega (arith, c.here)) (λ ahead. omega (arith, c.far ahead))
-    freeing-begun child c r Gone = first-closed (with_report s (CannotTrace child Noent)) (record { leaving = refl; count = refl; files = λ j. same-files (traced_at s j); seen = λ j. refl }) (omega (arith, c.here)) (λ ahead. omega (arith, c.far ahead))
-    freeing-begun child c r (Refused errno) = first-closed (with_report s (CannotTrace child errno)) (record { leaving = refl; count = refl; files = λ j. same-files (traced_at s j); seen = λ j. refl }) (omega (arith, c.here)) (λ ahead. omega (arith, c.far ahead))
+    freeing-begun child c r Gone = first-closed _ (alike-reported s s (CannotTrace child Noent) (alike-self s)) (omega (arith, c.here)) (λ ahead. omega (arith, c.far ahead))
+    freeing-begun child c r (Refused errno) = first-closed _ (alike-reported s s (CannotTrace child errno) (alike-self s)) (omega (arith, c.here)) (λ ahead. omega (arith, c.far ahead))
 
     freed-left : (child : ℕ) (step : FreeingStep) → Costs (traced_at s k).seen (freeing_left step) k n → (r : Reply) → Next n (with_freeing_answered s child step r)
     unfolding with_freeing_answered

@@ -10,8 +10,9 @@ use Rattle.pr_rec.specs.declared.lwps.LwpStatus.{LwpStatus}
 use Rattle.pr_truss.specs.Openings.{with_stop_seen}
 use Rattle.pr_truss.specs.Records.{is_on_event}
 use Rattle.pr_truss.specs.Stops.{asked_range, followed_child, with_child_or, with_event, with_event_over, with_event_shown, with_old_stop_over, with_stop, with_stop_over, with_stop_read, with_text_or_shown}
-use Rattle.pr_truss.specs.Trusses.{TrussState, nobody, traced_at, with_stage, with_traced}
+use Rattle.pr_truss.specs.Trusses.{TrussState, nobody, traced_at, with_report, with_stage, with_traced}
 use Rattle.pr_truss.specs.declared.processes.Traced.{Traced}
+use Rattle.pr_truss.specs.declared.reports.Report.{Report}
 use Rattle.pr_truss.specs.declared.stages.FreeingStep.TheVariants.{OpenControl}
 use Rattle.pr_truss.specs.declared.stages.Stage.TheVariants.{ReadingText, OpeningChildControl, FreeingChild}
 use Rattle.pr_truss_laws.proofs.HeldLemmas.{at_place, set-at}
@@ -51,9 +52,12 @@ pub record Alike (s u : TrussState) : Type 0 where
 pub alike-self : (s : TrussState) → Alike s s
 alike-self s = record { leaving = refl; count = refl; files = λ k. same-files (traced_at s k); seen = λ k. refl }
 
+pub alike-reported : (s u : TrussState) (report : Report) → Alike s u → Alike s (with_report u report)
+alike-reported s u report a = record { leaving = a.leaving; count = a.count; files = a.files; seen = a.seen }
+
 pub alike-shown : (s u : TrussState) (place : ℕ) (l : LwpStatus) (text : Came) → Alike s u → Alike s (with_event_shown u place l text)
 unfolding with_event_shown
-alike-shown s u place l text a = record { leaving = a.leaving; count = a.count; files = a.files; seen = a.seen }
+alike-shown s u place l text a = alike-reported s u _ a
 
 -- one old stop less
 alike-old : (s : TrussState) (place : ℕ) → place < length s.traced → Alike s (with_traced s place (record (traced_at s place) { old = (traced_at s place).old - 1 }))
