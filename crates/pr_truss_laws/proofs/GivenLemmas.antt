@@ -28,7 +28,7 @@ use Rattle.pr_truss.specs.declared.stages.Stage.TheVariants.{Spawning, OpeningCo
 use Rattle.pr_truss_laws.proofs.AnswerLemmas.{IsAnswer, answer-is}
 use Rattle.pr_truss_laws.proofs.ClosesLemmas.{after-grown}
 use Rattle.pr_truss_laws.proofs.HeldLemmas.{Grown, empty-list, grown-all, grown-same, of_traced}
-use Rattle.pr_truss_laws.proofs.OpeningLemmas.{Closes, Closed, ClosingEnd, Done, Failed, Going, Leads, OpeningEnd, SameBase, Stopped, closed, closing, closing-end, done, failed, going, leads-later, left, opening-end}
+use Rattle.pr_truss_laws.proofs.OpeningLemmas.{Done, Failed, Leads, OpeningEnd, SameBase, Stopped, closed, closing, closing-end, done, failed, going, leads-later, left, opening-end}
 use Rattle.pr_truss_laws.proofs.SequenceLemmas.{Goes, begun-calls, next-calls, whole-calls}
 use Rattle.pr_truss_laws.proofs.StepLemmas.{next_opening-well}
 use Rattle.pr_truss_laws.specs.Exchanges.{Ends, Exchange, IsClose, IsGranted, Makes, errno_in, truss_after}
@@ -89,7 +89,7 @@ module _ (f : TrussState) where
     handled = inr (inr (inl (record { opening = opening; later = later; is = refl; interrupted = stopped })));
   }
 
-  -- and of one as far as which truss has come
+  -- and of one on which truss is at work
   told-begun : (base : List Report) (o : Options) (pid : ℕ) (pids : List ℕ) (xs : List Exchange) (next : Call) → due ≡ Some next → IsBegunOpening o pid next xs → f.reports ≡ base → Told base o (pid ∷ pids) xs
   told-begun base o pid pids xs next is begun none = record {
     more = [];
@@ -194,13 +194,13 @@ module _ (f : TrussState) where
           let is : x ∷ xs ≡ (x ∷ st.opening) ++ st.later = ap (λ ys. x ∷ ys) st.is in
           let reports : reported.reports ≡ s.reports ++ CannotTrace pid d.errno ∷ [] = ap (λ rs. rs ++ CannotTrace pid d.errno ∷ []) d.same.reports in
           subst Goal (sym is) (elim (closing-end f st.later reported d.place d.ends) [
-            closed c ↦
-              let base : SameBase (with_report s (CannotTrace pid d.errno)) c.state = record { options = c.same.options ∙ d.same.options; begun = c.same.begun ∙ d.same.begun; reports = c.same.reports ∙ reports } in
-              let short : length c.later ≤ length xs = omega (arith, shorter-part c.closings c.later st.later c.is, shorter-part st.opening st.later xs st.is) in
-              let rest = told-same (with_report s (CannotTrace pid d.errno)) c.state c.later base (later c.later c.state short c.ends) in
-              subst Goal (ap (λ ys. (x ∷ st.opening) ++ ys) (sym c.is)) (told-refused s.reports s.options pid (pids_left s) d.errno (x ∷ st.opening) c.closings c.later refused c.closes rest)
-          | closing c ↦
-              told-broken s.reports s.options pid (pids_left s) d.errno (x ∷ st.opening) st.later c.handle c.due refused c.closes (c.reports ∙ reports)
+            | closed c ↦
+                let base : SameBase (with_report s (CannotTrace pid d.errno)) c.state = record { options = c.same.options ∙ d.same.options; begun = c.same.begun ∙ d.same.begun; reports = c.same.reports ∙ reports } in
+                let short : length c.later ≤ length xs = omega (arith, shorter-part c.closings c.later st.later c.is, shorter-part st.opening st.later xs st.is) in
+                let rest = told-same (with_report s (CannotTrace pid d.errno)) c.state c.later base (later c.later c.state short c.ends) in
+                subst Goal (ap (λ ys. (x ∷ st.opening) ++ ys) (sym c.is)) (told-refused s.reports s.options pid (pids_left s) d.errno (x ∷ st.opening) c.closings c.later refused c.closes rest)
+            | closing c ↦
+                told-broken s.reports s.options pid (pids_left s) d.errno (x ∷ st.opening) st.later c.handle c.due refused c.closes (c.reports ∙ reports)
           ])
 
       stopped-told : Stopped f with_one opened (Some OpenStatus) Intr xs → Goal (x ∷ xs)

@@ -19,7 +19,7 @@ use Rattle.pr_truss.specs.Processes.{last_handle, without_last}
 use Rattle.pr_truss.specs.Records.{event_stops, status_lwp}
 use Rattle.pr_truss.specs.Replies.{answer_of}
 use Rattle.pr_truss.specs.Stops.{after_text, text_of, with_event_over, with_event_shown, with_lwps_answered, with_status_answered, with_stop_over, with_stop_read, with_text_answered, with_unfollowed}
-use Rattle.pr_truss.specs.Trusses.{TrussState, nobody, traced_at, with_report, with_stage, with_traced, without_traced}
+use Rattle.pr_truss.specs.Trusses.{TrussState, nobody, traced_at, with_stage, with_traced, without_traced}
 use Rattle.pr_truss.specs.declared.processes.Traced.{Traced}
 use Rattle.pr_truss.specs.declared.replies.Answer.{Answer}
 use Rattle.pr_truss.specs.declared.replies.Answer.TheVariants.{Accepted, Interrupted, Gone, Refused}

@@ -1,16 +1,14 @@
-use Rattle.std.proofs.Common.{◌≡◌, ◌<◌, ◌≤◌, ◌+◌, ◌-◌, ◌*◌, ℕ, Bool, true, false, cond, Option, Some, None, List, [], ◌∷◌, ◌++◌, length, refl, sym, subst, ap, ◌∙◌, arith}
+use Rattle.std.proofs.Common.{◌≡◌, ◌<◌, ◌≤◌, ◌+◌, ◌-◌, ◌*◌, ℕ, Bool, true, false, cond, Option, Some, None, List, [], ◌∷◌, length, refl, sym, subst, ap, ◌∙◌, arith}
 use Rattle.std.proofs.Math.ListN.{get_or-append}
 use Rattle.std.proofs.lemmas.Bool.{false≢true}
 use Rattle.std.proofs.lemmas.List.{get_or-set_other, length-append, length-set}
 use Rattle.std.proofs.lemmas.List.Edits.{get_or-remove_below, length-remove}
 use Rattle.std.proofs.lemmas.List.Elements.{All-head, All-tail}
-use Rattle.std.specs.List.{All, position, remove, slice_set}
+use Rattle.std.specs.List.{All, slice_set}
 use Rattle.std.specs.Option.{option_and_then}
-use Rattle.pr_line.specs.declared.options.Options.{Options}
 use Rattle.pr_model.specs.Replies.{bytes_in, handle_in}
 use Rattle.pr_model.specs.declared.calls.Call.TheVariants as call
 use Rattle.pr_model.specs.declared.calls.Reply.{Reply}
-use Rattle.pr_model.specs.declared.calls.Reply.TheVariants.{Ready}
 use Rattle.pr_num.proofs.TableLemmas.{position-within}
 use Rattle.pr_num.specs.declared.errnos.Errno.TheVariants.{Noent}
 use Rattle.pr_rec.specs.declared.lwps.LwpStatus.{LwpStatus}
@@ -22,8 +20,8 @@ use Rattle.pr_truss.specs.Openings.{with_stop_seen}
 use Rattle.pr_truss.specs.Processes.{last_handle, newly_traced, without_last}
 use Rattle.pr_truss.specs.Records.{status_lwp}
 use Rattle.pr_truss.specs.Replies.{answer_of, ready_in}
-use Rattle.pr_truss.specs.Stops.{after_text, has_control, text_of, with_event_over, with_event_shown, with_poll_answered, with_polled, with_status_answered, with_stop_over, with_stop_read, with_text_answered}
-use Rattle.pr_truss.specs.Trusses.{TrussState, first_truss, nobody, traced_at, with_opened, with_report, with_stage, with_traced, without_traced}
+use Rattle.pr_truss.specs.Stops.{after_text, has_control, text_of, with_event_shown, with_poll_answered, with_polled, with_status_answered, with_stop_over, with_text_answered}
+use Rattle.pr_truss.specs.Trusses.{TrussState, nobody, traced_at, with_opened, with_report, with_stage, with_traced}
 use Rattle.pr_truss.specs.declared.processes.Traced.{Traced}
 use Rattle.pr_truss.specs.declared.replies.Answer.{Answer}
 use Rattle.pr_truss.specs.declared.replies.Answer.TheVariants.{Accepted, Interrupted, Gone, Refused}
@@ -63,11 +61,11 @@ Nears ts k n (Closing place GoOn) = place ≡ k
 Nears ts k n (Closing place OpenNext) = ⊥
 Nears ts k n (Spawning program) = ⊥
 Nears ts k n (OpeningControl pid) = ⊥
-Nears ts k n (Opening place step) = ⊥
+Nears ts k n (Opening place opening) = ⊥
 Nears ts k n Polling = ⊥
 Nears ts k n Unfollowing = ⊥
 Nears ts k n ReadingLwps = ⊥
-Nears ts k n (FreeingChild child step) = ⊥
+Nears ts k n (FreeingChild pid freeing) = ⊥
 Nears ts k n Finished = ⊥
 
 module _ (p : Traced) (k : ℕ) where
@@ -260,10 +258,10 @@ module _ (p : Traced) (k : ℕ) where
   near-soon (y ∷ ys) s n l makes none =
       let others : All (IsNoEndOf p) ys = All-tail (IsNoEndOf p) y ys none in
       elim (fed-near y s n l makes.0 (All-head (IsNoEndOf p) y ys none)) [
-        nearer left less near ↦ omega (arith, near-soon ys (fed s y.reply) left near makes.1 others)
-      | leaves left less way ↦
-          let rest = leaving-soon p ys (fed s y.reply) left way makes.1 others in
-          omega (arith, rest.0, ap (λ b. cond b (10 * k) 0) rest.1)
+        | nearer left less near ↦ omega (arith, near-soon ys (fed s y.reply) left near makes.1 others)
+        | leaves left less way ↦
+            let rest = leaving-soon p ys (fed s y.reply) left way makes.1 others in
+            omega (arith, rest.0, ap (λ b. cond b (10 * k) 0) rest.1)
       ]
 
 -- ---- from the poll on

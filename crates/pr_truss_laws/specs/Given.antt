@@ -104,16 +104,17 @@ pub record Left (o : Options) (pid : ℕ) (xs : List Exchange) : Type 0 where
   pub is : xs ≡ opening ++ later
   pub interrupted : IsRefusedOpening o pid Intr opening
 
--- Truss has come as far as its opening: the call that is due goes on with it, and no other process was begun.
+-- Truss is opening it still: the call that is due goes on with that. No process behind it was begun.
 pub record Begun (o : Options) (pid : ℕ) (due : Option Call) (reports : List Report) (xs : List Exchange) : Type 0 where
   pub next : Call
   pub is : due ≡ Some next
   pub begun : IsBegunOpening o pid next xs
   pub nothing : reports ≡ []
 
--- Truss has come as far as its closing: its opening was refused, which is the last report, and the call that is due
--- closes a file of it. No other process was begun.
-pub record BrokenOff (o : Options) (pid : ℕ) (due : Option Call) (reports : List Report) (xs : List Exchange) : Type 0 where
+-- Its opening was refused, which is the last report, and truss is closing what it opened: the call that is due goes on
+-- with that. No process behind it was begun.
+pub record BrokenOff (o : Options) (pid : ℕ) (due : Option Call) (reports : List Report) (xs : List Exchange)
+    : Type 0 where
   pub errno : Errno
   pub opening : List Exchange
   pub closings : List Exchange
@@ -124,9 +125,9 @@ pub record BrokenOff (o : Options) (pid : ℕ) (due : Option Call) (reports : Li
   pub closes : All IsClose closings
   pub reported : reports ≡ CannotTrace pid errno ∷ []
 
--- Each of these processes, in this order, was attached or its refusal reported, unless an interrupt came before, up to
--- the one as far as which truss has come. This call of truss is due; where it has finished none is, and it has come past
--- each of them.
+-- Each of these processes, in this order, was attached or its refusal reported, unless an interrupt came before; or truss
+-- is at work on one of them still, and this call of it is due. Where it has finished no call is due, so it is at work on
+-- none.
 abbrev pub AreHandled : Options → Option Call → List ℕ → Later
 AreHandled o due [] reports xs = Unit {0}
 AreHandled o due (pid ∷ pids) reports xs =
@@ -143,7 +144,8 @@ pub record IsStarting (program : List ℕ) (due : Option Call) (reports : List R
   pub nothing : reports ≡ []
 
 -- Truss made a process of its program, which comes before any others.
-pub record Started (o : Options) (program : List ℕ) (due : Option Call) (reports : List Report) (xs : List Exchange) : Type 0 where
+pub record Started (o : Options) (program : List ℕ) (due : Option Call) (reports : List Report) (xs : List Exchange)
+    : Type 0 where
   pub reply : Reply
   pub later : List Exchange
   pub is : xs ≡ record { call = call.Spawn program true; reply = reply } ∷ later
@@ -163,7 +165,7 @@ pub record LeftAtStart (program : List ℕ) (reports : List Report) (xs : List E
 
 -- ---- all that truss was given
 
--- What has become so far of what the options name, the processes or the program, where this call of truss is due.
+-- What has become so far of what the options name: the processes, or the program. This call of truss is due.
 abbrev pub IsHandledSoFar : Options → Option Call → Option (List ℕ) → Later
 IsHandledSoFar o due None reports xs = AreHandled o due o.pids reports xs
 IsHandledSoFar o due (Some program) reports xs =
