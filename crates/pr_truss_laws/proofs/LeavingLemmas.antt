@@ -103,7 +103,7 @@ close-ends p s place y here is other = last-is (traced_at s place) (no-file p (t
 
 -- ---- how many calls come before its first close
 
--- Of the process itself: where the stop on which it stands was looked at, this is not looked at again.
+-- When truss has come to leave this process: where the stop on which it stands was looked at, it is not looked at again.
 unfoldable pub left_cost : Bool → ℕ
 left_cost seen = cond seen 2 6
 
@@ -117,11 +117,13 @@ unfolding left_cost
 cost-least true = omega arith
 cost-least false = omega arith
 
--- At most so many calls come before the first process is closed, and then those of the processes up to this one.
+-- So many calls come at most before the first process is closed, and then its four closes, ten calls for each process
+-- between, and those for this one.
 pub record Costs (seen : Bool) (calls k n : ℕ) : Type 0 where
   pub here : calls ≤ n
   pub far : 0 < k → 10 * k + left_cost seen + calls ≤ n + 6
 
+-- how many calls set a child free, from a step on
 abbrev pub freeing_left : FreeingStep → ℕ
 freeing_left freeing.OpenControl = 3
 freeing_left (freeing.SetRelease control) = 2
@@ -133,15 +135,13 @@ pub record ClosesFirst (ts : List Traced) (k n place : ℕ) : Type 0 where
   pub ahead : 0 < k
   pub costs : files (at_place ts 0) + 10 * k + left_cost (at_place ts k).seen ≤ n + 10
 
-pub costs-fewer : (seen : Bool) (calls fewer k n m : ℕ) → Costs seen calls k n → calls + m ≡ n + fewer → fewer ≤ m → Costs seen fewer k m
-costs-fewer seen calls fewer k n m c is fits = record { here = fits; far = λ ahead. omega (arith, c.far ahead, is) }
-
+-- this one, or the first one, is closed
 closes-at : (ts : List Traced) (k n place : ℕ) → (place ≡ 0) ⊎ (place ≡ k) → (0 < k → 10 * k + left_cost (at_place ts k).seen ≤ n + 6) → (place ≡ k) ⊎ ClosesFirst ts k n place
 closes-at ts k n place (inr e) far = inl e
 closes-at ts zero n place (inl e) far = inl e
 closes-at ts (suc j) n place (inl e) far = inr (record { first = e; ahead = omega arith; costs = omega (arith, files-most (at_place ts 0), far (omega arith)) })
 
--- a row a stage
+-- So many calls come at most before the first close of the process at place k: a row a stage.
 abbrev pub Leaves : List Traced → ℕ → ℕ → Stage → Type 0
 Leaves ts k n (ReadingStatus place) = (place ≡ k) × (12 + 10 * k ≤ n)
 Leaves ts k n (ReadingText place lwp at len) = ((place ≡ 0) ⊎ (place ≡ k)) × Costs (at_place ts k).seen 4 k n
@@ -173,6 +173,9 @@ module _ (p : Traced) where
     pub less : left < n
     pub leads : Leaving left s
 
+  staged : (s : TrussState) (k n : ℕ) (stage : Stage) → Stands p s k → s.leaving ≡ true → Leaves s.traced k n stage → Leaving n (with_stage s stage)
+  staged s k n stage here leaves soon = record { place = k; here = record { within = here.within; same = here.same }; leaves = leaves; soon = soon }
+
   -- ---- the next process is left
 
   first-left : (s : TrussState) (k n : ℕ) → Stands p s k → s.leaving ≡ true → 10 * k + left_cost (traced_at s k).seen ≤ n → (first : Option Traced) → slice_get s.traced 0 ≡ first → Leaving n (left_or_finished s first)
@@ -184,8 +187,8 @@ module _ (p : Traced) where
   first-left s k n here leaves costs (Some t) is = by t.attached
     where
       by : (attached : Bool) → Leaving n (with_stage s (cond attached Unfollowing (Closing 0 GoOn)))
-      by true = record { place = k; here = record { within = here.within; same = here.same }; leaves = leaves; soon = costs }
-      by false = record { place = k; here = record { within = here.within; same = here.same }; leaves = leaves; soon = closes-at s.traced k n 0 (inl refl) (λ ahead. omega (arith, costs)) }
+      by true = staged s k n Unfollowing here leaves costs
+      by false = staged s k n (Closing 0 GoOn) here leaves (closes-at s.traced k n 0 (inl refl) (λ ahead. omega (arith, costs)))
 
   next-left : (s : TrussState) (k n : ℕ) → Stands p s k → s.leaving ≡ true → 10 * k + left_cost (traced_at s k).seen ≤ n → Leaving n (with_next_left s)
   unfolding with_next_left
@@ -209,8 +212,7 @@ module _ (p : Traced) where
     closing-left : (u : TrussState) → Alike s u → Costs (traced_at s k).seen 0 k n → Leaving n (with_closing u place)
     closing-left u a c =
         let own = alike-costs u 0 a c in
-        let there = stands-alike p s u k a here in
-        record { place = k; here = record { within = there.within; same = there.same }; leaves = a.leaving ∙ leaves; soon = closes-at u.traced k n place at (λ ahead. omega (arith, own.far ahead)) }
+        staged u k n (Closing place GoOn) (stands-alike p s u k a here) (a.leaving ∙ leaves) (closes-at u.traced k n place at (λ ahead. omega (arith, own.far ahead)))
 
     over-left : Costs (traced_at s k).seen 0 k n → (u : TrussState) → Alike s u → Leaving n (with_stop_over u place)
     unfolding with_stop_over
@@ -218,18 +220,10 @@ module _ (p : Traced) where
 
     child-left : Costs (traced_at s k).seen 3 k n → (u : TrussState) (child : ℕ) → Alike s u → Leaving n (with_stage u (cond u.leaving (FreeingChild child freeing.OpenControl) (OpeningChildControl place child)))
     child-left c u child a =
-        let there = stands-alike p s u k a here in
-        record {
-          place = k;
-          here = record { within = there.within; same = there.same };
-          leaves = a.leaving ∙ leaves;
-          soon = subst (λ b. Leaves u.traced k n (cond b (FreeingChild child freeing.OpenControl) (OpeningChildControl place child))) (sym (a.leaving ∙ leaves)) (alike-costs u 3 a c);
-        }
+        subst (λ b. Leaving n (with_stage u (cond b (FreeingChild child freeing.OpenControl) (OpeningChildControl place child)))) (sym (a.leaving ∙ leaves)) (staged u k n (FreeingChild child freeing.OpenControl) (stands-alike p s u k a here) (a.leaving ∙ leaves) (alike-costs u 3 a c))
 
     text-left : Costs (traced_at s k).seen 4 k n → (u : TrussState) (l : LwpStatus) (from len : ℕ) → Alike s u → Leaving n (with_stage u (ReadingText place l from len))
-    text-left c u l from len a =
-        let there = stands-alike p s u k a here in
-        record { place = k; here = record { within = there.within; same = there.same }; leaves = a.leaving ∙ leaves; soon = (at, alike-costs u 4 a c) }
+    text-left c u l from len a = staged u k n (ReadingText place l from len) (stands-alike p s u k a here) (a.leaving ∙ leaves) (at, alike-costs u 4 a c)
 
     fewer : (calls few : ℕ) → few ≤ calls → Costs (traced_at s k).seen calls k n → Costs (traced_at s k).seen few k n
     fewer calls few less c = record { here = omega (arith, c.here); far = λ ahead. omega (arith, c.far ahead) }
@@ -253,8 +247,8 @@ module _ (p : Traced) where
     then : (u : TrussState) → 1 ≤ n → Leaving left_then u → Next n u
     then u some l = record { left = left_then; less = omega arith; leads = l }
 
-    seen_at : Bool
-    seen_at = (traced_at s k).seen
+    fewer-left : (calls : ℕ) → Costs (traced_at s k).seen (suc calls) k n → Costs (traced_at s k).seen calls k left_then
+    fewer-left calls c = record { here = omega (arith, c.here); far = λ ahead. omega (arith, c.far ahead, c.here) }
 
     looked-status : 12 + 10 * k ≤ n → Costs (traced_at s k).seen 4 k left_then
     looked-status costs = record { here = omega arith; far = λ ahead. omega (arith, cost-most (traced_at s k).seen) }
@@ -269,10 +263,10 @@ module _ (p : Traced) where
     module _ (place : ℕ) (at : (place ≡ 0) ⊎ (place ≡ k)) where
       text-answered : (l : LwpStatus) (u : TrussState) → Alike s u → Costs (traced_at s k).seen 4 k n → (a : Answer) → Next n (after_text u place l a)
       unfolding after_text
-      text-answered l u a c Accepted = then _ (omega (arith, c.here)) (event-left s k left_then here leaves place at (costs-fewer (traced_at s k).seen 4 3 k n left_then c (omega (arith, c.here)) (omega (arith, c.here))) u l a)
-      text-answered l u a c (Refused errno) = then _ (omega (arith, c.here)) (event-left s k left_then here leaves place at (costs-fewer (traced_at s k).seen 4 3 k n left_then c (omega (arith, c.here)) (omega (arith, c.here))) u l a)
+      text-answered l u a c Accepted = then _ (omega (arith, c.here)) (event-left s k left_then here leaves place at (fewer-left 3 c) u l a)
+      text-answered l u a c (Refused errno) = then _ (omega (arith, c.here)) (event-left s k left_then here leaves place at (fewer-left 3 c) u l a)
       text-answered l u a c Gone = then _ (omega (arith, c.here)) (closing-left s k left_then here leaves place at u a (record { here = omega arith; far = λ ahead. omega (arith, c.far ahead) }))
-      text-answered l u a c Interrupted = then _ (omega (arith, c.here)) (true-first left_then u.leaving (with_event_over u place l) _ (a.leaving ∙ leaves) (event-left s k left_then here leaves place at (costs-fewer (traced_at s k).seen 4 3 k n left_then c (omega (arith, c.here)) (omega (arith, c.here))) u l a))
+      text-answered l u a c Interrupted = then _ (omega (arith, c.here)) (true-first left_then u.leaving (with_event_over u place l) _ (a.leaving ∙ leaves) (event-left s k left_then here leaves place at (fewer-left 3 c) u l a))
 
       text-read : (l : LwpStatus) (len : ℕ) → Costs (traced_at s k).seen 4 k n → (r : Reply) → Next n (with_text_answered s place l len r)
       unfolding with_text_answered
@@ -282,12 +276,15 @@ module _ (p : Traced) where
     first-closed : (u : TrussState) → Alike s u → 1 ≤ n → (0 < k → 10 * k + left_cost (traced_at s k).seen ≤ n + 5) → Next n (with_closing u 0)
     first-closed u a some far = then _ some (closing-left s k left_then here leaves 0 (inl refl) u a (record { here = omega arith; far = λ ahead. omega (arith, far ahead) }))
 
+    read-next : 10 * k + left_cost (traced_at s k).seen ≤ n → Next n (with_stage s ReadingLwps)
+    read-next costs = then _ (omega (arith, cost-least (traced_at s k).seen)) (staged s k left_then ReadingLwps here leaves (omega arith))
+
     unfollowed-left : 10 * k + left_cost (traced_at s k).seen ≤ n → (a : Answer) → Next n (with_unfollowed s a)
     unfolding with_unfollowed
     unfollowed-left costs Gone = first-closed s (alike-self s) (omega (arith, cost-least (traced_at s k).seen)) (λ ahead. omega arith)
-    unfollowed-left costs Accepted = then _ (omega (arith, cost-least (traced_at s k).seen)) (record { place = k; here = record { within = here.within; same = here.same }; leaves = leaves; soon = omega arith })
-    unfollowed-left costs Interrupted = then _ (omega (arith, cost-least (traced_at s k).seen)) (record { place = k; here = record { within = here.within; same = here.same }; leaves = leaves; soon = omega arith })
-    unfollowed-left costs (Refused errno) = then _ (omega (arith, cost-least (traced_at s k).seen)) (record { place = k; here = record { within = here.within; same = here.same }; leaves = leaves; soon = omega arith })
+    unfollowed-left costs Accepted = read-next costs
+    unfollowed-left costs Interrupted = read-next costs
+    unfollowed-left costs (Refused errno) = read-next costs
 
     -- the statuses of the lwps of the first process, which may be this one
     lwps-looked : (j : ℕ) (seen : Bool) → k ≡ j → (traced_at s k).seen ≡ seen → 10 * k + left_cost seen ≤ n + 1 → (l : Option LwpStatus) → Leaving left_then (with_stop_read s 0 l)
@@ -309,7 +306,7 @@ module _ (p : Traced) where
     -- a child is set free, and the first process is closed then
     freeing-begun : (child : ℕ) → Costs (traced_at s k).seen 3 k n → (r : Reply) (a : Answer) → Next n (with_freeing_begun s child r a)
     unfolding with_freeing_begun with_refused_freeing
-    freeing-begun child c r Accepted = then _ (omega (arith, c.here)) (record { place = k; here = record { within = here.within; same = here.same }; leaves = leaves; soon = costs-fewer (traced_at s k).seen 3 2 k n left_then c (omega (arith, c.here)) (omega (arith, c.here)) })
+    freeing-begun child c r Accepted = then _ (omega (arith, c.here)) (staged s k left_then _ here leaves (fewer-left 2 c))
     freeing-begun child c r Interrupted = first-closed s (alike-self s) (omega (arith, c.here)) (λ ahead. omega (arith, c.far ahead))
     freeing-begun child c r Gone = first-closed _ (alike-reported s s (CannotTrace child Noent) (alike-self s)) (omega (arith, c.here)) (λ ahead. omega (arith, c.far ahead))
     freeing-begun child c r (Refused errno) = first-closed _ (alike-reported s s (CannotTrace child errno) (alike-self s)) (omega (arith, c.here)) (λ ahead. omega (arith, c.far ahead))
@@ -317,7 +314,7 @@ module _ (p : Traced) where
     freed-left : (child : ℕ) (step : FreeingStep) → Costs (traced_at s k).seen (freeing_left step) k n → (r : Reply) → Next n (with_freeing_answered s child step r)
     unfolding with_freeing_answered
     freed-left child freeing.OpenControl c r = freeing-begun child c r (answer_of r)
-    freed-left child (freeing.SetRelease control) c r = then _ (omega (arith, c.here)) (record { place = k; here = record { within = here.within; same = here.same }; leaves = leaves; soon = costs-fewer (traced_at s k).seen 2 1 k n left_then c (omega (arith, c.here)) (omega (arith, c.here)) })
+    freed-left child (freeing.SetRelease control) c r = then _ (omega (arith, c.here)) (staged s k left_then _ here leaves (fewer-left 1 c))
     freed-left child (freeing.Close control) c r = first-closed s (alike-self s) (omega (arith, c.here)) (λ ahead. omega (arith, c.far ahead))
 
     -- ---- the first process is closed, which is another one

@@ -21,7 +21,7 @@ use Rattle.pr_truss.specs.Processes.{last_handle, newly_traced, without_last}
 use Rattle.pr_truss.specs.Records.{status_lwp}
 use Rattle.pr_truss.specs.Replies.{answer_of, ready_in}
 use Rattle.pr_truss.specs.Stops.{after_text, has_control, text_of, with_event_shown, with_poll_answered, with_polled, with_status_answered, with_stop_over, with_text_answered}
-use Rattle.pr_truss.specs.Trusses.{TrussState, nobody, traced_at, with_opened, with_report, with_stage, with_traced}
+use Rattle.pr_truss.specs.Trusses.{TrussState, nobody, traced_at, with_opened, with_report, with_stage, with_traced, without_traced}
 use Rattle.pr_truss.specs.declared.processes.Traced.{Traced}
 use Rattle.pr_truss.specs.declared.replies.Answer.{Answer}
 use Rattle.pr_truss.specs.declared.replies.Answer.TheVariants.{Accepted, Interrupted, Gone, Refused}
@@ -49,7 +49,7 @@ child_left child.OpenLstatus = 7
 child_left child.OpenMemory = 6
 child_left child.Start = 5
 
--- At most so many calls come before: a row a stage.
+-- So many calls come at most before the end of the look at the process at place k: a row a stage.
 abbrev pub Nears : List Traced → ℕ → ℕ → Stage → Type 0
 Nears ts k n (ReadingStatus place) = (place ≡ k) × (12 ≤ n)
 Nears ts k n (ReadingText place lwp at len) = (place ≡ k) × (11 ≤ n)
@@ -84,10 +84,11 @@ module _ (p : Traced) (k : ℕ) where
   false-second n false u v is a = a
 
   module _ (s : TrussState) (n : ℕ) (here : Stands p s k) (stays : s.leaving ≡ false) where
+    staged : (u : TrussState) (stage : Stage) → Stands p u k → u.leaving ≡ false → 1 ≤ n → Nears u.traced k (n - 1) stage → After n (with_stage u stage)
+    staged u stage there remains some soon = nearer (n - 1) (omega arith) (record { here = record { within = there.within; same = there.same }; stays = remains; soon = soon })
+
     near-alike : (u : TrussState) → Alike s u → (stage : Stage) → 1 ≤ n → Nears u.traced k (n - 1) stage → After n (with_stage u stage)
-    near-alike u a stage some soon =
-        let there = stands-alike p s u k a here in
-        nearer (n - 1) (omega arith) (record { here = record { within = there.within; same = there.same }; stays = a.leaving ∙ stays; soon = soon })
+    near-alike u a stage some soon = staged u stage (stands-alike p s u k a here) (a.leaving ∙ stays) some soon
 
     over-near : 1 ≤ n → (u : TrussState) → Alike s u → After n (with_stop_over u k)
     unfolding with_stop_over
@@ -145,11 +146,9 @@ module _ (p : Traced) (k : ℕ) where
     still-last place t last = record { behind = last.behind; last = last.last ∙ sym (length-set s.traced place t) }
 
     opened-near : 10 ≤ n → (t : Traced) → After n (with_stage (with_opened s t) (OpeningChild k (length s.traced) child.SetRelease))
-    opened-near many t = nearer (n - 1) (omega arith) (record {
-      here = record { within = omega (arith, here.within, length-append s.traced (t ∷ [])); same = subst (SameFiles p) (sym (get_or-append s.traced (t ∷ []) nobody k here.within)) here.same };
-      stays = stays;
-      soon = (refl, record { behind = here.within; last = sym (length-append s.traced (t ∷ [])) }, omega arith);
-    })
+    opened-near many t =
+        let there : Stands p (with_opened s t) k = record { within = omega (arith, here.within, length-append s.traced (t ∷ [])); same = subst (SameFiles p) (sym (get_or-append s.traced (t ∷ []) nobody k here.within)) here.same } in
+        staged (with_opened s t) (OpeningChild k (length s.traced) child.SetRelease) there stays (omega arith) (refl, record { behind = here.within; last = sym (length-append s.traced (t ∷ [])) }, omega arith)
 
     refused-near : 1 ≤ n → (report : Report) → After n (with_stage (with_report s report) (Running k))
     refused-near some report = near-alike (with_report s report) (alike-reported s s report (alike-self s)) (Running k) some refl
@@ -167,9 +166,7 @@ module _ (p : Traced) (k : ℕ) where
       closing-near some u a = near-alike u a (Closing place (RunParent k)) (omega arith) (refl, record { behind = last.behind; last = last.last ∙ sym a.count }, omega (arith, files-most (at_place u.traced place)))
 
       step-near : (t : Traced) (next : ChildStep) → child_left next + 1 ≤ n → After n (with_stage (with_traced s place t) (OpeningChild k place next))
-      step-near t next left =
-          let there = parent-stands place t last in
-          nearer (n - 1) (omega arith) (record { here = record { within = there.within; same = there.same }; stays = stays; soon = (refl, still-last place t last, omega arith) })
+      step-near t next left = staged (with_traced s place t) (OpeningChild k place next) (parent-stands place t last) stays (omega arith) (refl, still-last place t last, omega arith)
 
       done-near : (step : ChildStep) → child_left step ≤ n → (t : Traced) → After n (at_child_step (with_traced s place t) k place (child_step_after step))
       unfolding child_step_after
@@ -177,9 +174,7 @@ module _ (p : Traced) (k : ℕ) where
       done-near child.OpenStatus left t = step-near t child.OpenLstatus left
       done-near child.OpenLstatus left t = step-near t child.OpenMemory left
       done-near child.OpenMemory left t = step-near t child.Start left
-      done-near child.Start left t =
-          let there = parent-stands place t last in
-          nearer (n - 1) (omega arith) (record { here = record { within = there.within; same = there.same }; stays = stays; soon = refl })
+      done-near child.Start left t = staged (with_traced s place t) (Running k) (parent-stands place t last) stays (omega arith) refl
 
       answered-near : (step : ChildStep) → child_left step ≤ n → 5 ≤ n → (r : Reply) (a : Answer) → After n (with_child_step_answered s k place step r a)
       unfolding with_child_step_answered with_child_step_done with_refused_child_step
@@ -208,11 +203,8 @@ module _ (p : Traced) (k : ℕ) where
       unfolding after_closing
       closed-near at left None less =
           let within : place < length s.traced = omega (arith, last.last) in
-          nearer (n - 1) (omega (arith, less)) (record {
-            here = record { within = omega (arith, last.behind, last.last, length-remove s.traced place within); same = subst (SameFiles p) (sym (get_or-remove_below s.traced place nobody k last.behind within)) here.same };
-            stays = stays;
-            soon = refl;
-          })
+          let there : Stands p (without_traced s place) k = record { within = omega (arith, last.behind, last.last, length-remove s.traced place within); same = subst (SameFiles p) (sym (get_or-remove_below s.traced place nobody k last.behind within)) here.same } in
+          staged (without_traced s place) (Running k) there stays (omega (arith, less, left)) refl
       closed-near at left (Some t) less =
           let there = parent-stands place t last in
           let same : at_place (slice_set s.traced place t) place ≡ t = set-at s.traced place t (omega (arith, last.last)) in
