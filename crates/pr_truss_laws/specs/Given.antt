@@ -125,9 +125,9 @@ pub record BrokenOff (o : Options) (pid : ℕ) (due : Option Call) (reports : Li
   pub closes : All IsClose closings
   pub reported : reports ≡ CannotTrace pid errno ∷ []
 
--- Each of these processes, in this order, was attached or its refusal reported, unless an interrupt came before; or truss
--- is at work on one of them still, and this call of it is due. Where it has finished no call is due, so it is at work on
--- none.
+-- Each of these processes, in this order, was attached or its refusal reported, unless an interrupt came before; or
+-- truss is at work on one of them still, and this call of it is due. Where it has finished no call is due, so it is at
+-- work on none.
 abbrev pub AreHandled : Options → Option Call → List ℕ → Later
 AreHandled o due [] reports xs = Unit {0}
 AreHandled o due (pid ∷ pids) reports xs =

@@ -7,8 +7,8 @@ ghost use Rattle.pr_truss_laws.specs.Given.{IsHandled, IsHandledSoFar};
 
 /// Truss has attached each process that it was given, in their order, or has reported its refusal, unless it was
 /// interrupted before that opening was done; or it is at work on one still, and has begun none behind it. Then no call
-/// of that opening was refused so far, or truss closes what it opened. A truss that has finished is at work on none. This
-/// is so whatever it was replied.
+/// of that opening was refused so far, or truss closes what it opened. A truss that has finished is at work on none.
+/// This is so whatever it was replied.
 #[tactic(auto, using(crate::proofs::GivenLemmas::given))]
 pub fn each_given_process_is_handled()
     ensures so_far { (o : Options) (xs : List Exchange) → Makes (first_truss o) xs
