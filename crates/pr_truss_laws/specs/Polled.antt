@@ -32,6 +32,6 @@ pub record IsNoEndOf (t : Traced) (x : Exchange) : Type 0 where
 
 -- How many calls come at most before such an end: the reads of its status and of its memory, the six of the opening of
 -- a child, and the closes of the child's four files. Where truss leaves its processes meanwhile, each that it opened
--- before this one costs ten at most: two that look at it, a read of memory, three that set a child free, and four closes.
+-- before this one costs ten at most: two that look at it, a read of memory, three that set a child free, four closes.
 abbrev pub calls_meanwhile : Bool → ℕ → ℕ
 calls_meanwhile leaving place = 12 + (if leaving then 10 * place else 0)
