@@ -76,7 +76,14 @@ fn keep(bytes: &mut Vec<u8>, more: &[u8]) -> Result<(), NoMemory>
 }
 
 /// The bytes that one read asks for.
-const PIECE: usize = 4096;
+const PIECE: usize = 65_536;
+
+// What one read is to fill. It lies on the heap, so that a call does not have to make room for it on its stack.
+fn new_piece(alloc: Global) -> Result<Vec<u8>, NoMemory>
+    ensures { IfOk result (λ piece. 0 < length piece.items) }
+{
+    Ok(vec![in alloc; 0; PIECE]?)
+}
 
 /// Reads all bytes up to the end, of which at most `limit` are allowed, in at most
 /// `limit + 1` reads. An error loses the bytes that came before it.
@@ -105,9 +112,10 @@ pub fn read_all<S: Source>(alloc: Global, source: &mut S, limit: usize) -> Resul
     ensures counted { S.reads source.new ≤ S.reads source.old + (limit + 1) }
 {
     let mut bytes = Vec::new(alloc);
-    let mut piece = [0; PIECE];
+    let mut room = new_piece(alloc)?;
+    let piece = room.as_mut_slice();
     while bytes.len() <= limit {
-        let n = source.read(&mut piece)?;
+        let n = source.read(piece)?;
         if n == 0 {
             return Ok(Bytes::from_vec(bytes));
         }
