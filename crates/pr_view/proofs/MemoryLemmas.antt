@@ -23,7 +23,7 @@ before-found : (space : Space) (a n byte : ℕ) → byte_for 0 space a ≡ Ok by
 unfolding mapped_from
 before-found space a n byte found = rw found refl
 
--- and are none where it is not mapped
+-- and are none where that is not mapped
 before-missing : (space : Space) (a n : ℕ) (fault : BadByte) → byte_for 0 space a ≡ Err fault → mapped_from space a (suc n) ≡ []
 unfolding mapped_from
 before-missing space a n fault missing = rw missing refl
@@ -49,7 +49,7 @@ mapped-none space a (suc n) fails = of (byte_for 0 space a) refl
     of (Ok byte) is = let ok : is_ok (bytes_for 0 space a 1) ≡ is_ok (one_more (Ok byte) (Ok [])) = rw is refl in absurd (cc)
     of (Err fault) is = sym (before-missing space a n fault is)
 
--- where so many can be accessed it is these
+-- where an access to so many is granted, its bytes are the ones that are mapped
 mapped-whole : (space : Space) (a n : ℕ) (bytes : List ℕ) → bytes_for 0 space a n ≡ Ok bytes → bytes ≡ mapped_from space a n
 unfolding bytes_for mapped_from
 mapped-whole space a zero bytes e = cc
@@ -114,7 +114,7 @@ mapped-before space a n count fault low many few e there = of (bytes_for 0 space
 
 -- ---- a buffer that is read into
 
--- all of a buffer that was written over
+-- a buffer that was written over whole has what was written
 written-over : (size : ℕ) (new items : List ℕ) → size ≡ length new → take size (new ++ drop (length new) items) ≡ new
 written-over size new items whole = ap (λ (n : ℕ). take n (new ++ drop (length new) items)) whole ∙ take-append_seam new (drop (length new) items)
 
@@ -123,6 +123,7 @@ pub read-whole : (space : Space) (a n size : ℕ) (old new items : List ℕ) →
 read-whole space a n size old new items asked whole e =
     written-over size new items whole ∙ mapped-whole space a (length old) new e ∙ ap (mapped_from space a) asked
 
+-- a second read, of bytes that can be accessed, gives them
 read-granted : (x : Result (List ℕ) BadByte) (mapped new : List ℕ) (r : Result (Unit {0}) MemFault) → x ≡ Ok mapped → r ≡ access_answer x → OnOk r (x ≡ Ok new) → new ≡ mapped
 read-granted x mapped new (Ok t) is answer ok = cc
 read-granted x mapped new (Err f) is answer ok = let done : access_answer x ≡ Ok tt = ap access_answer is in absurd (cc)
