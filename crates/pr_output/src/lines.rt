@@ -55,8 +55,8 @@ fn fill_block(block: &mut Vec<u8>, history: &History, from: usize) -> Result<usi
 
 /// Puts the lines of all entries, a block at a time. `block` is a buffer.
 ///
-/// How large a block is, `fill_block` says. Nothing says how many writes are made: of a sink its bytes and its faults are
-/// known.
+/// How large a block is, `fill_block` says. Nothing says how many writes are made: of a sink its bytes and its faults
+/// are known.
 pub(crate) fn put_entries<K: Sink>(
     block: &mut Vec<u8>,
     sink: &mut K,
