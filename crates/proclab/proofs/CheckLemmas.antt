@@ -53,7 +53,7 @@ leaves-nothing old new status h r = by (status_cases status)
   where
     by : IsWhole status ⊎ ((status ≡ ReadFailed) ⊎ ((status ≡ WriteFailed) ⊎ (status ≡ OutOfMemory))) → h ≡ []
     by (inl s) = let a = r.answered s in a.gives.given.history_is ∙ (ap (λ (x : Answer). x.history) a.gives.may ∙ check-nothing a.input)
-    by (inr (inl s)) = (r.unread s).no_history
+    by (inr (inl s)) = (r.not_read s).no_history
     by (inr (inr (inl s))) = let c = r.cut s in c.cut.history_is ∙ (ap (λ (x : Answer). x.history) c.may ∙ check-nothing c.input)
     by (inr (inr (inr s))) = of_memory (r.memory s)
       where

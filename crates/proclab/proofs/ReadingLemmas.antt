@@ -51,7 +51,7 @@ pub reads-answered : (limit : ℕ) (May : Option (List ℕ) → Answer → Type 
 reads-answered limit May making old new status h input answer took same may r = record {
   answered = λ w. record { input = input; took = took; gives = record { answer = answer; may = may; given = r.whole w.wrote w.had_memory } };
   answers = λ w. answers-input limit May old.left new.left input status h old.written new.written took (record { answer = answer; may = may; given = r.whole w.wrote w.had_memory });
-  unread = λ s. absurd (r.read s);
+  not_read = λ s. absurd (r.read s);
   read_failed = λ s. absurd (r.read s);
   cut = λ s. record { input = input; took = took; answer = answer; may = may; cut = r.cut s };
   write_failed = r.rose;
@@ -68,7 +68,7 @@ reads-early limit May making old new status h input took same stops =
     record {
       answered = λ w. absurd (w.had_memory is);
       answers = λ w. absurd (w.had_memory is);
-      unread = λ s. let no : ⊥ = cc in absurd no;
+      not_read = λ s. let no : ⊥ = cc in absurd no;
       read_failed = λ s. let no : ⊥ = cc in absurd no;
       cut = λ s. let no : ⊥ = cc in absurd no;
       write_failed = λ s. let no : ⊥ = cc in absurd no;
@@ -91,7 +91,7 @@ reads-nothing limit May making old new status h unread.Failed failed memory rose
     record {
       answered = λ w. absurd (w.read is);
       answers = λ w. absurd (w.read is);
-      unread = λ s. record { no_history = none; unwritten = unwritten };
+      not_read = λ s. record { no_history = none; unwritten = unwritten };
       read_failed = λ s. rose refl;
       cut = λ s. let no : ⊥ = cc in absurd no;
       write_failed = λ s. let no : ⊥ = cc in absurd no;
@@ -104,7 +104,7 @@ reads-nothing limit May making old new status h unread.NoMemory failed memory ro
     record {
       answered = λ w. absurd (w.had_memory is);
       answers = λ w. absurd (w.had_memory is);
-      unread = λ s. let no : ⊥ = cc in absurd no;
+      not_read = λ s. let no : ⊥ = cc in absurd no;
       read_failed = λ s. let no : ⊥ = cc in absurd no;
       cut = λ s. let no : ⊥ = cc in absurd no;
       write_failed = λ s. let no : ⊥ = cc in absurd no;

@@ -78,7 +78,7 @@ history-kept showing old new status h r = by (status_cases status)
   where
     by : IsWhole status ⊎ ((status ≡ ReadFailed) ⊎ ((status ≡ WriteFailed) ⊎ (status ≡ OutOfMemory))) → HistoryIsKept in_rounds old.left new.left h
     by (inl s) = let a = r.answered s in of_answer showing old.left new.left a.input h a.took (a.gives.given.history_is ∙ ap history_of a.gives.may)
-    by (inr (inl s)) = inl (r.unread s).no_history
+    by (inr (inl s)) = inl (r.not_read s).no_history
     by (inr (inr (inl s))) = let c = r.cut s in of_answer showing old.left new.left c.input h c.took (c.cut.history_is ∙ ap history_of c.may)
     by (inr (inr (inr s))) = of_memory showing old new h (r.memory s)
 

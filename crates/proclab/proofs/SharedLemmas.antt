@@ -140,7 +140,7 @@ shared-kept showing old new status h r = by (status_cases status)
   where
     by : IsWhole status ⊎ ((status ≡ ReadFailed) ⊎ ((status ≡ WriteFailed) ⊎ (status ≡ OutOfMemory))) → HistoryIsKept by_threads old.left new.left h
     by (inl s) = let a = r.answered s in of_answer showing old.left new.left a.input a.gives.answer h a.took a.gives.may a.gives.given.history_is
-    by (inr (inl s)) = inl (r.unread s).no_history
+    by (inr (inl s)) = inl (r.not_read s).no_history
     by (inr (inr (inl s))) = let c = r.cut s in of_answer showing old.left new.left c.input c.answer h c.took c.may c.cut.history_is
     by (inr (inr (inr s))) = of_memory showing old new h (r.memory s)
 

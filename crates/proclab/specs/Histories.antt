@@ -62,7 +62,7 @@ pub record RanOutEarly (making : Making) (input : Option (List ℕ)) (history : 
 
 -- What the history of a call is where there is one: that of the run of the scenario that was read, after so many moves.
 -- It is kept: it is legal and follows the protocol, where it is passive, tracing is transparent in it, each truss has
--- shown the selected events, and each tool other than pstack shows one state.
+-- shown the selected events, and what each tool shows stands so in one state.
 pub record IsHistoryOfRun (left_old left_new : Option (List ℕ)) (history : List Entry) : Type 0 where
   pub input : List ℕ
   pub took : TookAll scenario_limit left_old left_new input

@@ -122,7 +122,7 @@ pub record RanOutAfter (limit : ℕ) (May : Option (List ℕ) → Answer → Typ
 pub record Reads (limit : ℕ) (May : Option (List ℕ) → Answer → Type 0) (making : Making) (old new : Ends) (status : Status) (history : List Entry) : Type 0 where
   pub answered : IsWhole status → Answered limit May old new status history
   pub answers : IsWhole status → IfSome old.left (λ left. GivesOne (May (taken_of limit left)) status history old.written new.written)
-  pub unread : status ≡ ReadFailed → LeftNothing old new history
+  pub not_read : status ≡ ReadFailed → LeftNothing old new history
   pub read_failed : status ≡ ReadFailed → Rose old.read_faults new.read_faults
   pub cut : status ≡ WriteFailed → CutShort limit May old new history
   pub write_failed : status ≡ WriteFailed → Rose old.write_faults new.write_faults

@@ -70,7 +70,7 @@ fn say<K: Sink>(
 
 /// Says whether a history of so many entries is legal, or which entry is the first that is not.
 #[tactic(auto, unfolding(crate::specs::Answers::judged))]
-fn report<K: Sink>(alloc: Global, entries: usize, first: Option<usize>, sink: &mut K) -> Ending
+fn say_judgement<K: Sink>(alloc: Global, entries: usize, first: Option<usize>, sink: &mut K) -> Ending
     ensures { Responds (judged entries first) ⊥ result.status result.history.entries
         (K.written sink.old) (K.written sink.new) (K.faults sink.old) (K.faults sink.new) }
 {
@@ -98,7 +98,7 @@ fn judge<K: Sink>(alloc: Global, checked: Checked, sink: &mut K) -> Ending
 {
     let Checked { scenario, history } = checked;
     match first_illegal(alloc, scenario, &history) {
-        Ok(first) => report(alloc, history.len(), first, sink),
+        Ok(first) => say_judgement(alloc, history.len(), first, sink),
         Err(error) => out_of_memory(error, History::new(alloc)),
     }
 }

@@ -89,7 +89,7 @@ fn show_run<K: Sink>(
 }
 
 /// Shows a run that ended so.
-pub fn report<K: Sink>(
+pub fn show_ran<K: Sink>(
     alloc: Global,
     showing: Showing,
     ran: Ran,
@@ -119,7 +119,7 @@ fn show_made<K: Sink>(alloc: Global, showing: Showing, made: Made, sink: &mut K)
 {
     let Made { ran, history } = made;
     match ran {
-        Ok(ran) => report(alloc, showing, ran, history, sink),
+        Ok(ran) => show_ran(alloc, showing, ran, history, sink),
         Err(error) => out_of_memory(error, history),
     }
 }

@@ -12,7 +12,7 @@ ghost use Rattle.proclab.specs.Made.{LeftWith, StoppedThreads, kern_view};
 use crate::commands::Showing;
 use crate::outcomes::{Ending, Status, out_of_memory, without_history};
 use crate::reports::reports_of;
-use crate::responses::{TOO_LONG, refuse_at, refuse_input, report};
+use crate::responses::{TOO_LONG, refuse_at, refuse_input, show_ran};
 use crate::runs::{Ran, first_world};
 use pr_io::{Gate, Sink};
 use pr_kern::Kern;
@@ -43,7 +43,7 @@ fn show_world<K: Sink>(
     let reports = reports_of(alloc, &world);
     let history = world.into_kernel().into_history();
     match reports {
-        Ok(reports) => report(alloc, showing, Ran { end, reports }, history, sink),
+        Ok(reports) => show_ran(alloc, showing, Ran { end, reports }, history, sink),
         Err(error) => out_of_memory(error, history),
     }
 }

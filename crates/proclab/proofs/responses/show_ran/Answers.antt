@@ -5,7 +5,7 @@ use Rattle.proclab.specs.Giving.{status_after}
 use Rattle.proclab.specs.Statuses.{number}
 use Rattle.proclab.specs.declared.outcomes.Status.{Status}
 use Rattle.proclab.proofs.GivingLemmas.{gives, puts-same, whole-end}
-use Rattle.proclab.proofs.responses.report.Goals as goal
+use Rattle.proclab.proofs.responses.show_ran.Goals as goal
 
 pub returns : goal.returns
 unfolding ran_so
