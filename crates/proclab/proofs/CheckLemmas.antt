@@ -14,7 +14,7 @@ use Rattle.proclab.specs.Checks.{checked_of}
 use Rattle.proclab.specs.Giving.{IsGiven}
 use Rattle.proclab.specs.Histories.{RanOutEarly, no_run}
 use Rattle.proclab.specs.Inputs.{taken_of}
-use Rattle.proclab.specs.Rows.{Ends, GivesOne, IsJudged, IsThe, LeftNothing, OneRanOut, RanOutAfter, Reads}
+use Rattle.proclab.specs.Rows.{Ends, GivesOne, IsJudged, IsThe, OneRanOut, RanOutAfter, RanOutReading, Reads}
 use Rattle.proclab.specs.Statuses.{IsWhole}
 use Rattle.proclab.specs.declared.checks.Wrong.{Wrong}
 use Rattle.proclab.specs.declared.checks.Wrong.TheVariants as wrong
@@ -57,8 +57,8 @@ leaves-nothing old new status h r = by (status_cases status)
     by (inr (inr (inl s))) = let c = r.cut s in c.cut.history_is ∙ (ap (λ (x : Answer). x.history) c.may ∙ check-nothing c.input)
     by (inr (inr (inr s))) = of_memory (r.memory s)
       where
-        of_memory : LeftNothing old new h ⊎ RanOutAfter checked_limit (IsThe check_of) no_run old new h → h ≡ []
-        of_memory (inl nothing) = nothing.no_history
+        of_memory : RanOutReading old new h ⊎ RanOutAfter checked_limit (IsThe check_of) no_run old new h → h ≡ []
+        of_memory (inl early) = early.nothing.no_history
         of_memory (inr after) =
             ⊎_elim
             (λ (early : RanOutEarly no_run after.input h old.written new.written). early.left)

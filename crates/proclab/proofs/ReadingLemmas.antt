@@ -4,6 +4,7 @@ use Rattle.std.proofs.lemmas.Bool.Decides.{nat_tests}
 use Rattle.std.proofs.lemmas.Option.{same_Some}
 use Rattle.pr_io.specs.Faults.{Rose}
 use Rattle.pr_io.specs.Known.{with_front}
+use Rattle.pr_io.specs.Reading.{Came, CameWithin}
 use Rattle.pr_model.specs.declared.events.Entry.{Entry}
 use Rattle.proclab.specs.Answers.{Answer}
 use Rattle.proclab.specs.Giving.{Responds, RespondsOne, StopsEarly}
@@ -52,6 +53,7 @@ reads-answered limit May making old new status h input answer took same may r = 
   answered = λ w. record { input = input; took = took; gives = record { answer = answer; may = may; given = r.whole w.wrote w.had_memory } };
   answers = λ w. answers-input limit May old.left new.left input status h old.written new.written took (record { answer = answer; may = may; given = r.whole w.wrote w.had_memory });
   not_read = λ s. absurd (r.read s);
+  read_within = λ s. absurd (r.read s);
   read_failed = λ s. absurd (r.read s);
   cut = λ s. record { input = input; took = took; answer = answer; may = may; cut = r.cut s };
   write_failed = r.rose;
@@ -69,6 +71,7 @@ reads-early limit May making old new status h input took same stops =
       answered = λ w. absurd (w.had_memory is);
       answers = λ w. absurd (w.had_memory is);
       not_read = λ s. let no : ⊥ = cc in absurd no;
+      read_within = λ s. let no : ⊥ = cc in absurd no;
       read_failed = λ s. let no : ⊥ = cc in absurd no;
       cut = λ s. let no : ⊥ = cc in absurd no;
       write_failed = λ s. let no : ⊥ = cc in absurd no;
@@ -85,13 +88,14 @@ reads-one limit May making old new status h input took same (inr early) = reads-
 
 -- The input was not read.
 pub reads-nothing : (limit : ℕ) (May : Option (List ℕ) → Answer → Type 0) (making : Making) (old new : Ends) (status : Status) (h : List Entry) (why : Unread) → (why ≡ unread.Failed → status ≡ ReadFailed) → (why ≡ unread.NoMemory → status ≡ OutOfMemory)
-    → (why ≡ unread.Failed → Rose old.read_faults new.read_faults) → (why ≢ unread.Failed → new.read_faults ≡ old.read_faults) → h ≡ [] → new.written ≡ old.written → new.write_faults ≡ old.write_faults → Reads limit May making old new status h
-reads-nothing limit May making old new status h unread.Failed failed memory rose same none unwritten calm =
+    → (why ≡ unread.Failed → Rose old.read_faults new.read_faults) → (why ≢ unread.Failed → new.read_faults ≡ old.read_faults) → (why ≡ unread.Failed → CameWithin limit old.left new.left) → (why ≡ unread.NoMemory → Came old.left new.left) → h ≡ [] → new.written ≡ old.written → new.write_faults ≡ old.write_faults → Reads limit May making old new status h
+reads-nothing limit May making old new status h unread.Failed failed memory rose same within came none unwritten calm =
     let is : status ≡ ReadFailed = failed refl in
     record {
       answered = λ w. absurd (w.read is);
       answers = λ w. absurd (w.read is);
       not_read = λ s. record { no_history = none; unwritten = unwritten };
+      read_within = λ s. within refl;
       read_failed = λ s. rose refl;
       cut = λ s. let no : ⊥ = cc in absurd no;
       write_failed = λ s. let no : ⊥ = cc in absurd no;
@@ -99,16 +103,17 @@ reads-nothing limit May making old new status h unread.Failed failed memory rose
       no_read_fault = λ s. absurd (s is);
       no_write_fault = λ s. calm;
     }
-reads-nothing limit May making old new status h unread.NoMemory failed memory rose same none unwritten calm =
+reads-nothing limit May making old new status h unread.NoMemory failed memory rose same within came none unwritten calm =
     let is : status ≡ OutOfMemory = memory refl in
     record {
       answered = λ w. absurd (w.had_memory is);
       answers = λ w. absurd (w.had_memory is);
       not_read = λ s. let no : ⊥ = cc in absurd no;
+      read_within = λ s. let no : ⊥ = cc in absurd no;
       read_failed = λ s. let no : ⊥ = cc in absurd no;
       cut = λ s. let no : ⊥ = cc in absurd no;
       write_failed = λ s. let no : ⊥ = cc in absurd no;
-      memory = λ s. inl (record { no_history = none; unwritten = unwritten });
+      memory = λ s. inl (record { nothing = record { no_history = none; unwritten = unwritten }; came = came refl });
       no_read_fault = λ s. same (λ e. cc);
       no_write_fault = λ s. calm;
     }

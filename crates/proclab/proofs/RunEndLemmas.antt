@@ -19,7 +19,7 @@ use Rattle.proclab.specs.Answers.{Answer, answer_of, answer_to, end_status, ran,
 use Rattle.proclab.specs.Ends.{EndsAs}
 use Rattle.proclab.specs.Histories.{HistoryIsKept, IsAfterMoves, RanOutEarly, in_rounds}
 use Rattle.proclab.specs.Inputs.{Took, TookAll, taken_of}
-use Rattle.proclab.specs.Rows.{Ends, GivesOne, IsThe, LeftNothing, OneRanOut, RanOutAfter, Reads}
+use Rattle.proclab.specs.Rows.{Ends, GivesOne, IsThe, OneRanOut, RanOutAfter, RanOutReading, Reads}
 use Rattle.proclab.specs.Statuses.{IsWhole}
 use Rattle.proclab.specs.declared.commands.Showing.{Showing}
 use Rattle.proclab.specs.declared.outcomes.Status.{Status}
@@ -52,8 +52,8 @@ of_early : (old new : Option (List ℕ)) (input : Option (List ℕ)) (h : List E
 of_early old new None h w v took early = inl early.left
 of_early old new (Some input) h w v took early = of_way old new input h took early.left
 
-of_memory : (showing : Showing) (old new : Ends) (h : List Entry) → LeftNothing old new h ⊎ RanOutAfter scenario_limit (IsThe (answer_to showing)) in_rounds old new h → HistoryIsKept in_rounds old.left new.left h
-of_memory showing old new h (inl nothing) = inl nothing.no_history
+of_memory : (showing : Showing) (old new : Ends) (h : List Entry) → RanOutReading old new h ⊎ RanOutAfter scenario_limit (IsThe (answer_to showing)) in_rounds old new h → HistoryIsKept in_rounds old.left new.left h
+of_memory showing old new h (inl early) = inl early.nothing.no_history
 of_memory showing old new h (inr after) =
     ⊎_elim
     (λ (early : RanOutEarly in_rounds after.input h old.written new.written). of_early old.left new.left after.input h old.written new.written after.took early)

@@ -25,7 +25,7 @@ use Rattle.proclab.specs.Giving.{Responds, RespondsOne, StopsEarly}
 use Rattle.proclab.specs.Histories.{HistoryIsKept, IsLedTo, IsMadeByThreads, IsMadeSoFar, RanOutEarly, by_threads}
 use Rattle.proclab.specs.Inputs.{Took, TookAll, taken_of}
 use Rattle.proclab.specs.Made.{LeftWith, StoppedThreads}
-use Rattle.proclab.specs.Rows.{Ends, EndsRun, GivesOne, LeftNothing, OneRanOut, RanOutAfter, Reads}
+use Rattle.proclab.specs.Rows.{Ends, EndsRun, GivesOne, OneRanOut, RanOutAfter, RanOutReading, Reads}
 use Rattle.proclab.specs.Statuses.{IsWhole}
 use Rattle.proclab.specs.declared.commands.Showing.{Showing}
 use Rattle.proclab.specs.declared.outcomes.Status.{Status}
@@ -126,8 +126,8 @@ module _ (showing : Showing) where
   of_so_far old new (Some input) h took (inl none) = inl none
   of_so_far old new (Some input) h took (inr made) = of_led old new input h took made
 
-  of_memory : (old new : Ends) (h : List Entry) → LeftNothing old new h ⊎ RanOutAfter scenario_limit (MayAnswer showing) by_threads old new h → HistoryIsKept by_threads old.left new.left h
-  of_memory old new h (inl nothing) = inl nothing.no_history
+  of_memory : (old new : Ends) (h : List Entry) → RanOutReading old new h ⊎ RanOutAfter scenario_limit (MayAnswer showing) by_threads old new h → HistoryIsKept by_threads old.left new.left h
+  of_memory old new h (inl early) = inl early.nothing.no_history
   of_memory old new h (inr after) =
       ⊎_elim
       (λ (early : RanOutEarly by_threads after.input h old.written new.written). of_so_far old.left new.left after.input h after.took early.left)

@@ -1,5 +1,6 @@
 use Rattle.std.specs.Prelude.{◌≡◌, ◌≢◌, ◌⊎◌, ℕ, Bool, true, false, List, [], Option, IfSome, IfOk, length}
 use Rattle.pr_io.specs.Faults.{Rose}
+use Rattle.pr_io.specs.Reading.{Came, CameWithin}
 use Rattle.pr_judge.specs.Judgements.{Judges}
 use Rattle.pr_model.specs.declared.events.Entry.{Entry}
 use Rattle.pr_num.specs.Limits.{checked_limit, scenario_limit}
@@ -102,6 +103,11 @@ pub record LeftNothing (old new : Ends) (history : List Entry) : Type 0 where
   pub no_history : history ≡ []
   pub unwritten : new.written ≡ old.written
 
+-- Where memory ran out in the reading: some bytes came, and the others are left.
+pub record RanOutReading (old new : Ends) (history : List Entry) : Type 0 where
+  pub nothing : LeftNothing old new history
+  pub came : Came old.left new.left
+
 -- Memory ran out while the text of one of the answers that may come was written.
 pub record OneRanOut (May : Answer → Type 0) (history : List Entry) (old new : Option (List ℕ)) : Type 0 where
   pub answer : Answer
@@ -115,18 +121,19 @@ pub record RanOutAfter (limit : ℕ) (May : Option (List ℕ) → Answer → Typ
   pub ran_out : RanOutEarly making input history old.written new.written ⊎ OneRanOut (May input) history old.written new.written
 
 -- How it ends, where these are the answers that may come to an input. Where nothing failed, one to what was read was
--- given; and where the bytes that were left are known, one to them. A read failed: nothing was written, and there is no
--- history. A write failed: the history is that of an answer, and a prefix of its text was written. Memory ran out in
--- the reading, or after it. Only a read that failed raises the count of the source, and only a write that failed that of
--- the sink.
+-- given; and where the bytes that were left are known, one to them. A read failed: no more bytes than the limit came, and
+-- the others are left; nothing was written, and there is no history. A write failed: the history is that of an answer, and
+-- a prefix of its text was written. Memory ran out in the reading, or after it. Only a read that failed raises the count
+-- of the source, and only a write that failed that of the sink.
 pub record Reads (limit : ℕ) (May : Option (List ℕ) → Answer → Type 0) (making : Making) (old new : Ends) (status : Status) (history : List Entry) : Type 0 where
   pub answered : IsWhole status → Answered limit May old new status history
   pub answers : IsWhole status → IfSome old.left (λ left. GivesOne (May (taken_of limit left)) status history old.written new.written)
   pub not_read : status ≡ ReadFailed → LeftNothing old new history
+  pub read_within : status ≡ ReadFailed → CameWithin limit old.left new.left
   pub read_failed : status ≡ ReadFailed → Rose old.read_faults new.read_faults
   pub cut : status ≡ WriteFailed → CutShort limit May old new history
   pub write_failed : status ≡ WriteFailed → Rose old.write_faults new.write_faults
-  pub memory : status ≡ OutOfMemory → LeftNothing old new history ⊎ RanOutAfter limit May making old new history
+  pub memory : status ≡ OutOfMemory → RanOutReading old new history ⊎ RanOutAfter limit May making old new history
   pub no_read_fault : status ≢ ReadFailed → new.read_faults ≡ old.read_faults
   pub no_write_fault : status ≢ WriteFailed → new.write_faults ≡ old.write_faults
 

@@ -1,6 +1,7 @@
 //! The reading of an input.
 ghost use Rattle.std.specs.Prelude.{◌≡◌, ◌≢◌, ◌≤◌, length, IfOk, IfSome, Err};
 ghost use Rattle.pr_io.specs.Faults.{Rose};
+ghost use Rattle.pr_io.specs.Reading.{Came, CameWithin};
 ghost use Rattle.proclab.specs.Inputs.{Took};
 
 use pr_io::{ReadEnd, Source, read_all};
@@ -24,6 +25,8 @@ pub fn take_input<S: Source>(
     ensures took { IfOk result (λ input. Took limit (S.left source.old) (S.left source.new) input) }
     ensures small { IfOk result (λ input. IfSome input (λ bytes. length bytes ≤ limit)) }
     ensures failed { result ≡ Err Unread.Failed → Rose (S.faults source.old) (S.faults source.new) }
+    ensures failed_within { result ≡ Err Unread.Failed → CameWithin limit (S.left source.old) (S.left source.new) }
+    ensures out_of_memory { result ≡ Err Unread.NoMemory → Came (S.left source.old) (S.left source.new) }
     ensures no_fault { result ≢ Err Unread.Failed → S.faults source.new ≡ S.faults source.old }
 {
     match read_all(alloc, source, limit) {
