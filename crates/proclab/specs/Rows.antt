@@ -5,14 +5,13 @@ use Rattle.pr_judge.specs.Judgements.{Judges}
 use Rattle.pr_model.specs.declared.events.Entry.{Entry}
 use Rattle.pr_num.specs.Limits.{checked_limit, scenario_limit}
 use Rattle.pr_run_laws.specs.ScenarioRuns.{first_state_of, run_of}
-use Rattle.pr_scen.specs.Reading.{scenario_of}
 use Rattle.pr_scen.specs.Scenarios.{Scenario}
 use Rattle.proclab.specs.Answers.{Answer, MayAnswer, answer_to, check_of, explained, generated, judged}
-use Rattle.proclab.specs.Checks.{checked_of}
+use Rattle.proclab.specs.Checks.{checked_of_input}
 use Rattle.proclab.specs.Ends.{EndsAs}
 use Rattle.proclab.specs.Giving.{IsGiven, IsCutShort, RanOutLate, Responds}
 use Rattle.proclab.specs.Histories.{IsLedTo, Making, RanOutEarly, by_threads, in_rounds, no_run}
-use Rattle.proclab.specs.Inputs.{Took, taken_of}
+use Rattle.proclab.specs.Inputs.{Took, scenario_of_input, taken_of}
 use Rattle.proclab.specs.Statuses.{IsWhole, number}
 use Rattle.proclab.specs.declared.commands.Showing.{Showing}
 use Rattle.proclab.specs.declared.commands.Work.{Work}
@@ -159,9 +158,9 @@ RunsScenario Explains left status history = Unit {0}
 RunsScenario (Generates children) left status history = Unit {0}
 RunsScenario Checks left status history = Unit {0}
 RunsScenario (Runs showing) left status history =
-    IfSome left (λ input. IfSome (taken_of scenario_limit input) (λ text. IfOk (scenario_of text) (λ scenario. IsWhole status → EndsAs scenario.turns (run_of scenario) status)))
+    IfSome left (λ input. IfOk (scenario_of_input (taken_of scenario_limit input)) (λ scenario. IsWhole status → EndsAs scenario.turns (run_of scenario) status))
 RunsScenario (Shares showing workers) left status history =
-    IfSome left (λ input. IfSome (taken_of scenario_limit input) (λ text. IfOk (scenario_of text) (λ scenario. IsWhole status → EndsRun scenario status history)))
+    IfSome left (λ input. IfOk (scenario_of_input (taken_of scenario_limit input)) (λ scenario. IsWhole status → EndsRun scenario status history))
 
 -- The judgement of a history was given: it is legal from the first state of the scenario, with its controllers, or this
 -- entry is the first that is not.
@@ -177,7 +176,7 @@ JudgesHistory (Generates children) old new status history = Unit {0}
 JudgesHistory (Runs showing) old new status history = Unit {0}
 JudgesHistory (Shares showing workers) old new status history = Unit {0}
 JudgesHistory Checks old new status history =
-    IfSome old.left (λ input. IfSome (taken_of checked_limit input) (λ text. IfOk (checked_of text) (λ read. IsWhole status → IsJudged read.0 read.1 old new status history)))
+    IfSome old.left (λ input. IfOk (checked_of_input (taken_of checked_limit input)) (λ read. IsWhole status → IsJudged read.0 read.1 old new status history))
 
 -- How a call ends that does this work, by the number with which the process ends.
 pub record EndsWith (work : Work) (old new : Ends) (code : ℕ) (history : List Entry) : Type 0 where

@@ -39,7 +39,7 @@ fn run<S: Source, K: Sink>(alloc: Global, showing: Showing, source: &mut S, sink
         result.status result.history.entries }
 {
     match take_input(alloc, source, SCENARIO_LIMIT) {
-        Ok(input) => respond(alloc, showing, &input, sink),
+        Ok(input) => respond(alloc, showing, input, sink),
         Err(unread) => without_history(alloc, status_of(unread)),
     }
 }
@@ -63,7 +63,7 @@ fn run_on_threads<R: Threads + Wait + Sync, S: Source, K: Sink, G: Gate + Sync>(
         result.status result.history.entries }
 {
     match take_input(alloc, source, SCENARIO_LIMIT) {
-        Ok(input) => share(rt, alloc, showing, workers, &input, sink, gate),
+        Ok(input) => share(rt, alloc, showing, workers, input, sink, gate),
         Err(unread) => without_history(alloc, status_of(unread)),
     }
 }
@@ -76,7 +76,7 @@ fn check<S: Source, K: Sink>(alloc: Global, source: &mut S, sink: &mut K) -> End
         result.status result.history.entries }
 {
     match take_input(alloc, source, CHECKED_LIMIT) {
-        Ok(input) => judge_input(alloc, &input, sink),
+        Ok(input) => judge_input(alloc, input, sink),
         Err(unread) => without_history(alloc, status_of(unread)),
     }
 }
