@@ -62,6 +62,10 @@ pub record Ends : Type 0 where
   pub written : Option (List ℕ)
   pub write_faults : ℕ
 
+-- what a source and a sink tell, by what each of them tells
+abbrev pub ends_of : {S K : Type 0} → (S → Option (List ℕ)) → (S → ℕ) → (K → Option (List ℕ)) → (K → ℕ) → S → K → Ends
+ends_of left read_faults written write_faults source sink = record { left = left source; read_faults = read_faults source; written = written sink; write_faults = write_faults sink }
+
 -- ---- a command that reads nothing
 
 pub record Says (answer : Answer) (old new : Ends) (status : Status) (history : List Entry) : Type 0 where
@@ -151,17 +155,6 @@ pub record EndsRun (s : Scenario) (status : Status) (history : List Entry) : Typ
   pub led : IsLedTo s history
   pub ends : EndsAs s.turns led.world status
 
--- Completeness: an input that is a scenario is run, unless a read or a write failed or memory ran out; and where it was
--- run, the status says how it ended.
-abbrev pub RunsScenario : Work → Option (List ℕ) → Status → List Entry → Type 0
-RunsScenario Explains left status history = Unit {0}
-RunsScenario (Generates children) left status history = Unit {0}
-RunsScenario Checks left status history = Unit {0}
-RunsScenario (Runs showing) left status history =
-    IfSome left (λ input. IfOk (scenario_of_input (taken_of scenario_limit input)) (λ scenario. IsWhole status → EndsAs scenario.turns (run_of scenario) status))
-RunsScenario (Shares showing workers) left status history =
-    IfSome left (λ input. IfOk (scenario_of_input (taken_of scenario_limit input)) (λ scenario. IsWhole status → EndsRun scenario status history))
-
 -- The judgement of a history was given: it is legal from the first state of the scenario, with its controllers, or this
 -- entry is the first that is not.
 pub record IsJudged (s : Scenario) (entries : List Entry) (old new : Ends) (status : Status) (history : List Entry) : Type 0 where
@@ -169,19 +162,20 @@ pub record IsJudged (s : Scenario) (entries : List Entry) (old new : Ends) (stat
   pub judges : Judges (length s.controllers) (first_state_of s) entries first
   pub given : IsGiven (judged (length entries) first) status history old.written new.written
 
--- Exactness: an input that is a scenario and a history is judged, unless a read or a write failed or memory ran out.
-abbrev pub JudgesHistory : Work → Ends → Ends → Status → List Entry → Type 0
-JudgesHistory Explains old new status history = Unit {0}
-JudgesHistory (Generates children) old new status history = Unit {0}
-JudgesHistory (Runs showing) old new status history = Unit {0}
-JudgesHistory (Shares showing workers) old new status history = Unit {0}
-JudgesHistory Checks old new status history =
-    IfSome old.left (λ input. IfOk (checked_of_input (taken_of checked_limit input)) (λ read. IsWhole status → IsJudged read.0 read.1 old new status history))
+-- What is done of an input, unless a read or a write failed or memory ran out: one that is a scenario is run, and the
+-- status says how that ended; one that is a scenario and a history is judged.
+abbrev pub DoesWork : Work → Ends → Ends → Status → List Entry → Type 0
+DoesWork (Runs showing) old new status history =
+    IfSome old.left (λ left. IfOk (scenario_of_input (taken_of scenario_limit left)) (λ scenario. IsWhole status → EndsAs scenario.turns (run_of scenario) status))
+DoesWork (Shares showing workers) old new status history =
+    IfSome old.left (λ left. IfOk (scenario_of_input (taken_of scenario_limit left)) (λ scenario. IsWhole status → EndsRun scenario status history))
+DoesWork Checks old new status history =
+    IfSome old.left (λ left. IfOk (checked_of_input (taken_of checked_limit left)) (λ read. IsWhole status → IsJudged read.0 read.1 old new status history))
+DoesWork _ old new status history = Unit {0}
 
 -- How a call ends that does this work, by the number with which the process ends.
 pub record EndsWith (work : Work) (old new : Ends) (code : ℕ) (history : List Entry) : Type 0 where
   pub status : Status
   pub code_is : code ≡ number status
   pub ends : EndsBy (row_of work) old new status history
-  pub runs_scenario : RunsScenario work old.left status history
-  pub judges_history : JudgesHistory work old new status history
+  pub does_work : DoesWork work old new status history

@@ -1,7 +1,7 @@
 ghost use Rattle.std.specs.Prelude.{◌≡◌, map, string_bytes, true};
 ghost use Rattle.proclab.specs.Commands.{work_of};
 ghost use Rattle.proclab.specs.Histories.{HistoryIsKept};
-ghost use Rattle.proclab.specs.Rows.{Ends, EndsWith, making_of, reads_nothing};
+ghost use Rattle.proclab.specs.Rows.{EndsWith, ends_of, making_of, reads_nothing};
 ghost use Rattle.proclab.specs.Statuses.{number};
 
 use crate::commands::work_of;
@@ -34,8 +34,8 @@ pub fn serve<R: Threads + Wait + Sync, S: Source, K: Sink, G: Gate + Sync>(
     // What was read and written, the status and the history are those of the row of the command. An input that is a
     // scenario is run, and the status says how that ended; one that is a scenario and a history is judged.
     ensures ends { EndsWith (work_of (map string_bytes words.now))
-        (record { left = S.left source.old; read_faults = S.faults source.old; written = K.written sink.old; write_faults = K.faults sink.old })
-        (record { left = S.left source.new; read_faults = S.faults source.new; written = K.written sink.new; write_faults = K.faults sink.new })
+        (ends_of S.left S.faults K.written K.faults source.old sink.old)
+        (ends_of S.left S.faults K.written K.faults source.new sink.new)
         result.status result.history.entries }
 
     // The usage line and a scenario that is written leave the source alone.
