@@ -85,35 +85,3 @@ pub reads-one : (limit : ℕ) (May : Option (List ℕ) → Answer → Type 0) (m
     → RespondsOne (May input) (RanOutEarly making input h old.written new.written) status h old.written new.written old.write_faults new.write_faults → Reads limit May making old new status h
 reads-one limit May making old new status h input took same (inl one) = reads-answered limit May making old new status h input one.answer took same one.may one.responds
 reads-one limit May making old new status h input took same (inr early) = reads-early limit May making old new status h input took same early
-
--- The input was not read.
-pub reads-nothing : (limit : ℕ) (May : Option (List ℕ) → Answer → Type 0) (making : Making) (old new : Ends) (status : Status) (h : List Entry) (why : Unread) → (why ≡ unread.Failed → status ≡ ReadFailed) → (why ≡ unread.NoMemory → status ≡ OutOfMemory)
-    → (why ≡ unread.Failed → Rose old.read_faults new.read_faults) → (why ≢ unread.Failed → new.read_faults ≡ old.read_faults) → (why ≡ unread.Failed → CameWithin limit old.left new.left) → (why ≡ unread.NoMemory → Came old.left new.left) → h ≡ [] → new.written ≡ old.written → new.write_faults ≡ old.write_faults → Reads limit May making old new status h
-reads-nothing limit May making old new status h unread.Failed failed memory rose same within came none unwritten calm =
-    let is : status ≡ ReadFailed = failed refl in
-    record {
-      answered = λ w. absurd (w.read is);
-      answers = λ w. absurd (w.read is);
-      not_read = λ s. record { no_history = none; unwritten = unwritten };
-      read_within = λ s. within refl;
-      read_failed = λ s. rose refl;
-      cut = λ s. let no : ⊥ = cc in absurd no;
-      write_failed = λ s. let no : ⊥ = cc in absurd no;
-      memory = λ s. let no : ⊥ = cc in absurd no;
-      no_read_fault = λ s. absurd (s is);
-      no_write_fault = λ s. calm;
-    }
-reads-nothing limit May making old new status h unread.NoMemory failed memory rose same within came none unwritten calm =
-    let is : status ≡ OutOfMemory = memory refl in
-    record {
-      answered = λ w. absurd (w.had_memory is);
-      answers = λ w. absurd (w.had_memory is);
-      not_read = λ s. let no : ⊥ = cc in absurd no;
-      read_within = λ s. let no : ⊥ = cc in absurd no;
-      read_failed = λ s. let no : ⊥ = cc in absurd no;
-      cut = λ s. let no : ⊥ = cc in absurd no;
-      write_failed = λ s. let no : ⊥ = cc in absurd no;
-      memory = λ s. inl (record { nothing = record { no_history = none; unwritten = unwritten }; came = came refl });
-      no_read_fault = λ s. same (λ e. cc);
-      no_write_fault = λ s. calm;
-    }

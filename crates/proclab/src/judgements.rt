@@ -8,7 +8,7 @@ ghost use Rattle.proclab.specs.Giving.{Responds};
 ghost use Rattle.proclab.specs.Histories.{RanOutEarly, no_run};
 ghost use Rattle.proclab.specs.Statuses.{IsWhole};
 
-use crate::answers::{status_said, write_pieces};
+use crate::answers::{status_after, write_pieces};
 use crate::checks::{Checked, Unchecked, Wrong, checked_of_input};
 use crate::outcomes::{Ending, Status, out_of_memory, without_history};
 use crate::responses::{refuse_at, refuse_input};
@@ -64,12 +64,17 @@ fn say<K: Sink>(
     let mut buffer = Buffer::new();
     let pieces = [before, buffer.format(number).as_bytes(), behind];
     let written = write_pieces(sink, &pieces);
-    without_history(alloc, status_said(written, status))
+    without_history(alloc, status_after(written, status))
 }
 
 /// Says whether a history of so many entries is legal, or which entry is the first that is not.
 #[tactic(auto, unfolding(crate::specs::Answers::judged))]
-fn say_judgement<K: Sink>(alloc: Global, entries: usize, first: Option<usize>, sink: &mut K) -> Ending
+fn say_judgement<K: Sink>(
+    alloc: Global,
+    entries: usize,
+    first: Option<usize>,
+    sink: &mut K,
+) -> Ending
     ensures { Responds (judged entries first) ⊥ result.status result.history.entries
         (K.written sink.old) (K.written sink.new) (K.faults sink.old) (K.faults sink.new) }
 {

@@ -1,5 +1,5 @@
 //! Commands from a source to a sink.
-ghost use Rattle.std.specs.Prelude.{◌≡◌, ◌≤◌, true};
+ghost use Rattle.std.specs.Prelude.{◌≡◌, ◌≤◌, [], true};
 ghost use Rattle.pr_num.specs.Limits.{checked_limit, scenario_limit, worker_limit};
 ghost use Rattle.proclab.specs.Answers.{MayAnswer, answer_to, check_of};
 ghost use Rattle.proclab.specs.Commands.{HasWorkers};
@@ -19,14 +19,15 @@ use std::alloc::Global;
 use std::sync::Wait;
 use std::thread::Threads;
 
-/// The status of an input that was not read.
-fn status_of(unread: Unread) -> Status
-    ensures failed { unread ≡ Unread.Failed → result ≡ Status.ReadFailed }
-    ensures memory { unread ≡ Unread.NoMemory → result ≡ Status.OutOfMemory }
+/// An end where the input was not read.
+fn without_input(alloc: Global, unread: Unread) -> Ending
+    ensures failed { unread ≡ Unread.Failed → result.status ≡ Status.ReadFailed }
+    ensures memory { unread ≡ Unread.NoMemory → result.status ≡ Status.OutOfMemory }
+    ensures history { result.history.entries ≡ [] }
 {
     match unread {
-        Unread::Failed => Status::ReadFailed,
-        Unread::NoMemory => Status::OutOfMemory,
+        Unread::Failed => without_history(alloc, Status::ReadFailed),
+        Unread::NoMemory => without_history(alloc, Status::OutOfMemory),
     }
 }
 
@@ -40,7 +41,7 @@ fn run<S: Source, K: Sink>(alloc: Global, showing: Showing, source: &mut S, sink
 {
     match take_input(alloc, source, SCENARIO_LIMIT) {
         Ok(input) => respond(alloc, showing, input, sink),
-        Err(unread) => without_history(alloc, status_of(unread)),
+        Err(unread) => without_input(alloc, unread),
     }
 }
 
@@ -64,7 +65,7 @@ fn run_on_threads<R: Threads + Wait + Sync, S: Source, K: Sink, G: Gate + Sync>(
 {
     match take_input(alloc, source, SCENARIO_LIMIT) {
         Ok(input) => share(rt, alloc, showing, workers, input, sink, gate),
-        Err(unread) => without_history(alloc, status_of(unread)),
+        Err(unread) => without_input(alloc, unread),
     }
 }
 
@@ -77,7 +78,7 @@ fn check<S: Source, K: Sink>(alloc: Global, source: &mut S, sink: &mut K) -> End
 {
     match take_input(alloc, source, CHECKED_LIMIT) {
         Ok(input) => judge_input(alloc, input, sink),
-        Err(unread) => without_history(alloc, status_of(unread)),
+        Err(unread) => without_input(alloc, unread),
     }
 }
 
