@@ -1,20 +1,16 @@
 -- How a command that reads an input ends.
-use Rattle.std.proofs.Common.{◌≡◌, ◌≢◌, ◌≤◌, ◌<◌, inl, inr, ⊎_elim, ℕ, Bool, true, false, List, [], ◌++◌, Option, Some, None, length, nat_le, cond, IfSome, refl, sym, ◌∙◌, ap, subst, arith, length-append}
+use Rattle.std.proofs.Common.{◌≡◌, ◌≤◌, ◌<◌, inl, inr, ⊎_elim, ℕ, Bool, true, false, List, ◌++◌, Option, Some, None, length, nat_le, cond, IfSome, sym, ◌∙◌, ap, subst, arith, length-append}
 use Rattle.std.proofs.lemmas.Bool.Decides.{nat_tests}
 use Rattle.std.proofs.lemmas.Option.{same_Some}
-use Rattle.pr_io.specs.Faults.{Rose}
 use Rattle.pr_io.specs.Known.{with_front}
-use Rattle.pr_io.specs.Reading.{Came, CameWithin}
 use Rattle.pr_model.specs.declared.events.Entry.{Entry}
 use Rattle.proclab.specs.Answers.{Answer}
 use Rattle.proclab.specs.Giving.{Responds, RespondsOne, StopsEarly}
 use Rattle.proclab.specs.Histories.{Making, RanOutEarly}
 use Rattle.proclab.specs.Inputs.{Took, taken_of}
 use Rattle.proclab.specs.Rows.{Ends, GivesOne, Reads}
-use Rattle.proclab.specs.declared.inputs.Unread.{Unread}
-use Rattle.proclab.specs.declared.inputs.Unread.TheVariants as unread
 use Rattle.proclab.specs.declared.outcomes.Status.{Status}
-use Rattle.proclab.specs.declared.outcomes.Status.TheVariants.{ReadFailed, OutOfMemory}
+use Rattle.proclab.specs.declared.outcomes.Status.TheVariants.{OutOfMemory}
 
 -- ---- the answer is one to the input
 

@@ -1,4 +1,4 @@
-use Rattle.std.proofs.Common.{◌∙◌, refl, sym}
+use Rattle.std.proofs.Common.{◌∙◌}
 use Rattle.proclab.proofs.GivingLemmas.{gives, whole-usage}
 use Rattle.proclab.specs.Answers.{explained}
 use Rattle.proclab.proofs.answers.explain.Goals as goal
