@@ -8,10 +8,10 @@ use Rattle.proclab.specs.declared.commands.Showing.TheVariants.{Whole, Quiet, St
 use Rattle.proclab.specs.declared.commands.Work.{Work}
 use Rattle.proclab.specs.declared.commands.Work.TheVariants.{Checks, Explains, Generates, Runs, Shares}
 
--- What the words after the program's name ask for: the run of a scenario on one thread, of which the history is written,
--- or not, or what the machine without controllers makes of it; the run of a scenario on several threads; the judging of a
--- history; the writing of a scenario for so many children. The shapes are run, run -q, run -j N, run -q -j N, run -j N -q,
--- check, plain and gen N; words of no other shape ask for anything, and get the usage line.
+-- What the words after the program's name ask for: the run of a scenario on one thread, of which the history is
+-- written, or not, or what the machine without controllers makes of it; the run of a scenario on several threads; the
+-- judging of a history; the writing of a scenario for so many children. The shapes are run, run -q, run -j N,
+-- run -q -j N, run -j N -q, check, plain and gen N; words of no other shape ask for anything, and get the usage line.
 
 -- The number from 1 on, of so many, that a word writes in decimal. No numeral has a leading zero or a sign.
 unfoldable pub number_up_to : ℕ → List ℕ → Option ℕ

@@ -124,10 +124,10 @@ pub record RanOutAfter (limit : ℕ) (May : Option (List ℕ) → Answer → Typ
   pub ran_out : RanOutEarly making input history old.written new.written ⊎ OneRanOut (May input) history old.written new.written
 
 -- How it ends, where these are the answers that may come to an input. Where nothing failed, one to what was read was
--- given; and where the bytes that were left are known, one to them. A read failed: no more bytes than the limit came, and
--- the others are left; nothing was written, and there is no history. A write failed: the history is that of an answer, and
--- a prefix of its text was written. Memory ran out in the reading, or after it. Only a read that failed raises the count
--- of the source, and only a write that failed that of the sink.
+-- given; and where the bytes that were left are known, one to them. A read failed: no more bytes than the limit came,
+-- and the others are left; nothing was written, and there is no history. A write failed: the history is that of an
+-- answer, and a prefix of its text was written. Memory ran out in the reading, or after it. Only a read that failed
+-- raises the count of the source, and only a write that failed that of the sink.
 pub record Reads (limit : ℕ) (May : Option (List ℕ) → Answer → Type 0) (making : Making) (old new : Ends) (status : Status) (history : List Entry) : Type 0 where
   pub answered : IsWhole status → Answered limit May old new status history
   pub answers : IsWhole status → IfSome old.left (λ left. GivesOne (May (taken_of limit left)) status history old.written new.written)
