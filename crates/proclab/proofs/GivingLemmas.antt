@@ -10,7 +10,7 @@ use Rattle.proclab.specs.Answers.{Answer, end_status}
 use Rattle.proclab.specs.Giving.{Responds, StopsEarly, status_after}
 use Rattle.proclab.specs.Statuses.{IsWhole}
 use Rattle.proclab.specs.declared.outcomes.Status.{Status}
-use Rattle.proclab.specs.declared.outcomes.Status.TheVariants.{Done, Usage, Refused, WriteFailed, OutOfMemory, NotLegal}
+use Rattle.proclab.specs.declared.outcomes.Status.TheVariants.{Done, Usage, Refused, WriteFailed, OutOfMemory}
 
 -- the statuses of runs, and of inputs that are refused, tell of no failure
 pub whole-end : (e : End) → IsWhole (end_status e)
@@ -86,9 +86,6 @@ whole-usage = record { read = λ is. cc; wrote = λ is. cc; had_memory = λ is. 
 
 pub whole-done : IsWhole Done
 whole-done = record { read = λ is. cc; wrote = λ is. cc; had_memory = λ is. cc }
-
-pub whole-not-legal : IsWhole NotLegal
-whole-not-legal = record { read = λ is. cc; wrote = λ is. cc; had_memory = λ is. cc }
 
 -- what was put, said of an equal text
 pub puts-same : (w : Result Unit Cut) (old new : Option (List ℕ)) (before after : ℕ) (a b : List ℕ) → a ≡ b → Puts w old new before after a → Puts w old new before after b
