@@ -50,6 +50,7 @@ pub mod HistorySteps
 pub mod KeepLemmas
 pub mod LeaveSteps
 pub mod Leaving
+pub mod MadeOnce
 pub mod MemoryReads
 pub mod Moves
 pub mod NewBorn
