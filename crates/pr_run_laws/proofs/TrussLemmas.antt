@@ -1,6 +1,5 @@
 use Rattle.std.proofs.Common.{◌≡◌, ◌==◌, ◌++◌, ℕ, zero, suc, Bool, true, false, cond, Option, Some, None, List, [], ◌∷◌, replicate, refl, sym, ◌∙◌, ap, subst}
 use Rattle.std.proofs.lemmas.Bool.{eqb-true, eqb-false}
-use Rattle.std.proofs.lemmas.List.Elements.{filter_map-append}
 use Rattle.std.specs.List.{cons_option, slice_get}
 use Rattle.std.specs.Option.{option_and_then}
 use Rattle.pr_line.specs.declared.options.Options.{Options}
@@ -20,9 +19,10 @@ use Rattle.pr_range_laws.specs.ByteHistories.{HasBytes}
 use Rattle.pr_range_laws.specs.InRange.{IsInRange}
 use Rattle.pr_report_laws.proofs.BeginLaws.{finished-watches-none}
 use Rattle.pr_report_laws.proofs.Births.{births-report}
+use Rattle.pr_report_laws.proofs.EventMemory.{left-memories}
 use Rattle.pr_report_laws.proofs.MemoryReads.{read-texts}
 use Rattle.pr_report_laws.proofs.ReleaseLaws.{traced-released}
-use Rattle.pr_report_laws.proofs.WatchHistories.{makes-front}
+use Rattle.pr_report_laws.proofs.WatchHistories.{exchanges-both, makes-front}
 use Rattle.pr_tool_laws.proofs.WholeLemmas.{front-legal}
 use Rattle.pr_report_laws.specs.Fits.{IsFitSystem}
 use Rattle.pr_truss.specs.Feeding.{fed}
@@ -104,11 +104,6 @@ pub nothing-held : (k : ℕ) (s : TracedState) → s.opens ≡ nothing_open → 
 unfolding handle_of nothing_open
 nothing-held k s none = record { none = λ number. ap (λ (opens : Places). own k (slice_get opens number)) none ∙ none-held k handle_limit number }
 
--- a truss makes its calls in the front of a history too
-exchanges-both : (k : ℕ) (xs ys : List Entry) → exchanges k (xs ++ ys) ≡ exchanges k xs ++ exchanges k ys
-unfolding exchanges
-exchanges-both k xs ys = filter_map-append (exchange_of k) xs ys
-
 truss-releases : (n k : ℕ) (o : Options) (first : TracedState) (h before later : List Entry) → IsLawful first → HasNothingOpen k first → IsLegal n first h → Makes (first_truss o) (exchanges k h) → h ≡ before ++ later → Releases k (truss_at k o before) (state_after first before)
 truss-releases n k o first h before later lawful none legal makes is = record {
   each = λ place p a within set live closed.
@@ -126,6 +121,7 @@ truss-kept controllers n first h k o lawful fit range bytes at none legal follow
       truss = stays.1;
       shows = λ pid named forks. births-report n k o pid first h lawful fit none legal stays.0 range bytes named forks;
       texts = read-texts n k o first h lawful none legal stays.0;
+      moments = λ pid named forks. left-memories n k o pid first h lawful fit none legal stays.0 range bytes named forks;
       releases = λ before later is. truss-releases n k o first h before later lawful none legal stays.0 is;
       done = λ finished.
           let ends : Ends (first_truss o) (exchanges k h) = record { makes = stays.0; finished = finished } in
