@@ -1,14 +1,15 @@
 use Rattle.std.proofs.Common.{◌≡◌, ◌<◌, ◌≤◌, ◌+◌, ◌-◌, ◌++◌, inl, inr, ℕ, Bool, true, false, Option, Some, None, is_none, is_some, Result, Ok, Err, IfOk, zero, suc, ◌&&◌, ◌||◌, List, [], ◌∷◌, All, length, cond, nat_lt, nat_le, flat_map, map, take, drop, append-nil, refl, sym, ◌∙◌, ap, subst, arith}
 use borrow.Author.Tests.{ltb-true, ltb-false}
+use Rattle.std.proofs.Math.Bool.{or-false, or-true}
 use Rattle.std.proofs.lemmas.List.{length-map, take_all, take_at, drop_all, drop_at}
-use Rattle.std.proofs.lemmas.List.Elements.{All-append, All-cons, All-nil}
+use Rattle.std.proofs.lemmas.List.Elements.{All-append, All-cons, All-head, All-nil}
 use Rattle.std.proofs.lemmas.Bool.Decides.{nat_tests}
 use Rattle.std.proofs.lemmas.Option.{none-some, same_Some}
 use Rattle.std.specs.List.{enumerate_from, slice_get, slice_index_or}
 use Rattle.std.specs.Option.{ForSome, option_and_then}
 use Rattle.pr_api.specs.Views.{IsLawful}
-use Rattle.pr_lock.specs.History.{AreAll, IsInOrder, StartsWith, added}
-use Rattle.pr_lock.specs.Seats.{IsOutside, own_of, shares_of}
+use Rattle.pr_lock.specs.History.{AreAll, IsInOrder, StandIn, StartsWith, added}
+use Rattle.pr_lock.specs.Seats.{IsOutside, own_of, seen_of, shares_of}
 use Rattle.pr_lock.specs.declared.seats.Seat.{Seat}
 use Rattle.pr_lock.specs.declared.seats.Shared.{Shared}
 use Rattle.pr_model.specs.declared.events.Actor.{Actor}
@@ -17,14 +18,19 @@ use Rattle.pr_model.specs.declared.events.Entry.{Entry}
 use Rattle.pr_world.proofs.ProtocolLemmas.{controllers_at-count}
 use Rattle.pr_world.proofs.RestLemmas.{either, from_lwp-next, mapped-back}
 use Rattle.pr_world.proofs.RunLemmas.{came-on}
+use Rattle.pr_num.proofs.ListLemmas.{take-next}
 use Rattle.pr_num.specs.declared.memory.NoMemory.{NoMemory}
 use Rattle.pr_world.specs.Controllers.{call_by, has_finished, next_call}
 use Rattle.pr_world.specs.Cores.{Core}
 use Rattle.pr_world.specs.Moves.{entry_of}
 use Rattle.pr_world.specs.Runs.{CameFrom}
-use Rattle.pr_world.specs.Worlds.{WorldState, as_lwp, can_act, clock_if_awaited, end_of, ended_as, first_lwp, from_lwp, goes_on, next_actor}
+use Rattle.pr_world.specs.Worlds.{WorldState, as_lwp, can_act, clock_if_awaited, end_of, ended_as, first_lwp, from_lwp}
 use Rattle.pr_world.specs.declared.ends.End.{End}
-use Rattle.pr_run.specs.ManyRuns.{AtPlaces, GoesOn, HasWorked, IsMadeBy, IsMovedBy, IsNextOf, IsReady, IsTurnOf, IsWorkOf, Makes, MovesNext, Rests, is_done, last_lwp, lwp_of, next_for, next_of_controller, next_on_processor}
+use Rattle.pr_run.proofs.OneLemmas.{full-ends}
+use Rattle.pr_run.proofs.LogLemmas.{all-entries, each-stands, entries-append, entries-of_each, order-entries, order-log, stands-apart, log-at, log-next}
+use Rattle.pr_run.specs.ManyRuns.{AtPlaces, GoesOn, HasLeft, HasMade, HasWorked, IsMadeBy, IsMovedBy, IsNextOf, IsReady, IsTurnOf, IsWorkOf, Makes, MovesNext, Rests, is_done, is_finished, last_lwp, lwp_of, next_for, next_of_controller, next_on_processor}
+use Rattle.pr_run.specs.Logs.{behind, entries_of, log_of}
+use Rattle.pr_run.specs.declared.shared_worlds.LoggedEntry.{LoggedEntry}
 use Rattle.pr_run.specs.declared.workers.Progress.{Progress}
 use Rattle.pr_run.specs.declared.workers.Progress.TheVariants.{Moved, Idle, Done}
 
@@ -76,23 +82,17 @@ next-moves processors worker last w a e = of (nat_lt worker processors) refl e
 
 -- ---- who has nothing more to do
 
-pub ended-done : (w : WorldState) (processors worker : ℕ) (o : Option End) → o ≡ ended_as w → is_some o ≡ true → true ≡ is_done processors worker w
-unfolding is_done
-ended-done w processors worker o e some =
-    sym (ap (λ (b : Bool). b || (nat_le processors worker && is_none (call_by w.controllers (worker - processors)))) (sym (ap is_some e) ∙ some))
-
 not_within : (a b : ℕ) → b < a → nat_le a b ≡ false
 not_within a b h = grind (arith, nat_tests)
 
 is_within : (a b : ℕ) → a ≤ b → nat_le a b ≡ true
 is_within a b h = grind (arith, nat_tests)
 
--- a worker of the processor, where the world goes on
-pub processor-goes : (w : WorldState) (processors worker : ℕ) (o : Option End) → o ≡ ended_as w → is_some o ≡ false → worker < processors → false ≡ is_done processors worker w
-unfolding is_done
-processor-goes w processors worker o e none h =
-    sym (ap (λ (b : Bool). b || (nat_le processors worker && is_none (call_by w.controllers (worker - processors)))) (sym (ap is_some e) ∙ none)
-    ∙ ap (λ (b : Bool). b && is_none (call_by w.controllers (worker - processors))) (not_within processors worker h))
+-- a worker of the processor moves no controller
+pub processor-moves_on : (w : WorldState) (processors worker : ℕ) → worker < processors → false ≡ is_finished processors worker w
+unfolding is_finished
+processor-moves_on w processors worker h =
+    sym (ap (λ (b : Bool). b && is_none (call_by w.controllers (worker - processors))) (not_within processors worker h))
 
 within-some : (cs : List Core) (k : ℕ) → k < length cs → slice_get cs k ≡ None → ⊥
 within-some [] k h e = absurd (omega arith)
@@ -107,25 +107,29 @@ at-finished cs k b h told = of (slice_get cs k) refl told
     of None e f = absurd (within-some cs k h e)
     of (Some core) e f = f core refl
 
--- the worker of a controller, where the world goes on
-pub finished-done : (r : Result Bool NoMemory) (w : WorldState) (processors worker : ℕ) (cs : List Core) (o : Option End) → o ≡ ended_as w → is_some o ≡ false → processors ≤ worker → cs ≡ w.controllers → worker < processors + length cs
-    → IfOk r (λ finished. ForSome (slice_get cs (worker - processors)) (λ core. finished ≡ has_finished core)) → IfOk r (λ done. done ≡ is_done processors worker w)
-unfolding is_done
-finished-done (Ok b) w processors worker cs o e none behind same within told =
-    at-finished cs (worker - processors) b (omega arith) told
-    ∙ ap (λ (l : List Core). is_none (call_by l (worker - processors))) same
-    ∙ sym (ap (λ (t : Bool). t || (nat_le processors worker && is_none (call_by w.controllers (worker - processors)))) (sym (ap is_some e) ∙ none)
-    ∙ ap (λ (t : Bool). t && is_none (call_by w.controllers (worker - processors))) (is_within processors worker behind))
-finished-done (Err x) w processors worker cs o e none behind same within told = tt
+pub controller-finished : (r : Result Bool NoMemory) (w : WorldState) (processors worker : ℕ) → processors ≤ worker → worker < processors + length w.controllers
+    → IfOk r (λ finished. ForSome (slice_get w.controllers (worker - processors)) (λ core. finished ≡ has_finished core)) → IfOk r (λ finished. finished ≡ is_finished processors worker w)
+unfolding is_finished
+controller-finished (Ok b) w processors worker behind within told =
+    at-finished w.controllers (worker - processors) b (omega arith) told
+    ∙ sym (ap (λ (t : Bool). t && is_none (call_by w.controllers (worker - processors))) (is_within processors worker behind))
+controller-finished (Err x) w processors worker behind within told = tt
 
--- where a worker has more to do, there is a place for an entry
-pub going-place : (processors worker : ℕ) (w : WorldState) → is_done processors worker w ≡ false → length w.kernel.history < w.kernel.places
-unfolding is_done ended_as goes_on
-going-place processors worker w e = of (nat_lt (length w.kernel.history) w.kernel.places) refl (is_some (next_actor w)) e
-  where
-    of : (b : Bool) → nat_lt (length w.kernel.history) w.kernel.places ≡ b → (c : Bool) → (is_some (cond (b && c) None (Some (end_of w))) || (nat_le processors worker && is_none (call_by w.controllers (worker - processors)))) ≡ false → length w.kernel.history < w.kernel.places
-    of true is c h = ltb-true _ _ is
-    of false is c h = cc
+pub finished-done : (w : WorldState) (processors worker : ℕ) (finished : Bool) → finished ≡ is_finished processors worker w → finished ≡ true → true ≡ is_done processors worker w
+unfolding is_done
+finished-done w processors worker finished is h =
+    sym (ap (λ (b : Bool). is_some (ended_as w) || b) (sym is ∙ h) ∙ or-true (is_some (ended_as w)))
+
+pub ended-done : (w : WorldState) (processors worker : ℕ) (finished : Bool) (o : Option End) → finished ≡ is_finished processors worker w → finished ≡ false → o ≡ ended_as w → is_some o ≡ is_done processors worker w
+unfolding is_done
+ended-done w processors worker finished o is h e =
+    ap is_some e ∙ sym (ap (λ (b : Bool). is_some (ended_as w) || b) (sym is ∙ h) ∙ or-false (is_some (ended_as w)))
+
+-- where all places are taken, no worker has more to do
+pub full-done : (w : WorldState) (processors worker : ℕ) → w.kernel.places ≤ length w.kernel.history → is_done processors worker w ≡ true
+unfolding is_done ended_as
+full-done w processors worker full =
+    ap (λ (b : Bool). is_some (cond b None (Some (end_of w))) || is_finished processors worker w) (full-ends w full)
 
 -- ---- one turn
 
@@ -135,10 +139,18 @@ made-turn processors worker old new w v Idle m = inl m.0
 made-turn processors worker old new w v Done m = inl m.0
 
 module _ (processors worker : ℕ) (old new : Option (ℕ × ℕ)) (w v : WorldState) where
+  -- a move adds one entry, behind the history
+  move-log : (m : MovesNext processors worker old new w v) → log_of v.kernel.history ≡ log_of w.kernel.history ++ behind w.kernel.history (entry_of m.actor m.moves.leads.act) ∷ []
+  move-log m = log-next w.kernel.history v.kernel.history (entry_of m.actor m.moves.leads.act) m.moves.leads.history
+
   -- the history begins as it was
-  pub turn-grows : IsTurnOf processors worker old new w v → StartsWith v.kernel.history w.kernel.history
-  turn-grows (inl r) = ap (λ (x : WorldState). take (length w.kernel.history) x.kernel.history) r.world ∙ take_all (length w.kernel.history) w.kernel.history (omega arith)
-  turn-grows (inr m) = ap (take (length w.kernel.history)) m.moves.leads.history ∙ take_at w.kernel.history (entry_of m.actor m.moves.leads.act ∷ []) (length w.kernel.history) refl
+  pub turn-grows : IsTurnOf processors worker old new w v → StartsWith (log_of v.kernel.history) (log_of w.kernel.history)
+  turn-grows (inl r) =
+      let log = log_of w.kernel.history in
+      ap (λ (x : WorldState). take (length log) (log_of x.kernel.history)) r.world ∙ take_all (length log) log (omega arith)
+  turn-grows (inr m) =
+      let log = log_of w.kernel.history in
+      ap (take (length log)) (move-log m) ∙ take_at log (behind w.kernel.history (entry_of m.actor m.moves.leads.act) ∷ []) (length log) refl
 
   -- a world that came from another, came from it after a turn too
   pub turn-came : (first : WorldState) → IsLawful w.kernel → CameFrom first w → IsTurnOf processors worker old new w v → CameFrom first v
@@ -146,73 +158,130 @@ module _ (processors worker : ℕ) (old new : Option (ℕ × ℕ)) (w v : WorldS
   turn-came first lawful came (inr m) = came-on first w v m.actor lawful came m.moves
 
   -- what a turn adds without a move, and by one
-  rest-adds : Rests old new w v → added w.kernel.history v.kernel.history ≡ []
+  rest-adds : Rests old new w v → added (log_of w.kernel.history) (log_of v.kernel.history) ≡ []
   rest-adds r =
-      let none : drop (length w.kernel.history) v.kernel.history ≡ [] = ap (λ (x : WorldState). drop (length w.kernel.history) x.kernel.history) r.world ∙ drop_all (length w.kernel.history) w.kernel.history (omega arith) in
-      ap (enumerate_from (length w.kernel.history)) none
+      let log = log_of w.kernel.history in
+      let none : drop (length log) (log_of v.kernel.history) ≡ [] = ap (λ (x : WorldState). drop (length log) (log_of x.kernel.history)) r.world ∙ drop_all (length log) log (omega arith) in
+      ap (enumerate_from (length log)) none
 
-  move-adds : (m : MovesNext processors worker old new w v) → added w.kernel.history v.kernel.history ≡ (length w.kernel.history, entry_of m.actor m.moves.leads.act) ∷ []
+  move-adds : (m : MovesNext processors worker old new w v)
+      → added (log_of w.kernel.history) (log_of v.kernel.history) ≡ (length (log_of w.kernel.history), behind w.kernel.history (entry_of m.actor m.moves.leads.act)) ∷ []
   move-adds m =
-      let entry = entry_of m.actor m.moves.leads.act in
-      let one : drop (length w.kernel.history) v.kernel.history ≡ entry ∷ [] = ap (drop (length w.kernel.history)) m.moves.leads.history ∙ drop_at w.kernel.history (entry ∷ []) (length w.kernel.history) refl in
-      ap (enumerate_from (length w.kernel.history)) one
+      let log = log_of w.kernel.history in
+      let last = behind w.kernel.history (entry_of m.actor m.moves.leads.act) in
+      let one : drop (length log) (log_of v.kernel.history) ≡ last ∷ [] = ap (drop (length log)) (move-log m) ∙ drop_at log (last ∷ []) (length log) refl in
+      ap (enumerate_from (length log)) one
 
   -- what was added is the worker's
-  turn-adds : IsTurnOf processors worker old new w v → All (λ (e : ℕ × Entry). IsMovedBy processors worker e.1.actor) (added w.kernel.history v.kernel.history)
-  turn-adds (inl r) = let P : ℕ × Entry → Type 0 = λ e. IsMovedBy processors worker e.1.actor in subst (All P) (sym (rest-adds r)) (All-nil P)
+  turn-adds : IsTurnOf processors worker old new w v → All (λ (e : ℕ × Entry). IsMovedBy processors worker e.1.actor) (entries_of (added (log_of w.kernel.history) (log_of v.kernel.history)))
+  turn-adds (inl r) = let P : ℕ × Entry → Type 0 = λ e. IsMovedBy processors worker e.1.actor in subst (λ (l : List (ℕ × LoggedEntry)). All P (entries_of l)) (sym (rest-adds r)) (All-nil P)
   turn-adds (inr m) =
       let P : ℕ × Entry → Type 0 = λ e. IsMovedBy processors worker e.1.actor in
       let its = (next-moves processors worker old w m.actor m.next).its in
-      subst (All P) (sym (move-adds m)) (All-cons P (length w.kernel.history, entry_of m.actor m.moves.leads.act) [] its (All-nil P))
+      subst (λ (l : List (ℕ × LoggedEntry)). All P (entries_of l)) (sym (move-adds m)) (All-cons P (length (log_of w.kernel.history), entry_of m.actor m.moves.leads.act) [] its (All-nil P))
 
-  -- with what was added the worker went on
-  turn-goes_on : (first : WorldState) → CameFrom first w → IsTurnOf processors worker old new w v → GoesOn first processors worker old (added w.kernel.history v.kernel.history)
-  turn-goes_on first came (inl r) = subst (GoesOn first processors worker old) (sym (rest-adds r)) tt
-  turn-goes_on first came (inr m) =
-      let next : IsNextOf first processors worker old (length w.kernel.history, entry_of m.actor m.moves.leads.act) = record { world = w; came = came; place = refl; next = m.next } in
-      subst (GoesOn first processors worker old) (sym (move-adds m)) (next, tt)
+  -- the move of an entry that stands in a history behind the one before it
+  move-stands : (first : WorldState) (history : List Entry) → IsLawful w.kernel → CameFrom first w → (m : MovesNext processors worker old new w v) (place : ℕ)
+      → slice_get (log_of history) place ≡ Some (behind w.kernel.history (entry_of m.actor m.moves.leads.act)) → IsNextOf first history processors worker old (place, entry_of m.actor m.moves.leads.act)
+  move-stands first history lawful came m place stands =
+      let entry = entry_of m.actor m.moves.leads.act in
+      let there = log-at [] history place (behind w.kernel.history entry) stands in
+      record {
+        before = w;
+        lawful = lawful;
+        came = came;
+        begins = there.before;
+        next = m.next;
+        after = v;
+        moves = m.moves;
+        ends = m.moves.leads.history ∙ (ap (λ (h : List Entry). h ++ entry ∷ []) there.before ∙ sym (take-next place history entry there.entry));
+      }
 
-  turn-last : IsTurnOf processors worker old new w v → new ≡ last_lwp old (added w.kernel.history v.kernel.history)
-  turn-last (inl r) = r.last ∙ ap (last_lwp old) (sym (rest-adds r))
-  turn-last (inr m) = m.last ∙ ap (last_lwp old) (sym (move-adds m))
+  -- with what was added the worker went on, in a history in which it stands
+  turn-goes_on : (first : WorldState) (history : List Entry) → IsLawful w.kernel → CameFrom first w → IsTurnOf processors worker old new w v → StandIn (log_of history) (added (log_of w.kernel.history) (log_of v.kernel.history))
+      → GoesOn first history processors worker old (entries_of (added (log_of w.kernel.history) (log_of v.kernel.history)))
+  turn-goes_on first history lawful came (inl r) stand = subst (λ (l : List (ℕ × LoggedEntry)). GoesOn first history processors worker old (entries_of l)) (sym (rest-adds r)) tt
+  turn-goes_on first history lawful came (inr m) stand =
+      let P : ℕ × LoggedEntry → Type 0 = λ e. slice_get (log_of history) e.0 ≡ Some e.1 in
+      let one : ℕ × LoggedEntry = (length (log_of w.kernel.history), behind w.kernel.history (entry_of m.actor m.moves.leads.act)) in
+      let stands = All-head P one [] (subst (All P) (move-adds m) stand) in
+      subst (λ (l : List (ℕ × LoggedEntry)). GoesOn first history processors worker old (entries_of l)) (sym (move-adds m)) (move-stands first history lawful came m one.0 stands, tt)
+
+  turn-last : IsTurnOf processors worker old new w v → new ≡ last_lwp old (entries_of (added (log_of w.kernel.history) (log_of v.kernel.history)))
+  turn-last (inl r) = r.last ∙ ap (λ (l : List (ℕ × LoggedEntry)). last_lwp old (entries_of l)) (sym (rest-adds r))
+  turn-last (inr m) = m.last ∙ ap (λ (l : List (ℕ × LoggedEntry)). last_lwp old (entries_of l)) (sym (move-adds m))
+
+-- a worker that has nothing more to do, left in that world
+pub done-left : {V : Type 0} (first : WorldState) (processors worker : ℕ) (old new : Option (ℕ × ℕ)) (w v : WorldState) (r : Result Progress NoMemory) (seat : Seat V LoggedEntry)
+    → IfOk r (λ progress. Makes processors worker old new w v progress) → IsLawful w.kernel → CameFrom first w → seen_of seat ≡ log_of v.kernel.history → IfOk r (λ progress. progress ≡ Done → HasLeft first processors worker seat)
+done-left first processors worker old new w v (Err x) seat made lawful came seen = tt
+done-left first processors worker old new w v (Ok Moved) seat made lawful came seen = λ e. cc
+done-left first processors worker old new w v (Ok Idle) seat made lawful came seen = λ e. cc
+done-left first processors worker old new w v (Ok Done) seat made lawful came seen = λ e. record {
+  world = w;
+  lawful = lawful;
+  came = came;
+  seen = seen ∙ ap (λ (x : WorldState). log_of x.kernel.history) made.0.world;
+  done = made.1;
+}
 
 -- ---- the entries of a worker
 
 -- entries, and further ones
-goes-on : (first : WorldState) (processors worker : ℕ) (last : Option (ℕ × ℕ)) (own more : List (ℕ × Entry)) → GoesOn first processors worker last own → GoesOn first processors worker (last_lwp last own) more → GoesOn first processors worker last (own ++ more)
-goes-on first processors worker last [] more goes on = on
-goes-on first processors worker last (e ∷ own) more goes on = (goes.0, goes-on first processors worker (lwp_of e.1.actor) own more goes.1 on)
+goes-on : (first : WorldState) (history : List Entry) (processors worker : ℕ) (last : Option (ℕ × ℕ)) (own more : List (ℕ × Entry)) → GoesOn first history processors worker last own
+    → GoesOn first history processors worker (last_lwp last own) more → GoesOn first history processors worker last (own ++ more)
+goes-on first history processors worker last [] more goes on = on
+goes-on first history processors worker last (e ∷ own) more goes on = (goes.0, goes-on first history processors worker (lwp_of e.1.actor) own more goes.1 on)
 
 last-on : (last : Option (ℕ × ℕ)) (own more : List (ℕ × Entry)) → last_lwp last (own ++ more) ≡ last_lwp (last_lwp last own) more
 last-on last [] more = refl
 last-on last (e ∷ own) more = last-on (lwp_of e.1.actor) own more
 
--- The entries of a worker after a turn, and the lwp that it moved last.
-pub record HasGrown (first : WorldState) (processors worker : ℕ) (new : Option (ℕ × ℕ)) (own : List (ℕ × Entry)) : Type 0 where
-  pub work : IsWorkOf first processors worker own
-  pub last : new ≡ last_lwp None own
+-- What a worker made so far, and the lwp that it moved last.
+pub record HasGrown (first : WorldState) (processors worker : ℕ) (new : Option (ℕ × ℕ)) (own : List (ℕ × LoggedEntry)) : Type 0 where
+  pub made : HasMade first processors worker own
+  pub last : new ≡ last_lwp None (entries_of own)
 
-pub turn-work : (first : WorldState) (processors worker : ℕ) (old new : Option (ℕ × ℕ)) (w v : WorldState) (own after : List (ℕ × Entry)) (entered : List Entry)
-    → IsTurnOf processors worker old new w v → CameFrom first w → IsWorkOf first processors worker own → old ≡ last_lwp None own
-    → entered ≡ w.kernel.history → after ≡ own ++ added entered v.kernel.history → (IsInOrder own → IsInOrder after) → HasGrown first processors worker new after
-turn-work first processors worker old new w v own after entered turn came work last same is order =
-    let P : ℕ × Entry → Type 0 = λ e. IsMovedBy processors worker e.1.actor in
-    let more = added w.kernel.history v.kernel.history in
-    let grown : after ≡ own ++ more = is ∙ ap (λ (l : List Entry). own ++ added l v.kernel.history) same in
-    let its = All-append P own more work.its (turn-adds processors worker old new w v turn) in
-    let goes = subst (λ (l : Option (ℕ × ℕ)). GoesOn first processors worker l more) last (turn-goes_on processors worker old new w v first came turn) in
-    record {
-      work = record {
-        order = order work.order;
-        its = subst (All P) (sym grown) its;
-        rounds = subst (GoesOn first processors worker None) (sym grown) (goes-on first processors worker None own more work.rounds goes);
-      };
-      last = turn-last processors worker old new w v turn ∙ (ap (λ (l : Option (ℕ × ℕ)). last_lwp l more) last ∙ (sym (last-on None own more) ∙ ap (last_lwp None) (sym grown)));
-    }
+module _ (first : WorldState) (processors worker : ℕ) (old new : Option (ℕ × ℕ)) (w v : WorldState) (own : List (ℕ × LoggedEntry)) (turn : IsTurnOf processors worker old new w v) (lawful : IsLawful w.kernel) (came : CameFrom first w)
+    (made : HasMade first processors worker own) (same : old ≡ last_lwp None (entries_of own)) where
+  abbrev more : List (ℕ × LoggedEntry)
+  more = added (log_of w.kernel.history) (log_of v.kernel.history)
+
+  more-work : IsInOrder (own ++ more) → (history : List Entry) → StandIn (log_of history) (own ++ more) → IsWorkOf first history processors worker (entries_of (own ++ more))
+  more-work order history stand =
+      let P : ℕ × Entry → Type 0 = λ e. IsMovedBy processors worker e.1.actor in
+      let parts = stands-apart (log_of history) own more stand in
+      let work = made.work history parts.first in
+      let its = All-append P (entries_of own) (entries_of more) work.its (turn-adds processors worker old new w v turn) in
+      let goes = subst (λ (l : Option (ℕ × ℕ)). GoesOn first history processors worker l (entries_of more)) same (turn-goes_on processors worker old new w v first history lawful came turn parts.second) in
+      let rounds = goes-on first history processors worker None (entries_of own) (entries_of more) work.rounds goes in
+      let is = sym (entries-append own more) in
+      record {
+        order = order-entries (own ++ more) order;
+        its = subst (All P) is its;
+        rounds = subst (GoesOn first history processors worker None) is rounds;
+      }
+
+  more-last : new ≡ last_lwp None (entries_of (own ++ more))
+  more-last =
+      turn-last processors worker old new w v turn ∙ (ap (λ (l : Option (ℕ × ℕ)). last_lwp l (entries_of more)) same
+      ∙ (sym (last-on None (entries_of own) (entries_of more)) ∙ ap (last_lwp None) (sym (entries-append own more))))
+
+  pub turn-work : (after : List (ℕ × LoggedEntry)) (entered : List LoggedEntry) → StandIn (log_of w.kernel.history) own → entered ≡ log_of w.kernel.history → after ≡ own ++ added entered (log_of v.kernel.history)
+      → (IsInOrder own → IsInOrder after) → HasGrown first processors worker new after
+  turn-work after entered stand log is order =
+      let grown : after ≡ own ++ more = is ∙ ap (λ (l : List LoggedEntry). own ++ added l (log_of v.kernel.history)) log in
+      let ordered = order (order-log own (made.work w.kernel.history stand).order) in
+      subst (HasGrown first processors worker new) (sym grown) (record {
+        made = record { work = more-work (subst IsInOrder grown ordered) };
+        last = more-last;
+      })
 
 -- a worker that made no entry yet
-pub no-work : (first : WorldState) (processors worker : ℕ) (own : List (ℕ × Entry)) → own ≡ [] → IsWorkOf first processors worker own
-no-work first processors worker own none = subst (IsWorkOf first processors worker) (sym none) (record { order = λ i j d before within. absurd (omega arith); its = All-nil (λ (e : ℕ × Entry). IsMovedBy processors worker e.1.actor); rounds = tt })
+no-work : (first : WorldState) (history : List Entry) (processors worker : ℕ) (own : List (ℕ × LoggedEntry)) → own ≡ [] → IsWorkOf first history processors worker (entries_of own)
+no-work first history processors worker own none =
+    subst (λ (l : List (ℕ × LoggedEntry)). IsWorkOf first history processors worker (entries_of l)) (sym none)
+    (record { order = λ i j d before within. absurd (omega arith); its = All-nil (λ (e : ℕ × Entry). IsMovedBy processors worker e.1.actor); rounds = tt })
 
 -- as many controllers as there were at first
 pub came-count : (first w : WorldState) → CameFrom first w → length w.controllers ≡ length first.controllers
@@ -233,33 +302,33 @@ module _ {X Y : Type 0} (f : X → Y) where
       let here : P k (f at.0) = subst (λ (x : X). P k (f x)) at.1.0 (all k at.0 (omega (arith, h, length-map xs f))) in
       subst (P k) (sym at.1.1) here
 
-flat_map-map : {X A : Type 0} (f : X → List A) (xs : List X) → flat_map f xs ≡ flat_map (λ (l : List A). l) (map f xs)
-flat_map-map f [] = refl
-flat_map-map f (x ∷ xs) = ap (λ (l : List _). f x ++ l) (flat_map-map f xs)
-
 -- a list that was lent and written back
 pub written-back : {X : Type 0} (xs items : List X) (n : ℕ) → length xs ≡ length items → n ≡ length items → take n (xs ++ drop (length xs) items) ≡ xs
 written-back xs items n same all =
     ap (take n) (ap (λ (l : List _). xs ++ l) (drop_all (length xs) items (omega (arith, same))) ∙ append-nil xs) ∙ take_all n xs (omega (arith, same, all))
 
-module _ {V : Type 0} (first : WorldState) (processors : ℕ) (lock : Shared V Entry) where
-  pub ready-worked : (worker : ℕ) (seat : Seat V Entry) → IsReady lock seat → HasWorked first processors lock worker seat
-  ready-worked worker seat ready = record { outside = ready.outside; share = ready.share; work = no-work first processors worker (own_of seat) ready.none }
+module _ {V : Type 0} (first : WorldState) (processors : ℕ) (lock : Shared V LoggedEntry) where
+  pub ready-worked : (worker : ℕ) (seat : Seat V LoggedEntry) → IsReady lock seat → HasWorked first processors lock worker seat
+  ready-worked worker seat ready = record { outside = ready.outside; share = ready.share; made = record { work = λ history stand. no-work first history processors worker (own_of seat) ready.none } }
 
-  pub all-out : (seats : List (Seat V Entry)) → AtPlaces (HasWorked first processors lock) seats → All (λ seat. IsOutside seat lock × (shares_of seat ≡ 1)) seats
+  pub all-out : (seats : List (Seat V LoggedEntry)) → AtPlaces (HasWorked first processors lock) seats → All (λ seat. IsOutside seat lock × (shares_of seat ≡ 1)) seats
   all-out seats worked = λ k d h. let it = worked k d h in (it.outside, it.share)
 
   -- a seat that added nothing, and took in these
-  pub taken-in : (before after : Seat V Entry) (back seats : List (Seat V Entry)) → own_of after ≡ own_of before ++ flat_map (λ seat. own_of seat) back → own_of before ≡ [] → back ≡ seats → own_of after ≡ flat_map (λ seat. own_of seat) seats
+  pub taken-in : (before after : Seat V LoggedEntry) (back seats : List (Seat V LoggedEntry)) → own_of after ≡ own_of before ++ flat_map (λ seat. own_of seat) back → own_of before ≡ [] → back ≡ seats → own_of after ≡ flat_map (λ seat. own_of seat) seats
   taken-in before after back seats is none same =
-      is ∙ (ap (λ (o : List (ℕ × Entry)). o ++ flat_map (λ (seat : Seat V Entry). own_of seat) back) none ∙ ap (λ (l : List (Seat V Entry)). flat_map (λ (seat : Seat V Entry). own_of seat) l) same)
+      is ∙ (ap (λ (o : List (ℕ × LoggedEntry)). o ++ flat_map (λ (seat : Seat V LoggedEntry). own_of seat) back) none ∙ ap (λ (l : List (Seat V LoggedEntry)). flat_map (λ (seat : Seat V LoggedEntry). own_of seat) l) same)
 
   -- What the seats of all workers have is the history.
-  pub all-made : (seats : List (Seat V Entry)) (history : List Entry) (own : List (ℕ × Entry)) → AtPlaces (HasWorked first processors lock) seats → length seats ≡ processors + length first.controllers → own ≡ flat_map (λ seat. own_of seat) seats → AreAll history own
-      → IsMadeBy first processors history
-  all-made seats history own worked count is all = record {
-    made = map (λ (seat : Seat V Entry). own_of seat) seats;
-    workers = length-map seats (λ (seat : Seat V Entry). own_of seat) ∙ count;
-    work = map-places (λ (seat : Seat V Entry). own_of seat) (IsWorkOf first processors) seats (λ k d h. (worked k d h).work);
-    all = subst (AreAll history) (is ∙ flat_map-map (λ (seat : Seat V Entry). own_of seat) seats) all;
-  }
+  pub all-made : (seats : List (Seat V LoggedEntry)) (history : List Entry) (own : List (ℕ × LoggedEntry)) → AtPlaces (HasWorked first processors lock) seats → length seats ≡ processors + length first.controllers → own ≡ flat_map (λ seat. own_of seat) seats
+      → AreAll (log_of history) own → IsMadeBy first processors history
+  all-made seats history own worked count is all =
+      let made : Seat V LoggedEntry → List (ℕ × Entry) = λ seat. entries_of (own_of seat) in
+      let those = subst (AreAll (log_of history)) is all in
+      let stand = each-stands (λ (seat : Seat V LoggedEntry). own_of seat) (log_of history) seats those.stand in
+      record {
+        made = map made seats;
+        workers = length-map seats made ∙ count;
+        work = map-places made (IsWorkOf first history processors) seats (λ k d h. (worked k d h).made.work history (stand k d h));
+        all = subst (AreAll history) (entries-of_each (λ (seat : Seat V LoggedEntry). own_of seat) seats) (all-entries history (flat_map (λ (seat : Seat V LoggedEntry). own_of seat) seats) those);
+      }

@@ -1,14 +1,16 @@
-use Rattle.std.specs.Prelude.{◌≡◌, ◌<◌, ◌+◌, ◌-◌, ◌⊎◌, ◌&&◌, ◌||◌, ℕ, Bool, true, false, List, [], ◌∷◌, Option, Some, None, All, flat_map, is_none, is_some, length, nat_le, nat_lt, slice_index_or, if◌then◌else◌}
+use Rattle.std.specs.Prelude.{◌≡◌, ◌<◌, ◌+◌, ◌-◌, ◌⊎◌, ◌&&◌, ◌||◌, ℕ, Bool, true, false, List, [], ◌∷◌, Option, Some, None, All, flat_map, is_none, is_some, length, nat_le, nat_lt, slice_index_or, take, if◌then◌else◌}
 use Rattle.std.specs.Option.{option_or}
-use Rattle.pr_api.specs.Views.{KernelView}
-use Rattle.pr_lock.specs.History.{AreAll, IsInOrder}
-use Rattle.pr_lock.specs.Seats.{IsOutside, first_of, own_of, shares_of}
+use Rattle.pr_api.specs.Views.{IsLawful, KernelView}
+use Rattle.pr_lock.specs.History.{AreAll, IsInOrder, StandIn}
+use Rattle.pr_lock.specs.Seats.{IsOutside, first_of, own_of, seen_of, shares_of}
 use Rattle.pr_lock.specs.declared.seats.Seat.{Seat}
 use Rattle.pr_lock.specs.declared.seats.Shared.{Shared}
 use Rattle.pr_model.specs.declared.events.Actor.{Actor}
 use Rattle.pr_model.specs.declared.events.Actor.TheVariants.{Controller, Lwp, Clock}
 use Rattle.pr_model.specs.declared.events.Entry.{Entry}
+use Rattle.pr_run.specs.Logs.{entries_of, log_of}
 use Rattle.pr_run.specs.declared.shared_worlds.SharedWorld.{SharedWorld}
+use Rattle.pr_run.specs.declared.shared_worlds.LoggedEntry.{LoggedEntry}
 use Rattle.pr_run.specs.declared.workers.Progress.{Progress}
 use Rattle.pr_run.specs.declared.workers.Progress.TheVariants.{Moved, Idle, Done}
 use Rattle.pr_world.specs.Controllers.{call_by}
@@ -46,10 +48,13 @@ unfoldable pub next_for : ℕ → ℕ → Option (ℕ × ℕ) → WorldState →
 next_for processors worker last w =
     if nat_lt worker processors then next_on_processor last w else next_of_controller (worker - processors) w
 
--- whether a worker has nothing more to do: the world has ended, or its controller makes no call any more
+-- whether it moves a controller, and that makes no call any more
+unfoldable pub is_finished : ℕ → ℕ → WorldState → Bool
+is_finished processors worker w = nat_le processors worker && is_none (call_by w.controllers (worker - processors))
+
+-- whether a worker has nothing more to do: the world has ended, or its controller has finished
 unfoldable pub is_done : ℕ → ℕ → WorldState → Bool
-is_done processors worker w =
-    is_some (ended_as w) || (nat_le processors worker && is_none (call_by w.controllers (worker - processors)))
+is_done processors worker w = is_some (ended_as w) || is_finished processors worker w
 
 -- The actor that the worker moves next made its move. Where that is an lwp, the worker goes on after it, and else from
 -- the first lwp on.
@@ -77,57 +82,78 @@ IsTurnOf processors worker old new w v = Rests old new w v ⊎ MovesNext process
 
 -- ---- all turns
 
--- An entry of a worker that had moved this lwp last: its actor came next for the worker in a world that came from the
--- first one, and had as many entries as stand before this one.
-pub record IsNextOf (first : WorldState) (processors worker : ℕ) (last : Option (ℕ × ℕ)) (e : ℕ × Entry) : Type 0 where
-  pub world : WorldState
-  pub came : CameFrom first world
-  pub place : e.0 ≡ length world.kernel.history
-  pub next : next_for processors worker last world ≡ Some e.1.actor
+-- An entry of this history, of a worker that had moved this lwp last: it is the move of the actor that came next for
+-- the worker, in a world that came from the first one. What stands before the entry is the history of that world, and
+-- with the entry it is that of the world after the move.
+pub record IsNextOf (first : WorldState) (history : List Entry) (processors worker : ℕ) (last : Option (ℕ × ℕ))
+    (e : ℕ × Entry) : Type 0 where
+  pub before : WorldState
+  pub lawful : IsLawful before.kernel
+  pub came : CameFrom first before
+  pub begins : before.kernel.history ≡ take e.0 history
+  pub next : next_for processors worker last before ≡ Some e.1.actor
+  pub after : WorldState
+  pub moves : Moves before e.1.actor after
+  pub ends : after.kernel.history ≡ take (e.0 + 1) history
 
 -- a worker that had moved this lwp last went on with these entries, with each after the lwp that it had moved before
-abbrev pub GoesOn : WorldState → ℕ → ℕ → Option (ℕ × ℕ) → List (ℕ × Entry) → Type 0
-GoesOn first processors worker last [] = Unit {0}
-GoesOn first processors worker last (e ∷ own) =
-    IsNextOf first processors worker last e × GoesOn first processors worker (lwp_of e.1.actor) own
+abbrev pub GoesOn : WorldState → List Entry → ℕ → ℕ → Option (ℕ × ℕ) → List (ℕ × Entry) → Type 0
+GoesOn first history processors worker last [] = Unit {0}
+GoesOn first history processors worker last (e ∷ own) =
+    IsNextOf first history processors worker last e × GoesOn first history processors worker (lwp_of e.1.actor) own
 
 -- the lwp that a worker has moved last, where it was this one before these entries
 abbrev pub last_lwp : Option (ℕ × ℕ) → List (ℕ × Entry) → Option (ℕ × ℕ)
 last_lwp last [] = last
 last_lwp last (e ∷ own) = last_lwp (lwp_of e.1.actor) own
 
--- Entries that a worker made, each with its place in the history: they stand in order, are of actors that it moves, and
--- with each it went on after the lwp that it had moved last.
-pub record IsWorkOf (first : WorldState) (processors worker : ℕ) (own : List (ℕ × Entry)) : Type 0 where
+-- Entries of a history that a worker made, each with its place in it: they stand in order, are of actors that it moves,
+-- and with each it went on after the lwp that it had moved last.
+pub record IsWorkOf (first : WorldState) (history : List Entry) (processors worker : ℕ)
+    (own : List (ℕ × Entry)) : Type 0 where
   pub order : IsInOrder own
   pub its : All (λ e. IsMovedBy processors worker e.1.actor) own
-  pub rounds : GoesOn first processors worker None own
+  pub rounds : GoesOn first history processors worker None own
+
+-- Entries that a worker made, as the log has them: in each history in whose log they stand they are its work.
+pub record HasMade (first : WorldState) (processors worker : ℕ) (own : List (ℕ × LoggedEntry)) : Type 0 where
+  pub work : (history : List Entry) → StandIn (log_of history) own
+      → IsWorkOf first history processors worker (entries_of own)
 
 -- so is each element of a list, by its place
 abbrev pub AtPlaces : {X : Type 0} → (ℕ → X → Type 0) → List X → Type 0
 AtPlaces is xs = (place : ℕ) (d : _) → place < length xs → is place (slice_index_or xs place d)
 
 -- the world that a lock was made with
-abbrev pub first_world : {Q : Type 0} → (Q → KernelView) → Shared (SharedWorld Q) Entry → WorldState
+abbrev pub first_world : {Q : Type 0} → (Q → KernelView) → Shared (SharedWorld Q) LoggedEntry → WorldState
 first_world view lock = seen view (first_of lock).world
 
 -- The seat of a worker before its first turn: it has one share, and added no entry.
-pub record IsReady {V : Type 0} (lock : Shared V Entry) (seat : Seat V Entry) : Type 0 where
+pub record IsReady {V : Type 0} (lock : Shared V LoggedEntry) (seat : Seat V LoggedEntry) : Type 0 where
   pub outside : IsOutside seat lock
   pub share : shares_of seat ≡ 1
   pub none : own_of seat ≡ []
 
--- The seat of a worker between its turns: it has one share, and its own entries are the worker's.
-pub record HasWorked {V : Type 0} (first : WorldState) (processors : ℕ) (lock : Shared V Entry) (worker : ℕ)
-    (seat : Seat V Entry) : Type 0 where
+-- The seat of a worker between its turns: it has one share, and the worker made its own entries.
+pub record HasWorked {V : Type 0} (first : WorldState) (processors : ℕ) (lock : Shared V LoggedEntry) (worker : ℕ)
+    (seat : Seat V LoggedEntry) : Type 0 where
   pub outside : IsOutside seat lock
   pub share : shares_of seat ≡ 1
-  pub work : IsWorkOf first processors worker (own_of seat)
+  pub made : HasMade first processors worker (own_of seat)
+
+-- A worker left where it had nothing more to do: in a world that came from the first one, and whose history its seat
+-- has seen.
+pub record HasLeft {V : Type 0} (first : WorldState) (processors worker : ℕ) (seat : Seat V LoggedEntry) : Type 0 where
+  pub world : WorldState
+  pub lawful : IsLawful world.kernel
+  pub came : CameFrom first world
+  pub seen : seen_of seat ≡ log_of world.kernel.history
+  pub done : is_done processors worker world ≡ true
 
 -- The entries of a history are those that these workers made in a run from the first world on, each once: so many that
 -- share the processor, and one for each controller.
 pub record IsMadeBy (first : WorldState) (processors : ℕ) (history : List Entry) : Type 0 where
   pub made : List (List (ℕ × Entry))
   pub workers : length made ≡ processors + length first.controllers
-  pub work : AtPlaces (IsWorkOf first processors) made
+  pub work : AtPlaces (IsWorkOf first history processors) made
   pub all : AreAll history (flat_map (λ own. own) made)

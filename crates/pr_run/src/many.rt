@@ -2,7 +2,9 @@
 ghost use Rattle.std.specs.Prelude.{◌≡◌, ◌+◌, ◌≤◌, ◌<◌, ◌^◌, ◌++◌, [], None, Some, All, length, flat_map, vec_len, IfOk, OnOk, IsOkUnless};
 ghost use Rattle.pr_lock.specs.Seats.{IsOutside, first_of, own_of, shares_of};
 ghost use Rattle.pr_num.specs.Limits.{worker_limit};
-ghost use Rattle.pr_run.specs.ManyRuns.{AtPlaces, HasWorked, IsMadeBy, IsReady, first_world, last_lwp};
+ghost use Rattle.pr_run.specs.Logs.{entries_of};
+ghost use Rattle.pr_run.specs.ManyRuns.{AtPlaces, HasLeft, HasWorked, IsMadeBy, IsReady, first_world, last_lwp};
+ghost use Rattle.pr_run.specs.declared.workers.Progress.TheVariants.{Done};
 ghost use Rattle.pr_world.specs.Runs.{CameFrom};
 ghost use Rattle.pr_world.specs.Worlds.{ended_as, seen};
 
@@ -19,19 +21,21 @@ use std::thread;
 use std::thread::Threads;
 
 /// One turn of a worker: it takes the world, makes its move, and gives the world back. `last` is the lwp that it moved
-/// last.
+/// last. The refusal is its own, or that of another worker, which left its mark.
 fn take_turn<R: Wait, Q: Kernel + Send>(
     rt: &R,
     lock: &Shared<SharedWorld<Q>>,
     seat: &mut Seat<SharedWorld<Q>>,
     worker: Worker,
     last: &mut Option<(u32, u32)>,
-) -> Progress
+) -> Result<Progress, NoMemory>
     requires seat { HasWorked (first_world Q.view lock.now) worker.processors lock.now worker.number seat.old }
     requires number { worker.number < worker.processors + length (first_of lock.now).world.controllers }
-    requires last { last.old ≡ last_lwp None (own_of seat.old) }
+    requires last { last.old ≡ last_lwp None (entries_of (own_of seat.old)) }
     ensures seat { HasWorked (first_world Q.view lock.now) worker.processors lock.now worker.number seat.new }
-    ensures last { last.new ≡ last_lwp None (own_of seat.new) }
+    ensures last { last.new ≡ last_lwp None (entries_of (own_of seat.new)) }
+    ensures done { IfOk result (λ progress. progress ≡ Done
+        → HasLeft (first_world Q.view lock.now) worker.processors worker.number seat.new) }
 {
     let mut shared = lock.enter(rt, seat);
     let progress = shared.take_turn(worker, last);
@@ -39,27 +43,29 @@ fn take_turn<R: Wait, Q: Kernel + Send>(
     progress
 }
 
-/// All turns of a worker. It passes the gate before each, outside the lock.
+/// All turns of a worker, until it has nothing more to do, or memory was refused, to it or to another one. It passes
+/// the gate before each, outside the lock.
 fn take_turns<R: Wait, Q: Kernel + Send, G: Gate>(
     rt: &R,
     lock: &Shared<SharedWorld<Q>>,
     seat: &mut Seat<SharedWorld<Q>>,
     worker: Worker,
     gate: &G,
-)
+) -> Result<(), NoMemory>
     requires seat { IsReady lock.now seat.old }
     requires number { worker.number < worker.processors + length (first_of lock.now).world.controllers }
-    ensures { HasWorked (first_world Q.view lock.now) worker.processors lock.now worker.number seat.new }
+    ensures seat { HasWorked (first_world Q.view lock.now) worker.processors lock.now worker.number seat.new }
+    ensures left { OnOk result (HasLeft (first_world Q.view lock.now) worker.processors worker.number seat.new) }
 {
     let mut last = None;
     let mut turn = 0u64;
     for _ in rt.forever() {
         gate.pass(worker.number, turn);
         turn = turn.saturating_add(1);
-        match take_turn(rt, lock, seat, worker, &mut last) {
+        match take_turn(rt, lock, seat, worker, &mut last)? {
             Progress::Moved => {}
             Progress::Idle => thread::yield_now(),
-            Progress::Done => return,
+            Progress::Done => return Ok(()),
         }
     }
     unreachable!()
@@ -113,7 +119,8 @@ fn work<R: Threads + Wait + Sync, Q: Kernel + Send, G: Gate + Sync>(
                 processors,
                 number: number as u32,
             };
-            take_turns(rt, lock, seat, worker, gate)
+            // A refusal has left its mark beside the world.
+            let _ = take_turns(rt, lock, seat, worker, gate);
         },
     );
 }
@@ -175,8 +182,7 @@ fn ended<R: Wait, Q: Kernel>(rt: &R, shared: SharedWorld<Q>) -> (World<Q>, Resul
 /// Makes the run of a world by workers, each in a thread of its own: so many that share the processor and move lwps and
 /// the clock, and one for each controller. They take the world in turn under a lock, in any order; its schedule is not
 /// used. It ends where the world has ended, and says how; where memory runs out on the way, the world is handed back as
-/// it stands. The refusal of a lock, or of its seats, comes before any move. It waits for its workers: what is said here
-/// holds if it returns.
+/// it stands. It waits for its workers: what is said here holds if it returns.
 pub fn run_many<R: Threads + Wait + Sync, Q: Kernel + Send, G: Gate + Sync>(
     rt: &R,
     alloc: Global,
@@ -191,8 +197,9 @@ pub fn run_many<R: Threads + Wait + Sync, Q: Kernel + Send, G: Gate + Sync>(
     // legal and follows the protocol, and its state is the one after it.
     ensures came { IfOk result (λ made. CameFrom (seen Q.view world) (seen Q.view made.0)) }
 
-    // The entries of the history are those that the workers made, each once. A worker of the processor went on after
-    // the lwp that it had moved last.
+    // The entries of the history are those that the workers made, each once. Each is a move in a world on the way from
+    // the first to the last, of the actor that came next for its worker: a worker of the processor went on after the
+    // lwp that it had moved last.
     ensures made { IfOk result (λ made. IsMadeBy (seen Q.view world) workers (Q.view made.0.kernel).history) }
 
     ensures within { IfOk result (λ made. length (Q.view made.0.kernel).history ≤ (Q.view made.0.kernel).places) }

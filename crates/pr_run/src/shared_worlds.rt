@@ -1,7 +1,7 @@
 //! What lies under the lock of a run on several threads.
-ghost use Rattle.std.specs.Prelude.{◌≡◌, ◌+◌, ◌<◌, None, IsSome, length};
+ghost use Rattle.std.specs.Prelude.{◌≡◌, ◌+◌, ◌<◌, None, IsSome, IfOk, OnOk, OnErr, length};
+ghost use Rattle.pr_api.specs.Views.{IsLawful};
 ghost use Rattle.pr_run.specs.ManyRuns.{IsTurnOf, Makes};
-ghost use Rattle.pr_run.specs.declared.workers.Progress.TheVariants.{Done};
 ghost use Rattle.pr_world.specs.Runs.{CameFrom};
 ghost use Rattle.pr_world.specs.Worlds.{WorldState, seen};
 
@@ -11,6 +11,13 @@ use pr_lock::Logged;
 use pr_model::Entry;
 use pr_num::NoMemory;
 use pr_world::World;
+use std::collections::LinkedList;
+
+/// An entry of a history, with those that stand before it. It exists in proofs alone: no value of this type is made.
+pub struct LoggedEntry {
+    pub before: LinkedList<Entry>,
+    pub entry: Entry,
+}
 
 /// A world that workers take in turn, and the mark of a worker that was refused memory: each worker that finds it ends.
 #[derive(Drop)]
@@ -20,15 +27,17 @@ pub struct SharedWorld<Q> {
 }
 
 impl<Q: Kernel> Logged for SharedWorld<Q> {
+    ghost use Rattle.pr_run.specs.Logs.{log_of};
     ghost use Rattle.pr_world.specs.Runs.{CameFrom};
     ghost use Rattle.pr_world.specs.Worlds.{seen};
 
-    type Item = Entry;
+    type Item = LoggedEntry;
 
-    ghost entries = { λ shared. (Q.view shared.world.kernel).history };
+    ghost entries = { λ shared. log_of (Q.view shared.world.kernel).history };
 
     ghost comes = { λ shared first. CameFrom (seen Q.view first.world) (seen Q.view shared.world) };
 
+    #[tactic(auto, using(crate::proofs::LogLemmas::counts))]
     fn count(&self) -> u64 {
         u64::from(self.world.kernel().entries())
     }
@@ -36,27 +45,33 @@ impl<Q: Kernel> Logged for SharedWorld<Q> {
 
 impl<Q: Kernel> SharedWorld<Q> {
     /// One turn of a worker, with at most one move. `last` is the lwp that the worker moved last. Where it is refused
-    /// memory, it leaves the mark.
-    pub fn take_turn(&mut self, worker: Worker, last: &mut Option<(u32, u32)>) -> Progress
+    /// memory, it leaves the mark, and where it finds that, it is refused too.
+    pub fn take_turn(
+        &mut self,
+        worker: Worker,
+        last: &mut Option<(u32, u32)>,
+    ) -> Result<Progress, NoMemory>
         requires { worker.number < worker.processors + length self.old.world.controllers }
+        ensures lawful { IsLawful (Q.view self.old.world.kernel) }
         ensures turn { IsTurnOf worker.processors worker.number last.old last.new
             (seen Q.view self.old.world) (seen Q.view self.new.world) }
         ensures came { (first : WorldState) → CameFrom first (seen Q.view self.old.world)
             → CameFrom first (seen Q.view self.new.world) }
-        ensures made { self.new.refusal ≡ None → Makes worker.processors worker.number last.old last.new
-            (seen Q.view self.old.world) (seen Q.view self.new.world) result }
-        ensures refused { IsSome self.new.refusal
-            → (result ≡ Done) × (self.new.world ≡ self.old.world) × (last.new ≡ last.old) }
+        ensures made { IfOk result (λ progress. Makes worker.processors worker.number last.old last.new
+            (seen Q.view self.old.world) (seen Q.view self.new.world) progress) }
+        ensures unmarked { OnOk result (self.new.refusal ≡ None) }
+        ensures refused { OnErr result
+            (IsSome self.new.refusal × (self.new.world ≡ self.old.world) × (last.new ≡ last.old)) }
         ensures marked { IsSome self.old.refusal → self.new ≡ self.old }
     {
-        if self.refusal.is_some() {
-            return Progress::Done;
+        if let Some(refusal) = self.refusal {
+            return Err(refusal);
         }
         match worker.make_turn(&mut self.world, last) {
-            Ok(progress) => progress,
+            Ok(progress) => Ok(progress),
             Err(refusal) => {
                 self.refusal = Some(refusal);
-                Progress::Done
+                Err(refusal)
             }
         }
     }

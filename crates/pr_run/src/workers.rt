@@ -1,6 +1,6 @@
 //! What the workers of a run on several threads do in a world.
 ghost use Rattle.std.specs.Prelude.{◌≡◌, ◌+◌, ◌<◌, ◌≤◌, length, IfOk, OnErr};
-ghost use Rattle.pr_run.specs.ManyRuns.{Makes, is_done, lwp_of, next_for, next_of_controller, next_on_processor};
+ghost use Rattle.pr_run.specs.ManyRuns.{Makes, is_done, is_finished, lwp_of, next_for, next_of_controller, next_on_processor};
 ghost use Rattle.pr_world.specs.Worlds.{seen};
 
 use pr_api::Kernel;
@@ -87,23 +87,34 @@ impl Worker {
         }
     }
 
-    /// Whether it has nothing more to do: the world has ended, or its controller has finished.
-    fn is_done<Q: Kernel>(self, world: &mut World<Q>) -> Result<bool, NoMemory>
+    /// Whether it moves a controller, and that has finished.
+    fn is_finished<Q: Kernel>(self, world: &mut World<Q>) -> Result<bool, NoMemory>
         requires { self.number < self.processors + length world.old.controllers }
-        ensures value { IfOk result (λ done. done ≡ is_done self.processors self.number (seen Q.view world.old)) }
+        ensures value { IfOk result (λ finished. finished
+            ≡ is_finished self.processors self.number (seen Q.view world.old)) }
         ensures same { world.new ≡ world.old }
     {
-        if world.ended()?.is_some() {
-            return Ok(true);
-        }
         if self.number < self.processors {
             return Ok(false);
         }
         world.finished(self.number - self.processors)
     }
 
-    /// One turn, with at most one move. `last` is the lwp that the worker moved last. Where memory runs out, both are as
-    /// they were.
+    /// Whether it has nothing more to do: the world has ended, or its controller has finished.
+    fn is_done<Q: Kernel>(self, world: &mut World<Q>) -> Result<bool, NoMemory>
+        requires { self.number < self.processors + length world.old.controllers }
+        ensures value { IfOk result (λ done. done ≡ is_done self.processors self.number (seen Q.view world.old)) }
+        ensures same { world.new ≡ world.old }
+    {
+        if self.is_finished(world)? {
+            return Ok(true);
+        }
+        Ok(world.ended()?.is_some())
+    }
+
+    /// One turn, with at most one move. `last` is the lwp that the worker moved last. Where memory runs out, both are
+    /// as they were. It looks first for who moves next, since how a world stands takes longer to find out: where
+    /// somebody can move, it has ended only if its places are taken.
     pub fn make_turn<Q: Kernel>(
         self,
         world: &mut World<Q>,
@@ -115,12 +126,15 @@ impl Worker {
         ensures err { OnErr result (world.new ≡ world.old) }
         ensures kept { OnErr result (last.new ≡ last.old) }
     {
-        if self.is_done(world)? {
-            return Ok(Progress::Done);
-        }
         let Some(actor) = self.next(world, *last)? else {
+            if self.is_done(world)? {
+                return Ok(Progress::Done);
+            }
             return Ok(Progress::Idle);
         };
+        if world.kernel().entries() >= world.kernel().places() {
+            return Ok(Progress::Done);
+        }
         world.turn(actor)?;
         *last = lwp_of(actor);
         Ok(Progress::Moved)

@@ -2,7 +2,7 @@ use Rattle.std.proofs.Common.{◌≡◌, ◌++◌, ◌∙◌, List, ℕ, sym, ap
 use Rattle.std.proofs.lemmas.List.Elements.{All-head, All-rest, All-same}
 use Rattle.pr_lock.specs.Seats.{IsOutside, own_of, shares_of}
 use Rattle.pr_lock.specs.declared.seats.Seat.{Seat}
-use Rattle.pr_model.specs.declared.events.Entry.{Entry}
+use Rattle.pr_run.specs.declared.shared_worlds.LoggedEntry.{LoggedEntry}
 use Rattle.pr_run.proofs.many.gather.Goals as goal
 
 pub loop-other-preserved : goal.loop-other-preserved
@@ -11,7 +11,7 @@ loop-other-preserved g c =
     let next = c.in-Some.ensures.steps.0 in
     let other = c.in-Some.other in
     let left = c.next.new.self.rest.items in
-    let P : Seat _ Entry → Type 0 = λ seat. IsOutside seat c.args.lock.now × (shares_of seat ≡ 1) in
+    let P : Seat _ LoggedEntry → Type 0 = λ seat. IsOutside seat c.args.lock.now × (shares_of seat ≡ 1) in
     let one = All-head P other left (All-same P _ _ (sym next) so_far.rest) in
     let own = c.join.ensures.own in
     record {
@@ -20,7 +20,7 @@ loop-other-preserved g c =
       seat = c.join.ensures.lock;
       rest = All-rest P other left _ next so_far.rest;
       shares = omega (arith, c.join.ensures.shares, one.1, ap length next, so_far.shares);
-      own = ap (λ (o : List (ℕ × Entry)). o ++ flat_map (λ seat. own_of seat) left) own
+      own = ap (λ (o : List (ℕ × LoggedEntry)). o ++ flat_map (λ seat. own_of seat) left) own
           ∙ (append_assoc (own_of c.loop-other.seat) (own_of other) (flat_map (λ seat. own_of seat) left)
-          ∙ (ap (λ (l : List (Seat _ Entry)). own_of c.loop-other.seat ++ flat_map (λ seat. own_of seat) l) (sym next) ∙ so_far.own));
+          ∙ (ap (λ (l : List (Seat _ LoggedEntry)). own_of c.loop-other.seat ++ flat_map (λ seat. own_of seat) l) (sym next) ∙ so_far.own));
     }

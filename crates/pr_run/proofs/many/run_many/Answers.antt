@@ -1,9 +1,9 @@
 use Rattle.std.proofs.Common.{◌≡◌, ◌+◌, ◌++◌, All, sym, ap, subst, length, take, drop, arith}
 use Rattle.pr_lock.specs.Seats.{IsOutside, own_of, shares_of}
 use Rattle.pr_lock.specs.declared.seats.Seat.{Seat}
-use Rattle.pr_model.specs.declared.events.Entry.{Entry}
 use Rattle.pr_run.specs.ManyRuns.{IsMadeBy, first_world}
 use Rattle.pr_run.specs.declared.shared_worlds.SharedWorld.{SharedWorld}
+use Rattle.pr_run.specs.declared.shared_worlds.LoggedEntry.{LoggedEntry}
 use Rattle.pr_run.proofs.ManyLemmas.{all-made, all-out, taken-in, written-back}
 use Rattle.pr_world.proofs.RunLemmas.{came-first}
 use Rattle.pr_world.specs.Worlds.{WorldOf, WorldState, seen}
@@ -15,7 +15,7 @@ new-requires-clause-source g c κs within = came-first (seen g.Q.Kernel.view c.a
 pub gather-requires-clause-seats : goal.gather-requires-clause-seats
 gather-requires-clause-seats g c κs within =
     let back = written-back c.work.new.seats c.in_ok-seats.seats.items c.in_ok-seats.seats.len (omega (arith, c.work.auto.seats, ap length c.deref_mut.ensures.value)) (omega (arith, c.in_ok-seats.seats.ok)) in
-    subst (All (λ (seat : Seat _ Entry). IsOutside seat c.in_ok-lock.lock × (shares_of seat ≡ 1))) (sym back) (all-out (first_world g.Q.Kernel.view c.in_ok-lock.lock) c.args.workers c.in_ok-lock.lock c.work.new.seats c.work.ensures.seats)
+    subst (All (λ (seat : Seat _ LoggedEntry). IsOutside seat c.in_ok-lock.lock × (shares_of seat ≡ 1))) (sym back) (all-out (first_world g.Q.Kernel.view c.in_ok-lock.lock) c.args.workers c.in_ok-lock.lock c.work.new.seats c.work.ensures.seats)
 
 pub returns-clause-made : goal.returns-clause-made
 returns-clause-made g c =

@@ -1,8 +1,11 @@
-use Rattle.std.proofs.Common.{◌∙◌, sym, ap, subst, None, arith}
+use Rattle.std.proofs.Common.{◌≡◌, ◌∙◌, ℕ, List, sym, ap, subst, None, arith}
+use Rattle.pr_lock.specs.History.{StandIn, StartsWith}
 use Rattle.pr_lock.specs.Seats.{entered_of, first_of, own_of}
 use Rattle.pr_world.specs.Worlds.{seen}
-use Rattle.pr_run.proofs.ManyLemmas.{came-count, turn-work}
-use Rattle.pr_run.specs.ManyRuns.{IsWorkOf, first_world, last_lwp}
+use Rattle.pr_run.proofs.ManyLemmas.{came-count, done-left, turn-grows, turn-work}
+use Rattle.pr_run.specs.ManyRuns.{HasMade, first_world, last_lwp}
+use Rattle.pr_run.specs.Logs.{entries_of, log_of}
+use Rattle.pr_run.specs.declared.shared_worlds.LoggedEntry.{LoggedEntry}
 use Rattle.pr_run.proofs.many.take_turn.Goals as goal
 
 pub take_turn-progress-requires : goal.take_turn-progress-requires
@@ -15,22 +18,39 @@ pub leave-requires-clause-source : goal.leave-requires-clause-source
 leave-requires-clause-source g c κs within =
     c.take_turn-progress.ensures.came (seen g.Q.Kernel.view (first_of c.args.lock.now).world) c.enter-shared.ensures.source
 
+pub leave-requires-clause-grown : goal.leave-requires-clause-grown
+leave-requires-clause-grown g c κs within =
+    let view = g.Q.Kernel.view in
+    let w = seen view c.enter-shared.result.world in
+    let v = seen view c.take_turn-progress.new.self.world in
+    let grown = turn-grows c.args.worker.processors c.args.worker.number c.args.last.now c.take_turn-progress.new.last w v c.take_turn-progress.ensures.turn in
+    subst (StartsWith (log_of v.kernel.history)) (sym c.enter-shared.ensures.lock.1) grown
+
 pub returns : goal.returns
 returns g c =
     let view = g.Q.Kernel.view in
     let p = c.args.worker.processors in
     let n = c.args.worker.number in
+    let old = c.args.last.now in
+    let new = c.take_turn-progress.new.last in
     let first = first_world view c.args.lock.now in
+    let w = seen view c.enter-shared.result.world in
+    let v = seen view c.take_turn-progress.new.self.world in
+    let lawful = c.take_turn-progress.ensures.lawful in
+    let came = c.enter-shared.ensures.source in
     let entered = c.enter-shared.new.seat in
     let kept = c.enter-shared.ensures.kept in
-    let grown = turn-work first p n c.args.last.now c.take_turn-progress.new.last (seen view c.enter-shared.result.world) (seen view c.take_turn-progress.new.self.world) (own_of entered) (own_of c.leave.new.seat) (entered_of entered)
-    c.take_turn-progress.ensures.turn c.enter-shared.ensures.source (subst (IsWorkOf first p n) (sym kept.1) c.requires.seat.work) (c.requires.last ∙ ap (last_lwp None) (sym kept.1))
-    c.enter-shared.ensures.lock.1 c.leave.ensures.own c.leave.ensures.order in
+    let own : own_of entered ≡ own_of c.args.seat.now = kept.1 in
+    let made = subst (HasMade first p n) (sym own) c.requires.seat.made in
+    let stand : StandIn (log_of w.kernel.history) (own_of entered) = subst (StandIn (log_of w.kernel.history)) (sym own) c.enter-shared.ensures.stand in
+    let last = c.requires.last ∙ ap (λ (l : List (ℕ × LoggedEntry)). last_lwp None (entries_of l)) (sym own) in
+    let grown = turn-work first p n old new w v (own_of entered) c.take_turn-progress.ensures.turn lawful came made last (own_of c.leave.new.seat) (entered_of entered) stand c.enter-shared.ensures.lock.1 c.leave.ensures.own c.leave.ensures.order in
     record {
       seat = record {
         outside = c.leave.ensures.lock;
         share = omega (arith, c.leave.ensures.shares, kept.2, c.requires.seat.share);
-        work = grown.work;
+        made = grown.made;
       };
       last = grown.last;
+      done = done-left first p n old new w v c.take_turn-progress.result c.leave.new.seat c.take_turn-progress.ensures.made lawful came c.leave.ensures.seen;
     }
