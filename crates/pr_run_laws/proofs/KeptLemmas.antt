@@ -83,16 +83,16 @@ tool-first : (s : Scenario) (k : ℕ) (kind : ToolKind) (pid : ℕ) → slice_ge
 unfolding controller_of
 tool-first s k kind pid at = slice_get-map controller_of s.controllers k ∙ ap (option_map controller_of) at
 
-tools-kept : (s : Scenario) (h : List Entry) → IsScenarioInRange s → IsLegal (length (controllers_of s)) (first_state_of s) h → Follows (controllers_of s) (first_state_of s) h → (k : ℕ) (kind : ToolKind) (pid : ℕ) → slice_get s.controllers k ≡ Some (plan.Tool kind pid) → IsToolKept (controllers_of s) (first_state_of s) h s.programs k kind pid
+tools-kept : (s : Scenario) (h : List Entry) → IsScenarioInRange s → IsLegal (length (controllers_of s)) (first_state_of s) h → Follows (controllers_of s) (first_state_of s) h → (k : ℕ) (kind : ToolKind) (pid : ℕ) → slice_get s.controllers k ≡ Some (plan.Tool kind pid) → IsToolKept (controllers_of s) (first_state_of s) h k kind pid
 tools-kept s h range legal follows k kind pid at = record {
-  shows = λ t ends ended accepted once.
+  shows = λ t programs ends ended accepted once.
       let n = length (controllers_of s) in
-      tool-shows (controllers_of s) n k kind pid (first_state_of s) h t s.programs (first-lawful s.programs (files_of s) s.spawns range.start) (first-state-range s.programs (files_of s) s.spawns range.range)
+      tool-shows (controllers_of s) n k kind pid (first_state_of s) h t programs (first-lawful s.programs (files_of s) s.spawns range.start) (first-state-range s.programs (files_of s) s.spawns range.range)
       (follows-bytes (controllers_of s) n (first_state_of s) h range.bytes legal follows) once (tool-first s k kind pid at) legal follows ends ended accepted;
-  stack = λ t ends ended accepted same.
+  stack = λ t programs ends ended accepted same.
       let n = length (controllers_of s) in
       let begins : slice_get (controllers_of s) k ≡ Some (Tool (first_tool Pstack pid)) = tool-first s k kind pid at ∙ ap (λ (which : ToolKind). Some (Tool (first_tool which pid))) same in
-      shows-one-stack (controllers_of s) n k pid (first_state_of s) h t s.programs (first-lawful s.programs (files_of s) s.spawns range.start) (first-state-range s.programs (files_of s) s.spawns range.range)
+      shows-one-stack (controllers_of s) n k pid (first_state_of s) h t programs (first-lawful s.programs (files_of s) s.spawns range.start) (first-state-range s.programs (files_of s) s.spawns range.range)
       (follows-bytes (controllers_of s) n (first_state_of s) h range.bytes legal follows) begins legal follows ends ended accepted;
 }
 

@@ -56,9 +56,10 @@ first_world s = record {
 -- controllers make the calls that come after the replies that they got, and the clock goes on only where it is awaited;
 -- and if controllers only stopped, ran and read, the programs did what they could have done without controllers. Truss
 -- and the tools do no more than that: where no controller is a script, the programs always did so. Each truss has shown
--- what was selected while it watched, on the conditions of TrussRuns; when it has finished, it has attached what it was
--- given or reported its refusal, unless it was interrupted before, and it has nothing open. What a tool shows stood so in
--- one state.
+-- what was selected while it watched, on the conditions of TrussRuns; it lets a process go for a reason alone, and
+-- releases it; when it has finished, it has attached what it was given or reported its refusal, unless it was interrupted
+-- before, it has opened or set free each child of a fork that it read and is to follow, or reported its refusal, and it
+-- has nothing open. What a tool shows stood so in one state, whatever programs its labels are taken from.
 pub record IsKept (s : Scenario) (h : List Entry) : Type 0 where
   pub legal : IsLegal (length (controllers_of s)) (first_state_of s) h
   pub follows : Follows (controllers_of s) (first_state_of s) h
@@ -67,7 +68,7 @@ pub record IsKept (s : Scenario) (h : List Entry) : Type 0 where
   pub trusses : (k : ℕ) (o : Options) → slice_get s.controllers k ≡ Some (plan.Truss o)
       → IsTrussKept (controllers_of s) (first_state_of s) h k o
   pub tools : (k : ℕ) (kind : ToolKind) (pid : ℕ) → slice_get s.controllers k ≡ Some (plan.Tool kind pid)
-      → IsToolKept (controllers_of s) (first_state_of s) h s.programs k kind pid
+      → IsToolKept (controllers_of s) (first_state_of s) h k kind pid
 
 -- ---- on one thread a run is a function of the scenario
 
