@@ -1,9 +1,10 @@
-use Rattle.std.proofs.Common.{◌≡◌, ◌==◌, ◌++◌, ℕ, zero, suc, Bool, true, false, cond, Option, Some, None, List, [], ◌∷◌, append_assoc, replicate, refl, sym, ◌∙◌, ap, subst}
+use Rattle.std.proofs.Common.{◌≡◌, ◌==◌, ◌++◌, ℕ, zero, suc, Bool, true, false, cond, Option, Some, None, List, [], ◌∷◌, ◌⊎◌, append_assoc, inl, inr, replicate, refl, sym, ◌∙◌, ap, subst}
 use Rattle.std.proofs.lemmas.Bool.{eqb-true, eqb-false, false≢true}
 use Rattle.std.proofs.lemmas.List.{append-nil}
 use Rattle.std.proofs.lemmas.List.Elements.{filter_map-append}
 use Rattle.std.specs.List.{cons_option, slice_get}
 use Rattle.std.specs.Option.{option_and_then}
+use Rattle.pr_api.specs.Entries.{turn_entry}
 use Rattle.pr_line.specs.declared.options.Options.{Options}
 use Rattle.pr_model.specs.Handles.{handle_of, is_control, own}
 use Rattle.pr_model.specs.Legal.{IsLegal, after, state_after}
@@ -21,7 +22,8 @@ use Rattle.pr_model.specs.declared.handles.Held.{Held}
 use Rattle.pr_model.specs.Lawful.{IsLawful}
 use Rattle.pr_range_laws.specs.ByteHistories.{HasBytes}
 use Rattle.pr_range_laws.specs.InRange.{IsInRange}
-use Rattle.pr_report_laws.proofs.BeginLaws.{finished-watches-none}
+use Rattle.pr_report_laws.proofs.BeginLaws.{finished-watches-none, followed-watches, opened-watches}
+use Rattle.pr_report_laws.proofs.BeginsOnlyLaws.{watched-opened}
 use Rattle.pr_report_laws.proofs.Births.{births-report}
 use Rattle.pr_report_laws.proofs.EndLaws.{watched-let}
 use Rattle.pr_report_laws.proofs.FileLaws.{HasFiles, IsFileOf}
@@ -30,12 +32,14 @@ use Rattle.pr_report_laws.proofs.FollowCalm.{never-kept, never-left}
 use Rattle.pr_report_laws.proofs.FollowLaws.{read-followed}
 use Rattle.pr_report_laws.proofs.FreedLaws.{read-freed}
 use Rattle.pr_report_laws.proofs.MemoryReads.{read-texts}
+use Rattle.pr_report_laws.proofs.NewbornLaws.{followed-forked, followed-rests, followed-silent}
 use Rattle.pr_report_laws.proofs.ReleaseLaws.{freed-set, set-stays, traced-set}
 use Rattle.pr_report_laws.proofs.ReleaseSteps.{truss-releases}
 use Rattle.pr_report_laws.proofs.WatchHistories.{IsRun, makes-front, run-reaches}
-use Rattle.pr_tool_laws.proofs.WholeLemmas.{front-legal}
+use Rattle.pr_tool_laws.proofs.WholeLemmas.{front-bytes, front-legal}
 use Rattle.pr_report_laws.specs.Fits.{IsFitSystem}
-use Rattle.pr_report_laws.specs.Grips.{IsLetGo}
+use Rattle.pr_report_laws.specs.Births.{LeavesForks, NamesNoChild, granted}
+use Rattle.pr_report_laws.specs.Grips.{HasFollowed, HasOpened, IsLetGo}
 use Rattle.pr_report_laws.specs.Releases.{modes_set, released}
 use Rattle.pr_report_laws.specs.Watching.{watches}
 use Rattle.pr_truss.specs.Feeding.{fed}
@@ -49,7 +53,7 @@ use Rattle.pr_truss_laws.specs.Handles.{HasNothingOpen}
 use Rattle.pr_world.specs.Controllers.{after_reply, call_by, next_call, with_fed}
 use Rattle.pr_world.specs.Cores.{Core, Truss}
 use Rattle.pr_world.specs.Protocol.{Follows, FollowsAt, controllers_after, controllers_at}
-use Rattle.pr_run_laws.specs.TrussRuns.{HandlesChildren, HasControl, HasDone, IsTrussKept, Releases, WasLetGo}
+use Rattle.pr_run_laws.specs.TrussRuns.{HandlesChildren, HasControl, HasDone, IsNewborn, IsTrussKept, Releases, WasLetGo}
 use Rattle.pr_num.specs.Limits.{handle_limit}
 use Rattle.pr_tool_laws.proofs.ConductLemmas.{fed-other, fed-own}
 
@@ -123,6 +127,23 @@ exchanges-both : (k : ℕ) (xs ys : List Entry) → exchanges k (xs ++ ys) ≡ e
 unfolding exchanges
 exchanges-both k xs ys = filter_map-append (exchange_of k) xs ys
 
+-- what is asked of the forks of a history is so of a front of it
+named-front : (o : Options) (before later : List Entry) → NamesNoChild o (before ++ later) → NamesNoChild o before
+named-front o before later named = record {
+  none = λ follow b l parent id place pid turned is made at. named.none follow b (l ++ later) parent id place pid turned (ap (λ g. g ++ later) is ∙ append_assoc b (turn_entry parent id turned ∷ l) later) made at;
+}
+
+forks-front : (k : ℕ) (o : Options) (before later : List Entry) → LeavesForks k o (before ++ later) → LeavesForks k o before
+forks-front k o before later forks = record {
+  each = λ follow b between behind l parent id turned by pid lwp handle own_lwp own_handle file own_file mode own_mode is made writes own_writes.
+      let own : Entry = granted k pid own_lwp own_file own_mode own_handle in
+      let other : Entry = granted by pid lwp file mode handle in
+      forks.each follow b between behind (l ++ later) parent id turned by pid lwp handle own_lwp own_handle file own_file mode own_mode
+      (ap (λ g. g ++ later) is ∙ append_assoc b (turn_entry parent id turned ∷ (between ++ other ∷ (behind ++ own ∷ l))) later
+      ∙ ap (λ g. b ++ turn_entry parent id turned ∷ g) (append_assoc between (other ∷ (behind ++ own ∷ l)) later ∙ ap (λ g. between ++ other ∷ g) (append_assoc behind (own ∷ l) later)))
+      made writes own_writes;
+}
+
 module _ (n k : ℕ) (o : Options) (first : TracedState) (h : List Entry) (run : IsRun n k o first h) where
   front-run : (before later : List Entry) → h ≡ before ++ later → IsRun n k o first before
   front-run before later is = record {
@@ -139,6 +160,28 @@ module _ (n k : ℕ) (o : Options) (first : TracedState) (h : List Entry) (run :
 
   let-go : (before later : List Entry) (e : Entry) (pid : ℕ) → h ≡ before ++ e ∷ later → watches (truss_at k o before) pid ≡ true → watches (truss_at k o (before ++ e ∷ [])) pid ≡ false → IsLetGo k pid first before e
   let-go before later e pid is on off = watched-let n k o pid first before e (entry-run before later e is) on off
+
+  -- ---- it begins by an opening
+
+  opens : (before later : List Entry) (pid : ℕ) → h ≡ before ++ later → HasOpened k o pid before ⊎ HasFollowed k pid before → watches (truss_at k o before) pid ≡ true
+  opens before later pid is (inl opened) = opened-watches n k o pid first before (front-run before later is) opened
+  opens before later pid is (inr followed) = followed-watches n k o pid first before (front-run before later is) followed
+
+  begins : (before later : List Entry) (e : Entry) (pid : ℕ) → h ≡ before ++ e ∷ later → watches (truss_at k o before) pid ≡ false → watches (truss_at k o (before ++ e ∷ [])) pid ≡ true → HasOpened k o pid (before ++ e ∷ []) ⊎ HasFollowed k pid (before ++ e ∷ [])
+  begins before later e pid is off on = watched-opened n k o pid first before e (entry-run before later e is) off on
+
+  newborn : IsFitSystem first.system → IsInRange first.system → HasBytes h → (before later : List Entry) (e : Entry) (pid : ℕ) → NamesNoChild o h → LeavesForks k o h → h ≡ before ++ e ∷ later → watches (truss_at k o before) pid ≡ false → HasFollowed k pid (before ++ e ∷ []) → IsNewborn o pid first (before ++ e ∷ [])
+  newborn fit range bytes before later e pid named forks is off followed =
+      let it = entry-run before later e is in
+      let split : h ≡ (before ++ e ∷ []) ++ later = is ∙ sym (append_assoc before (e ∷ []) later) in
+      let those : HasBytes (before ++ e ∷ []) = front-bytes (before ++ e ∷ []) later (subst HasBytes split bytes) in
+      let none_named = named-front o (before ++ e ∷ []) later (subst (NamesNoChild o) split named) in
+      let left = forks-front k o (before ++ e ∷ []) later (subst (LeavesForks k o) split forks) in
+      record {
+        forked = followed-forked n k o pid first before e it.lawful fit it.none it.legal it.makes range those none_named left off followed;
+        still = followed-rests n k o pid first before e it.lawful fit it.none it.legal it.makes range those none_named left off followed;
+        silent = followed-silent n k o pid first before e it.lawful fit it.none it.legal it.makes range those none_named left off followed;
+      }
 
   was-let : (pid : ℕ) → watches (truss_at k o h) pid ≡ false → (later before : List Entry) → h ≡ before ++ later → watches (truss_at k o before) pid ≡ true → WasLetGo k pid first before later
   was-let pid over [] before is on = absurd (false≢true (sym over ∙ ap (λ g. watches (truss_at k o g) pid) (is ∙ append-nil before) ∙ on))
@@ -216,6 +259,9 @@ truss-kept controllers n first h k o lawful fit range bytes at none legal follow
       shows = λ pid named forks. births-report n k o pid first h lawful fit none legal stays.0 range bytes named forks;
       texts = read-texts n k o first h lawful none legal stays.0;
       children = children n k o first h run;
+      opens = opens n k o first h run;
+      begins = begins n k o first h run;
+      newborn = newborn n k o first h run fit range bytes;
       lets_go = let-go n k o first h run;
       releases = λ before later is. releases n k o first before (front-run n k o first h run before later is);
       stays_set = stays-set n k o first h run;

@@ -55,11 +55,13 @@ first_world s = record {
 -- What every run of a scenario keeps, in whatever order its actors move: each entry is what the machine does; the
 -- controllers make the calls that come after the replies that they got, and the clock goes on only where it is awaited;
 -- and if controllers only stopped, ran and read, the programs did what they could have done without controllers. Truss
--- and the tools do no more than that: where no controller is a script, the programs always did so. Each truss has shown
--- what was selected while it watched, on the conditions of TrussRuns; it lets a process go for a reason alone, and
--- releases it; when it has finished, it has attached what it was given or reported its refusal, unless it was interrupted
--- before, it has opened or set free each child of a fork that it read and is to follow, or reported its refusal, and it
--- has nothing open. What a tool shows stood so in one state, whatever programs its labels are taken from.
+-- and the tools do no more than that: where no controller is a script, the programs always did so.
+--
+-- Each truss has shown what was selected while it watched, on the conditions of TrussRuns; it lets a process go for a
+-- reason alone, and releases it. When it has finished, it has attached what it was given or reported its refusal,
+-- unless it was interrupted before; it has opened or set free each child of a fork that it read and is to follow, or
+-- reported its refusal; and it has nothing open. What a tool shows stood so in one state, whatever programs give its
+-- labels.
 pub record IsKept (s : Scenario) (h : List Entry) : Type 0 where
   pub legal : IsLegal (length (controllers_of s)) (first_state_of s) h
   pub follows : Follows (controllers_of s) (first_state_of s) h

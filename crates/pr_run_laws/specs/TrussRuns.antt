@@ -1,5 +1,8 @@
-use Rattle.std.specs.Prelude.{◌≡◌, ◌≢◌, ◌<◌, ◌++◌, ℕ, true, false, List, [], ◌∷◌, Option, Some, None, length, slice_get}
+use Rattle.std.specs.Prelude.{◌≡◌, ◌≢◌, ◌<◌, ◌⊎◌, ◌++◌, ℕ, true, false, List, [], ◌∷◌, Option, Some, None, length}
+use Rattle.std.specs.Prelude.{slice_get}
+use Rattle.std.specs.List.{All}
 use Rattle.pr_line.specs.declared.options.Options.{Options}
+use Rattle.pr_model.specs.Events.{events_from}
 use Rattle.pr_model.specs.Handles.{handle_of, is_control}
 use Rattle.pr_model.specs.Legal.{state_after}
 use Rattle.pr_model.specs.Calls.{Answer, answer_to}
@@ -18,11 +21,13 @@ use Rattle.pr_truss.specs.declared.stages.Stage.TheVariants.{FreeingChild}
 use Rattle.pr_report_laws.specs.Births.{LeavesForks, NamesNoChild}
 use Rattle.pr_report_laws.specs.Follows.{IsFollowedUp, IsLeftChild, ReadsFork}
 use Rattle.pr_report_laws.specs.Freed.{IsInterruptedFreeing, IsSetFree, ReadsLastFork}
-use Rattle.pr_report_laws.specs.Grips.{IsLetGo}
+use Rattle.pr_report_laws.specs.Grips.{HasFollowed, HasOpened, IsLetGo}
 use Rattle.pr_laws.specs.LastCloses.{IsReleased}
 use Rattle.pr_report_laws.specs.Memories.{HaveTheirTexts}
+use Rattle.pr_report_laws.specs.Newborn.{IsNoTurnOf, WasForked}
 use Rattle.pr_report_laws.specs.Releases.{has_set_at, modes_set, released}
 use Rattle.pr_report_laws.specs.Reported.{IsReported}
+use Rattle.pr_report_laws.specs.Shown.{selected}
 use Rattle.pr_report_laws.specs.Watching.{watches}
 use Rattle.pr_truss_laws.specs.Exchanges.{Exchange, Makes, exchanges, truss_after, truss_at}
 use Rattle.pr_truss_laws.specs.Given.{IsHandled}
@@ -53,6 +58,13 @@ pub record HasDone (k : ℕ) (o : Options) (first : TracedState) (h : List Entry
       → WasLetGo k pid first before later
 
 -- ---- the children of forks
+
+-- A child that truss watches from the end of this history on: a fork made it, no lwp of it has had a turn, and so no
+-- event of it that the options select has come.
+pub record IsNewborn (o : Options) (pid : ℕ) (first : TracedState) (h : List Entry) : Type 0 where
+  pub forked : WasForked pid h
+  pub still : All (IsNoTurnOf pid) h
+  pub silent : selected o pid (events_from first h) ≡ []
 
 -- What a truss that follows children does with those of the forks that it reads: each is opened, or its refusal is the
 -- next report; and one that it reads while it leaves a process is set free, or its refusal is the next report. What
@@ -109,16 +121,28 @@ pub record Releases (k : ℕ) (o : Options) (first : TracedState) (h : List Entr
 -- The controller of a number is a truss with these options, whose calls are those that it makes after the replies that
 -- it got. Of each process it has shown what was selected of its events while it watched the process. Where it follows
 -- children, this is said only if fork makes none of the processes that its options name, and if between a fork and the
--- opening of its child no other controller is granted a handle for writing of the child. The memory that stands in the
--- line of an event is that of the state in which truss read it. A process that it watched is let go for a reason alone.
--- Wherever it has come to, it releases the processes of which it has set PR_RLC when it closes their control files; and
--- what it has set so stays set while it has the control file open, also where the opening of the process is broken off.
-pub record IsTrussKept (controllers : List Core) (first : TracedState) (h : List Entry) (k : ℕ) (o : Options) : Type 0 where
+-- opening of its child no other controller is granted a handle for writing of the child; and then a child does nothing
+-- before it is watched. The memory that stands in the line of an event is that of the state in which truss read it.
+--
+-- Truss watches a process right after it has opened it, begins to watch it in no other way, and lets it go for a reason
+-- alone. Wherever it has come to, it releases the processes of which it has set PR_RLC when it closes their control
+-- files; and what it has set so stays set while it has the control file open, also where the opening of the process is
+-- broken off.
+pub record IsTrussKept (controllers : List Core) (first : TracedState) (h : List Entry)
+    (k : ℕ) (o : Options) : Type 0 where
   pub makes : Makes (first_truss o) (exchanges k h)
   pub truss : slice_get (controllers_at controllers h) k ≡ Some (Truss (truss_at k o h))
   pub shows : (pid : ℕ) → NamesNoChild o h → LeavesForks k o h → IsReported k o pid first h
   pub texts : HaveTheirTexts k o first h (truss_at k o h).reports
   pub children : o.follow ≡ true → HandlesChildren k o h
+  pub opens : (before later : List Entry) (pid : ℕ) → h ≡ before ++ later
+      → HasOpened k o pid before ⊎ HasFollowed k pid before → watches (truss_at k o before) pid ≡ true
+  pub begins : (before later : List Entry) (e : Entry) (pid : ℕ) → h ≡ before ++ e ∷ later
+      → watches (truss_at k o before) pid ≡ false → watches (truss_at k o (before ++ e ∷ [])) pid ≡ true
+      → HasOpened k o pid (before ++ e ∷ []) ⊎ HasFollowed k pid (before ++ e ∷ [])
+  pub newborn : (before later : List Entry) (e : Entry) (pid : ℕ) → NamesNoChild o h → LeavesForks k o h
+      → h ≡ before ++ e ∷ later → watches (truss_at k o before) pid ≡ false → HasFollowed k pid (before ++ e ∷ [])
+      → IsNewborn o pid first (before ++ e ∷ [])
   pub lets_go : (before later : List Entry) (e : Entry) (pid : ℕ) → h ≡ before ++ e ∷ later
       → watches (truss_at k o before) pid ≡ true → watches (truss_at k o (before ++ e ∷ [])) pid ≡ false
       → IsLetGo k pid first before e
