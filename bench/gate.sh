@@ -1,7 +1,8 @@
 #!/usr/bin/env bash
 # What the gate costs from nothing: processor seconds of each crate for its proofs, its tests and its must-fail edits,
-# and their sum. The last commit is measured, in a copy that has no work of its own, by `rt ci` itself. Words are a
-# command that is measured in the copy instead, such as `.ci/run` or `sh -c "cd crates/pr_num && rt check"`.
+# and their sum. The last commit is measured, in a copy that has no work of its own, by `rt ci` itself, which takes
+# nothing that earlier runs on this machine have kept. Words are a command that is measured in the copy instead, such as
+# `.ci/run` or `sh -c "cd crates/pr_num && rt check"`; of what a command takes from earlier runs nothing is seen.
 #
 # The processor time of the command and of all that it starts is exact. Its parts are read twice a second from /proc for
 # each run of the prover, so what a run takes after the last reading is in the row `other`, with what is no prover.
@@ -11,7 +12,11 @@ work=$(mktemp -d)
 trap 'rm -rf "$work"' EXIT
 git clone -q "$top" "$work/copy"
 cd "$work/copy"
-[ $# -gt 0 ] || set -- rt ci
+if [ $# = 0 ]; then
+  set -- rt ci
+  # (a kit that keeps nothing between runs has no --anew)
+  if rt help | grep -q -e --anew; then set -- rt ci --anew; fi
+fi
 
 # kind_of FOLDER WORDS: what a run of the prover in this folder, with these words, is for
 kind_of() {

@@ -52,7 +52,7 @@ use Rattle.pr_report_laws.proofs.NewBorn.{untouched-now}
 use Rattle.pr_report_laws.proofs.OwnLooks.{IsCall, ReadsBack}
 use Rattle.pr_report_laws.proofs.StandLemmas.{Leaves}
 use Rattle.pr_report_laws.proofs.Standing.{apart}
-use Rattle.pr_report_laws.specs.Births.{LeavesForks, NamesNoChild, granted}
+use Rattle.pr_report_laws.specs.Births.{LeavesForks, NamesNoChild, granted, IsNeverFollowed}
 use Rattle.pr_report_laws.specs.Fits.{IsFitSystem}
 use Rattle.pr_report_laws.proofs.Positions.{IsAtBirth}
 use Rattle.pr_report_laws.specs.Reported.{IsReported}
@@ -351,4 +351,10 @@ births n k o s h lawful fit none legal makes range bytes named forks pid =
 pub births-report : (n k : ℕ) (o : Options) (pid : ℕ) (s : TracedState) (h : List Entry) → IsLawful s → IsFitSystem s.system → HasNothingOpen k s → IsLegal n s h → Makes (first_truss o) (exchanges k h) → IsInRange s.system → HasBytes h → NamesNoChild o h → LeavesForks k o h → IsReported k o pid s h
 births-report n k o pid s h lawful fit none legal makes range bytes named forks = truss-reports n k o pid s h lawful fit none legal makes range bytes (births n k o s h lawful fit none legal makes range bytes named forks pid)
 
-pub ruleset reports = (births-report)
+-- A process of which truss never got hold as a child asks for nothing of the kind.
+pub unfollowed-report : (n k : ℕ) (o : Options) (pid : ℕ) (s : TracedState) (h : List Entry) → IsLawful s → IsFitSystem s.system → HasNothingOpen k s → IsLegal n s h → Makes (first_truss o) (exchanges k h) → IsInRange s.system → HasBytes h → IsNeverFollowed k o pid h → IsReported k o pid s h
+unfollowed-report n k o pid s h lawful fit none legal makes range bytes unfollowed =
+    truss-reports n k o pid s h lawful fit none legal makes range bytes
+    (record { child = λ before later e opening handle parent p is own stage given live. absurd (unfollowed.none before later e opening handle parent is own stage given) })
+
+pub ruleset reports = (births-report, unfollowed-report)

@@ -13,6 +13,8 @@ use Rattle.pr_model.specs.declared.events.Res.TheVariants.{Value}
 use Rattle.pr_model.specs.declared.events.Turned.{Turned}
 use Rattle.pr_num.specs.declared.syscalls.Sysno.{Sysno}
 use Rattle.pr_num.specs.declared.syscalls.Sysno.TheVariants.{Fork}
+use Rattle.pr_truss.specs.declared.stages.Stage.TheVariants.{OpeningChildControl}
+use Rattle.pr_truss_laws.specs.Exchanges.{Exchange, exchange_of, truss_at}
 
 -- Which children of forks are left to one controller.
 
@@ -46,3 +48,10 @@ pub record NamesNoChild (o : Options) (h : List Entry) : Type 0 where
   pub none : o.follow ≡ true → (before later : List Entry) (parent id place pid : ℕ) (turned : Turned)
       → h ≡ before ++ turn_entry parent id turned ∷ later
       → child_made turned.did ≡ Some pid → slice_get o.pids place ≡ Some pid → ⊥
+
+-- Truss never got hold of this process as the child of a fork: no open of its control file as that of a child was
+-- granted.
+pub record IsNeverFollowed (k : ℕ) (o : Options) (pid : ℕ) (h : List Entry) : Type 0 where
+  pub none : (before later : List Entry) (e : Entry) (opening : Exchange) (handle parent : ℕ)
+      → h ≡ before ++ e ∷ later → exchange_of k e ≡ Some opening
+      → (truss_at k o before).stage ≡ OpeningChildControl parent pid → opening.reply ≡ Handle handle → ⊥

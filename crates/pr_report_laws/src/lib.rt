@@ -27,4 +27,6 @@ pub use releases::{
     truss_sets_the_modes_of_what_it_traces, what_truss_has_set_is_released,
     what_truss_has_set_stays_set, what_truss_traces_is_released,
 };
-pub use reports::truss_shows_the_selected_events;
+pub use reports::{
+    truss_shows_the_selected_events, truss_shows_the_selected_events_of_what_it_never_followed,
+};

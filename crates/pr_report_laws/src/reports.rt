@@ -6,7 +6,7 @@ ghost use Rattle.pr_model.specs.State.{TracedState};
 ghost use Rattle.pr_model.specs.declared.events.Entry.{Entry};
 ghost use Rattle.pr_range_laws.specs.ByteHistories.{HasBytes};
 ghost use Rattle.pr_range_laws.specs.InRange.{IsInRange};
-ghost use Rattle.pr_report_laws.specs.Births.{LeavesForks, NamesNoChild};
+ghost use Rattle.pr_report_laws.specs.Births.{IsNeverFollowed, LeavesForks, NamesNoChild};
 ghost use Rattle.pr_report_laws.specs.Fits.{IsFitSystem};
 ghost use Rattle.pr_report_laws.specs.Reported.{IsReported};
 ghost use Rattle.pr_truss.specs.Trusses.{first_truss};
@@ -27,4 +27,13 @@ pub fn truss_shows_the_selected_events()
     ensures { (n k : ℕ) (o : Options) (pid : ℕ) (s : TracedState) (h : List Entry) → IsLawful s → IsFitSystem s.system
         → HasNothingOpen k s → IsLegal n s h → Makes (first_truss o) (exchanges k h) → IsInRange s.system → HasBytes h
         → NamesNoChild o h → LeavesForks k o h → IsReported k o pid s h }
+{}
+
+/// The same of a process of which truss never got hold as the child of a fork, as of each that it was given, if fork did
+/// not make it: whatever becomes of the children of forks.
+#[tactic(auto, using(crate::proofs::Births::reports))]
+pub fn truss_shows_the_selected_events_of_what_it_never_followed()
+    ensures { (n k : ℕ) (o : Options) (pid : ℕ) (s : TracedState) (h : List Entry) → IsLawful s → IsFitSystem s.system
+        → HasNothingOpen k s → IsLegal n s h → Makes (first_truss o) (exchanges k h) → IsInRange s.system → HasBytes h
+        → IsNeverFollowed k o pid h → IsReported k o pid s h }
 {}

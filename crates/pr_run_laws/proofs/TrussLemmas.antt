@@ -55,7 +55,7 @@ use Rattle.pr_world.specs.Cores.{Core, Truss}
 use Rattle.pr_world.specs.Protocol.{Follows, FollowsAt, controllers_after, controllers_at}
 use Rattle.pr_run_laws.specs.TrussRuns.{HandlesChildren, HasControl, HasDone, IsNewborn, IsTrussKept, Releases, WasLetGo}
 use Rattle.pr_num.specs.Limits.{handle_limit}
-use Rattle.pr_tool_laws.proofs.ConductLemmas.{fed-other, fed-own}
+use Rattle.pr_tool_laws.proofs.ProtocolLemmas.{fed-other, fed-own}
 
 -- A truss among the controllers of a run.
 

@@ -18,7 +18,7 @@ use Rattle.pr_tools.specs.declared.steps.Step.TheVariants as step
 use Rattle.pr_world.specs.Controllers.{after_reply, next_call}
 use Rattle.pr_world.specs.Cores.{Core, Script, Truss, Tool}
 use Rattle.pr_world.specs.Protocol.{Follows, controllers_at}
-use Rattle.pr_tool_laws.proofs.ConductLemmas.{KeptByCalls, KeptByOthers, conduct-keeps}
+use Rattle.pr_tool_laws.proofs.ProtocolLemmas.{KeptByCalls, KeptByOthers, protocol-keeps}
 use Rattle.pr_tool_laws.proofs.EndedLemmas.{IsAwaited, first-awaited, pwait-keeps}
 use Rattle.pr_tool_laws.proofs.OtherStages as other
 use Rattle.pr_tool_laws.proofs.ReadTextLemmas.{read-back}
@@ -27,7 +27,7 @@ use Rattle.pr_tool_laws.proofs.StageLemmas as stages
 use Rattle.pr_tool_laws.proofs.StandingLemmas.{IsOther}
 use Rattle.pr_tool_laws.proofs.ToolLemmas.{HasRead, of-one-state, text-read}
 use Rattle.pr_tool_laws.specs.OneState.{IsOfOneState}
-use Rattle.pr_tool_laws.specs.Reads.{bytes_shown}
+use Rattle.pr_tool_laws.specs.Reads.{IsToolRead, bytes_shown}
 use Rattle.pr_tool_laws.specs.ShownStates.{HasEnded}
 use Rattle.pr_tool_laws.specs.ToolTexts.{reads_once}
 
@@ -60,7 +60,7 @@ module _ (n k : ℕ) (first : TracedState) (Q : List Entry → ToolState → Typ
 
   tool-keeps : (controllers : List Core) (h : List Entry) (t u : ToolState) → IsLegal n first h → Follows controllers first h → slice_get controllers k ≡ Some (Tool t) → slice_get (controllers_at controllers h) k ≡ Some (Tool u) → Q [] t → Q h u
   unfolding P
-  tool-keeps controllers h t u legal follows begins ends q = conduct-keeps n k first P others-core calls-core controllers h (Tool t) (Tool u) legal follows begins ends q
+  tool-keeps controllers h t u legal follows begins ends q = protocol-keeps n k first P others-core calls-core controllers h (Tool t) (Tool u) legal follows begins ends q
 
 -- ---- what is so of a tool at the end
 
@@ -116,32 +116,32 @@ tree-law n k pid first once controllers h t programs begins legal follows ends e
 -- ---- how each tool goes on
 
 pflags-reads : IsReader Pflags
-unfolding first_step after after_in_reader file_of way_out bytes_shown
-pflags-reads = record { starts = refl; opens = inl refl; reads = refl; plain = refl; leaves = λ p. refl; shows = λ pid s. refl }
+unfolding first_step after after_in_reader file_of way_out bytes_shown IsToolRead
+pflags-reads = record { starts = refl; opens = inl refl; reads = refl; plain = refl; leaves = λ p. refl; shows = λ pid s. refl; finds = λ k pid s c it. it }
 
 psig-reads : IsReader Psig
-unfolding first_step after after_in_reader file_of way_out bytes_shown
-psig-reads = record { starts = refl; opens = inl refl; reads = refl; plain = refl; leaves = λ p. refl; shows = λ pid s. refl }
+unfolding first_step after after_in_reader file_of way_out bytes_shown IsToolRead
+psig-reads = record { starts = refl; opens = inl refl; reads = refl; plain = refl; leaves = λ p. refl; shows = λ pid s. refl; finds = λ k pid s c it. it }
 
 pmap-reads : IsReader Pmap
-unfolding first_step after after_in_reader file_of way_out bytes_shown
-pmap-reads = record { starts = refl; opens = inl refl; reads = refl; plain = refl; leaves = λ p. refl; shows = λ pid s. refl }
+unfolding first_step after after_in_reader file_of way_out bytes_shown IsToolRead
+pmap-reads = record { starts = refl; opens = inl refl; reads = refl; plain = refl; leaves = λ p. refl; shows = λ pid s. refl; finds = λ k pid s c it. it }
 
 pfiles-reads : IsReader Pfiles
-unfolding first_step after after_in_reader file_of way_out bytes_shown
-pfiles-reads = record { starts = refl; opens = inl refl; reads = refl; plain = refl; leaves = λ p. refl; shows = λ pid s. refl }
+unfolding first_step after after_in_reader file_of way_out bytes_shown IsToolRead
+pfiles-reads = record { starts = refl; opens = inl refl; reads = refl; plain = refl; leaves = λ p. refl; shows = λ pid s. refl; finds = λ k pid s c it. it }
 
 pwait-reads : IsReader Pwait
-unfolding first_step after after_in_pwait file_of way_out bytes_shown
-pwait-reads = record { starts = refl; opens = inr (refl, refl); reads = refl; plain = refl; leaves = λ p. refl; shows = λ pid s. refl }
+unfolding first_step after after_in_pwait file_of way_out bytes_shown IsToolRead
+pwait-reads = record { starts = refl; opens = inr (refl, refl); reads = refl; plain = refl; leaves = λ p. refl; shows = λ pid s. refl; finds = λ k pid s c it. it }
 
 pstop-quiet : other.IsQuiet Pstop
-unfolding first_step bytes_shown text_of
-pstop-quiet = record { starts = refl; shows = λ pid s. refl; says = λ t programs. refl }
+unfolding first_step bytes_shown text_of IsToolRead
+pstop-quiet = record { starts = refl; shows = λ pid s. refl; says = λ t programs. refl; calls = λ k pid s c. tt }
 
 prun-quiet : other.IsQuiet Prun
-unfolding first_step bytes_shown text_of
-prun-quiet = record { starts = refl; shows = λ pid s. refl; says = λ t programs. refl }
+unfolding first_step bytes_shown text_of IsToolRead
+prun-quiet = record { starts = refl; shows = λ pid s. refl; says = λ t programs. refl; calls = λ k pid s c. tt }
 
 kind-law : (n k : ℕ) (kind : ToolKind) (pid : ℕ) (first : TracedState) → reads_once kind ≡ true → Law n k kind pid first
 unfolding reads_once

@@ -1,10 +1,11 @@
-pub mod ConductLemmas
 pub mod EndedLemmas
 pub mod EntryLemmas
 pub mod KindLemmas
 pub mod LawLemmas
 pub mod LineLemmas
 pub mod OtherStages
+pub mod ProgramLemmas
+pub mod ProtocolLemmas
 pub mod ReadBackLemmas
 pub mod ReadTextLemmas
 pub mod ReaderLemmas

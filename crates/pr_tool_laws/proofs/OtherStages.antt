@@ -23,7 +23,7 @@ use Rattle.pr_tools.specs.declared.steps.Step.TheVariants as step
 use Rattle.pr_tool_laws.proofs.KindLemmas.{fed-kind}
 use Rattle.pr_tool_laws.proofs.StageLemmas.{same-answer}
 use Rattle.pr_tool_laws.proofs.ToolLemmas.{HasRead, Showed, having_read, read-goes-on, read-still, showed-here, showed-still, still-going, text-printed}
-use Rattle.pr_tool_laws.specs.Reads.{bytes_shown, text_made}
+use Rattle.pr_tool_laws.specs.Reads.{IsToolRead, bytes_shown, text_made}
 
 -- The stages of the tools that open no file of a record: ptree makes one call; pstop and prun print nothing.
 
@@ -51,7 +51,7 @@ module _ (k pid : ℕ) (first : TracedState) where
   tree-shown s = refl
 
   list-read : (h : List Entry) (c : Call) (a : Answer) → next_call_of (first_tool Ptree pid) ≡ Some c → answer_to (state_after first h) k c ≡ Some a → HasRead k Ptree pid first (h ++ call_entry k c a.reply ∷ []) (fed (first_tool Ptree pid) a.reply)
-  unfolding answer_to
+  unfolding answer_to IsToolRead
   list-read h c a next given =
       let s = state_after first h in
       let bytes = list_bytes (list_of s.system) in
@@ -62,7 +62,7 @@ module _ (k pid : ℕ) (first : TracedState) where
         opened = nothing_open;
         bytes = take (record_room Ptree) bytes;
         is = ap (fed (first_tool Ptree pid)) replies ∙ list-fed bytes;
-        showed = showed-here k Ptree pid first h c a.reply (take (record_room Ptree) bytes) (tree-shown s);
+        showed = showed-here k Ptree pid first h c a.reply (take (record_room Ptree) bytes) same (tree-shown s);
       }
 
   pub called-tree : (h : List Entry) (t : ToolState) (c : Call) (a : Answer) → next_call_of t ≡ Some c → answer_to (state_after first h) k c ≡ Some a → TreeStage h t → TreeStage (h ++ call_entry k c a.reply ∷ []) (fed t a.reply)
@@ -82,6 +82,7 @@ pub record IsQuiet (kind : ToolKind) : Type 0 where
   pub starts : first_step kind ≡ step.OpenCtl
   pub shows : (pid : ℕ) (s : TracedState) → bytes_shown kind pid s.system ≡ Some []
   pub says : (t : ToolState) (programs : List Program) → text_of t programs kind ≡ []
+  pub calls : (k pid : ℕ) (s : TracedState) (c : Call) → IsToolRead kind k pid s c
 
 module _ (k : ℕ) (kind : ToolKind) (pid : ℕ) (first : TracedState) (quiet : IsQuiet kind) where
   pub data QuietStage (h : List Entry) (t : ToolState) : Type 0 where
@@ -95,7 +96,7 @@ module _ (k : ℕ) (kind : ToolKind) (pid : ℕ) (first : TracedState) (quiet : 
   pub called-quiet : (h : List Entry) (t : ToolState) (c : Call) (a : Answer) → QuietStage h t → QuietStage (h ++ call_entry k c a.reply ∷ []) (fed t a.reply)
   unfolding first_tool
   called-quiet h t c a (at_first same) =
-      has_called (fed-kind t a.reply ∙ ap (λ (u : ToolState). u.kind) same) (showed-here k kind pid first h c a.reply [] (quiet.shows pid (state_after first h)))
+      has_called (fed-kind t a.reply ∙ ap (λ (u : ToolState). u.kind) same) (showed-here k kind pid first h c a.reply [] (quiet.calls k pid (state_after first h) c) (quiet.shows pid (state_after first h)))
   called-quiet h t c a (has_called is showed) =
       has_called (fed-kind t a.reply ∙ is) (showed-still k kind pid first h (call_entry k c a.reply) [] showed)
 

@@ -4,6 +4,7 @@ use Rattle.pr_model.specs.Readers.{space_seen}
 use Rattle.pr_model.specs.Reads.{file_read, file_reply, held_read, mapped_from, of_lwp, of_process, read_process, read_reply, readable, unless_none}
 use Rattle.pr_model.specs.Replies.{bytes_in, opened_in}
 use Rattle.pr_model.specs.State.{TracedLwp, TracedProcess, TracedState, TracedSystem, lwp_of}
+use Rattle.pr_model.specs.declared.calls.Call.{Call}
 use Rattle.pr_model.specs.declared.calls.Call.TheVariants as call
 use Rattle.pr_model.specs.declared.calls.File.{File}
 use Rattle.pr_model.specs.declared.calls.File.TheVariants as file
@@ -23,7 +24,7 @@ use Rattle.pr_tools.specs.declared.steps.Step.{Step}
 use Rattle.pr_tools.specs.declared.steps.Step.TheVariants as step
 use Rattle.pr_tool_laws.proofs.StandingLemmas.{Stands}
 use Rattle.pr_tool_laws.proofs.ToolLemmas.{WasRefused, having_read, refused-fed}
-use Rattle.pr_tool_laws.specs.Reads.{bytes_shown, record_in}
+use Rattle.pr_tool_laws.specs.Reads.{IsToolRead, ReadsFile, bytes_shown, record_in}
 
 -- The tools that open one file of a process, read it once and close it; pwait waits for its end in between.
 
@@ -43,6 +44,7 @@ pub record IsReader (kind : ToolKind) : Type 0 where
   pub plain : is_control (file_of kind) ≡ false
   pub leaves : (p : Step) → way_out kind p ≡ step.Close
   pub shows : (pid : ℕ) (s : TracedSystem) → bytes_shown kind pid s ≡ record_in kind pid s
+  pub finds : (k pid : ℕ) (s : TracedState) (c : Call) → ReadsFile k pid (file_of kind) s c → IsToolRead kind k pid s c
 
 -- ---- a read
 

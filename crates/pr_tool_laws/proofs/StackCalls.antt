@@ -38,10 +38,12 @@ use Rattle.pr_tool_laws.proofs.StackHalts.{HaltsWith}
 use Rattle.pr_tool_laws.proofs.StackReads.{control_of, memory-gone, memory-there, memory_of, new-stands, old-stands, read-answer, status-gone, status-there, status-whole, status_of, stop-halts}
 use Rattle.pr_tool_laws.proofs.StackStages.{HasFrames, HasReadAll, Holds, Reads, Seen, So, StackStage, Walks, at_first, goes, has_control, has_read, has_status, refused, seen-here, seen-still, still-read}
 use Rattle.pr_tool_laws.proofs.StackSteps as steps
-use Rattle.pr_tool_laws.proofs.StackSteps.{Ends, IsEnding, Notes, no_notes, pstack_at, unless-refused, with_control, with_memory, with_status}
+use Rattle.pr_tool_laws.proofs.StackSteps.{Ends, IsEnding, Notes, no_notes, pstack_at, unless-refused, wait-used, with_control, with_memory, with_status}
 use Rattle.pr_tool_laws.proofs.StackTexts.{first-shown}
 use Rattle.pr_tool_laws.proofs.StackWalks.{HasWalked, room, walk-begins, walk-goes}
 use Rattle.pr_tool_laws.proofs.StandingLemmas.{Stands}
+use Rattle.pr_tool_laws.specs.Reads.{IsToolRead}
+use Rattle.pr_tool_laws.specs.Stacks.{HasStopped}
 use Rattle.pr_truss_laws.proofs.OpensLemmas.{Opens, Refuses, looking-stays, only_looks, open-opens, plain-leaves}
 
 -- What a call of pstack makes of its stage.
@@ -58,8 +60,11 @@ module _ (n k pid : ℕ) (first : TracedState) (h : List Entry) (c : Call) (a : 
   Next t = StackStage n k pid first longer a.state t
 
   -- the call is the one that pstack makes
+  its-call : (t : ToolState) (d : Call) → next_call_of t ≡ Some d → next_call_of t ≡ Some c → c ≡ d
+  its-call t d its next = same_Some c d (sym next ∙ its)
+
   its-answer : (t : ToolState) (d : Call) → next_call_of t ≡ Some d → next_call_of t ≡ Some c → answer_to s k d ≡ Some a
-  its-answer t d its next = ap (answer_to s k) (same_Some d c (sym its ∙ next)) ∙ given
+  its-answer t d its next = ap (answer_to s k) (sym (its-call t d its next)) ∙ given
 
   -- ---- its opens
 
@@ -154,32 +159,59 @@ module _ (n k pid : ℕ) (first : TracedState) (h : List Entry) (c : Call) (a : 
         of (inl was) = refused was
         of (inr goes_on) =
             going (fed (at step.Stop) a.reply) step.AwaitStop (record notes { until = until_in a.reply }) (plain-leaves s k (call.Ctl control stop_bytes) a refl its) (goes_on.1 ∙ steps.asked pid notes (with_memory control status memory) a.reply)
-            (none, stop-halts s k control pid a holds.holds_control its goes_on.0)
+            (let stops = stop-halts s k control pid a holds.holds_control its goes_on.0 in (none, stops.0, stops.1))
 
     -- where the system stays, so does what was said of it
     halts-still : (space : Space) → a.state.system ≡ s.system → HaltsWith pid space s.system → HaltsWith pid space a.state.system
     halts-still space same halts = subst (HaltsWith pid space) (sym same) halts
 
-    wait-stage : notes.frames ≡ [] → (space : Space) → HaltsWith pid space s.system → next_call_of (at step.AwaitStop) ≡ Some c → Next (fed (at step.AwaitStop) a.reply)
+    -- the wait is over
+    stopped-here : c ≡ call.CtlWait control 0 stop_bytes → ((e : Errno) → a.reply ≢ reply.Fail e) → HasStopped k pid first longer
+    stopped-here same accepted =
+        let its : answer_to s k (call.CtlWait control 0 stop_bytes) ≡ Some a = ap (answer_to s k) (sym same) ∙ given in
+        let used = wait-used control 0 stop_bytes a.reply accepted (machine-shaped s k (call.CtlWait control 0 stop_bytes) a lawful.system its) in
+        record {
+          before = h;
+          handle = control;
+          used = used.0;
+          after = [];
+          held = control_of k pid;
+          place = ap (λ (d : Call). h ++ call_entry k d a.reply ∷ []) same ∙ ap (λ (r : Reply). h ++ call_entry k (call.CtlWait control 0 stop_bytes) r ∷ []) used.1;
+          there = holds.holds_control;
+          of = refl;
+          file = refl;
+        }
+
+    wait-stage : notes.frames ≡ [] → (space : Space) → HaltsWith pid space s.system → notes.until ≡ 0 → next_call_of (at step.AwaitStop) ≡ Some c → Next (fed (at step.AwaitStop) a.reply)
     unfolding is_passed_over So
-    wait-stage none space halts next = of (unless-refused (at step.AwaitStop) a.reply (λ e. refl))
+    wait-stage none space halts endless next = of (unless-refused (at step.AwaitStop) a.reply (λ e. refl))
       where
+        call_is : next_call_of (at step.AwaitStop) ≡ Some (call.CtlWait control 0 stop_bytes)
+        call_is = steps.wait-call pid control status memory notes ∙ ap (λ (until : ℕ). Some (call.CtlWait control until stop_bytes)) endless
+
         still : (a.state.opens ≡ s.opens) × (a.state.system ≡ s.system)
-        still = looks-still (call.CtlWait control notes.until stop_bytes) refl (its-answer (at step.AwaitStop) (call.CtlWait control notes.until stop_bytes) (steps.wait-call pid control status memory notes) next)
+        still = looks-still (call.CtlWait control 0 stop_bytes) refl (its-answer (at step.AwaitStop) (call.CtlWait control 0 stop_bytes) call_is next)
 
         of : IsSome (fed (at step.AwaitStop) a.reply).refusal ⊎ (((e : Errno) → a.reply ≢ reply.Fail e) × (fed (at step.AwaitStop) a.reply ≡ accepted (at step.AwaitStop) a.reply step.AwaitStop)) → Next (fed (at step.AwaitStop) a.reply)
         of (inl was) = refused was
         of (inr goes_on) =
-            going (fed (at step.AwaitStop) a.reply) step.ReadFile notes still.0 (goes_on.1 ∙ steps.waited pid notes (with_memory control status memory) a.reply) (none, (space, halts-still space still.1 halts))
+            going (fed (at step.AwaitStop) a.reply) step.ReadFile notes still.0 (goes_on.1 ∙ steps.waited pid notes (with_memory control status memory) a.reply)
+            (none, (space, halts-still space still.1 halts), stopped-here (its-call (at step.AwaitStop) (call.CtlWait control 0 stop_bytes) call_is next) goes_on.0)
 
     -- ---- the status of all lwps
 
-    status-stage : notes.frames ≡ [] → (space : Space) → HaltsWith pid space s.system → next_call_of (at step.ReadFile) ≡ Some c → Next (fed (at step.ReadFile) a.reply)
-    unfolding is_passed_over So
-    status-stage none space halts next = by (live_process s.system pid) refl
+    status-stage : notes.frames ≡ [] → (space : Space) → HaltsWith pid space s.system → HasStopped k pid first h → next_call_of (at step.ReadFile) ≡ Some c → Next (fed (at step.ReadFile) a.reply)
+    unfolding is_passed_over So IsToolRead
+    status-stage none space halts stopped next = by (live_process s.system pid) refl
       where
+        call_is : next_call_of (at step.ReadFile) ≡ Some (call.Read status 0 read_limit)
+        call_is = steps.status-call pid control status memory notes
+
         its : answer_to s k (call.Read status 0 read_limit) ≡ Some a
-        its = its-answer (at step.ReadFile) (call.Read status 0 read_limit) (steps.status-call pid control status memory notes) next
+        its = its-answer (at step.ReadFile) (call.Read status 0 read_limit) call_is next
+
+        reads : IsToolRead Pstack k pid s c
+        reads = record { handle = status; held = status_of k pid; is_read = its-call (at step.ReadFile) (call.Read status 0 read_limit) call_is next; there = holds.holds_status; of = refl; file = refl }
 
         still : (a.state.opens ≡ s.opens) × (a.state.system ≡ s.system)
         still = looks-still (call.Read status 0 read_limit) refl its
@@ -194,7 +226,7 @@ module _ (n k pid : ℕ) (first : TracedState) (h : List Entry) (c : Call) (a : 
             let own = halts.each p live in
             going (fed (at step.ReadFile) a.reply) step.ReadText (record notes { bytes = take read_limit (part_read (lstatus_bytes (lstatus_of p)) 0 read_limit) }) still.0
             (ap (fed (at step.ReadFile)) whole ∙ steps.status-read pid notes (with_memory control status memory) (part_read (lstatus_bytes (lstatus_of p)) 0 read_limit)) (record {
-              seen = seen-here n k pid first h c a.reply p live;
+              seen = seen-here n k pid first h c a.reply p reads stopped live own.0;
               halts = halts-still (space_seen p) still.1 (subst (λ (x : Space). HaltsWith pid x s.system) (sym own.1) halts);
               status = λ are. status-whole p are;
               none = none;
@@ -290,8 +322,8 @@ module _ (n k pid : ℕ) (first : TracedState) (h : List Entry) (c : Call) (a : 
     unfolding So
     going-stage step.ReadFirst so next = look-stage so next
     going-stage step.Stop so next = stop-stage so next
-    going-stage step.AwaitStop so next = wait-stage so.0 so.1.0 so.1.1 next
-    going-stage step.ReadFile so next = status-stage so.0 so.1.0 so.1.1 next
+    going-stage step.AwaitStop so next = wait-stage so.0 so.1.0 so.1.1 so.2 next
+    going-stage step.ReadFile so next = status-stage so.0 so.1.0 so.1.1 so.2 next
     going-stage step.ReadText so next = text-stage so next
     going-stage step.ReadFrame so next = frame-stage so next
     going-stage _ so next = absurd so

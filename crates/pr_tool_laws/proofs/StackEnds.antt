@@ -1,5 +1,6 @@
 use Rattle.std.proofs.Common.{◌≡◌, ℕ, true, List, Option, Some, None, IfSome, is_some, option_map, refl, sym, subst, ap, ◌∙◌}
 use Rattle.std.proofs.lemmas.Bool.{false≢true}
+use Rattle.std.proofs.lemmas.Option.{same_Some}
 use Rattle.pr_lawful.proofs.HistoryLemmas.{history-state}
 use Rattle.pr_lawful.proofs.UseLemmas.{live-lawful}
 use Rattle.pr_model.specs.Lawful.{IsLawful, IsLawfulSystem}
@@ -31,6 +32,7 @@ use Rattle.pr_tool_laws.proofs.WholeLemmas.{all-read, front-bytes, front-legal}
 use Rattle.pr_tool_laws.specs.OneState.{AreLwpsRead, IsReadBack}
 use Rattle.pr_tool_laws.specs.Stacks.{ShowsOneStack, first_instruction, stacks_in, stacks_text}
 use Rattle.pr_tool_laws.specs.ToolTexts.{reads_once}
+use Rattle.pr_truss_laws.specs.Stills.{IsHalting}
 
 -- What pstack prints in the end is the text of the stacks in the state that it read.
 
@@ -98,5 +100,8 @@ module _ (n k pid : ℕ) (first : TracedState) where
         reply = seen.reply;
         after = seen.after;
         place = seen.place;
+        reads = seen.reads;
+        stopped = seen.stopped;
+        still = λ q there. subst IsHalting (same_Some p q (sym seen.live ∙ there)) seen.still;
         shown = ap (option_map (stacks_text pid programs)) seen.live ∙ ap (λ (x : List ℕ). Some x) (sym text);
       }

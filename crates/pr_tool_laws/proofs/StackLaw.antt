@@ -15,7 +15,7 @@ use Rattle.pr_tools.specs.Tools.{ToolState, fed, first_tool, has_ended, printed}
 use Rattle.pr_world.specs.Controllers.{after_reply, next_call}
 use Rattle.pr_world.specs.Cores.{Core, Script, Truss, Tool}
 use Rattle.pr_world.specs.Protocol.{Follows, controllers_at}
-use Rattle.pr_tool_laws.proofs.ConductLemmas.{KeptByCalls, KeptByOthers, conduct-keeps}
+use Rattle.pr_tool_laws.proofs.ProtocolLemmas.{KeptByCalls, KeptByOthers, protocol-keeps}
 use Rattle.pr_tool_laws.proofs.StackCalls.{called-stage}
 use Rattle.pr_tool_laws.proofs.StackEnds.{ended-stage, shows}
 use Rattle.pr_tool_laws.proofs.StackStages.{StackStage, at_first, others-stage}
@@ -62,5 +62,5 @@ pub shows-one-stack : (controllers : List Core) (n k pid : ℕ) (s : TracedState
     → ShowsOneStack k pid programs s h (printed t programs)
 unfolding IsKept
 shows-one-stack controllers n k pid s h t programs lawful ranged bytes begins legal follows ends ended accepted =
-    let kept = conduct-keeps n k s (IsKept n k pid s) (others-keep n k pid s) (calls-keep n k pid s) controllers h (Tool (first_tool Pstack pid)) (Tool t) legal follows begins ends (lawful, at_first refl) in
+    let kept = protocol-keeps n k s (IsKept n k pid s) (others-keep n k pid s) (calls-keep n k pid s) controllers h (Tool (first_tool Pstack pid)) (Tool t) legal follows begins ends (lawful, at_first refl) in
     shows n k pid s h t programs lawful ranged bytes legal ended accepted (ended-stage n k pid s h (state_after s h) t ended accepted kept.1)

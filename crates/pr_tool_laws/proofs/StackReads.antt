@@ -3,9 +3,11 @@ use Rattle.std.proofs.lemmas.Option.{none-some, same_Some}
 use Rattle.pr_model.specs.Calls.{Answer, answer_to, answered}
 use Rattle.pr_model.specs.ControlMessages.{targeted_answer}
 use Rattle.pr_model.specs.Handles.{handle_of, is_control}
+use Rattle.pr_model.specs.Messages.{message_answer}
 use Rattle.pr_model.specs.Reads.{file_read, file_reply, mapped_from, of_process, part_read, read_process, unless_none}
 use Rattle.pr_model.specs.Readers.{space_seen}
 use Rattle.pr_model.specs.Records.{lstatus_of}
+use Rattle.pr_model.specs.Replies.{until_in}
 use Rattle.pr_model.specs.State.{Places, TracedProcess, TracedState, TracedSystem, live_process}
 use Rattle.pr_model.specs.Stops.{with_all_directed}
 use Rattle.pr_model.specs.declared.calls.Call.TheVariants as call
@@ -19,6 +21,7 @@ use Rattle.pr_num.specs.Limits.{read_limit}
 use Rattle.pr_num.specs.Spaces.{Space}
 use Rattle.pr_num.specs.declared.errnos.Errno.{Errno}
 use Rattle.pr_num.specs.declared.errnos.Errno.TheVariants.{Noent}
+use Rattle.pr_num.specs.declared.messages.Message.TheVariants as message
 use Rattle.pr_rec.specs.RecordBytes.{lstatus_bytes}
 use Rattle.pr_tools.specs.Steps.{record_room}
 use Rattle.pr_tools.specs.Tools.{short_read, stop_bytes}
@@ -30,7 +33,7 @@ use Rattle.pr_tool_laws.proofs.StandingLemmas.{Stands}
 use Rattle.pr_tool_laws.specs.OneState.{AreLwpsRead}
 use Rattle.pr_truss_laws.proofs.OpensLemmas.{Opens, held_by, own-free, own-mine, own-other, own-set}
 use Rattle.pr_truss_laws.proofs.OwnTurnLemmas.{all-directed}
-use Rattle.pr_truss_laws.proofs.TakenLemmas.{ctl-is, stop-directs}
+use Rattle.pr_truss_laws.proofs.TakenLemmas.{ctl-is, stop-directs, stop-reads, taken-unless}
 use Rattle.pr_truss_laws.specs.Stills.{IsHalting}
 
 -- What the machine answers to the calls of pstack: to its opens, to its request to stop, and to its reads.
@@ -64,23 +67,24 @@ directed-space : (p : TracedProcess) → space_seen (with_all_directed p) ≡ sp
 unfolding with_all_directed
 directed-space p = refl
 
--- Where it is not refused, the process does nothing but stop from then on.
+-- Where it is not refused, the process does nothing but stop from then on, and the wait for it has no end of its own.
 pub stop-halts : (s : TracedState) (k c pid : ℕ) (a : Answer) → handle_of s.opens k c ≡ Some (control_of k pid) → answer_to s k (call.Ctl c stop_bytes) ≡ Some a → ((e : Errno) → a.reply ≢ reply.Fail e)
-    → (space : Space) × HaltsWith pid space a.state.system
+    → ((space : Space) × HaltsWith pid space a.state.system) × (until_in a.reply ≡ 0)
+unfolding message_answer until_in
 stop-halts s k c pid a stands given accepted = by (live_process s.system pid) refl
   where
-    by : (o : Option TracedProcess) → live_process s.system pid ≡ o → (space : Space) × HaltsWith pid space a.state.system
+    by : (o : Option TracedProcess) → live_process s.system pid ≡ o → ((space : Space) × HaltsWith pid space a.state.system) × (until_in a.reply ≡ 0)
     by None none =
         absurd (accepted Noent (ap (λ (x : Answer). x.reply) (ctl-is s k c (control_of k pid) stands refl stop_bytes a given) ∙ ap (λ (o : Option TracedProcess). (targeted_answer s.system (control_of k pid) o stop_bytes).reply) none))
     by (Some p) live =
-        let later = stop-directs s k c (control_of k pid) stands refl p live a given accepted in (
-          space_seen p,
-          record {
-            each = λ q there.
-                let same : with_all_directed p ≡ q = same_Some (with_all_directed p) q (sym later ∙ there) in
-                (subst IsHalting same (all-directed p), ap (λ (x : TracedProcess). x.space) (sym same) ∙ directed-space p);
-          },
-        )
+        let later = stop-directs s k c (control_of k pid) stands refl p live a given accepted in
+        let halts : HaltsWith pid (space_seen p) a.state.system = record {
+          each = λ q there.
+              let same : with_all_directed p ≡ q = same_Some (with_all_directed p) q (sym later ∙ there) in
+              (subst IsHalting same (all-directed p), ap (λ (x : TracedProcess). x.space) (sym same) ∙ directed-space p);
+        } in
+        let taken = taken-unless s k c (control_of k pid) stands refl p live stop_bytes message.Stop a stop-reads given accepted in
+        ((space_seen p, halts), ap (λ (x : Answer). until_in x.reply) taken.is)
 
 -- ---- a read
 

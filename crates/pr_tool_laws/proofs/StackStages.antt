@@ -1,5 +1,4 @@
-use Rattle.std.proofs.Common.{◌≡◌, ◌∷◌, ◌++◌, ℕ, List, [], Option, Some, None, IsSome, refl, sym, subst, ap, ◌∙◌}
-use Rattle.std.proofs.lemmas.List.{append_assoc}
+use Rattle.std.proofs.Common.{◌≡◌, ◌∷◌, ◌++◌, ℕ, List, [], Option, Some, None, IsSome, refl, sym, subst}
 use Rattle.pr_api.specs.Entries.{call_entry}
 use Rattle.pr_model.specs.Lawful.{IsLawful}
 use Rattle.pr_model.specs.Legal.{IsLegalEntry, after, state_after}
@@ -7,7 +6,9 @@ use Rattle.pr_model.specs.Readers.{space_seen}
 use Rattle.pr_model.specs.Records.{lstatus_of}
 use Rattle.pr_model.specs.State.{TracedProcess, TracedState, TracedSystem, live_process}
 use Rattle.pr_model.specs.declared.calls.Call.{Call}
+use Rattle.pr_model.specs.declared.calls.Call.TheVariants.{CtlWait}
 use Rattle.pr_model.specs.declared.calls.Reply.{Reply}
+use Rattle.pr_model.specs.declared.calls.Reply.TheVariants.{Used}
 use Rattle.pr_model.specs.declared.events.Act.{Act}
 use Rattle.pr_model.specs.declared.events.Actor.{Actor}
 use Rattle.pr_model.specs.declared.events.Entry.{Entry}
@@ -15,7 +16,7 @@ use Rattle.pr_model.specs.declared.handles.Held.{Held}
 use Rattle.pr_model.specs.declared.tools.ToolKind.TheVariants.{Pstack}
 use Rattle.pr_num.specs.Spaces.{Space}
 use Rattle.pr_rec.specs.RecordBytes.{lstatus_bytes}
-use Rattle.pr_tools.specs.Tools.{ToolState, first_tool}
+use Rattle.pr_tools.specs.Tools.{ToolState, first_tool, stop_bytes}
 use Rattle.pr_tools.specs.declared.handles.Opened.{Opened}
 use Rattle.pr_tools.specs.declared.stacks.Walk.{Walk}
 use Rattle.pr_tools.specs.declared.steps.Step.{Step}
@@ -25,8 +26,11 @@ use Rattle.pr_tool_laws.proofs.StackReads.{control_of, memory_of, status_of}
 use Rattle.pr_tool_laws.proofs.StackSteps.{IsEnding, Notes, no_notes, pstack_at, with_control, with_memory, with_status}
 use Rattle.pr_tool_laws.proofs.StackWalks.{HasWalked}
 use Rattle.pr_tool_laws.proofs.StandingLemmas.{IsOther, Stands, others-keep}
+use Rattle.pr_tool_laws.proofs.ToolLemmas.{place-still}
 use Rattle.pr_tool_laws.specs.OneState.{AreLwpsRead}
-use Rattle.pr_tool_laws.specs.Stacks.{first_instruction}
+use Rattle.pr_tool_laws.specs.Reads.{IsToolRead}
+use Rattle.pr_tool_laws.specs.Stacks.{HasStopped, first_instruction}
+use Rattle.pr_truss_laws.specs.Stills.{IsHalting}
 
 -- The stages of pstack, with what it read so far of the state that it shows, and what others leave of them.
 
@@ -39,7 +43,22 @@ module _ (n k pid : ℕ) (first : TracedState) where
 
   -- ---- what it read
 
-  -- the state that it shows: the one that a call of its own found, in which the process lived
+  -- the wait for the process to stop is as long over as it was
+  pub stopped-still : (h : List Entry) (e : Entry) → HasStopped k pid first h → HasStopped k pid first (h ++ e ∷ [])
+  stopped-still h e it = record {
+    before = it.before;
+    handle = it.handle;
+    used = it.used;
+    after = it.after ++ e ∷ [];
+    held = it.held;
+    place = place-still h it.before (call_entry k (CtlWait it.handle 0 stop_bytes) (Used it.used)) it.after e it.place;
+    there = it.there;
+    of = it.of;
+    file = it.file;
+  }
+
+  -- the state that it shows: the one that its read of the status of all lwps found after the wait, in which the process
+  -- lived
   pub record Seen (h : List Entry) : Type 0 where
     pub process : TracedProcess
     pub before : List Entry
@@ -47,11 +66,14 @@ module _ (n k pid : ℕ) (first : TracedState) where
     pub reply : Reply
     pub after : List Entry
     pub place : h ≡ before ++ call_entry k call reply ∷ after
+    pub reads : IsToolRead Pstack k pid (state_after first before) call
+    pub stopped : HasStopped k pid first before
     pub live : live_process (state_after first before).system pid ≡ Some process
+    pub still : IsHalting process
 
-  -- a call of its own now
-  abbrev pub seen-here : (h : List Entry) (c : Call) (r : Reply) (p : TracedProcess) → live_process (state_after first h).system pid ≡ Some p → Seen (h ++ call_entry k c r ∷ [])
-  seen-here h c r p live = record { process = p; before = h; call = c; reply = r; after = []; place = refl; live = live }
+  -- its read now
+  abbrev pub seen-here : (h : List Entry) (c : Call) (r : Reply) (p : TracedProcess) → IsToolRead Pstack k pid (state_after first h) c → HasStopped k pid first h → live_process (state_after first h).system pid ≡ Some p → IsHalting p → Seen (h ++ call_entry k c r ∷ [])
+  seen-here h c r p reads stopped live still = record { process = p; before = h; call = c; reply = r; after = []; place = refl; reads = reads; stopped = stopped; live = live; still = still }
 
   abbrev pub seen-still : (h : List Entry) (e : Entry) → Seen h → Seen (h ++ e ∷ [])
   seen-still h e seen = record {
@@ -60,8 +82,11 @@ module _ (n k pid : ℕ) (first : TracedState) where
     call = seen.call;
     reply = seen.reply;
     after = seen.after ++ e ∷ [];
-    place = ap (λ (g : List Entry). g ++ e ∷ []) seen.place ∙ append_assoc seen.before (call_entry k seen.call seen.reply ∷ seen.after) (e ∷ []);
+    place = place-still h seen.before (call_entry k seen.call seen.reply) seen.after e seen.place;
+    reads = seen.reads;
+    stopped = seen.stopped;
     live = seen.live;
+    still = seen.still;
   }
 
   -- the status of all lwps, where a read has all of it
@@ -94,8 +119,8 @@ module _ (n k pid : ℕ) (first : TracedState) where
   unfoldable pub So : List Entry → TracedSystem → Notes → Step → Type 0
   So h s notes step.ReadFirst = notes ≡ no_notes
   So h s notes step.Stop = notes.frames ≡ []
-  So h s notes step.AwaitStop = (notes.frames ≡ []) × ((space : Space) × HaltsWith pid space s)
-  So h s notes step.ReadFile = (notes.frames ≡ []) × ((space : Space) × HaltsWith pid space s)
+  So h s notes step.AwaitStop = (notes.frames ≡ []) × ((space : Space) × HaltsWith pid space s) × (notes.until ≡ 0)
+  So h s notes step.ReadFile = (notes.frames ≡ []) × ((space : Space) × HaltsWith pid space s) × HasStopped k pid first h
   So h s notes step.ReadText = Reads h s notes
   So h s notes step.ReadFrame = Walks h s notes
   So h s notes _ = ⊥
@@ -150,8 +175,10 @@ module _ (n k pid : ℕ) (first : TracedState) where
     unfolding So
     others-so control notes step.ReadFirst stands so = so
     others-so control notes step.Stop stands so = so
-    others-so control notes step.AwaitStop stands so = (so.0, (so.1.0, others-halt n s control (control_of k pid) lawful stands refl so.1.0 actor it legal other so.1.1))
-    others-so control notes step.ReadFile stands so = (so.0, (so.1.0, others-halt n s control (control_of k pid) lawful stands refl so.1.0 actor it legal other so.1.1))
+    others-so control notes step.AwaitStop stands so =
+        (so.0, (so.1.0, others-halt n s control (control_of k pid) lawful stands refl so.1.0 actor it legal other so.1.1), so.2)
+    others-so control notes step.ReadFile stands so =
+        (so.0, (so.1.0, others-halt n s control (control_of k pid) lawful stands refl so.1.0 actor it legal other so.1.1), stopped-still h entry so.2)
     others-so control notes step.ReadText stands so = record {
       seen = seen-still h entry so.seen;
       halts = others-halt n s control (control_of k pid) lawful stands refl (space_seen so.seen.process) actor it legal other so.halts;

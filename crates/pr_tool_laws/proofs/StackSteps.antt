@@ -254,6 +254,13 @@ module _ (pid : ℕ) where
         of true = record { next = step.Close; ends = inr refl; is = refl }
         of false = record { next = step.Run; ends = inl refl; is = refl }
 
+-- a wait that was not refused is over
+pub wait-used : (handle until : ℕ) (bytes : List ℕ) (r : Reply) → ((e : Errno) → r ≢ reply.Fail e) → has_shape (call.CtlWait handle until bytes) r ≡ true → (used : ℕ) × (r ≡ reply.Used used)
+unfolding has_shape
+wait-used handle until bytes (reply.Used used) accepted shape = (used, refl)
+wait-used handle until bytes (reply.Fail e) accepted shape = absurd (accepted e refl)
+wait-used handle until bytes _ accepted shape = absurd (cc)
+
 -- a read of memory gives no more than was asked for
 pub memory-few : (handle from len : ℕ) (bytes : List ℕ) → has_shape (call.Read handle from len) (unless_none bytes) ≡ true → length bytes ≤ len
 unfolding has_shape

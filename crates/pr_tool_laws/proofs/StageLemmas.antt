@@ -29,7 +29,7 @@ use Rattle.pr_tools.specs.declared.steps.Step.TheVariants as step
 use Rattle.pr_tool_laws.proofs.ReaderLemmas.{HasAwaited, IsRead, IsReader, IsWithFile, bytes-given, first-call, handle-read, open-refused, opened-fed, read-call, read-fed, read-refused, reply-read, wait-call, wait-fed, with_file}
 use Rattle.pr_tool_laws.proofs.StandingLemmas.{IsOther, Stands, others-keep}
 use Rattle.pr_tool_laws.proofs.ToolLemmas.{HasRead, WasRefused, read-goes-on, read-still, refused-closes, showed-here, showed-still, still-going}
-use Rattle.pr_tool_laws.specs.Reads.{bytes_shown}
+use Rattle.pr_tool_laws.specs.Reads.{IsToolRead, bytes_shown}
 use Rattle.pr_truss_laws.proofs.OpensLemmas.{Opens, Refuses, open-opens, own-mine, own-set, plain-leaves}
 
 -- The stages of a tool that opens one file, reads it and closes it, and what more is known of the states on its way.
@@ -137,9 +137,9 @@ module _ (n k : ℕ) (kind : ToolKind) (pid : ℕ) (first : TracedState) (reader
         of (inr opens) = granted-stage (keeps.opened (state_after first h) a answers known) opens
 
     -- what its read makes of it
-    read-stage : (number : ℕ) → Known step.ReadFile (state_after first h) → (q : Reply) → IsRead q → file_read (state_after first h).system pid 0 0 read_limit (file_of kind) ≡ q → a.reply ≡ q → Stage longer (fed (with_file kind pid step.ReadFile number) a.reply)
+    read-stage : (number : ℕ) → Known step.ReadFile (state_after first h) → IsToolRead kind k pid (state_after first h) c → (q : Reply) → IsRead q → file_read (state_after first h).system pid 0 0 read_limit (file_of kind) ≡ q → a.reply ≡ q → Stage longer (fed (with_file kind pid step.ReadFile number) a.reply)
     unfolding showed-here
-    read-stage number known (reply.Bytes bytes) whole reads answers =
+    read-stage number known own (reply.Bytes bytes) whole reads answers =
         let s = state_after first h in
         let shows : bytes_shown kind pid s.system ≡ Some (take (record_room kind) bytes) =
         reader.shows pid s.system ∙ ap (λ r. option_map (take (record_room kind)) (bytes_in r)) reads ∙ bytes-given kind pid reader bytes in
@@ -147,12 +147,12 @@ module _ (n k : ℕ) (kind : ToolKind) (pid : ℕ) (first : TracedState) (reader
           opened = record nothing_open { file = Some number };
           bytes = take (record_room kind) bytes;
           is = ap (fed (with_file kind pid step.ReadFile number)) answers ∙ read-fed kind pid reader number bytes;
-          showed = showed-here k kind pid first h c a.reply (take (record_room kind) bytes) shows;
+          showed = showed-here k kind pid first h c a.reply (take (record_room kind) bytes) own shows;
         } in
         has_shown (record { has = has; shown = keeps.read s bytes reads known })
-    read-stage number known (reply.Fail e) whole reads answers =
+    read-stage number known own (reply.Fail e) whole reads answers =
         refused (subst (λ r. WasRefused (fed (with_file kind pid step.ReadFile number) r)) (sym answers) (read-refused kind pid reader number e))
-    read-stage number known _ whole reads answers = absurd whole
+    read-stage number known own _ whole reads answers = absurd whole
 
     reading-stage : (number : ℕ) → Stands (state_after first h).opens number held → Known step.ReadFile (state_after first h) → next_call_of (with_file kind pid step.ReadFile number) ≡ Some c → Stage longer (fed (with_file kind pid step.ReadFile number) a.reply)
     unfolding answer_to
@@ -162,7 +162,8 @@ module _ (n k : ℕ) (kind : ToolKind) (pid : ℕ) (first : TracedState) (reader
         let answer = same-answer s k c (call.Read number 0 read_limit) a (answered s (read_reply s k number 0 read_limit)) same given refl in
         let reads : a.reply ≡ file_read s.system pid 0 0 read_limit (file_of kind) =
         ap (λ (x : Answer). x.reply) (sym answer) ∙ handle-read s number 0 read_limit held reader.plain stands in
-        read-stage number known (file_read s.system pid 0 0 read_limit (file_of kind)) (reply-read s.system pid 0 0 read_limit (file_of kind)) refl reads
+        let own : IsToolRead kind k pid s c = reader.finds k pid s c (record { handle = number; held = held; is_read = same; there = stands; of = refl; file = refl }) in
+        read-stage number known own (file_read s.system pid 0 0 read_limit (file_of kind)) (reply-read s.system pid 0 0 read_limit (file_of kind)) refl reads
 
     waiting-stage : step_after kind step.AwaitEnd ≡ step.ReadFile → (number : ℕ) → Stands (state_after first h).opens number held → Known step.AwaitEnd (state_after first h) → next_call_of (with_file kind pid step.AwaitEnd number) ≡ Some c → Stage longer (fed (with_file kind pid step.AwaitEnd number) a.reply)
     waiting-stage waits number stands known next = of (wait-fed kind pid reader waits number a.reply)

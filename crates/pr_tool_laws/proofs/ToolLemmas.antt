@@ -19,7 +19,7 @@ use Rattle.pr_tools.specs.Tools.{ToolState, accepted, fed, first_tool, has_ended
 use Rattle.pr_tools.specs.declared.handles.Opened.{Opened}
 use Rattle.pr_tools.specs.declared.steps.Step.TheVariants as step
 use Rattle.pr_tool_laws.specs.OneState.{IsOfOneState, IsReadBack}
-use Rattle.pr_tool_laws.specs.Reads.{bytes_shown, text_made, text_read}
+use Rattle.pr_tool_laws.specs.Reads.{IsToolRead, bytes_shown, text_made, text_read}
 use Rattle.pr_tool_laws.specs.ToolTexts.{reads_once, tool_text}
 
 -- The last stages of a tool: it has read, or it was refused, and closes what it opened.
@@ -61,18 +61,23 @@ pub read-closes : (kind : ToolKind) (pid : ℕ) (opened : Opened) (bytes : List 
 unfolding with_closed
 read-closes kind pid opened bytes r = closing-fed (having_read kind pid opened bytes) r refl
 
+-- what stands at a place of a history stands there when the history is an entry longer
+pub place-still : (h before : List Entry) (d : Entry) (rest : List Entry) (e : Entry) → h ≡ before ++ d ∷ rest → h ++ e ∷ [] ≡ before ++ d ∷ (rest ++ e ∷ [])
+place-still h before d rest e place = ap (λ (g : List Entry). g ++ e ∷ []) place ∙ append_assoc before (d ∷ rest) (e ∷ [])
+
 module _ (k : ℕ) (kind : ToolKind) (pid : ℕ) (first : TracedState) where
-  -- these bytes were read at a place in the history
+  -- these bytes were read at a place in the history, by the read of this tool
   pub record Showed (h : List Entry) (bytes : List ℕ) : Type 0 where
     pub before : List Entry
     pub call : Call
     pub reply : Reply
     pub after : List Entry
     pub place : h ≡ before ++ call_entry k call reply ∷ after
+    pub reads : IsToolRead kind k pid (state_after first before) call
     pub shows : bytes_shown kind pid (state_after first before).system ≡ Some bytes
 
-  unfoldable pub showed-here : (h : List Entry) (c : Call) (r : Reply) (bytes : List ℕ) → bytes_shown kind pid (state_after first h).system ≡ Some bytes → Showed (h ++ call_entry k c r ∷ []) bytes
-  showed-here h c r bytes shows = record { before = h; call = c; reply = r; after = []; place = refl; shows = shows }
+  unfoldable pub showed-here : (h : List Entry) (c : Call) (r : Reply) (bytes : List ℕ) → IsToolRead kind k pid (state_after first h) c → bytes_shown kind pid (state_after first h).system ≡ Some bytes → Showed (h ++ call_entry k c r ∷ []) bytes
+  showed-here h c r bytes reads shows = record { before = h; call = c; reply = r; after = []; place = refl; reads = reads; shows = shows }
 
   unfoldable pub showed-still : (h : List Entry) (e : Entry) (bytes : List ℕ) → Showed h bytes → Showed (h ++ e ∷ []) bytes
   showed-still h e bytes showed = record {
@@ -80,7 +85,8 @@ module _ (k : ℕ) (kind : ToolKind) (pid : ℕ) (first : TracedState) where
     call = showed.call;
     reply = showed.reply;
     after = showed.after ++ e ∷ [];
-    place = ap (λ g. g ++ e ∷ []) showed.place ∙ append_assoc showed.before (call_entry k showed.call showed.reply ∷ showed.after) (e ∷ []);
+    place = place-still h showed.before (call_entry k showed.call showed.reply) showed.after e showed.place;
+    reads = showed.reads;
     shows = showed.shows;
   }
 
@@ -139,6 +145,7 @@ module _ (k : ℕ) (kind : ToolKind) (pid : ℕ) (first : TracedState) where
         reply = showed.reply;
         after = showed.after;
         place = showed.place;
+        reads = showed.reads;
         read = read;
         shown = λ good. sym (back at good) ∙ read;
       }

@@ -172,6 +172,7 @@ stands-there n k kind pid s h text lawful ranged bytes legal once of_known =
       reply = it.reply;
       after = it.after;
       place = it.place;
+      reads = it.reads;
       read = it.read;
       shown = it.shown (all-read pid (state_after s it.before).system system range kind once);
       over = of_known.known;

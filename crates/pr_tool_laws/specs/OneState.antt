@@ -14,7 +14,7 @@ use Rattle.pr_num.specs.Limits.{descriptor_limit, lwp_limit, read_limit, signal_
 use Rattle.pr_num.specs.Words.{IsWord}
 use Rattle.pr_rec.specs.InRange.{IsFdEntry, IsListEntry, IsLwpStatus, IsMapEntry, IsPsinfo}
 use Rattle.pr_rec.specs.RecordBytes.{map_bytes}
-use Rattle.pr_tool_laws.specs.Reads.{text_read}
+use Rattle.pr_tool_laws.specs.Reads.{IsToolRead, text_read}
 use Rattle.pr_tool_laws.specs.ToolTexts.{tool_text}
 
 -- The text of a tool is that of one state.
@@ -60,8 +60,8 @@ IsReadBack Ptree pid s = AreProcessesRead s
 
 -- ---- the state that a tool shows
 
--- This text is that of a state of the history: of the one that a call of this controller finds. It is the text of what
--- a read gives there, and so, where that can be read back, the text of what stands there.
+-- This text is that of a state of the history: of the one that the read of this tool finds. It is the text of what that
+-- read gives there, and so, where that can be read back, the text of what stands there.
 pub record IsOfOneState (k : ℕ) (kind : ToolKind) (pid : ℕ) (first : TracedState) (h : List Entry)
     (text : List ℕ) : Type 0 where
   pub before : List Entry
@@ -69,6 +69,7 @@ pub record IsOfOneState (k : ℕ) (kind : ToolKind) (pid : ℕ) (first : TracedS
   pub reply : Reply
   pub after : List Entry
   pub place : h ≡ before ++ call_entry k call reply ∷ after
+  pub reads : IsToolRead kind k pid (state_after first before) call
   pub read : text_read kind pid (state_after first before).system ≡ Some text
   pub shown : IsReadBack kind pid (state_after first before).system
       → tool_text kind pid (state_after first before).system ≡ Some text

@@ -1,6 +1,7 @@
 use Rattle.std.specs.Prelude.{◌≡◌, ◌==◌, ℕ, zero, suc, List, [], ◌∷◌, ◌++◌, Option, None, Some, flat_map, if◌then◌else◌, length, nat_le, option_map}
 use Rattle.pr_api.specs.Entries.{call_entry}
 use Rattle.pr_codec.specs.Words.{word_at}
+use Rattle.pr_model.specs.Handles.{handle_of}
 use Rattle.pr_model.specs.Legal.{state_after}
 use Rattle.pr_model.specs.Readers.{space_seen}
 use Rattle.pr_model.specs.Reads.{mapped_from}
@@ -8,8 +9,13 @@ use Rattle.pr_model.specs.Records.{lstatus_of}
 use Rattle.pr_model.specs.Registers.{fp_of, pc_of}
 use Rattle.pr_model.specs.State.{TracedProcess, TracedState, TracedSystem, live_process}
 use Rattle.pr_model.specs.declared.calls.Call.{Call}
+use Rattle.pr_model.specs.declared.calls.Call.TheVariants.{CtlWait}
+use Rattle.pr_model.specs.declared.calls.File.TheVariants.{Ctl}
 use Rattle.pr_model.specs.declared.calls.Reply.{Reply}
+use Rattle.pr_model.specs.declared.calls.Reply.TheVariants.{Used}
 use Rattle.pr_model.specs.declared.events.Entry.{Entry}
+use Rattle.pr_model.specs.declared.handles.Held.{Held}
+use Rattle.pr_model.specs.declared.tools.ToolKind.TheVariants.{Pstack}
 use Rattle.pr_num.specs.Layout.{text_base}
 use Rattle.pr_num.specs.Programs.{Program}
 use Rattle.pr_num.specs.Spaces.{Space}
@@ -17,7 +23,9 @@ use Rattle.pr_rec.specs.declared.lwps.LwpStatus.{LwpStatus}
 use Rattle.pr_tools.specs.Pstack.{frame_line, program_of}
 use Rattle.pr_tools.specs.Steps.{read_frames}
 use Rattle.pr_tools.specs.Texts.{header, line_end, lwp_label}
-use Rattle.pr_tools.specs.Tools.{short_read}
+use Rattle.pr_tools.specs.Tools.{short_read, stop_bytes}
+use Rattle.pr_tool_laws.specs.Reads.{IsToolRead}
+use Rattle.pr_truss_laws.specs.Stills.{IsHalting}
 
 -- The text of pstack(1) as a function of one state of the machine.
 
@@ -61,7 +69,22 @@ stacks_in pid programs s = option_map (stacks_text pid programs) (live_process s
 
 -- ---- the state that it shows
 
--- This text is that of the stacks in a state of the history, in one that a call of this controller finds.
+-- A controller waited, as PCSTOP does, until the process had stopped: by a handle of its control file, however long
+-- that took. The wait was over.
+pub record HasStopped (k pid : ℕ) (first : TracedState) (h : List Entry) : Type 0 where
+  pub before : List Entry
+  pub handle : ℕ
+  pub used : ℕ
+  pub after : List Entry
+  pub held : Held
+  pub place : h ≡ before ++ call_entry k (CtlWait handle 0 stop_bytes) (Used used) ∷ after
+  pub there : handle_of (state_after first before).opens k handle ≡ Some held
+  pub of : held.pid ≡ pid
+  pub file : held.file ≡ Ctl
+
+-- This text is that of the stacks in a state of the history: in the one that the controller finds when it reads the
+-- status of all lwps after it has stopped the process. There each lwp stands on an event of interest, is suspended, or
+-- stops before it does anything else.
 pub record ShowsOneStack (k pid : ℕ) (programs : List Program) (first : TracedState) (h : List Entry)
     (text : List ℕ) : Type 0 where
   pub before : List Entry
@@ -69,4 +92,7 @@ pub record ShowsOneStack (k pid : ℕ) (programs : List Program) (first : Traced
   pub reply : Reply
   pub after : List Entry
   pub place : h ≡ before ++ call_entry k call reply ∷ after
+  pub reads : IsToolRead Pstack k pid (state_after first before) call
+  pub stopped : HasStopped k pid first before
+  pub still : (p : TracedProcess) → live_process (state_after first before).system pid ≡ Some p → IsHalting p
   pub shown : stacks_in pid programs (state_after first before).system ≡ Some text

@@ -27,8 +27,8 @@ pub fn one_read_has_what_stands_there()
 
 /// In a legal history that follows the protocol of its controllers, from a lawful state in range or from a first state,
 /// and in which controllers write bytes, a tool other than pstack that has finished, and was not refused, prints what
-/// stands in one state: in one that a call of its own finds. In the state of which pwait prints the wait status the
-/// process has ended, and was not reaped yet.
+/// stands in one state: in the one that its read finds. In the state of which pwait prints the wait status the process
+/// has ended, and was not reaped yet.
 pub fn tools_show_what_stands_there()
     ensures later { (controllers : List Core) (n k : ℕ) (kind : ToolKind) (pid : ℕ) (s : TracedState) (h : List Entry)
         → (t : ToolState) (programs : List Program)
@@ -39,9 +39,9 @@ pub fn tools_show_what_stands_there()
         → ShowsOneState k kind pid s h (printed t programs) }
     ensures first { (programs : List Program) (files : List StoredFile) (spawns : List ℕ)
         → (controllers : List Core) (n k : ℕ) (kind : ToolKind) (pid : ℕ) (h : List Entry) (t : ToolState)
-        → IsStart programs files spawns → IsStartInRange programs files → HasBytes h
+        → (labels : List Program) → IsStart programs files spawns → IsStartInRange programs files → HasBytes h
         → reads_once kind ≡ true → slice_get controllers k ≡ Some (cores.Tool (first_tool kind pid))
         → IsLegal n (first_state programs files spawns) h → Follows controllers (first_state programs files spawns) h
         → slice_get (controllers_at controllers h) k ≡ Some (cores.Tool t) → has_ended t ≡ true → t.refusal ≡ None
-        → ShowsOneState k kind pid (first_state programs files spawns) h (printed t programs) }
+        → ShowsOneState k kind pid (first_state programs files spawns) h (printed t labels) }
 {}

@@ -17,8 +17,9 @@ ghost use Rattle.pr_world.specs.Cores as cores;
 ghost use Rattle.pr_world.specs.Protocol.{Follows, controllers_at};
 
 /// In a legal history that follows the protocol of its controllers, from a lawful state in range or from a first state,
-/// and in which controllers write bytes, a pstack that has finished, and was not refused, prints the stacks of one state:
-/// of one that a call of its own finds, although it reads frame by frame.
+/// and in which controllers write bytes, a pstack that has finished, and was not refused, prints the stacks of one
+/// state, although it reads frame by frame: of the one that it finds when it reads the status of all lwps, after it has
+/// waited for the process to stop. This is so whatever programs it takes its labels from.
 pub fn pstack_shows_one_state()
     ensures later { (controllers : List Core) (n k : ℕ) (pid : ℕ) (s : TracedState) (h : List Entry) (t : ToolState)
         → (programs : List Program)
@@ -28,10 +29,10 @@ pub fn pstack_shows_one_state()
         → slice_get (controllers_at controllers h) k ≡ Some (cores.Tool t) → has_ended t ≡ true → t.refusal ≡ None
         → ShowsOneStack k pid programs s h (printed t programs) }
     ensures first { (programs : List Program) (files : List StoredFile) (spawns : List ℕ)
-        → (controllers : List Core) (n k : ℕ) (pid : ℕ) (h : List Entry) (t : ToolState)
+        → (controllers : List Core) (n k : ℕ) (pid : ℕ) (h : List Entry) (t : ToolState) (labels : List Program)
         → IsStart programs files spawns → IsStartInRange programs files → HasBytes h
         → slice_get controllers k ≡ Some (cores.Tool (first_tool Pstack pid))
         → IsLegal n (first_state programs files spawns) h → Follows controllers (first_state programs files spawns) h
         → slice_get (controllers_at controllers h) k ≡ Some (cores.Tool t) → has_ended t ≡ true → t.refusal ≡ None
-        → ShowsOneStack k pid programs (first_state programs files spawns) h (printed t programs) }
+        → ShowsOneStack k pid labels (first_state programs files spawns) h (printed t labels) }
 {}

@@ -13,8 +13,8 @@ ghost use Rattle.pr_world.specs.Cores as cores;
 ghost use Rattle.pr_world.specs.Protocol.{Follows, controllers_at};
 
 /// In a legal history in which each controller makes the calls that come after the replies that it got, a tool other
-/// than pstack that has finished, and was not refused, prints the text of one state: of one that a call of its own
-/// finds, and so of one between its first call and its last.
+/// than pstack that has finished, and was not refused, prints the text of one state: of the one that its read finds,
+/// and so of one between its first call and its last.
 pub fn a_tools_text_is_of_one_state()
     ensures { (controllers : List Core) (n k : ℕ) (kind : ToolKind) (pid : ℕ) (first : TracedState) (h : List Entry)
         → (t : ToolState) (programs : List Program)

@@ -88,7 +88,7 @@ module _ (n k : ℕ) (first : TracedState) (P : List Entry → Core → Type 0) 
         subst (λ g. IfSome (slice_get (controllers_at controllers' rest) k) (P g)) whole all
 
     -- it is so of the controller at the end, if it was so at first
-    pub conduct-keeps : (controllers : List Core) (h : List Entry) (core last : Core) → IsLegal n first h → Follows controllers first h → slice_get controllers k ≡ Some core → slice_get (controllers_at controllers h) k ≡ Some last → P [] core → P h last
-    conduct-keeps controllers h core last legal follows at_first at_last p =
+    pub protocol-keeps : (controllers : List Core) (h : List Entry) (core last : Core) → IsLegal n first h → Follows controllers first h → slice_get controllers k ≡ Some core → slice_get (controllers_at controllers h) k ≡ Some last → P [] core → P h last
+    protocol-keeps controllers h core last legal follows at_first at_last p =
         let begins : IfSome (slice_get controllers k) (P []) = subst (λ o. IfSome o (P [])) (sym at_first) p in
         subst (λ o. IfSome o (P h)) at_last (history-keeps [] h controllers legal follows begins)
