@@ -23,7 +23,7 @@ use Rattle.pr_truss_laws.specs.Given.{reply_at}
 use Rattle.pr_report_laws.specs.Follows.{ComeNext}
 
 -- What becomes of the child of a fork that truss(1) reads while it leaves a process, by its exchanges, its reports and
--- its next call alone.
+-- the call that is due alone.
 
 -- ---- the fork
 
@@ -56,15 +56,15 @@ freeing_calls child control parent =
 
 -- ---- what comes after the fork
 
--- The open of the child's control file was granted, or comes next. Nothing is reported up to the last of these calls.
-pub record IsFreed (child : ℕ) (parent : Traced) (base reports : List Report) (next : Option Call)
+-- The open of the child's control file was granted, or is due. Nothing is reported up to the last of these calls.
+pub record IsFreed (child : ℕ) (parent : Traced) (base reports : List Report) (due : Option Call)
     (xs : List Exchange) : Type 0 where
   pub granted : errno_in (reply_at xs 0) ≡ None
-  pub calls : ComeNext next (freeing_calls child (handle_in (reply_at xs 0)) parent) xs
+  pub calls : ComeNext due (freeing_calls child (handle_in (reply_at xs 0)) parent) xs
   pub silent : length xs ≤ length (freeing_calls child (handle_in (reply_at xs 0)) parent) → reports ≡ base
 
 -- It was refused, which is the next report, for this reason, and the files of the parent are closed.
-pub record IsRefusedFreeing (child : ℕ) (parent : Traced) (base reports : List Report) (next : Option Call)
+pub record IsRefusedFreeing (child : ℕ) (parent : Traced) (base reports : List Report) (due : Option Call)
     (xs : List Exchange) : Type 0 where
   pub errno : Errno
   pub later : List Exchange
@@ -72,20 +72,20 @@ pub record IsRefusedFreeing (child : ℕ) (parent : Traced) (base reports : List
   pub is : xs ≡ record { call = open_control child; reply = reply.Fail errno } ∷ later
   pub not_interrupted : errno ≢ Intr
   pub reported : reports ≡ base ++ CannotTrace child errno ∷ more
-  pub closes : ComeNext next (closing_calls parent) later
+  pub closes : ComeNext due (closing_calls parent) later
 
 -- It was interrupted, and the files of the parent are closed. Nothing is reported up to the last of these calls.
-pub record IsInterruptedFreeing (child : ℕ) (parent : Traced) (base reports : List Report) (next : Option Call)
+pub record IsInterruptedFreeing (child : ℕ) (parent : Traced) (base reports : List Report) (due : Option Call)
     (xs : List Exchange) : Type 0 where
   pub later : List Exchange
   pub is : xs ≡ record { call = open_control child; reply = reply.Fail Intr } ∷ later
-  pub closes : ComeNext next (closing_calls parent) later
+  pub closes : ComeNext due (closing_calls parent) later
   pub silent : length later ≤ length (closing_calls parent) → reports ≡ base
 
 -- What the exchanges after the read do with the child of this process, where truss had reported so much then, and at
--- the end of the exchanges it has reported so much and makes this call next.
-pub data IsSetFree (child : ℕ) (parent : Traced) (base reports : List Report) (next : Option Call)
+-- the end of the exchanges it has reported so much and this call is due.
+pub data IsSetFree (child : ℕ) (parent : Traced) (base reports : List Report) (due : Option Call)
     (xs : List Exchange) : Type 0 where
-  freed : IsFreed child parent base reports next xs → IsSetFree child parent base reports next xs
-  refused : IsRefusedFreeing child parent base reports next xs → IsSetFree child parent base reports next xs
-  interrupted : IsInterruptedFreeing child parent base reports next xs → IsSetFree child parent base reports next xs
+  freed : IsFreed child parent base reports due xs → IsSetFree child parent base reports due xs
+  refused : IsRefusedFreeing child parent base reports due xs → IsSetFree child parent base reports due xs
+  interrupted : IsInterruptedFreeing child parent base reports due xs → IsSetFree child parent base reports due xs

@@ -15,9 +15,9 @@ ghost use Rattle.pr_report_laws.specs.Freed.{IsInterruptedFreeing, IsSetFree, Re
 
 /// Where children are followed, truss opens the child of each fork that it has read: the calls of the opening come
 /// next. None of them is refused before the child runs, and the parent runs then. Or the first refusal is the next
-/// report, what was opened of the child is closed, file by file, and the parent runs. Or truss was interrupted. Where its
-/// exchanges end before all this, its next call is the one that comes then; truss that has finished has no next call.
-/// This is so whatever it was replied.
+/// report, what was opened of the child is closed, file by file, and the parent runs. Or truss was interrupted. Where
+/// its exchanges end before all this, the call that comes then is due; where truss has finished none is. This is so
+/// whatever it was replied.
 #[tactic(auto, using(crate::proofs::FollowLaws::follows))]
 pub fn each_child_that_was_read_is_handled()
     ensures { (o : Options) (xs before later : List Exchange) (x : Exchange) (place child : ℕ) → o.follow ≡ true
@@ -37,7 +37,7 @@ pub fn no_opening_of_a_child_is_interrupted()
 /// Where children are followed, truss sets free the child of each fork that it has read while it leaves a process: it
 /// opens the child's control file, sets PR_RLC and closes it. Where the open is refused, that is the next report; an
 /// interrupted one is not reported. Then the files of the process are closed. Where its exchanges end before all this,
-/// its next call is the one that comes then. This is so whatever it was replied.
+/// the call that comes then is due. This is so whatever it was replied.
 #[tactic(auto, using(crate::proofs::FreedLaws::frees))]
 pub fn each_child_that_was_read_while_leaving_is_set_free()
     ensures { (o : Options) (xs before later : List Exchange) (x : Exchange) (child : ℕ) → o.follow ≡ true
@@ -51,6 +51,6 @@ pub fn each_child_that_was_read_while_leaving_is_set_free()
 /// In a legal history the open of such a child is not interrupted.
 pub fn no_freeing_of_a_child_is_interrupted()
     ensures { (n k child : ℕ) (s : TracedState) (h : List Entry) (before later : List Exchange) (parent : Traced)
-        (base reports : List Report) (next : Option Call) → IsLegal n s h → exchanges k h ≡ before ++ later
-        → IsInterruptedFreeing child parent base reports next later → ⊥ }
+        (base reports : List Report) (due : Option Call) → IsLegal n s h → exchanges k h ≡ before ++ later
+        → IsInterruptedFreeing child parent base reports due later → ⊥ }
 {}

@@ -21,6 +21,7 @@ use Rattle.pr_scen.specs.declared.plans.Plan.TheVariants as plan
 use Rattle.pr_truss.specs.Trusses.{first_truss}
 use Rattle.pr_truss_laws.specs.Handles.{HasNothingOpen}
 use Rattle.pr_world.proofs.RunLemmas.{moves-led}
+use Rattle.pr_tool_laws.proofs.ProgramLemmas.{first-same}
 use Rattle.pr_tool_laws.proofs.StackLaw.{shows-one-stack}
 use Rattle.pr_tool_laws.proofs.WholeLemmas.{tool-shows}
 use Rattle.pr_tools.specs.Tools.{first_tool}
@@ -117,6 +118,7 @@ led-kept s w range led =
       transparent_without_scripts = transparent-tracers s led.entries run.legal run.follows;
       trusses = trusses-kept s led.entries range run.legal run.follows;
       tools = tools-kept s led.entries range run.legal run.follows;
+      programs = first-same (length (controllers_of s)) s.programs (files_of s) s.spawns led.entries range.start run.legal;
     } in
     subst (IsKept s) (sym (led-history s w led)) kept
 

@@ -24,7 +24,7 @@ use Rattle.pr_range_laws.specs.ByteHistories.{HasBytes}
 use Rattle.pr_range_laws.specs.InRange.{IsInRange}
 use Rattle.pr_report_laws.proofs.BeginLaws.{finished-watches-none, followed-watches, opened-watches}
 use Rattle.pr_report_laws.proofs.BeginsOnlyLaws.{watched-opened}
-use Rattle.pr_report_laws.proofs.Births.{births-report}
+use Rattle.pr_report_laws.proofs.Births.{births-report, unfollowed-report}
 use Rattle.pr_report_laws.proofs.EndLaws.{watched-let}
 use Rattle.pr_report_laws.proofs.FileLaws.{HasFiles, IsFileOf}
 use Rattle.pr_report_laws.proofs.FileUses.{freed-file}
@@ -212,7 +212,7 @@ module _ (n k : ℕ) (o : Options) (first : TracedState) (h : List Entry) (run :
     follows = λ before later x place child is reads. read-followed o (exchanges k h) before later x place child follow run.makes is reads;
     frees = λ before later x child is reads. read-freed o (exchanges k h) before later x child follow run.makes is reads;
     leaves_none = λ before later child is left. never-left n k child first h before later run.legal is left;
-    keeps_none = λ before later child parent base reports next is kept. never-kept n k child first h before later parent base reports next run.legal is kept;
+    keeps_none = λ before later child parent base reports due is kept. never-kept n k child first h before later parent base reports due run.legal is kept;
   }
 
   -- ---- what is released
@@ -257,6 +257,7 @@ truss-kept controllers n first h k o lawful fit range bytes at none legal follow
       makes = stays.0;
       truss = stays.1;
       shows = λ pid named forks. births-report n k o pid first h lawful fit none legal stays.0 range bytes named forks;
+      shows_unfollowed = λ pid unfollowed. unfollowed-report n k o pid first h lawful fit none legal stays.0 range bytes unfollowed;
       texts = read-texts n k o first h lawful none legal stays.0;
       children = children n k o first h run;
       opens = opens n k o first h run;

@@ -18,7 +18,7 @@ use Rattle.pr_truss.specs.declared.processes.Traced.{Traced}
 use Rattle.pr_truss.specs.declared.reports.Report.{Report}
 use Rattle.pr_truss.specs.declared.stages.FreeingStep.TheVariants.{Close as Free}
 use Rattle.pr_truss.specs.declared.stages.Stage.TheVariants.{FreeingChild}
-use Rattle.pr_report_laws.specs.Births.{LeavesForks, NamesNoChild}
+use Rattle.pr_report_laws.specs.Births.{IsNeverFollowed, LeavesForks, NamesNoChild}
 use Rattle.pr_report_laws.specs.Follows.{IsFollowedUp, IsLeftChild, ReadsFork}
 use Rattle.pr_report_laws.specs.Freed.{IsInterruptedFreeing, IsSetFree, ReadsLastFork}
 use Rattle.pr_report_laws.specs.Grips.{HasFollowed, HasOpened, IsLetGo}
@@ -67,8 +67,8 @@ pub record IsNewborn (o : Options) (pid : ℕ) (first : TracedState) (h : List E
   pub silent : selected o pid (events_from first h) ≡ []
 
 -- What a truss that follows children does with those of the forks that it reads: each is opened, or its refusal is the
--- next report; and one that it reads while it leaves a process is set free, or its refusal is the next report. What
--- truss has not done of that yet it does next: when it has finished it has done all of it. No such opening is
+-- next report; and one that it reads while it leaves a process is set free, or its refusal is the next report. Of what
+-- it has not done of that yet the first call is due: when it has finished it has done all of it. No such opening is
 -- interrupted.
 pub record HandlesChildren (k : ℕ) (o : Options) (h : List Entry) : Type 0 where
   pub follows : (before later : List Exchange) (x : Exchange) (place child : ℕ) → exchanges k h ≡ before ++ x ∷ later
@@ -84,8 +84,8 @@ pub record HandlesChildren (k : ℕ) (o : Options) (h : List Entry) : Type 0 whe
   pub leaves_none : (before later : List Exchange) (child : ℕ) → exchanges k h ≡ before ++ later
       → IsLeftChild child later → ⊥
   pub keeps_none : (before later : List Exchange) (child : ℕ) (parent : Traced) (base reports : List Report)
-      → (next : Option Call) → exchanges k h ≡ before ++ later
-      → IsInterruptedFreeing child parent base reports next later → ⊥
+      → (due : Option Call) → exchanges k h ≡ before ++ later
+      → IsInterruptedFreeing child parent base reports due later → ⊥
 
 -- ---- what truss releases
 
@@ -120,9 +120,10 @@ pub record Releases (k : ℕ) (o : Options) (first : TracedState) (h : List Entr
 
 -- The controller of a number is a truss with these options, whose calls are those that it makes after the replies that
 -- it got. Of each process it has shown what was selected of its events while it watched the process. Where it follows
--- children, this is said only if fork makes none of the processes that its options name, and if between a fork and the
--- opening of its child no other controller is granted a handle for writing of the child; and then a child does nothing
--- before it is watched. The memory that stands in the line of an event is that of the state in which truss read it.
+-- children, this is said only of a process of which it never got hold as the child of a fork, or if fork makes none of
+-- the processes that its options name, and if between a fork and the opening of its child no other controller is
+-- granted a handle for writing of the child; and then a child does nothing before it is watched. The memory that stands
+-- in the line of an event is that of the state in which truss read it.
 --
 -- Truss watches a process right after it has opened it, begins to watch it in no other way, and lets it go for a reason
 -- alone. Wherever it has come to, it releases the processes of which it has set PR_RLC when it closes their control
@@ -133,6 +134,7 @@ pub record IsTrussKept (controllers : List Core) (first : TracedState) (h : List
   pub makes : Makes (first_truss o) (exchanges k h)
   pub truss : slice_get (controllers_at controllers h) k ≡ Some (Truss (truss_at k o h))
   pub shows : (pid : ℕ) → NamesNoChild o h → LeavesForks k o h → IsReported k o pid first h
+  pub shows_unfollowed : (pid : ℕ) → IsNeverFollowed k o pid h → IsReported k o pid first h
   pub texts : HaveTheirTexts k o first h (truss_at k o h).reports
   pub children : o.follow ≡ true → HandlesChildren k o h
   pub opens : (before later : List Entry) (pid : ℕ) → h ≡ before ++ later
