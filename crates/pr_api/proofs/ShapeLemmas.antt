@@ -13,7 +13,7 @@ use Rattle.pr_num.specs.Messages.{bad_operand, encoded_length, first_message, in
 use Rattle.pr_num.specs.Programs.{Program}
 use Rattle.pr_num.specs.Sets.{with_number}
 use Rattle.pr_num.specs.Signals.{signal_of_number}
-use Rattle.pr_num.specs.Spaces.{Space, byte_for, bytes_for, one_more}
+use Rattle.pr_num.specs.Spaces.{Space, byte_for}
 use Rattle.pr_num.specs.declared.errnos.Errno.{Errno}
 use Rattle.pr_num.specs.declared.errnos.Errno.TheVariants.{Busy, Inval, Intr}
 use Rattle.pr_num.specs.declared.mappings.BadByte.{BadByte}

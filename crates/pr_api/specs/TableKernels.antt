@@ -1,11 +1,12 @@
-use Rattle.std.specs.Prelude.{◌==◌, ◌&&◌, ℕ, Bool, true, false, List, [], ◌∷◌, ◌++◌, Option, Some, None, if◌then◌else◌}
+use Rattle.std.specs.Prelude.{◌==◌, ◌&&◌, ◌+◌, ℕ, Bool, true, false, List, [], ◌∷◌, ◌++◌, Option, Some, None, if◌then◌else◌}
 use Rattle.pr_num.specs.declared.errnos.Errno.TheVariants.{Io}
 use Rattle.pr_model.specs.declared.calls.Call.{Call}
 use Rattle.pr_model.specs.declared.calls.Call.TheVariants as call
 use Rattle.pr_model.specs.declared.calls.Reply.{Reply}
 use Rattle.pr_model.specs.declared.calls.Reply.TheVariants.{Bytes, Fail}
 use Rattle.pr_model.specs.declared.events.Entry.{Entry}
-use Rattle.pr_api.specs.Entries.{call_entry}
+use Rattle.pr_model.specs.declared.events.Turned.{Turned}
+use Rattle.pr_api.specs.Entries.{call_entry, tick_entry, turn_entry}
 use Rattle.pr_api.specs.Shapes.{has_shape}
 use Rattle.pr_api.specs.Views.{KernelView}
 
@@ -54,6 +55,14 @@ after_taken by c k t = record k { replies = t.left; history = k.history ++ call_
 
 unfoldable pub after_call : ℕ → Call → TableState → TableState
 after_call by c k = after_taken by c k (taken c k.replies)
+
+-- the kernel after a turn of an lwp, which did this
+abbrev pub after_turn : ℕ → ℕ → Turned → TableState → TableState
+after_turn pid id turned k = record k { history = k.history ++ turn_entry pid id turned ∷ [] }
+
+-- the kernel after a millisecond
+abbrev pub after_tick : TableState → TableState
+after_tick k = record k { clock = k.clock + 1; history = k.history ++ tick_entry (k.clock + 1) ∷ [] }
 
 -- whether an lwp is the one that there is
 abbrev pub is_the_lwp : Option (ℕ × ℕ) → ℕ → ℕ → Bool

@@ -4,7 +4,7 @@ ghost use Rattle.pr_num.specs.Limits.{clock_limit};
 ghost use Rattle.pr_api.specs.Entries.{last_reply_of};
 ghost use Rattle.pr_api.specs.Steps.{IsCalled, IsTicked, IsTurned};
 ghost use Rattle.pr_api.specs.TableLaws.{table-lawful};
-ghost use Rattle.pr_api.specs.TableKernels.{after_call, first_table, is_the_lwp, otherwise, table_view, taken};
+ghost use Rattle.pr_api.specs.TableKernels.{after_call, after_tick, after_turn, first_table, is_the_lwp, otherwise, table_view, taken};
 ghost use Rattle.pr_api.specs.Views.{IsLawful, next_of};
 
 use crate::{Kernel, has_shape};
@@ -143,7 +143,13 @@ impl Kernel for TableKernel {
         }
     }
 
-    fn lwp_turn(&mut self, pid: u32, lwp: u32) -> Result<Turned, NoMemory> {
+    /// Gives an lwp a turn, which does nothing. Takes no memory.
+    fn lwp_turn(&mut self, pid: u32, lwp: u32) -> Result<Turned, NoMemory>
+        requires place { length self.old.history < self.old.places }
+        ensures ok { IfOk result (λ turned. IsTurned pid lwp turned (table_view self.old) (table_view self.new)) }
+        ensures sure { IsOk result }
+        ensures value { IfOk result (λ turned. self.new ≡ after_turn pid lwp turned self.old) }
+    {
         let turned = Turned {
             did: Did::Ran,
             stop: false,
@@ -155,7 +161,12 @@ impl Kernel for TableKernel {
         Ok(turned)
     }
 
-    fn tick(&mut self) {
+    fn tick(&mut self)
+        requires clock { self.old.clock < clock_limit }
+        requires place { length self.old.history < self.old.places }
+        ensures ticked { IsTicked (table_view self.old) (table_view self.new) }
+        ensures value { self.new ≡ after_tick self.old }
+    {
         self.clock += 1;
         self.history.push(Entry {
             actor: Actor::Clock,

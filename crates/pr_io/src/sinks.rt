@@ -1,6 +1,6 @@
 ghost use Rattle.std.specs.Prelude.{◌≡◌, ℕ, ◌+◌, ◌<◌, ◌≤◌, List, [], length, take, Option, IsOk, OnOk, IfOk, OnErr};
 ghost use Rattle.pr_io.specs.Known.{with_end};
-ghost use Rattle.pr_io.specs.Faults.{Rose};
+ghost use Rattle.pr_io.specs.Faults.{Rose, raised};
 ghost use Rattle.pr_io.specs.Writing.{AppendsFront};
 
 use crate::Failed;
@@ -14,7 +14,7 @@ pub trait Sink {
     ghost faults: { Self → ℕ };
 
     /// Appends the first bytes of `part`, at least one, and answers how many.
-    /// A write that fails appends nothing, and it alone raises the count.
+    /// A write that fails appends nothing, and it alone raises the count, by one.
     fn write(&mut self, part: &[u8]) -> Result<usize, Failed>
         requires { 0 < length part.now }
         ensures some { IfOk result (λ n. (1 ≤ n) × (n ≤ length part.now)) }
@@ -22,6 +22,7 @@ pub trait Sink {
             (λ n. written self.new ≡ with_end (written self.old) (take n part.now)) }
         ensures kept { OnErr result (written self.new ≡ written self.old) }
         ensures failed { OnErr result (Rose (faults self.old) (faults self.new)) }
+        ensures by_one { OnErr result (faults self.new ≡ raised (faults self.old)) }
         ensures no_fault { OnOk result (faults self.new ≡ faults self.old) }
         ensures never_falls { faults self.old ≤ faults self.new };
 }
@@ -33,6 +34,7 @@ pub fn write_all<K: Sink>(sink: &mut K, part: &[u8]) -> Result<(), Failed>
     ensures all { OnOk result (K.written sink.new ≡ with_end (K.written sink.old) part.now) }
     ensures front { OnErr result (AppendsFront (K.written sink.old) (K.written sink.new) part.now) }
     ensures failed { OnErr result (Rose (K.faults sink.old) (K.faults sink.new)) }
+    ensures by_one { OnErr result (K.faults sink.new ≡ raised (K.faults sink.old)) }
     ensures no_fault { OnOk result (K.faults sink.new ≡ K.faults sink.old) }
     ensures never_falls { K.faults sink.old ≤ K.faults sink.new }
 

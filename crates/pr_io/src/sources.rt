@@ -1,7 +1,7 @@
 ghost use Rattle.std.specs.Prelude.{◌≡◌, ◌≢◌, ℕ, ◌+◌, ◌++◌, ◌<◌, ◌≤◌, List, [], length, take, Option, OnOk, IfOk, OnErr, IsErrOf, Err};
 ghost use Rattle.std.specs.Io.KnownBytes.{IsAtEnd};
 ghost use Rattle.pr_io.specs.Known.{with_front};
-ghost use Rattle.pr_io.specs.Faults.{Rose};
+ghost use Rattle.pr_io.specs.Faults.{Rose, raised};
 ghost use Rattle.pr_io.specs.Reading.{ReadsAll, Came, CameWithin, CameAbove};
 ghost use Rattle.pr_io.specs.declared.sources.ReadEnd.TheVariants as variants;
 
@@ -22,7 +22,7 @@ pub trait Source {
     ghost reads: { Self → ℕ } = { λ _. 0 };
 
     /// Moves the next bytes to the front of `buf`, and answers how many: 0 only at the end.
-    /// A read that fails leaves what is to come as it was, and it alone raises the count. What
+    /// A read that fails leaves what is to come as it was, and it alone raises the count, by one. What
     /// stands in `buf` then, and after the bytes that came, is not said.
     fn read(&mut self, buf: &mut [u8]) -> Result<usize, Failed>
         requires { 0 < length buf.old }
@@ -32,6 +32,7 @@ pub trait Source {
         ensures end { IfOk result (λ n. n ≡ 0 → IsAtEnd (left self.new)) }
         ensures kept { OnErr result (left self.new ≡ left self.old) }
         ensures failed { OnErr result (Rose (faults self.old) (faults self.new)) }
+        ensures by_one { OnErr result (faults self.new ≡ raised (faults self.old)) }
         ensures no_fault { OnOk result (faults self.new ≡ faults self.old) }
         ensures never_falls { faults self.old ≤ faults self.new }
         ensures counted { reads self.new ≤ reads self.old + 1 };
@@ -75,7 +76,14 @@ fn keep(bytes: &mut Vec<u8>, more: &[u8]) -> Result<(), NoMemory>
 }
 
 /// The bytes that one read asks for.
-const PIECE: usize = 4096;
+const PIECE: usize = 65_536;
+
+// What one read is to fill. It lies on the heap, so that a call does not have to make room for it on its stack.
+fn new_piece(alloc: Global) -> Result<Vec<u8>, NoMemory>
+    ensures { IfOk result (λ piece. 0 < length piece.items) }
+{
+    Ok(vec![in alloc; 0; PIECE]?)
+}
 
 /// Reads all bytes up to the end, of which at most `limit` are allowed, in at most
 /// `limit + 1` reads. An error loses the bytes that came before it.
@@ -91,6 +99,8 @@ pub fn read_all<S: Source>(alloc: Global, source: &mut S, limit: usize) -> Resul
     // No more than the limit came, and then a read failed.
     ensures failed { IsErrOf result ReadEnd.Failed
         → Rose (S.faults source.old) (S.faults source.new) }
+    ensures by_one { IsErrOf result ReadEnd.Failed
+        → S.faults source.new ≡ raised (S.faults source.old) }
     ensures failed_within { IsErrOf result ReadEnd.Failed
         → CameWithin limit (S.left source.old) (S.left source.new) }
     ensures out_of_memory { IsErrOf result ReadEnd.NoMemory
@@ -102,9 +112,10 @@ pub fn read_all<S: Source>(alloc: Global, source: &mut S, limit: usize) -> Resul
     ensures counted { S.reads source.new ≤ S.reads source.old + (limit + 1) }
 {
     let mut bytes = Vec::new(alloc);
-    let mut piece = [0; PIECE];
+    let mut room = new_piece(alloc)?;
+    let piece = room.as_mut_slice();
     while bytes.len() <= limit {
-        let n = source.read(&mut piece)?;
+        let n = source.read(piece)?;
         if n == 0 {
             return Ok(Bytes::from_vec(bytes));
         }

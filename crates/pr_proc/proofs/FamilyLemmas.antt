@@ -4,9 +4,13 @@ use Rattle.std.proofs.lemmas.List.{drop_all}
 use Rattle.pr_num.proofs.ListLemmas.{drop-at}
 use Rattle.pr_model.specs.Readers.{Children, no_child, all_live, first_zombie, child_before, children_among}
 use Rattle.pr_model.specs.State.{TracedProcess}
-use Rattle.pr_proc.specs.Families.{told_behind}
 
 -- What a walk over processes tells of the children of one.
+
+-- what is told of children, where some before them live or none was seen
+abbrev pub told_behind : Bool → Children → Children
+told_behind false others = others
+told_behind true others = child_before 0 None others
 
 -- a child that lives before others
 alive : (any : Bool) (id : ℕ) (others : Children) → told_behind any (child_before id None others) ≡ told_behind true others

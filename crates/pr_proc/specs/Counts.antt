@@ -1,4 +1,4 @@
-use Rattle.std.specs.Prelude.{ℕ, ◌-◌, ◌^◌, ◌<◌, ◌≤◌, ◌&&◌, Bool, nat_lt}
+use Rattle.std.specs.Prelude.{ℕ, ◌<◌, ◌≤◌}
 use Rattle.std.specs.List.{All}
 use Rattle.pr_model.specs.State.{TracedSystem, TracedProcess}
 use Rattle.pr_model.specs.declared.processes.Usage.{Usage}
@@ -19,14 +19,6 @@ HasUsedAtMost n e = UsedAtMost n e.1.control.usage
 
 pub record AllUsedAtMost (n : ℕ) (s : TracedSystem) : Type 0 where
   pub each : All (HasUsedAtMost n) s.processes
-
--- whether one more can be added to each count of what a process has used
-unfoldable pub has_one_more : Usage → Bool
-has_one_more u =
-    nat_lt u.calls (2 ^ 64 - 1) && nat_lt u.signals (2 ^ 64 - 1) && nat_lt u.faults (2 ^ 64 - 1) && nat_lt u.instructions (2 ^ 64 - 1)
-
-abbrev pub has_one_more_at : ℕ × TracedProcess → Bool
-has_one_more_at e = has_one_more e.1.control.usage
 
 -- Ids are given out one after another: no process has the next one, or one beyond it.
 pub record IsNumbered (s : TracedSystem) : Type 0 where

@@ -1,4 +1,3 @@
-use Rattle.std.specs.Prelude.{Bool, true, false, None}
 use Rattle.pr_model.specs.Readers as readers
 use Rattle.pr_proc.specs.declared.families.Children.{Children}
 use Rattle.pr_proc.specs.declared.families.Children.TheVariants.{Nobody, Living, Zombie}
@@ -9,8 +8,3 @@ abbrev pub children_told : Children → readers.Children
 children_told Nobody = readers.no_child
 children_told Living = readers.all_live
 children_told (Zombie child status) = readers.first_zombie child status
-
--- what is told of children, where some before them live or none was seen
-abbrev pub told_behind : Bool → readers.Children → readers.Children
-told_behind false others = others
-told_behind true others = readers.child_before 0 None others

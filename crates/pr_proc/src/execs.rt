@@ -99,7 +99,8 @@ fn run_under(
 }
 
 /// Lets a live process run the program at a place, with the lwp of an id alone, which begins it (exec(2)). `NoSpace`
-/// comes exactly where all processes together would then map more than 64 MiB. After an error the system is as it was.
+/// comes, unless memory ran out before, exactly where all processes together would then map more than 64 MiB. After an
+/// error the system is as it was.
 #[tactic(auto, using(pr_num::proofs::ByIdLaws::by_id_laws, crate::proofs::LifeLemmas::life_laws), unfolding(crate::specs::Refusals::exec_refusal, pr_model::specs::State::with_process))]
 pub fn exec(alloc: Global, sys: &mut Sys, pid: u32, lwp: u32, program: usize) -> Result<(), ProcNo>
     requires live { IsSome (live_process sys.old pid) }

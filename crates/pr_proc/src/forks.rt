@@ -1,5 +1,5 @@
 //! How a process is forked (fork(2)).
-ghost use Rattle.std.specs.Prelude.{◌≡◌, ◌+◌, ◌<◌, ◌≤◌, ◌^◌, [], ◌∷◌, None, IfOk, IfSome, IsSome, OnOk, OnErr, length};
+ghost use Rattle.std.specs.Prelude.{◌≡◌, ◌+◌, ◌<◌, ◌≤◌, ◌^◌, [], ◌∷◌, None, Err, IfOk, IfSome, IsSome, OnOk, OnErr, length};
 ghost use Rattle.std.specs.Option.{ForSome};
 ghost use Rattle.pr_num.specs.Limits.{descriptor_limit};
 ghost use Rattle.pr_num.specs.ById.{under};
@@ -244,7 +244,7 @@ fn add_child(sys: &mut Sys, pid: u32, child: Proc) -> Result<(), NoMemory>
 
 /// Forks a live process by an lwp of it, whose call has these arguments, and answers the child's id. `Again`
 /// comes exactly where 4,096 processes were made, then `NoSpace` exactly where all processes together would map more
-/// than 64 MiB. After an error the system is as it was.
+/// than 64 MiB, and memory runs out only where neither is so. After an error the system is as it was.
 #[tactic(auto, unfolding(crate::specs::Refusals::fork_refusal))]
 pub fn fork(alloc: Global, sys: &mut Sys, pid: u32, lwp: u32, args: [u64; 6]) -> Result<u32, ProcNo>
     requires live { IsSome (live_process sys.old pid) }
@@ -256,6 +256,7 @@ pub fn fork(alloc: Global, sys: &mut Sys, pid: u32, lwp: u32, args: [u64; 6]) ->
     ensures ok { OnOk result (ForSome (live_process sys.old pid) (λ p. ForSome (lwp_of p lwp) (λ l. sys.new ≡ with_child traced pid p l args sys.old))) }
     ensures child { IfOk result (λ child. child ≡ sys.old.made) }
     ensures refused { ForSome (live_process sys.old pid) (λ p. Says result (fork_refusal sys.old p)) }
+    ensures memory { result ≡ Err ProcNo.NoMemory → ForSome (live_process sys.old pid) (λ p. fork_refusal sys.old p ≡ None) }
     ensures err { OnErr result (sys.new ≡ sys.old) }
 {
     let id = sys.made;

@@ -1,7 +1,6 @@
 //! Processes: the system as the kernel keeps it, and how processes begin and end.
 #![tactic(auto)]
 
-mod counts;
 mod ends;
 mod execs;
 mod families;
@@ -21,7 +20,6 @@ mod stops;
 mod systems;
 mod zombies;
 
-pub use counts::has_room;
 pub use ends::end;
 pub use execs::exec;
 pub use families::Children;

@@ -1,4 +1,4 @@
-ghost use Rattle.std.specs.Prelude.{◌≡◌, IfOk, Option, Some};
+ghost use Rattle.std.specs.Prelude.{◌≡◌, ◌↔◌, IfOk, IsErr, Option, Some};
 ghost use Rattle.pr_num.specs.declared.errnos.Errno.{Errno as AnyErrno};
 ghost use Rattle.pr_proc.specs.Refusals.{SaysOf};
 
@@ -32,7 +32,8 @@ impl From<NoMemory> for ProcNo {
 
 /// The errno of a refusal; memory that ran out has none.
 pub fn errno_of(reason: ProcNo) -> Result<Errno, NoMemory>
-    ensures { (refusal : Option AnyErrno) → SaysOf reason refusal → IfOk result (λ error. refusal ≡ Some error) }
+    ensures ok { (refusal : Option AnyErrno) → SaysOf reason refusal → IfOk result (λ error. refusal ≡ Some error) }
+    ensures memory { IsErr result ↔ (reason ≡ ProcNo.NoMemory) }
 {
     match reason {
         ProcNo::Again => Ok(Errno::Again),

@@ -36,8 +36,7 @@ fn left_of(bytes: u64, processes: &ById<Proc>) -> Option<u64>
 }
 
 /// Whether so many bytes more can be mapped where so many, at most a process's, are given up: all live processes
-/// together map at most 64 MiB. Goes over all processes, as fork, exec, spawn, brk and mmap may, which are rare; takes
-/// no memory.
+/// together map at most 64 MiB. Goes over all processes, as fork, exec, spawn, brk and mmap may. Takes no memory.
 #[tactic(auto, unfolding(pr_model::specs::Readers::total_has_room, pr_model::specs::Readers::total_size))]
 pub fn total_has_room(sys: &Sys, more: u64, less: u64) -> bool
     requires { less ≤ mapping_limit }

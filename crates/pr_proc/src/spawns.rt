@@ -1,6 +1,7 @@
 //! How processes begin.
-ghost use Rattle.std.specs.Prelude.{◌≡◌, ◌+◌, ◌<◌, ◌^◌, [], ◌∷◌, length, slice_get, None, IfOk, OnOk, OnErr};
+ghost use Rattle.std.specs.Prelude.{◌≡◌, ◌+◌, ◌<◌, ◌^◌, [], ◌∷◌, length, slice_get, None, Err, IfOk, OnOk, OnErr};
 ghost use Rattle.std.specs.Option.{ForSome};
+ghost use Rattle.pr_num.specs.Limits.{process_limit};
 ghost use Rattle.pr_num.specs.Spaces.{first_space};
 ghost use Rattle.pr_model.specs.Lives.{bare_process, first_lwp, new_process, with_made, with_spawned};
 ghost use Rattle.pr_model.specs.Spawning.{spawn_refusal};
@@ -176,8 +177,8 @@ pub(crate) fn spawn_unlimited(
 }
 
 /// Makes a process of the program at a place, under the next id, which it answers; `held`: the process is directed to
-/// stop before it runs. `Again` comes exactly where 4,096 processes were made, then `NoSpace` exactly where all
-/// processes together would map more than 64 MiB. After an error the system is as it was.
+/// stop before it runs. `Again` comes exactly where 4,096 processes were made; then, unless memory ran out before,
+/// `NoSpace` exactly where all processes together would map more than 64 MiB. After an error the system is as it was.
 #[tactic(auto, unfolding(pr_model::specs::Spawning::spawn_refusal))]
 pub fn spawn(alloc: Global, sys: &mut Sys, place: usize, held: bool) -> Result<u32, ProcNo>
     requires program { place < length sys.old.programs }
@@ -186,6 +187,7 @@ pub fn spawn(alloc: Global, sys: &mut Sys, place: usize, held: bool) -> Result<u
     ensures ok { OnOk result (ForSome (slice_get sys.old.programs place) (λ program. sys.new ≡ with_spawned traced program held sys.old)) }
     ensures child { IfOk result (λ child. child ≡ sys.old.made) }
     ensures refused { ForSome (slice_get sys.old.programs place) (λ program. Says result (spawn_refusal sys.old program)) }
+    ensures memory { result ≡ Err ProcNo.NoMemory → sys.old.made < process_limit }
     ensures err { OnErr result (sys.new ≡ sys.old) }
 {
     let child = sys.made;

@@ -1,10 +1,11 @@
 use Rattle.std.proofs.Common.{◌≡◌, ◌<◌, ◌≤◌, ◌+◌, ℕ, zero, suc, true, false, None, Some, Option, List, [], ◌∷◌, ◌++◌, length, drop, refl, sym, subst, ap, ◌∙◌, arith, inl, inr, append_assoc}
-use Rattle.std.proofs.lemmas.List.{length-append}
+use Rattle.std.proofs.lemmas.List.{append-nil, length-append}
 use Rattle.std.proofs.lemmas.List.Elements.{All-nil, All-cons}
 use Rattle.std.proofs.lemmas.Option.{same_Some, none-some}
 use Rattle.std.specs.List.{All, slice_get, slice_index_or, sum_by}
 use Rattle.pr_line.specs.declared.options.Options.{Options}
 use Rattle.pr_model.specs.Replies.{handle_in}
+use Rattle.pr_model.specs.declared.calls.Call.{Call}
 use Rattle.pr_model.specs.declared.calls.Call.TheVariants as call
 use Rattle.pr_model.specs.declared.calls.Reply.{Reply}
 use Rattle.pr_model.specs.declared.calls.Reply.TheVariants as reply
@@ -27,13 +28,13 @@ use Rattle.pr_truss.specs.declared.stages.Stage.TheVariants.{Spawning, OpeningCo
 use Rattle.pr_truss_laws.proofs.AnswerLemmas.{IsAnswer, answer-is}
 use Rattle.pr_truss_laws.proofs.ClosesLemmas.{after-grown}
 use Rattle.pr_truss_laws.proofs.HeldLemmas.{Grown, empty-list, grown-all, grown-same, of_traced}
-use Rattle.pr_truss_laws.proofs.OpeningLemmas.{Done, Failed, Leads, OpeningEnd, SameBase, Stopped, closing-end, done, ends-later, failed, leads-later, left, opening-end}
-use Rattle.pr_truss_laws.proofs.SequenceLemmas.{Goes, begun-calls, whole-calls}
+use Rattle.pr_truss_laws.proofs.OpeningLemmas.{Done, Failed, Leads, OpeningEnd, SameBase, Stopped, closed, closing, closing-end, done, failed, going, leads-later, left, opening-end}
+use Rattle.pr_truss_laws.proofs.SequenceLemmas.{Goes, begun-calls, next-calls, whole-calls}
 use Rattle.pr_truss_laws.proofs.StepLemmas.{next_opening-well}
-use Rattle.pr_truss_laws.specs.Exchanges.{Ends, Exchange, IsClose, IsGranted, errno_in, truss_after}
-use Rattle.pr_truss_laws.specs.Given.{AreHandled, IsHandled, IsRefusedOpening, IsWholeOpening, LeftAtStart, NotStarted, Started}
+use Rattle.pr_truss_laws.specs.Exchanges.{Ends, Exchange, IsClose, IsGranted, Makes, errno_in, truss_after}
+use Rattle.pr_truss_laws.specs.Given.{AreHandled, IsBegunOpening, IsHandled, IsHandledSoFar, IsRefusedOpening, IsStarting, IsWholeOpening, LeftAtStart, NotStarted, Started, opening_calls}
 
--- What became of each process that truss was given.
+-- What has become of each process that truss was given.
 
 -- ---- what is left of a list from a place on
 
@@ -48,14 +49,18 @@ drop-some [] i x e = cc
 drop-some (y ∷ xs) zero x e = ap (λ z. z ∷ xs) (same_Some y x e)
 drop-some (y ∷ xs) (suc i) x e = let later = drop-some xs i x e in let next : suc i + 1 ≡ suc (i + 1) = omega arith in later ∙ ap (λ k. x ∷ drop k (y ∷ xs)) (sym next)
 
--- ---- on the way to this end
+-- ---- on the way to this state
 
 module _ (f : TrussState) where
+  -- the call that is due
+  abbrev pub due : Option Call
+  due = next_call_of f
+
   -- what is still to be said of these processes, where so much was reported before
   pub record Told (base : List Report) (o : Options) (pids : List ℕ) (xs : List Exchange) : Type 0 where
     pub more : List Report
     pub is : f.reports ≡ base ++ more
-    pub handled : AreHandled o pids more xs
+    pub handled : AreHandled o due pids more xs
 
   -- no process is left
   told-none : (base : List Report) (o : Options) (xs : List Exchange) → Grown base f.reports → Told base o [] xs
@@ -81,7 +86,22 @@ module _ (f : TrussState) where
   told-left base o pid pids opening later stopped g = record {
     more = g.more;
     is = g.is;
-    handled = inr (inr (record { opening = opening; later = later; is = refl; interrupted = stopped }));
+    handled = inr (inr (inl (record { opening = opening; later = later; is = refl; interrupted = stopped })));
+  }
+
+  -- and of one on which truss is at work
+  told-begun : (base : List Report) (o : Options) (pid : ℕ) (pids : List ℕ) (xs : List Exchange) (next : Call) → due ≡ Some next → IsBegunOpening o pid next xs → f.reports ≡ base → Told base o (pid ∷ pids) xs
+  told-begun base o pid pids xs next is begun none = record {
+    more = [];
+    is = none ∙ sym (append-nil base);
+    handled = inr (inr (inr (inl (record { next = next; is = is; begun = begun; nothing = refl }))));
+  }
+
+  told-broken : (base : List Report) (o : Options) (pid : ℕ) (pids : List ℕ) (errno : Errno) (opening closings : List Exchange) (handle : ℕ) → due ≡ Some (call.Close handle) → IsRefusedOpening o pid errno opening → All IsClose closings → f.reports ≡ base ++ CannotTrace pid errno ∷ [] → Told base o (pid ∷ pids) (opening ++ closings)
+  told-broken base o pid pids errno opening closings handle next refused closes reported = record {
+    more = CannotTrace pid errno ∷ [];
+    is = reported;
+    handled = inr (inr (inr (inr (record { errno = errno; opening = opening; closings = closings; handle = handle; next = next; is = refl; refused = refused; closes = closes; reported = refl }))));
   }
 
   abbrev pub pids_left : TrussState → List ℕ
@@ -100,13 +120,15 @@ module _ (f : TrussState) where
     grown-at : (xs : List Exchange) → Leads f at_control xs → Grown s.reports f.reports
     grown-at xs l = subst (λ (u : TrussState). Grown s.reports u.reports) l.last (after-grown xs at_control tt)
 
-    not-over : Leads f at_control [] → ⊥
-    unfolding next_call_of call_of
-    not-over l = none-some (open_control pid) (sym l.ends.finished)
+    -- no call of it was made
+    control-due : Leads f at_control [] → Told s.reports s.options (pid ∷ pids_left s) []
+    unfolding next_call_of call_of opening_calls
+    control-due l =
+        told-begun s.reports s.options pid (pids_left s) [] (open_control pid) (ap next_call_of (sym l.last)) (record { calls = refl; granted = All-nil IsGranted }) (ap (λ (u : TrussState). u.reports) (sym l.last))
 
     control-call : (x : Exchange) (xs : List Exchange) → Leads f at_control (x ∷ xs) → x.call ≡ open_control pid
     unfolding next_call_of call_of
-    control-call x xs l = same_Some x.call (open_control pid) (sym l.ends.makes.0)
+    control-call x xs l = same_Some x.call (open_control pid) (sym l.makes.0)
 
     control-answered : (x : Exchange) (xs : List Exchange) → Leads f at_control (x ∷ xs) → Leads f (with_control_answered at_control pid x.reply (answer_of x.reply)) xs
     unfolding fed with_reply
@@ -168,12 +190,18 @@ module _ (f : TrussState) where
       failed-told d =
           let st = d.stopped in
           let reported : TrussState = with_report d.state (CannotTrace pid d.errno) in
-          let c = closing-end f st.later reported d.place d.ends in
-          let base : SameBase (with_report s (CannotTrace pid d.errno)) c.state = record { options = c.same.options ∙ d.same.options; begun = c.same.begun ∙ d.same.begun; reports = c.same.reports ∙ ap (λ rs. rs ++ CannotTrace pid d.errno ∷ []) d.same.reports } in
-          let short : length c.later ≤ length xs = omega (arith, shorter-part c.closings c.later st.later c.is, shorter-part st.opening st.later xs st.is) in
-          let rest = told-same (with_report s (CannotTrace pid d.errno)) c.state c.later base (later c.later c.state short c.ends) in
-          let is : x ∷ xs ≡ (x ∷ st.opening) ++ (c.closings ++ c.later) = ap (λ ys. x ∷ ys) (st.is ∙ ap (λ ys. st.opening ++ ys) c.is) in
-          subst Goal (sym is) (told-refused s.reports s.options pid (pids_left s) d.errno (x ∷ st.opening) c.closings c.later (refused-later x xs d.errno with_one refl call granted st) c.closes rest)
+          let refused = refused-later x xs d.errno with_one refl call granted st in
+          let is : x ∷ xs ≡ (x ∷ st.opening) ++ st.later = ap (λ ys. x ∷ ys) st.is in
+          let reports : reported.reports ≡ s.reports ++ CannotTrace pid d.errno ∷ [] = ap (λ rs. rs ++ CannotTrace pid d.errno ∷ []) d.same.reports in
+          subst Goal (sym is) (elim (closing-end f st.later reported d.place d.ends) [
+            | closed c ↦
+                let base : SameBase (with_report s (CannotTrace pid d.errno)) c.state = record { options = c.same.options ∙ d.same.options; begun = c.same.begun ∙ d.same.begun; reports = c.same.reports ∙ reports } in
+                let short : length c.later ≤ length xs = omega (arith, shorter-part c.closings c.later st.later c.is, shorter-part st.opening st.later xs st.is) in
+                let rest = told-same (with_report s (CannotTrace pid d.errno)) c.state c.later base (later c.later c.state short c.ends) in
+                subst Goal (ap (λ ys. (x ∷ st.opening) ++ ys) (sym c.is)) (told-refused s.reports s.options pid (pids_left s) d.errno (x ∷ st.opening) c.closings c.later refused c.closes rest)
+            | closing c ↦
+                told-broken s.reports s.options pid (pids_left s) d.errno (x ∷ st.opening) st.later c.handle c.due refused c.closes (c.reports ∙ reports)
+          ])
 
       stopped-told : Stopped f with_one opened (Some OpenStatus) Intr xs → Goal (x ∷ xs)
       stopped-told d = subst Goal (ap (λ ys. x ∷ ys) (sym d.is)) (told-left s.reports s.options pid (pids_left s) (x ∷ d.opening) d.later (refused-later x xs Intr with_one refl call granted d) g)
@@ -182,6 +210,7 @@ module _ (f : TrussState) where
       end-told (done d) = done-told d
       end-told (failed d) = failed-told d
       end-told (left d) = stopped-told d
+      end-told (going d) = told-begun s.reports s.options pid (pids_left s) (x ∷ xs) d.next d.due (record { calls = next-calls s.options pid x xs d.next call d.goes; granted = All-cons IsGranted x xs (record { not_refused = granted }) d.granted }) d.reports
 
       opened-at : (ts : List Traced) (t : Traced) → slice_index_or (ts ++ t ∷ []) (length ts) nobody ≡ t
       opened-at [] t = refl
@@ -199,7 +228,7 @@ module _ (f : TrussState) where
     answered-told x xs later call g (Refused errno) is l = refused-told x xs errno later call is l
 
     control-told : (xs : List Exchange) → ((ys : List Exchange) (u : TrussState) → length ys < length xs → Leads f (with_next_opening u) ys → Told u.reports u.options (pids_left u) ys) → Leads f at_control xs → Goal xs
-    control-told [] later l = absurd (not-over l)
+    control-told [] later l = control-due l
     control-told (x ∷ xs) later l = answered-told x xs (λ ys u short. later ys u (omega arith)) (control-call x xs l) (grown-at (x ∷ xs) l) (answer_of x.reply) (answer-is x.reply) (control-answered x xs l)
 
   -- ---- the next process
@@ -227,36 +256,38 @@ module _ (f : TrussState) where
 
 -- ---- what the options name
 
-led : (s : TrussState) (xs : List Exchange) → Ends s xs → Leads (truss_after s xs) s xs
-led s xs e = record { ends = e; last = refl }
+led : (s : TrussState) (xs : List Exchange) → Makes s xs → Leads (truss_after s xs) s xs
+led s xs makes = record { makes = makes; last = refl }
 
-pids-handled : (o : Options) (p : Option ℕ) → slice_get o.pids 0 ≡ p → (xs : List Exchange) → Ends (opening_or (idle o) (idle o) p) xs → AreHandled o o.pids (truss_after (opening_or (idle o) (idle o) p) xs).reports xs
-pids-handled o None is xs e = subst (λ pids. AreHandled o pids (truss_after (idle o) xs).reports xs) (sym (empty-list o.pids is)) tt
-pids-handled o (Some pid) is xs e =
+-- the call that is due after these exchanges
+abbrev pub due_after : TrussState → List Exchange → Option Call
+due_after s xs = next_call_of (truss_after s xs)
+
+pids-handled : (o : Options) (p : Option ℕ) → slice_get o.pids 0 ≡ p → (xs : List Exchange) → Makes (opening_or (idle o) (idle o) p) xs → AreHandled o (due_after (opening_or (idle o) (idle o) p) xs) o.pids (truss_after (opening_or (idle o) (idle o) p) xs).reports xs
+pids-handled o None is xs makes = subst (λ pids. AreHandled o (due_after (idle o) xs) pids (truss_after (idle o) xs).reports xs) (sym (empty-list o.pids is)) tt
+pids-handled o (Some pid) is xs makes =
     let s : TrussState = record (idle o) { begun = 1 } in
-    let t = told-first (truss_after (with_stage s (OpeningControl pid)) xs) s pid xs (led (with_stage s (OpeningControl pid)) xs e) in
-    subst (λ reports. AreHandled o o.pids reports xs) (sym t.is) (subst (λ pids. AreHandled o pids t.more xs) (sym (drop-some o.pids 0 pid is)) t.handled)
+    let u : TrussState = with_stage s (OpeningControl pid) in
+    let t = told-first (truss_after u xs) s pid xs (led u xs makes) in
+    subst (λ reports. AreHandled o (due_after u xs) o.pids reports xs) (sym t.is) (subst (λ pids. AreHandled o (due_after u xs) pids t.more xs) (sym (drop-some o.pids 0 pid is)) t.handled)
 
 module _ (o : Options) (program : List ℕ) where
   abbrev pub spawning : TrussState
   spawning = with_stage (idle o) (Spawning program)
 
-  not-begun : Ends spawning [] → ⊥
+  -- no call was made
+  starting : IsStarting program (due_after spawning []) (truss_after spawning []).reports []
   unfolding next_call_of call_of
-  not-begun e = none-some (call.Spawn program true) (sym e.finished)
+  starting = record { next = refl; is = refl; nothing = refl }
 
-  spawn-call : (x : Exchange) (xs : List Exchange) → Ends spawning (x ∷ xs) → x.call ≡ call.Spawn program true
+  spawn-call : (x : Exchange) (xs : List Exchange) → Makes spawning (x ∷ xs) → x.call ≡ call.Spawn program true
   unfolding next_call_of call_of
-  spawn-call x xs e = same_Some x.call (call.Spawn program true) (sym e.makes.0)
+  spawn-call x xs makes = same_Some x.call (call.Spawn program true) (sym makes.0)
 
   -- nothing comes after the end
-  no-more : (s : TrussState) (xs : List Exchange) → next_call_of s ≡ None → Ends s xs → xs ≡ []
-  no-more s [] none e = refl
-  no-more s (x ∷ xs) none e = absurd (none-some x.call (sym none ∙ e.makes.0))
-
-  spawn-answered : (x : Exchange) (xs : List Exchange) → Ends spawning (x ∷ xs) → Ends (with_start_answered spawning program x.reply (answer_of x.reply)) xs
-  unfolding fed with_reply
-  spawn-answered x xs e = ends-later spawning x xs e
+  no-more : (s : TrussState) (xs : List Exchange) → next_call_of s ≡ None → Makes s xs → xs ≡ []
+  no-more s [] none makes = refl
+  no-more s (x ∷ xs) none makes = absurd (none-some x.call (sym none ∙ makes.0))
 
   -- a truss that traces nothing has finished when it goes on
   idle-on : (s : TrussState) → s.traced ≡ [] → s.leaving ≡ false → with_going_on s ≡ with_stage s Finished
@@ -274,47 +305,58 @@ module _ (o : Options) (program : List ℕ) where
   spawn-is : (x : Exchange) (xs : List Exchange) (r : Reply) → x.call ≡ call.Spawn program true → x.reply ≡ r → xs ≡ [] → x ∷ xs ≡ record { call = call.Spawn program true; reply = r } ∷ []
   spawn-is x xs r is answer none = ap (λ ys. x ∷ ys) none ∙ ap (λ c. record { call = c; reply = x.reply } ∷ []) is ∙ ap (λ a. record { call = call.Spawn program true; reply = a } ∷ []) answer
 
-  start-refused : (x : Exchange) (xs : List Exchange) (errno : Errno) → x.call ≡ call.Spawn program true → x.reply ≡ reply.Fail errno → Ends (with_refused_start spawning program errno) xs → NotStarted program (truss_after (with_refused_start spawning program errno) xs).reports (x ∷ xs)
+  start-refused : (x : Exchange) (xs : List Exchange) (errno : Errno) → x.call ≡ call.Spawn program true → x.reply ≡ reply.Fail errno → Makes (with_refused_start spawning program errno) xs → NotStarted program (truss_after (with_refused_start spawning program errno) xs).reports (x ∷ xs)
   unfolding with_refused_start
-  start-refused x xs errno made is e =
+  start-refused x xs errno made is makes =
       let u : TrussState = with_report spawning (CannotStart program errno) in
       let over = idle-on u refl refl in
-      let none : xs ≡ [] = no-more (with_going_on u) xs (ap next_call_of over ∙ finished-none u) e in
+      let none : xs ≡ [] = no-more (with_going_on u) xs (ap next_call_of over ∙ finished-none u) makes in
       record { errno = errno; is = spawn-is x xs (reply.Fail errno) made is none; reported = ap (λ ys. (truss_after (with_going_on u) ys).reports) none ∙ ap (λ (v : TrussState). v.reports) over }
 
-  start-left : (x : Exchange) (xs : List Exchange) → x.call ≡ call.Spawn program true → x.reply ≡ reply.Fail Intr → Ends (with_interrupt spawning) xs → LeftAtStart program (truss_after (with_interrupt spawning) xs).reports (x ∷ xs)
-  start-left x xs made is e =
+  start-left : (x : Exchange) (xs : List Exchange) → x.call ≡ call.Spawn program true → x.reply ≡ reply.Fail Intr → Makes (with_interrupt spawning) xs → LeftAtStart program (truss_after (with_interrupt spawning) xs).reports (x ∷ xs)
+  start-left x xs made is makes =
       let over = idle-left spawning refl in
-      let none : xs ≡ [] = no-more (with_interrupt spawning) xs (ap next_call_of over ∙ finished-none (record spawning { leaving = true })) e in
+      let none : xs ≡ [] = no-more (with_interrupt spawning) xs (ap next_call_of over ∙ finished-none (record spawning { leaving = true })) makes in
       record { is = spawn-is x xs (reply.Fail Intr) made is none; nothing = ap (λ ys. (truss_after (with_interrupt spawning) ys).reports) none ∙ ap (λ (v : TrussState). v.reports) over }
 
-  started : (x : Exchange) (xs : List Exchange) → x.call ≡ call.Spawn program true → errno_in x.reply ≡ None → Ends (with_stage (idle o) (OpeningControl (pid_in x.reply))) xs → Started o program (truss_after (with_stage (idle o) (OpeningControl (pid_in x.reply))) xs).reports (x ∷ xs)
-  started x xs made granted e =
+  started : (x : Exchange) (xs : List Exchange) → x.call ≡ call.Spawn program true → errno_in x.reply ≡ None → Makes (with_stage (idle o) (OpeningControl (pid_in x.reply))) xs
+      → Started o program (due_after (with_stage (idle o) (OpeningControl (pid_in x.reply))) xs) (truss_after (with_stage (idle o) (OpeningControl (pid_in x.reply))) xs).reports (x ∷ xs)
+  started x xs made granted makes =
       let s : TrussState = with_stage (idle o) (OpeningControl (pid_in x.reply)) in
-      let t = told-first (truss_after s xs) (idle o) (pid_in x.reply) xs (led s xs e) in
-      record { reply = x.reply; later = xs; is = ap (λ c. record { call = c; reply = x.reply } ∷ xs) made; granted = granted; handled = subst (λ reports. AreHandled o (pid_in x.reply ∷ o.pids) reports xs) (sym t.is) t.handled }
+      let t = told-first (truss_after s xs) (idle o) (pid_in x.reply) xs (led s xs makes) in
+      record { reply = x.reply; later = xs; is = ap (λ c. record { call = c; reply = x.reply } ∷ xs) made; granted = granted; handled = subst (λ reports. AreHandled o (due_after s xs) (pid_in x.reply ∷ o.pids) reports xs) (sym t.is) t.handled }
 
-  start-answered : (x : Exchange) (xs : List Exchange) → x.call ≡ call.Spawn program true → (a : Answer) → IsAnswer x.reply a → Ends (with_start_answered spawning program x.reply a) xs → IsHandled o (Some program) (truss_after (with_start_answered spawning program x.reply a) xs).reports (x ∷ xs)
+  -- what is said of the program where truss came from this state by these exchanges
+  abbrev pub HandledFrom : TrussState → List Exchange → List Exchange → Type 0
+  HandledFrom u xs all = IsHandledSoFar o (due_after u xs) (Some program) (truss_after u xs).reports all
+
+  start-answered : (x : Exchange) (xs : List Exchange) → x.call ≡ call.Spawn program true → (a : Answer) → IsAnswer x.reply a → Makes (with_start_answered spawning program x.reply a) xs → HandledFrom (with_start_answered spawning program x.reply a) xs (x ∷ xs)
   unfolding IsAnswer with_start_answered
-  start-answered x xs made Accepted is e = inl (started x xs made is e)
-  start-answered x xs made Interrupted is e = inr (inr (start-left x xs made is e))
-  start-answered x xs made Gone is e = inr (inl (start-refused x xs Noent made is e))
-  start-answered x xs made (Refused errno) is e = inr (inl (start-refused x xs errno made is e))
+  start-answered x xs made Accepted is makes = inl (started x xs made is makes)
+  start-answered x xs made Interrupted is makes = inr (inr (inl (start-left x xs made is makes)))
+  start-answered x xs made Gone is makes = inr (inl (start-refused x xs Noent made is makes))
+  start-answered x xs made (Refused errno) is makes = inr (inl (start-refused x xs errno made is makes))
 
   answered-is : (x : Exchange) → fed spawning x.reply ≡ with_start_answered spawning program x.reply (answer_of x.reply)
   unfolding fed with_reply
   answered-is x = refl
 
-  program-handled : (xs : List Exchange) → Ends spawning xs → IsHandled o (Some program) (truss_after spawning xs).reports xs
-  program-handled [] e = absurd (not-begun e)
-  program-handled (x ∷ xs) e = subst (λ (u : TrussState). IsHandled o (Some program) (truss_after u xs).reports (x ∷ xs)) (sym (answered-is x)) (start-answered x xs (spawn-call x xs e) (answer_of x.reply) (answer-is x.reply) (spawn-answered x xs e))
+  program-handled : (xs : List Exchange) → Makes spawning xs → HandledFrom spawning xs xs
+  program-handled [] makes = inr (inr (inr starting))
+  program-handled (x ∷ xs) makes =
+      let rest = subst (λ (u : TrussState). Makes u xs) (answered-is x) makes.1 in
+      subst (λ (u : TrussState). HandledFrom u xs (x ∷ xs)) (sym (answered-is x)) (start-answered x xs (spawn-call x xs makes) (answer_of x.reply) (answer-is x.reply) rest)
 
-first-handled : (o : Options) (p : Option (List ℕ)) (xs : List Exchange) → Ends (first_of_program o p) xs → IsHandled o p (truss_after (first_of_program o p) xs).reports xs
-first-handled o None xs e = pids-handled o (slice_get o.pids 0) refl xs e
-first-handled o (Some program) xs e = program-handled o program xs e
+first-handled : (o : Options) (p : Option (List ℕ)) (xs : List Exchange) → Makes (first_of_program o p) xs → IsHandledSoFar o (due_after (first_of_program o p) xs) p (truss_after (first_of_program o p) xs).reports xs
+first-handled o None xs makes = pids-handled o (slice_get o.pids 0) refl xs makes
+first-handled o (Some program) xs makes = program-handled o program xs makes
 
-pub given-handled : (o : Options) (xs : List Exchange) → Ends (first_truss o) xs → IsHandled o o.program (truss_after (first_truss o) xs).reports xs
+pub handled-so-far : (o : Options) (xs : List Exchange) → Makes (first_truss o) xs → IsHandledSoFar o (next_call_of (truss_after (first_truss o) xs)) o.program (truss_after (first_truss o) xs).reports xs
 unfolding first_truss
-given-handled o xs e = first-handled o o.program xs e
+handled-so-far o xs makes = first-handled o o.program xs makes
 
-pub ruleset given = (given-handled)
+-- Where truss has finished, no call is due.
+pub given-handled : (o : Options) (xs : List Exchange) → Ends (first_truss o) xs → IsHandled o o.program (truss_after (first_truss o) xs).reports xs
+given-handled o xs e = subst (λ next. IsHandledSoFar o next o.program (truss_after (first_truss o) xs).reports xs) e.finished (handled-so-far o xs e.makes)
+
+pub ruleset given = (handled-so-far, given-handled)

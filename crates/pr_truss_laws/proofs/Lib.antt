@@ -7,6 +7,8 @@ pub mod ForeignLemmas
 pub mod FrameLemmas
 pub mod GivenLemmas
 pub mod HeldLemmas
+pub mod LeavingLemmas
+pub mod LookLemmas
 pub mod OneEventLemmas
 pub mod OpeningLemmas
 pub mod OpensLemmas
@@ -14,6 +16,7 @@ pub mod OutlastLemmas
 pub mod OverLemmas
 pub mod OwnLemmas
 pub mod OwnTurnLemmas
+pub mod PolledLemmas
 pub mod ReleaseLemmas
 pub mod SequenceLemmas
 pub mod StepLemmas

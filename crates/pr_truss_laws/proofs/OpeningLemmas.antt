@@ -1,6 +1,6 @@
 use Rattle.std.proofs.Common.{◌≡◌, ◌<◌, ℕ, Option, Some, None, List, [], ◌∷◌, ◌++◌, length, refl, sym, subst, ap, ◌∙◌, arith}
 use Rattle.std.proofs.lemmas.List.{get_or-set_same, length-set}
-use Rattle.std.proofs.lemmas.Option.{same_Some, none-some}
+use Rattle.std.proofs.lemmas.Option.{same_Some}
 use Rattle.std.proofs.lemmas.List.Elements.{All-nil, All-cons}
 use Rattle.std.specs.List.{All}
 use Rattle.pr_line.specs.declared.options.Options.{Options}
@@ -27,9 +27,9 @@ use Rattle.pr_truss.specs.declared.stages.OpeningStep.TheVariants as opening
 use Rattle.pr_truss.specs.declared.stages.Stage.TheVariants.{Opening, Closing}
 use Rattle.pr_truss_laws.proofs.AnswerLemmas.{IsAnswer, answer-is}
 use Rattle.pr_truss_laws.proofs.SequenceLemmas.{Goes, GoesToEnd}
-use Rattle.pr_truss_laws.specs.Exchanges.{Ends, Exchange, IsClose, IsGranted, errno_in, truss_after}
+use Rattle.pr_truss_laws.specs.Exchanges.{Ends, Exchange, IsClose, IsGranted, Makes, errno_in, truss_after}
 
--- How an opening ends, and the closing that follows one that was refused.
+-- How far an opening comes, and the closing that follows one that was refused.
 
 -- two states of truss that differ in neither of these
 pub record SameBase (s u : TrussState) : Type 0 where
@@ -43,15 +43,15 @@ same-base s u v p q = record { options = q.options ∙ p.options; begun = q.begu
 pub ends-later : (s : TrussState) (x : Exchange) (xs : List Exchange) → Ends s (x ∷ xs) → Ends (fed s x.reply) xs
 ends-later s x xs ends = record { makes = ends.makes.1; finished = ends.finished }
 
--- ---- on the way to this end
+-- ---- on the way to this state
 
 module _ (f : TrussState) where
   -- the exchanges by which truss came to it
   pub record Leads (s : TrussState) (xs : List Exchange) : Type 0 where
-    pub ends : Ends s xs
+    pub makes : Makes s xs
     pub last : truss_after s xs ≡ f
 
-  -- The opening was done; it was refused; truss was interrupted.
+  -- The opening was done; it was refused; truss was interrupted; it goes on.
   pub record Done (s : TrussState) (t : Traced) (step : Option OpeningStep) (xs : List Exchange) : Type 0 where
     pub opening : List Exchange
     pub later : List Exchange
@@ -80,10 +80,18 @@ module _ (f : TrussState) where
     pub same : SameBase s state
     pub ends : Leads (with_stage (with_report state (CannotTrace t.pid errno)) (Closing place OpenNext)) stopped.later
 
+  pub record Going (s : TrussState) (t : Traced) (step : Option OpeningStep) (xs : List Exchange) : Type 0 where
+    pub next : Call
+    pub due : next_call_of f ≡ Some next
+    pub goes : Goes s.options t step (xs ++ record { call = next; reply = reply.Done } ∷ [])
+    pub granted : All IsGranted xs
+    pub reports : f.reports ≡ s.reports
+
   pub data OpeningEnd (s : TrussState) (t : Traced) (step : Option OpeningStep) (xs : List Exchange) : Type 0 where
     done : Done s t step xs → OpeningEnd s t step xs
     failed : Failed s t step xs → OpeningEnd s t step xs
     left : Stopped s t step Intr xs → OpeningEnd s t step xs
+    going : Going s t step xs → OpeningEnd s t step xs
 
   learnt-pid : (t : Traced) (r : Reply) (step : OpeningStep) → (learnt t r step).pid ≡ t.pid
   unfolding learnt
@@ -120,10 +128,20 @@ module _ (f : TrussState) where
       granted = All-granted d.before d.granted;
     }
 
+    going-more : Going u (learnt t x.reply step) (step_after s.options x.reply step) xs → Going s t (Some step) (x ∷ xs)
+    going-more d = record {
+      next = d.next;
+      due = d.due;
+      goes = (call, subst (λ o. Goes o (learnt t x.reply step) (step_after s.options x.reply step) (xs ++ record { call = d.next; reply = reply.Done } ∷ [])) same.options d.goes);
+      granted = All-granted xs d.granted;
+      reports = d.reports ∙ same.reports;
+    }
+
     end-more : OpeningEnd u (learnt t x.reply step) (step_after s.options x.reply step) xs → OpeningEnd s t (Some step) (x ∷ xs)
     unfolding stopped-more
     end-more (done d) = done (done-more d)
     end-more (left d) = left (stopped-more Intr d)
+    end-more (going d) = going (going-more d)
     end-more (failed d) = failed (record {
       errno = d.errno;
       stopped = stopped-more d.errno d.stopped;
@@ -135,6 +153,10 @@ module _ (f : TrussState) where
 
   same-self : (s : TrussState) → SameBase s s
   same-self s = record { options = refl; begun = refl; reports = refl }
+
+  goes-none : (o : Options) (u : Traced) (next : Option OpeningStep) → Goes o u next []
+  goes-none o u None = refl
+  goes-none o u (Some next) = tt
 
   -- the call that was refused
   stopped-here : (s : TrussState) (t : Traced) (step : OpeningStep) (x : Exchange) (xs : List Exchange) (errno : Errno) → x.call ≡ opening_call s.options t step → x.reply ≡ reply.Fail errno → Stopped s t (Some step) errno (x ∷ xs)
@@ -148,10 +170,6 @@ module _ (f : TrussState) where
     last = ap (λ r. record { call = x.call; reply = r } ∷ []) is;
     granted = All-nil IsGranted;
   }
-    where
-      goes-none : (o : Options) (u : Traced) (next : Option OpeningStep) → Goes o u next []
-      goes-none o u None = refl
-      goes-none o u (Some next) = tt
 
   -- nothing more to be done: the opening is whole
   done-none : (s u : TrussState) (t : Traced) (xs : List Exchange) → SameBase s u → Leads (with_next_opening u) xs → OpeningEnd s t None xs
@@ -167,19 +185,26 @@ module _ (f : TrussState) where
   })
 
   pub leads-later : (s : TrussState) (x : Exchange) (xs : List Exchange) → Leads s (x ∷ xs) → Leads (fed s x.reply) xs
-  leads-later s x xs l = record { ends = ends-later s x xs l.ends; last = l.last }
+  leads-later s x xs l = record { makes = l.makes.1; last = l.last }
 
   next-call : (s : TrussState) (place : ℕ) (step : OpeningStep) (x : Exchange) (xs : List Exchange) → Leads (with_stage s (Opening place step)) (x ∷ xs) → x.call ≡ opening_call s.options (traced_at s place) step
   unfolding next_call_of call_of
-  next-call s place step x xs ends = same_Some x.call (opening_call s.options (traced_at s place) step) (sym ends.ends.makes.0)
+  next-call s place step x xs ends = same_Some x.call (opening_call s.options (traced_at s place) step) (sym ends.makes.0)
 
   step-answered : (s : TrussState) (place : ℕ) (step : OpeningStep) (x : Exchange) (xs : List Exchange) → Leads (with_stage s (Opening place step)) (x ∷ xs) → Leads (with_step_answered (with_stage s (Opening place step)) place step x.reply (answer_of x.reply)) xs
   unfolding fed with_reply
   step-answered s place step x xs ends = leads-later (with_stage s (Opening place step)) x xs ends
 
-  opening-not-over : (s : TrussState) (place : ℕ) (step : OpeningStep) → Leads (with_stage s (Opening place step)) [] → ⊥
+  -- no more calls were made
+  going-here : (s : TrussState) (t : Traced) (place : ℕ) (step : OpeningStep) → traced_at s place ≡ t → Leads (with_stage s (Opening place step)) [] → Going s t (Some step) []
   unfolding next_call_of call_of
-  opening-not-over s place step ends = none-some (opening_call s.options (traced_at s place) step) (sym ends.ends.finished)
+  going-here s t place step at ends = record {
+    next = opening_call s.options t step;
+    due = ap next_call_of (sym ends.last) ∙ ap (λ (u : Traced). Some (opening_call s.options u step)) at;
+    goes = (refl, goes-none s.options (learnt t reply.Done step) (step_after s.options reply.Done step));
+    granted = All-nil IsGranted;
+    reports = ap (λ (u : TrussState). u.reports) (sym ends.last);
+  }
 
   -- the process at a place, after it became another one
   pub traced-there : (s : TrussState) (place : ℕ) (t : Traced) → place < length s.traced → traced_at (with_traced s place t) place ≡ t
@@ -224,7 +249,7 @@ module _ (f : TrussState) where
   answered s t place step x xs within at later (Refused errno) is ends call = failed-here s t place step x xs errno call is at ends
 
   pub opening-end : (xs : List Exchange) (s : TrussState) (t : Traced) (place : ℕ) (step : OpeningStep) → place < length s.traced → traced_at s place ≡ t → Leads (with_stage s (Opening place step)) xs → OpeningEnd s t (Some step) xs
-  opening-end [] s t place step within at ends = absurd (opening-not-over s place step ends)
+  opening-end [] s t place step within at ends = going (going-here s t place step at ends)
   opening-end (x ∷ xs) s t place step within at ends =
       answered s t place step x xs within at (λ u v next. opening-end xs u v place next) (answer_of x.reply) (answer-is x.reply) (step-answered s place step x xs ends)
       (subst (λ (u : Traced). x.call ≡ opening_call s.options u step) at (next-call s place step x xs ends))
@@ -241,20 +266,36 @@ module _ (f : TrussState) where
     pub same : SameBase s state
     pub ends : Leads (with_next_opening state) later
 
-  closing-not-over : (s : TrussState) (place : ℕ) → Leads (with_stage s (Closing place OpenNext)) [] → ⊥
+  -- Or it is still being closed.
+  pub record Closes (s : TrussState) (xs : List Exchange) : Type 0 where
+    pub handle : ℕ
+    pub due : next_call_of f ≡ Some (call.Close handle)
+    pub closes : All IsClose xs
+    pub reports : f.reports ≡ s.reports
+
+  pub data ClosingEnd (s : TrussState) (xs : List Exchange) : Type 0 where
+    closed : Closed s xs → ClosingEnd s xs
+    closing : Closes s xs → ClosingEnd s xs
+
+  closes-here : (s : TrussState) (place : ℕ) → Leads (with_stage s (Closing place OpenNext)) [] → Closes s []
   unfolding next_call_of call_of
-  closing-not-over s place ends = none-some (call.Close (last_handle (traced_at s place))) (sym ends.ends.finished)
+  closes-here s place ends = record {
+    handle = last_handle (traced_at s place);
+    due = ap next_call_of (sym ends.last);
+    closes = All-nil IsClose;
+    reports = ap (λ (u : TrussState). u.reports) (sym ends.last);
+  }
 
   close-call : (s : TrussState) (place : ℕ) (x : Exchange) (xs : List Exchange) → Leads (with_stage s (Closing place OpenNext)) (x ∷ xs) → IsClose x
   unfolding next_call_of call_of
-  close-call s place x xs ends = record { handle = last_handle (traced_at s place); is = same_Some x.call (call.Close (last_handle (traced_at s place))) (sym ends.ends.makes.0) }
+  close-call s place x xs ends = record { handle = last_handle (traced_at s place); is = same_Some x.call (call.Close (last_handle (traced_at s place))) (sym ends.makes.0) }
 
   close-answered : (s : TrussState) (place : ℕ) (x : Exchange) (xs : List Exchange) → Leads (with_stage s (Closing place OpenNext)) (x ∷ xs) → Leads (closed_or_removed (with_stage s (Closing place OpenNext)) place OpenNext (without_last (traced_at s place))) xs
   unfolding fed with_reply with_closed
   close-answered s place x xs ends = leads-later (with_stage s (Closing place OpenNext)) x xs ends
 
-  closed-more : (s u : TrussState) (x : Exchange) (xs : List Exchange) → IsClose x → SameBase s u → Closed u xs → Closed s (x ∷ xs)
-  closed-more s u x xs close same c = record {
+  closed-more : (s u : TrussState) (x : Exchange) (xs : List Exchange) → IsClose x → SameBase s u → ClosingEnd u xs → ClosingEnd s (x ∷ xs)
+  closed-more s u x xs close same (closed c) = closed (record {
     closings = x ∷ c.closings;
     later = c.later;
     is = ap (λ ys. x ∷ ys) c.is;
@@ -262,7 +303,8 @@ module _ (f : TrussState) where
     state = c.state;
     same = same-base s u c.state same c.same;
     ends = c.ends;
-  }
+  })
+  closed-more s u x xs close same (closing c) = closing (record { handle = c.handle; due = c.due; closes = All-cons IsClose x xs close c.closes; reports = c.reports ∙ same.reports })
 
   closed-last : (s u : TrussState) (x : Exchange) (xs : List Exchange) → IsClose x → SameBase s u → Leads (after_closing u OpenNext) xs → Closed s (x ∷ xs)
   unfolding after_closing
@@ -276,14 +318,14 @@ module _ (f : TrussState) where
     ends = ends;
   }
 
-  closed-answered : (s : TrussState) (place : ℕ) (x : Exchange) (xs : List Exchange) → IsClose x → ((u : TrussState) → Leads (with_stage u (Closing place OpenNext)) xs → Closed u xs)
-      → (left : Option Traced) → Leads (closed_or_removed (with_stage s (Closing place OpenNext)) place OpenNext left) xs → Closed s (x ∷ xs)
-  closed-answered s place x xs close later None ends = closed-last s (without_traced (with_stage s (Closing place OpenNext)) place) x xs close (record { options = refl; begun = refl; reports = refl }) ends
+  closed-answered : (s : TrussState) (place : ℕ) (x : Exchange) (xs : List Exchange) → IsClose x → ((u : TrussState) → Leads (with_stage u (Closing place OpenNext)) xs → ClosingEnd u xs)
+      → (left : Option Traced) → Leads (closed_or_removed (with_stage s (Closing place OpenNext)) place OpenNext left) xs → ClosingEnd s (x ∷ xs)
+  closed-answered s place x xs close later None ends = closed (closed-last s (without_traced (with_stage s (Closing place OpenNext)) place) x xs close (record { options = refl; begun = refl; reports = refl }) ends)
   closed-answered s place x xs close later (Some t) ends =
       let u : TrussState = with_traced s place t in
       closed-more s u x xs close (record { options = refl; begun = refl; reports = refl }) (later u ends)
 
-  pub closing-end : (xs : List Exchange) (s : TrussState) (place : ℕ) → Leads (with_stage s (Closing place OpenNext)) xs → Closed s xs
-  closing-end [] s place ends = absurd (closing-not-over s place ends)
+  pub closing-end : (xs : List Exchange) (s : TrussState) (place : ℕ) → Leads (with_stage s (Closing place OpenNext)) xs → ClosingEnd s xs
+  closing-end [] s place ends = closing (closes-here s place ends)
   closing-end (x ∷ xs) s place ends =
       closed-answered s place x xs (close-call s place x xs ends) (λ u. closing-end xs u place) (without_last (traced_at s place)) (close-answered s place x xs ends)

@@ -1,4 +1,4 @@
-use Rattle.std.specs.Prelude.{◌≡◌, ◌⊎◌, ℕ, true, List, [], ◌∷◌, ◌++◌, Option, Some, None, All, length, option_map, slice_get, take, unwrap_or, if◌then◌else◌}
+use Rattle.std.specs.Prelude.{◌≡◌, ◌⊎◌, ◌+◌, ℕ, true, List, [], ◌∷◌, ◌++◌, Option, Some, None, All, length, option_map, slice_get, take, unwrap_or, if◌then◌else◌}
 use Rattle.pr_line.specs.declared.options.Options.{Options}
 use Rattle.pr_model.specs.Replies.{handle_in, until_in}
 use Rattle.pr_model.specs.declared.calls.Call.{Call}
@@ -56,6 +56,11 @@ pub record IsWholeOpening (o : Options) (pid : ℕ) (xs : List Exchange) : Type 
   pub calls : calls_in xs ≡ opening_calls o pid xs
   pub granted : All IsGranted xs
 
+-- An opening as far as it has come: no call of it was refused, and this is its next call.
+pub record IsBegunOpening (o : Options) (pid : ℕ) (next : Call) (xs : List Exchange) : Type 0 where
+  pub calls : calls_in xs ++ next ∷ [] ≡ take (length xs + 1) (opening_calls o pid xs)
+  pub granted : All IsGranted xs
+
 -- An opening up to its first call that was refused.
 pub record IsRefusedOpening (o : Options) (pid : ℕ) (errno : Errno) (xs : List Exchange) : Type 0 where
   pub before : List Exchange
@@ -99,21 +104,53 @@ pub record Left (o : Options) (pid : ℕ) (xs : List Exchange) : Type 0 where
   pub is : xs ≡ opening ++ later
   pub interrupted : IsRefusedOpening o pid Intr opening
 
--- Each of these processes, in this order, was attached or its refusal reported, unless an interrupt came before.
-abbrev pub AreHandled : Options → List ℕ → Later
-AreHandled o [] reports xs = Unit {0}
-AreHandled o (pid ∷ pids) reports xs =
-    Attached o pid (AreHandled o pids) reports xs ⊎ (Refused o pid (AreHandled o pids) reports xs ⊎ Left o pid xs)
+-- Truss is opening it still: the call that is due goes on with that. No process behind it was begun.
+pub record Begun (o : Options) (pid : ℕ) (due : Option Call) (reports : List Report) (xs : List Exchange) : Type 0 where
+  pub next : Call
+  pub is : due ≡ Some next
+  pub begun : IsBegunOpening o pid next xs
+  pub nothing : reports ≡ []
+
+-- Its opening was refused, which is the last report, and truss is closing what it opened: the call that is due goes on
+-- with that. No process behind it was begun.
+pub record BrokenOff (o : Options) (pid : ℕ) (due : Option Call) (reports : List Report) (xs : List Exchange)
+    : Type 0 where
+  pub errno : Errno
+  pub opening : List Exchange
+  pub closings : List Exchange
+  pub handle : ℕ
+  pub next : due ≡ Some (call.Close handle)
+  pub is : xs ≡ opening ++ closings
+  pub refused : IsRefusedOpening o pid errno opening
+  pub closes : All IsClose closings
+  pub reported : reports ≡ CannotTrace pid errno ∷ []
+
+-- Each of these processes, in this order, was attached or its refusal reported, unless an interrupt came before; or
+-- truss is at work on one of them still, and this call of it is due. Where it has finished no call is due, so it is at
+-- work on none.
+abbrev pub AreHandled : Options → Option Call → List ℕ → Later
+AreHandled o due [] reports xs = Unit {0}
+AreHandled o due (pid ∷ pids) reports xs =
+    Attached o pid (AreHandled o due pids) reports xs
+    ⊎ (Refused o pid (AreHandled o due pids) reports xs
+    ⊎ (Left o pid xs ⊎ (Begun o pid due reports xs ⊎ BrokenOff o pid due reports xs)))
 
 -- ---- the process of a program
 
+-- Truss has made no call, and makes the process next.
+pub record IsStarting (program : List ℕ) (due : Option Call) (reports : List Report) (xs : List Exchange) : Type 0 where
+  pub next : due ≡ Some (call.Spawn program true)
+  pub is : xs ≡ []
+  pub nothing : reports ≡ []
+
 -- Truss made a process of its program, which comes before any others.
-pub record Started (o : Options) (program : List ℕ) (reports : List Report) (xs : List Exchange) : Type 0 where
+pub record Started (o : Options) (program : List ℕ) (due : Option Call) (reports : List Report) (xs : List Exchange)
+    : Type 0 where
   pub reply : Reply
   pub later : List Exchange
   pub is : xs ≡ record { call = call.Spawn program true; reply = reply } ∷ later
   pub granted : errno_in reply ≡ None
-  pub handled : AreHandled o (pid_in reply ∷ o.pids) reports later
+  pub handled : AreHandled o due (pid_in reply ∷ o.pids) reports later
 
 -- The process was refused, which is all that truss reports.
 pub record NotStarted (program : List ℕ) (reports : List Report) (xs : List Exchange) : Type 0 where
@@ -128,8 +165,13 @@ pub record LeftAtStart (program : List ℕ) (reports : List Report) (xs : List E
 
 -- ---- all that truss was given
 
--- What became of what the options name: the processes, or the program.
+-- What has become so far of what the options name: the processes, or the program. This call of truss is due.
+abbrev pub IsHandledSoFar : Options → Option Call → Option (List ℕ) → Later
+IsHandledSoFar o due None reports xs = AreHandled o due o.pids reports xs
+IsHandledSoFar o due (Some program) reports xs =
+    Started o program due reports xs
+    ⊎ (NotStarted program reports xs ⊎ (LeftAtStart program reports xs ⊎ IsStarting program due reports xs))
+
+-- What became of it in the end: no call is due then.
 abbrev pub IsHandled : Options → Option (List ℕ) → Later
-IsHandled o None reports xs = AreHandled o o.pids reports xs
-IsHandled o (Some program) reports xs =
-    Started o program reports xs ⊎ (NotStarted program reports xs ⊎ LeftAtStart program reports xs)
+IsHandled o program reports xs = IsHandledSoFar o None program reports xs

@@ -1,5 +1,6 @@
 pub mod Exchanges
 pub mod Given
 pub mod Handles
+pub mod Polled
 pub mod Stills
 pub mod Told

@@ -4,11 +4,13 @@
 
 mod given;
 mod handles;
+mod polled;
 mod stills;
 mod told;
 
 pub use given::{each_given_process_is_handled, each_handle_is_closed};
 pub use handles::{nothing_stays_open, what_is_closed_is_released};
+pub use polled::what_a_poll_named_is_soon_run_or_closed;
 pub use stills::{
     a_frozen_process_stands_still, a_halting_process_only_stops,
     a_process_left_alone_stands_as_it_stood, a_quiet_process_halts_at_one_event,

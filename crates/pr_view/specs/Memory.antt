@@ -1,7 +1,11 @@
-use Rattle.std.specs.Prelude.{ℕ, Option, Some, None, Result, Ok, Err}
-use Rattle.pr_num.specs.declared.mappings.BadByte.{BadByte}
+use Rattle.std.specs.Prelude.{ℕ, Option, Some, None}
+use Rattle.pr_mem.specs.declared.faults.MemFault.{MemFault}
+use Rattle.pr_mem.specs.declared.faults.MemFault.TheVariants.{Hole, NotAllowed, Overlap, TooBig, NoMemory}
 
--- the byte that an access finds, if it finds one
-abbrev pub found_byte : Result ℕ BadByte → Option ℕ
-found_byte (Ok byte) = Some byte
-found_byte (Err bad) = None
+-- the address of the byte at which an access failed, if the fault is one that an access has
+abbrev pub fault_address : MemFault → Option ℕ
+fault_address (Hole at) = Some at
+fault_address (NotAllowed at) = Some at
+fault_address Overlap = None
+fault_address TooBig = None
+fault_address NoMemory = None

@@ -1,39 +1,41 @@
 //! Reading the address space of a process (proc(4), "as").
-ghost use Rattle.std.specs.Prelude.{◌≡◌, IfOk};
-ghost use Rattle.pr_num.specs.Spaces.{byte_for};
+ghost use Rattle.std.specs.Prelude.{◌≡◌, ◌+◌, ◌%◌, ◌^◌, IfOk, IfSome};
 ghost use Rattle.pr_model.specs.Reads.{mapped_from, unless_none};
-ghost use Rattle.pr_view.specs.Memory.{found_byte};
+ghost use Rattle.pr_view.specs.Memory.{fault_address};
 
-use pr_mem::Space;
+use pr_mem::{MemFault, Space};
 use pr_model::Reply;
 use pr_num::{Bytes, Errno, NoMemory};
 use std::alloc::Global;
 
-/// The byte at an address, whatever its protection; `None` where nothing is mapped.
-#[tactic(auto, using(crate::proofs::MemoryLemmas::byte_laws))]
-fn byte_at(space: &Space, address: u64) -> Option<u8>
-    ensures { result ≡ found_byte (byte_for 0 space.now address) }
+/// How many bytes from an address on come before the one at which an access to them failed. Addresses wrap.
+fn bytes_before(fault: MemFault, at: u64) -> u64
+    ensures { IfSome (fault_address fault) (λ address. (at + result) % 2 ^ 64 ≡ address) }
 {
-    let mut byte = [0];
-    match space.read(address, &mut byte, 0) {
-        Ok(()) => Some(byte[0]),
-        Err(_) => None,
+    match fault {
+        MemFault::Hole { at: address } => address.wrapping_sub(at),
+        MemFault::NotAllowed { at: address } => address.wrapping_sub(at),
+        MemFault::Overlap | MemFault::TooBig | MemFault::NoMemory => 0,
     }
 }
 
-/// The bytes from an address on, at most so many, up to the first that is not mapped. Addresses wrap.
+/// The bytes from an address on, at most so many, up to the first that is not mapped, whatever their protection.
+/// Addresses wrap. All are read at once; where one is not mapped, those before it are read again, into a buffer that is
+/// as long as they are. Where the first is not mapped, no memory is taken.
 #[tactic(auto, using(crate::proofs::MemoryLemmas::mapped_laws))]
 fn mapped_from(alloc: Global, space: &Space, at: u64, len: u64) -> Result<Vec<u8>, NoMemory>
     ensures { IfOk result (λ bytes. bytes.items ≡ mapped_from space.now at len) }
 {
-    let mut bytes = Vec::new(alloc);
-    for passed in 0..len {
-        let Some(byte) = byte_at(space, at.wrapping_add(passed)) else {
-            return Ok(bytes);
-        };
-        bytes.push(byte)?;
+    if !space.can_access(at, 1, 0) {
+        return Ok(Vec::new(alloc));
     }
-    Ok(bytes)
+    let mut bytes = vec![in alloc; 0; len as usize]?;
+    let Err(fault) = space.read(at, &mut bytes, 0) else {
+        return Ok(bytes);
+    };
+    let mut before = vec![in alloc; 0; bytes_before(fault, at) as usize]?;
+    let _ = space.read(at, &mut before, 0);
+    Ok(before)
 }
 
 /// What a read of the address space gives (EIO where the first byte is not mapped).

@@ -10,6 +10,7 @@ returns-then-n-eq0-clause-all g c =
 
 pub loop-piece-preserved : goal.loop-piece-preserved
 loop-piece-preserved g c = record {
+  room = grind (arith, common_steps);
   front = grind (arith, with_front-with_front);
   faults = grind (arith, common_steps);
   reads = grind (arith, common_steps);

@@ -14,4 +14,4 @@ returns-in-Ok-clause-ok c =
 pub returns-in_ok-error-in-Err-clause-ok : goal.returns-in_ok-error-in-Err-clause-ok
 returns-in_ok-error-in-Err-clause-ok c =
     ap (λ (m : TracedSystem). let a : Answer = record { state = record c.args.state.now { system = m }; reply = Fail c.in_ok-error-in-Err.error } in a) c.in-Err.ensures.err
-    ∙ spawn-refused c.args.state.now c.args.held c.args.place c.requires.program c.in_ok-error-in-Err.error (λ g at. c.in_ok-error-in-Err.ensures (spawn_refusal c.args.state.now.system g) (c.in-Err.ensures.refused g at))
+    ∙ spawn-refused c.args.state.now c.args.held c.args.place c.requires.program c.in_ok-error-in-Err.error (λ g at. c.in_ok-error-in-Err.ensures.ok (spawn_refusal c.args.state.now.system g) (c.in-Err.ensures.refused g at))

@@ -1,6 +1,6 @@
 use Rattle.std.proofs.Common.{◌≡◌, drop}
 use Rattle.pr_model.specs.Readers.{children_among}
-use Rattle.pr_proc.specs.Families.{told_behind}
+use Rattle.pr_proc.proofs.FamilyLemmas.{told_behind}
 use Rattle.pr_proc.proofs.zombies.children_among.Given as goal
 
 -- what was seen so far and what stands behind it make all

@@ -10,6 +10,7 @@ write-tells c = record {
   appended = grind (arith, with_end-Some);
   kept = grind arith;
   failed = grind (arith, counts);
+  by_one = grind arith;
   no_fault = grind (arith, common_steps);
   never_falls = grind (arith, counts);
 }

@@ -11,6 +11,7 @@ read-tells c = record {
   end = grind (arith, common_steps);
   kept = grind arith;
   failed = grind (arith, counts);
+  by_one = grind arith;
   no_fault = grind (arith, common_steps);
   never_falls = grind (arith, counts);
   counted = grind (arith, counts);

@@ -10,6 +10,7 @@ write-tells g c = record {
   appended = search rules;
   kept = search rules;
   failed = grind (arith, counts);
+  by_one = c.ensures.err;
   no_fault = c.ensures.ok;
   never_falls = grind (arith, counts);
 }

@@ -11,6 +11,7 @@ read-tells g c = record {
   end = search rules;
   kept = search rules;
   failed = grind (arith, counts);
+  by_one = c.ensures.err;
   no_fault = c.ensures.ok;
   never_falls = grind (arith, counts);
   counted = omega arith;
