@@ -1,5 +1,5 @@
 //! Texts put into a sink one after another, each first written into a buffer.
-ghost use Rattle.std.specs.Prelude.{◌<◌, length, IfOk};
+ghost use Rattle.std.specs.Prelude.{◌≢◌, ◌<◌, length, Err, IfOk};
 ghost use Rattle.pr_output.specs.Blocks.{IsNextBlock};
 ghost use Rattle.pr_output.specs.Puts.{Puts};
 ghost use Rattle.pr_plain.specs.HistoryText.{heading_text, entries_text, status_text};
@@ -10,10 +10,11 @@ use pr_model::History;
 use pr_num::NoMemory;
 use pr_plain::{write_entry, write_heading, write_status};
 
-/// Puts a text.
+/// Puts a text. Takes no memory.
 pub(crate) fn put<K: Sink>(sink: &mut K, text: &[u8]) -> Result<(), Cut>
-    ensures { Puts result (K.written sink.old) (K.written sink.new) (K.faults sink.old) (K.faults sink.new)
+    ensures puts { Puts result (K.written sink.old) (K.written sink.new) (K.faults sink.old) (K.faults sink.new)
         text.now }
+    ensures sure { result ≢ Err Cut.NoMemory }
 {
     Ok(write_all(sink, text)?)
 }
@@ -54,8 +55,8 @@ fn fill_block(block: &mut Vec<u8>, history: &History, from: usize) -> Result<usi
 
 /// Puts the lines of all entries, a block at a time. `block` is a buffer.
 ///
-/// How large a block is, `fill_block` says. How many writes are made is said nowhere: of a sink its bytes and its
-/// faults are known, and not its writes.
+/// How large a block is, `fill_block` says. Nothing says how many writes are made: of a sink its bytes and its faults
+/// are known.
 pub(crate) fn put_entries<K: Sink>(
     block: &mut Vec<u8>,
     sink: &mut K,

@@ -1,5 +1,5 @@
 //! The text of a run as the machine without controllers makes it.
-ghost use Rattle.std.specs.Prelude.{◌≡◌, ◌++◌, OnOk};
+ghost use Rattle.std.specs.Prelude.{◌≡◌, ◌++◌, Err, OnOk};
 ghost use Rattle.std.specs.List.{flat_map};
 ghost use Rattle.pr_output.specs.Output.{plain_run_text};
 ghost use Rattle.pr_output.specs.Puts.{Puts};
@@ -47,8 +47,9 @@ pub fn write_plain<K: Sink>(
     trace: &[Step],
     status: u8,
 ) -> Result<(), Cut>
-    ensures { Puts result (K.written sink.old) (K.written sink.new) (K.faults sink.old) (K.faults sink.new)
+    ensures puts { Puts result (K.written sink.old) (K.written sink.new) (K.faults sink.old) (K.faults sink.new)
         (plain_run_text steps.now trace.now status) }
+    ensures nothing { result ≡ Err Cut.NoMemory → K.written sink.new ≡ K.written sink.old }
 {
     let mut text = Vec::new(alloc);
     write_text(&mut text, steps, trace, status)?;

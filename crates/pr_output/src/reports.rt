@@ -1,5 +1,5 @@
 //! What controllers print at the end of a run.
-ghost use Rattle.std.specs.Prelude.{◌≡◌, ◌++◌, OnOk};
+ghost use Rattle.std.specs.Prelude.{◌≡◌, ◌++◌, OnOk, codes};
 ghost use Rattle.pr_output.specs.Puts.{Puts};
 ghost use Rattle.pr_output.specs.Reports.{printer_name, report_text, reports_text, titled};
 
@@ -50,28 +50,28 @@ fn write_titled(out: &mut Vec<u8>, title: &[u8], number: u32, name: &[u8]) -> Re
     Ok(out.extend_from_slice(b"\n")?)
 }
 
-/// Writes a report into a buffer.
-#[tactic(auto, unfolding(crate::specs::Reports::report_text))]
-fn write_report(out: &mut Vec<u8>, report: &Report) -> Result<(), NoMemory>
-    ensures { OnOk result (out.new.items ≡ out.old.items ++ report_text report.now) }
+/// Puts the line above what a controller prints. `block` is a buffer.
+fn put_title<K: Sink>(block: &mut Vec<u8>, sink: &mut K, report: &Report) -> Result<(), Cut>
+    ensures { Puts result (K.written sink.old) (K.written sink.new) (K.faults sink.old) (K.faults sink.new)
+        (titled (codes "controller ") report.now.controller (printer_name report.now.printer)) }
 {
+    block.clear();
     let name = report.printer.name().as_bytes();
-    write_titled(out, b"controller ", report.controller, name)?;
-    Ok(out.extend_from_slice(report.text.as_slice())?)
+    write_titled(block, b"controller ", report.controller, name)?;
+    put(sink, block)
 }
 
-/// Writes reports into a buffer, one below the other.
-#[tactic(auto, unfolding(crate::specs::Reports::reports_text))]
-fn write_reports(out: &mut Vec<u8>, reports: &[Report]) -> Result<(), NoMemory>
-    ensures { OnOk result (out.new.items ≡ out.old.items ++ reports_text reports.now) }
+/// Puts a report. `block` is a buffer, into which what the controller prints is not copied.
+fn put_report<K: Sink>(block: &mut Vec<u8>, sink: &mut K, report: &Report) -> Result<(), Cut>
+    ensures { Puts result (K.written sink.old) (K.written sink.new) (K.faults sink.old) (K.faults sink.new)
+        (report_text report.now) }
 {
-    for report in reports {
-        write_report(out, report)?;
-    }
-    Ok(())
+    put_title(block, sink, report)?;
+    put(sink, report.text.as_slice())
 }
 
 /// Puts reports, one below the other. `block` is a buffer.
+#[tactic(auto, unfolding(crate::specs::Reports::reports_text))]
 pub(crate) fn put_reports<K: Sink>(
     block: &mut Vec<u8>,
     sink: &mut K,
@@ -80,7 +80,8 @@ pub(crate) fn put_reports<K: Sink>(
     ensures { Puts result (K.written sink.old) (K.written sink.new) (K.faults sink.old) (K.faults sink.new)
         (reports_text reports.now) }
 {
-    block.clear();
-    write_reports(block, reports)?;
-    put(sink, block)
+    for report in reports {
+        put_report(block, sink, report)?;
+    }
+    Ok(())
 }

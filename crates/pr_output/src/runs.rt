@@ -58,11 +58,11 @@ fn put_run<K: Sink>(
     put_end(block, sink, reports, status)
 }
 
-/// Writes a run to a sink: a heading, a line for each entry, what controllers print, and the status with which the program
-/// ends. `quiet`: the heading and the entries are left out.
+/// Writes a run to a sink: a heading, a line for each entry, what controllers print, and the status with which the
+/// program ends. `quiet`: the heading and the entries are left out.
 ///
-/// No more than a block of lines, or all that is printed, is in memory at a time. Where a write fails, the sink has a
-/// prefix of the text that lacks some bytes; where memory runs out, a prefix of it.
+/// No more than a block of lines is written into memory at a time. Where a write fails, the sink has a prefix of the
+/// text that lacks some bytes; where memory runs out, a prefix of it.
 pub fn write_run<K: Sink>(
     alloc: Global,
     sink: &mut K,

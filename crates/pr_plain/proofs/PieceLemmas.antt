@@ -1,9 +1,13 @@
 -- The first piece of bytes, and the others.
-use Rattle.std.proofs.Common.{◌≡◌, ℕ, ◌+◌, ◌≤◌, Bool, true, false, not, cond, eqb, ltb, Some, None, List, [], ◌∷◌, length, take, drop, ◌-◌, refl, sym, ap, ◌∙◌, arith}
+use Rattle.std.proofs.Common.{◌≡◌, ℕ, ◌+◌, ◌<◌, ◌≤◌, Bool, true, false, not, cond, eqb, ltb, Option, Some, None, is_none, List, [], ◌∷◌, length, take, drop, ◌-◌, refl, sym, ap, ◌∙◌, arith}
 use Rattle.std.proofs.lemmas.Bool.{ltb-true, ltb-false}
 use Rattle.std.proofs.lemmas.List.{take_all, length-drop}
-use Rattle.std.proofs.lemmas.List.Splits.{slice_split_first}
+use Rattle.std.proofs.lemmas.List.Splits.{length-slice_split, slice_split_first}
+use Rattle.std.specs.Borrow.{Bor}
 use Rattle.std.specs.List.{position, position_or_len, slice_split, onto_first}
+use Rattle.std.specs.Option.{option_copied}
+use Rattle.pr_plain.specs.Cuts.{pieces_left}
+use Rattle.pr_plain.specs.WordReading.{Words, is_done, word_at}
 
 -- whether a byte is this one
 abbrev is_cut : ℕ → ℕ → Bool
@@ -32,3 +36,18 @@ piece_some cut bs end e =
     slice_split_first (is_cut cut) bs 0 (ltb-true (position_or_len (is_cut cut) bs) (length bs) here.0)
     ∙ ap (λ n. take n bs ∷ slice_split (is_cut cut) (drop (n + 1) bs)) here.1
     ∙ ap (λ rest. take end bs ∷ slice_split (is_cut cut) rest) (sym (take_all (length bs - (end + 1)) (drop (end + 1) bs) (omega (arith, length-drop (end + 1) bs))))
+
+-- where there is a piece, it is to be read
+some_piece : (ws : Words) → 0 < length ws → is_done ws ≡ false
+unfolding word_at
+some_piece [] h = absurd (omega (arith, h))
+some_piece (w ∷ ws) h = refl
+
+-- no piece is left exactly where nothing is left to cut
+pub none_left : (cut : ℕ) (rest : Option (Bor (List ℕ))) → is_none rest ≡ is_done (pieces_left cut (option_copied rest))
+unfolding word_at
+none_left cut None = refl
+none_left cut (Some bytes) =
+    sym (some_piece (slice_split (λ b. eqb b cut) bytes.now) (omega (arith, length-slice_split (λ b. eqb b cut) bytes.now)))
+
+pub ruleset done = (none_left)

@@ -16,7 +16,6 @@ const TAIL: &[u8] =
 
 /// The scenario for so many children, of which these are the digits, in pieces that stand one behind the other. Takes no
 /// memory.
-
 pub fn generated_pieces(digits: &[u8]) -> [&[u8]; 5]
     ensures { (n : ℕ) → digits.now ≡ decimal n → flat_map (λ piece. piece.now) result ≡ generated_text n }
 {

@@ -1,5 +1,5 @@
 //! Bytes in pieces, cut at each byte of one kind: lines at newlines, words at blanks.
-ghost use Rattle.std.specs.Prelude.{◌≡◌, ◌==◌, ◌∷◌};
+ghost use Rattle.std.specs.Prelude.{◌≡◌, ◌==◌, ◌∷◌, IfNone};
 ghost use Rattle.std.specs.List.{position, slice_split};
 ghost use Rattle.std.specs.Option.{option_copied};
 ghost use Rattle.pr_plain.specs.Cuts.{pieces_left};
@@ -50,7 +50,8 @@ impl<'a> Pieces<'a> {
 
     /// Takes the next piece.
     pub fn next(&mut self) -> Option<&'a [u8]>
-        ensures { Says (λ w. (w.now, self.new)) result (word_at self.old) }
+        ensures piece { Says (λ w. (w.now, self.new)) result (word_at self.old) }
+        ensures ended { IfNone result (self.new ≡ self.old) }
     {
         let (piece, rest) = self.split_first()?;
         *self = rest;
@@ -58,10 +59,11 @@ impl<'a> Pieces<'a> {
     }
 
     /// Whether no piece is left.
+    #[tactic(auto, using(crate::proofs::PieceLemmas::done))]
     pub fn is_done(&self) -> bool
         ensures { result ≡ is_done self.now }
     {
-        self.split_first().is_none()
+        self.rest.is_none()
     }
 }
 

@@ -12,8 +12,8 @@ use crate::refusals::{HistRefusal, Refused};
 use pr_model::{Entry, History};
 use std::alloc::Global;
 
-/// No line of an entry is shorter, its newline counted.
-const SHORTEST_ENTRY: usize = 10;
+/// Room is kept for one entry in so many bytes of text: the line `0 1/1 ran` has so many, its newline counted.
+const BYTES_PER_ENTRY: usize = 10;
 
 /// What a line answered, with the number of the line where it is refused.
 fn at_line(line: u32, answer: Result<Entry, Refused>) -> Result<Entry, HistRefusal>
@@ -86,7 +86,7 @@ fn read_text(alloc: Global, text: &[u8], first_line: u32) -> Result<History, His
 {
     let mut lines = Pieces::of(text, b'\n');
     let count = next_heading(&mut lines, first_line)?;
-    let room = count.min((text.len() / SHORTEST_ENTRY) as u64) as usize;
+    let room = count.min((text.len() / BYTES_PER_ENTRY) as u64) as usize;
     read_entries(alloc, &mut lines, count, first_line + 1, room)
 }
 

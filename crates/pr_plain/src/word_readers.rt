@@ -1,5 +1,5 @@
 //! Words of a line, taken one after another.
-ghost use Rattle.std.specs.Prelude.{◌≡◌, ◌++◌, [], ◌∷◌, OnOk};
+ghost use Rattle.std.specs.Prelude.{◌≡◌, ◌++◌, [], ◌∷◌, OnErr, OnOk};
 ghost use Rattle.pr_plain.specs.HexWords.{bytes_of_word};
 ghost use Rattle.pr_plain.specs.Readings.{Says, Gives};
 ghost use Rattle.pr_plain.specs.WordReading.{behind_word, number_at, id_at, bytes_at, syscall_at, fault_at, signal_of, signal_at, errno_at, file_at, mode_at, program_at};
@@ -109,9 +109,10 @@ pub fn program_at(words: &mut Pieces<'_>) -> Option<Name>
     name_of(words.next()?)
 }
 
-/// Puts a number behind others.
+/// Puts an item behind others.
 pub fn put<T: Drop>(items: &mut Vec<T>, item: T) -> Result<(), NoMemory>
-    ensures { OnOk result (items.new.items ≡ items.old.items ++ item ∷ []) }
+    ensures put { OnOk result (items.new.items ≡ items.old.items ++ item ∷ []) }
+    ensures kept { OnErr result (items.new.items ≡ items.old.items) }
 {
     Ok(items.push(item)?)
 }

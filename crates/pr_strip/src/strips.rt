@@ -1,5 +1,5 @@
 //! The untraced steps of a history: what the machine without controllers would have done of it.
-ghost use Rattle.std.specs.Prelude.{◌≡◌, ◌++◌, [], ◌∷◌, OnOk, IfOk};
+ghost use Rattle.std.specs.Prelude.{◌≡◌, ◌++◌, [], ◌∷◌, OnErr, OnOk, IfOk};
 ghost use Rattle.pr_strip.specs.Pasts.{past_of};
 ghost use Rattle.pr_model.specs.UntracedSteps.{steps_of_fault, steps_of_turn, steps_of_call, steps_of, untraced_steps};
 
@@ -11,7 +11,8 @@ use std::alloc::Global;
 
 /// Puts a step after others.
 fn put(steps: &mut Vec<Step>, step: Step) -> Result<(), NoMemory>
-    ensures { OnOk result (steps.new.items ≡ steps.old.items ++ step ∷ []) }
+    ensures put { OnOk result (steps.new.items ≡ steps.old.items ++ step ∷ []) }
+    ensures kept { OnErr result (steps.new.items ≡ steps.old.items) }
 {
     Ok(steps.push(step)?)
 }

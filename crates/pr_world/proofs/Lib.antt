@@ -1,3 +1,4 @@
+pub mod CallerLemmas
 pub mod MoveLemmas
 pub mod ProtocolLemmas
 pub mod RestLemmas

@@ -1,4 +1,4 @@
-use Rattle.std.proofs.Common.{◌≡◌, ◌<◌, ◌+◌, ◌-◌, ◌&&◌, ℕ, zero, suc, Bool, true, false, Option, Some, None, IfSome, IsSome, List, [], ◌∷◌, ◌++◌, length, slice_get, slice_index_or, slice_set, nat_lt, refl, sym, ◌∙◌, ap, subst, arith, rules, length-append}
+use Rattle.std.proofs.Common.{◌≡◌, ◌<◌, ◌+◌, ◌-◌, ◌&&◌, ℕ, Bool, true, false, Option, Some, None, IfSome, IsSome, List, [], ◌∷◌, ◌++◌, length, slice_get, slice_set, nat_lt, refl, sym, ◌∙◌, ap, subst, arith, rules, length-append}
 use Rattle.std.proofs.lemmas.Option.{same_Some, slice_get_within}
 use borrow.Author.Tests.{ltb-true}
 use Rattle.std.specs.Borrow.{Bor}
@@ -79,23 +79,10 @@ acts-call w k h = of (call_by w.controllers k) refl h
     of None is h = cc
     of (Some c) is h = record { call = c; next = is; ready = h }
 
--- a call that is answered is one, and ready
-pub answered-some : (kernel : KernelView) (k : ℕ) (o : Option Call) → is_answered kernel k o ≡ true → IsSome o
-answered-some kernel k None h = cc
-answered-some kernel k (Some c) h = refl
-
-pub answered-ready : (kernel : KernelView) (k : ℕ) (o : Option Call) (c : Call) → o ≡ Some c → is_answered kernel k o ≡ true → kernel.is_ready k c ≡ true
-answered-ready kernel k o c is h = ap (is_answered kernel k) (sym is) ∙ h
-
 -- a controller that is fed
-get-at : (controllers : List Core) (k : ℕ) (c : Core) → k < length controllers → c ≡ slice_index_or controllers k c → slice_get controllers k ≡ Some c
-get-at [] k c h e = absurd (omega arith)
-get-at (x ∷ xs) zero c h e = ap Some (sym e)
-get-at (x ∷ xs) (suc k) c h e = get-at xs k c (omega arith) e
-
-pub fed-set : (controllers : List Core) (k : ℕ) (r : Reply) (c new : Core) → k < length controllers → c ≡ slice_index_or controllers k c → new ≡ after_reply c r → slice_set controllers k new ≡ with_fed k r controllers
+pub fed-set : (controllers : List Core) (k : ℕ) (r : Reply) (c new : Core) → slice_get controllers k ≡ Some c → new ≡ after_reply c r → slice_set controllers k new ≡ with_fed k r controllers
 unfolding with_fed
-fed-set controllers k r c new within at is = ap (slice_set controllers k) is ∙ ap (feed_at k r controllers) (sym (get-at controllers k c within at))
+fed-set controllers k r c new at is = ap (slice_set controllers k) is ∙ ap (feed_at k r controllers) (sym at)
 
 -- ---- one lemma a kind of move
 
@@ -235,10 +222,10 @@ module _ {K : Type 0} (view : K → KernelView) (lawful : (k : K) → IsLawful (
     pub acts-within : k < length inside.controllers
     acts-within = let h = acts-call (seen view inside) k here in with_call inside.controllers k h.call h.next
 
-    module _ (x : Core) (at : x ≡ slice_index_or inside.controllers k x) where
+    module _ (x : Core) (at : slice_get inside.controllers k ≡ Some x) where
       call-here : call_by inside.controllers k ≡ next_call x
       unfolding call_by
-      call-here = ap (option_and_then next_call) (get-at inside.controllers k x acts-within at)
+      call-here = ap (option_and_then next_call) at
 
       -- its call is answered
       pub acts-answered : is_answered (view inside.kernel) k (next_call x) ≡ true
@@ -246,7 +233,7 @@ module _ {K : Type 0} (view : K → KernelView) (lawful : (k : K) → IsLawful (
       acts-answered = ap (is_answered (view inside.kernel) k) (sym call-here) ∙ here
 
       -- and when it was, the controller has moved
-      pub answered-moved : (kern : K) (new : Core) → Answered k (view inside.kernel) (view kern) x new → Moves (seen view w) (Controller k) (seen view (record inside { kernel = kern; controllers = slice_set inside.controllers k new }))
-      answered-moved kern new a =
+      pub answered-moved : (kern : K) (new : Core) (controllers : List Core) → controllers ≡ slice_set inside.controllers k new → Answered k (view inside.kernel) (view kern) x new → Moves (seen view w) (Controller k) (seen view (record inside { kernel = kern; controllers = controllers }))
+      answered-moved kern new controllers set a =
           let next : call_by w.controllers k ≡ Some a.call = ap (λ (y : WorldOf K). call_by y.controllers k) (sym is) ∙ call-here ∙ a.next in
-          controller-moved a.call next kern a.reply _ a.called a.replied (fed-set inside.controllers k a.reply x new acts-within at a.fed)
+          controller-moved a.call next kern a.reply controllers a.called a.replied (set ∙ fed-set inside.controllers k a.reply x new at a.fed)

@@ -1,5 +1,4 @@
 use Rattle.std.proofs.Common.{◌≡◌, ◌≤◌, ◌+◌, ℕ, zero, suc, Bool, true, false, Some, None, List, [], ◌∷◌, cond, drop, length, refl, sym, ◌∙◌, ap, arith, add-one}
-use Rattle.std.proofs.lemmas.Option.{same_Some}
 use Rattle.std.specs.List.{slice_get}
 use Rattle.pr_model.specs.declared.events.Actor.{Actor}
 use Rattle.pr_world.specs.Worlds.{Pick, WorldState, can_act, first_scheduled}

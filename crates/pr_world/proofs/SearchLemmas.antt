@@ -2,6 +2,7 @@ use Rattle.std.proofs.Common.{◌≡◌, ◌<◌, ◌≤◌, ◌+◌, ◌-◌, �
 use Rattle.std.specs.List.{range_with_len}
 use Rattle.std.specs.Option.{option_map, option_or}
 use Rattle.pr_model.specs.declared.events.Actor.TheVariants.{Controller}
+use Rattle.pr_world.proofs.CallerLemmas.{cores-length}
 use Rattle.pr_world.specs.Worlds.{WorldState, controller_acts, first_controller, from_controller, from_lwp}
 
 -- A search through numbers from `k` below `n`, step by step.
@@ -30,4 +31,4 @@ pub no_more-controllers : (w : WorldState) (k : ℕ) → length w.controllers �
 unfolding from_controller first_controller
 no_more-controllers w k past = ap (λ (o : Option ℕ). option_or (option_map Controller o) (from_lwp w None)) (search-end (controller_acts w) k (length w.controllers) past)
 
-pub ruleset rounds = (no_more-controllers)
+pub ruleset rounds = (no_more-controllers, cores-length)

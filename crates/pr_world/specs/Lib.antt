@@ -1,4 +1,5 @@
 pub mod Answered
+pub mod Callers
 pub mod Controllers
 pub mod Cores
 pub mod Moves

@@ -1,5 +1,5 @@
 //! A controller, and the call that it makes next, which is made once after each reply.
-ghost use Rattle.std.specs.Prelude.{◌≡◌, ◌<◌, true, length, IfOk, OnErr, OnOk};
+ghost use Rattle.std.specs.Prelude.{◌≡◌, ◌<◌, true, false, length, IfOk, IsOk, OnErr, OnOk};
 ghost use Rattle.pr_num.specs.Limits.{controller_limit};
 ghost use Rattle.pr_world.specs.Answered.{Answered};
 ghost use Rattle.pr_world.specs.Controllers.{awaits_clock, has_finished, next_call, printed, wait_end_of};
@@ -14,8 +14,8 @@ use pr_num::{Bytes, NoMemory};
 use std::alloc::Global;
 use std::marker::Model;
 
-/// A controller, seen by contracts as its core. Beside it stands its next call, once that was made: what is asked of a
-/// controller is asked of that call, and takes no memory then.
+/// A controller, seen by contracts as its core and whether its next call was made: that call is kept until the reply,
+/// and what is asked of the controller is asked of the call, which takes no memory.
 #[derive(Drop)]
 pub struct Caller {
     controller: Controller,
@@ -24,13 +24,14 @@ pub struct Caller {
 }
 
 impl Model for Caller {
-    ghost use Rattle.std.specs.Prelude.{◌≡◌, IfSome};
+    ghost use Rattle.std.specs.Prelude.{◌≡◌, IfSome, is_some};
+    ghost use Rattle.pr_world.specs.Callers.{CallerState};
     ghost use Rattle.pr_world.specs.Controllers.{next_call};
-    ghost use Rattle.pr_world.specs.Cores.{Core, core_of};
+    ghost use Rattle.pr_world.specs.Cores.{core_of};
 
-    ghost Value = { Core };
+    ghost Value = { CallerState };
 
-    ghost view = { λ a. core_of a.controller };
+    ghost view = { λ a. record { core = core_of a.controller; made = is_some a.next } };
 
     ghost invariant = { λ a. IfSome a.next (λ call. call ≡ next_call (core_of a.controller)) };
 }
@@ -48,7 +49,7 @@ fn wait_end_of(call: &Call) -> u64
 
 impl Caller {
     pub fn new(controller: Controller) -> Caller
-        ensures { result ≡ core_of controller }
+        ensures { result ≡ record { core = core_of controller; made = false } }
     {
         Caller {
             controller,
@@ -56,72 +57,74 @@ impl Caller {
         }
     }
 
-    /// The call that the controller makes next, which is handed out: `keep` puts it back.
-    pub fn take_call(&mut self, alloc: Global) -> Result<Option<Call>, NoMemory>
-        ensures value { IfOk result (λ call. call ≡ next_call self.old) }
-        ensures same { self.new ≡ self.old }
+    /// Makes the next call and keeps it. Where it is made already, this takes no memory.
+    fn make_next(&mut self, alloc: Global) -> Result<(), NoMemory>
+        ensures core { self.new.core ≡ self.old.core }
+        ensures made { OnOk result (self.new.made ≡ true) }
+        ensures sure { self.old.made ≡ true → IsOk result }
     {
-        match self.next.take() {
-            Some(call) => Ok(call),
-            None => self.controller.next_call(alloc),
+        if self.next.is_none() {
+            self.next = Some(self.controller.next_call(alloc)?);
         }
+        Ok(())
     }
 
-    fn keep(&mut self, call: Option<Call>)
-        requires { call ≡ next_call self.old }
-        ensures { self.new ≡ self.old }
+    /// The next call, which was made; `None` where the controller has finished.
+    fn next(&self) -> &Option<Call>
+        requires { self.now.made ≡ true }
+        ensures { result.now ≡ next_call self.now.core }
     {
-        self.next = Some(call);
+        self.next.as_ref().unwrap()
     }
 
     /// Whether the controller makes a call that a kernel would answer now.
-    pub fn is_answered<Q: Kernel>(
+    pub fn can_move<Q: Kernel>(
         &mut self,
         alloc: Global,
         kern: &Q,
         by: u32,
     ) -> Result<bool, NoMemory>
-        ensures value { IfOk result (λ answered. answered ≡ is_answered (Q.view kern.now) by (next_call self.old)) }
-        ensures same { self.new ≡ self.old }
+        ensures value { IfOk result (λ can. can ≡ is_answered (Q.view kern.now) by (next_call self.old.core)) }
+        ensures core { self.new.core ≡ self.old.core }
+        ensures made { OnOk result (self.new.made ≡ true) }
+        ensures sure { self.old.made ≡ true → IsOk result }
     {
-        let call = self.take_call(alloc)?;
-        let answered = match &call {
-            Some(call) => kern.ready(by, call),
-            None => false,
-        };
-        self.keep(call);
-        Ok(answered)
+        self.make_next(alloc)?;
+        match self.next() {
+            Some(call) => Ok(kern.ready(by, call)),
+            None => Ok(false),
+        }
     }
 
     /// Whether the controller waits for a moment that is still to come.
     #[tactic(auto, unfolding(crate::specs::Controllers::awaits_clock))]
     pub fn awaits_clock(&mut self, alloc: Global, clock: u64) -> Result<bool, NoMemory>
-        ensures value { IfOk result (λ awaits. awaits ≡ awaits_clock clock self.old) }
-        ensures same { self.new ≡ self.old }
+        ensures value { IfOk result (λ awaits. awaits ≡ awaits_clock clock self.old.core) }
+        ensures core { self.new.core ≡ self.old.core }
+        ensures made { OnOk result (self.new.made ≡ true) }
+        ensures sure { self.old.made ≡ true → IsOk result }
     {
-        let call = self.take_call(alloc)?;
-        let awaits = match &call {
-            Some(call) => clock < wait_end_of(call),
-            None => false,
-        };
-        self.keep(call);
-        Ok(awaits)
+        self.make_next(alloc)?;
+        match self.next() {
+            Some(call) => Ok(clock < wait_end_of(call)),
+            None => Ok(false),
+        }
     }
 
     /// Whether the controller has finished: it has no next call.
     #[tactic(auto, unfolding(crate::specs::Controllers::has_finished))]
     pub fn has_finished(&mut self, alloc: Global) -> Result<bool, NoMemory>
-        ensures value { IfOk result (λ finished. finished ≡ has_finished self.old) }
-        ensures same { self.new ≡ self.old }
+        ensures value { IfOk result (λ finished. finished ≡ has_finished self.old.core) }
+        ensures core { self.new.core ≡ self.old.core }
+        ensures made { OnOk result (self.new.made ≡ true) }
+        ensures sure { self.old.made ≡ true → IsOk result }
     {
-        let call = self.take_call(alloc)?;
-        let finished = call.is_none();
-        self.keep(call);
-        Ok(finished)
+        self.make_next(alloc)?;
+        Ok(self.next().is_none())
     }
 
-    /// Makes the controller's next call, which is ready, and hands it the reply. Where memory runs out, kernel and
-    /// controller are as they were.
+    /// Makes the controller's next call, which is ready, and hands it the reply. The kernel takes the call, and no copy
+    /// of it is made. Where memory runs out, kernel and core are as they were, and the call may have to be made again.
     pub fn make_call<Q: Kernel>(
         &mut self,
         alloc: Global,
@@ -129,30 +132,30 @@ impl Caller {
         by: u32,
     ) -> Result<(), NoMemory>
         requires by { by < controller_limit }
-        requires ready { is_answered (Q.view kern.old) by (next_call self.old) ≡ true }
+        requires ready { is_answered (Q.view kern.old) by (next_call self.old.core) ≡ true }
         requires place { length (Q.view kern.old).history < (Q.view kern.old).places }
-        ensures ok { OnOk result (Answered by (Q.view kern.old) (Q.view kern.new) self.old self.new) }
+        ensures ok { OnOk result (Answered by (Q.view kern.old) (Q.view kern.new) self.old.core self.new.core) }
         ensures kernel { OnErr result (kern.new ≡ kern.old) }
-        ensures err { OnErr result (self.new ≡ self.old) }
+        ensures err { OnErr result (self.new.core ≡ self.old.core) }
     {
-        let call = self.take_call(alloc)?.unwrap();
+        self.make_next(alloc)?;
         self.controller.prepare()?;
+        let call = self.next.take().unwrap().unwrap();
         kern.call(by, call)?;
         let reply = kern.last_reply().unwrap();
-        self.next = None;
         self.controller.feed(reply);
         Ok(())
     }
 
     /// What the controller prints at the end of a run.
     pub fn print(&self, alloc: Global, programs: &[Program]) -> Result<Bytes, NoMemory>
-        ensures { IfOk result (λ text. text ≡ printed self.now programs.now) }
+        ensures { IfOk result (λ text. text ≡ printed self.now.core programs.now) }
     {
         self.controller.print(alloc, programs)
     }
 
     pub fn controller(&self) -> &Controller
-        ensures { core_of result.now ≡ self.now }
+        ensures { core_of result.now ≡ self.now.core }
     {
         &self.controller
     }

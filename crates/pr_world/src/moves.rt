@@ -10,6 +10,7 @@ use pr_num::NoMemory;
 
 impl<Q: Kernel> World<Q> {
     /// Makes the next call of a controller, which gets the reply.
+    #[tactic(auto, using(crate::proofs::CallerLemmas::cores))]
     fn move_controller(&mut self, controller: u32) -> Result<(), NoMemory>
         requires acts { can_act (seen Q.view self.old) (Actor.Controller controller) ≡ true }
         requires place { length (Q.view self.old.kernel).history < (Q.view self.old.kernel).places }

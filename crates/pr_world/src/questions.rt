@@ -1,7 +1,8 @@
 //! Who can move, and which controllers have finished.
-ghost use Rattle.std.specs.Prelude.{◌≡◌, ◌<◌, true, length, slice_get, IfOk};
+ghost use Rattle.std.specs.Prelude.{◌≡◌, ◌<◌, true, length, map, slice_get, IfOk};
 ghost use Rattle.std.specs.Option.{ForSome};
 ghost use Rattle.std.specs.List.{list_all, list_any};
+ghost use Rattle.pr_world.specs.Callers.{core_in};
 ghost use Rattle.pr_world.specs.Controllers.{awaits_clock, call_by, has_finished, is_clock_awaited};
 ghost use Rattle.pr_world.specs.Worlds.{all_finished, can_act, is_answered, seen};
 
@@ -14,9 +15,10 @@ use pr_num::limits::CLOCK_LIMIT;
 use std::alloc::Global;
 
 /// Whether one of these controllers waits for a moment that is still to come.
+#[tactic(auto, using(crate::proofs::CallerLemmas::cores))]
 fn some_awaits_clock(alloc: Global, clock: u64, callers: &mut [Caller]) -> Result<bool, NoMemory>
-    ensures value { IfOk result (λ some. some ≡ list_any (awaits_clock clock) callers.old) }
-    ensures same { callers.new ≡ callers.old }
+    ensures value { IfOk result (λ some. some ≡ list_any (awaits_clock clock) (map core_in callers.old)) }
+    ensures cores { map core_in callers.new ≡ map core_in callers.old }
 {
     for caller in callers.iter_mut() {
         if caller.awaits_clock(alloc, clock)? {
@@ -26,9 +28,10 @@ fn some_awaits_clock(alloc: Global, clock: u64, callers: &mut [Caller]) -> Resul
     Ok(false)
 }
 
+#[tactic(auto, using(crate::proofs::CallerLemmas::cores))]
 fn all_finished(alloc: Global, callers: &mut [Caller]) -> Result<bool, NoMemory>
-    ensures value { IfOk result (λ all. all ≡ list_all has_finished callers.old) }
-    ensures same { callers.new ≡ callers.old }
+    ensures value { IfOk result (λ all. all ≡ list_all has_finished (map core_in callers.old)) }
+    ensures cores { map core_in callers.new ≡ map core_in callers.old }
 {
     for caller in callers.iter_mut() {
         if !caller.has_finished(alloc)? {
@@ -40,7 +43,7 @@ fn all_finished(alloc: Global, callers: &mut [Caller]) -> Result<bool, NoMemory>
 
 impl<Q: Kernel> World<Q> {
     /// Whether a controller can move: its next call is ready.
-    #[tactic(auto, unfolding(crate::specs::Controllers::call_by))]
+    #[tactic(auto, using(crate::proofs::CallerLemmas::cores), unfolding(crate::specs::Controllers::call_by))]
     pub(crate) fn controller_acts(&mut self, controller: u32) -> Result<bool, NoMemory>
         ensures value { IfOk result (λ acts. acts ≡ is_answered (Q.view self.old.kernel) controller (call_by self.old.controllers controller)) }
         ensures same { self.new ≡ self.old }
@@ -48,7 +51,7 @@ impl<Q: Kernel> World<Q> {
         if controller as usize >= self.callers.len() {
             return Ok(false);
         }
-        self.callers[controller as usize].is_answered(self.alloc, &self.kern, controller)
+        self.callers[controller as usize].can_move(self.alloc, &self.kern, controller)
     }
 
     /// Whether an actor waits for the clock: an lwp in the call sleep, or a controller.
@@ -61,10 +64,11 @@ impl<Q: Kernel> World<Q> {
         if clock >= CLOCK_LIMIT {
             return Ok(false);
         }
-        if self.kern.sleeper() {
+        // The controllers are few, and are asked before all lwps are gone over.
+        if some_awaits_clock(self.alloc, clock, self.callers.as_mut_slice())? {
             return Ok(true);
         }
-        some_awaits_clock(self.alloc, clock, self.callers.as_mut_slice())
+        Ok(self.kern.sleeper())
     }
 
     /// Whether an actor can move: a controller whose next call is ready, an lwp that can have a turn, and the clock
@@ -82,6 +86,7 @@ impl<Q: Kernel> World<Q> {
     }
 
     /// Whether a controller has finished: it has no next call.
+    #[tactic(auto, using(crate::proofs::CallerLemmas::cores))]
     pub fn finished(&mut self, controller: u32) -> Result<bool, NoMemory>
         requires { controller < length self.old.controllers }
         ensures value { IfOk result (λ finished. ForSome (slice_get self.old.controllers controller) (λ core. finished ≡ has_finished core)) }

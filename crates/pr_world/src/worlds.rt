@@ -2,6 +2,7 @@
 ghost use Rattle.std.specs.Prelude.{◌≡◌, ◌≤◌, ◌<◌, None, Some, length, map, slice_get, IfOk};
 ghost use Rattle.std.specs.Option.{ForSome};
 ghost use Rattle.pr_num.specs.Limits.{controller_limit};
+ghost use Rattle.pr_world.specs.Callers.{core_in};
 ghost use Rattle.pr_world.specs.Controllers.{printed};
 ghost use Rattle.pr_world.specs.Cores.{core_of};
 
@@ -28,20 +29,22 @@ pub struct World<Q> {
 }
 
 impl<Q> Model for World<Q> {
-    ghost use Rattle.std.specs.Prelude.{◌≤◌, drop, length};
+    ghost use Rattle.std.specs.Prelude.{◌≤◌, drop, length, map};
     ghost use Rattle.pr_num.specs.Limits.{controller_limit};
+    ghost use Rattle.pr_world.specs.Callers.{core_in};
     ghost use Rattle.pr_world.specs.Worlds.{WorldOf};
 
     ghost Value = { WorldOf Q };
 
-    ghost view = { λ a. record { kernel = a.kern; controllers = a.callers.items; schedule = drop a.spent a.schedule.items; last = a.last } };
+    ghost view = { λ a. record { kernel = a.kern; controllers = map core_in a.callers.items; schedule = drop a.spent a.schedule.items; last = a.last } };
 
     ghost invariant = { λ a. length a.callers.items ≤ controller_limit };
 }
 
 /// The controllers, of which no call was made yet.
+#[tactic(auto, unfolding(crate::specs::Callers::core_in))]
 fn callers_of(alloc: Global, controllers: Vec<Controller>) -> Result<Vec<Caller>, NoMemory>
-    ensures { IfOk result (λ callers. callers.items ≡ map core_of controllers.items) }
+    ensures { IfOk result (λ callers. map core_in callers.items ≡ map core_of controllers.items) }
 {
     let mut callers = Vec::with_capacity(alloc, controllers.len())?;
     for controller in controllers {
@@ -75,6 +78,7 @@ impl<Q> World<Q> {
     }
 
     /// How many controllers there are.
+    #[tactic(auto, using(crate::proofs::CallerLemmas::cores))]
     pub fn controllers(&self) -> u32
         ensures value { result ≡ length self.now.controllers }
         ensures limit { result ≤ controller_limit }
@@ -95,6 +99,7 @@ impl<Q> World<Q> {
         self.kern
     }
 
+    #[tactic(auto, using(crate::proofs::CallerLemmas::cores))]
     pub fn controller(&self, number: u32) -> &Controller
         requires { number < length self.now.controllers }
         ensures { slice_get self.now.controllers number ≡ Some (core_of result.now) }
@@ -103,6 +108,7 @@ impl<Q> World<Q> {
     }
 
     /// What a controller prints, where the kernel has these programs.
+    #[tactic(auto, using(crate::proofs::CallerLemmas::cores))]
     pub fn print(&self, controller: u32, programs: &[Program]) -> Result<Bytes, NoMemory>
         requires { controller < length self.now.controllers }
         ensures { IfOk result (λ text. ForSome (slice_get self.now.controllers controller) (λ core. text ≡ printed core programs.now)) }

@@ -15,7 +15,7 @@ loop-at-init g c = record {
 pub loop-at-preserved : goal.loop-at-preserved
 loop-at-preserved g c =
     let block = c.in_ok-next.ensures in
-    let put = rw c.deref.ensures.value at c.in_ok-put.ensures in
+    let put = rw c.deref.ensures.value at c.in_ok-put.ensures.puts in
     record {
       within = block.within;
       lines = rw block.lines (with_end-second _ _ _ _ _ c.loop-at.invariant.lines put.all);
@@ -29,5 +29,5 @@ returns-in_err-next g c =
 pub returns-in_err-put : goal.returns-in_err-put
 returns-in_err-put g c =
     let block = c.in_ok-next.ensures in
-    let put = rw c.deref.ensures.value at c.in_err-put.ensures in
+    let put = rw c.deref.ensures.value at c.in_err-put.ensures.puts in
     rw (entries_text-block c.loop-at.at c.in_ok-next.next c.args.history.now.entries c.fill_block.new.block.items block.lines) (Puts-second _ _ _ _ _ _ _ _ _ c.loop-at.invariant.lines c.loop-at.invariant.faults (Puts-cut _ _ _ _ _ _ _ _ (search rules) put))
