@@ -1,8 +1,8 @@
-use Rattle.std.proofs.Common.{◌≡◌, ◌==◌, ◌++◌, ℕ, zero, suc, Bool, true, false, cond, Option, Some, None, List, [], ◌∷◌, ◌⊎◌, append_assoc, inl, inr, replicate, refl, sym, ◌∙◌, ap, subst}
+use Rattle.std.proofs.Common.{◌≡◌, ◌==◌, ◌≤◌, ◌++◌, ℕ, zero, suc, Bool, true, false, cond, Option, Some, None, List, [], ◌∷◌, ◌⊎◌, append_assoc, inl, inr, length, replicate, refl, sym, ◌∙◌, ap, subst}
 use Rattle.std.proofs.lemmas.Bool.{eqb-true, eqb-false, false≢true}
 use Rattle.std.proofs.lemmas.List.{append-nil}
 use Rattle.std.proofs.lemmas.List.Elements.{filter_map-append}
-use Rattle.std.specs.List.{cons_option, slice_get}
+use Rattle.std.specs.List.{All, cons_option, slice_get}
 use Rattle.std.specs.Option.{option_and_then}
 use Rattle.pr_api.specs.Entries.{turn_entry}
 use Rattle.pr_line.specs.declared.options.Options.{Options}
@@ -35,7 +35,7 @@ use Rattle.pr_report_laws.proofs.MemoryReads.{read-texts}
 use Rattle.pr_report_laws.proofs.NewbornLaws.{followed-forked, followed-rests, followed-silent}
 use Rattle.pr_report_laws.proofs.ReleaseLaws.{freed-set, set-stays, traced-set}
 use Rattle.pr_report_laws.proofs.ReleaseSteps.{truss-releases}
-use Rattle.pr_report_laws.proofs.WatchHistories.{IsRun, makes-front, run-reaches}
+use Rattle.pr_report_laws.proofs.WatchHistories.{IsRun, makes-front, makes-rest, run-reaches}
 use Rattle.pr_tool_laws.proofs.WholeLemmas.{front-bytes, front-legal}
 use Rattle.pr_report_laws.specs.Fits.{IsFitSystem}
 use Rattle.pr_report_laws.specs.Births.{LeavesForks, NamesNoChild, granted}
@@ -46,10 +46,12 @@ use Rattle.pr_truss.specs.Feeding.{fed}
 use Rattle.pr_truss.specs.NextCalls.{next_call_of}
 use Rattle.pr_truss.specs.Trusses.{TrussState, first_truss, traced_at}
 use Rattle.pr_truss.specs.declared.stages.FreeingStep.TheVariants.{Close as Free}
-use Rattle.pr_truss_laws.proofs.GivenLemmas.{given-handled}
+use Rattle.pr_truss_laws.proofs.GivenLemmas.{given-handled, handled-so-far}
 use Rattle.pr_truss_laws.proofs.OwnLemmas.{nothing-open}
+use Rattle.pr_truss_laws.proofs.PolledLemmas.{polled-soon}
 use Rattle.pr_truss_laws.specs.Exchanges.{Ends, Exchange, Makes, exchange_in, exchange_of, exchanges, truss_after, truss_at}
 use Rattle.pr_truss_laws.specs.Handles.{HasNothingOpen}
+use Rattle.pr_truss_laws.specs.Polled.{IsNoEndOf, PollNames, calls_meanwhile}
 use Rattle.pr_world.specs.Controllers.{after_reply, call_by, next_call, with_fed}
 use Rattle.pr_world.specs.Cores.{Core, Truss}
 use Rattle.pr_world.specs.Protocol.{Follows, FollowsAt, controllers_after, controllers_at}
@@ -205,6 +207,17 @@ module _ (n k : ℕ) (o : Options) (first : TracedState) (h : List Entry) (run :
         reason = subst (λ g. IsLetGo k pid first g e) (sym (append-nil before)) (let-go before later e pid is on off);
       }
 
+  -- ---- what a poll named
+
+  soon : (before between later : List Exchange) (x : Exchange) (place : ℕ) → exchanges k h ≡ before ++ x ∷ (between ++ later)
+      → PollNames (truss_after (first_truss o) before) x.reply place
+      → All (IsNoEndOf (traced_at (truss_after (first_truss o) before) place)) between
+      → length between ≤ calls_meanwhile (truss_after (truss_after (first_truss o) before) (x ∷ between)).leaving place
+  soon before between later x place is =
+      let t = truss_after (first_truss o) before in
+      let makes : Makes t (x ∷ (between ++ later)) = makes-rest (first_truss o) before (x ∷ (between ++ later)) (subst (Makes (first_truss o)) is run.makes) in
+      polled-soon t x between place (makes.0, makes-front (fed t x.reply) between later makes.1)
+
   -- ---- the children of forks
 
   children : o.follow ≡ true → HandlesChildren k o h
@@ -259,6 +272,8 @@ truss-kept controllers n first h k o lawful fit range bytes at none legal follow
       shows = λ pid named forks. births-report n k o pid first h lawful fit none legal stays.0 range bytes named forks;
       shows_unfollowed = λ pid unfollowed. unfollowed-report n k o pid first h lawful fit none legal stays.0 range bytes unfollowed;
       texts = read-texts n k o first h lawful none legal stays.0;
+      handled = handled-so-far o (exchanges k h) stays.0;
+      soon = soon n k o first h run;
       children = children n k o first h run;
       opens = opens n k o first h run;
       begins = begins n k o first h run;

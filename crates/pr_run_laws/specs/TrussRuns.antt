@@ -1,4 +1,4 @@
-use Rattle.std.specs.Prelude.{◌≡◌, ◌≢◌, ◌<◌, ◌⊎◌, ◌++◌, ℕ, true, false, List, [], ◌∷◌, Option, Some, None, length}
+use Rattle.std.specs.Prelude.{◌≡◌, ◌≢◌, ◌<◌, ◌≤◌, ◌⊎◌, ◌++◌, ℕ, true, false, List, [], ◌∷◌, Option, Some, None, length}
 use Rattle.std.specs.Prelude.{slice_get}
 use Rattle.std.specs.List.{All}
 use Rattle.pr_line.specs.declared.options.Options.{Options}
@@ -30,8 +30,9 @@ use Rattle.pr_report_laws.specs.Reported.{IsReported}
 use Rattle.pr_report_laws.specs.Shown.{selected}
 use Rattle.pr_report_laws.specs.Watching.{watches}
 use Rattle.pr_truss_laws.specs.Exchanges.{Exchange, Makes, exchanges, truss_after, truss_at}
-use Rattle.pr_truss_laws.specs.Given.{IsHandled}
+use Rattle.pr_truss_laws.specs.Given.{IsHandled, IsHandledSoFar}
 use Rattle.pr_truss_laws.specs.Handles.{HasNothingOpen}
+use Rattle.pr_truss_laws.specs.Polled.{IsNoEndOf, PollNames, calls_meanwhile}
 use Rattle.pr_world.specs.Cores.{Core, Truss}
 use Rattle.pr_world.specs.Protocol.{controllers_at}
 
@@ -125,6 +126,7 @@ pub record Releases (k : ℕ) (o : Options) (first : TracedState) (h : List Entr
 -- granted a handle for writing of the child; and then a child does nothing before it is watched. The memory that stands
 -- in the line of an event is that of the state in which truss read it.
 --
+-- What truss was given it has handled in order, as far as it has come, and what a poll named it soon runs, or closes.
 -- Truss watches a process right after it has opened it, begins to watch it in no other way, and lets it go for a reason
 -- alone. Wherever it has come to, it releases the processes of which it has set PR_RLC when it closes their control
 -- files; and what it has set so stays set while it has the control file open, also where the opening of the process is
@@ -136,6 +138,12 @@ pub record IsTrussKept (controllers : List Core) (first : TracedState) (h : List
   pub shows : (pid : ℕ) → NamesNoChild o h → LeavesForks k o h → IsReported k o pid first h
   pub shows_unfollowed : (pid : ℕ) → IsNeverFollowed k o pid h → IsReported k o pid first h
   pub texts : HaveTheirTexts k o first h (truss_at k o h).reports
+  pub handled : IsHandledSoFar o (next_call_of (truss_at k o h)) o.program (truss_at k o h).reports (exchanges k h)
+  pub soon : (before between later : List Exchange) (x : Exchange) (place : ℕ)
+      → exchanges k h ≡ before ++ x ∷ (between ++ later)
+      → PollNames (truss_after (first_truss o) before) x.reply place
+      → All (IsNoEndOf (traced_at (truss_after (first_truss o) before) place)) between
+      → length between ≤ calls_meanwhile (truss_after (truss_after (first_truss o) before) (x ∷ between)).leaving place
   pub children : o.follow ≡ true → HandlesChildren k o h
   pub opens : (before later : List Entry) (pid : ℕ) → h ≡ before ++ later
       → HasOpened k o pid before ⊎ HasFollowed k pid before → watches (truss_at k o before) pid ≡ true
