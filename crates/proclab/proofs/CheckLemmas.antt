@@ -10,11 +10,11 @@ use Rattle.pr_run_laws.specs.ScenarioRuns.{first_state_of}
 use Rattle.pr_scen.specs.Scenarios.{Scenario}
 use Rattle.proclab.proofs.RunEndLemmas.{status_cases}
 use Rattle.proclab.specs.Answers.{Answer, check_of, first_illegal_of, judged, judgement_of, refused_at, refused_for}
-use Rattle.proclab.specs.Checks.{checked_of}
+use Rattle.proclab.specs.Checks.{checked_of_input}
 use Rattle.proclab.specs.Giving.{IsGiven}
 use Rattle.proclab.specs.Histories.{RanOutEarly, no_run}
 use Rattle.proclab.specs.Inputs.{taken_of}
-use Rattle.proclab.specs.Rows.{Ends, GivesOne, IsJudged, IsThe, LeftNothing, OneRanOut, RanOutAfter, Reads}
+use Rattle.proclab.specs.Rows.{Ends, GivesOne, IsJudged, IsThe, OneRanOut, RanOutAfter, RanOutReading, Reads}
 use Rattle.proclab.specs.Statuses.{IsWhole}
 use Rattle.proclab.specs.declared.checks.Wrong.{Wrong}
 use Rattle.proclab.specs.declared.checks.Wrong.TheVariants as wrong
@@ -43,9 +43,8 @@ read-nothing (Err (wrong.History line)) = refl
 read-nothing (Ok read) = judged-nothing (length read.1) (first_illegal_of read.0 read.1)
 
 check-nothing : (input : Option (List ℕ)) → (check_of input).history ≡ []
-unfolding check_of refused_at
-check-nothing None = refl
-check-nothing (Some input) = read-nothing (checked_of input)
+unfolding check_of
+check-nothing input = read-nothing (checked_of_input input)
 
 -- Whatever the status is, there is no history.
 pub leaves-nothing : (old new : Ends) (status : Status) (h : List Entry) → Reads checked_limit (IsThe check_of) no_run old new status h → h ≡ []
@@ -53,23 +52,19 @@ leaves-nothing old new status h r = by (status_cases status)
   where
     by : IsWhole status ⊎ ((status ≡ ReadFailed) ⊎ ((status ≡ WriteFailed) ⊎ (status ≡ OutOfMemory))) → h ≡ []
     by (inl s) = let a = r.answered s in a.gives.given.history_is ∙ (ap (λ (x : Answer). x.history) a.gives.may ∙ check-nothing a.input)
-    by (inr (inl s)) = (r.unread s).no_history
+    by (inr (inl s)) = (r.not_read s).no_history
     by (inr (inr (inl s))) = let c = r.cut s in c.cut.history_is ∙ (ap (λ (x : Answer). x.history) c.may ∙ check-nothing c.input)
     by (inr (inr (inr s))) = of_memory (r.memory s)
       where
-        of_memory : LeftNothing old new h ⊎ RanOutAfter checked_limit (IsThe check_of) no_run old new h → h ≡ []
-        of_memory (inl nothing) = nothing.no_history
+        of_memory : RanOutReading old new h ⊎ RanOutAfter checked_limit (IsThe check_of) no_run old new h → h ≡ []
+        of_memory (inl early) = early.nothing.no_history
         of_memory (inr after) =
             ⊎_elim
             (λ (early : RanOutEarly no_run after.input h old.written new.written). early.left)
             (λ (late : OneRanOut (IsThe check_of after.input) h old.written new.written). late.ran_out.history_is ∙ (ap (λ (x : Answer). x.history) late.may ∙ check-nothing after.input))
             after.ran_out
 
--- Memory ran out before the text was begun.
-pub lost-check : (input : Option (List ℕ)) (h : List Entry) (old new : Option (List ℕ)) → h ≡ [] → new ≡ old → RanOutEarly no_run input h old new
-lost-check input h old new none same = record { unwritten = same; left = none }
-
--- whichever the input is
+-- Memory ran out before the text was begun, whichever the input is.
 pub lost-any : (a b : Option (List ℕ)) (h : List Entry) (old new : Option (List ℕ)) → RanOutEarly no_run a h old new → RanOutEarly no_run b h old new
 lost-any a b h old new early = record { unwritten = early.unwritten; left = early.left }
 
@@ -85,16 +80,12 @@ module _ (old new : Ends) (status : Status) (h : List Entry) where
     given = given whole;
   }
 
-  of_taken : (input : Option (List ℕ)) → (IsWhole status → IsGiven (check_of input) status h old.written new.written) → IfSome input (λ text. IfOk (checked_of text) (λ read. IsWhole status → IsJudged read.0 read.1 old new status h))
-  unfolding check_of
-  of_taken None given = tt
-  of_taken (Some text) given = of_read (checked_of text) given
-
   of_left : (left : Option (List ℕ)) → (IsWhole status → IfSome left (λ input. GivesOne (IsThe check_of (taken_of checked_limit input)) status h old.written new.written))
-      → IfSome left (λ input. IfSome (taken_of checked_limit input) (λ text. IfOk (checked_of text) (λ read. IsWhole status → IsJudged read.0 read.1 old new status h)))
+      → IfSome left (λ input. IfOk (checked_of_input (taken_of checked_limit input)) (λ read. IsWhole status → IsJudged read.0 read.1 old new status h))
+  unfolding check_of
   of_left None given = tt
-  of_left (Some input) given = of_taken (taken_of checked_limit input) (λ whole. let one = given whole in subst (λ (a : Answer). IsGiven a status h old.written new.written) one.may one.given)
+  of_left (Some input) given = of_read (checked_of_input (taken_of checked_limit input)) (λ whole. let one = given whole in subst (λ (a : Answer). IsGiven a status h old.written new.written) one.may one.given)
 
   pub judges-history : Reads checked_limit (IsThe check_of) no_run old new status h
-      → IfSome old.left (λ input. IfSome (taken_of checked_limit input) (λ text. IfOk (checked_of text) (λ read. IsWhole status → IsJudged read.0 read.1 old new status h)))
+      → IfSome old.left (λ input. IfOk (checked_of_input (taken_of checked_limit input)) (λ read. IsWhole status → IsJudged read.0 read.1 old new status h))
   judges-history r = of_left old.left r.answers

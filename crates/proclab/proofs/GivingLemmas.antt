@@ -1,9 +1,5 @@
 -- How an answer is given, from what came of writing its text.
-use Rattle.std.proofs.Common.{◌≡◌, inl, inr, ⊎_elim, ℕ, List, Option, Result, Ok, Err, OnOk, OnErr, refl, sym, ◌∙◌, subst}
-use Rattle.pr_io.specs.Faults.{Rose}
-use Rattle.pr_io.specs.Known.{with_end}
-use Rattle.pr_io.specs.Writing.{AppendsFront}
-use Rattle.pr_io.specs.declared.failures.Failed.{Failed}
+use Rattle.std.proofs.Common.{◌≡◌, inl, inr, ⊎_elim, ℕ, List, Option, Result, Ok, Err, refl, sym, ◌∙◌, subst}
 use Rattle.pr_model.specs.declared.events.Entry.{Entry}
 use Rattle.pr_output.specs.Puts.{Puts}
 use Rattle.pr_output.specs.declared.cuts.Cut.{Cut}
@@ -14,7 +10,7 @@ use Rattle.proclab.specs.Answers.{Answer, end_status}
 use Rattle.proclab.specs.Giving.{Responds, StopsEarly, status_after}
 use Rattle.proclab.specs.Statuses.{IsWhole}
 use Rattle.proclab.specs.declared.outcomes.Status.{Status}
-use Rattle.proclab.specs.declared.outcomes.Status.TheVariants.{Done, Usage, Refused, WriteFailed, OutOfMemory, NotLegal}
+use Rattle.proclab.specs.declared.outcomes.Status.TheVariants.{Done, Usage, Refused, WriteFailed, OutOfMemory}
 
 -- the statuses of runs, and of inputs that are refused, tell of no failure
 pub whole-end : (e : End) → IsWhole (end_status e)
@@ -90,29 +86,6 @@ whole-usage = record { read = λ is. cc; wrote = λ is. cc; had_memory = λ is. 
 
 pub whole-done : IsWhole Done
 whole-done = record { read = λ is. cc; wrote = λ is. cc; had_memory = λ is. cc }
-
-pub whole-not-legal : IsWhole NotLegal
-whole-not-legal = record { read = λ is. cc; wrote = λ is. cc; had_memory = λ is. cc }
-
--- A text that takes no memory was written, or not.
-pub gives-said : (w : Result Unit Failed) (answer : Answer) (status : Status) (h : List Entry) (old new : Option (List ℕ)) (before after : ℕ) → IsWhole answer.status → OnOk w (status ≡ answer.status) → OnErr w (status ≡ WriteFailed) → h ≡ answer.history
-    → OnOk w (new ≡ with_end old answer.text) → OnErr w (AppendsFront old new answer.text) → OnErr w (Rose before after) → OnOk w (after ≡ before) → Responds answer ⊥ status h old new before after
-gives-said (Ok done) answer status h old new before after end ok err none all front rose same = record {
-  whole = λ a b. record { status_is = ok; history_is = none; written = all };
-  cut = λ s. absurd (end.wrote (sym ok ∙ s));
-  rose = λ s. absurd (end.wrote (sym ok ∙ s));
-  memory = λ s. absurd (end.had_memory (sym ok ∙ s));
-  no_fault = λ s. same;
-  read = λ s. end.read (sym ok ∙ s);
-}
-gives-said (Err failed) answer status h old new before after end ok err none all front rose same = record {
-  whole = λ a b. absurd (a err);
-  cut = λ s. record { history_is = none; written = front };
-  rose = λ s. rose;
-  memory = λ s. other-cut status err s;
-  no_fault = λ s. absurd (s err);
-  read = λ s. cc;
-}
 
 -- what was put, said of an equal text
 pub puts-same : (w : Result Unit Cut) (old new : Option (List ℕ)) (before after : ℕ) (a b : List ℕ) → a ≡ b → Puts w old new before after a → Puts w old new before after b

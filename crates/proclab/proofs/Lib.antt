@@ -2,6 +2,7 @@ pub mod CheckLemmas
 pub mod CommandLemmas
 pub mod EarlyLemmas
 pub mod GivingLemmas
+pub mod InputLemmas
 pub mod MadeLemmas
 pub mod MarkLemmas
 pub mod PieceLemmas

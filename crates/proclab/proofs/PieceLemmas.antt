@@ -1,14 +1,18 @@
 -- A text that is written piece by piece.
-use Rattle.std.proofs.Common.{◌≡◌, ℕ, ◌+◌, ◌<◌, arith, decimal, get_or, length, refl, Option, Some, List, [], ◌∷◌, ◌++◌, take, drop, suc, sym, ap, subst, ◌∙◌, take-append-drop, zero}
+use Rattle.std.proofs.Common.{◌≡◌, ℕ, ◌+◌, ◌<◌, ◌≤◌, arith, decimal, get_or, length, refl, Option, Some, Result, Err, List, [], ◌∷◌, ◌++◌, take, drop, suc, sym, ap, subst, ◌∙◌, take-append-drop, zero}
 use Rattle.std.proofs.lemmas.List.{append-nil}
 use Rattle.std.proofs.lemmas.List.Concat.{flat_map-append}
 use Rattle.std.specs.Borrow.{Bor}
 use Rattle.std.specs.List.{slice_get}
 use Rattle.pr_num.proofs.ListLemmas.{take-next}
+use Rattle.pr_io.specs.Faults.{Rose}
 use Rattle.pr_io.specs.Known.{with_end}
 use Rattle.pr_io.specs.Writing.{AppendsFront}
 use Rattle.pr_io.proofs.Fronts.{AppendsFront-first, AppendsFront-second}
 use Rattle.pr_io.proofs.Known.{with_end-nil, with_end-with_end}
+use Rattle.pr_output.specs.Puts.{Puts}
+use Rattle.pr_output.specs.declared.cuts.Cut.{Cut}
+use Rattle.pr_output.specs.declared.cuts.Cut.TheVariants.{WriteFailed}
 use Rattle.proclab.specs.Giving.{text_of}
 
 module _ (old mid new : Option (List ℕ)) (pieces : List (Bor (List ℕ))) (i : ℕ) (p : Bor (List ℕ)) (at : slice_get pieces i ≡ Some p) (so_far : mid ≡ with_end old (text_of (take i pieces))) where
@@ -23,11 +27,22 @@ module _ (old mid new : Option (List ℕ)) (pieces : List (Bor (List ℕ))) (i :
   text-whole : text_of (take (i + 1) pieces) ++ text_of (drop (i + 1) pieces) ≡ text_of pieces
   text-whole = sym (flat_map-append (λ (q : Bor (List ℕ)). q.now) (take (i + 1) pieces) (drop (i + 1) pieces)) ∙ ap text_of (take-append-drop (i + 1) pieces)
 
-  pub piece-cut : AppendsFront mid new p.now → AppendsFront old new (text_of pieces)
+  piece-cut : AppendsFront mid new p.now → AppendsFront old new (text_of pieces)
   piece-cut front =
       let here : AppendsFront old new (text_of (take i pieces) ++ p.now) = AppendsFront-second old mid new (text_of (take i pieces)) p.now so_far front in
       let there : AppendsFront old new (text_of (take (i + 1) pieces)) = subst (λ t. AppendsFront old new t) (sym text-next) here in
       subst (λ t. AppendsFront old new t) text-whole (AppendsFront-first old new (text_of (take (i + 1) pieces)) (text_of (drop (i + 1) pieces)) there)
+
+  -- A write failed in this piece.
+  pub piece-failed : (r : Result Unit Cut) (before between after : ℕ) → r ≡ Err WriteFailed → between ≡ before → AppendsFront mid new p.now → Rose between after → between ≤ after → Puts r old new before after (text_of pieces)
+  piece-failed r before between after is same front rose grows = subst (λ (x : Result Unit Cut). Puts x old new before after (text_of pieces)) (sym is) (record {
+    all = tt;
+    failed = λ e. piece-cut front;
+    rose = λ e. subst (λ (n : ℕ). Rose n after) same rose;
+    memory = λ e. cc;
+    no_fault = λ other. absurd (other refl);
+    never_falls = omega (arith, same, grows);
+  })
 
 -- nothing was written yet
 pub piece-none : (old : Option (List ℕ)) → old ≡ with_end old []

@@ -1,8 +1,7 @@
 -- How a command that reads an input ends.
-use Rattle.std.proofs.Common.{◌≡◌, ◌≢◌, ◌≤◌, ◌<◌, inl, inr, ⊎_elim, ℕ, Bool, true, false, List, [], ◌++◌, Option, Some, None, length, nat_le, cond, IfSome, refl, sym, ◌∙◌, ap, subst, arith, length-append}
+use Rattle.std.proofs.Common.{◌≡◌, ◌≤◌, ◌<◌, inl, inr, ⊎_elim, ℕ, Bool, true, false, List, ◌++◌, Option, Some, None, length, nat_le, cond, IfSome, sym, ◌∙◌, ap, subst, arith, length-append}
 use Rattle.std.proofs.lemmas.Bool.Decides.{nat_tests}
 use Rattle.std.proofs.lemmas.Option.{same_Some}
-use Rattle.pr_io.specs.Faults.{Rose}
 use Rattle.pr_io.specs.Known.{with_front}
 use Rattle.pr_model.specs.declared.events.Entry.{Entry}
 use Rattle.proclab.specs.Answers.{Answer}
@@ -10,10 +9,8 @@ use Rattle.proclab.specs.Giving.{Responds, RespondsOne, StopsEarly}
 use Rattle.proclab.specs.Histories.{Making, RanOutEarly}
 use Rattle.proclab.specs.Inputs.{Took, taken_of}
 use Rattle.proclab.specs.Rows.{Ends, GivesOne, Reads}
-use Rattle.proclab.specs.declared.inputs.Unread.{Unread}
-use Rattle.proclab.specs.declared.inputs.Unread.TheVariants as unread
 use Rattle.proclab.specs.declared.outcomes.Status.{Status}
-use Rattle.proclab.specs.declared.outcomes.Status.TheVariants.{ReadFailed, OutOfMemory}
+use Rattle.proclab.specs.declared.outcomes.Status.TheVariants.{OutOfMemory}
 
 -- ---- the answer is one to the input
 
@@ -51,7 +48,8 @@ pub reads-answered : (limit : ℕ) (May : Option (List ℕ) → Answer → Type 
 reads-answered limit May making old new status h input answer took same may r = record {
   answered = λ w. record { input = input; took = took; gives = record { answer = answer; may = may; given = r.whole w.wrote w.had_memory } };
   answers = λ w. answers-input limit May old.left new.left input status h old.written new.written took (record { answer = answer; may = may; given = r.whole w.wrote w.had_memory });
-  unread = λ s. absurd (r.read s);
+  not_read = λ s. absurd (r.read s);
+  read_within = λ s. absurd (r.read s);
   read_failed = λ s. absurd (r.read s);
   cut = λ s. record { input = input; took = took; answer = answer; may = may; cut = r.cut s };
   write_failed = r.rose;
@@ -68,7 +66,8 @@ reads-early limit May making old new status h input took same stops =
     record {
       answered = λ w. absurd (w.had_memory is);
       answers = λ w. absurd (w.had_memory is);
-      unread = λ s. let no : ⊥ = cc in absurd no;
+      not_read = λ s. let no : ⊥ = cc in absurd no;
+      read_within = λ s. let no : ⊥ = cc in absurd no;
       read_failed = λ s. let no : ⊥ = cc in absurd no;
       cut = λ s. let no : ⊥ = cc in absurd no;
       write_failed = λ s. let no : ⊥ = cc in absurd no;
@@ -82,33 +81,3 @@ pub reads-one : (limit : ℕ) (May : Option (List ℕ) → Answer → Type 0) (m
     → RespondsOne (May input) (RanOutEarly making input h old.written new.written) status h old.written new.written old.write_faults new.write_faults → Reads limit May making old new status h
 reads-one limit May making old new status h input took same (inl one) = reads-answered limit May making old new status h input one.answer took same one.may one.responds
 reads-one limit May making old new status h input took same (inr early) = reads-early limit May making old new status h input took same early
-
--- The input was not read.
-pub reads-nothing : (limit : ℕ) (May : Option (List ℕ) → Answer → Type 0) (making : Making) (old new : Ends) (status : Status) (h : List Entry) (why : Unread) → (why ≡ unread.Failed → status ≡ ReadFailed) → (why ≡ unread.NoMemory → status ≡ OutOfMemory)
-    → (why ≡ unread.Failed → Rose old.read_faults new.read_faults) → (why ≢ unread.Failed → new.read_faults ≡ old.read_faults) → h ≡ [] → new.written ≡ old.written → new.write_faults ≡ old.write_faults → Reads limit May making old new status h
-reads-nothing limit May making old new status h unread.Failed failed memory rose same none unwritten calm =
-    let is : status ≡ ReadFailed = failed refl in
-    record {
-      answered = λ w. absurd (w.read is);
-      answers = λ w. absurd (w.read is);
-      unread = λ s. record { no_history = none; unwritten = unwritten };
-      read_failed = λ s. rose refl;
-      cut = λ s. let no : ⊥ = cc in absurd no;
-      write_failed = λ s. let no : ⊥ = cc in absurd no;
-      memory = λ s. let no : ⊥ = cc in absurd no;
-      no_read_fault = λ s. absurd (s is);
-      no_write_fault = λ s. calm;
-    }
-reads-nothing limit May making old new status h unread.NoMemory failed memory rose same none unwritten calm =
-    let is : status ≡ OutOfMemory = memory refl in
-    record {
-      answered = λ w. absurd (w.had_memory is);
-      answers = λ w. absurd (w.had_memory is);
-      unread = λ s. let no : ⊥ = cc in absurd no;
-      read_failed = λ s. let no : ⊥ = cc in absurd no;
-      cut = λ s. let no : ⊥ = cc in absurd no;
-      write_failed = λ s. let no : ⊥ = cc in absurd no;
-      memory = λ s. inl (record { no_history = none; unwritten = unwritten });
-      no_read_fault = λ s. same (λ e. cc);
-      no_write_fault = λ s. calm;
-    }

@@ -7,19 +7,18 @@ use Rattle.pr_num.specs.Limits.{scenario_limit}
 use Rattle.pr_run_laws.specs.Prefixes.{IsPrefix}
 use Rattle.pr_run_laws.specs.ScenarioRuns.{IsKept, first_world, run_of}
 use Rattle.pr_run_laws.proofs.KeptLemmas.{first-fresh, first-told, run-kept}
-use Rattle.pr_run_laws.proofs.ScenarioRangeLemmas.{scenario-range}
-use Rattle.pr_scen.specs.Reading.{scenario_of}
 use Rattle.pr_scen.specs.declared.refusals.ScenFault.{ScenFault}
 use Rattle.pr_scen.specs.Scenarios.{Scenario}
 use Rattle.pr_world.specs.Runs.{IsFresh, IsTold, after_moves}
 use Rattle.pr_world.specs.Worlds.{WorldState, all_finished, end_of, end_with, next_actor, quiet_end}
 use Rattle.pr_world.proofs.RestLemmas.{all-rest, next-acts}
 use Rattle.pr_world.proofs.RunLemmas.{moves-counted, moves-told, told-lawful}
+use Rattle.proclab.proofs.InputLemmas.{input-range}
 use Rattle.proclab.specs.Answers.{Answer, answer_of, answer_to, end_status, ran, ran_so, refused_at}
 use Rattle.proclab.specs.Ends.{EndsAs}
 use Rattle.proclab.specs.Histories.{HistoryIsKept, IsAfterMoves, RanOutEarly, in_rounds}
-use Rattle.proclab.specs.Inputs.{Took, TookAll, taken_of}
-use Rattle.proclab.specs.Rows.{Ends, GivesOne, IsThe, LeftNothing, OneRanOut, RanOutAfter, Reads}
+use Rattle.proclab.specs.Inputs.{Took, scenario_of_input, taken_of}
+use Rattle.proclab.specs.Rows.{Ends, GivesOne, IsThe, OneRanOut, RanOutAfter, RanOutReading, Reads}
 use Rattle.proclab.specs.Statuses.{IsWhole}
 use Rattle.proclab.specs.declared.commands.Showing.{Showing}
 use Rattle.proclab.specs.declared.outcomes.Status.{Status}
@@ -30,33 +29,28 @@ use Rattle.proclab.specs.declared.outcomes.Status.TheVariants.{Done, Usage, Refu
 abbrev history_of : Answer → List Entry
 history_of a = a.history
 
-of_scenario : (showing : Showing) (old new : Option (List ℕ)) (input : List ℕ) (s : Result Scenario ScenFault) → scenario_of input ≡ s → TookAll scenario_limit old new input → (h : List Entry) → h ≡ (answer_of showing s).history → HistoryIsKept in_rounds old new h
+of_scenario : (showing : Showing) (old new input : Option (List ℕ)) (s : Result Scenario ScenFault) → scenario_of_input input ≡ s → Took scenario_limit old new input → (h : List Entry) → h ≡ (answer_of showing s).history → HistoryIsKept in_rounds old new h
 unfolding answer_of refused_at ran ran_so
 of_scenario showing old new input (Err fault) read took h is = inl is
 of_scenario showing old new input (Ok s) read took h is =
     let prefix : IsPrefix h (run_of s).kernel.history = record { more = []; is = sym is ∙ sym (append-nil h) } in
     let run : IsAfterMoves input h = record { scenario = s; read = read; moves = s.turns; within = omega arith; is = is; prefix = prefix } in
-    inr (record { input = input; took = took; run = run; kept = subst (λ (x : List Entry). IsKept s x) (sym is) (run-kept s s.turns (scenario-range input s read)) })
+    inr (record { input = input; took = took; run = run; kept = subst (λ (x : List Entry). IsKept s x) (sym is) (run-kept s s.turns (input-range input s read)) })
 
-of_answer : (showing : Showing) (old new : Option (List ℕ)) (input : Option (List ℕ)) (h : List Entry) → Took scenario_limit old new input → h ≡ (answer_to showing input).history → HistoryIsKept in_rounds old new h
-unfolding answer_to refused_at
-of_answer showing old new None h took is = inl is
-of_answer showing old new (Some input) h took is = of_scenario showing old new input (scenario_of input) refl took h is
+of_answer : (showing : Showing) (old new input : Option (List ℕ)) (h : List Entry) → Took scenario_limit old new input → h ≡ (answer_to showing input).history → HistoryIsKept in_rounds old new h
+unfolding answer_to
+of_answer showing old new input h took is = of_scenario showing old new input (scenario_of_input input) refl took h is
 
-of_way : (old new : Option (List ℕ)) (input : List ℕ) (h : List Entry) → TookAll scenario_limit old new input → (h ≡ []) ⊎ IsAfterMoves input h → HistoryIsKept in_rounds old new h
+of_way : (old new input : Option (List ℕ)) (h : List Entry) → Took scenario_limit old new input → (h ≡ []) ⊎ IsAfterMoves input h → HistoryIsKept in_rounds old new h
 of_way old new input h took (inl none) = inl none
 of_way old new input h took (inr run) =
-    inr (record { input = input; took = took; run = run; kept = subst (λ (x : List Entry). IsKept run.scenario x) (sym run.is) (run-kept run.scenario run.moves (scenario-range input run.scenario run.read)) })
+    inr (record { input = input; took = took; run = run; kept = subst (λ (x : List Entry). IsKept run.scenario x) (sym run.is) (run-kept run.scenario run.moves (input-range input run.scenario run.read)) })
 
-of_early : (old new : Option (List ℕ)) (input : Option (List ℕ)) (h : List Entry) (w v : Option (List ℕ)) → Took scenario_limit old new input → RanOutEarly in_rounds input h w v → HistoryIsKept in_rounds old new h
-of_early old new None h w v took early = inl early.left
-of_early old new (Some input) h w v took early = of_way old new input h took early.left
-
-of_memory : (showing : Showing) (old new : Ends) (h : List Entry) → LeftNothing old new h ⊎ RanOutAfter scenario_limit (IsThe (answer_to showing)) in_rounds old new h → HistoryIsKept in_rounds old.left new.left h
-of_memory showing old new h (inl nothing) = inl nothing.no_history
+of_memory : (showing : Showing) (old new : Ends) (h : List Entry) → RanOutReading old new h ⊎ RanOutAfter scenario_limit (IsThe (answer_to showing)) in_rounds old new h → HistoryIsKept in_rounds old.left new.left h
+of_memory showing old new h (inl early) = inl early.nothing.no_history
 of_memory showing old new h (inr after) =
     ⊎_elim
-    (λ (early : RanOutEarly in_rounds after.input h old.written new.written). of_early old.left new.left after.input h old.written new.written after.took early)
+    (λ (early : RanOutEarly in_rounds after.input h old.written new.written). of_way old.left new.left after.input h after.took early.left)
     (λ (late : OneRanOut (IsThe (answer_to showing) after.input) h old.written new.written). of_answer showing old.left new.left after.input h after.took (late.ran_out.history_is ∙ ap history_of late.may))
     after.ran_out
 
@@ -78,7 +72,7 @@ history-kept showing old new status h r = by (status_cases status)
   where
     by : IsWhole status ⊎ ((status ≡ ReadFailed) ⊎ ((status ≡ WriteFailed) ⊎ (status ≡ OutOfMemory))) → HistoryIsKept in_rounds old.left new.left h
     by (inl s) = let a = r.answered s in of_answer showing old.left new.left a.input h a.took (a.gives.given.history_is ∙ ap history_of a.gives.may)
-    by (inr (inl s)) = inl (r.unread s).no_history
+    by (inr (inl s)) = inl (r.not_read s).no_history
     by (inr (inr (inl s))) = let c = r.cut s in of_answer showing old.left new.left c.input h c.took (c.cut.history_is ∙ ap history_of c.may)
     by (inr (inr (inr s))) = of_memory showing old new h (r.memory s)
 
@@ -103,16 +97,12 @@ unfolding answer_of ran ran_so
 run_given showing (Err fault) status is = tt
 run_given showing (Ok s) status is = λ whole. subst (EndsAs s.turns (run_of s)) (sym (is whole)) (run_ended s)
 
-run_taken : (showing : Showing) (input : Option (List ℕ)) (status : Status) → (IsWhole status → status ≡ (answer_to showing input).status) → IfSome input (λ text. IfOk (scenario_of text) (λ scenario. IsWhole status → EndsAs scenario.turns (run_of scenario) status))
-unfolding answer_to
-run_taken showing None status is = tt
-run_taken showing (Some text) status is = run_given showing (scenario_of text) status is
-
 runs-told : (showing : Showing) (left : Option (List ℕ)) (status : Status) (h : List Entry) (w v : Option (List ℕ)) → (IsWhole status → IfSome left (λ input. GivesOne (IsThe (answer_to showing) (taken_of scenario_limit input)) status h w v))
-    → IfSome left (λ input. IfSome (taken_of scenario_limit input) (λ text. IfOk (scenario_of text) (λ scenario. IsWhole status → EndsAs scenario.turns (run_of scenario) status)))
+    → IfSome left (λ input. IfOk (scenario_of_input (taken_of scenario_limit input)) (λ scenario. IsWhole status → EndsAs scenario.turns (run_of scenario) status))
+unfolding answer_to
 runs-told showing None status h w v answers = tt
-runs-told showing (Some left) status h w v answers = run_taken showing (taken_of scenario_limit left) status (λ whole. let one = answers whole in one.given.status_is ∙ ap (λ (a : Answer). a.status) one.may)
+runs-told showing (Some left) status h w v answers = run_given showing (scenario_of_input (taken_of scenario_limit left)) status (λ whole. let one = answers whole in one.given.status_is ∙ ap (λ (a : Answer). a.status) one.may)
 
 pub runs-scenario : (showing : Showing) (old new : Ends) (status : Status) (h : List Entry) → Reads scenario_limit (IsThe (answer_to showing)) in_rounds old new status h
-    → IfSome old.left (λ input. IfSome (taken_of scenario_limit input) (λ text. IfOk (scenario_of text) (λ scenario. IsWhole status → EndsAs scenario.turns (run_of scenario) status)))
+    → IfSome old.left (λ input. IfOk (scenario_of_input (taken_of scenario_limit input)) (λ scenario. IsWhole status → EndsAs scenario.turns (run_of scenario) status))
 runs-scenario showing old new status h r = runs-told showing old.left status h old.written new.written r.answers

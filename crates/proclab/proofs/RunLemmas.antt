@@ -109,10 +109,6 @@ run-stopped (Err e) first w told s within =
       is = history ∙ ap (λ (x : WorldState). x.kernel.history) (run-function s.made first s.world told s.runs);
     }
 
-pub on-err : {A E : Type 0} {P : Type 0} (r : Result A E) → P → OnErr r P
-on-err (Ok x) p = tt
-on-err (Err e) p = p
-
 -- The last world of a run is on its way.
 pub last-way : (first w : WorldState) → w ≡ after_moves first.kernel.places first → IsWorldsWay first w.kernel.history
 last-way first w is = record { moves = first.kernel.places; within = omega arith; is = ap (λ (x : WorldState). x.kernel.history) is }

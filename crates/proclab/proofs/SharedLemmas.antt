@@ -8,8 +8,6 @@ use Rattle.pr_num.specs.Limits.{scenario_limit}
 use Rattle.pr_num.specs.declared.memory.NoMemory.{NoMemory}
 use Rattle.pr_run_laws.specs.ScenarioRuns.{IsKept, first_world}
 use Rattle.pr_run_laws.proofs.KeptLemmas.{came-kept}
-use Rattle.pr_run_laws.proofs.ScenarioRangeLemmas.{scenario-range}
-use Rattle.pr_scen.specs.Reading.{scenario_of}
 use Rattle.pr_scen.specs.Scenarios.{Scenario}
 use Rattle.pr_scen.specs.declared.refusals.ScenFault.{ScenFault}
 use Rattle.pr_world.specs.Runs.{CameFrom, IsTold}
@@ -17,15 +15,16 @@ use Rattle.pr_world.specs.Worlds.{WorldState, all_finished, end_of, end_with, en
 use Rattle.pr_world.specs.declared.ends.End.{End}
 use Rattle.pr_world.proofs.RestLemmas.{all-rest, next-acts}
 use Rattle.pr_world.proofs.RunLemmas.{told-lawful}
+use Rattle.proclab.proofs.InputLemmas.{input-range}
 use Rattle.proclab.proofs.RunEndLemmas.{status_cases}
 use Rattle.proclab.proofs.RunLemmas.{first_world-places}
 use Rattle.proclab.specs.Answers.{Answer, IsEndOf, MayAnswer, MayAnswerRead, ShowsEnd, end_status, ran, ran_so, refused_at}
 use Rattle.proclab.specs.Ends.{EndsAs}
 use Rattle.proclab.specs.Giving.{Responds, RespondsOne, StopsEarly}
-use Rattle.proclab.specs.Histories.{HistoryIsKept, IsLedTo, IsMadeByThreads, IsMadeSoFar, RanOutEarly, by_threads}
-use Rattle.proclab.specs.Inputs.{Took, TookAll, taken_of}
+use Rattle.proclab.specs.Histories.{HistoryIsKept, IsLedTo, IsMadeByThreads, RanOutEarly, by_threads}
+use Rattle.proclab.specs.Inputs.{Took, scenario_of_input, taken_of}
 use Rattle.proclab.specs.Made.{LeftWith, StoppedThreads}
-use Rattle.proclab.specs.Rows.{Ends, EndsRun, GivesOne, LeftNothing, OneRanOut, RanOutAfter, Reads}
+use Rattle.proclab.specs.Rows.{Ends, EndsRun, GivesOne, OneRanOut, RanOutAfter, RanOutReading, Reads}
 use Rattle.proclab.specs.Statuses.{IsWhole}
 use Rattle.proclab.specs.declared.commands.Showing.{Showing}
 use Rattle.proclab.specs.declared.outcomes.Status.{Status}
@@ -105,11 +104,11 @@ shown-one showing s w (Err e) status h old new before after came told within end
 -- ---- the history is kept
 
 module _ (showing : Showing) where
-  of_led : (old new : Option (List ℕ)) (input : List ℕ) (h : List Entry) → TookAll scenario_limit old new input → IsMadeByThreads input h → HistoryIsKept by_threads old new h
+  of_led : (old new input : Option (List ℕ)) (h : List Entry) → Took scenario_limit old new input → IsMadeByThreads input h → HistoryIsKept by_threads old new h
   of_led old new input h took made =
-      inr (record { input = input; took = took; made = made; kept = subst (λ (x : List Entry). IsKept made.scenario x) (sym made.led.is) (came-kept made.scenario made.led.world (scenario-range input made.scenario made.read) made.led.came) })
+      inr (record { input = input; took = took; made = made; kept = subst (λ (x : List Entry). IsKept made.scenario x) (sym made.led.is) (came-kept made.scenario made.led.world (input-range input made.scenario made.read) made.led.came) })
 
-  of_read : (old new : Option (List ℕ)) (input : List ℕ) (s : Result Scenario ScenFault) (answer : Answer) (h : List Entry) → scenario_of input ≡ s → TookAll scenario_limit old new input → MayAnswerRead showing s answer → h ≡ answer.history → HistoryIsKept by_threads old new h
+  of_read : (old new input : Option (List ℕ)) (s : Result Scenario ScenFault) (answer : Answer) (h : List Entry) → scenario_of_input input ≡ s → Took scenario_limit old new input → MayAnswerRead showing s answer → h ≡ answer.history → HistoryIsKept by_threads old new h
   unfolding refused_at
   of_read old new input (Err fault) answer h read took may is = inl (is ∙ ap (λ (a : Answer). a.history) may)
   of_read old new input (Ok s) answer h read took may is =
@@ -117,17 +116,14 @@ module _ (showing : Showing) where
       (record { scenario = s; read = read; led = record { world = may.world; came = may.ends.came; is = is ∙ (ap (λ (a : Answer). a.history) may.is ∙ shown-history showing may.world) } })
 
   of_answer : (old new input : Option (List ℕ)) (answer : Answer) (h : List Entry) → Took scenario_limit old new input → MayAnswer showing input answer → h ≡ answer.history → HistoryIsKept by_threads old new h
-  unfolding refused_at
-  of_answer old new None answer h took may is = inl (is ∙ ap (λ (a : Answer). a.history) may)
-  of_answer old new (Some input) answer h took may is = of_read old new input (scenario_of input) answer h refl took may is
+  of_answer old new input answer h took may is = of_read old new input (scenario_of_input input) answer h refl took may is
 
-  of_so_far : (old new input : Option (List ℕ)) (h : List Entry) → Took scenario_limit old new input → IsMadeSoFar input h → HistoryIsKept by_threads old new h
-  of_so_far old new None h took none = inl none
-  of_so_far old new (Some input) h took (inl none) = inl none
-  of_so_far old new (Some input) h took (inr made) = of_led old new input h took made
+  of_so_far : (old new input : Option (List ℕ)) (h : List Entry) → Took scenario_limit old new input → (h ≡ []) ⊎ IsMadeByThreads input h → HistoryIsKept by_threads old new h
+  of_so_far old new input h took (inl none) = inl none
+  of_so_far old new input h took (inr made) = of_led old new input h took made
 
-  of_memory : (old new : Ends) (h : List Entry) → LeftNothing old new h ⊎ RanOutAfter scenario_limit (MayAnswer showing) by_threads old new h → HistoryIsKept by_threads old.left new.left h
-  of_memory old new h (inl nothing) = inl nothing.no_history
+  of_memory : (old new : Ends) (h : List Entry) → RanOutReading old new h ⊎ RanOutAfter scenario_limit (MayAnswer showing) by_threads old new h → HistoryIsKept by_threads old.left new.left h
+  of_memory old new h (inl early) = inl early.nothing.no_history
   of_memory old new h (inr after) =
       ⊎_elim
       (λ (early : RanOutEarly by_threads after.input h old.written new.written). of_so_far old.left new.left after.input h after.took early.left)
@@ -140,7 +136,7 @@ shared-kept showing old new status h r = by (status_cases status)
   where
     by : IsWhole status ⊎ ((status ≡ ReadFailed) ⊎ ((status ≡ WriteFailed) ⊎ (status ≡ OutOfMemory))) → HistoryIsKept by_threads old.left new.left h
     by (inl s) = let a = r.answered s in of_answer showing old.left new.left a.input a.gives.answer h a.took a.gives.may a.gives.given.history_is
-    by (inr (inl s)) = inl (r.unread s).no_history
+    by (inr (inl s)) = inl (r.not_read s).no_history
     by (inr (inr (inl s))) = let c = r.cut s in of_answer showing old.left new.left c.input c.answer h c.took c.may c.cut.history_is
     by (inr (inr (inr s))) = of_memory showing old new h (r.memory s)
 
@@ -157,17 +153,13 @@ module _ (showing : Showing) (status : Status) (h : List Entry) (w v : Option (L
         ends = subst (EndsAs s.turns shown.world) (sym (one.given.status_is ∙ (ap (λ (a : Answer). a.status) shown.is ∙ shown-status showing shown.world))) (end-ends s shown.world shown.ends);
       }
 
-  run_taken : (input : Option (List ℕ)) → (IsWhole status → GivesOne (MayAnswer showing input) status h w v) → IfSome input (λ text. IfOk (scenario_of text) (λ scenario. IsWhole status → EndsRun scenario status h))
-  run_taken None gives = tt
-  run_taken (Some text) gives = run_given (scenario_of text) gives
-
   run_left : (left : Option (List ℕ)) → (IsWhole status → IfSome left (λ input. GivesOne (MayAnswer showing (taken_of scenario_limit input)) status h w v))
-      → IfSome left (λ input. IfSome (taken_of scenario_limit input) (λ text. IfOk (scenario_of text) (λ scenario. IsWhole status → EndsRun scenario status h)))
+      → IfSome left (λ input. IfOk (scenario_of_input (taken_of scenario_limit input)) (λ scenario. IsWhole status → EndsRun scenario status h))
   run_left None gives = tt
-  run_left (Some left) gives = run_taken (taken_of scenario_limit left) gives
+  run_left (Some left) gives = run_given (scenario_of_input (taken_of scenario_limit left)) gives
 
 pub shares-scenario : (showing : Showing) (old new : Ends) (status : Status) (h : List Entry) → Reads scenario_limit (MayAnswer showing) by_threads old new status h
-    → IfSome old.left (λ input. IfSome (taken_of scenario_limit input) (λ text. IfOk (scenario_of text) (λ scenario. IsWhole status → EndsRun scenario status h)))
+    → IfSome old.left (λ input. IfOk (scenario_of_input (taken_of scenario_limit input)) (λ scenario. IsWhole status → EndsRun scenario status h))
 shares-scenario showing old new status h r = run_left showing status h old.written new.written old.left r.answers
 
 -- ---- the parts of an answer to an input
@@ -204,9 +196,9 @@ one-else May Other early other status h old new before after so left (inl one) =
 one-else May Other early other status h old new before after so left (inr stops) = inr (record { status_is = stops.status_is; left = left stops.left; no_fault = stops.no_fault })
 
 -- What threads made of a scenario is made of the input that it was read of.
-pub threads-left : (input : List ℕ) (s : Scenario) (h : List Entry) (old new : Option (List ℕ)) → scenario_of input ≡ Ok s → StoppedThreads s h old new → RanOutEarly by_threads (Some input) h old new
+pub threads-left : (input : Option (List ℕ)) (s : Scenario) (h : List Entry) (old new : Option (List ℕ)) → scenario_of_input input ≡ Ok s → StoppedThreads s h old new → RanOutEarly by_threads input h old new
 threads-left input s h old new read stopped = record { unwritten = stopped.unwritten; left = of stopped.so_far }
   where
-    of : (h ≡ []) ⊎ IsLedTo s h → IsMadeSoFar (Some input) h
+    of : (h ≡ []) ⊎ IsLedTo s h → (h ≡ []) ⊎ IsMadeByThreads input h
     of (inl none) = inl none
     of (inr led) = inr (record { scenario = s; read = read; led = led })

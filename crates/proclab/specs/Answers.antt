@@ -5,7 +5,6 @@ use Rattle.pr_model.specs.declared.events.Entry.{Entry}
 use Rattle.pr_output.specs.Output.{plain_run_text, refusal_text, run_text}
 use Rattle.pr_plain.specs.Generated.{generated_text}
 use Rattle.pr_run_laws.specs.ScenarioRuns.{first_state_of, first_world, run_of}
-use Rattle.pr_scen.specs.Reading.{scenario_of}
 use Rattle.pr_scen.specs.declared.refusals.ScenFault.{ScenFault}
 use Rattle.pr_scen.specs.declared.refusals.ScenKind.{ScenKind}
 use Rattle.pr_scen.specs.declared.refusals.ScenKind.TheVariants as kind
@@ -15,7 +14,8 @@ use Rattle.pr_world.specs.Worlds.{WorldState, end_of, goes_on}
 use Rattle.pr_world.specs.declared.ends.End.{End}
 use Rattle.pr_world.specs.declared.ends.End.TheVariants as end
 use Rattle.pr_output.specs.declared.reports.Report.{Report}
-use Rattle.proclab.specs.Checks.{checked_of}
+use Rattle.proclab.specs.Checks.{checked_of_input}
+use Rattle.proclab.specs.Inputs.{scenario_of_input}
 use Rattle.proclab.specs.Reports.{reports_of}
 use Rattle.proclab.specs.Statuses.{number}
 use Rattle.proclab.specs.Usage.{usage_line}
@@ -46,9 +46,6 @@ kind_name kind.Double = codes "Double"
 kind_name kind.TooMany = codes "TooMany"
 kind_name kind.TooBig = codes "TooBig"
 kind_name kind.NoEnd = codes "NoEnd"
-
-abbrev pub too_long : List ℕ
-too_long = codes "TooLong"
 
 abbrev pub bad_history : List ℕ
 bad_history = codes "BadHistory"
@@ -90,8 +87,7 @@ answer_of showing (Ok s) = ran showing (run_of s)
 
 -- the answer to an input; none: it had more bytes than it may have
 unfoldable pub answer_to : Showing → Option (List ℕ) → Answer
-answer_to showing None = refused_at 0 too_long
-answer_to showing (Some input) = answer_of showing (scenario_of input)
+answer_to showing input = answer_of showing (scenario_of_input input)
 
 -- ---- the command `run` on several threads
 
@@ -115,8 +111,7 @@ MayAnswerRead showing (Ok s) answer = ShowsEnd showing s answer
 
 -- whether this may be answered to an input; none: it had more bytes than it may have
 abbrev pub MayAnswer : Showing → Option (List ℕ) → Answer → Type 0
-MayAnswer showing None answer = answer ≡ refused_at 0 too_long
-MayAnswer showing (Some input) answer = MayAnswerRead showing (scenario_of input) answer
+MayAnswer showing input answer = MayAnswerRead showing (scenario_of_input input) answer
 
 -- ---- the command `check`
 
@@ -144,8 +139,7 @@ judgement_of (Ok read) = judged (length read.1) (first_illegal_of read.0 read.1)
 
 -- the answer to an input; none: it had more bytes than it may have
 unfoldable pub check_of : Option (List ℕ) → Answer
-check_of None = refused_at 0 too_long
-check_of (Some input) = judgement_of (checked_of input)
+check_of input = judgement_of (checked_of_input input)
 
 -- ---- the command `gen`
 

@@ -11,6 +11,7 @@ use Rattle.pr_scen.specs.Scenarios.{Scenario}
 use Rattle.pr_scen.specs.declared.refusals.ScenFault.{ScenFault}
 use Rattle.pr_scen.specs.declared.refusals.ScenKind.{ScenKind}
 use Rattle.pr_scen.specs.declared.refusals.ScenKind.TheVariants.{NoEnd, TooLong}
+use Rattle.proclab.specs.Inputs.{too_long}
 use Rattle.proclab.specs.declared.checks.Unchecked.{Unchecked}
 use Rattle.proclab.specs.declared.checks.Unchecked.TheVariants as unchecked
 use Rattle.proclab.specs.declared.checks.Wrong.{Wrong}
@@ -74,6 +75,11 @@ checked_of text = by (mark_place text)
     by : Option ℕ → Result (Scenario × List Entry) Wrong
     by (Some place) = parts_at text place
     by None = Err (wrong.Scenario (record { line = 0; kind = unmarked text }))
+
+-- the same of an input; none: it had more bytes than it may have
+unfoldable pub checked_of_input : Option (List ℕ) → Result (Scenario × List Entry) Wrong
+checked_of_input None = Err (wrong.Scenario too_long)
+checked_of_input (Some input) = checked_of input
 
 -- ---- what a function that reads answers
 

@@ -1,17 +1,17 @@
 use Rattle.std.specs.Prelude.{◌≡◌, ◌≢◌, ◌⊎◌, ℕ, Bool, true, false, List, [], Option, IfSome, IfOk, length}
 use Rattle.pr_io.specs.Faults.{Rose}
+use Rattle.pr_io.specs.Reading.{Came, CameWithin}
 use Rattle.pr_judge.specs.Judgements.{Judges}
 use Rattle.pr_model.specs.declared.events.Entry.{Entry}
 use Rattle.pr_num.specs.Limits.{checked_limit, scenario_limit}
 use Rattle.pr_run_laws.specs.ScenarioRuns.{first_state_of, run_of}
-use Rattle.pr_scen.specs.Reading.{scenario_of}
 use Rattle.pr_scen.specs.Scenarios.{Scenario}
 use Rattle.proclab.specs.Answers.{Answer, MayAnswer, answer_to, check_of, explained, generated, judged}
-use Rattle.proclab.specs.Checks.{checked_of}
+use Rattle.proclab.specs.Checks.{checked_of_input}
 use Rattle.proclab.specs.Ends.{EndsAs}
 use Rattle.proclab.specs.Giving.{IsGiven, IsCutShort, RanOutLate, Responds}
 use Rattle.proclab.specs.Histories.{IsLedTo, Making, RanOutEarly, by_threads, in_rounds, no_run}
-use Rattle.proclab.specs.Inputs.{Took, taken_of}
+use Rattle.proclab.specs.Inputs.{Took, scenario_of_input, taken_of}
 use Rattle.proclab.specs.Statuses.{IsWhole, number}
 use Rattle.proclab.specs.declared.commands.Showing.{Showing}
 use Rattle.proclab.specs.declared.commands.Work.{Work}
@@ -62,6 +62,10 @@ pub record Ends : Type 0 where
   pub written : Option (List ℕ)
   pub write_faults : ℕ
 
+-- what a source and a sink tell, by what each of them tells
+abbrev pub ends_of : {S K : Type 0} → (S → Option (List ℕ)) → (S → ℕ) → (K → Option (List ℕ)) → (K → ℕ) → S → K → Ends
+ends_of left read_faults written write_faults source sink = record { left = left source; read_faults = read_faults source; written = written sink; write_faults = write_faults sink }
+
 -- ---- a command that reads nothing
 
 pub record Says (answer : Answer) (old new : Ends) (status : Status) (history : List Entry) : Type 0 where
@@ -102,6 +106,11 @@ pub record LeftNothing (old new : Ends) (history : List Entry) : Type 0 where
   pub no_history : history ≡ []
   pub unwritten : new.written ≡ old.written
 
+-- Where memory ran out in the reading: some bytes came, and the others are left.
+pub record RanOutReading (old new : Ends) (history : List Entry) : Type 0 where
+  pub nothing : LeftNothing old new history
+  pub came : Came old.left new.left
+
 -- Memory ran out while the text of one of the answers that may come was written.
 pub record OneRanOut (May : Answer → Type 0) (history : List Entry) (old new : Option (List ℕ)) : Type 0 where
   pub answer : Answer
@@ -115,18 +124,19 @@ pub record RanOutAfter (limit : ℕ) (May : Option (List ℕ) → Answer → Typ
   pub ran_out : RanOutEarly making input history old.written new.written ⊎ OneRanOut (May input) history old.written new.written
 
 -- How it ends, where these are the answers that may come to an input. Where nothing failed, one to what was read was
--- given; and where the bytes that were left are known, one to them. A read failed: nothing was written, and there is no
--- history. A write failed: the history is that of an answer, and a prefix of its text was written. Memory ran out in
--- the reading, or after it. Only a read that failed raises the count of the source, and only a write that failed that of
--- the sink.
+-- given; and where the bytes that were left are known, one to them. A read failed: no more bytes than the limit came,
+-- and the others are left; nothing was written, and there is no history. A write failed: the history is that of an
+-- answer, and a prefix of its text was written. Memory ran out in the reading, or after it. Only a read that failed
+-- raises the count of the source, and only a write that failed that of the sink.
 pub record Reads (limit : ℕ) (May : Option (List ℕ) → Answer → Type 0) (making : Making) (old new : Ends) (status : Status) (history : List Entry) : Type 0 where
   pub answered : IsWhole status → Answered limit May old new status history
   pub answers : IsWhole status → IfSome old.left (λ left. GivesOne (May (taken_of limit left)) status history old.written new.written)
-  pub unread : status ≡ ReadFailed → LeftNothing old new history
+  pub not_read : status ≡ ReadFailed → LeftNothing old new history
+  pub read_within : status ≡ ReadFailed → CameWithin limit old.left new.left
   pub read_failed : status ≡ ReadFailed → Rose old.read_faults new.read_faults
   pub cut : status ≡ WriteFailed → CutShort limit May old new history
   pub write_failed : status ≡ WriteFailed → Rose old.write_faults new.write_faults
-  pub memory : status ≡ OutOfMemory → LeftNothing old new history ⊎ RanOutAfter limit May making old new history
+  pub memory : status ≡ OutOfMemory → RanOutReading old new history ⊎ RanOutAfter limit May making old new history
   pub no_read_fault : status ≢ ReadFailed → new.read_faults ≡ old.read_faults
   pub no_write_fault : status ≢ WriteFailed → new.write_faults ≡ old.write_faults
 
@@ -145,17 +155,6 @@ pub record EndsRun (s : Scenario) (status : Status) (history : List Entry) : Typ
   pub led : IsLedTo s history
   pub ends : EndsAs s.turns led.world status
 
--- Completeness: an input that is a scenario is run, unless a read or a write failed or memory ran out; and where it was
--- run, the status says how it ended.
-abbrev pub RunsScenario : Work → Option (List ℕ) → Status → List Entry → Type 0
-RunsScenario Explains left status history = Unit {0}
-RunsScenario (Generates children) left status history = Unit {0}
-RunsScenario Checks left status history = Unit {0}
-RunsScenario (Runs showing) left status history =
-    IfSome left (λ input. IfSome (taken_of scenario_limit input) (λ text. IfOk (scenario_of text) (λ scenario. IsWhole status → EndsAs scenario.turns (run_of scenario) status)))
-RunsScenario (Shares showing workers) left status history =
-    IfSome left (λ input. IfSome (taken_of scenario_limit input) (λ text. IfOk (scenario_of text) (λ scenario. IsWhole status → EndsRun scenario status history)))
-
 -- The judgement of a history was given: it is legal from the first state of the scenario, with its controllers, or this
 -- entry is the first that is not.
 pub record IsJudged (s : Scenario) (entries : List Entry) (old new : Ends) (status : Status) (history : List Entry) : Type 0 where
@@ -163,19 +162,20 @@ pub record IsJudged (s : Scenario) (entries : List Entry) (old new : Ends) (stat
   pub judges : Judges (length s.controllers) (first_state_of s) entries first
   pub given : IsGiven (judged (length entries) first) status history old.written new.written
 
--- Exactness: an input that is a scenario and a history is judged, unless a read or a write failed or memory ran out.
-abbrev pub JudgesHistory : Work → Ends → Ends → Status → List Entry → Type 0
-JudgesHistory Explains old new status history = Unit {0}
-JudgesHistory (Generates children) old new status history = Unit {0}
-JudgesHistory (Runs showing) old new status history = Unit {0}
-JudgesHistory (Shares showing workers) old new status history = Unit {0}
-JudgesHistory Checks old new status history =
-    IfSome old.left (λ input. IfSome (taken_of checked_limit input) (λ text. IfOk (checked_of text) (λ read. IsWhole status → IsJudged read.0 read.1 old new status history)))
+-- What is done of an input, unless a read or a write failed or memory ran out: one that is a scenario is run, and the
+-- status says how that ended; one that is a scenario and a history is judged.
+abbrev pub DoesWork : Work → Ends → Ends → Status → List Entry → Type 0
+DoesWork (Runs showing) old new status history =
+    IfSome old.left (λ left. IfOk (scenario_of_input (taken_of scenario_limit left)) (λ scenario. IsWhole status → EndsAs scenario.turns (run_of scenario) status))
+DoesWork (Shares showing workers) old new status history =
+    IfSome old.left (λ left. IfOk (scenario_of_input (taken_of scenario_limit left)) (λ scenario. IsWhole status → EndsRun scenario status history))
+DoesWork Checks old new status history =
+    IfSome old.left (λ left. IfOk (checked_of_input (taken_of checked_limit left)) (λ read. IsWhole status → IsJudged read.0 read.1 old new status history))
+DoesWork _ old new status history = Unit {0}
 
 -- How a call ends that does this work, by the number with which the process ends.
 pub record EndsWith (work : Work) (old new : Ends) (code : ℕ) (history : List Entry) : Type 0 where
   pub status : Status
   pub code_is : code ≡ number status
   pub ends : EndsBy (row_of work) old new status history
-  pub runs_scenario : RunsScenario work old.left status history
-  pub judges_history : JudgesHistory work old new status history
+  pub does_work : DoesWork work old new status history

@@ -1,12 +1,14 @@
 //! What the command `check` is given: a scenario, the line `%history`, and a history.
-ghost use Rattle.std.specs.Prelude.{◌≡◌, ◌≤◌, ◌<◌, ◌+◌, ◌^◌, length, IfOk};
+ghost use Rattle.std.specs.Prelude.{◌≡◌, ◌≤◌, ◌<◌, ◌+◌, ◌^◌, length, IfOk, IfSome};
 ghost use Rattle.pr_num.specs.Limits.{checked_limit};
 ghost use Rattle.pr_plain.specs.EntryReading.{history_of};
 ghost use Rattle.pr_scen.specs.Reading.{scenario_of};
 ghost use Rattle.pr_scen.specs.Scenarios.{IsWithinLimits};
-ghost use Rattle.proclab.specs.Checks.{Gives, ReadsHistory, ReadsScenario, begins_line, checked_of, is_mark, is_mark_at, lines_above, mark_place, parts_at, unmarked};
+ghost use Rattle.proclab.specs.Checks.{Gives, ReadsHistory, ReadsScenario, begins_line, checked_of, checked_of_input, is_mark, is_mark_at, lines_above, mark_place, parts_at, unmarked};
 
+use crate::inputs::TOO_LONG;
 use pr_model::History;
+use pr_num::Bytes;
 use pr_num::limits::SCENARIO_LIMIT;
 use pr_plain::{HistRefusal, read_history};
 use pr_scen::{ScenFault, ScenKind, ScenRefusal, Scenario, read_scenario};
@@ -145,7 +147,7 @@ fn read_parts(alloc: Global, text: &[u8], place: usize) -> Result<Checked, Unche
 /// Reads an input: a scenario, the line `%history`, and a history, of which what stands below its last entry is not
 /// looked at.
 #[tactic(auto, unfolding(crate::specs::Checks::checked_of))]
-pub fn read_checked(alloc: Global, text: &[u8]) -> Result<Checked, Unchecked>
+fn read_checked(alloc: Global, text: &[u8]) -> Result<Checked, Unchecked>
     requires { length text.now ≤ checked_limit }
     ensures read { Gives (λ c. (c.scenario, c.history.entries)) result (checked_of text.now) }
     ensures limits { IfOk result (λ c. IsWithinLimits c.scenario) }
@@ -157,5 +159,19 @@ pub fn read_checked(alloc: Global, text: &[u8]) -> Result<Checked, Unchecked>
             line: 0,
             kind: unmarked(text),
         }))),
+    }
+}
+
+/// The scenario and the history of an input, which is let go; none: it had more bytes than it may have.
+#[tactic(auto, unfolding(crate::specs::Checks::checked_of_input))]
+pub fn checked_of_input(alloc: Global, input: Option<Bytes>) -> Result<Checked, Unchecked>
+    requires { IfSome input (λ bytes. length bytes ≤ checked_limit) }
+    ensures read { Gives (λ c. (c.scenario, c.history.entries)) result (checked_of_input input) }
+    ensures limits { IfOk result (λ c. IsWithinLimits c.scenario) }
+    ensures few { IfOk result (λ c. length c.history.entries ≤ checked_limit) }
+{
+    match input {
+        Some(bytes) => read_checked(alloc, bytes.as_slice()),
+        None => Err(Unchecked::Wrong(Wrong::Scenario(TOO_LONG))),
     }
 }

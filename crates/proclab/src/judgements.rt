@@ -4,15 +4,14 @@ ghost use Rattle.std.specs.Prelude.{◌≡◌, ◌≤◌, length, None, Ok, IfOk
 ghost use Rattle.pr_num.specs.Limits.{checked_limit};
 ghost use Rattle.pr_scen.specs.Scenarios.{IsWithinLimits};
 ghost use Rattle.proclab.specs.Answers.{check_of, first_illegal_of, judged, judgement_of, refused_for, said};
-ghost use Rattle.proclab.specs.Checks.{checked_of};
 ghost use Rattle.proclab.specs.Giving.{Responds};
 ghost use Rattle.proclab.specs.Histories.{RanOutEarly, no_run};
 ghost use Rattle.proclab.specs.Statuses.{IsWhole};
 
-use crate::answers::{status_said, write_pieces};
-use crate::checks::{Checked, Unchecked, Wrong, read_checked};
+use crate::answers::{status_after, write_pieces};
+use crate::checks::{Checked, Unchecked, Wrong, checked_of_input};
 use crate::outcomes::{Ending, Status, out_of_memory, without_history};
-use crate::responses::{TOO_LONG, refuse_at, refuse_input};
+use crate::responses::{refuse_at, refuse_input};
 use itoa::Buffer;
 use pr_io::Sink;
 use pr_judge::legal;
@@ -65,12 +64,17 @@ fn say<K: Sink>(
     let mut buffer = Buffer::new();
     let pieces = [before, buffer.format(number).as_bytes(), behind];
     let written = write_pieces(sink, &pieces);
-    without_history(alloc, status_said(written, status))
+    without_history(alloc, status_after(written, status))
 }
 
 /// Says whether a history of so many entries is legal, or which entry is the first that is not.
 #[tactic(auto, unfolding(crate::specs::Answers::judged))]
-fn report<K: Sink>(alloc: Global, entries: usize, first: Option<usize>, sink: &mut K) -> Ending
+fn say_judgement<K: Sink>(
+    alloc: Global,
+    entries: usize,
+    first: Option<usize>,
+    sink: &mut K,
+) -> Ending
     ensures { Responds (judged entries first) ⊥ result.status result.history.entries
         (K.written sink.old) (K.written sink.new) (K.faults sink.old) (K.faults sink.new) }
 {
@@ -98,7 +102,7 @@ fn judge<K: Sink>(alloc: Global, checked: Checked, sink: &mut K) -> Ending
 {
     let Checked { scenario, history } = checked;
     match first_illegal(alloc, scenario, &history) {
-        Ok(first) => report(alloc, history.len(), first, sink),
+        Ok(first) => say_judgement(alloc, history.len(), first, sink),
         Err(error) => out_of_memory(error, History::new(alloc)),
     }
 }
@@ -115,31 +119,17 @@ fn refuse_wrong<K: Sink>(alloc: Global, wrong: Wrong, sink: &mut K) -> Ending
     }
 }
 
-/// Answers a text: it is refused, or its history is judged.
-fn judge_text<K: Sink>(alloc: Global, text: &[u8], sink: &mut K) -> Ending
-    requires { length text.now ≤ checked_limit }
-    ensures { Responds (judgement_of (checked_of text.now))
-        (RanOutEarly no_run None result.history.entries (K.written sink.old) (K.written sink.new))
+/// Answers an input: it is refused, or its history is judged. The input is let go before that.
+pub fn judge_input<K: Sink>(alloc: Global, input: Option<Bytes>, sink: &mut K) -> Ending
+    requires { IfSome input (λ bytes. length bytes ≤ checked_limit) }
+    ensures { Responds (check_of input)
+        (RanOutEarly no_run input result.history.entries (K.written sink.old) (K.written sink.new))
         result.status result.history.entries
         (K.written sink.old) (K.written sink.new) (K.faults sink.old) (K.faults sink.new) }
 {
-    match read_checked(alloc, text) {
+    match checked_of_input(alloc, input) {
         Ok(checked) => judge(alloc, checked, sink),
         Err(Unchecked::Wrong(wrong)) => refuse_wrong(alloc, wrong, sink),
         Err(Unchecked::NoMemory) => without_history(alloc, Status::OutOfMemory),
-    }
-}
-
-/// Answers an input; none: it had more bytes than it may have.
-pub fn judge_input<K: Sink>(alloc: Global, input: &Option<Bytes>, sink: &mut K) -> Ending
-    requires { IfSome input.now (λ bytes. length bytes ≤ checked_limit) }
-    ensures { Responds (check_of input.now)
-        (RanOutEarly no_run input.now result.history.entries (K.written sink.old) (K.written sink.new))
-        result.status result.history.entries
-        (K.written sink.old) (K.written sink.new) (K.faults sink.old) (K.faults sink.new) }
-{
-    match input {
-        None => refuse_input(alloc, 0, TOO_LONG, sink),
-        Some(bytes) => judge_text(alloc, bytes.as_slice(), sink),
     }
 }

@@ -13,7 +13,7 @@ use std::alloc::Global;
 pub enum Status {
     /// The work is done; of a run: no actor can move, and every controller has finished.
     Done = 0,
-    /// The words ask for nothing that is built.
+    /// The words ask for nothing.
     Usage = 1,
     /// The input is refused.
     Refused = 2,
@@ -66,7 +66,8 @@ pub fn without_history(alloc: Global, status: Status) -> Ending
     }
 }
 
-/// An end where memory ran out, with the history as far as it was made.
+/// An end where memory ran out, with the history as far as it was made. Takes the refusal, so that no status 7 is made
+/// without one.
 pub fn out_of_memory(_error: NoMemory, history: History) -> Ending
     ensures status { result.status ≡ OutOfMemory }
     ensures history { result.history.entries ≡ history.entries }

@@ -1,30 +1,28 @@
 //! What the commands `run` and `plain` answer to an input.
-ghost use Rattle.std.specs.Prelude.{◌≡◌, ◌≤◌, length, Some, IfOk, IfSome, OnErr};
+ghost use Rattle.std.specs.Prelude.{◌≡◌, ◌≤◌, length, IfOk, IfSome, OnErr};
 ghost use Rattle.pr_model.specs.UntracedSteps.{untraced_steps, untraced_trace};
 ghost use Rattle.pr_num.specs.Limits.{scenario_limit};
 ghost use Rattle.pr_output.specs.Output.{plain_run_text};
 ghost use Rattle.pr_output.specs.Puts.{Puts};
 ghost use Rattle.pr_run_laws.specs.ScenarioRuns.{run_of};
-ghost use Rattle.pr_scen.specs.Reading.{scenario_of};
 ghost use Rattle.pr_scen.specs.Scenarios.{IsWithinLimits};
-ghost use Rattle.proclab.specs.Answers.{answer_of, answer_to, kind_name, ran, ran_so, refused_at, run_shown};
+ghost use Rattle.proclab.specs.Answers.{answer_to, kind_name, ran, ran_so, refused_at, run_shown};
 ghost use Rattle.proclab.specs.Giving.{Responds, StopsEarly};
 ghost use Rattle.proclab.specs.Histories.{RanOutEarly, in_rounds};
 ghost use Rattle.proclab.specs.Made.{LeftWith, StoppedRun};
 
 use crate::answers::status_after;
 use crate::commands::Showing;
+use crate::inputs::scenario_of_input;
 use crate::outcomes::{Ending, Status, end_status, number, out_of_memory, without_history};
 use crate::runs::{Made, Ran, make_run};
 use pr_io::Sink;
 use pr_model::History;
 use pr_num::Bytes;
 use pr_output::{Cut, Report, write_plain, write_refusal, write_run};
-use pr_scen::{ScenFault, ScenKind, ScenRefusal, Scenario, read_scenario};
+use pr_scen::{ScenFault, ScenKind, ScenRefusal, Scenario};
 use pr_strip::{strip, trace};
 use std::alloc::Global;
-
-pub const TOO_LONG: &[u8] = b"TooLong";
 
 /// The name of a kind of refusal.
 #[tactic(auto, unfolding(crate::specs::Answers::kind_name))]
@@ -89,7 +87,7 @@ fn show_run<K: Sink>(
 }
 
 /// Shows a run that ended so.
-pub fn report<K: Sink>(
+pub fn show_ran<K: Sink>(
     alloc: Global,
     showing: Showing,
     ran: Ran,
@@ -119,7 +117,7 @@ fn show_made<K: Sink>(alloc: Global, showing: Showing, made: Made, sink: &mut K)
 {
     let Made { ran, history } = made;
     match ran {
-        Ok(ran) => report(alloc, showing, ran, history, sink),
+        Ok(ran) => show_ran(alloc, showing, ran, history, sink),
         Err(error) => out_of_memory(error, history),
     }
 }
@@ -141,22 +139,7 @@ fn run_scenario<K: Sink>(
     show_made(alloc, showing, made, sink)
 }
 
-/// Answers a text: it is refused, or the run of its scenario is made, and written.
-fn respond_to_text<K: Sink>(alloc: Global, showing: Showing, text: &[u8], sink: &mut K) -> Ending
-    requires { length text.now ≤ scenario_limit }
-    ensures { Responds (answer_of showing (scenario_of text.now))
-        (RanOutEarly in_rounds (Some text.now) result.history.entries (K.written sink.old) (K.written sink.new))
-        result.status result.history.entries
-        (K.written sink.old) (K.written sink.new) (K.faults sink.old) (K.faults sink.new) }
-{
-    match read_scenario(alloc, text) {
-        Ok(scenario) => run_scenario(alloc, showing, scenario, sink),
-        Err(ScenRefusal::Fault(fault)) => refuse_at(alloc, fault, sink),
-        Err(ScenRefusal::NoMemory) => without_history(alloc, Status::OutOfMemory),
-    }
-}
-
-/// Answers a text of which a line is refused.
+/// Answers an input of which a line is refused, or that is refused as a whole.
 pub fn refuse_at<K: Sink>(alloc: Global, fault: ScenFault, sink: &mut K) -> Ending
     ensures { Responds (refused_at fault.line (kind_name fault.kind)) ⊥ result.status result.history.entries
         (K.written sink.old) (K.written sink.new) (K.faults sink.old) (K.faults sink.new) }
@@ -164,21 +147,22 @@ pub fn refuse_at<K: Sink>(alloc: Global, fault: ScenFault, sink: &mut K) -> Endi
     refuse_input(alloc, fault.line, kind_name(fault.kind), sink)
 }
 
-/// Answers an input; none: it had more bytes than it may have. Its run is shown so.
+/// Answers an input: it is refused, or the run of its scenario is made, and shown so.
 pub fn respond<K: Sink>(
     alloc: Global,
     showing: Showing,
-    input: &Option<Bytes>,
+    input: Option<Bytes>,
     sink: &mut K,
 ) -> Ending
-    requires { IfSome input.now (λ bytes. length bytes ≤ scenario_limit) }
-    ensures { Responds (answer_to showing input.now)
-        (RanOutEarly in_rounds input.now result.history.entries (K.written sink.old) (K.written sink.new))
+    requires { IfSome input (λ bytes. length bytes ≤ scenario_limit) }
+    ensures { Responds (answer_to showing input)
+        (RanOutEarly in_rounds input result.history.entries (K.written sink.old) (K.written sink.new))
         result.status result.history.entries
         (K.written sink.old) (K.written sink.new) (K.faults sink.old) (K.faults sink.new) }
 {
-    match input {
-        None => refuse_input(alloc, 0, TOO_LONG, sink),
-        Some(bytes) => respond_to_text(alloc, showing, bytes.as_slice(), sink),
+    match scenario_of_input(alloc, input) {
+        Ok(scenario) => run_scenario(alloc, showing, scenario, sink),
+        Err(ScenRefusal::Fault(fault)) => refuse_at(alloc, fault, sink),
+        Err(ScenRefusal::NoMemory) => without_history(alloc, Status::OutOfMemory),
     }
 }

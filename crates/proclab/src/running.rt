@@ -1,10 +1,10 @@
 //! Commands from a source to a sink.
-ghost use Rattle.std.specs.Prelude.{◌≡◌, ◌≤◌, true};
+ghost use Rattle.std.specs.Prelude.{◌≡◌, ◌≤◌, [], true};
 ghost use Rattle.pr_num.specs.Limits.{checked_limit, scenario_limit, worker_limit};
 ghost use Rattle.proclab.specs.Answers.{MayAnswer, answer_to, check_of};
 ghost use Rattle.proclab.specs.Commands.{HasWorkers};
 ghost use Rattle.proclab.specs.Histories.{HistoryIsKept, by_threads, in_rounds, no_run};
-ghost use Rattle.proclab.specs.Rows.{Ends, EndsBy, IsThe, JudgesHistory, Reads, RunsScenario, Says, making_of, reads_nothing, row_of};
+ghost use Rattle.proclab.specs.Rows.{DoesWork, EndsBy, IsThe, Reads, ends_of, making_of, reads_nothing, row_of};
 
 use crate::answers::{explain, generate};
 use crate::commands::{Showing, Work};
@@ -19,14 +19,15 @@ use std::alloc::Global;
 use std::sync::Wait;
 use std::thread::Threads;
 
-/// The status of an input that was not read.
-fn status_of(unread: Unread) -> Status
-    ensures failed { unread ≡ Unread.Failed → result ≡ Status.ReadFailed }
-    ensures memory { unread ≡ Unread.NoMemory → result ≡ Status.OutOfMemory }
+/// An end where the input was not read.
+fn without_input(alloc: Global, unread: Unread) -> Ending
+    ensures failed { unread ≡ Unread.Failed → result.status ≡ Status.ReadFailed }
+    ensures memory { unread ≡ Unread.NoMemory → result.status ≡ Status.OutOfMemory }
+    ensures history { result.history.entries ≡ [] }
 {
     match unread {
-        Unread::Failed => Status::ReadFailed,
-        Unread::NoMemory => Status::OutOfMemory,
+        Unread::Failed => without_history(alloc, Status::ReadFailed),
+        Unread::NoMemory => without_history(alloc, Status::OutOfMemory),
     }
 }
 
@@ -34,13 +35,13 @@ fn status_of(unread: Unread) -> Status
 /// refused.
 fn run<S: Source, K: Sink>(alloc: Global, showing: Showing, source: &mut S, sink: &mut K) -> Ending
     ensures { Reads scenario_limit (IsThe (answer_to showing)) in_rounds
-        (record { left = S.left source.old; read_faults = S.faults source.old; written = K.written sink.old; write_faults = K.faults sink.old })
-        (record { left = S.left source.new; read_faults = S.faults source.new; written = K.written sink.new; write_faults = K.faults sink.new })
+        (ends_of S.left S.faults K.written K.faults source.old sink.old)
+        (ends_of S.left S.faults K.written K.faults source.new sink.new)
         result.status result.history.entries }
 {
     match take_input(alloc, source, SCENARIO_LIMIT) {
-        Ok(input) => respond(alloc, showing, &input, sink),
-        Err(unread) => without_history(alloc, status_of(unread)),
+        Ok(input) => respond(alloc, showing, input, sink),
+        Err(unread) => without_input(alloc, unread),
     }
 }
 
@@ -58,26 +59,26 @@ fn run_on_threads<R: Threads + Wait + Sync, S: Source, K: Sink, G: Gate + Sync>(
     requires some { 1 ≤ workers }
     requires most { workers ≤ worker_limit }
     ensures { Reads scenario_limit (MayAnswer showing) by_threads
-        (record { left = S.left source.old; read_faults = S.faults source.old; written = K.written sink.old; write_faults = K.faults sink.old })
-        (record { left = S.left source.new; read_faults = S.faults source.new; written = K.written sink.new; write_faults = K.faults sink.new })
+        (ends_of S.left S.faults K.written K.faults source.old sink.old)
+        (ends_of S.left S.faults K.written K.faults source.new sink.new)
         result.status result.history.entries }
 {
     match take_input(alloc, source, SCENARIO_LIMIT) {
-        Ok(input) => share(rt, alloc, showing, workers, &input, sink, gate),
-        Err(unread) => without_history(alloc, status_of(unread)),
+        Ok(input) => share(rt, alloc, showing, workers, input, sink, gate),
+        Err(unread) => without_input(alloc, unread),
     }
 }
 
 /// Reads a scenario and a history, and says whether the history is legal, or why the input is refused.
 fn check<S: Source, K: Sink>(alloc: Global, source: &mut S, sink: &mut K) -> Ending
     ensures { Reads checked_limit (IsThe check_of) no_run
-        (record { left = S.left source.old; read_faults = S.faults source.old; written = K.written sink.old; write_faults = K.faults sink.old })
-        (record { left = S.left source.new; read_faults = S.faults source.new; written = K.written sink.new; write_faults = K.faults sink.new })
+        (ends_of S.left S.faults K.written K.faults source.old sink.old)
+        (ends_of S.left S.faults K.written K.faults source.new sink.new)
         result.status result.history.entries }
 {
     match take_input(alloc, source, CHECKED_LIMIT) {
-        Ok(input) => judge_input(alloc, &input, sink),
-        Err(unread) => without_history(alloc, status_of(unread)),
+        Ok(input) => judge_input(alloc, input, sink),
+        Err(unread) => without_input(alloc, unread),
     }
 }
 
@@ -93,14 +94,13 @@ pub fn carry_out<R: Threads + Wait + Sync, S: Source, K: Sink, G: Gate + Sync>(
 ) -> Ending
     requires workers { HasWorkers work }
     ensures ends { EndsBy (row_of work)
-        (record { left = S.left source.old; read_faults = S.faults source.old; written = K.written sink.old; write_faults = K.faults sink.old })
-        (record { left = S.left source.new; read_faults = S.faults source.new; written = K.written sink.new; write_faults = K.faults sink.new })
+        (ends_of S.left S.faults K.written K.faults source.old sink.old)
+        (ends_of S.left S.faults K.written K.faults source.new sink.new)
         result.status result.history.entries }
     ensures unread { reads_nothing work ≡ true → source.new ≡ source.old }
-    ensures runs_scenario { RunsScenario work (S.left source.old) result.status result.history.entries }
-    ensures judges_history { JudgesHistory work
-        (record { left = S.left source.old; read_faults = S.faults source.old; written = K.written sink.old; write_faults = K.faults sink.old })
-        (record { left = S.left source.new; read_faults = S.faults source.new; written = K.written sink.new; write_faults = K.faults sink.new })
+    ensures does_work { DoesWork work
+        (ends_of S.left S.faults K.written K.faults source.old sink.old)
+        (ends_of S.left S.faults K.written K.faults source.new sink.new)
         result.status result.history.entries }
     ensures kept { HistoryIsKept (making_of work) (S.left source.old) (S.left source.new) result.history.entries }
 {

@@ -119,11 +119,11 @@ fn run_world(alloc: Global, mut world: World<Kern>) -> Made
     ensures stopped { OnErr result.ran (IsWorldsWay (seen kern_view world) result.history.entries) }
 {
     let ran = finish(alloc, &mut world);
-    left(world, ran)
+    made_of(world, ran)
 }
 
 /// What is left of a run that brought its world so far, and that ended so.
-fn left(world: World<Kern>, ran: Result<Ran, NoMemory>) -> Made
+fn made_of(world: World<Kern>, ran: Result<Ran, NoMemory>) -> Made
     ensures ran { result.ran ≡ ran }
     ensures history { result.history.entries ≡ world.kernel.history }
 {

@@ -1,10 +1,10 @@
 ghost use Rattle.std.specs.Prelude.{◌≡◌, map, string_bytes, true};
-ghost use Rattle.proclab.specs.Commands.{command_of, work_of};
+ghost use Rattle.proclab.specs.Commands.{work_of};
 ghost use Rattle.proclab.specs.Histories.{HistoryIsKept};
-ghost use Rattle.proclab.specs.Rows.{Ends, EndsWith, making_of, reads_nothing};
+ghost use Rattle.proclab.specs.Rows.{EndsWith, ends_of, making_of, reads_nothing};
 ghost use Rattle.proclab.specs.Statuses.{number};
 
-use crate::commands::{command_of, work_of};
+use crate::commands::work_of;
 use crate::outcomes::{Ending, Outcome, number};
 use crate::running::carry_out;
 use pr_io::{Gate, Sink, Source};
@@ -33,21 +33,22 @@ pub fn serve<R: Threads + Wait + Sync, S: Source, K: Sink, G: Gate + Sync>(
 ) -> Outcome
     // What was read and written, the status and the history are those of the row of the command. An input that is a
     // scenario is run, and the status says how that ended; one that is a scenario and a history is judged.
-    ensures ends { EndsWith (work_of (command_of (map string_bytes words.now)))
-        (record { left = S.left source.old; read_faults = S.faults source.old; written = K.written sink.old; write_faults = K.faults sink.old })
-        (record { left = S.left source.new; read_faults = S.faults source.new; written = K.written sink.new; write_faults = K.faults sink.new })
+    ensures ends { EndsWith (work_of (map string_bytes words.now))
+        (ends_of S.left S.faults K.written K.faults source.old sink.old)
+        (ends_of S.left S.faults K.written K.faults source.new sink.new)
         result.status result.history.entries }
 
     // The usage line and a scenario that is written leave the source alone.
-    ensures unread { reads_nothing (work_of (command_of (map string_bytes words.now))) ≡ true → source.new ≡ source.old }
+    ensures unread { reads_nothing (work_of (map string_bytes words.now)) ≡ true → source.new ≡ source.old }
 
     // However the call ends, there is no history, or it is that of a run. Then it is legal and follows the protocol;
     // where it is passive, or no controller is a script, tracing is transparent in it; each truss has shown of each
     // process exactly the selected events that came while it watched the process, as `IsReported` says, on the conditions
-    // of `IsTrussKept`; and each tool other than pstack that has finished, and was not refused, shows one state.
-    ensures kept { HistoryIsKept (making_of (work_of (command_of (map string_bytes words.now)))) (S.left source.old) (S.left source.new) result.history.entries }
+    // of `IsTrussKept`; the memory in a line is that of the state in which truss read it; and each tool that has
+    // finished, and was not refused, prints what stands in one state.
+    ensures kept { HistoryIsKept (making_of (work_of (map string_bytes words.now))) (S.left source.old) (S.left source.new) result.history.entries }
 {
-    outcome_of(carry_out(rt, alloc, work_of(command_of(words)), source, sink, gate))
+    outcome_of(carry_out(rt, alloc, work_of(words), source, sink, gate))
 }
 
 // The outcome of a call that ended so.

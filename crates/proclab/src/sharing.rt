@@ -1,18 +1,18 @@
 //! What the command `run` on several threads answers to an input.
 ghost use Rattle.std.specs.Prelude.{◌≡◌, ◌≤◌, length, Some, IfOk, IfSome, OnErr, OnOk};
 ghost use Rattle.pr_num.specs.Limits.{scenario_limit, worker_limit};
-ghost use Rattle.pr_scen.specs.Reading.{scenario_of};
 ghost use Rattle.pr_scen.specs.Scenarios.{IsWithinLimits};
 ghost use Rattle.pr_world.specs.Worlds.{ended_as, seen};
-ghost use Rattle.proclab.specs.Answers.{MayAnswer, MayAnswerRead, ShowsEnd, ran};
+ghost use Rattle.proclab.specs.Answers.{MayAnswer, ShowsEnd, ran};
 ghost use Rattle.proclab.specs.Giving.{Responds, RespondsOne, StopsEarly};
 ghost use Rattle.proclab.specs.Histories.{RanOutEarly, by_threads};
 ghost use Rattle.proclab.specs.Made.{LeftWith, StoppedThreads, kern_view};
 
 use crate::commands::Showing;
+use crate::inputs::scenario_of_input;
 use crate::outcomes::{Ending, Status, out_of_memory, without_history};
 use crate::reports::reports_of;
-use crate::responses::{TOO_LONG, refuse_at, refuse_input, report};
+use crate::responses::{refuse_at, show_ran};
 use crate::runs::{Ran, first_world};
 use pr_io::{Gate, Sink};
 use pr_kern::Kern;
@@ -20,7 +20,7 @@ use pr_lock::NewNo;
 use pr_model::History;
 use pr_num::{Bytes, NoMemory};
 use pr_run::run_many;
-use pr_scen::{ScenRefusal, Scenario, read_scenario};
+use pr_scen::{ScenRefusal, Scenario};
 use pr_world::{End, World};
 use std::alloc::Global;
 use std::sync::Wait;
@@ -43,7 +43,7 @@ fn show_world<K: Sink>(
     let reports = reports_of(alloc, &world);
     let history = world.into_kernel().into_history();
     match reports {
-        Ok(reports) => report(alloc, showing, Ran { end, reports }, history, sink),
+        Ok(reports) => show_ran(alloc, showing, Ran { end, reports }, history, sink),
         Err(error) => out_of_memory(error, history),
     }
 }
@@ -100,51 +100,27 @@ fn share_scenario<R: Threads + Wait + Sync, K: Sink, G: Gate + Sync>(
     }
 }
 
-/// Answers a text: it is refused, or the run of its scenario is made on threads, and written.
-fn share_text<R: Threads + Wait + Sync, K: Sink, G: Gate + Sync>(
-    rt: &R,
-    alloc: Global,
-    showing: Showing,
-    workers: u32,
-    text: &[u8],
-    sink: &mut K,
-    gate: &G,
-) -> Ending
-    requires few { length text.now ≤ scenario_limit }
-    requires some { 1 ≤ workers }
-    requires most { workers ≤ worker_limit }
-    ensures { RespondsOne (MayAnswerRead showing (scenario_of text.now))
-        (RanOutEarly by_threads (Some text.now) result.history.entries (K.written sink.old) (K.written sink.new))
-        result.status result.history.entries
-        (K.written sink.old) (K.written sink.new) (K.faults sink.old) (K.faults sink.new) }
-{
-    match read_scenario(alloc, text) {
-        Ok(scenario) => share_scenario(rt, alloc, showing, workers, scenario, sink, gate),
-        Err(ScenRefusal::Fault(fault)) => refuse_at(alloc, fault, sink),
-        Err(ScenRefusal::NoMemory) => without_history(alloc, Status::OutOfMemory),
-    }
-}
-
-/// Answers an input; none: it had more bytes than it may have. Its run is made on threads, and shown so.
+/// Answers an input: it is refused, or the run of its scenario is made on threads, and shown so.
 pub fn share<R: Threads + Wait + Sync, K: Sink, G: Gate + Sync>(
     rt: &R,
     alloc: Global,
     showing: Showing,
     workers: u32,
-    input: &Option<Bytes>,
+    input: Option<Bytes>,
     sink: &mut K,
     gate: &G,
 ) -> Ending
-    requires few { IfSome input.now (λ bytes. length bytes ≤ scenario_limit) }
+    requires few { IfSome input (λ bytes. length bytes ≤ scenario_limit) }
     requires some { 1 ≤ workers }
     requires most { workers ≤ worker_limit }
-    ensures { RespondsOne (MayAnswer showing input.now)
-        (RanOutEarly by_threads input.now result.history.entries (K.written sink.old) (K.written sink.new))
+    ensures { RespondsOne (MayAnswer showing input)
+        (RanOutEarly by_threads input result.history.entries (K.written sink.old) (K.written sink.new))
         result.status result.history.entries
         (K.written sink.old) (K.written sink.new) (K.faults sink.old) (K.faults sink.new) }
 {
-    match input {
-        None => refuse_input(alloc, 0, TOO_LONG, sink),
-        Some(bytes) => share_text(rt, alloc, showing, workers, bytes.as_slice(), sink, gate),
+    match scenario_of_input(alloc, input) {
+        Ok(scenario) => share_scenario(rt, alloc, showing, workers, scenario, sink, gate),
+        Err(ScenRefusal::Fault(fault)) => refuse_at(alloc, fault, sink),
+        Err(ScenRefusal::NoMemory) => without_history(alloc, Status::OutOfMemory),
     }
 }

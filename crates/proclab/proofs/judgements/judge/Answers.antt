@@ -7,4 +7,4 @@ pub returns-in-Ok : goal.returns-in-Ok
 unfolding judgement_of
 returns-in-Ok g c =
     gives-else (judged c.len.result c.in-Ok.first) _ ⊥ _ _ _ _ _ _ _
-    (ap (λ (n : ℕ). judged n c.in-Ok.first) c.len.ensures ∙ ap (λ (first : Option ℕ). judged (length c.args.checked.history.entries) first) c.in-Ok.ensures) (λ never. absurd never) c.report.ensures
+    (ap (λ (n : ℕ). judged n c.in-Ok.first) c.len.ensures ∙ ap (λ (first : Option ℕ). judged (length c.args.checked.history.entries) first) c.in-Ok.ensures) (λ never. absurd never) c.say_judgement.ensures

@@ -34,8 +34,8 @@ pub returns-in-Runs-clause-ends : goal.returns-in-Runs-clause-ends
 unfolding row_of
 returns-in-Runs-clause-ends g c = rw c.in-Runs.is c.run.ensures
 
-pub returns-in-Runs-clause-runs_scenario : goal.returns-in-Runs-clause-runs_scenario
-returns-in-Runs-clause-runs_scenario g c = rw c.in-Runs.is (runs-scenario _ _ _ _ _ c.run.ensures)
+pub returns-in-Runs-clause-does_work : goal.returns-in-Runs-clause-does_work
+returns-in-Runs-clause-does_work g c = rw c.in-Runs.is (runs-scenario _ _ _ _ _ c.run.ensures)
 
 pub returns-in-Runs-clause-kept : goal.returns-in-Runs-clause-kept
 unfolding row_of
@@ -45,8 +45,8 @@ pub returns-in-Checks-clause-ends : goal.returns-in-Checks-clause-ends
 unfolding row_of
 returns-in-Checks-clause-ends g c = rw c.in-Checks.is c.check.ensures
 
-pub returns-in-Checks-clause-judges_history : goal.returns-in-Checks-clause-judges_history
-returns-in-Checks-clause-judges_history g c = rw c.in-Checks.is (judges-history _ _ _ _ c.check.ensures)
+pub returns-in-Checks-clause-does_work : goal.returns-in-Checks-clause-does_work
+returns-in-Checks-clause-does_work g c = rw c.in-Checks.is (judges-history _ _ _ _ c.check.ensures)
 
 pub returns-in-Checks-clause-kept : goal.returns-in-Checks-clause-kept
 unfolding row_of
@@ -74,8 +74,8 @@ pub returns-in-Shares-clause-ends : goal.returns-in-Shares-clause-ends
 unfolding row_of
 returns-in-Shares-clause-ends g c = rw c.in-Shares.is c.run_on_threads.ensures
 
-pub returns-in-Shares-clause-runs_scenario : goal.returns-in-Shares-clause-runs_scenario
-returns-in-Shares-clause-runs_scenario g c = rw c.in-Shares.is (shares-scenario _ _ _ _ _ c.run_on_threads.ensures)
+pub returns-in-Shares-clause-does_work : goal.returns-in-Shares-clause-does_work
+returns-in-Shares-clause-does_work g c = rw c.in-Shares.is (shares-scenario _ _ _ _ _ c.run_on_threads.ensures)
 
 pub returns-in-Shares-clause-kept : goal.returns-in-Shares-clause-kept
 unfolding row_of

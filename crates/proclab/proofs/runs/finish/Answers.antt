@@ -3,7 +3,8 @@ use Rattle.pr_api.specs.Views.{kernel_of}
 use Rattle.pr_world.specs.Worlds.{WorldState, end_of, seen}
 use Rattle.proclab.specs.Made.{kern_view}
 use Rattle.proclab.specs.Reports.{reports_of}
-use Rattle.proclab.proofs.RunLemmas.{ended-is, last-is, last-way, on-err, run-stopped}
+use Rattle.pr_run.proofs.OneLemmas.{whatever}
+use Rattle.proclab.proofs.RunLemmas.{ended-is, last-is, last-way, run-stopped}
 use Rattle.proclab.proofs.runs.finish.Goals as goal
 
 pub returns-in_err-end-clause-stopped : goal.returns-in_err-end-clause-stopped
@@ -12,13 +13,13 @@ returns-in_err-end-clause-stopped c =
     let entries = rw c.kernel.ensures at c.entries.ensures in
     let places : c.places.result ≡ c.run_one-ended.new.world.kernel.places = rw c.kernel-2.ensures at c.places.ensures in
     let within : length c.run_one-ended.new.world.kernel.history ≤ c.run_one-ended.new.world.kernel.places = omega (arith, entries.value, places, c.if-prove.false) in
-    on-err c.from_residual.result
+    whatever c.from_residual.result _
     (run-stopped (Err c.in_err-end.field-0.0) (seen kern_view c.args.world.now) (seen kern_view c.run_one-ended.new.world) c.requires.told c.in_err-end.ensures.err within)
 
 pub returns-in_err-reports-clause-stopped : goal.returns-in_err-reports-clause-stopped
 unfolding kernel_of
 returns-in_err-reports-clause-stopped c =
-    on-err c.from_residual-in_err-reports.result
+    whatever c.from_residual-in_err-reports.result _
     (last-way (seen kern_view c.args.world.now) (seen kern_view c.run_one-ended.new.world) (last-is (seen kern_view c.args.world.now) (seen kern_view c.run_one-ended.new.world) c.requires.told c.requires.fresh c.in_ok-end.ensures.told))
 
 pub returns-clause-ended : goal.returns-clause-ended

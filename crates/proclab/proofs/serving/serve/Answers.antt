@@ -1,8 +1,8 @@
-use Rattle.std.proofs.Common.{◌∙◌, sym, ap, subst}
+use Rattle.std.proofs.Common.{sym, subst}
 use Rattle.std.specs.Prelude.{map, string_bytes}
-use Rattle.proclab.specs.Commands.{HasWorkers, work_of}
+use Rattle.proclab.specs.Commands.{HasWorkers}
 use Rattle.proclab.proofs.CommandLemmas.{words-workers}
 use Rattle.proclab.proofs.serving.serve.Goals as goal
 
 pub carry_out-requires-clause-workers : goal.carry_out-requires-clause-workers
-carry_out-requires-clause-workers g c κs within = subst HasWorkers (sym (c.work_of.ensures ∙ ap work_of c.command_of.ensures)) (words-workers (map string_bytes c.args.words.now))
+carry_out-requires-clause-workers g c κs within = subst HasWorkers (sym c.work_of.ensures) (words-workers (map string_bytes c.args.words.now))

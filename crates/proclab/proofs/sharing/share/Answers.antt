@@ -1,19 +1,22 @@
-use Rattle.std.proofs.Common.{◌≡◌, ◌∙◌, refl, sym, ap, subst, ℕ, List, Option, Some}
-use Rattle.pr_scen.specs.Reading.{scenario_of}
-use Rattle.proclab.specs.Answers.{MayAnswer, MayAnswerRead, refused_at, too_long}
-use Rattle.proclab.specs.Histories.{RanOutEarly, by_threads}
-use Rattle.proclab.proofs.SharedLemmas.{one-answer, one-else}
+use Rattle.std.proofs.Common.{◌≡◌, refl, sym, subst, Result, Err}
+use Rattle.pr_scen.specs.declared.refusals.ScenFault.{ScenFault}
+use Rattle.pr_scen.specs.Scenarios.{Scenario}
+use Rattle.proclab.specs.Answers.{MayAnswer, MayAnswerRead, ShowsEnd, kind_name, refused_at}
+use Rattle.proclab.specs.Giving.{Responds}
+use Rattle.proclab.specs.Inputs.{scenario_of_input}
+use Rattle.proclab.proofs.SharedLemmas.{one-answer, one-else, threads-left}
 use Rattle.proclab.proofs.sharing.share.Goals as goal
 
-pub returns-in-None : goal.returns-in-None
-returns-in-None g c =
-    let answer = refused_at 0 too_long in
-    let may : MayAnswer c.args.showing c.args.input.now answer = subst (λ (i : Option (List ℕ)). MayAnswer c.args.showing i answer) (sym c.in-None.is) refl in
-    one-answer (MayAnswer c.args.showing c.args.input.now) answer _ _ _ _ _ _ _ may c.refuse_input.ensures
+pub returns-in-Ok : goal.returns-in-Ok
+returns-in-Ok g c =
+    let read = c.in-Ok.ensures.read in
+    one-else (ShowsEnd c.args.showing c.in-Ok.scenario) (MayAnswer c.args.showing c.args.input) _ _ _ _ _ _ _ _
+    (λ a may. subst (λ (s : Result Scenario ScenFault). MayAnswerRead c.args.showing s a) (sym read) may) (λ stopped. threads-left _ _ _ _ _ read stopped) c.share_scenario.ensures
 
-pub returns-in-Some : goal.returns-in-Some
-returns-in-Some g c =
-    let input : Some c.as_slice.result.now ≡ c.args.input.now = ap (λ (bytes : List ℕ). Some bytes) c.as_slice.ensures ∙ sym c.in-Some.is in
-    one-else (MayAnswerRead c.args.showing (scenario_of c.as_slice.result.now)) (MayAnswer c.args.showing c.args.input.now) _ _ _ _ _ _ _ _
-    (λ a may. subst (λ (i : Option (List ℕ)). MayAnswer c.args.showing i a) input may)
-    (λ early. subst (λ (i : Option (List ℕ)). RanOutEarly by_threads i c.share_text.result.history.entries (g.K.Sink.written c.args.sink.now) (g.K.Sink.written c.share_text.new.sink)) input early) c.share_text.ensures
+pub returns-in-Err-Fault : goal.returns-in-Err-Fault
+returns-in-Err-Fault g c =
+    let read : scenario_of_input c.args.input ≡ Err c.in-Err-Fault.fault = rw c.in-Err-Fault.field-0-is at c.in-Err-Fault.ensures.read in
+    let answer = refused_at c.in-Err-Fault.fault.line (kind_name c.in-Err-Fault.fault.kind) in
+    let may : MayAnswer c.args.showing c.args.input answer = subst (λ (s : Result Scenario ScenFault). MayAnswerRead c.args.showing s answer) (sym read) refl in
+    let refused : Responds answer ⊥ c.refuse_at.result.status c.refuse_at.result.history.entries (g.K.Sink.written c.args.sink.now) (g.K.Sink.written c.refuse_at.new.sink) (g.K.Sink.faults c.args.sink.now) (g.K.Sink.faults c.refuse_at.new.sink) = rw c.in-Err-Fault.field-0-is at c.refuse_at.ensures in
+    one-answer (MayAnswer c.args.showing c.args.input) answer _ _ _ _ _ _ _ may refused

@@ -22,7 +22,7 @@ returns-in-Ok g c =
     ap (λ (e : End). ran_so c.args.showing e c.into_history-history.result.entries c.in-Ok.reports.items) (ended-is w c.args.end c.requires)
     ∙ (ap (λ (h : List Entry). ran_so c.args.showing (end_of w) h c.in-Ok.reports.items) history
     ∙ ap (λ (rs : List Report). ran_so c.args.showing (end_of w) c.args.world.kernel.history rs) printed) in
-    gives-else (ran_so c.args.showing c.args.end c.into_history-history.result.entries c.in-Ok.reports.items) (ran c.args.showing w) ⊥ _ _ _ _ _ _ _ same (λ never. absurd never) c.report.ensures
+    gives-else (ran_so c.args.showing c.args.end c.into_history-history.result.entries c.in-Ok.reports.items) (ran c.args.showing w) ⊥ _ _ _ _ _ _ _ same (λ never. absurd never) c.show_ran.ensures
 
 pub returns-in-Err : goal.returns-in-Err
 returns-in-Err g c =
