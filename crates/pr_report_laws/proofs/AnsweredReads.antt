@@ -75,7 +75,7 @@ tells-read _ tells = absurd (false≢true tells)
 -- ---- the stages in which truss reads
 
 -- truss reads from this handle
-data Reads (t : TrussState) (handle : ℕ) : Type 0 where
+pub data Reads (t : TrussState) (handle : ℕ) : Type 0 where
   status : (place : ℕ) → t.stage ≡ ReadingStatus place → number_of (traced_at t place).status ≡ handle → Reads t handle
   memory : (place : ℕ) (l : LwpStatus) (from len : ℕ) → t.stage ≡ ReadingText place l from len → number_of (traced_at t place).memory ≡ handle → Reads t handle
   old : (place : ℕ) → t.stage ≡ Opening place opening.ReadLwps → number_of (traced_at t place).lstatus ≡ handle → Reads t handle
@@ -121,14 +121,14 @@ module _ (t : TrussState) (handle from len : ℕ) where
   stage-reads (FreeingChild of step) at made = freeing-reads of step made
   stage-reads Finished at made = cc
 
-  next-reads : Made (next_call_of t) → Reads t handle
+  pub next-reads : Made (next_call_of t) → Reads t handle
   unfolding next_call_of
   next-reads made = stage-reads t.stage refl made
 
 -- ---- what truss comes to
 
--- Truss has been told of a process that it has a place for: it has read the stop on which the process stands, or does not
--- watch it.
+-- Truss has been told of a process that it has a place for: it has read the stop on which the process stands, or does
+-- not watch it.
 record IsTold (pid : ℕ) (u : TrussState) : Type 0 where
   place : ℕ
   at : place_of u pid ≡ Some place

@@ -352,9 +352,11 @@ pub births-report : (n k : ℕ) (o : Options) (pid : ℕ) (s : TracedState) (h :
 births-report n k o pid s h lawful fit none legal makes range bytes named forks = truss-reports n k o pid s h lawful fit none legal makes range bytes (births n k o s h lawful fit none legal makes range bytes named forks pid)
 
 -- A process of which truss never got hold as a child asks for nothing of the kind.
+pub unfollowed-births : (k : ℕ) (o : Options) (pid : ℕ) (s : TracedState) (h : List Entry) → IsNeverFollowed k o pid h → OpensAtBirth k o pid s h
+unfollowed-births k o pid s h unfollowed = record { child = λ before later e opening handle parent p is own stage given live. absurd (unfollowed.none before later e opening handle parent is own stage given) }
+
 pub unfollowed-report : (n k : ℕ) (o : Options) (pid : ℕ) (s : TracedState) (h : List Entry) → IsLawful s → IsFitSystem s.system → HasNothingOpen k s → IsLegal n s h → Makes (first_truss o) (exchanges k h) → IsInRange s.system → HasBytes h → IsNeverFollowed k o pid h → IsReported k o pid s h
 unfollowed-report n k o pid s h lawful fit none legal makes range bytes unfollowed =
-    truss-reports n k o pid s h lawful fit none legal makes range bytes
-    (record { child = λ before later e opening handle parent p is own stage given live. absurd (unfollowed.none before later e opening handle parent is own stage given) })
+    truss-reports n k o pid s h lawful fit none legal makes range bytes (unfollowed-births k o pid s h unfollowed)
 
 pub ruleset reports = (births-report, unfollowed-report)

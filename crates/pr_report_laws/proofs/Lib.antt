@@ -21,7 +21,11 @@ pub mod ControlSteps
 pub mod Elsewhere
 pub mod EndLaws
 pub mod EntrySteps
+pub mod EventComes
+pub mod EventMemory
+pub mod EventSteps
 pub mod EventStopLemmas
+pub mod EventTurns
 pub mod FedFiles
 pub mod FileLaws
 pub mod FileSteps
@@ -50,6 +54,7 @@ pub mod HistorySteps
 pub mod KeepLemmas
 pub mod LeaveSteps
 pub mod Leaving
+pub mod MadeOnce
 pub mod MemoryReads
 pub mod Moves
 pub mod NewBorn
@@ -72,6 +77,7 @@ pub mod OwnChild
 pub mod OwnLooks
 pub mod OwnOpens
 pub mod OwnRuns
+pub mod OwnSpaces
 pub mod OwnSteps
 pub mod OwnTurnLaws
 pub mod Places

@@ -40,7 +40,7 @@ use Rattle.pr_report_laws.proofs.FileSteps.{MakesNext, makes-next}
 use Rattle.pr_report_laws.proofs.FileUses.{memory-read}
 use Rattle.pr_report_laws.proofs.OptionLemmas.{fed-options}
 use Rattle.pr_report_laws.proofs.RecordLaws.{held-is, read-is}
-use Rattle.pr_report_laws.proofs.TextReports.{AsksItsRange, Grows, IsTold, IsToldEvent, as_before, fed-goes, first-silent, one_more, silent, told}
+use Rattle.pr_report_laws.proofs.TextReports.{AsksItsRange, Grows, IsTold, IsToldEvent, as_before, asks-range, fed-goes, first-silent, one_more, silent, told}
 use Rattle.pr_report_laws.proofs.WatchHistories.{IsAnswered, Reaches, after-cons, cons-exchanges, entry-reaches, exchange-answered, first-reaches, no-exchanges, truss_at-push}
 use Rattle.pr_report_laws.specs.Memories.{HasItsText, HaveTheirTexts, IsMemoryRead, IsTextOf, read, unasked}
 use Rattle.pr_report_laws.specs.Watching.{told_of, with_exchange}
@@ -62,7 +62,7 @@ acted-by k (Controller by) (act.Tick moment) x is = absurd (none-some x is)
 acted-by k (Lwp p l) did x is = absurd (none-some x is)
 acted-by k Clock did x is = absurd (none-some x is)
 
-entry-is : (k : ℕ) (e : Entry) (x : Exchange) → exchange_of k e ≡ Some x → e ≡ call_entry k x.call x.reply
+pub entry-is : (k : ℕ) (e : Entry) (x : Exchange) → exchange_of k e ≡ Some x → e ≡ call_entry k x.call x.reply
 entry-is k e x is = acted-by k e.actor e.act x is
 
 -- ---- the read of memory
@@ -195,7 +195,7 @@ module _ (n k : ℕ) (o : Options) (s : TracedState) (h : List Entry) (e : Entry
   told-keeps None its next at = record { at = at; options = w.options; texts = kept; asks = w.asks }
   told-keeps (Some x) its next at =
       let c = fed-goes o t x.reply w.options in
-      record { at = at; options = fed-options t x.reply ∙ w.options; texts = grown-has x its next (fed t x.reply).reports c.reports; asks = c.asks }
+      record { at = at; options = fed-options t x.reply ∙ w.options; texts = grown-has x its next (fed t x.reply).reports c.reports; asks = asks-range o t (fed t x.reply).reports (fed t x.reply).stage c.asks }
 
   entry-keeps : MakesNext t (exchange_of k e) → KeepsTexts k o s (h ++ e ∷ []) (told_of k t e)
   entry-keeps next = told-keeps (exchange_of k e) refl next still-at

@@ -39,6 +39,7 @@ use Rattle.pr_report_laws.proofs.FileSteps.{first-files}
 use Rattle.pr_report_laws.proofs.FrameLaws.{no-events}
 use Rattle.pr_report_laws.proofs.HistoryLaw.{first-is, first-prepares, selected-both}
 use Rattle.pr_report_laws.proofs.Leaving.{first-leaving}
+use Rattle.pr_report_laws.proofs.MadeOnce.{not-both}
 use Rattle.pr_report_laws.proofs.NewbornForks.{forked-before}
 use Rattle.pr_report_laws.proofs.NewbornTurns.{HasRested, Rests, call-turn, rests-after}
 use Rattle.pr_report_laws.proofs.OpeningRuns.{IsFollowing, OpensControl, born, born-fed, born-following, child-runs, freed, freed-fed, given, given-fed, granted-first, granted-rest, opens-control}
@@ -47,7 +48,7 @@ use Rattle.pr_report_laws.proofs.WatchHistories.{IsRun, after-append, makes-fron
 use Rattle.pr_report_laws.specs.Births.{LeavesForks, NamesNoChild}
 use Rattle.pr_report_laws.specs.Fits.{IsFitSystem}
 use Rattle.pr_report_laws.specs.Grips.{HasFollowed, child_calls}
-use Rattle.pr_report_laws.specs.Newborn.{IsNoTurnOf, WasForked}
+use Rattle.pr_report_laws.specs.Newborn.{IsNoTurnOf, WasForked, WasSpawned}
 use Rattle.pr_report_laws.specs.Shown.{LwpEvent, selected, shown}
 use Rattle.pr_report_laws.specs.Watching.{watches}
 
@@ -177,6 +178,10 @@ module _ (n k : ℕ) (o : Options) (pid : ℕ) (s : TracedState) (before : List 
     -- it was made by a fork
     pub followed-forked : WasForked pid (before ++ e ∷ [])
     followed-forked = rested.0
+
+    -- and so by no controller
+    pub followed-unstarted : (by : ℕ) → WasSpawned by pid (before ++ e ∷ []) → ⊥
+    followed-unstarted by spawned = not-both n pid s (before ++ e ∷ []) lawful legal by followed-forked spawned
 
     -- no lwp of it has had a turn
     pub followed-rests : All (IsNoTurnOf pid) (before ++ e ∷ [])

@@ -63,7 +63,7 @@ seen-grown u at within =
     let w = interrupt-well u.reports 0 0 n (with_stop_seen u at) (seen-base u.reports 0 0 n u at within (based u)) in
     w.grown
 
-text-grown : (u : TrussState) (at : ℕ) (l : LwpStatus) (a : Answer) → at < length u.traced → Grown u.reports (after_text u at l a).reports
+pub text-grown : (u : TrussState) (at : ℕ) (l : LwpStatus) (a : Answer) → at < length u.traced → Grown u.reports (after_text u at l a).reports
 unfolding after_text
 text-grown u at l Accepted within = over-grown u at l within
 text-grown u at l (Refused errno) within = over-grown u at l within

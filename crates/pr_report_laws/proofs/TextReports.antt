@@ -65,9 +65,30 @@ abbrev pub AsksItsRange : Options → Stage → Type 0
 AsksItsRange o (ReadingText place l from len) = range_asked o l ≡ Some (from, len)
 AsksItsRange o _ = Unit {0}
 
+-- whether truss reads at a stage on what event a process stands
+abbrev pub reads_stop : Stage → Bool
+reads_stop (ReadingStatus place) = true
+reads_stop ReadingLwps = true
+reads_stop _ = false
+
+-- Memory that is to be read now is what the line of the event asks for. Truss was to read a stop before, and these
+-- reports are as they were.
+pub record AsksNow (o : Options) (t : TrussState) (reports : List Report) (l : LwpStatus) (from len : ℕ) : Type 0 where
+  pub range : range_asked o l ≡ Some (from, len)
+  pub same : reports ≡ t.reports
+  pub reads : reads_stop t.stage ≡ true
+
+abbrev pub Asks : Options → TrussState → List Report → Stage → Type 0
+Asks o t reports (ReadingText place l from len) = AsksNow o t reports l from len
+Asks o t reports _ = Unit {0}
+
+pub asks-range : (o : Options) (t : TrussState) (reports : List Report) (stage : Stage) → Asks o t reports stage → AsksItsRange o stage
+asks-range o t reports (ReadingText place l from len) asks = asks.range
+asks-range o t reports _ asks = tt
+
 pub record Goes (o : Options) (t : TrussState) (r : Reply) (u : TrussState) : Type 0 where
   pub reports : Grows o t r u.reports
-  pub asks : AsksItsRange o u.stage
+  pub asks : Asks o t u.reports u.stage
 
 -- ---- the first state
 
@@ -103,14 +124,14 @@ module _ (o : Options) (t : TrussState) (r : Reply) (same : t.options ≡ o) whe
   reported : (x : Report) → IsTold o t r x → Grows o t r (with_report t x).reports
   reported x is = one_more x refl is
 
-  to : (u : TrussState) (stage : Stage) → Grows o t r u.reports → AsksItsRange o stage → Goes o t r (with_stage u stage)
+  to : (u : TrussState) (stage : Stage) → Grows o t r u.reports → Asks o t u.reports stage → Goes o t r (with_stage u stage)
   to u stage g asks = record { reports = g; asks = asks }
 
   -- the step is the same
-  here : (u : TrussState) (stage : Stage) → u.stage ≡ stage → AsksItsRange o stage → Grows o t r u.reports → Goes o t r u
-  here u stage is asks g = record { reports = g; asks = subst (AsksItsRange o) (sym is) asks }
+  here : (u : TrussState) (stage : Stage) → u.stage ≡ stage → Asks o t u.reports stage → Grows o t r u.reports → Goes o t r u
+  here u stage is asks g = record { reports = g; asks = subst (Asks o t u.reports) (sym is) asks }
 
-  asks-none : (u : TrussState) (stage : Stage) → pending_at u stage ≡ [] → AsksItsRange o stage
+  asks-none : (u : TrussState) (stage : Stage) → pending_at u stage ≡ [] → Asks o t u.reports stage
   asks-none u (ReadingText place l from len) none = cc
   asks-none u _ none = tt
 
@@ -148,31 +169,33 @@ module _ (o : Options) (t : TrussState) (r : Reply) (same : t.options ≡ o) whe
   unfolding with_event_over
   event_over u place l g = child_or u place (followed_child u.options l) g
 
-  text_or : (place : ℕ) (l : LwpStatus) (range : Option (ℕ × ℕ)) → range_asked o l ≡ range → Goes o t r (with_text_or_shown t place l range)
-  unfolding with_event_shown
-  text_or place l None none = let x : Report = report.Event (traced_at t place).pid l None in event_over (with_report t x) place l (reported x (silent none refl))
-  text_or place l (Some range) asked = to t (ReadingText place l range.0 range.1) base asked
+  module _ (reads : reads_stop t.stage ≡ true) where
+    text_or : (place : ℕ) (l : LwpStatus) (range : Option (ℕ × ℕ)) → range_asked o l ≡ range → Goes o t r (with_text_or_shown t place l range)
+    unfolding with_event_shown
+    text_or place l None none = let x : Report = report.Event (traced_at t place).pid l None in event_over (with_report t x) place l (reported x (silent none refl))
+    text_or place l (Some range) asked = to t (ReadingText place l range.0 range.1) base (record { range = asked; same = refl; reads = reads })
 
-  of-event : (place : ℕ) (l : LwpStatus) (e : Option Event) → event_of l ≡ e → Goes o t r (with_event t place l e)
-  of-event place l None none = over t place base
-  of-event place l (Some e) is =
-      let asked : range_asked o l ≡ asked_range t.options e = ap (option_and_then (asked_range o)) is ∙ ap (λ (p : Options). asked_range p e) (sym same) in
-      either (is_selected t.options e) (with_text_or_shown t place l (asked_range t.options e)) (with_event_over t place l) (text_or place l (asked_range t.options e) asked) (event_over t place l base)
+    of-event : (place : ℕ) (l : LwpStatus) (e : Option Event) → event_of l ≡ e → Goes o t r (with_event t place l e)
+    of-event place l None none = over t place base
+    of-event place l (Some e) is =
+        let asked : range_asked o l ≡ asked_range t.options e = ap (option_and_then (asked_range o)) is ∙ ap (λ (p : Options). asked_range p e) (sym same) in
+        either (is_selected t.options e) (with_text_or_shown t place l (asked_range t.options e)) (with_event_over t place l) (text_or place l (asked_range t.options e) asked) (event_over t place l base)
 
   old_over : (place : ℕ) → Goes o t r (with_old_stop_over t place)
   unfolding with_old_stop_over
   old_over place = over (with_traced t place (record (traced_at t place) { old = (traced_at t place).old - 1 })) place base
 
-  stop : (place : ℕ) (l : LwpStatus) → Goes o t r (with_stop t place l)
-  unfolding with_stop
-  stop place l =
-      either (not (is_on_event l)) (with_stop_over t place) _ (over t place base)
-      (either (nat_lt 0 (traced_at t place).old) (with_old_stop_over t place) _ (old_over place)
-      (either (traced_at t place).seen (with_stop_over t place) (with_event t place l (event_of l)) (over t place base) (of-event place l (event_of l) refl)))
+  module _ (reads : reads_stop t.stage ≡ true) where
+    stop : (place : ℕ) (l : LwpStatus) → Goes o t r (with_stop t place l)
+    unfolding with_stop
+    stop place l =
+        either (not (is_on_event l)) (with_stop_over t place) _ (over t place base)
+        (either (nat_lt 0 (traced_at t place).old) (with_old_stop_over t place) _ (old_over place)
+        (either (traced_at t place).seen (with_stop_over t place) (with_event t place l (event_of l)) (over t place base) (of-event reads place l (event_of l) refl)))
 
-  stop_read : (place : ℕ) (l : Option LwpStatus) → Goes o t r (with_stop_read t place l)
-  stop_read place None = over t place base
-  stop_read place (Some l) = stop place l
+    stop_read : (place : ℕ) (l : Option LwpStatus) → Goes o t r (with_stop_read t place l)
+    stop_read place None = over t place base
+    stop_read place (Some l) = stop place l
 
   -- ---- the replies
 
@@ -219,12 +242,12 @@ module _ (o : Options) (t : TrussState) (r : Reply) (same : t.options ≡ o) whe
   poll-goes is Gone = polls is
   poll-goes is (Refused errno) = polls is
 
-  status-goes : (place : ℕ) (a : Answer) → Goes o t r (with_status_answered t place r a)
+  status-goes : (place : ℕ) → reads_stop t.stage ≡ true → (a : Answer) → Goes o t r (with_status_answered t place r a)
   unfolding with_status_answered
-  status-goes place Accepted = stop_read place (option_and_then status_lwp (bytes_in r))
-  status-goes place Interrupted = interrupted t base
-  status-goes place Gone = to t (Closing place GoOn) base tt
-  status-goes place (Refused errno) = over t place base
+  status-goes place reads Accepted = stop_read reads place (option_and_then status_lwp (bytes_in r))
+  status-goes place reads Interrupted = interrupted t base
+  status-goes place reads Gone = to t (Closing place GoOn) base tt
+  status-goes place reads (Refused errno) = over t place base
 
   after-goes : (u : TrussState) (place : ℕ) (l : LwpStatus) → Grows o t r u.reports → (a : Answer) → Goes o t r (after_text u place l a)
   unfolding after_text
@@ -253,12 +276,12 @@ module _ (o : Options) (t : TrussState) (r : Reply) (same : t.options ≡ o) whe
   unfollowed-goes Gone = to t (Closing 0 GoOn) base tt
   unfollowed-goes (Refused errno) = to t ReadingLwps base tt
 
-  lwps-goes : (a : Answer) → Goes o t r (with_lwps_answered t r a)
+  lwps-goes : reads_stop t.stage ≡ true → (a : Answer) → Goes o t r (with_lwps_answered t r a)
   unfolding with_lwps_answered
-  lwps-goes Accepted = stop_read 0 (slice_get (event_stops (bytes_in r)) 0)
-  lwps-goes Interrupted = to t (Closing 0 GoOn) base tt
-  lwps-goes Gone = to t (Closing 0 GoOn) base tt
-  lwps-goes (Refused errno) = to t (Closing 0 GoOn) base tt
+  lwps-goes reads Accepted = stop_read reads 0 (slice_get (event_stops (bytes_in r)) 0)
+  lwps-goes reads Interrupted = to t (Closing 0 GoOn) base tt
+  lwps-goes reads Gone = to t (Closing 0 GoOn) base tt
+  lwps-goes reads (Refused errno) = to t (Closing 0 GoOn) base tt
 
   -- ---- children
 
@@ -328,14 +351,14 @@ module _ (o : Options) (t : TrussState) (r : Reply) (same : t.options ≡ o) whe
   stage-goes (OpeningControl pid) is = control-goes pid (answer_of r)
   stage-goes (Opening place now) is = step-goes place now (answer_of r)
   stage-goes Polling is = poll-goes is (answer_of r)
-  stage-goes (ReadingStatus place) is = status-goes place (answer_of r)
+  stage-goes (ReadingStatus place) is = status-goes place (ap reads_stop is) (answer_of r)
   stage-goes (ReadingText place l from len) is = text-goes place l from len is
   stage-goes (OpeningChildControl parent pid) is = child_control-goes parent pid (answer_of r)
   stage-goes (OpeningChild parent place now) is = child-goes parent place now (answer_of r)
   stage-goes (Running place) is = run-goes place (answer_of r)
   stage-goes (Closing place after) is = closed-goes place after is (without_last (traced_at t place))
   stage-goes Unfollowing is = unfollowed-goes (answer_of r)
-  stage-goes ReadingLwps is = lwps-goes (answer_of r)
+  stage-goes ReadingLwps is = lwps-goes (ap reads_stop is) (answer_of r)
   stage-goes (FreeingChild pid now) is = freeing-goes pid now
   stage-goes Finished is = here t Finished is tt base
 

@@ -43,12 +43,12 @@ too-many : (x y event : LwpEvent) (xs : List LwpEvent) → x ∷ [] ≡ y ∷ (x
 too-many x y event xs is = omega (arith, ap (λ (zs : List LwpEvent). length zs) is, length-append xs (event ∷ []))
 
 -- a list is not itself and one more
-one-more : (xs : List LwpEvent) (event : LwpEvent) → xs ≡ xs ++ event ∷ [] → ⊥
+pub one-more : (xs : List LwpEvent) (event : LwpEvent) → xs ≡ xs ++ event ∷ [] → ⊥
 one-more xs event is = omega (arith, ap (λ (zs : List LwpEvent). length zs) is, length-append xs (event ∷ []))
 
 module _ (base so_far : List LwpEvent) (a : Accounted (Unit {0}) base so_far) (event : LwpEvent) where
   -- the event that is missing after more was shown was missing before
-  missing-before : (now more : List LwpEvent) → now ≡ so_far ++ more → base ≡ now ++ event ∷ [] → base ≡ so_far ++ event ∷ []
+  pub missing-before : (now more : List LwpEvent) → now ≡ so_far ++ more → base ≡ now ++ event ∷ [] → base ≡ so_far ++ event ∷ []
   missing-before now more grown is = a.is ∙ ap (λ (xs : List LwpEvent). so_far ++ xs) (alone more rest)
     where
       rest : a.missing ≡ more ++ event ∷ []
@@ -59,7 +59,7 @@ module _ (base so_far : List LwpEvent) (a : Accounted (Unit {0}) base so_far) (e
       alone (x ∷ xs) its = absurd (elim a.few [ inl none ↦ (let e : [] ≡ x ∷ (xs ++ event ∷ []) = sym none ∙ its in cc) | inr one ↦ too-many one.0 x event xs (sym one.1.0 ∙ its) ])
 
   -- the event that is missing after more was selected was missing before, or is what was selected
-  missing-now : (chosen : List LwpEvent) → base ++ chosen ≡ so_far ++ event ∷ [] → (chosen ≡ event ∷ []) ⊎ (base ≡ so_far ++ event ∷ [])
+  pub missing-now : (chosen : List LwpEvent) → base ++ chosen ≡ so_far ++ event ∷ [] → (chosen ≡ event ∷ []) ⊎ (base ≡ so_far ++ event ∷ [])
   missing-now chosen is = elim a.few [
     | inl none ↦ inl (ap (λ (xs : List LwpEvent). xs ++ chosen) (sym none) ∙ rest)
     | inr one ↦ inr (a.is ∙ ap (λ (xs : List LwpEvent). so_far ++ xs) (one.1.0 ∙ first one.0 (ap (λ (xs : List LwpEvent). xs ++ chosen) (sym one.1.0) ∙ rest)))
@@ -72,7 +72,7 @@ module _ (base so_far : List LwpEvent) (a : Accounted (Unit {0}) base so_far) (e
       first e its = cc
 
 -- of no process more than one event is missing
-standing-accounted : (Why : Type 0) (o : Options) (pid : ℕ) (t : TrussState) (s : TracedState) (base : List LwpEvent) → Standing Why o pid t s base → Accounted (Unit {0}) base (shown pid t)
+pub standing-accounted : (Why : Type 0) (o : Options) (pid : ℕ) (t : TrussState) (s : TracedState) (base : List LwpEvent) → Standing Why o pid t s base → Accounted (Unit {0}) base (shown pid t)
 standing-accounted Why o pid t s base (apart unwatched a) = accounted-why Why (Unit {0}) base (shown pid t) (λ why. tt) a
 standing-accounted Why o pid t s base (over watched none a) = accounted-why Why (Unit {0}) base (shown pid t) (λ why. tt) a
 standing-accounted Why o pid t s base (lives place p at attached here live traced position) = position-ends (Unit {0}) o t.stage place (traced_at t place).old p base (shown pid t) tt position
@@ -133,6 +133,18 @@ came-now k o pid t s e h event is since = by (watches t pid) refl is
 
 -- ---- one entry
 
+-- of what truss does nothing is selected
+pub own-selects : (k : ℕ) (o : Options) (pid : ℕ) (t : TrussState) (s : TracedState) (e : Entry) (x : Exchange) → exchange_of k e ≡ Some x → selected_of o pid t s e ≡ []
+unfolding selected
+own-selects k o pid t s e x own = by (watches t pid)
+  where
+    elsewhere : (id : ℕ) → e.actor ≢ Lwp pid id
+    elsewhere id same = none-some x (sym (ap (λ (a : Actor). exchange_in k a e.act) same) ∙ own)
+
+    by : (b : Bool) → selected o pid (cond b (events_of s e) []) ≡ []
+    by true = no-events o pid s e elsewhere
+    by false = refl
+
 module _ (K : Type 0) (n k : ℕ) (o : Options) (pid : ℕ) (t : TrussState) (s : TracedState) (base : List LwpEvent) (e : Entry) (g : Holds K k o pid t s base) (legal : IsLegalEntry n s e) (next : MakesNext t (exchange_of k e))
     (later : Standing (Lost (K ⊎ EndsByKill pid t s e) pid (after s e)) o pid (told_of k t e) (after s e) (base ++ selected_of o pid t s e)) (h : List Entry) (event : LwpEvent) where
   abbrev Before : Type 0
@@ -143,18 +155,6 @@ module _ (K : Type 0) (n k : ℕ) (o : Options) (pid : ℕ) (t : TrussState) (s 
 
   few : Accounted (Unit {0}) base (shown pid t)
   few = standing-accounted (Lost K pid s) o pid t s base g.standing
-
-  -- of what truss does nothing is selected
-  own-selects : (x : Exchange) → exchange_of k e ≡ Some x → selected_of o pid t s e ≡ []
-  unfolding selected
-  own-selects x own = by (watches t pid)
-    where
-      elsewhere : (id : ℕ) → e.actor ≢ Lwp pid id
-      elsewhere id same = none-some x (sym (ap (λ (a : Actor). exchange_in k a e.act) same) ∙ own)
-
-      by : (b : Bool) → selected o pid (cond b (events_of s e) []) ≡ []
-      by true = no-events o pid s e elsewhere
-      by false = refl
 
   -- where nothing is missing after the entry
   answered : (f : File) → tells_event f ≡ true → After → ReadsFile k pid f s e → ⊥
@@ -167,7 +167,7 @@ module _ (K : Type 0) (n k : ℕ) (o : Options) (pid : ℕ) (t : TrussState) (s 
   own-before x own l =
       let owns : Owns k t s = g.owns in
       let grown = told-grows pid t (exchange_of k e) owns.fits in
-      let same : base ≡ base ++ selected_of o pid t s e = sym (ap (λ (xs : List LwpEvent). base ++ xs) (own-selects x own) ∙ append-nil base) in
+      let same : base ≡ base ++ selected_of o pid t s e = sym (ap (λ (xs : List LwpEvent). base ++ xs) (own-selects k o pid t s e x own) ∙ append-nil base) in
       inl (record {
         is = missing-before base (shown pid t) few event (shown pid (told_of k t e)) grown.more grown.is (same ∙ l.is);
         since = unanswered-next k pid s e h (λ f tells w. answered f tells l w) l.since;

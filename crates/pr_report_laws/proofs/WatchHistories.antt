@@ -45,6 +45,11 @@ pub makes-rest : (t : TrussState) (xs ys : List Exchange) → Makes t (xs ++ ys)
 makes-rest t [] ys makes = makes
 makes-rest t (x ∷ xs) ys makes = makes-rest (fed t x.reply) xs ys makes.1
 
+-- the exchanges of two histories, one after another
+pub exchanges-both : (k : ℕ) (xs ys : List Entry) → exchanges k (xs ++ ys) ≡ exchanges k xs ++ exchanges k ys
+unfolding exchanges
+exchanges-both k xs ys = filter_map-append (exchange_of k) xs ys
+
 -- the exchanges of a history with one entry more
 pub exchanges-push : (k : ℕ) (h : List Entry) (e : Entry) → exchanges k (h ++ e ∷ []) ≡ exchanges k h ++ cons_option (exchange_of k e) []
 unfolding exchanges

@@ -19,8 +19,10 @@ pub use grips::{
     a_watched_process_is_let_go_for_a_reason, an_opened_process_is_watched,
     no_process_is_watched_at_first_or_at_last, only_an_opened_process_is_watched,
 };
-pub use memories::the_text_of_an_event_is_what_stood_in_memory;
-pub use newborns::a_followed_child_does_nothing_before_it_is_watched;
+pub use memories::{
+    the_text_of_an_event_is_that_of_its_moment, the_text_of_an_event_is_what_stood_in_memory,
+};
+pub use newborns::{a_followed_child_does_nothing_before_it_is_watched, no_process_is_made_twice};
 pub use releases::{
     the_modes_stay_as_truss_has_set_them, truss_is_granted_the_modes,
     truss_kills_nothing_that_it_closes, truss_sets_the_modes_of_what_it_sets_free,

@@ -4,7 +4,11 @@ ghost use Rattle.pr_model.specs.Lawful.{IsLawful};
 ghost use Rattle.pr_model.specs.Legal.{IsLegal};
 ghost use Rattle.pr_model.specs.State.{TracedState};
 ghost use Rattle.pr_model.specs.declared.events.Entry.{Entry};
-ghost use Rattle.pr_report_laws.specs.Memories.{HaveTheirTexts};
+ghost use Rattle.pr_range_laws.specs.ByteHistories.{HasBytes};
+ghost use Rattle.pr_range_laws.specs.InRange.{IsInRange};
+ghost use Rattle.pr_report_laws.specs.Births.{IsNeverFollowed, LeavesForks, NamesNoChild};
+ghost use Rattle.pr_report_laws.specs.Fits.{IsFitSystem};
+ghost use Rattle.pr_report_laws.specs.Memories.{AreOfTheirEvents, HaveTheirTexts};
 ghost use Rattle.pr_truss.specs.Trusses.{first_truss};
 ghost use Rattle.pr_truss_laws.specs.Exchanges.{Makes, exchanges, truss_at};
 ghost use Rattle.pr_truss_laws.specs.Handles.{HasNothingOpen};
@@ -17,4 +21,21 @@ ghost use Rattle.pr_truss_laws.specs.Handles.{HasNothingOpen};
 pub fn the_text_of_an_event_is_what_stood_in_memory()
     ensures { (n k : ℕ) (o : Options) (s : TracedState) (h : List Entry) → IsLawful s → HasNothingOpen k s
         → IsLegal n s h → Makes (first_truss o) (exchanges k h) → HaveTheirTexts k o s h (truss_at k o h).reports }
+{}
+
+/// Where truss shows the selected events of a process, that memory is the one right after the event. Each of its
+/// reports whose line asks for memory is of an event that came before truss read that memory, in an entry before which
+/// just those events of the process were selected that truss had reported when it read. And the text of the report is
+/// what stood in memory in the state right after that entry; or SIGKILL ended the process in between. What other
+/// controllers and other processes do does not matter.
+#[tactic(auto, using(crate::proofs::EventMemory::moments))]
+pub fn the_text_of_an_event_is_that_of_its_moment()
+    ensures forks_left { (n k : ℕ) (o : Options) (pid : ℕ) (s : TracedState) (h : List Entry) → IsLawful s
+        → IsFitSystem s.system → HasNothingOpen k s → IsLegal n s h → Makes (first_truss o) (exchanges k h)
+        → IsInRange s.system → HasBytes h → NamesNoChild o h → LeavesForks k o h
+        → AreOfTheirEvents k o pid s h (truss_at k o h).reports }
+    ensures never_followed { (n k : ℕ) (o : Options) (pid : ℕ) (s : TracedState) (h : List Entry) → IsLawful s
+        → IsFitSystem s.system → HasNothingOpen k s → IsLegal n s h → Makes (first_truss o) (exchanges k h)
+        → IsInRange s.system → HasBytes h → IsNeverFollowed k o pid h
+        → AreOfTheirEvents k o pid s h (truss_at k o h).reports }
 {}

@@ -1,7 +1,6 @@
 use Rattle.std.proofs.Common.{◌≡◌, ◌==◌, ◌≤◌, ◌++◌, ℕ, zero, suc, Bool, true, false, cond, Option, Some, None, List, [], ◌∷◌, ◌⊎◌, append_assoc, inl, inr, length, replicate, refl, sym, ◌∙◌, ap, subst}
 use Rattle.std.proofs.lemmas.Bool.{eqb-true, eqb-false, false≢true}
 use Rattle.std.proofs.lemmas.List.{append-nil}
-use Rattle.std.proofs.lemmas.List.Elements.{filter_map-append}
 use Rattle.std.specs.List.{All, cons_option, slice_get}
 use Rattle.std.specs.Option.{option_and_then}
 use Rattle.pr_api.specs.Entries.{turn_entry}
@@ -26,16 +25,17 @@ use Rattle.pr_report_laws.proofs.BeginLaws.{finished-watches-none, followed-watc
 use Rattle.pr_report_laws.proofs.BeginsOnlyLaws.{watched-opened}
 use Rattle.pr_report_laws.proofs.Births.{births-report, unfollowed-report}
 use Rattle.pr_report_laws.proofs.EndLaws.{watched-let}
+use Rattle.pr_report_laws.proofs.EventMemory.{left-memories, unfollowed-memories}
 use Rattle.pr_report_laws.proofs.FileLaws.{HasFiles, IsFileOf}
 use Rattle.pr_report_laws.proofs.FileUses.{freed-file}
 use Rattle.pr_report_laws.proofs.FollowCalm.{never-kept, never-left}
 use Rattle.pr_report_laws.proofs.FollowLaws.{read-followed}
 use Rattle.pr_report_laws.proofs.FreedLaws.{read-freed}
 use Rattle.pr_report_laws.proofs.MemoryReads.{read-texts}
-use Rattle.pr_report_laws.proofs.NewbornLaws.{followed-forked, followed-rests, followed-silent}
+use Rattle.pr_report_laws.proofs.NewbornLaws.{followed-forked, followed-rests, followed-silent, followed-unstarted}
 use Rattle.pr_report_laws.proofs.ReleaseLaws.{freed-set, set-stays, traced-set}
 use Rattle.pr_report_laws.proofs.ReleaseSteps.{truss-releases}
-use Rattle.pr_report_laws.proofs.WatchHistories.{IsRun, makes-front, makes-rest, run-reaches}
+use Rattle.pr_report_laws.proofs.WatchHistories.{IsRun, exchanges-both, makes-front, makes-rest, run-reaches}
 use Rattle.pr_tool_laws.proofs.WholeLemmas.{front-bytes, front-legal}
 use Rattle.pr_report_laws.specs.Fits.{IsFitSystem}
 use Rattle.pr_report_laws.specs.Births.{LeavesForks, NamesNoChild, granted}
@@ -124,11 +124,6 @@ pub nothing-held : (k : ℕ) (s : TracedState) → s.opens ≡ nothing_open → 
 unfolding handle_of nothing_open
 nothing-held k s none = record { none = λ number. ap (λ (opens : Places). own k (slice_get opens number)) none ∙ none-held k handle_limit number }
 
--- a truss makes its calls in the front of a history too
-exchanges-both : (k : ℕ) (xs ys : List Entry) → exchanges k (xs ++ ys) ≡ exchanges k xs ++ exchanges k ys
-unfolding exchanges
-exchanges-both k xs ys = filter_map-append (exchange_of k) xs ys
-
 -- what is asked of the forks of a history is so of a front of it
 named-front : (o : Options) (before later : List Entry) → NamesNoChild o (before ++ later) → NamesNoChild o before
 named-front o before later named = record {
@@ -181,6 +176,7 @@ module _ (n k : ℕ) (o : Options) (first : TracedState) (h : List Entry) (run :
       let left = forks-front k o (before ++ e ∷ []) later (subst (LeavesForks k o) split forks) in
       record {
         forked = followed-forked n k o pid first before e it.lawful fit it.none it.legal it.makes range those none_named left off followed;
+        unstarted = followed-unstarted n k o pid first before e it.lawful fit it.none it.legal it.makes range those none_named left off followed;
         still = followed-rests n k o pid first before e it.lawful fit it.none it.legal it.makes range those none_named left off followed;
         silent = followed-silent n k o pid first before e it.lawful fit it.none it.legal it.makes range those none_named left off followed;
       }
@@ -272,6 +268,8 @@ truss-kept controllers n first h k o lawful fit range bytes at none legal follow
       shows = λ pid named forks. births-report n k o pid first h lawful fit none legal stays.0 range bytes named forks;
       shows_unfollowed = λ pid unfollowed. unfollowed-report n k o pid first h lawful fit none legal stays.0 range bytes unfollowed;
       texts = read-texts n k o first h lawful none legal stays.0;
+      moments = λ pid named forks. left-memories n k o pid first h lawful fit none legal stays.0 range bytes named forks;
+      moments_unfollowed = λ pid unfollowed. unfollowed-memories n k o pid first h lawful fit none legal stays.0 range bytes unfollowed;
       handled = handled-so-far o (exchanges k h) stays.0;
       soon = soon n k o first h run;
       children = children n k o first h run;

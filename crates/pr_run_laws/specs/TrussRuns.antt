@@ -23,8 +23,8 @@ use Rattle.pr_report_laws.specs.Follows.{IsFollowedUp, IsLeftChild, ReadsFork}
 use Rattle.pr_report_laws.specs.Freed.{IsInterruptedFreeing, IsSetFree, ReadsLastFork}
 use Rattle.pr_report_laws.specs.Grips.{HasFollowed, HasOpened, IsLetGo}
 use Rattle.pr_laws.specs.LastCloses.{IsReleased}
-use Rattle.pr_report_laws.specs.Memories.{HaveTheirTexts}
-use Rattle.pr_report_laws.specs.Newborn.{IsNoTurnOf, WasForked}
+use Rattle.pr_report_laws.specs.Memories.{AreOfTheirEvents, HaveTheirTexts}
+use Rattle.pr_report_laws.specs.Newborn.{IsNoTurnOf, WasForked, WasSpawned}
 use Rattle.pr_report_laws.specs.Releases.{has_set_at, modes_set, released}
 use Rattle.pr_report_laws.specs.Reported.{IsReported}
 use Rattle.pr_report_laws.specs.Shown.{selected}
@@ -60,10 +60,11 @@ pub record HasDone (k : ℕ) (o : Options) (first : TracedState) (h : List Entry
 
 -- ---- the children of forks
 
--- A child that truss watches from the end of this history on: a fork made it, no lwp of it has had a turn, and so no
--- event of it that the options select has come.
+-- A child that truss watches from the end of this history on: a fork made it and no controller did, no lwp of it has
+-- had a turn, and so no event of it that the options select has come.
 pub record IsNewborn (o : Options) (pid : ℕ) (first : TracedState) (h : List Entry) : Type 0 where
   pub forked : WasForked pid h
+  pub unstarted : (by : ℕ) → WasSpawned by pid h → ⊥
   pub still : All (IsNoTurnOf pid) h
   pub silent : selected o pid (events_from first h) ≡ []
 
@@ -124,7 +125,8 @@ pub record Releases (k : ℕ) (o : Options) (first : TracedState) (h : List Entr
 -- children, this is said only of a process of which it never got hold as the child of a fork, or if fork makes none of
 -- the processes that its options name, and if between a fork and the opening of its child no other controller is
 -- granted a handle for writing of the child; and then a child does nothing before it is watched. The memory that stands
--- in the line of an event is that of the state in which truss read it.
+-- in the line of an event is that of the state in which truss read it, and on the same condition that of the state
+-- right after the event, unless SIGKILL ended the process before truss read.
 --
 -- What truss was given it has handled in order, as far as it has come, and what a poll named it soon runs, or closes.
 -- Truss watches a process right after it has opened it, begins to watch it in no other way, and lets it go for a reason
@@ -138,6 +140,10 @@ pub record IsTrussKept (controllers : List Core) (first : TracedState) (h : List
   pub shows : (pid : ℕ) → NamesNoChild o h → LeavesForks k o h → IsReported k o pid first h
   pub shows_unfollowed : (pid : ℕ) → IsNeverFollowed k o pid h → IsReported k o pid first h
   pub texts : HaveTheirTexts k o first h (truss_at k o h).reports
+  pub moments : (pid : ℕ) → NamesNoChild o h → LeavesForks k o h
+      → AreOfTheirEvents k o pid first h (truss_at k o h).reports
+  pub moments_unfollowed : (pid : ℕ) → IsNeverFollowed k o pid h
+      → AreOfTheirEvents k o pid first h (truss_at k o h).reports
   pub handled : IsHandledSoFar o (next_call_of (truss_at k o h)) o.program (truss_at k o h).reports (exchanges k h)
   pub soon : (before between later : List Exchange) (x : Exchange) (place : ℕ)
       → exchanges k h ≡ before ++ x ∷ (between ++ later)

@@ -6,6 +6,7 @@ pub mod FedLemmas
 pub mod ForeignLemmas
 pub mod FrameLemmas
 pub mod GivenLemmas
+pub mod HaltLemmas
 pub mod HeldLemmas
 pub mod LeavingLemmas
 pub mod LookLemmas
