@@ -70,7 +70,7 @@ never-left n k of s h before later legal is d =
     (last-calm b.before y (following_calls of d.opening) (length d.opening) (child-calm of (handle_in (reply_at d.opening 0))) (ap calls_in (sym b.last) ∙ b.calls)) refl
 
 -- nor is the open of a child that is set free
-pub never-kept : (n k of : ℕ) (s : TracedState) (h : List Entry) (before later : List Exchange) (parent : Traced) (base reports : List Report) → IsLegal n s h → exchanges k h ≡ before ++ later → IsInterruptedFreeing of parent base reports later → ⊥
+pub never-kept : (n k of : ℕ) (s : TracedState) (h : List Entry) (before later : List Exchange) (parent : Traced) (base reports : List Report) (next : Option Call) → IsLegal n s h → exchanges k h ≡ before ++ later → IsInterruptedFreeing of parent base reports next later → ⊥
 unfolding answer_of
-never-kept n k of s h before later parent base reports legal is d =
+never-kept n k of s h before later parent base reports next legal is d =
     calm-exchanges h n k s before d.later (record { call = open_control of; reply = reply.Fail Intr }) legal (is ∙ ap (λ ys. before ++ ys) d.is) refl refl

@@ -26,14 +26,14 @@ use Rattle.pr_truss_laws.proofs.HeldLemmas.{Fits, Grown}
 use Rattle.pr_truss_laws.specs.Exchanges.{Exchange, IsGranted, Makes, errno_in, truss_after}
 use Rattle.pr_report_laws.proofs.BeginLaws.{at-options}
 use Rattle.pr_report_laws.proofs.FollowForks.{fork-comes}
-use Rattle.pr_report_laws.proofs.FollowOpenings.{Broken, ChildEnd, IsAt, begun-calls, child-end, failed, runs-now, stopped, unfinished, whole}
+use Rattle.pr_report_laws.proofs.FollowOpenings.{Broken, ChildEnd, IsAt, Runs, awaited-call, begun-calls, child-end, failed, runs-now, stopped, unfinished, whole}
 use Rattle.pr_report_laws.proofs.FollowUnseen.{Stays, reached-fresh}
 use Rattle.pr_report_laws.proofs.OpeningRuns.{born-fed}
 use Rattle.pr_report_laws.proofs.TracedPlaces.{opened-before}
 use Rattle.pr_report_laws.proofs.WatchHistories.{after-append, makes-rest}
 use Rattle.pr_report_laws.proofs.WatchMemory.{child-calls}
 use Rattle.pr_report_laws.specs.Freed.{handles_of}
-use Rattle.pr_report_laws.specs.Follows.{IsFollowedUp, IsRefusedFollowing, ReadsFork, RunsThen, opened_by, with_opened_by, attached, begun, left, refused}
+use Rattle.pr_report_laws.specs.Follows.{IsFollowedUp, IsRefusedFollowing, ReadsFork, opened_by, with_opened_by, attached, begun, left, refused}
 
 -- What becomes of the child of each fork that truss has read.
 
@@ -42,7 +42,7 @@ short-five x xs less = omega (arith, less)
 
 module _ (f t : TrussState) (parent of control : ℕ) (stage : t.stage ≡ OpeningChildControl parent of) (fits : Fits t.traced t.stage) (runs : (traced_at t parent).control ≡ control) where
   abbrev Goal : List Exchange → Type 0
-  Goal xs = IsFollowedUp of control t.reports f.reports xs
+  Goal xs = IsFollowedUp of control t.reports f.reports (next_call_of f) xs
 
   parent-within : parent < length t.traced
   parent-within = subst (Fits t.traced) stage fits
@@ -71,7 +71,8 @@ module _ (f t : TrussState) (parent of control : ℕ) (stage : t.stage ≡ Openi
     refused-ends errno is comes =
         let m : Makes (refused_state errno) xs = subst (λ v. Makes v xs) comes makes in
         let now : Fits (refused_state errno).traced (refused_state errno).stage = subst (λ (v : TrussState). Fits v.traced v.stage) comes (fed-fits t x.reply fits) in
-        let g : Grown (refused_state errno).reports f.reports = subst (λ (v : TrussState). Grown (refused_state errno).reports v.reports) (ap (λ v. truss_after v xs) (sym comes) ∙ last) (after-grown xs (refused_state errno) now) in
+        let ends : truss_after (refused_state errno) xs ≡ f = ap (λ v. truss_after v xs) (sym comes) ∙ last in
+        let g : Grown (refused_state errno).reports f.reports = subst (λ (v : TrussState). Grown (refused_state errno).reports v.reports) ends (after-grown xs (refused_state errno) now) in
         refused (record {
           errno = errno;
           opening = x ∷ [];
@@ -80,7 +81,7 @@ module _ (f t : TrussState) (parent of control : ℕ) (stage : t.stage ≡ Openi
           is = refl;
           refused = first-refused errno is;
           reported = g.is ∙ append_assoc t.reports (CannotTrace of errno ∷ []) g.more;
-          parent = runs-now control (refused_state errno) parent xs refl runs m;
+          parent = runs-now f control (refused_state errno) parent xs refl runs m ends;
         })
 
     -- it was granted
@@ -115,7 +116,7 @@ module _ (f t : TrussState) (parent of control : ℕ) (stage : t.stage ≡ Openi
         calls = child-calls of x (d.opening ++ d.last ∷ []) call d.goes;
         granted = all-granted d.opening d.granted;
         lives = d.lives;
-        ended = λ gone. subst (λ hs. RunsThen control hs d.later) (sym (opened-first d.opening)) (d.ended gone);
+        ended = λ gone. subst (λ hs. Runs f control hs d.later) (sym (opened-first d.opening)) (d.ended gone);
       })
       end-follows (failed d) = let b = d.broken in refused (record {
         errno = d.errno;
@@ -125,10 +126,10 @@ module _ (f t : TrussState) (parent of control : ℕ) (stage : t.stage ≡ Openi
         is = ap (λ ys. x ∷ ys) b.is;
         refused = broken-follows d.errno xs b;
         reported = d.reported;
-        parent = subst (λ hs. RunsThen control hs b.later) (sym (opened-first b.before)) d.parent;
+        parent = subst (λ hs. Runs f control hs b.later) (sym (opened-first b.before)) d.parent;
       })
       end-follows (stopped d) = left (record { opening = x ∷ d.opening; later = d.later; is = ap (λ ys. x ∷ ys) d.is; interrupted = broken-follows Intr xs d })
-      end-follows (unfinished d) = begun (record { calls = begun-calls of x xs call d.goes; granted = all-granted xs d.granted; not_done = short-five x xs d.not_done })
+      end-follows (unfinished d) = begun (record { calls = begun-calls of x xs call d.goes; granted = all-granted xs d.granted; not_done = short-five x xs d.not_done; goes_on = awaited-call (next_call_of f) of x xs d.not_done d.goes_on })
 
       child-at : fed t x.reply ≡ with_child_control t parent of (handle_in x.reply) → IsAt f control of t.reports (with_child_control t parent of (handle_in x.reply)) new parent (length t.traced) child.SetRelease
       unfolding with_child_control newly_traced
@@ -155,17 +156,20 @@ module _ (f t : TrussState) (parent of control : ℕ) (stage : t.stage ≡ Openi
     opened-ends Gone is answer = refused-ends Noent is (refused-fed Noent Gone answer refl)
     opened-ends (Refused errno) is answer = refused-ends errno is (refused-fed errno (Refused errno) answer refl)
 
-  control-called : (x : Exchange) → next_call_of t ≡ Some x.call → x.call ≡ open_control of
+  control-next : next_call_of t ≡ Some (open_control of)
   unfolding next_call_of call_of
-  control-called x next = same_Some x.call (open_control of) (sym next ∙ ap (call_of t) stage)
+  control-next = ap (call_of t) stage
+
+  control-called : (x : Exchange) → next_call_of t ≡ Some x.call → x.call ≡ open_control of
+  control-called x next = same_Some x.call (open_control of) (sym next ∙ control-next)
 
   child-follows : (xs : List Exchange) → Makes t xs → truss_after t xs ≡ f → Goal xs
-  child-follows [] makes last = begun (record { calls = refl; granted = All-nil IsGranted; not_done = omega arith })
+  child-follows [] makes last = begun (record { calls = refl; granted = All-nil IsGranted; not_done = omega arith; goes_on = ap next_call_of (sym last) ∙ control-next })
   child-follows (x ∷ xs) makes last = opened-ends x xs (control-called x makes.0) makes.1 last (answer_of x.reply) (answer-is x.reply) refl
 
 pub read-followed : (o : Options) (xs before later : List Exchange) (x : Exchange) (place of : ℕ) → o.follow ≡ true → Makes (first_truss o) xs → xs ≡ before ++ x ∷ later
     → ReadsFork (truss_after (first_truss o) before) x.reply place of
-    → IsFollowedUp of (traced_at (truss_after (first_truss o) before) place).control (fed (truss_after (first_truss o) before) x.reply).reports (truss_after (first_truss o) xs).reports later
+    → IsFollowedUp of (traced_at (truss_after (first_truss o) before) place).control (fed (truss_after (first_truss o) before) x.reply).reports (truss_after (first_truss o) xs).reports (next_call_of (truss_after (first_truss o) xs)) later
 read-followed o xs before later x place of follow makes is reads =
     let t = truss_after (first_truss o) before in
     let fits = after-fits before (first_truss o) (first-fits o) in

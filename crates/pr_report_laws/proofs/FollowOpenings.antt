@@ -1,7 +1,7 @@
 use Rattle.std.proofs.Common.{◌≡◌, ◌≢◌, ◌<◌, ◌++◌, ℕ, suc, Bool, Option, Some, None, List, [], ◌∷◌, length, take, refl, sym, subst, ap, ◌∙◌, arith, append_assoc}
 use Rattle.std.proofs.lemmas.List.Elements.{All-cons, All-nil}
 use Rattle.std.proofs.lemmas.Option.{none-some, same_Some}
-use Rattle.std.specs.List.{All, cons_option}
+use Rattle.std.specs.List.{All, cons_option, slice_get}
 use Rattle.pr_model.specs.Replies.{handle_in}
 use Rattle.pr_model.specs.declared.calls.Call.{Call}
 use Rattle.pr_model.specs.declared.calls.Call.TheVariants as call
@@ -60,6 +60,21 @@ begun-calls pid x0 (x1 ∷ x2 ∷ x3 ∷ x4 ∷ []) f g = front f (front g.0 (fr
 begun-calls pid x0 (x1 ∷ x2 ∷ x3 ∷ x4 ∷ x5 ∷ []) f g = front f (front g.0 (front g.1.0 (front g.1.1.0 (front g.1.1.1.0 (front g.1.1.1.1.0 refl)))))
 begun-calls pid x0 (x1 ∷ x2 ∷ x3 ∷ x4 ∷ x5 ∷ x6 ∷ xs) f g = cc
 
+-- The call that comes after them is this one.
+abbrev pub AwaitsChild : Option Call → Traced → Option ChildStep → List Exchange → Type 0
+AwaitsChild n u None xs = Unit {0}
+AwaitsChild n u (Some step) [] = n ≡ Some (child_call u step)
+AwaitsChild n u (Some step) (x ∷ xs) = AwaitsChild n (child_learnt u x.reply step) (child_step_after step) xs
+
+pub awaited-call : (n : Option Call) (pid : ℕ) (x0 : Exchange) (xs : List Exchange) → length xs < 5 → AwaitsChild n (newly_traced pid (handle_in x0.reply)) (Some child.SetRelease) xs → n ≡ slice_get (child_calls pid (handle_in x0.reply)) (length (x0 ∷ xs))
+unfolding child_call child_learnt child_step_after newly_traced
+awaited-call n pid x0 [] few is = is
+awaited-call n pid x0 (x1 ∷ []) few is = is
+awaited-call n pid x0 (x1 ∷ x2 ∷ []) few is = is
+awaited-call n pid x0 (x1 ∷ x2 ∷ x3 ∷ []) few is = is
+awaited-call n pid x0 (x1 ∷ x2 ∷ x3 ∷ x4 ∷ []) few is = is
+awaited-call n pid x0 (x1 ∷ x2 ∷ x3 ∷ x4 ∷ x5 ∷ xs) few is = absurd (omega (arith, few))
+
 -- ---- the steps
 
 child-some : (step : ChildStep) → 0 < child_left step
@@ -117,17 +132,24 @@ pub close-fed : (s : TrussState) (r : Reply) (place : ℕ) (next : AfterClosing)
 unfolding fed with_reply with_closed
 close-fed s r place next stage = ap (with_reply s r) stage
 
-pub close-call : (s : TrussState) (x : Exchange) (u : Traced) (place : ℕ) (next : AfterClosing) → s.stage ≡ Closing place next → traced_at s place ≡ u → next_call_of s ≡ Some x.call → x.call ≡ call.Close (last_handle u)
-unfolding next_call_of call_of
-close-call s x u place next stage at is = same_Some x.call (call.Close (last_handle u)) (sym is ∙ ap (call_of s) stage ∙ ap (λ t. Some (call.Close (last_handle t))) at)
-
 -- ---- the parent runs
 
-module _ (control : ℕ) where
-  pub runs-now : (s : TrussState) (parent : ℕ) (xs : List Exchange) → s.stage ≡ Running parent → (traced_at s parent).control ≡ control → Makes s xs → RunsThen control [] xs
+-- the call of a truss that closes a file of a process
+pub closes-next : (s : TrussState) (u : Traced) (place : ℕ) (next : AfterClosing) → s.stage ≡ Closing place next → traced_at s place ≡ u → next_call_of s ≡ Some (call.Close (last_handle u))
+unfolding next_call_of call_of
+closes-next s u place next stage at = ap (call_of s) stage ∙ ap (λ t. Some (call.Close (last_handle t))) at
+
+module _ (f : TrussState) (control : ℕ) where
+  abbrev pub Runs : List ℕ → List Exchange → Type 0
+  Runs handles xs = RunsThen (next_call_of f) control handles xs
+
+  running-next : (s : TrussState) (parent : ℕ) → s.stage ≡ Running parent → (traced_at s parent).control ≡ control → next_call_of s ≡ Some (run_call control)
   unfolding next_call_of call_of
-  runs-now s parent [] stage of makes = tt
-  runs-now s parent (x ∷ xs) stage of makes = same_Some x.call (run_call control) (sym makes.0 ∙ ap (call_of s) stage ∙ ap (λ c. Some (run_call c)) of)
+  running-next s parent stage of = ap (call_of s) stage ∙ ap (λ c. Some (run_call c)) of
+
+  pub runs-now : (s : TrussState) (parent : ℕ) (xs : List Exchange) → s.stage ≡ Running parent → (traced_at s parent).control ≡ control → Makes s xs → truss_after s xs ≡ f → Runs [] xs
+  runs-now s parent [] stage of makes last = ap next_call_of (sym last) ∙ running-next s parent stage of
+  runs-now s parent (x ∷ xs) stage of makes last = (same_Some x.call (run_call control) (sym makes.0 ∙ running-next s parent stage of), tt)
 
   -- Truss closes the files of the child, which stands behind its parent.
   record IsClosing (s : TrussState) (u : Traced) (parent place : ℕ) : Type 0 where
@@ -137,12 +159,12 @@ module _ (control : ℕ) where
     child : traced_at s place ≡ u
     of : (traced_at s parent).control ≡ control
 
-  closed-runs : (s : TrussState) (u : Traced) (parent place : ℕ) (x : Exchange) (xs : List Exchange) → IsClosing s u parent place → x.call ≡ call.Close (last_handle u) → ((t : TrussState) (v : Traced) → IsClosing t v parent place → Makes t xs → RunsThen control (handles_of v) xs) → (left : Option Traced) → ClosesFirst u left → Makes (closed_or_removed s place (RunParent parent) left) xs → RunsThen control (handles_of u) (x ∷ xs)
+  closed-runs : (s : TrussState) (u : Traced) (parent place : ℕ) (x : Exchange) (xs : List Exchange) → IsClosing s u parent place → x.call ≡ call.Close (last_handle u) → ((t : TrussState) (v : Traced) → IsClosing t v parent place → Makes t xs → truss_after t xs ≡ f → Runs (handles_of v) xs) → (left : Option Traced) → ClosesFirst u left → Makes (closed_or_removed s place (RunParent parent) left) xs → truss_after (closed_or_removed s place (RunParent parent) left) xs ≡ f → Runs (handles_of u) (x ∷ xs)
   unfolding after_closing
-  closed-runs s u parent place x xs c call later None first makes =
-      subst (λ hs. RunsThen control hs (x ∷ xs)) (sym first) (call, runs-now (with_stage (without_traced s place) (Running parent)) parent xs refl (ap (λ (t : Traced). t.control) (removed-before s place c.within parent c.behind) ∙ c.of) makes)
-  closed-runs s u parent place x xs c call later (Some t) first makes =
-      subst (λ hs. RunsThen control hs (x ∷ xs)) (sym first) (
+  closed-runs s u parent place x xs c call later None first makes last =
+      subst (λ hs. Runs hs (x ∷ xs)) (sym first) (call, runs-now (with_stage (without_traced s place) (Running parent)) parent xs refl (ap (λ (t : Traced). t.control) (removed-before s place c.within parent c.behind) ∙ c.of) makes last)
+  closed-runs s u parent place x xs c call later (Some t) first makes last =
+      subst (λ hs. Runs hs (x ∷ xs)) (sym first) (
         call,
         later (with_traced s place t) t (record {
           stage = c.stage;
@@ -150,18 +172,20 @@ module _ (control : ℕ) where
           within = omega (arith, set-length s place t, c.within);
           child = set-at s.traced place t c.within;
           of = ap (λ (v : Traced). v.control) (set-other s place t parent (λ same. absurd (omega (arith, same, c.behind)))) ∙ c.of;
-        }) makes,
+        }) makes last,
       )
 
-  none-left : (handles : List ℕ) → RunsThen control handles []
-  none-left [] = tt
-  none-left (handle ∷ handles) = tt
+  closing-next : (u : Traced) → next_call_of f ≡ Some (call.Close (last_handle u)) → (left : Option Traced) → ClosesFirst u left → Runs (handles_of u) []
+  closing-next u next None first = subst (λ hs. Runs hs []) (sym first) next
+  closing-next u next (Some t) first = subst (λ hs. Runs hs []) (sym first) next
 
-  closing-runs : (xs : List Exchange) (s : TrussState) (u : Traced) (parent place : ℕ) → IsClosing s u parent place → Makes s xs → RunsThen control (handles_of u) xs
-  closing-runs [] s u parent place c makes = none-left (handles_of u)
-  closing-runs (x ∷ xs) s u parent place c makes =
-      closed-runs s u parent place x xs c (close-call s x u place (RunParent parent) c.stage c.child makes.0) (λ t v. closing-runs xs t v parent place) (without_last u) (closes-first u)
-      (subst (λ w. Makes (closed_or_removed s place (RunParent parent) (without_last w)) xs) c.child (subst (λ t. Makes t xs) (close-fed s x.reply place (RunParent parent) c.stage) makes.1))
+  closing-runs : (xs : List Exchange) (s : TrussState) (u : Traced) (parent place : ℕ) → IsClosing s u parent place → Makes s xs → truss_after s xs ≡ f → Runs (handles_of u) xs
+  closing-runs [] s u parent place c makes last = closing-next u (ap next_call_of (sym last) ∙ closes-next s u place (RunParent parent) c.stage c.child) (without_last u) (closes-first u)
+  closing-runs (x ∷ xs) s u parent place c makes last =
+      let is : fed s x.reply ≡ closed_or_removed s place (RunParent parent) (without_last u) =
+      close-fed s x.reply place (RunParent parent) c.stage ∙ ap (λ w. closed_or_removed s place (RunParent parent) (without_last w)) c.child in
+      closed-runs s u parent place x xs c (same_Some x.call (call.Close (last_handle u)) (sym makes.0 ∙ closes-next s u place (RunParent parent) c.stage c.child)) (λ t v. closing-runs xs t v parent place) (without_last u) (closes-first u)
+      (subst (λ t. Makes t xs) is makes.1) (ap (λ t. truss_after t xs) (sym is) ∙ last)
 
 -- ---- how an opening ends
 
@@ -174,8 +198,8 @@ module _ (f : TrussState) (control pid : ℕ) (base : List Report) where
     pub is : xs ≡ opening ++ last ∷ later
     pub goes : GoesChild u (Some step) (opening ++ last ∷ [])
     pub granted : All IsGranted opening
-    pub lives : last.reply ≢ reply.Fail Noent → RunsThen control [] later
-    pub ended : last.reply ≡ reply.Fail Noent → RunsThen control (with_opened_by (handles_of u) opening) later
+    pub lives : last.reply ≢ reply.Fail Noent → Runs f control [] later
+    pub ended : last.reply ≡ reply.Fail Noent → Runs f control (with_opened_by (handles_of u) opening) later
 
   pub record Broken (u : Traced) (step : ChildStep) (errno : Errno) (xs : List Exchange) : Type 0 where
     pub opening : List Exchange
@@ -193,12 +217,13 @@ module _ (f : TrussState) (control pid : ℕ) (base : List Report) where
     pub broken : Broken u step errno xs
     pub more : List Report
     pub reported : f.reports ≡ base ++ CannotTrace pid errno ∷ more
-    pub parent : RunsThen control (with_opened_by (handles_of u) broken.before) broken.later
+    pub parent : Runs f control (with_opened_by (handles_of u) broken.before) broken.later
 
   pub record Begun (u : Traced) (step : ChildStep) (xs : List Exchange) : Type 0 where
     pub goes : BeginsChild u (Some step) xs
     pub granted : All IsGranted xs
     pub not_done : length xs < child_left step
+    pub goes_on : AwaitsChild (next_call_of f) u (Some step) xs
 
   pub data ChildEnd (u : Traced) (step : ChildStep) (xs : List Exchange) : Type 0 where
     whole : Attached u step xs → ChildEnd u step xs
@@ -252,26 +277,30 @@ module _ (f : TrussState) (control pid : ℕ) (base : List Report) where
       goes = (call, subst (λ n. GoesChild then n (d.opening ++ d.last ∷ [])) (sym after) d.goes);
       granted = All-cons IsGranted x d.opening granted d.granted;
       lives = d.lives;
-      ended = λ gone. subst (λ hs. RunsThen control hs d.later) (sym (opened-then d.opening)) (d.ended gone);
+      ended = λ gone. subst (λ hs. Runs f control hs d.later) (sym (opened-then d.opening)) (d.ended gone);
     })
-    end-more (failed d) = failed (record { errno = d.errno; broken = broken-more d.errno d.broken; more = d.more; reported = d.reported; parent = let b = d.broken in subst (λ hs. RunsThen control hs b.later) (sym (opened-then b.before)) d.parent })
+    end-more (failed d) = failed (record { errno = d.errno; broken = broken-more d.errno d.broken; more = d.more; reported = d.reported; parent = let b = d.broken in subst (λ hs. Runs f control hs b.later) (sym (opened-then b.before)) d.parent })
     end-more (stopped d) = stopped (broken-more Intr d)
     end-more (unfinished d) = unfinished (record {
       goes = (call, subst (λ n. BeginsChild then n xs) (sym after) d.goes);
       granted = All-cons IsGranted x xs granted d.granted;
       not_done = omega (arith, d.not_done, shorter);
+      goes_on = subst (λ n. AwaitsChild (next_call_of f) then n xs) (sym after) d.goes_on;
     })
 
   -- ---- one call
 
+  child-next : (s : TrussState) (u : Traced) (parent place : ℕ) (step : ChildStep) → IsAt s u parent place step → next_call_of s ≡ Some (child_call u step)
+  unfolding next_call_of call_of
+  child-next s u parent place step at = ap (call_of s) at.stage ∙ ap (λ t. Some (child_call t step)) at.child
+
   module _ (s : TrussState) (u : Traced) (parent place : ℕ) (x : Exchange) (xs : List Exchange) where
     child-called : (step : ChildStep) → IsAt s u parent place step → next_call_of s ≡ Some x.call → x.call ≡ child_call u step
-    unfolding next_call_of call_of
-    child-called step at next = same_Some x.call (child_call u step) (sym next ∙ ap (call_of s) at.stage ∙ ap (λ t. Some (child_call t step)) at.child)
+    child-called step at next = same_Some x.call (child_call u step) (sym next ∙ child-next s u parent place step at)
 
     -- PCRUN
-    module _ (at : IsAt s u parent place child.Start) (call : x.call ≡ child_call u child.Start) (makes : Makes (fed s x.reply) xs) where
-      started : (x.reply ≢ reply.Fail Noent → RunsThen control [] xs) → (x.reply ≡ reply.Fail Noent → RunsThen control (handles_of u) xs) → ChildEnd u child.Start (x ∷ xs)
+    module _ (at : IsAt s u parent place child.Start) (call : x.call ≡ child_call u child.Start) (makes : Makes (fed s x.reply) xs) (last : truss_after (fed s x.reply) xs ≡ f) where
+      started : (x.reply ≢ reply.Fail Noent → Runs f control [] xs) → (x.reply ≡ reply.Fail Noent → Runs f control (handles_of u) xs) → ChildEnd u child.Start (x ∷ xs)
       unfolding child_step_after
       started lives ended = whole (record { opening = []; last = x; later = xs; is = refl; goes = (call, refl); granted = All-nil IsGranted; lives = lives; ended = ended })
 
@@ -283,7 +312,7 @@ module _ (f : TrussState) (control pid : ℕ) (base : List Report) where
       lives-on lives =
           let is = child-started s parent place x.reply at.stage lives in
           let m : Makes (with_stage s (Running parent)) xs = subst (λ v. Makes v xs) is makes in
-          started (λ not. runs-now control (with_stage s (Running parent)) parent xs refl at.of m) (λ gone. absurd (lives (noent-gone gone)))
+          started (λ not. runs-now f control (with_stage s (Running parent)) parent xs refl at.of m (ap (λ v. truss_after v xs) (sym is) ∙ last)) (λ gone. absurd (lives (noent-gone gone)))
 
       gone-fed : answer_of x.reply ≡ Gone → fed s x.reply ≡ with_stage s (Closing place (RunParent parent))
       unfolding fed with_reply with_child_answered with_child_started
@@ -296,7 +325,8 @@ module _ (f : TrussState) (control pid : ℕ) (base : List Report) where
       ends-there : answer_of x.reply ≡ Gone → ChildEnd u child.Start (x ∷ xs)
       ends-there gone =
           let m : Makes (with_stage s (Closing place (RunParent parent))) xs = subst (λ v. Makes v xs) (gone-fed gone) makes in
-          started (λ not. absurd (not (gone-is gone))) (λ is. closing-runs control xs (with_stage s (Closing place (RunParent parent))) u parent place (record { stage = refl; behind = at.behind; within = at.within; child = at.child; of = at.of }) m)
+          let ends : truss_after (with_stage s (Closing place (RunParent parent))) xs ≡ f = ap (λ v. truss_after v xs) (sym (gone-fed gone)) ∙ last in
+          started (λ not. absurd (not (gone-is gone))) (λ is. closing-runs f control xs (with_stage s (Closing place (RunParent parent))) u parent place (record { stage = refl; behind = at.behind; within = at.within; child = at.child; of = at.of }) m ends)
 
       start-end : (a : Answer) → answer_of x.reply ≡ a → ChildEnd u child.Start (x ∷ xs)
       start-end Gone is = ends-there is
@@ -327,13 +357,14 @@ module _ (f : TrussState) (control pid : ℕ) (base : List Report) where
       failed-here errno is comes =
           let m : Makes (refused_state errno) xs = subst (λ v. Makes v xs) comes makes in
           let fits : Fits (refused_state errno).traced (refused_state errno).stage = subst (λ (v : TrussState). Fits v.traced v.stage) comes (fed-fits s x.reply at.fits) in
-          let g : Grown (refused_state errno).reports f.reports = subst (λ (v : TrussState). Grown (refused_state errno).reports v.reports) (ap (λ v. truss_after v xs) (sym comes) ∙ last) (after-grown xs (refused_state errno) fits) in
+          let ends : truss_after (refused_state errno) xs ≡ f = ap (λ v. truss_after v xs) (sym comes) ∙ last in
+          let g : Grown (refused_state errno).reports f.reports = subst (λ (v : TrussState). Grown (refused_state errno).reports v.reports) ends (after-grown xs (refused_state errno) fits) in
           failed (record {
             errno = errno;
             broken = broken-here errno is;
             more = g.more;
             reported = g.is ∙ append_assoc s.reports (CannotTrace (traced_at s place).pid errno ∷ []) g.more ∙ ap (λ rs. rs ++ CannotTrace (traced_at s place).pid errno ∷ g.more) at.reports ∙ ap (λ n. base ++ CannotTrace n errno ∷ g.more) (ap (λ (t : Traced). t.pid) at.child ∙ at.own);
-            parent = closing-runs control xs (refused_state errno) u parent place (record { stage = refl; behind = at.behind; within = at.within; child = at.child; of = at.of }) m;
+            parent = closing-runs f control xs (refused_state errno) u parent place (record { stage = refl; behind = at.behind; within = at.within; child = at.child; of = at.of }) m ends;
           })
 
       refused-fed : (errno : Errno) (a : Answer) → answer_of x.reply ≡ a → with_child_step_answered s parent place step x.reply a ≡ refused_state errno → fed s x.reply ≡ refused_state errno
@@ -368,12 +399,12 @@ module _ (f : TrussState) (control pid : ℕ) (base : List Report) where
   -- ---- all of them
 
   pub child-end : (xs : List Exchange) (s : TrussState) (u : Traced) (parent place : ℕ) (step : ChildStep) → IsAt s u parent place step → Makes s xs → truss_after s xs ≡ f → ChildEnd u step xs
-  child-end [] s u parent place step at makes last = unfinished (record { goes = tt; granted = All-nil IsGranted; not_done = child-some step })
+  child-end [] s u parent place step at makes last = unfinished (record { goes = tt; granted = All-nil IsGranted; not_done = child-some step; goes_on = ap next_call_of (sym last) ∙ child-next s u parent place step at })
   child-end (x ∷ xs) s u parent place step at makes last = by (λ v w n. child-end xs v w parent place n) (child_step_after step) refl
     where
       by : ((v : TrussState) (w : Traced) (n : ChildStep) → IsAt v w parent place n → Makes v xs → truss_after v xs ≡ f → ChildEnd w n xs) → (n : Option ChildStep) → child_step_after step ≡ n → ChildEnd u step (x ∷ xs)
       by later None is =
           let start = last-step step is in
           let here = subst (IsAt s u parent place) start at in
-          subst (λ n. ChildEnd u n (x ∷ xs)) (sym start) (start-end s u parent place x xs here (child-called s u parent place x xs child.Start here makes.0) makes.1 (answer_of x.reply) refl)
+          subst (λ n. ChildEnd u n (x ∷ xs)) (sym start) (start-end s u parent place x xs here (child-called s u parent place x xs child.Start here makes.0) makes.1 last (answer_of x.reply) refl)
       by later (Some next) is = step-end s u parent place x xs step next is at (child-called s u parent place x xs step at makes.0) makes.1 last later (answer_of x.reply) (answer-is x.reply) refl

@@ -33,13 +33,14 @@ use Rattle.pr_truss_laws.proofs.HeldLemmas.{Fits, Grown, set-at}
 use Rattle.pr_truss_laws.specs.Exchanges.{Exchange, Makes, errno_in, truss_after}
 use Rattle.pr_report_laws.proofs.BeginLaws.{at-options}
 use Rattle.pr_report_laws.proofs.FollowForks.{leaving-comes}
-use Rattle.pr_report_laws.proofs.FollowOpenings.{ClosesFirst, close-call, close-fed, closes-first}
+use Rattle.pr_report_laws.proofs.FollowOpenings.{ClosesFirst, close-fed, closes-first, closes-next}
 use Rattle.pr_report_laws.proofs.Leaving.{leaves, reached-leaving}
 use Rattle.pr_report_laws.proofs.NextStages.{going_on-comes}
 use Rattle.pr_report_laws.proofs.OpeningRuns.{freed-fed}
 use Rattle.pr_report_laws.proofs.TracedPlaces.{set-length}
 use Rattle.pr_report_laws.proofs.WatchHistories.{after-append, makes-rest}
-use Rattle.pr_report_laws.specs.Freed.{ComeNext, IsSetFree, ReadsLastFork, closing_calls, freed, interrupted, refused}
+use Rattle.pr_report_laws.specs.Follows.{ComeNext}
+use Rattle.pr_report_laws.specs.Freed.{IsSetFree, ReadsLastFork, closing_calls, freed, freeing_calls, interrupted, refused}
 
 -- What becomes of the child of each fork that truss has read while it leaves a process.
 
@@ -47,19 +48,15 @@ use Rattle.pr_report_laws.specs.Freed.{ComeNext, IsSetFree, ReadsLastFork, closi
 
 -- From this state on these calls come next, and up to the last of them these are the reports.
 record Goes (calls : List Call) (base : List Report) (s : TrussState) (xs : List Exchange) : Type 0 where
-  next : ComeNext calls xs
+  next : ComeNext (next_call_of (truss_after s xs)) calls xs
   silent : length xs ≤ length calls → (truss_after s xs).reports ≡ base
 
 goes-over : (base : List Report) (s : TrussState) (xs : List Exchange) → s.reports ≡ base → Goes [] base s xs
 goes-over base s [] is = record { next = tt; silent = λ short. is }
 goes-over base s (x ∷ xs) is = record { next = tt; silent = λ short. absurd (omega (arith, short)) }
 
-none-next : (calls : List Call) → ComeNext calls []
-none-next [] = tt
-none-next (c ∷ calls) = tt
-
-goes-none : (calls : List Call) (base : List Report) (s : TrussState) → s.reports ≡ base → Goes calls base s []
-goes-none calls base s is = record { next = none-next calls; silent = λ short. is }
+goes-none : (c : Call) (calls : List Call) (base : List Report) (s : TrussState) → next_call_of s ≡ Some c → s.reports ≡ base → Goes (c ∷ calls) base s []
+goes-none c calls base s next is = record { next = next; silent = λ short. is }
 
 goes-more : (c : Call) (calls : List Call) (base : List Report) (s : TrussState) (x : Exchange) (xs : List Exchange) → x.call ≡ c → Goes calls base (fed s x.reply) xs → Goes (c ∷ calls) base s (x ∷ xs)
 goes-more c calls base s x xs call g = record { next = (call, g.next); silent = λ short. g.silent (omega (arith, short)) }
@@ -81,10 +78,14 @@ closed-goes s u x xs c called later (Some v) first is makes =
     let at : IsClosing t v = record { stage = c.stage; within = omega (arith, set-length s 0 v, c.within); first = set-at s.traced 0 v c.within } in
     subst (λ hs. Goes (map call.Close hs) s.reports s (x ∷ xs)) (sym first) (goes-more (call.Close (last_handle u)) (closing_calls v) s.reports s x xs called (subst (λ w. Goes (closing_calls v) s.reports w xs) (sym is) (later t v at (subst (λ w. Makes w xs) is makes))))
 
+closing-none : (s : TrussState) (u : Traced) → next_call_of s ≡ Some (call.Close (last_handle u)) → (left : Option Traced) → ClosesFirst u left → Goes (closing_calls u) s.reports s []
+closing-none s u next None first = subst (λ hs. Goes (map call.Close hs) s.reports s []) (sym first) (goes-none (call.Close (last_handle u)) [] s.reports s next refl)
+closing-none s u next (Some v) first = subst (λ hs. Goes (map call.Close hs) s.reports s []) (sym first) (goes-none (call.Close (last_handle u)) (closing_calls v) s.reports s next refl)
+
 closing-goes : (xs : List Exchange) (s : TrussState) (u : Traced) → IsClosing s u → Makes s xs → Goes (closing_calls u) s.reports s xs
-closing-goes [] s u c makes = goes-none (closing_calls u) s.reports s refl
+closing-goes [] s u c makes = closing-none s u (closes-next s u 0 GoOn c.stage c.first) (without_last u) (closes-first u)
 closing-goes (x ∷ xs) s u c makes =
-    closed-goes s u x xs c (close-call s x u 0 GoOn c.stage c.first makes.0) (λ t v. closing-goes xs t v) (without_last u) (closes-first u)
+    closed-goes s u x xs c (same_Some x.call (call.Close (last_handle u)) (sym makes.0 ∙ closes-next s u 0 GoOn c.stage c.first)) (λ t v. closing-goes xs t v) (without_last u) (closes-first u)
     (close-fed s x.reply 0 GoOn c.stage ∙ ap (λ t. closed_or_removed s 0 GoOn (without_last t)) c.first) makes.1
 
 -- ---- the child is set free
@@ -97,9 +98,12 @@ module _ (child : ℕ) (u : Traced) where
     first : traced_at s 0 ≡ u
 
   module _ (s : TrussState) (step : FreeingStep) (at : IsFreeing s step) where
-    freeing-called : (x : Exchange) → next_call_of s ≡ Some x.call → x.call ≡ freeing_call child step
+    freeing-next : next_call_of s ≡ Some (freeing_call child step)
     unfolding next_call_of call_of
-    freeing-called x next = same_Some x.call (freeing_call child step) (sym next ∙ ap (call_of s) at.stage)
+    freeing-next = ap (call_of s) at.stage
+
+    freeing-called : (x : Exchange) → next_call_of s ≡ Some x.call → x.call ≡ freeing_call child step
+    freeing-called x next = same_Some x.call (freeing_call child step) (sym next ∙ freeing-next)
 
     step-fed : (x : Exchange) → fed s x.reply ≡ with_freeing_answered s child step x.reply
     unfolding fed with_reply
@@ -116,13 +120,13 @@ module _ (child : ℕ) (u : Traced) where
 
   close-goes : (control : ℕ) (xs : List Exchange) (s : TrussState) → IsFreeing s (freeing.Close control) → Makes s xs → Goes (call.Close control ∷ closing_calls u) s.reports s xs
   unfolding freeing_call with_freeing_answered
-  close-goes control [] s at makes = goes-none (call.Close control ∷ closing_calls u) s.reports s refl
+  close-goes control [] s at makes = goes-none (call.Close control) (closing_calls u) s.reports s (freeing-next s (freeing.Close control) at) refl
   close-goes control (x ∷ xs) s at makes =
       goes-more (call.Close control) (closing_calls u) s.reports s x xs (freeing-called s (freeing.Close control) at x makes.0) (closes-then s (freeing.Close control) at x xs (step-fed s (freeing.Close control) at x) makes.1)
 
   set-goes : (control : ℕ) (xs : List Exchange) (s : TrussState) → IsFreeing s (freeing.SetRelease control) → Makes s xs → Goes (message_call control (message.Set rlc_mode) ∷ call.Close control ∷ closing_calls u) s.reports s xs
   unfolding freeing_call with_freeing_answered
-  set-goes control [] s at makes = goes-none (message_call control (message.Set rlc_mode) ∷ call.Close control ∷ closing_calls u) s.reports s refl
+  set-goes control [] s at makes = goes-none (message_call control (message.Set rlc_mode)) (call.Close control ∷ closing_calls u) s.reports s (freeing-next s (freeing.SetRelease control) at) refl
   set-goes control (x ∷ xs) s at makes =
       let now : TrussState = with_stage s (FreeingChild child (freeing.Close control)) in
       let is : fed s x.reply ≡ now = step-fed s (freeing.SetRelease control) at x in
@@ -133,7 +137,10 @@ module _ (child : ℕ) (u : Traced) where
 
   module _ (f t : TrussState) (at : IsFreeing t freeing.OpenControl) (fits : Fits t.traced t.stage) where
     abbrev Goal : List Exchange → Type 0
-    Goal xs = IsSetFree child u t.reports f.reports xs
+    Goal xs = IsSetFree child u t.reports f.reports (next_call_of f) xs
+
+    ends-so : (calls : List Call) (s : TrussState) (xs : List Exchange) → truss_after s xs ≡ f → ComeNext (next_call_of (truss_after s xs)) calls xs → ComeNext (next_call_of f) calls xs
+    ends-so calls s xs last next = subst (λ v. ComeNext (next_call_of v) calls xs) last next
 
     module _ (x : Exchange) (xs : List Exchange) (called : x.call ≡ open_control child) (makes : Makes (fed t x.reply) xs) (last : truss_after (fed t x.reply) xs ≡ f) where
       was : (errno : Errno) → x.reply ≡ reply.Fail errno → x ∷ xs ≡ record { call = open_control child; reply = reply.Fail errno } ∷ xs
@@ -152,7 +159,8 @@ module _ (child : ℕ) (u : Traced) where
       refused-ends errno is not comes =
           let m : Makes (refused_state errno) xs = subst (λ v. Makes v xs) comes makes in
           let now : Fits (refused_state errno).traced (refused_state errno).stage = subst (λ (v : TrussState). Fits v.traced v.stage) comes (fed-fits t x.reply fits) in
-          let g : Grown (refused_state errno).reports f.reports = subst (λ (v : TrussState). Grown (refused_state errno).reports v.reports) (ap (λ v. truss_after v xs) (sym comes) ∙ last) (after-grown xs (refused_state errno) now) in
+          let ends : truss_after (refused_state errno) xs ≡ f = ap (λ v. truss_after v xs) (sym comes) ∙ last in
+          let g : Grown (refused_state errno).reports f.reports = subst (λ (v : TrussState). Grown (refused_state errno).reports v.reports) ends (after-grown xs (refused_state errno) now) in
           let c = closing-goes xs (refused_state errno) u (record { stage = refl; within = at.within; first = at.first }) m in
           refused (record {
             errno = errno;
@@ -161,13 +169,13 @@ module _ (child : ℕ) (u : Traced) where
             is = was errno is;
             not_interrupted = not;
             reported = g.is ∙ append_assoc t.reports (CannotTrace child errno ∷ []) g.more;
-            closes = c.next;
+            closes = ends-so (closing_calls u) (refused_state errno) xs ends c.next;
           })
 
       interrupted-ends : x.reply ≡ reply.Fail Intr → fed t x.reply ≡ with_closing t 0 → Goal (x ∷ xs)
       interrupted-ends is comes =
           let c = closes-then t freeing.OpenControl at x xs comes makes in
-          interrupted (record { later = xs; is = was Intr is; closes = c.next; silent = λ short. ap (λ (v : TrussState). v.reports) (sym last) ∙ c.silent short })
+          interrupted (record { later = xs; is = was Intr is; closes = ends-so (closing_calls u) (fed t x.reply) xs last c.next; silent = λ short. ap (λ (v : TrussState). v.reports) (sym last) ∙ c.silent short })
 
       -- ---- granted
 
@@ -178,7 +186,7 @@ module _ (child : ℕ) (u : Traced) where
           let comes : fed t x.reply ≡ now = freed-fed t child x.reply accepted at.stage in
           let c = goes-more (open_control child) _ t.reports t x xs called
           (subst (λ v. Goes (message_call control (message.Set rlc_mode) ∷ call.Close control ∷ closing_calls u) t.reports v xs) (sym comes) (set-goes control xs now (now-freeing t freeing.OpenControl at (freeing.SetRelease control)) (subst (λ v. Makes v xs) comes makes))) in
-          freed (record { granted = granted; calls = c.next; silent = λ short. ap (λ (v : TrussState). v.reports) (sym last) ∙ c.silent short })
+          freed (record { granted = granted; calls = ends-so (freeing_calls child control u) t (x ∷ xs) last c.next; silent = λ short. ap (λ (v : TrussState). v.reports) (sym last) ∙ c.silent short })
 
       refused-other : (errno : Errno) → x.reply ≡ reply.Fail errno → answer_of x.reply ≡ Refused errno → errno ≢ Intr
       unfolding answer_of
@@ -191,17 +199,21 @@ module _ (child : ℕ) (u : Traced) where
       opened-ends Gone is answer = refused-ends Noent is (λ e. cc) (answered Gone answer)
       opened-ends (Refused errno) is answer = refused-ends errno is (refused-other errno is answer) (answered (Refused errno) answer)
 
+    control-next : next_call_of t ≡ Some (open_control child)
+    unfolding freeing_call
+    control-next = freeing-next t freeing.OpenControl at
+
     control-called : (x : Exchange) → next_call_of t ≡ Some x.call → x.call ≡ open_control child
     unfolding freeing_call
     control-called x next = freeing-called t freeing.OpenControl at x next
 
     child-freed : (xs : List Exchange) → Makes t xs → truss_after t xs ≡ f → Goal xs
-    child-freed [] makes last = freed (record { granted = refl; calls = tt; silent = λ short. ap (λ (v : TrussState). v.reports) (sym last) })
+    child-freed [] makes last = freed (record { granted = refl; calls = ap next_call_of (sym last) ∙ control-next; silent = λ short. ap (λ (v : TrussState). v.reports) (sym last) })
     child-freed (x ∷ xs) makes last = opened-ends x xs (control-called x makes.0) makes.1 last (answer_of x.reply) (answer-is x.reply) refl
 
 pub read-freed : (o : Options) (xs before later : List Exchange) (x : Exchange) (child : ℕ) → o.follow ≡ true → Makes (first_truss o) xs → xs ≡ before ++ x ∷ later
     → ReadsLastFork (truss_after (first_truss o) before) x.reply child
-    → IsSetFree child (traced_at (truss_after (first_truss o) before) 0) (fed (truss_after (first_truss o) before) x.reply).reports (truss_after (first_truss o) xs).reports later
+    → IsSetFree child (traced_at (truss_after (first_truss o) before) 0) (fed (truss_after (first_truss o) before) x.reply).reports (truss_after (first_truss o) xs).reports (next_call_of (truss_after (first_truss o) xs)) later
 read-freed o xs before later x child follow makes is reads =
     let t = truss_after (first_truss o) before in
     let fits = after-fits before (first_truss o) (first-fits o) in

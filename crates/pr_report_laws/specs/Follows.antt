@@ -1,4 +1,4 @@
-use Rattle.std.specs.Prelude.{◌≡◌, ◌≢◌, ◌<◌, ℕ, true, List, [], ◌∷◌, ◌++◌, Option, Some, None, All, length, option_and_then, take}
+use Rattle.std.specs.Prelude.{◌≡◌, ◌≢◌, ◌<◌, ℕ, true, List, [], ◌∷◌, ◌++◌, Option, Some, None, All, length, map, option_and_then, slice_get, take}
 use Rattle.std.specs.List.{cons_option}
 use Rattle.pr_model.specs.Replies.{bytes_in, handle_in}
 use Rattle.pr_model.specs.declared.calls.Call.{Call}
@@ -18,7 +18,8 @@ use Rattle.pr_truss_laws.specs.Exchanges.{Exchange, IsGranted, calls_in}
 use Rattle.pr_truss_laws.specs.Given.{reply_at}
 use Rattle.pr_report_laws.specs.Grips.{child_calls}
 
--- What becomes of the child of a fork that truss(1) has read, by its exchanges and its reports alone.
+-- What becomes of the child of a fork that truss(1) has read, by its exchanges, its reports and the call that is due
+-- alone. Where truss has finished no call is due, so that nothing of this is only begun then.
 
 -- ---- the fork
 
@@ -44,12 +45,15 @@ abbrev pub with_opened_by : List ℕ → List Exchange → List ℕ
 with_opened_by handles [] = handles
 with_opened_by handles (x ∷ xs) = with_opened_by (cons_option (opened_by x.call x.reply) handles) xs
 
--- These handles are closed, in this order, and then the process with this control file runs, unless the exchanges end
--- before.
-abbrev pub RunsThen : ℕ → List ℕ → List Exchange → Type 0
-RunsThen control handles [] = Unit {0}
-RunsThen control [] (x ∷ xs) = x.call ≡ run_call control
-RunsThen control (handle ∷ handles) (x ∷ xs) = (x.call ≡ call.Close handle) × RunsThen control handles xs
+-- These calls come next, in this order. Where the exchanges end before, the first of the others is due.
+abbrev pub ComeNext : Option Call → List Call → List Exchange → Type 0
+ComeNext due [] xs = Unit {0}
+ComeNext due (c ∷ cs) [] = due ≡ Some c
+ComeNext due (c ∷ cs) (x ∷ xs) = (x.call ≡ c) × ComeNext due cs xs
+
+-- These handles are closed, in this order, and then the process with this control file runs.
+abbrev pub RunsThen : Option Call → ℕ → List ℕ → List Exchange → Type 0
+RunsThen due control handles xs = ComeNext due (map call.Close handles ++ run_call control ∷ []) xs
 
 -- ---- the opening of the child
 
@@ -59,15 +63,15 @@ following_calls child xs = child_calls child (handle_in (reply_at xs 0))
 
 -- None of its calls was refused before the last one, by which the child runs. The parent runs next; where the last
 -- reply tells that the child has ended, the files of the child are closed before.
-pub record IsAttachedChild (child control : ℕ) (xs : List Exchange) : Type 0 where
+pub record IsAttachedChild (child control : ℕ) (due : Option Call) (xs : List Exchange) : Type 0 where
   pub opening : List Exchange
   pub last : Exchange
   pub later : List Exchange
   pub is : xs ≡ opening ++ last ∷ later
   pub calls : calls_in (opening ++ last ∷ []) ≡ following_calls child (opening ++ last ∷ [])
   pub granted : All IsGranted opening
-  pub lives : last.reply ≢ reply.Fail Noent → RunsThen control [] later
-  pub ended : last.reply ≡ reply.Fail Noent → RunsThen control (with_opened_by [] opening) later
+  pub lives : last.reply ≢ reply.Fail Noent → RunsThen due control [] later
+  pub ended : last.reply ≡ reply.Fail Noent → RunsThen due control (with_opened_by [] opening) later
 
 -- The opening up to its first call that was refused, which is not the last one.
 pub record IsRefusedFollowing (child : ℕ) (errno : Errno) (xs : List Exchange) : Type 0 where
@@ -80,7 +84,8 @@ pub record IsRefusedFollowing (child : ℕ) (errno : Errno) (xs : List Exchange)
 
 -- It was refused, which is the next report, for this reason. What was opened of the child is closed, and the parent
 -- runs.
-pub record IsRefusedChild (child control : ℕ) (base reports : List Report) (xs : List Exchange) : Type 0 where
+pub record IsRefusedChild (child control : ℕ) (base reports : List Report) (due : Option Call)
+    (xs : List Exchange) : Type 0 where
   pub errno : Errno
   pub opening : List Exchange
   pub later : List Exchange
@@ -88,7 +93,7 @@ pub record IsRefusedChild (child control : ℕ) (base reports : List Report) (xs
   pub is : xs ≡ opening ++ later
   pub refused : IsRefusedFollowing child errno opening
   pub reported : reports ≡ base ++ CannotTrace child errno ∷ more
-  pub parent : RunsThen control (with_opened_by [] refused.before) later
+  pub parent : RunsThen due control (with_opened_by [] refused.before) later
 
 -- Truss was interrupted before the opening was done.
 pub record IsLeftChild (child : ℕ) (xs : List Exchange) : Type 0 where
@@ -97,16 +102,18 @@ pub record IsLeftChild (child : ℕ) (xs : List Exchange) : Type 0 where
   pub is : xs ≡ opening ++ later
   pub interrupted : IsRefusedFollowing child Intr opening
 
--- The exchanges end before the opening is done, and none of its calls was refused so far.
-pub record IsBegunChild (child : ℕ) (xs : List Exchange) : Type 0 where
+-- The exchanges end before the opening is done, and none of its calls was refused so far. The one after them is due.
+pub record IsBegunChild (child : ℕ) (due : Option Call) (xs : List Exchange) : Type 0 where
   pub calls : calls_in xs ≡ take (length xs) (following_calls child xs)
   pub granted : All IsGranted xs
   pub not_done : length xs < 6
+  pub goes_on : due ≡ slice_get (following_calls child xs) (length xs)
 
--- What the exchanges after the read do with the child, where the parent has this control file, and truss had reported
--- so much then.
-pub data IsFollowedUp (child control : ℕ) (base reports : List Report) (xs : List Exchange) : Type 0 where
-  attached : IsAttachedChild child control xs → IsFollowedUp child control base reports xs
-  refused : IsRefusedChild child control base reports xs → IsFollowedUp child control base reports xs
-  left : IsLeftChild child xs → IsFollowedUp child control base reports xs
-  begun : IsBegunChild child xs → IsFollowedUp child control base reports xs
+-- What the exchanges after the read do with the child, where the parent has this control file, truss had reported so
+-- much then, and at the end of the exchanges it has reported so much and this call is due.
+pub data IsFollowedUp (child control : ℕ) (base reports : List Report) (due : Option Call)
+    (xs : List Exchange) : Type 0 where
+  attached : IsAttachedChild child control due xs → IsFollowedUp child control base reports due xs
+  refused : IsRefusedChild child control base reports due xs → IsFollowedUp child control base reports due xs
+  left : IsLeftChild child xs → IsFollowedUp child control base reports due xs
+  begun : IsBegunChild child due xs → IsFollowedUp child control base reports due xs

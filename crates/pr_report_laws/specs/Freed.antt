@@ -1,4 +1,4 @@
-use Rattle.std.specs.Prelude.{◌≡◌, ◌≢◌, ◌≤◌, ℕ, false, List, [], ◌∷◌, ◌++◌, Some, None, length, map, slice_get}
+use Rattle.std.specs.Prelude.{◌≡◌, ◌≢◌, ◌≤◌, ℕ, false, List, [], ◌∷◌, ◌++◌, Option, Some, None, length, map, slice_get}
 use Rattle.std.specs.List.{cons_option}
 use Rattle.pr_model.specs.Replies.{bytes_in, handle_in}
 use Rattle.pr_model.specs.declared.calls.Call.{Call}
@@ -20,9 +20,10 @@ use Rattle.pr_truss.specs.declared.reports.Report.TheVariants.{CannotTrace}
 use Rattle.pr_truss.specs.declared.stages.Stage.TheVariants.{ReadingLwps}
 use Rattle.pr_truss_laws.specs.Exchanges.{Exchange, errno_in}
 use Rattle.pr_truss_laws.specs.Given.{reply_at}
+use Rattle.pr_report_laws.specs.Follows.{ComeNext}
 
--- What becomes of the child of a fork that truss(1) reads while it leaves a process, by its exchanges and its reports
--- alone.
+-- What becomes of the child of a fork that truss(1) reads while it leaves a process, by its exchanges, its reports and
+-- the call that is due alone.
 
 -- ---- the fork
 
@@ -38,12 +39,6 @@ pub record ReadsLastFork (t : TrussState) (r : Reply) (child : ℕ) : Type 0 whe
   pub made : child_of lwp ≡ Some child
 
 -- ---- the calls
-
--- These calls come next, in this order, unless the exchanges end before.
-abbrev pub ComeNext : List Call → List Exchange → Type 0
-ComeNext [] xs = Unit {0}
-ComeNext (c ∷ cs) [] = Unit {0}
-ComeNext (c ∷ cs) (x ∷ xs) = (x.call ≡ c) × ComeNext cs xs
 
 -- the handles of a process; the file that was opened last comes first
 abbrev pub handles_of : Traced → List ℕ
@@ -61,32 +56,36 @@ freeing_calls child control parent =
 
 -- ---- what comes after the fork
 
--- The open of the child's control file was granted, or the exchanges end before it. Nothing is reported up to the last
--- of these calls.
-pub record IsFreed (child : ℕ) (parent : Traced) (base reports : List Report) (xs : List Exchange) : Type 0 where
+-- The open of the child's control file was granted, or is due. Nothing is reported up to the last of these calls.
+pub record IsFreed (child : ℕ) (parent : Traced) (base reports : List Report) (due : Option Call)
+    (xs : List Exchange) : Type 0 where
   pub granted : errno_in (reply_at xs 0) ≡ None
-  pub calls : ComeNext (freeing_calls child (handle_in (reply_at xs 0)) parent) xs
+  pub calls : ComeNext due (freeing_calls child (handle_in (reply_at xs 0)) parent) xs
   pub silent : length xs ≤ length (freeing_calls child (handle_in (reply_at xs 0)) parent) → reports ≡ base
 
 -- It was refused, which is the next report, for this reason, and the files of the parent are closed.
-pub record IsRefusedFreeing (child : ℕ) (parent : Traced) (base reports : List Report) (xs : List Exchange) : Type 0 where
+pub record IsRefusedFreeing (child : ℕ) (parent : Traced) (base reports : List Report) (due : Option Call)
+    (xs : List Exchange) : Type 0 where
   pub errno : Errno
   pub later : List Exchange
   pub more : List Report
   pub is : xs ≡ record { call = open_control child; reply = reply.Fail errno } ∷ later
   pub not_interrupted : errno ≢ Intr
   pub reported : reports ≡ base ++ CannotTrace child errno ∷ more
-  pub closes : ComeNext (closing_calls parent) later
+  pub closes : ComeNext due (closing_calls parent) later
 
 -- It was interrupted, and the files of the parent are closed. Nothing is reported up to the last of these calls.
-pub record IsInterruptedFreeing (child : ℕ) (parent : Traced) (base reports : List Report) (xs : List Exchange) : Type 0 where
+pub record IsInterruptedFreeing (child : ℕ) (parent : Traced) (base reports : List Report) (due : Option Call)
+    (xs : List Exchange) : Type 0 where
   pub later : List Exchange
   pub is : xs ≡ record { call = open_control child; reply = reply.Fail Intr } ∷ later
-  pub closes : ComeNext (closing_calls parent) later
+  pub closes : ComeNext due (closing_calls parent) later
   pub silent : length later ≤ length (closing_calls parent) → reports ≡ base
 
--- What the exchanges after the read do with the child of this process, where truss had reported so much then.
-pub data IsSetFree (child : ℕ) (parent : Traced) (base reports : List Report) (xs : List Exchange) : Type 0 where
-  freed : IsFreed child parent base reports xs → IsSetFree child parent base reports xs
-  refused : IsRefusedFreeing child parent base reports xs → IsSetFree child parent base reports xs
-  interrupted : IsInterruptedFreeing child parent base reports xs → IsSetFree child parent base reports xs
+-- What the exchanges after the read do with the child of this process, where truss had reported so much then, and at
+-- the end of the exchanges it has reported so much and this call is due.
+pub data IsSetFree (child : ℕ) (parent : Traced) (base reports : List Report) (due : Option Call)
+    (xs : List Exchange) : Type 0 where
+  freed : IsFreed child parent base reports due xs → IsSetFree child parent base reports due xs
+  refused : IsRefusedFreeing child parent base reports due xs → IsSetFree child parent base reports due xs
+  interrupted : IsInterruptedFreeing child parent base reports due xs → IsSetFree child parent base reports due xs

@@ -21,6 +21,7 @@ use Rattle.pr_scen.specs.declared.plans.Plan.TheVariants as plan
 use Rattle.pr_truss.specs.Trusses.{first_truss}
 use Rattle.pr_truss_laws.specs.Handles.{HasNothingOpen}
 use Rattle.pr_world.proofs.RunLemmas.{moves-led}
+use Rattle.pr_tool_laws.proofs.ProgramLemmas.{first-same}
 use Rattle.pr_tool_laws.proofs.StackLaw.{shows-one-stack}
 use Rattle.pr_tool_laws.proofs.WholeLemmas.{tool-shows}
 use Rattle.pr_tools.specs.Tools.{first_tool}
@@ -83,16 +84,16 @@ tool-first : (s : Scenario) (k : ℕ) (kind : ToolKind) (pid : ℕ) → slice_ge
 unfolding controller_of
 tool-first s k kind pid at = slice_get-map controller_of s.controllers k ∙ ap (option_map controller_of) at
 
-tools-kept : (s : Scenario) (h : List Entry) → IsScenarioInRange s → IsLegal (length (controllers_of s)) (first_state_of s) h → Follows (controllers_of s) (first_state_of s) h → (k : ℕ) (kind : ToolKind) (pid : ℕ) → slice_get s.controllers k ≡ Some (plan.Tool kind pid) → IsToolKept (controllers_of s) (first_state_of s) h s.programs k kind pid
+tools-kept : (s : Scenario) (h : List Entry) → IsScenarioInRange s → IsLegal (length (controllers_of s)) (first_state_of s) h → Follows (controllers_of s) (first_state_of s) h → (k : ℕ) (kind : ToolKind) (pid : ℕ) → slice_get s.controllers k ≡ Some (plan.Tool kind pid) → IsToolKept (controllers_of s) (first_state_of s) h k kind pid
 tools-kept s h range legal follows k kind pid at = record {
-  shows = λ t ends ended accepted once.
+  shows = λ t programs ends ended accepted once.
       let n = length (controllers_of s) in
-      tool-shows (controllers_of s) n k kind pid (first_state_of s) h t s.programs (first-lawful s.programs (files_of s) s.spawns range.start) (first-state-range s.programs (files_of s) s.spawns range.range)
+      tool-shows (controllers_of s) n k kind pid (first_state_of s) h t programs (first-lawful s.programs (files_of s) s.spawns range.start) (first-state-range s.programs (files_of s) s.spawns range.range)
       (follows-bytes (controllers_of s) n (first_state_of s) h range.bytes legal follows) once (tool-first s k kind pid at) legal follows ends ended accepted;
-  stack = λ t ends ended accepted same.
+  stack = λ t programs ends ended accepted same.
       let n = length (controllers_of s) in
       let begins : slice_get (controllers_of s) k ≡ Some (Tool (first_tool Pstack pid)) = tool-first s k kind pid at ∙ ap (λ (which : ToolKind). Some (Tool (first_tool which pid))) same in
-      shows-one-stack (controllers_of s) n k pid (first_state_of s) h t s.programs (first-lawful s.programs (files_of s) s.spawns range.start) (first-state-range s.programs (files_of s) s.spawns range.range)
+      shows-one-stack (controllers_of s) n k pid (first_state_of s) h t programs (first-lawful s.programs (files_of s) s.spawns range.start) (first-state-range s.programs (files_of s) s.spawns range.range)
       (follows-bytes (controllers_of s) n (first_state_of s) h range.bytes legal follows) begins legal follows ends ended accepted;
 }
 
@@ -117,6 +118,7 @@ led-kept s w range led =
       transparent_without_scripts = transparent-tracers s led.entries run.legal run.follows;
       trusses = trusses-kept s led.entries range run.legal run.follows;
       tools = tools-kept s led.entries range run.legal run.follows;
+      programs = first-same (length (controllers_of s)) s.programs (files_of s) s.spawns led.entries range.start run.legal;
     } in
     subst (IsKept s) (sym (led-history s w led)) kept
 

@@ -1,12 +1,16 @@
-use Rattle.std.proofs.Common.{◌≡◌, ◌==◌, ◌++◌, ℕ, zero, suc, Bool, true, false, cond, Option, Some, None, List, [], ◌∷◌, replicate, refl, sym, ◌∙◌, ap, subst}
-use Rattle.std.proofs.lemmas.Bool.{eqb-true, eqb-false}
-use Rattle.std.specs.List.{cons_option, slice_get}
+use Rattle.std.proofs.Common.{◌≡◌, ◌==◌, ◌≤◌, ◌++◌, ℕ, zero, suc, Bool, true, false, cond, Option, Some, None, List, [], ◌∷◌, ◌⊎◌, append_assoc, inl, inr, length, replicate, refl, sym, ◌∙◌, ap, subst}
+use Rattle.std.proofs.lemmas.Bool.{eqb-true, eqb-false, false≢true}
+use Rattle.std.proofs.lemmas.List.{append-nil}
+use Rattle.std.specs.List.{All, cons_option, slice_get}
 use Rattle.std.specs.Option.{option_and_then}
+use Rattle.pr_api.specs.Entries.{turn_entry}
 use Rattle.pr_line.specs.declared.options.Options.{Options}
-use Rattle.pr_model.specs.Handles.{handle_of, own}
+use Rattle.pr_model.specs.Handles.{handle_of, is_control, own}
 use Rattle.pr_model.specs.Legal.{IsLegal, after, state_after}
 use Rattle.pr_model.specs.State.{Places, TracedState, nothing_open}
 use Rattle.pr_model.specs.declared.calls.Call.{Call}
+use Rattle.pr_model.specs.declared.calls.File.TheVariants.{Ctl}
+use Rattle.pr_model.specs.declared.calls.Mode.TheVariants.{WriteExcl}
 use Rattle.pr_model.specs.declared.calls.Reply.{Reply}
 use Rattle.pr_model.specs.declared.events.Act.{Act}
 use Rattle.pr_model.specs.declared.events.Act.TheVariants as act
@@ -17,25 +21,41 @@ use Rattle.pr_model.specs.declared.handles.Held.{Held}
 use Rattle.pr_model.specs.Lawful.{IsLawful}
 use Rattle.pr_range_laws.specs.ByteHistories.{HasBytes}
 use Rattle.pr_range_laws.specs.InRange.{IsInRange}
-use Rattle.pr_report_laws.proofs.BeginLaws.{finished-watches-none}
-use Rattle.pr_report_laws.proofs.Births.{births-report}
-use Rattle.pr_report_laws.proofs.EventMemory.{left-memories}
+use Rattle.pr_report_laws.proofs.BeginLaws.{finished-watches-none, followed-watches, opened-watches}
+use Rattle.pr_report_laws.proofs.BeginsOnlyLaws.{watched-opened}
+use Rattle.pr_report_laws.proofs.Births.{births-report, unfollowed-report}
+use Rattle.pr_report_laws.proofs.EndLaws.{watched-let}
+use Rattle.pr_report_laws.proofs.EventMemory.{left-memories, unfollowed-memories}
+use Rattle.pr_report_laws.proofs.FileLaws.{HasFiles, IsFileOf}
+use Rattle.pr_report_laws.proofs.FileUses.{freed-file}
+use Rattle.pr_report_laws.proofs.FollowCalm.{never-kept, never-left}
+use Rattle.pr_report_laws.proofs.FollowLaws.{read-followed}
+use Rattle.pr_report_laws.proofs.FreedLaws.{read-freed}
 use Rattle.pr_report_laws.proofs.MemoryReads.{read-texts}
-use Rattle.pr_report_laws.proofs.ReleaseLaws.{traced-released}
-use Rattle.pr_report_laws.proofs.WatchHistories.{exchanges-both, makes-front}
-use Rattle.pr_tool_laws.proofs.WholeLemmas.{front-legal}
+use Rattle.pr_report_laws.proofs.NewbornLaws.{followed-forked, followed-rests, followed-silent, followed-unstarted}
+use Rattle.pr_report_laws.proofs.ReleaseLaws.{freed-set, set-stays, traced-set}
+use Rattle.pr_report_laws.proofs.ReleaseSteps.{truss-releases}
+use Rattle.pr_report_laws.proofs.WatchHistories.{IsRun, exchanges-both, makes-front, makes-rest, run-reaches}
+use Rattle.pr_tool_laws.proofs.WholeLemmas.{front-bytes, front-legal}
 use Rattle.pr_report_laws.specs.Fits.{IsFitSystem}
+use Rattle.pr_report_laws.specs.Births.{LeavesForks, NamesNoChild, granted}
+use Rattle.pr_report_laws.specs.Grips.{HasFollowed, HasOpened, IsLetGo}
+use Rattle.pr_report_laws.specs.Releases.{modes_set, released}
+use Rattle.pr_report_laws.specs.Watching.{watches}
 use Rattle.pr_truss.specs.Feeding.{fed}
 use Rattle.pr_truss.specs.NextCalls.{next_call_of}
-use Rattle.pr_truss.specs.Trusses.{TrussState, first_truss}
-use Rattle.pr_truss_laws.proofs.GivenLemmas.{given-handled}
+use Rattle.pr_truss.specs.Trusses.{TrussState, first_truss, traced_at}
+use Rattle.pr_truss.specs.declared.stages.FreeingStep.TheVariants.{Close as Free}
+use Rattle.pr_truss_laws.proofs.GivenLemmas.{given-handled, handled-so-far}
 use Rattle.pr_truss_laws.proofs.OwnLemmas.{nothing-open}
+use Rattle.pr_truss_laws.proofs.PolledLemmas.{polled-soon}
 use Rattle.pr_truss_laws.specs.Exchanges.{Ends, Exchange, Makes, exchange_in, exchange_of, exchanges, truss_after, truss_at}
 use Rattle.pr_truss_laws.specs.Handles.{HasNothingOpen}
+use Rattle.pr_truss_laws.specs.Polled.{IsNoEndOf, PollNames, calls_meanwhile}
 use Rattle.pr_world.specs.Controllers.{after_reply, call_by, next_call, with_fed}
 use Rattle.pr_world.specs.Cores.{Core, Truss}
 use Rattle.pr_world.specs.Protocol.{Follows, FollowsAt, controllers_after, controllers_at}
-use Rattle.pr_run_laws.specs.TrussRuns.{Releases, IsTrussKept}
+use Rattle.pr_run_laws.specs.TrussRuns.{HandlesChildren, HasControl, HasDone, IsNewborn, IsTrussKept, Releases, WasLetGo}
 use Rattle.pr_num.specs.Limits.{handle_limit}
 use Rattle.pr_tool_laws.proofs.ProtocolLemmas.{fed-other, fed-own}
 
@@ -104,26 +124,160 @@ pub nothing-held : (k : ℕ) (s : TracedState) → s.opens ≡ nothing_open → 
 unfolding handle_of nothing_open
 nothing-held k s none = record { none = λ number. ap (λ (opens : Places). own k (slice_get opens number)) none ∙ none-held k handle_limit number }
 
-truss-releases : (n k : ℕ) (o : Options) (first : TracedState) (h before later : List Entry) → IsLawful first → HasNothingOpen k first → IsLegal n first h → Makes (first_truss o) (exchanges k h) → h ≡ before ++ later → Releases k (truss_at k o before) (state_after first before)
-truss-releases n k o first h before later lawful none legal makes is = record {
-  each = λ place p a within set live closed.
-      traced-released n k o first before lawful none
-      (front-legal n first before later (subst (IsLegal n first) is legal))
-      (makes-front (first_truss o) (exchanges k before) (exchanges k later) (subst (Makes (first_truss o)) (ap (exchanges k) is ∙ exchanges-both k before later) makes))
-      place within p a set live closed;
+-- what is asked of the forks of a history is so of a front of it
+named-front : (o : Options) (before later : List Entry) → NamesNoChild o (before ++ later) → NamesNoChild o before
+named-front o before later named = record {
+  none = λ follow b l parent id place pid turned is made at. named.none follow b (l ++ later) parent id place pid turned (ap (λ g. g ++ later) is ∙ append_assoc b (turn_entry parent id turned ∷ l) later) made at;
 }
+
+forks-front : (k : ℕ) (o : Options) (before later : List Entry) → LeavesForks k o (before ++ later) → LeavesForks k o before
+forks-front k o before later forks = record {
+  each = λ follow b between behind l parent id turned by pid lwp handle own_lwp own_handle file own_file mode own_mode is made writes own_writes.
+      let own : Entry = granted k pid own_lwp own_file own_mode own_handle in
+      let other : Entry = granted by pid lwp file mode handle in
+      forks.each follow b between behind (l ++ later) parent id turned by pid lwp handle own_lwp own_handle file own_file mode own_mode
+      (ap (λ g. g ++ later) is ∙ append_assoc b (turn_entry parent id turned ∷ (between ++ other ∷ (behind ++ own ∷ l))) later
+      ∙ ap (λ g. b ++ turn_entry parent id turned ∷ g) (append_assoc between (other ∷ (behind ++ own ∷ l)) later ∙ ap (λ g. between ++ other ∷ g) (append_assoc behind (own ∷ l) later)))
+      made writes own_writes;
+}
+
+module _ (n k : ℕ) (o : Options) (first : TracedState) (h : List Entry) (run : IsRun n k o first h) where
+  front-run : (before later : List Entry) → h ≡ before ++ later → IsRun n k o first before
+  front-run before later is = record {
+    lawful = run.lawful;
+    none = run.none;
+    legal = front-legal n first before later (subst (IsLegal n first) is run.legal);
+    makes = makes-front (first_truss o) (exchanges k before) (exchanges k later) (subst (Makes (first_truss o)) (ap (exchanges k) is ∙ exchanges-both k before later) run.makes);
+  }
+
+  entry-run : (before later : List Entry) (e : Entry) → h ≡ before ++ e ∷ later → IsRun n k o first (before ++ e ∷ [])
+  entry-run before later e is = front-run (before ++ e ∷ []) later (is ∙ sym (append_assoc before (e ∷ []) later))
+
+  -- ---- the watch of a process ends for a reason
+
+  let-go : (before later : List Entry) (e : Entry) (pid : ℕ) → h ≡ before ++ e ∷ later → watches (truss_at k o before) pid ≡ true → watches (truss_at k o (before ++ e ∷ [])) pid ≡ false → IsLetGo k pid first before e
+  let-go before later e pid is on off = watched-let n k o pid first before e (entry-run before later e is) on off
+
+  -- ---- it begins by an opening
+
+  opens : (before later : List Entry) (pid : ℕ) → h ≡ before ++ later → HasOpened k o pid before ⊎ HasFollowed k pid before → watches (truss_at k o before) pid ≡ true
+  opens before later pid is (inl opened) = opened-watches n k o pid first before (front-run before later is) opened
+  opens before later pid is (inr followed) = followed-watches n k o pid first before (front-run before later is) followed
+
+  begins : (before later : List Entry) (e : Entry) (pid : ℕ) → h ≡ before ++ e ∷ later → watches (truss_at k o before) pid ≡ false → watches (truss_at k o (before ++ e ∷ [])) pid ≡ true → HasOpened k o pid (before ++ e ∷ []) ⊎ HasFollowed k pid (before ++ e ∷ [])
+  begins before later e pid is off on = watched-opened n k o pid first before e (entry-run before later e is) off on
+
+  newborn : IsFitSystem first.system → IsInRange first.system → HasBytes h → (before later : List Entry) (e : Entry) (pid : ℕ) → NamesNoChild o h → LeavesForks k o h → h ≡ before ++ e ∷ later → watches (truss_at k o before) pid ≡ false → HasFollowed k pid (before ++ e ∷ []) → IsNewborn o pid first (before ++ e ∷ [])
+  newborn fit range bytes before later e pid named forks is off followed =
+      let it = entry-run before later e is in
+      let split : h ≡ (before ++ e ∷ []) ++ later = is ∙ sym (append_assoc before (e ∷ []) later) in
+      let those : HasBytes (before ++ e ∷ []) = front-bytes (before ++ e ∷ []) later (subst HasBytes split bytes) in
+      let none_named = named-front o (before ++ e ∷ []) later (subst (NamesNoChild o) split named) in
+      let left = forks-front k o (before ++ e ∷ []) later (subst (LeavesForks k o) split forks) in
+      record {
+        forked = followed-forked n k o pid first before e it.lawful fit it.none it.legal it.makes range those none_named left off followed;
+        unstarted = followed-unstarted n k o pid first before e it.lawful fit it.none it.legal it.makes range those none_named left off followed;
+        still = followed-rests n k o pid first before e it.lawful fit it.none it.legal it.makes range those none_named left off followed;
+        silent = followed-silent n k o pid first before e it.lawful fit it.none it.legal it.makes range those none_named left off followed;
+      }
+
+  was-let : (pid : ℕ) → watches (truss_at k o h) pid ≡ false → (later before : List Entry) → h ≡ before ++ later → watches (truss_at k o before) pid ≡ true → WasLetGo k pid first before later
+  was-let pid over [] before is on = absurd (false≢true (sym over ∙ ap (λ g. watches (truss_at k o g) pid) (is ∙ append-nil before) ∙ on))
+  was-let pid over (e ∷ later) before is on = by (watches (truss_at k o (before ++ e ∷ [])) pid) refl (was-let pid over later (before ++ e ∷ []) (is ∙ sym (append_assoc before (e ∷ []) later)))
+    where
+      by : (b : Bool) → watches (truss_at k o (before ++ e ∷ [])) pid ≡ b → (watches (truss_at k o (before ++ e ∷ [])) pid ≡ true → WasLetGo k pid first (before ++ e ∷ []) later) → WasLetGo k pid first before (e ∷ later)
+      by true still go =
+          let w = go still in
+          record {
+            between = e ∷ w.between;
+            entry = w.entry;
+            behind = w.behind;
+            is = ap (λ es. e ∷ es) w.is;
+            reason = subst (λ g. IsLetGo k pid first g w.entry) (append_assoc before (e ∷ []) w.between) w.reason;
+          }
+      by false off go = record {
+        between = [];
+        entry = e;
+        behind = later;
+        is = refl;
+        reason = subst (λ g. IsLetGo k pid first g e) (sym (append-nil before)) (let-go before later e pid is on off);
+      }
+
+  -- ---- what a poll named
+
+  soon : (before between later : List Exchange) (x : Exchange) (place : ℕ) → exchanges k h ≡ before ++ x ∷ (between ++ later)
+      → PollNames (truss_after (first_truss o) before) x.reply place
+      → All (IsNoEndOf (traced_at (truss_after (first_truss o) before) place)) between
+      → length between ≤ calls_meanwhile (truss_after (truss_after (first_truss o) before) (x ∷ between)).leaving place
+  soon before between later x place is =
+      let t = truss_after (first_truss o) before in
+      let makes : Makes t (x ∷ (between ++ later)) = makes-rest (first_truss o) before (x ∷ (between ++ later)) (subst (Makes (first_truss o)) is run.makes) in
+      polled-soon t x between place (makes.0, makes-front (fed t x.reply) between later makes.1)
+
+  -- ---- the children of forks
+
+  children : o.follow ≡ true → HandlesChildren k o h
+  children follow = record {
+    follows = λ before later x place child is reads. read-followed o (exchanges k h) before later x place child follow run.makes is reads;
+    frees = λ before later x child is reads. read-freed o (exchanges k h) before later x child follow run.makes is reads;
+    leaves_none = λ before later child is left. never-left n k child first h before later run.legal is left;
+    keeps_none = λ before later child parent base reports due is kept. never-kept n k child first h before later parent base reports due run.legal is kept;
+  }
+
+  -- ---- what is released
+
+  control-of : (pid number : ℕ) (s : TracedState) → IsFileOf k s pid number Ctl WriteExcl → HasControl k pid number s
+  control-of pid number s file = record { held = record { controller = k; pid = pid; lwp = 0; file = Ctl; mode = WriteExcl }; there = file.is; of = refl; control = refl }
+
+  releases : Releases k o first h
+  releases =
+      let r = run-reaches n k o first h run in
+      let files : HasFiles k (truss_at k o h) (state_after first h) = r.files in
+      record {
+        each = truss-releases n k o first h run.lawful run.none run.legal run.makes;
+        traced = traced-set n k o first h run.lawful run.none run.legal run.makes;
+        traced_control = λ place within. control-of (traced_at (truss_at k o h) place).pid (traced_at (truss_at k o h) place).control (state_after first h) (files.control place within);
+        freed = freed-set n k o first h run.lawful run.none run.legal run.makes;
+        freed_control = λ pid control is. control-of pid control (state_after first h) (freed-file k (truss_at k o h) (state_after first h) files pid control (Free control) is refl);
+      }
+
+  stays-set : (before later : List Entry) (e : Entry) (number : ℕ) (held : Held) → h ≡ before ++ e ∷ later → handle_of (state_after first before).opens k number ≡ Some held → is_control held.file ≡ true → modes_set k o held.pid before ≡ released → modes_set k o held.pid (before ++ e ∷ []) ≡ released
+  stays-set before later e number held is =
+      let it = entry-run before later e is in
+      set-stays n k o first before e it.lawful it.none it.legal it.makes number held
+
+  -- ---- the end
+
+  done : next_call_of (truss_at k o h) ≡ None → HasDone k o first h
+  done finished =
+      let ends : Ends (first_truss o) (exchanges k h) = record { makes = run.makes; finished = finished } in
+      record {
+        handled = given-handled o (exchanges k h) ends;
+        nothing_open = nothing-open n k o first h run.none run.legal ends;
+        watches_none = λ pid. finished-watches-none k o pid h finished;
+        lets_go = λ before later pid is on. was-let pid (finished-watches-none k o pid h finished) later before is on;
+      }
 
 pub truss-kept : (controllers : List Core) (n : ℕ) (first : TracedState) (h : List Entry) (k : ℕ) (o : Options) → IsLawful first → IsFitSystem first.system → IsInRange first.system → HasBytes h → slice_get controllers k ≡ Some (Truss (first_truss o)) → HasNothingOpen k first → IsLegal n first h → Follows controllers first h → IsTrussKept controllers first h k o
 truss-kept controllers n first h k o lawful fit range bytes at none legal follows =
     let stays = truss-stays h controllers first k (first_truss o) at follows in
+    let run : IsRun n k o first h = record { lawful = lawful; none = none; legal = legal; makes = stays.0 } in
     record {
       makes = stays.0;
       truss = stays.1;
       shows = λ pid named forks. births-report n k o pid first h lawful fit none legal stays.0 range bytes named forks;
+      shows_unfollowed = λ pid unfollowed. unfollowed-report n k o pid first h lawful fit none legal stays.0 range bytes unfollowed;
       texts = read-texts n k o first h lawful none legal stays.0;
       moments = λ pid named forks. left-memories n k o pid first h lawful fit none legal stays.0 range bytes named forks;
-      releases = λ before later is. truss-releases n k o first h before later lawful none legal stays.0 is;
-      done = λ finished.
-          let ends : Ends (first_truss o) (exchanges k h) = record { makes = stays.0; finished = finished } in
-          record { handled = given-handled o (exchanges k h) ends; nothing_open = nothing-open n k o first h none legal ends; watches_none = λ pid. finished-watches-none k o pid h finished };
+      moments_unfollowed = λ pid unfollowed. unfollowed-memories n k o pid first h lawful fit none legal stays.0 range bytes unfollowed;
+      handled = handled-so-far o (exchanges k h) stays.0;
+      soon = soon n k o first h run;
+      children = children n k o first h run;
+      opens = opens n k o first h run;
+      begins = begins n k o first h run;
+      newborn = newborn n k o first h run fit range bytes;
+      lets_go = let-go n k o first h run;
+      releases = λ before later is. releases n k o first before (front-run n k o first h run before later is);
+      stays_set = stays-set n k o first h run;
+      done = done n k o first h run;
     }

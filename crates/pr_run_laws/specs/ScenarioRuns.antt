@@ -3,7 +3,7 @@ use Rattle.pr_api.specs.Views.{kernel_of}
 use Rattle.pr_erasure.specs.Transparency.{IsTransparent}
 use Rattle.pr_line.specs.declared.options.Options.{Options}
 use Rattle.pr_model.specs.FirstState.{first_state, stored_file}
-use Rattle.pr_model.specs.Legal.{IsLegal}
+use Rattle.pr_model.specs.Legal.{IsLegal, state_after}
 use Rattle.pr_model.specs.Passive.{IsPassive}
 use Rattle.pr_model.specs.State.{TracedState}
 use Rattle.pr_model.specs.declared.events.Entry.{Entry}
@@ -55,10 +55,13 @@ first_world s = record {
 -- What every run of a scenario keeps, in whatever order its actors move: each entry is what the machine does; the
 -- controllers make the calls that come after the replies that they got, and the clock goes on only where it is awaited;
 -- and if controllers only stopped, ran and read, the programs did what they could have done without controllers. Truss
--- and the tools do no more than that: where no controller is a script, the programs always did so. Each truss has shown
--- what was selected while it watched, on the conditions of TrussRuns; when it has finished, it has attached what it was
--- given or reported its refusal, unless it was interrupted before, and it has nothing open. What a tool shows stood so in
--- one state.
+-- and the tools do no more than that: where no controller is a script, the programs always did so.
+--
+-- Each truss has shown what was selected while it watched, on the conditions of TrussRuns; it lets a process go for a
+-- reason alone, and releases it. When it has finished, it has attached what it was given or reported its refusal,
+-- unless it was interrupted before; it has opened or set free each child of a fork that it read and is to follow, or
+-- reported its refusal; and it has nothing open. What a tool shows stood so in one state, whatever programs give its
+-- labels; and the programs of the machine are always those of the scenario.
 pub record IsKept (s : Scenario) (h : List Entry) : Type 0 where
   pub legal : IsLegal (length (controllers_of s)) (first_state_of s) h
   pub follows : Follows (controllers_of s) (first_state_of s) h
@@ -67,7 +70,8 @@ pub record IsKept (s : Scenario) (h : List Entry) : Type 0 where
   pub trusses : (k : ℕ) (o : Options) → slice_get s.controllers k ≡ Some (plan.Truss o)
       → IsTrussKept (controllers_of s) (first_state_of s) h k o
   pub tools : (k : ℕ) (kind : ToolKind) (pid : ℕ) → slice_get s.controllers k ≡ Some (plan.Tool kind pid)
-      → IsToolKept (controllers_of s) (first_state_of s) h s.programs k kind pid
+      → IsToolKept (controllers_of s) (first_state_of s) h k kind pid
+  pub programs : (state_after (first_state_of s) h).system.programs ≡ s.programs
 
 -- ---- on one thread a run is a function of the scenario
 

@@ -14,10 +14,13 @@ use Rattle.pr_world.specs.Protocol.{controllers_at}
 -- What a run keeps of each tool.
 
 -- The controller of a number is a tool of this kind and process. When it has finished, and was not refused, it prints
--- what stands in one state; pstack, which reads more than once, the stacks of one state.
-pub record IsToolKept (controllers : List Core) (first : TracedState) (h : List Entry) (programs : List Program)
+-- what stands in one state; pstack, which reads more than once, the stacks of one state. This is so with the labels of
+-- whatever programs it prints.
+pub record IsToolKept (controllers : List Core) (first : TracedState) (h : List Entry)
     (k : ℕ) (kind : ToolKind) (pid : ℕ) : Type 0 where
-  pub shows : (t : ToolState) → slice_get (controllers_at controllers h) k ≡ Some (Tool t) → has_ended t ≡ true
-      → t.refusal ≡ None → reads_once kind ≡ true → ShowsOneState k kind pid first h (printed t programs)
-  pub stack : (t : ToolState) → slice_get (controllers_at controllers h) k ≡ Some (Tool t) → has_ended t ≡ true
-      → t.refusal ≡ None → kind ≡ Pstack → ShowsOneStack k pid programs first h (printed t programs)
+  pub shows : (t : ToolState) (programs : List Program) → slice_get (controllers_at controllers h) k ≡ Some (Tool t)
+      → has_ended t ≡ true → t.refusal ≡ None → reads_once kind ≡ true
+      → ShowsOneState k kind pid first h (printed t programs)
+  pub stack : (t : ToolState) (programs : List Program) → slice_get (controllers_at controllers h) k ≡ Some (Tool t)
+      → has_ended t ≡ true → t.refusal ≡ None → kind ≡ Pstack
+      → ShowsOneStack k pid programs first h (printed t programs)

@@ -1,54 +1,169 @@
-use Rattle.std.specs.Prelude.{◌≡◌, ◌<◌, ◌++◌, ℕ, true, false, List, Some, None, length, slice_get}
+use Rattle.std.specs.Prelude.{◌≡◌, ◌≢◌, ◌<◌, ◌≤◌, ◌⊎◌, ◌++◌, ℕ, true, false, List, [], ◌∷◌, Option, Some, None, length}
+use Rattle.std.specs.Prelude.{slice_get}
+use Rattle.std.specs.List.{All}
 use Rattle.pr_line.specs.declared.options.Options.{Options}
+use Rattle.pr_model.specs.Events.{events_from}
+use Rattle.pr_model.specs.Handles.{handle_of, is_control}
 use Rattle.pr_model.specs.Legal.{state_after}
 use Rattle.pr_model.specs.Calls.{Answer, answer_to}
 use Rattle.pr_model.specs.State.{TracedProcess, TracedState, live_process}
+use Rattle.pr_model.specs.declared.calls.Call.{Call}
 use Rattle.pr_model.specs.declared.calls.Call.TheVariants.{Close}
 use Rattle.pr_model.specs.declared.events.Entry.{Entry}
+use Rattle.pr_model.specs.declared.handles.Held.{Held}
+use Rattle.pr_truss.specs.Feeding.{fed}
 use Rattle.pr_truss.specs.NextCalls.{next_call_of}
-use Rattle.pr_truss.specs.Trusses.{TrussState, first_truss, traced_at}
-use Rattle.pr_report_laws.specs.Births.{LeavesForks, NamesNoChild}
+use Rattle.pr_truss.specs.Trusses.{first_truss, traced_at}
+use Rattle.pr_truss.specs.declared.processes.Traced.{Traced}
+use Rattle.pr_truss.specs.declared.reports.Report.{Report}
+use Rattle.pr_truss.specs.declared.stages.FreeingStep.TheVariants.{Close as Free}
+use Rattle.pr_truss.specs.declared.stages.Stage.TheVariants.{FreeingChild}
+use Rattle.pr_report_laws.specs.Births.{IsNeverFollowed, LeavesForks, NamesNoChild}
+use Rattle.pr_report_laws.specs.Follows.{IsFollowedUp, IsLeftChild, ReadsFork}
+use Rattle.pr_report_laws.specs.Freed.{IsInterruptedFreeing, IsSetFree, ReadsLastFork}
+use Rattle.pr_report_laws.specs.Grips.{HasFollowed, HasOpened, IsLetGo}
 use Rattle.pr_laws.specs.LastCloses.{IsReleased}
 use Rattle.pr_report_laws.specs.Memories.{AreOfTheirEvents, HaveTheirTexts}
-use Rattle.pr_report_laws.specs.Releases.{has_set_at}
+use Rattle.pr_report_laws.specs.Newborn.{IsNoTurnOf, WasForked, WasSpawned}
+use Rattle.pr_report_laws.specs.Releases.{has_set_at, modes_set, released}
 use Rattle.pr_report_laws.specs.Reported.{IsReported}
+use Rattle.pr_report_laws.specs.Shown.{selected}
 use Rattle.pr_report_laws.specs.Watching.{watches}
-use Rattle.pr_truss_laws.specs.Exchanges.{Makes, exchanges, truss_at}
-use Rattle.pr_truss_laws.specs.Given.{IsHandled}
+use Rattle.pr_truss_laws.specs.Exchanges.{Exchange, Makes, exchanges, truss_after, truss_at}
+use Rattle.pr_truss_laws.specs.Given.{IsHandled, IsHandledSoFar}
 use Rattle.pr_truss_laws.specs.Handles.{HasNothingOpen}
+use Rattle.pr_truss_laws.specs.Polled.{IsNoEndOf, PollNames, calls_meanwhile}
 use Rattle.pr_world.specs.Cores.{Core, Truss}
 use Rattle.pr_world.specs.Protocol.{controllers_at}
 
 -- What a run keeps of each truss.
 
+-- ---- the end
+
+-- A process was let go, for a reason, in an entry of those that came after these ones.
+pub record WasLetGo (k pid : ℕ) (first : TracedState) (before later : List Entry) : Type 0 where
+  pub between : List Entry
+  pub entry : Entry
+  pub behind : List Entry
+  pub is : later ≡ between ++ entry ∷ behind
+  pub reason : IsLetGo k pid first (before ++ between) entry
+
 -- A truss that has finished: each process that it was given was attached or its refusal is reported, unless it was
--- interrupted before; it has nothing open, and it watches no process any more.
+-- interrupted before; it has nothing open, and it watches no process any more. Each process that it watched was let go:
+-- it had ended, or truss had been interrupted.
 pub record HasDone (k : ℕ) (o : Options) (first : TracedState) (h : List Entry) : Type 0 where
   pub handled : IsHandled o o.program (truss_at k o h).reports (exchanges k h)
   pub nothing_open : HasNothingOpen k (state_after first h)
   pub watches_none : (pid : ℕ) → watches (truss_at k o h) pid ≡ false
+  pub lets_go : (before later : List Entry) (pid : ℕ) → h ≡ before ++ later → watches (truss_at k o before) pid ≡ true
+      → WasLetGo k pid first before later
 
--- What this truss leaves when it closes a control file in this state: a process that it has attached, or of which the
--- opening is past the step that sets PR_RLC, is released, if it lives. Nothing of it is traced or watched then, and no
--- lwp of it stands on an event, is directed to stop, or has a mark.
-pub record Releases (k : ℕ) (t : TrussState) (s : TracedState) : Type 0 where
-  pub each : (place : ℕ) (p : TracedProcess) (a : Answer) → place < length t.traced → has_set_at t place ≡ true
-      → live_process s.system (traced_at t place).pid ≡ Some p
-      → answer_to s k (Close (traced_at t place).control) ≡ Some a
-      → (q : TracedProcess) × ((live_process a.state.system (traced_at t place).pid ≡ Some q) × IsReleased q)
+-- ---- the children of forks
+
+-- A child that truss watches from the end of this history on: a fork made it and no controller did, no lwp of it has
+-- had a turn, and so no event of it that the options select has come.
+pub record IsNewborn (o : Options) (pid : ℕ) (first : TracedState) (h : List Entry) : Type 0 where
+  pub forked : WasForked pid h
+  pub unstarted : (by : ℕ) → WasSpawned by pid h → ⊥
+  pub still : All (IsNoTurnOf pid) h
+  pub silent : selected o pid (events_from first h) ≡ []
+
+-- What a truss that follows children does with those of the forks that it reads: each is opened, or its refusal is the
+-- next report; and one that it reads while it leaves a process is set free, or its refusal is the next report. Of what
+-- it has not done of that yet the first call is due: when it has finished it has done all of it. No such opening is
+-- interrupted.
+pub record HandlesChildren (k : ℕ) (o : Options) (h : List Entry) : Type 0 where
+  pub follows : (before later : List Exchange) (x : Exchange) (place child : ℕ) → exchanges k h ≡ before ++ x ∷ later
+      → ReadsFork (truss_after (first_truss o) before) x.reply place child
+      → IsFollowedUp child (traced_at (truss_after (first_truss o) before) place).control
+      (fed (truss_after (first_truss o) before) x.reply).reports (truss_at k o h).reports
+      (next_call_of (truss_at k o h)) later
+  pub frees : (before later : List Exchange) (x : Exchange) (child : ℕ) → exchanges k h ≡ before ++ x ∷ later
+      → ReadsLastFork (truss_after (first_truss o) before) x.reply child
+      → IsSetFree child (traced_at (truss_after (first_truss o) before) 0)
+      (fed (truss_after (first_truss o) before) x.reply).reports (truss_at k o h).reports
+      (next_call_of (truss_at k o h)) later
+  pub leaves_none : (before later : List Exchange) (child : ℕ) → exchanges k h ≡ before ++ later
+      → IsLeftChild child later → ⊥
+  pub keeps_none : (before later : List Exchange) (child : ℕ) (parent : Traced) (base reports : List Report)
+      → (due : Option Call) → exchanges k h ≡ before ++ later
+      → IsInterruptedFreeing child parent base reports due later → ⊥
+
+-- ---- what truss releases
+
+-- A controller has the control file of a process open, with this handle.
+pub record HasControl (k pid number : ℕ) (s : TracedState) : Type 0 where
+  pub held : Held
+  pub there : handle_of s.opens k number ≡ Some held
+  pub of : held.pid ≡ pid
+  pub control : is_control held.file ≡ true
+
+-- What this truss leaves when it closes a control file after this history: a process of which it has set PR_RLC is
+-- released, if it lives. Nothing of it is traced or watched then, and no lwp of it stands on an event, is directed to
+-- stop, or has a mark. Truss has set PR_RLC of each process that it traces, once it is attached or its opening is past
+-- that step, and of a child that it sets free. It has the control file of each of these open.
+pub record Releases (k : ℕ) (o : Options) (first : TracedState) (h : List Entry) : Type 0 where
+  pub each : (number : ℕ) (held : Held) (p : TracedProcess) (a : Answer)
+      → handle_of (state_after first h).opens k number ≡ Some held → is_control held.file ≡ true
+      → modes_set k o held.pid h ≡ released → live_process (state_after first h).system held.pid ≡ Some p
+      → answer_to (state_after first h) k (Close number) ≡ Some a
+      → (q : TracedProcess) × ((live_process a.state.system held.pid ≡ Some q) × IsReleased q)
+  pub traced : (place : ℕ) → place < length (truss_at k o h).traced → has_set_at (truss_at k o h) place ≡ true
+      → modes_set k o (traced_at (truss_at k o h) place).pid h ≡ released
+  pub traced_control : (place : ℕ) → place < length (truss_at k o h).traced
+      → HasControl k (traced_at (truss_at k o h) place).pid (traced_at (truss_at k o h) place).control
+      (state_after first h)
+  pub freed : (pid control : ℕ) (p : TracedProcess) → (truss_at k o h).stage ≡ FreeingChild pid (Free control)
+      → pid ≢ 0 → live_process (state_after first h).system pid ≡ Some p → modes_set k o pid h ≡ released
+  pub freed_control : (pid control : ℕ) → (truss_at k o h).stage ≡ FreeingChild pid (Free control)
+      → HasControl k pid control (state_after first h)
+
+-- ---- all of it
 
 -- The controller of a number is a truss with these options, whose calls are those that it makes after the replies that
 -- it got. Of each process it has shown what was selected of its events while it watched the process. Where it follows
--- children, this is said only if fork makes none of the processes that its options name, and if between a fork and the
--- opening of its child no other controller is granted a handle for writing of the child. The memory that stands in the
--- line of an event is that of the state in which truss read it, and on the same condition that of the state right after
--- the event, unless SIGKILL ended the process before truss read. Wherever it has come to, it releases the processes
--- that it has attached when it closes their control files.
-pub record IsTrussKept (controllers : List Core) (first : TracedState) (h : List Entry) (k : ℕ) (o : Options) : Type 0 where
+-- children, this is said only of a process of which it never got hold as the child of a fork, or if fork makes none of
+-- the processes that its options name, and if between a fork and the opening of its child no other controller is
+-- granted a handle for writing of the child; and then a child does nothing before it is watched. The memory that stands
+-- in the line of an event is that of the state in which truss read it, and on the same condition that of the state
+-- right after the event, unless SIGKILL ended the process before truss read.
+--
+-- What truss was given it has handled in order, as far as it has come, and what a poll named it soon runs, or closes.
+-- Truss watches a process right after it has opened it, begins to watch it in no other way, and lets it go for a reason
+-- alone. Wherever it has come to, it releases the processes of which it has set PR_RLC when it closes their control
+-- files; and what it has set so stays set while it has the control file open, also where the opening of the process is
+-- broken off.
+pub record IsTrussKept (controllers : List Core) (first : TracedState) (h : List Entry)
+    (k : ℕ) (o : Options) : Type 0 where
   pub makes : Makes (first_truss o) (exchanges k h)
   pub truss : slice_get (controllers_at controllers h) k ≡ Some (Truss (truss_at k o h))
   pub shows : (pid : ℕ) → NamesNoChild o h → LeavesForks k o h → IsReported k o pid first h
+  pub shows_unfollowed : (pid : ℕ) → IsNeverFollowed k o pid h → IsReported k o pid first h
   pub texts : HaveTheirTexts k o first h (truss_at k o h).reports
-  pub moments : (pid : ℕ) → NamesNoChild o h → LeavesForks k o h → AreOfTheirEvents k o pid first h (truss_at k o h).reports
-  pub releases : (before later : List Entry) → h ≡ before ++ later → Releases k (truss_at k o before) (state_after first before)
+  pub moments : (pid : ℕ) → NamesNoChild o h → LeavesForks k o h
+      → AreOfTheirEvents k o pid first h (truss_at k o h).reports
+  pub moments_unfollowed : (pid : ℕ) → IsNeverFollowed k o pid h
+      → AreOfTheirEvents k o pid first h (truss_at k o h).reports
+  pub handled : IsHandledSoFar o (next_call_of (truss_at k o h)) o.program (truss_at k o h).reports (exchanges k h)
+  pub soon : (before between later : List Exchange) (x : Exchange) (place : ℕ)
+      → exchanges k h ≡ before ++ x ∷ (between ++ later)
+      → PollNames (truss_after (first_truss o) before) x.reply place
+      → All (IsNoEndOf (traced_at (truss_after (first_truss o) before) place)) between
+      → length between ≤ calls_meanwhile (truss_after (truss_after (first_truss o) before) (x ∷ between)).leaving place
+  pub children : o.follow ≡ true → HandlesChildren k o h
+  pub opens : (before later : List Entry) (pid : ℕ) → h ≡ before ++ later
+      → HasOpened k o pid before ⊎ HasFollowed k pid before → watches (truss_at k o before) pid ≡ true
+  pub begins : (before later : List Entry) (e : Entry) (pid : ℕ) → h ≡ before ++ e ∷ later
+      → watches (truss_at k o before) pid ≡ false → watches (truss_at k o (before ++ e ∷ [])) pid ≡ true
+      → HasOpened k o pid (before ++ e ∷ []) ⊎ HasFollowed k pid (before ++ e ∷ [])
+  pub newborn : (before later : List Entry) (e : Entry) (pid : ℕ) → NamesNoChild o h → LeavesForks k o h
+      → h ≡ before ++ e ∷ later → watches (truss_at k o before) pid ≡ false → HasFollowed k pid (before ++ e ∷ [])
+      → IsNewborn o pid first (before ++ e ∷ [])
+  pub lets_go : (before later : List Entry) (e : Entry) (pid : ℕ) → h ≡ before ++ e ∷ later
+      → watches (truss_at k o before) pid ≡ true → watches (truss_at k o (before ++ e ∷ [])) pid ≡ false
+      → IsLetGo k pid first before e
+  pub releases : (before later : List Entry) → h ≡ before ++ later → Releases k o first before
+  pub stays_set : (before later : List Entry) (e : Entry) (number : ℕ) (held : Held) → h ≡ before ++ e ∷ later
+      → handle_of (state_after first before).opens k number ≡ Some held → is_control held.file ≡ true
+      → modes_set k o held.pid before ≡ released → modes_set k o held.pid (before ++ e ∷ []) ≡ released
   pub done : next_call_of (truss_at k o h) ≡ None → HasDone k o first h
