@@ -55,7 +55,7 @@ use Rattle.pr_report_laws.proofs.Standing.{Accounted, Position, Standing, apart,
 use Rattle.pr_report_laws.proofs.StopsOver.{StopOver}
 use Rattle.pr_report_laws.proofs.StopsRead.{stop_read-over}
 use Rattle.pr_report_laws.proofs.WatchHistories.{Reaches, exchange-answered}
-use Rattle.pr_report_laws.specs.Grips.{ReadsFile}
+use Rattle.pr_report_laws.specs.Attachments.{ReadsFile}
 use Rattle.pr_report_laws.specs.Shown.{LwpEvent, shown}
 use Rattle.pr_report_laws.specs.Watching.{is_away, place_of, told_of, with_exchange}
 

@@ -36,7 +36,7 @@ use Rattle.pr_report_laws.proofs.OpeningRuns.{OpensControl, born, born-fed, born
 use Rattle.pr_report_laws.proofs.OptionLemmas.{fed-options}
 use Rattle.pr_report_laws.proofs.WatchHistories.{IsRun, after-append, makes-front, makes-rest, no-exchanges, run-reaches}
 use Rattle.pr_report_laws.proofs.WatchedPlaces.{IsWatched, not-watched, place-watched}
-use Rattle.pr_report_laws.specs.Grips.{HasFollowed, HasOpened, child_calls}
+use Rattle.pr_report_laws.specs.Attachments.{HasFollowed, HasOpened, child_calls}
 use Rattle.pr_report_laws.specs.Watching.{watches}
 
 -- When truss begins to watch a process, by its calls and their replies alone.

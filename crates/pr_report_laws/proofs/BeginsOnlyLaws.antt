@@ -39,7 +39,7 @@ use Rattle.pr_report_laws.proofs.StandLemmas.{Stands, StandsOpening}
 use Rattle.pr_report_laws.proofs.WatchHistories.{IsAnswered, IsRun, Reaches, answered-calm, exchange-answered, run-front, run-last, run-next, run-pushed, run-reaches, truss_at-push}
 use Rattle.pr_report_laws.proofs.WatchMemory.{IsChildUnderWay, IsUnderWay, Recalls, Remembers, accepted-granted, child-called, child-calls, longer, reached-comes, run-recalls, step-called}
 use Rattle.pr_report_laws.proofs.WatchedPlaces.{IsWatched, place-watched, watched-place}
-use Rattle.pr_report_laws.specs.Grips.{HasFollowed, HasOpened, child_calls}
+use Rattle.pr_report_laws.specs.Attachments.{HasFollowed, HasOpened, child_calls}
 use Rattle.pr_report_laws.specs.Watching.{is_away, watches, with_exchange}
 
 -- Truss begins to watch a process in no other way than by the whole opening of it, as one that it was given or as a

@@ -41,7 +41,7 @@ use Rattle.pr_report_laws.proofs.StandLemmas.{Stands}
 use Rattle.pr_report_laws.proofs.WatchHistories.{IsAnswered, IsRun, Reaches, exchange-answered, run-front, run-last, run-next, run-reaches, truss_at-push}
 use Rattle.pr_report_laws.proofs.WatchMemory.{HasInterrupt, reached-comes, run-recalls}
 use Rattle.pr_report_laws.proofs.WatchedPlaces.{IsWatched, place-watched, watched-place}
-use Rattle.pr_report_laws.specs.Grips.{IsLetGo, ended, left}
+use Rattle.pr_report_laws.specs.Attachments.{IsLetGo, ended, left}
 use Rattle.pr_report_laws.specs.Watching.{is_away, watches, with_exchange}
 
 -- Truss lets a process go in no other way than these: it has ended; or truss was interrupted, and looked at its lwps.

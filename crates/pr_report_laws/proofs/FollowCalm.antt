@@ -18,7 +18,7 @@ use Rattle.pr_report_laws.proofs.KeepLemmas.{can_wait}
 use Rattle.pr_report_laws.proofs.WatchHistories.{answered-calm, cons-exchanges, exchange-answered, no-exchanges}
 use Rattle.pr_report_laws.specs.Follows.{IsLeftChild, following_calls}
 use Rattle.pr_report_laws.specs.Freed.{IsInterruptedFreeing}
-use Rattle.pr_report_laws.specs.Grips.{child_calls}
+use Rattle.pr_report_laws.specs.Attachments.{child_calls}
 
 -- In a legal history no call of the opening of a child is interrupted, nor is the open of one that is set free: none of
 -- them waits.

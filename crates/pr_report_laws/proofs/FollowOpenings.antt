@@ -35,7 +35,7 @@ use Rattle.pr_report_laws.proofs.TracedPlaces.{removed-before, set-length, set-o
 use Rattle.pr_report_laws.proofs.WatchMemory.{GoesChild}
 use Rattle.pr_report_laws.specs.Follows.{opened_by, with_opened_by, RunsThen}
 use Rattle.pr_report_laws.specs.Freed.{handles_of}
-use Rattle.pr_report_laws.specs.Grips.{child_calls}
+use Rattle.pr_report_laws.specs.Attachments.{child_calls}
 
 -- How the opening of a child ends, and that its parent runs then.
 

@@ -1,4 +1,5 @@
 pub mod AnsweredReads
+pub mod AttachmentLaws
 pub mod BeginLaws
 pub mod BeginsOnlyLaws
 pub mod Births
@@ -48,7 +49,6 @@ pub mod ForkTurns
 pub mod FrameLaws
 pub mod FreedLaws
 pub mod GoneLaws
-pub mod GripLaws
 pub mod HistoryLaw
 pub mod HistorySteps
 pub mod KeepLemmas

@@ -47,7 +47,7 @@ use Rattle.pr_report_laws.proofs.Standing.{apart}
 use Rattle.pr_report_laws.proofs.WatchHistories.{IsRun, after-append, makes-front, makes-rest, run-pushed}
 use Rattle.pr_report_laws.specs.Births.{LeavesForks, NamesNoChild}
 use Rattle.pr_report_laws.specs.Fits.{IsFitSystem}
-use Rattle.pr_report_laws.specs.Grips.{HasFollowed, child_calls}
+use Rattle.pr_report_laws.specs.Attachments.{HasFollowed, child_calls}
 use Rattle.pr_report_laws.specs.Newborn.{IsNoTurnOf, WasForked, WasSpawned}
 use Rattle.pr_report_laws.specs.Shown.{LwpEvent, selected, shown}
 use Rattle.pr_report_laws.specs.Watching.{watches}

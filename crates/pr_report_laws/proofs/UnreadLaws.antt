@@ -28,7 +28,7 @@ use Rattle.pr_report_laws.proofs.ShownGrows.{told-grows}
 use Rattle.pr_report_laws.proofs.Standing.{Accounted, Standing, apart, lives, over}
 use Rattle.pr_report_laws.proofs.WatchHistories.{Reaches}
 use Rattle.pr_report_laws.specs.Fits.{IsFitSystem}
-use Rattle.pr_report_laws.specs.Grips.{ReadsFile}
+use Rattle.pr_report_laws.specs.Attachments.{ReadsFile}
 use Rattle.pr_report_laws.specs.Reported.{IsReported, IsUnread}
 use Rattle.pr_report_laws.specs.Shown.{LwpEvent, selected, shown}
 use Rattle.pr_report_laws.specs.Watching.{events_watched, told_of, watches, with_exchange}

@@ -42,7 +42,7 @@ use Rattle.pr_report_laws.proofs.StageChanges.{Comes, How, Opens, at, child_goes
 use Rattle.pr_report_laws.proofs.StageReplies.{fed-comes}
 use Rattle.pr_report_laws.proofs.StandLemmas.{Stands}
 use Rattle.pr_report_laws.proofs.WatchHistories.{IsRun, Reaches, after-cons, cons-exchanges, entry-reaches, first-reaches, no-exchanges}
-use Rattle.pr_report_laws.specs.Grips.{child_calls}
+use Rattle.pr_report_laws.specs.Attachments.{child_calls}
 use Rattle.pr_report_laws.specs.Watching.{told_of, with_exchange}
 
 -- The exchanges that stand behind where truss has come to: those of the opening that is under way, and the wait that

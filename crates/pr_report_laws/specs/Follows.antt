@@ -16,7 +16,7 @@ use Rattle.pr_truss.specs.declared.reports.Report.TheVariants.{CannotTrace}
 use Rattle.pr_truss.specs.declared.stages.Stage.TheVariants.{ReadingStatus}
 use Rattle.pr_truss_laws.specs.Exchanges.{Exchange, IsGranted, calls_in}
 use Rattle.pr_truss_laws.specs.Given.{reply_at}
-use Rattle.pr_report_laws.specs.Grips.{child_calls}
+use Rattle.pr_report_laws.specs.Attachments.{child_calls}
 
 -- What becomes of the child of a fork that truss(1) has read, by its exchanges, its reports and the call that is due
 -- alone. Where truss has finished no call is due, so that nothing of this is only begun then.

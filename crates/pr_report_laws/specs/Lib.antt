@@ -1,8 +1,8 @@
+pub mod Attachments
 pub mod Births
 pub mod Fits
 pub mod Follows
 pub mod Freed
-pub mod Grips
 pub mod Memories
 pub mod Newborn
 pub mod Releases

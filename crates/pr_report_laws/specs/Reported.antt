@@ -9,7 +9,7 @@ use Rattle.pr_num.specs.Signals.{signal_number}
 use Rattle.pr_num.specs.declared.signals.Sig.TheVariants.{Kill}
 use Rattle.pr_truss.specs.Trusses.{TrussState, first_truss}
 use Rattle.pr_truss_laws.specs.Exchanges.{exchanges, truss_after, truss_at}
-use Rattle.pr_report_laws.specs.Grips.{ReadsFile}
+use Rattle.pr_report_laws.specs.Attachments.{ReadsFile}
 use Rattle.pr_report_laws.specs.Shown.{LwpEvent, selected, shown}
 use Rattle.pr_report_laws.specs.Watching.{events_watched, watches}
 

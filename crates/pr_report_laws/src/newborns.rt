@@ -10,7 +10,7 @@ ghost use Rattle.pr_range_laws.specs.ByteHistories.{HasBytes};
 ghost use Rattle.pr_range_laws.specs.InRange.{IsInRange};
 ghost use Rattle.pr_report_laws.specs.Births.{LeavesForks, NamesNoChild};
 ghost use Rattle.pr_report_laws.specs.Fits.{IsFitSystem};
-ghost use Rattle.pr_report_laws.specs.Grips.{HasFollowed};
+ghost use Rattle.pr_report_laws.specs.Attachments.{HasFollowed};
 ghost use Rattle.pr_report_laws.specs.Newborn.{IsNoTurnOf, WasForked, WasSpawned};
 ghost use Rattle.pr_report_laws.specs.Shown.{selected};
 ghost use Rattle.pr_report_laws.specs.Watching.{watches};

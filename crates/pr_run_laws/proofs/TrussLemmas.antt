@@ -39,7 +39,7 @@ use Rattle.pr_report_laws.proofs.WatchHistories.{IsRun, exchanges-both, makes-fr
 use Rattle.pr_tool_laws.proofs.WholeLemmas.{front-bytes, front-legal}
 use Rattle.pr_report_laws.specs.Fits.{IsFitSystem}
 use Rattle.pr_report_laws.specs.Births.{LeavesForks, NamesNoChild, granted}
-use Rattle.pr_report_laws.specs.Grips.{HasFollowed, HasOpened, IsLetGo}
+use Rattle.pr_report_laws.specs.Attachments.{HasFollowed, HasOpened, IsLetGo}
 use Rattle.pr_report_laws.specs.Releases.{modes_set, released}
 use Rattle.pr_report_laws.specs.Watching.{watches}
 use Rattle.pr_truss.specs.Feeding.{fed}

@@ -21,7 +21,7 @@ use Rattle.pr_truss.specs.declared.stages.Stage.TheVariants.{FreeingChild}
 use Rattle.pr_report_laws.specs.Births.{IsNeverFollowed, LeavesForks, NamesNoChild}
 use Rattle.pr_report_laws.specs.Follows.{IsFollowedUp, IsLeftChild, ReadsFork}
 use Rattle.pr_report_laws.specs.Freed.{IsInterruptedFreeing, IsSetFree, ReadsLastFork}
-use Rattle.pr_report_laws.specs.Grips.{HasFollowed, HasOpened, IsLetGo}
+use Rattle.pr_report_laws.specs.Attachments.{HasFollowed, HasOpened, IsLetGo}
 use Rattle.pr_laws.specs.LastCloses.{IsReleased}
 use Rattle.pr_report_laws.specs.Memories.{AreOfTheirEvents, HaveTheirTexts}
 use Rattle.pr_report_laws.specs.Newborn.{IsNoTurnOf, WasForked, WasSpawned}

@@ -11,7 +11,7 @@ use Rattle.pr_report_laws.proofs.BeginLaws.{finished-watches-none, first-watches
 use Rattle.pr_report_laws.proofs.BeginsOnlyLaws.{watched-opened}
 use Rattle.pr_report_laws.proofs.EndLaws.{watched-let}
 use Rattle.pr_report_laws.proofs.WatchHistories.{IsRun}
-use Rattle.pr_report_laws.specs.Grips.{HasFollowed, HasOpened, IsLetGo}
+use Rattle.pr_report_laws.specs.Attachments.{HasFollowed, HasOpened, IsLetGo}
 use Rattle.pr_report_laws.specs.Watching.{watches}
 
 -- When truss watches a process, by its calls and their replies alone: the laws, with their premises in a row.
@@ -39,4 +39,4 @@ module _ (n k : ℕ) (o : Options) (pid : ℕ) (s : TracedState) where
       → watches (truss_at k o (before ++ e ∷ [])) pid ≡ false → IsLetGo k pid s before e
   let_go before e lawful none legal makes = watched-let n k o pid s before e (run (before ++ e ∷ []) lawful none legal makes)
 
-pub ruleset grips = (first-watches-none, finished-watches-none, opened, followed, begun, let_go)
+pub ruleset attachments = (first-watches-none, finished-watches-none, opened, followed, begun, let_go)
