@@ -9,7 +9,7 @@ use Rattle.pr_world.specs.Moves.{Moves}
 use Rattle.pr_world.specs.Runs.{IsTold, RunsFor, Steps, StoppedIn, after_moves}
 use Rattle.pr_world.specs.Worlds.{Pick, WorldOf, WorldState, actor_of, can_act, end_of, ended_as, goes_on, next_actor, next_pick, picked, seen, with_pick}
 use Rattle.pr_world.specs.declared.ends.End.{End}
-use Rattle.pr_run.specs.OneRuns.{Advanced, StandsAs, end_of_run}
+use Rattle.pr_run.specs.OneRuns.{Advanced, IsStopped, StandsAs, end_of_run}
 
 -- The loop of a run.
 
@@ -160,14 +160,15 @@ module _ (first w : WorldState) (i e p : ℕ) (begin : e ≡ length first.kernel
       let same : i - length first.kernel.history ≡ first.kernel.places - length first.kernel.history = omega arith in
       run-function (i - length first.kernel.history) first w t run ∙ ap (λ (n : ℕ). after_moves n first) same
 
-  pub stopped : (v : WorldState) → i ≤ p → StandsAs w v → StoppedIn first v
+  pub stopped : (v : WorldState) → i ≤ p → StandsAs w v → IsStopped first v
   stopped v h stands =
       let those = stands-those w v stands in
-      record {
+      let steps : StoppedIn first v = record {
         made = i - length first.kernel.history;
         within = omega arith;
         world = w;
         runs = run;
         kernel = those.kernel;
         controllers = those.controllers;
-      }
+      } in
+      record { steps = steps; stands = stands }

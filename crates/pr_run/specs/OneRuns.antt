@@ -1,5 +1,5 @@
 use Rattle.std.specs.Prelude.{◌≡◌, ◌-◌, ◌⊎◌, ℕ, Bool, true, false, None, length}
-use Rattle.pr_world.specs.Runs.{RunsFor, Steps, after_moves}
+use Rattle.pr_world.specs.Runs.{RunsFor, Steps, StoppedIn, after_moves}
 use Rattle.pr_world.specs.Worlds.{WorldState, next_pick, picked}
 
 -- A run on one thread: at each step the actor that is picked moves.
@@ -18,11 +18,10 @@ pub record LedTo (first last : WorldState) : Type 0 where
   pub steps : ℕ
   pub runs : RunsFor steps first last
 
--- The same of a run that was stopped: after its steps one more actor may have been picked, and no further one.
-pub record LedUpTo (first last : WorldState) : Type 0 where
-  pub world : WorldState
-  pub led : LedTo first world
-  pub stands : StandsAs world last
+-- A run was stopped where memory ran out: after its steps one more actor may have been picked, and no further one.
+pub record IsStopped (first last : WorldState) : Type 0 where
+  pub steps : StoppedIn first last
+  pub stands : StandsAs steps.world last
 
 -- the world at the end of a run, where its machine is told: as many moves were made as there are places left, or until
 -- no actor could move

@@ -14,7 +14,7 @@ returns-in_err-end-clause-stopped c =
     let places : c.places.result ≡ c.run_one-ended.new.world.kernel.places = rw c.kernel-2.ensures at c.places.ensures in
     let within : length c.run_one-ended.new.world.kernel.history ≤ c.run_one-ended.new.world.kernel.places = omega (arith, entries.value, places, c.if-prove.false) in
     whatever c.from_residual.result _
-    (run-stopped (Err c.in_err-end.field-0.0) (seen kern_view c.args.world.now) (seen kern_view c.run_one-ended.new.world) c.requires.told c.in_err-end.ensures.err within)
+    (run-stopped (Err c.in_err-end.field-0.0) (seen kern_view c.args.world.now) (seen kern_view c.run_one-ended.new.world) c.requires.told c.in_err-end.ensures.err.steps within)
 
 pub returns-in_err-reports-clause-stopped : goal.returns-in_err-reports-clause-stopped
 unfolding kernel_of
