@@ -4,7 +4,7 @@ use Rattle.pr_num.specs.Programs.{Program}
 use Rattle.pr_num.specs.Spaces.{Space}
 use Rattle.pr_num.specs.declared.errnos.Errno.{Errno}
 use Rattle.pr_num.specs.declared.signals.Sig.{Sig}
-use Rattle.pr_model.specs.Lives.{with_child, with_program, with_new_lwp, with_reaped, with_this_ended, with_lwp_ended}
+use Rattle.pr_model.specs.Lives.{Birth, with_child, with_program, with_new_lwp, with_reaped, with_this_ended, with_lwp_ended}
 use Rattle.pr_model.specs.Machines.{Machine}
 use Rattle.pr_parts.specs.PendingSignals.{without_one}
 use Rattle.pr_model.specs.Signals.{generated, is_kill, with_disposition}
@@ -34,8 +34,8 @@ pub data Change : Type 0 where
   held_is : ℕ → Change
   -- the lwp goes back to what a handler interrupted, with these frames left
   resumes : Frame → List Frame → Change
-  -- a child is made, with these arguments of the call; a zombie child is reaped
-  forks : List ℕ → Change
+  -- a child is made, by a call with these arguments; a zombie child is reaped
+  forks : Birth → List ℕ → Change
   reaps : ℕ → Change
   -- the process runs another program
   becomes : Program → Change
@@ -107,7 +107,7 @@ module _ {C H K : Type 0} (m : Machine C H K) (pid : ℕ) (p : ProcessOf C H K) 
   changed (disposition_is g disposition) s = with_process pid (with_disposition_of g disposition) s
   changed (held_is held) s = with_process pid (with_lwp id (with_held held)) s
   changed (resumes frame frames) s = with_process pid (with_lwp id (resumed frame frames)) s
-  changed (forks args) s = if s.made == pid then s else with_child m pid p l args s
+  changed (forks birth args) s = if s.made == pid then s else with_child m birth pid p l args s
   changed (reaps child) s = if child == pid then s else with_reaped child s
   changed (becomes program) s = with_process pid (with_program m id l program) s
   changed (makes_lwp new regs held) s = with_process pid (with_new_lwp m new regs held) s

@@ -1,9 +1,9 @@
 use Rattle.pr_num.specs.Faults.{fault_signal}
 use Rattle.pr_num.specs.ById.{map_each}
-use Rattle.pr_model.specs.Machines.{Place, in_program, at_call, sleeping, UntracedLwp, UntracedProcess, UntracedSystem}
+use Rattle.pr_model.specs.Machines.{Nothing, Place, in_program, at_call, sleeping, UntracedLwp, UntracedProcess, UntracedSystem}
 use Rattle.pr_parts.specs.PendingSignals.{Pending, added}
 use Rattle.pr_num.specs.Infos.{of_fault}
-use Rattle.pr_model.specs.State.{TracedState, TracedSystem, TracedProcess, TracedLwp}
+use Rattle.pr_model.specs.State.{LwpOf, ProcessOf, SystemOf, TracedState, TracedSystem, TracedProcess, TracedLwp}
 use Rattle.pr_model.specs.declared.lwps.Phase.{Phase}
 use Rattle.pr_model.specs.declared.lwps.Phase.TheVariants.{User, Entered, Asleep, Exiting, Faulted}
 
@@ -67,3 +67,53 @@ erased_system s = record {
 -- open handles and interrupts are forgotten
 abbrev pub erased : TracedState → UntracedSystem
 erased s = erased_system s.system
+
+-- ---- what controllers have set, forgotten alone
+
+-- The traced state without what controllers have set, in which an lwp is where the kernel has it: what is the same in
+-- two states but for that is the same in their erasures.
+abbrev pub BareLwp : Type 0
+BareLwp = LwpOf Phase Nothing
+
+abbrev pub BareProcess : Type 0
+BareProcess = ProcessOf Nothing Phase Nothing
+
+abbrev pub BareSystem : Type 0
+BareSystem = SystemOf Nothing Phase Nothing
+
+unfoldable pub bare_lwp : TracedLwp → BareLwp
+bare_lwp l = record {
+  regs = l.regs;
+  held = l.held;
+  pending = l.pending;
+  current = l.current;
+  frames = l.frames;
+  suspended = l.suspended;
+  phase = l.phase;
+  control = tt;
+}
+
+unfoldable pub bare_process : TracedProcess → BareProcess
+bare_process p = record {
+  parent = p.parent;
+  program = p.program;
+  made_at = p.made_at;
+  ended = p.ended;
+  space = p.space;
+  fds = p.fds;
+  dispositions = p.dispositions;
+  pending = p.pending;
+  job_stop = p.job_stop;
+  next_lwp = p.next_lwp;
+  lwps = map_each bare_lwp p.lwps;
+  control = tt;
+}
+
+unfoldable pub bare_system : TracedSystem → BareSystem
+bare_system s = record {
+  programs = s.programs;
+  clock = s.clock;
+  made = s.made;
+  files = s.files;
+  processes = map_each bare_process s.processes;
+}

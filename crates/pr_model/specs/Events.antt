@@ -11,7 +11,7 @@ use Rattle.pr_model.specs.Reads.{mapped_from}
 use Rattle.pr_model.specs.Registers.{arguments, pc_of}
 use Rattle.pr_model.specs.ShownBytes.{shown_range}
 use Rattle.pr_model.specs.Signals.{disposition_of}
-use Rattle.pr_model.specs.State.{TracedState, TracedProcess, TracedLwp, live_process, lwp_of}
+use Rattle.pr_model.specs.State.{TracedState, TracedSystem, TracedProcess, TracedLwp, live_process, lwp_of}
 use Rattle.pr_model.specs.Statuses.{arguments_in, info_in}
 use Rattle.pr_model.specs.declared.events.Act.{Act}
 use Rattle.pr_model.specs.declared.events.Act.TheVariants as act
@@ -63,9 +63,9 @@ abbrev pub text_in : Space → Option (ℕ × ℕ) → Option (List ℕ)
 text_in space None = None
 text_in space (Some asked) = unless_empty (mapped_from space asked.0 asked.1)
 
-abbrev pub text_of_process : Option TracedProcess → Option (ℕ × ℕ) → Option (List ℕ)
-text_of_process None asked = None
-text_of_process (Some p) asked = text_in (space_seen p) asked
+abbrev pub text_of_process : TracedSystem → Option TracedProcess → Option (ℕ × ℕ) → Option (List ℕ)
+text_of_process s None asked = None
+text_of_process s (Some p) asked = text_in (space_seen s p) asked
 
 -- ---- the events
 
@@ -116,7 +116,7 @@ event_between (Some found) new did = event_of found.0 found.1 new did
 abbrev pub logged : TracedState → ℕ → ℕ → Option Event → List Logged
 logged new pid id None = []
 logged new pid id (Some e) =
-    record { pid = pid; id = id; event = e; text = text_of_process (live_process new.system pid) (text_asked e) } ∷ []
+    record { pid = pid; id = id; event = e; text = text_of_process new.system (live_process new.system pid) (text_asked e) } ∷ []
 
 -- the events of an entry, in the state that it finds
 unfoldable pub events_of : TracedState → Entry → List Logged

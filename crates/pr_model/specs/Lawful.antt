@@ -4,10 +4,11 @@ use Rattle.pr_num.specs.Agents.{agent_id}
 use Rattle.pr_num.specs.ById.{IsRising}
 use Rattle.pr_num.specs.Control.{has_flags, rlc_mode, klc_mode}
 use Rattle.pr_num.specs.Files.{no_descriptors}
-use Rattle.pr_num.specs.Limits.{all_mappings_limit, code_limit, data_limit, descriptor_limit, last_lwp, lwp_limit, process_limit}
+use Rattle.pr_num.specs.Limits.{all_mappings_limit, code_limit, data_limit, descriptor_limit, frame_limit, handle_limit, last_lwp, lwp_limit, mapping_limit, process_limit, queue_limit}
 use Rattle.pr_num.specs.Programs.{Program}
 use Rattle.pr_num.specs.Sets.{has_number}
 use Rattle.pr_num.specs.Signals.{holdable_word, signal_number}
+use Rattle.pr_num.specs.Spaces.{mapped_size}
 use Rattle.pr_num.specs.declared.infos.Info.{Info}
 use Rattle.pr_num.specs.declared.signals.Sig.TheVariants.{Kill, Stop}
 use Rattle.pr_parts.specs.AddressSpaces.{LeavesHeapPlace}
@@ -38,8 +39,9 @@ IsInfoIf (Some info) = IsInfo info
 abbrev pub IsLawfulQueued : Queued → Type 0
 IsLawfulQueued q = IsInfo q.info
 
--- each pending signal came with such information, and so did a current one
-pub record HaveInfos (p : Pending) : Type 0 where
+-- at most 32 signals are queued, and each pending signal came with such information; so did a current one
+pub record IsLawfulPending (p : Pending) : Type 0 where
+  pub few_queued : length p.queued ≤ queue_limit
   pub standard : All IsInfoIf p.standard
   pub queued : All IsLawfulQueued p.queued
 
@@ -57,13 +59,14 @@ pub record IsHoldable (held : ℕ) : Type 0 where
 abbrev pub IsLawfulFrame : Frame → Type 0
 IsLawfulFrame frame = IsHoldable frame.held
 
--- An lwp's id is one that was given out, or the agent's; it never holds SIGKILL or SIGSTOP, also after its handlers;
--- and records can hold what came with its signals.
+-- An lwp's id is one that was given out, or the agent's; it never holds SIGKILL or SIGSTOP, also after its handlers, of
+-- which at most 32 run; and records can hold what came with its signals.
 pub record IsLawfulLwp (next : ℕ) (e : ℕ × TracedLwp) : Type 0 where
   pub id : (e.0 < next) ⊎ (e.0 ≡ agent_id)
   pub held : IsHoldable e.1.held
   pub frames : All IsLawfulFrame e.1.frames
-  pub pending : HaveInfos e.1.pending
+  pub few_frames : length e.1.frames ≤ frame_limit
+  pub pending : IsLawfulPending e.1.pending
   pub current : IsLawfulCurrent e.1.current
 
 -- ---- processes
@@ -84,8 +87,8 @@ pub record AreUncaught (dispositions : List ℕ) : Type 0 where
   pub stop : disposition_of dispositions Stop ≡ 0
 
 -- A process's lwps stand under rising ids, at most 64 of them, it has places for 64 descriptors, SIGKILL is not traced,
--- neither SIGKILL nor SIGSTOP is caught, records can hold what came with its signals, and nothing but the heap is
--- mapped where the heap can be.
+-- neither SIGKILL nor SIGSTOP is caught, records can hold what came with its signals, at most 1 MiB is mapped, and
+-- nothing but the heap where the heap can be.
 pub record IsLawfulProcess (e : ℕ × TracedProcess) : Type 0 where
   pub has_lwps : HasLwps e.0 e.1
   pub empty_zombie : IsEmptyZombie e.1
@@ -96,8 +99,9 @@ pub record IsLawfulProcess (e : ℕ × TracedProcess) : Type 0 where
   pub descriptors : length e.1.fds ≡ descriptor_limit
   pub traced : has_number e.1.control.traced_signals (signal_number Kill) ≡ false
   pub uncaught : AreUncaught e.1.dispositions
-  pub pending : HaveInfos e.1.pending
+  pub pending : IsLawfulPending e.1.pending
   pub heap_place : All LeavesHeapPlace e.1.space
+  pub small_space : mapped_size e.1.space ≤ mapping_limit
 
 -- a process's id is one that was given out
 pub record IsNumberedBelow (made : ℕ) (e : ℕ × TracedProcess) : Type 0 where
@@ -179,8 +183,10 @@ pub record IsReleased (opens : Places) (e : ℕ × TracedProcess) : Type 0 where
 
 -- ---- the state
 
+-- its system is lawful, there are 1,024 places for handles, and what is open is as it can be
 pub record IsLawful (s : TracedState) : Type 0 where
   pub system : IsLawfulSystem s.system
+  pub places : length s.opens ≡ handle_limit
   pub fitting : All IsFitting s.opens
   pub handles : All (IsOfMade s.system.made) s.opens
   pub exclusive : AreExclusive s.opens

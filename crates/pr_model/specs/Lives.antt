@@ -3,6 +3,7 @@ use Rattle.pr_num.specs.Files.{no_descriptors, with_all_closed}
 use Rattle.pr_num.specs.Programs.{Program}
 use Rattle.pr_num.specs.Spaces.{first_space, first_registers}
 use Rattle.pr_num.specs.declared.signals.Sig.TheVariants.{Cld}
+use Rattle.pr_num.specs.declared.syscalls.Sysno.{Sysno}
 use Rattle.pr_num.specs.declared.syscalls.Sysno.TheVariants.{Fork}
 use Rattle.pr_parts.specs.FileCalls.{with_all_shared}
 use Rattle.pr_num.specs.ById.{change_under, inserted, map_each, without_id}
@@ -24,6 +25,14 @@ default_dispositions = replicate signal_count 0
 -- a process that runs another program keeps what it ignores, and catches nothing (exec(2))
 abbrev pub uncaught : ℕ → ℕ
 uncaught disposition = if nat_lt 1 disposition then 0 else disposition
+
+-- how a child is made: with a copy of its parent's memory
+pub data Birth : Type 0 where
+  by_fork : Birth
+
+-- the call that makes a child so
+abbrev pub call_of : Birth → Sysno
+call_of by_fork = Fork
 
 module _ {C H K : Type 0} where
   -- a system with one process more, under the next id
@@ -91,23 +100,23 @@ module _ {C H K : Type 0} (m : Machine C H K) where
   unfoldable pub with_spawned : Program → Bool → SystemOf C H K → SystemOf C H K
   with_spawned program held s = with_made (new_process program s.clock held) s
 
-  -- The lwp of a forked child: it is on its way out of fork, with 0 as its result. It has the held set, the frames and
-  -- the registers of the lwp that called fork, and nothing pending (fork(2)).
-  unfoldable pub forked_lwp : List ℕ → C → LwpOf H K → LwpOf H K
-  forked_lwp args set l = record {
+  -- The lwp of a forked child: it is on its way out of the call that made it, with 0 as its result. It has the held set,
+  -- the frames and the registers of the lwp that made the call, and nothing pending (fork(2)).
+  unfoldable pub forked_lwp : Birth → List ℕ → C → LwpOf H K → LwpOf H K
+  forked_lwp birth args set l = record {
     regs = with_result (Value 0) l.regs;
     held = l.held;
     pending = nothing_pending;
     current = None;
     frames = l.frames;
     suspended = false;
-    phase = m.exiting Fork args (Value 0);
-    control = m.at_birth set;
+    phase = m.exiting (call_of birth) args (Value 0);
+    control = m.at_birth (call_of birth) set;
   }
 
   -- A forked child: a copy of its parent with that lwp alone, with nothing pending and no job stop.
-  unfoldable pub forked : ℕ → ProcessOf C H K → LwpOf H K → List ℕ → ℕ → ProcessOf C H K
-  forked pid p l args clock = record {
+  unfoldable pub forked : Birth → ℕ → ProcessOf C H K → LwpOf H K → List ℕ → ℕ → ProcessOf C H K
+  forked birth pid p l args clock = record {
     parent = pid;
     program = p.program;
     made_at = clock;
@@ -118,14 +127,14 @@ module _ {C H K : Type 0} (m : Machine C H K) where
     pending = nothing_pending;
     job_stop = None;
     next_lwp = 2;
-    lwps = (1, forked_lwp args p.control l) ∷ [];
+    lwps = (1, forked_lwp birth args p.control l) ∷ [];
     control = m.of_child p.control;
   }
 
   -- a system with a forked child, which shares its parent's open files
-  unfoldable pub with_child : ℕ → ProcessOf C H K → LwpOf H K → List ℕ → SystemOf C H K → SystemOf C H K
-  with_child pid p l args s =
-      with_made (forked pid p l args s.clock) (record s { files = with_all_shared s.files p.fds })
+  unfoldable pub with_child : Birth → ℕ → ProcessOf C H K → LwpOf H K → List ℕ → SystemOf C H K → SystemOf C H K
+  with_child birth pid p l args s =
+      with_made (forked birth pid p l args s.clock) (record s { files = with_all_shared s.files p.fds })
 
   -- An lwp that runs another program keeps its held set, its pending signals and what is set on it (exec(2)).
   unfoldable pub started : LwpOf H K → LwpOf H K

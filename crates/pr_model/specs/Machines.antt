@@ -5,7 +5,6 @@ use Rattle.pr_num.specs.Sets.{has_number}
 use Rattle.pr_num.specs.Syscalls.{syscall_number}
 use Rattle.pr_num.specs.declared.faults.Flt.{Flt}
 use Rattle.pr_num.specs.declared.syscalls.Sysno.{Sysno}
-use Rattle.pr_num.specs.declared.syscalls.Sysno.TheVariants.{Fork}
 use Rattle.pr_parts.specs.PendingSignals.{added}
 use Rattle.pr_num.specs.Infos.{of_fault}
 use Rattle.pr_model.specs.State.{LwpOf, ProcessOf, SystemOf, TracedControl, TracedLwp}
@@ -29,11 +28,12 @@ pub record Machine (C H K : Type 0) : Type 0 where
   -- what is set on a new process, and on a new lwp, which is directed to stop or not
   pub unset : C
   pub marks : Bool → K
-  -- what stays set on a process when it ends and when it runs another program, and what a child takes over, and its lwp
+  -- what stays set on a process when it ends and when it runs another program, and what a child takes over, and its lwp,
+  -- which is on its way out of a call
   pub of_zombie : C → C
   pub of_exec : C → C
   pub of_child : C → C
-  pub at_birth : C → K
+  pub at_birth : Sysno → C → K
   -- what stays set on an lwp whose call is over, that stops as directed, and that is trapped after an instruction
   pub over : K → K
   pub stopped : K → K
@@ -76,14 +76,14 @@ exec_control c = record c { areas = [] }
 unfoldable pub child_control : TracedControl → TracedControl
 child_control c = if has_flags c.modes fork_mode then record c { modes = fork_mode; areas = []; usage = nothing_used } else nothing_set
 
--- the stop of a child at its birth, on its exit from fork, where that is traced
-unfoldable pub birth_stop : TracedControl → Option Stop
-birth_stop c =
-    if has_flags c.modes fork_mode then (if has_number c.traced_exits (syscall_number Fork) then Some (SysExit Fork) else None)
+-- the stop of a child at its birth, on its exit from the call that made it, where that is traced
+unfoldable pub birth_stop : Sysno → TracedControl → Option Stop
+birth_stop call c =
+    if has_flags c.modes fork_mode then (if has_number c.traced_exits (syscall_number call) then Some (SysExit call) else None)
     else None
 
-unfoldable pub birth_marks : TracedControl → LwpControl
-birth_marks c = record (no_marks false) { stop = birth_stop c }
+unfoldable pub birth_marks : Sysno → TracedControl → LwpControl
+birth_marks call c = record (no_marks false) { stop = birth_stop call c }
 
 -- an abort mark ends with the call
 unfoldable pub call_over : LwpControl → LwpControl
@@ -167,7 +167,7 @@ untraced = record {
   of_zombie = λ c. c;
   of_exec = λ c. c;
   of_child = λ c. c;
-  at_birth = λ c. c;
+  at_birth = λ call c. c;
   over = λ k. k;
   stopped = λ k. k;
   trapped = λ k. k;

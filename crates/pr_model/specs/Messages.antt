@@ -239,7 +239,7 @@ module _ (s : TracedSystem) (pid : ℕ) (p : TracedProcess) where
 
   -- a range that wraps at 2^64 is not mapped
   abbrev pub mapped_bytes : ℕ → ℕ → Result (List ℕ) BadByte
-  mapped_bytes at size = bytes_for 0 (space_seen p) at size
+  mapped_bytes at size = bytes_for 0 (space_seen s p) at size
 
   unfoldable pub read_answer : ℕ → ℕ → Controlled
   read_answer at size = read_of (mapped_bytes at size)
@@ -247,7 +247,7 @@ module _ (s : TracedSystem) (pid : ℕ) (p : TracedProcess) where
   -- PCWRITE, whatever the protection. EIO: not all of the range is mapped.
   unfoldable pub write_answer : ℕ → List ℕ → ℕ → Controlled
   write_answer at bytes len =
-      if is_ok (mapped_bytes at (length bytes)) then with_process_changed len (with_space (with_bytes at bytes (space_seen p)))
+      if is_ok (bytes_for 0 p.space at (length bytes)) then with_process_changed len (with_space (with_bytes at bytes p.space))
       else refused s Io
 
   -- the moment at which a wait of so many milliseconds ends; 0 sets no end

@@ -9,6 +9,7 @@ use Rattle.pr_num.specs.declared.errnos.Errno.TheVariants.{Inval, Noent, Again, 
 use Rattle.pr_num.specs.Limits.{process_limit, sleep_limit}
 use Rattle.pr_parts.specs.AddressSpaces.{with_bytes}
 use Rattle.pr_model.specs.Changes.{Effect, sleeps, ends, ends_process, gives, fails, forks, becomes, reaps, space_is}
+use Rattle.pr_model.specs.Lives.{by_fork}
 use Rattle.pr_model.specs.MemoryCalls.{can_write, path_at}
 use Rattle.pr_model.specs.FileCallRows.{word_size}
 use Rattle.pr_model.specs.Readers.{Children, no_child, all_live, first_zombie, size_of, total_has_room}
@@ -57,7 +58,7 @@ module _ {C H K : Type 0} (s : SystemOf C H K) (p : ProcessOf C H K) (id : ℕ) 
   fork_effect args =
       if id == agent_id then fails Notsup
       else (if nat_le process_limit s.made then fails Again
-      else (if total_has_room s (size_of p) 0 then gives s.made (forks args ∷ []) else fails Nomem))
+      else (if total_has_room s (size_of p) 0 then gives s.made (forks by_fork args ∷ []) else fails Nomem))
 
   -- exec(2): the process runs the program that a path names. ENOTSUP: by the agent; EFAULT, EINVAL: the path; ENOENT:
   -- no such program; ENOMEM: too much would be mapped.

@@ -47,14 +47,18 @@ module _ {C H K : Type 0} where
   unfoldable pub children_of : SystemOf C H K → ℕ → Children
   children_of s pid = children_among pid s.processes
 
-  -- The address space of a process as all that is not the process itself sees it: controllers through its files and
-  -- messages, the tracer, and what limits memory.
-  abbrev pub space_seen : ProcessOf C H K → Space
-  space_seen p = p.space
+  -- The address space of a process of a system as all that is not the process itself sees it: controllers through its
+  -- files and messages, and the tracer.
+  abbrev pub space_seen : SystemOf C H K → ProcessOf C H K → Space
+  space_seen s p = p.space
 
-  -- how many bytes a process has mapped, as every controller and every limit counts them
+  -- how many bytes of it are mapped, as controllers see them
+  unfoldable pub size_seen : SystemOf C H K → ProcessOf C H K → ℕ
+  size_seen s p = mapped_size (space_seen s p)
+
+  -- how many bytes a process has mapped, as every limit counts them
   unfoldable pub size_of : ProcessOf C H K → ℕ
-  size_of p = mapped_size (space_seen p)
+  size_of p = mapped_size p.space
 
   -- how many bytes all live processes have mapped; zombies have none
   abbrev pub sizes_of : List (ℕ × ProcessOf C H K) → ℕ

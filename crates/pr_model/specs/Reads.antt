@@ -51,12 +51,12 @@ of_lwp p id from len (Some l) = part from len (lwpstatus_bytes (lwpstatus_of p i
 unfoldable pub file_reply : TracedSystem → ℕ → TracedProcess → ℕ → ℕ → ℕ → File → Reply
 file_reply s pid p id from len Ctl = Fail Badf
 file_reply s pid p id from len Lwpctl = Fail Badf
-file_reply s pid p id from len Status = part from len (status_bytes (status_of pid p))
+file_reply s pid p id from len Status = part from len (status_bytes (status_of s pid p))
 file_reply s pid p id from len Lstatus = part from len (lstatus_bytes (lstatus_of p))
-file_reply s pid p id from len Psinfo = part from len (psinfo_bytes (psinfo_of pid p))
-file_reply s pid p id from len Map = part from len (map_bytes (map_of p))
+file_reply s pid p id from len Psinfo = part from len (psinfo_bytes (psinfo_of s pid p))
+file_reply s pid p id from len Map = part from len (map_bytes (map_of s p))
 file_reply s pid p id from len Usage = part from len (usage_bytes (usage_of pid p))
-file_reply s pid p id from len Mem = unless_none (mapped_from (space_seen p) from len)
+file_reply s pid p id from len Mem = unless_none (mapped_from (space_seen s p) from len)
 file_reply s pid p id from len Sigact = part from len (sigact_bytes p.dispositions)
 file_reply s pid p id from len Watch = part from len (watch_bytes (watch_of p))
 file_reply s pid p id from len Fds = part from len (fds_bytes (fds_of s.files p))

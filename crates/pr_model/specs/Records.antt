@@ -17,7 +17,7 @@ use Rattle.pr_rec.specs.declared.lwps.LwpStatus.{LwpStatus}
 use Rattle.pr_rec.specs.declared.mappings.MapEntry.{MapEntry}
 use Rattle.pr_rec.specs.declared.processes.Psinfo.{Psinfo}
 use Rattle.pr_rec.specs.declared.usages.Usage.{Usage}
-use Rattle.pr_model.specs.Readers.{size_of, space_seen}
+use Rattle.pr_model.specs.Readers.{size_seen, space_seen}
 use Rattle.pr_model.specs.State.{TracedSystem, TracedProcess, TracedLwp}
 use Rattle.pr_model.specs.Statuses.{lwpstatus_of}
 
@@ -32,14 +32,14 @@ unfoldable pub lstatus_of : TracedProcess → List LwpStatus
 lstatus_of p = statuses_of_lwps p p.lwps
 
 -- "psinfo": what ps(1) shows of a process, also of a zombie
-unfoldable pub psinfo_of : ℕ → TracedProcess → Psinfo
-psinfo_of pid p = record {
+unfoldable pub psinfo_of : TracedSystem → ℕ → TracedProcess → Psinfo
+psinfo_of s pid p = record {
   id = pid;
   parent = p.parent;
   lwps = length p.lwps;
   zombie = is_some p.ended;
   wait_status = unwrap_or p.ended 0;
-  mapped = size_of p;
+  mapped = size_seen s p;
   made_at = p.made_at;
   job_stop = p.job_stop;
   program = name_field p.program;
@@ -72,8 +72,8 @@ map_entry_of program m = record {
   name = name_field (mapping_name program m.kind);
 }
 
-unfoldable pub map_of : TracedProcess → List MapEntry
-map_of p = map (map_entry_of p.program) (space_seen p)
+unfoldable pub map_of : TracedSystem → TracedProcess → List MapEntry
+map_of s p = map (map_entry_of p.program) (space_seen s p)
 
 -- "watch"
 unfoldable pub watch_entry_of : Area → WatchEntry

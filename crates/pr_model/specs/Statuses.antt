@@ -24,7 +24,7 @@ use Rattle.pr_model.specs.Readers.{space_seen}
 use Rattle.pr_model.specs.Registers.{arguments}
 use Rattle.pr_model.specs.Running.{is_asleep}
 use Rattle.pr_model.specs.Signals.{disposition_of}
-use Rattle.pr_model.specs.State.{TracedProcess, TracedLwp, has_agent}
+use Rattle.pr_model.specs.State.{TracedSystem, TracedProcess, TracedLwp, has_agent}
 use Rattle.pr_model.specs.Stops.{shown, has_event_stop, representative}
 use Rattle.pr_model.specs.declared.events.Res.{Res}
 use Rattle.pr_model.specs.declared.events.Res.TheVariants.{Value, Error, Ended}
@@ -167,8 +167,8 @@ unfoldable pub process_flags : ℕ → TracedProcess → ℕ
 process_flags pid p = process_flags_of p.control.modes (pid == 0)
 
 -- the status of the process of an id
-unfoldable pub status_of : ℕ → TracedProcess → Status
-status_of pid p = record {
+unfoldable pub status_of : TracedSystem → ℕ → TracedProcess → Status
+status_of s pid p = record {
   flags = process_flags pid p;
   id = pid;
   parent = p.parent;
@@ -179,7 +179,7 @@ status_of pid p = record {
   traced_entries = p.control.traced_entries;
   traced_exits = p.control.traced_exits;
   heap_base = heap_base;
-  heap_size = heap_size (space_seen p);
+  heap_size = heap_size (space_seen s p);
   agent = flag_if (has_agent p) agent_id;
   areas = length p.control.areas;
   lwp = status_of_found p (representative p);

@@ -8,7 +8,7 @@ use Rattle.pr_num.specs.declared.messages.Message.{Message}
 use Rattle.pr_num.specs.declared.messages.Message.TheVariants.{Agent}
 use Rattle.pr_num.specs.declared.messages.MsgFault.{MsgFault}
 use Rattle.pr_num.specs.declared.syscalls.Sysno.{Sysno}
-use Rattle.pr_num.specs.declared.syscalls.Sysno.TheVariants.{Fork}
+use Rattle.pr_num.specs.Syscalls.{is_fork_call}
 use Rattle.pr_model.specs.declared.calls.Call.TheVariants as call
 use Rattle.pr_model.specs.declared.calls.Call as calls
 use Rattle.pr_model.specs.declared.calls.Reply.{Reply}
@@ -52,7 +52,7 @@ with_named handle pid m = record m { named = with_handle_at handle pid m.named }
 
 -- the first lwp of a forked child begins on its way out of fork
 abbrev pub with_child_of : Sysno → Res → Memory → Memory
-with_child_of Fork (Value child) m = with_returning child 1 true m
+with_child_of call (Value child) m = if is_fork_call call then with_returning child 1 true m else m
 with_child_of call result m = m
 
 -- What a turn of an lwp leaves remembered. A stop, a signal that is taken, and one that is acted on without a handler

@@ -113,6 +113,39 @@ syscall_args LwpContinue = Dec ∷ []
 syscall_args Fstat = Dec ∷ Hex ∷ []
 syscall_args Sigqueue = Dec ∷ Dec ∷ Dec ∷ []
 
+-- whether a call makes a child that begins on its way out of that same call
+unfoldable pub is_fork_call : Sysno → Bool
+is_fork_call Exit = false
+is_fork_call Fork = true
+is_fork_call Read = false
+is_fork_call Write = false
+is_fork_call Open = false
+is_fork_call Close = false
+is_fork_call Wait = false
+is_fork_call Getpid = false
+is_fork_call Getppid = false
+is_fork_call Exec = false
+is_fork_call Pipe = false
+is_fork_call Dup = false
+is_fork_call Lseek = false
+is_fork_call Kill = false
+is_fork_call Sigaction = false
+is_fork_call Sigmask = false
+is_fork_call Pause = false
+is_fork_call Sigreturn = false
+is_fork_call Brk = false
+is_fork_call Mmap = false
+is_fork_call Munmap = false
+is_fork_call Mprotect = false
+is_fork_call Time = false
+is_fork_call Sleep = false
+is_fork_call LwpCreate = false
+is_fork_call LwpExit = false
+is_fork_call LwpSuspend = false
+is_fork_call LwpContinue = false
+is_fork_call Fstat = false
+is_fork_call Sigqueue = false
+
 -- whether a call can put its lwp to sleep
 unfoldable pub may_sleep : Sysno → Bool
 may_sleep Exit = false

@@ -1,6 +1,6 @@
 ghost use Rattle.std.specs.Prelude.{◌≡◌, ◌≤◌};
 ghost use Rattle.std.proofs.Common.{lit≤};
-ghost use Rattle.pr_num.specs.Syscalls.{syscalls, syscall_of_number, syscall_of_name, syscall_number, syscall_name, syscall_args, may_sleep};
+ghost use Rattle.pr_num.specs.Syscalls.{syscalls, syscall_of_number, syscall_of_name, syscall_number, syscall_name, syscall_args, is_fork_call, may_sleep};
 ghost use Rattle.pr_num.specs.Limits.{syscall_count};
 
 use crate::limits::SYSCALL_COUNT;
@@ -224,6 +224,14 @@ impl Sysno {
             Sysno::Fstat => &[ArgKind::Dec, ArgKind::Hex],
             Sysno::Sigqueue => &[ArgKind::Dec, ArgKind::Dec, ArgKind::Dec],
         }
+    }
+
+    /// Whether the call makes a child that begins on its way out of that same call (fork(2)).
+    #[tactic(auto, unfolding(crate::specs::Syscalls::is_fork_call))]
+    pub fn is_fork_call(self) -> bool
+        ensures { result ≡ is_fork_call self }
+    {
+        matches!(self, Sysno::Fork)
     }
 
     /// Whether the call can put its lwp to sleep.
