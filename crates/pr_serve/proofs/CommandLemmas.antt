@@ -9,9 +9,9 @@ use Rattle.pr_num.specs.Limits.{child_limit, worker_limit}
 use Rattle.pr_num.proofs.SearchLemmas.{All-find}
 use Rattle.pr_serve.specs.Commands.{HasWorkers, generation, number_up_to, of_four_words, of_one_word, of_three_words, of_two_words, shared_run, work_of}
 use Rattle.pr_serve.specs.declared.commands.Showing.{Showing}
-use Rattle.pr_serve.specs.declared.commands.Showing.TheVariants.{Whole, Quiet, Stripped}
+use Rattle.pr_serve.specs.declared.commands.Showing.TheVariants.{Whole, Quiet}
 use Rattle.pr_serve.specs.declared.commands.Work.{Work}
-use Rattle.pr_serve.specs.declared.commands.Work.TheVariants.{Checks, Explains, Generates, Runs, Shares}
+use Rattle.pr_serve.specs.declared.commands.Work.TheVariants.{Checks, Explains, Generates, Runs, Shares, Strips}
 
 range-all : (from len : ℕ) → All (λ n. (from ≤ n) × (n < from + len)) (range_with_len from len)
 range-all from zero = All-nil (λ n. (from ≤ n) × (n < from + zero))
@@ -49,7 +49,7 @@ one-word : (a : List ℕ) → HasWorkers (of_one_word a)
 unfolding of_one_word
 one-word a =
     of_both (bytes_eq a (codes "run")) (Runs Whole) _ tt
-    (of_both (bytes_eq a (codes "check")) Checks _ tt (of_both (bytes_eq a (codes "plain")) (Runs Stripped) Explains tt tt))
+    (of_both (bytes_eq a (codes "check")) Checks _ tt (of_both (bytes_eq a (codes "plain")) Strips Explains tt tt))
 
 two-words : (a b : List ℕ) → HasWorkers (of_two_words a b)
 unfolding of_two_words

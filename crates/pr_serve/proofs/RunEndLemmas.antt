@@ -14,13 +14,12 @@ use Rattle.pr_world.specs.Worlds.{WorldState, all_finished, end_of, end_with, ne
 use Rattle.pr_world.proofs.RestLemmas.{all-rest, next-acts}
 use Rattle.pr_world.proofs.RunLemmas.{moves-counted, moves-told, told-lawful}
 use Rattle.pr_serve.proofs.InputLemmas.{input-range}
-use Rattle.pr_serve.specs.Answers.{Answer, answer_of, answer_to, end_status, ran, ran_so, refused_at}
+use Rattle.pr_serve.specs.Answers.{Answer, RunText, answer_of, answer_to, end_status, ran, ran_so, refused_at}
 use Rattle.pr_serve.specs.Ends.{EndsAs}
 use Rattle.pr_serve.specs.Histories.{HistoryIsKept, IsAfterMoves, RanOutEarly, in_rounds}
 use Rattle.pr_serve.specs.Inputs.{Took, scenario_of_input, taken_of}
-use Rattle.pr_serve.specs.Rows.{Ends, GivesOne, IsThe, OneRanOut, RanOutAfter, RanOutReading, Reads}
+use Rattle.pr_serve.specs.Rows.{Ends, EndsRounds, GivesOne, IsThe, OneRanOut, RanOutAfter, RanOutReading, Reads}
 use Rattle.pr_serve.specs.Statuses.{IsWhole}
-use Rattle.pr_serve.specs.declared.commands.Showing.{Showing}
 use Rattle.pr_serve.specs.declared.outcomes.Status.{Status}
 use Rattle.pr_serve.specs.declared.outcomes.Status.TheVariants.{Done, Usage, Refused, Spent, Stuck, ReadFailed, WriteFailed, OutOfMemory, NotLegal}
 
@@ -29,29 +28,29 @@ use Rattle.pr_serve.specs.declared.outcomes.Status.TheVariants.{Done, Usage, Ref
 abbrev history_of : Answer → List Entry
 history_of a = a.history
 
-of_scenario : (showing : Showing) (old new input : Option (List ℕ)) (s : Result Scenario ScenFault) → scenario_of_input input ≡ s → Took scenario_limit old new input → (h : List Entry) → h ≡ (answer_of showing s).history → HistoryIsKept in_rounds old new h
+of_scenario : (text : RunText) (old new input : Option (List ℕ)) (s : Result Scenario ScenFault) → scenario_of_input input ≡ s → Took scenario_limit old new input → (h : List Entry) → h ≡ (answer_of text s).history → HistoryIsKept in_rounds old new h
 unfolding answer_of refused_at ran ran_so
-of_scenario showing old new input (Err fault) read took h is = inl is
-of_scenario showing old new input (Ok s) read took h is =
+of_scenario text old new input (Err fault) read took h is = inl is
+of_scenario text old new input (Ok s) read took h is =
     let prefix : IsPrefix h (run_of s).kernel.history = record { more = []; is = sym is ∙ sym (append-nil h) } in
     let run : IsAfterMoves input h = record { scenario = s; read = read; moves = s.turns; within = omega arith; is = is; prefix = prefix } in
     inr (record { input = input; took = took; run = run; kept = subst (λ (x : List Entry). IsKept s x) (sym is) (run-kept s s.turns (input-range input s read)) })
 
-of_answer : (showing : Showing) (old new input : Option (List ℕ)) (h : List Entry) → Took scenario_limit old new input → h ≡ (answer_to showing input).history → HistoryIsKept in_rounds old new h
+of_answer : (text : RunText) (old new input : Option (List ℕ)) (h : List Entry) → Took scenario_limit old new input → h ≡ (answer_to text input).history → HistoryIsKept in_rounds old new h
 unfolding answer_to
-of_answer showing old new input h took is = of_scenario showing old new input (scenario_of_input input) refl took h is
+of_answer text old new input h took is = of_scenario text old new input (scenario_of_input input) refl took h is
 
 of_way : (old new input : Option (List ℕ)) (h : List Entry) → Took scenario_limit old new input → (h ≡ []) ⊎ IsAfterMoves input h → HistoryIsKept in_rounds old new h
 of_way old new input h took (inl none) = inl none
 of_way old new input h took (inr run) =
     inr (record { input = input; took = took; run = run; kept = subst (λ (x : List Entry). IsKept run.scenario x) (sym run.is) (run-kept run.scenario run.moves (input-range input run.scenario run.read)) })
 
-of_memory : (showing : Showing) (old new : Ends) (h : List Entry) → RanOutReading old new h ⊎ RanOutAfter scenario_limit (IsThe (answer_to showing)) in_rounds old new h → HistoryIsKept in_rounds old.left new.left h
-of_memory showing old new h (inl early) = inl early.nothing.no_history
-of_memory showing old new h (inr after) =
+of_memory : (text : RunText) (old new : Ends) (h : List Entry) → RanOutReading old new h ⊎ RanOutAfter scenario_limit (IsThe (answer_to text)) in_rounds old new h → HistoryIsKept in_rounds old.left new.left h
+of_memory text old new h (inl early) = inl early.nothing.no_history
+of_memory text old new h (inr after) =
     ⊎_elim
     (λ (early : RanOutEarly in_rounds after.input h old.written new.written). of_way old.left new.left after.input h after.took early.left)
-    (λ (late : OneRanOut (IsThe (answer_to showing) after.input) h old.written new.written). of_answer showing old.left new.left after.input h after.took (late.ran_out.history_is ∙ ap history_of late.may))
+    (λ (late : OneRanOut (IsThe (answer_to text) after.input) h old.written new.written). of_answer text old.left new.left after.input h after.took (late.ran_out.history_is ∙ ap history_of late.may))
     after.ran_out
 
 -- Nothing failed, or one thing did.
@@ -67,14 +66,14 @@ status_cases WriteFailed = inr (inr (inl refl))
 status_cases OutOfMemory = inr (inr (inr refl))
 
 -- Whatever the status is, the history is kept.
-pub history-kept : (showing : Showing) (old new : Ends) (status : Status) (h : List Entry) → Reads scenario_limit (IsThe (answer_to showing)) in_rounds old new status h → HistoryIsKept in_rounds old.left new.left h
-history-kept showing old new status h r = by (status_cases status)
+pub history-kept : (text : RunText) (old new : Ends) (status : Status) (h : List Entry) → Reads scenario_limit (IsThe (answer_to text)) in_rounds old new status h → HistoryIsKept in_rounds old.left new.left h
+history-kept text old new status h r = by (status_cases status)
   where
     by : IsWhole status ⊎ ((status ≡ ReadFailed) ⊎ ((status ≡ WriteFailed) ⊎ (status ≡ OutOfMemory))) → HistoryIsKept in_rounds old.left new.left h
-    by (inl s) = let a = r.answered s in of_answer showing old.left new.left a.input h a.took (a.gives.given.history_is ∙ ap history_of a.gives.may)
+    by (inl s) = let a = r.answered s in of_answer text old.left new.left a.input h a.took (a.gives.given.history_is ∙ ap history_of a.gives.may)
     by (inr (inl s)) = inl (r.not_read s).no_history
-    by (inr (inr (inl s))) = let c = r.cut s in of_answer showing old.left new.left c.input h c.took (c.cut.history_is ∙ ap history_of c.may)
-    by (inr (inr (inr s))) = of_memory showing old new h (r.memory s)
+    by (inr (inr (inl s))) = let c = r.cut s in of_answer text old.left new.left c.input h c.took (c.cut.history_is ∙ ap history_of c.may)
+    by (inr (inr (inr s))) = of_memory text old new h (r.memory s)
 
 -- ---- a scenario is run
 
@@ -92,17 +91,17 @@ run_ended : (s : Scenario) → EndsAs s.turns (run_of s) (end_status (end_of (ru
 unfolding end_of
 run_ended s = ended (first_world s) s.turns (first-told s) (first-fresh s) (next_actor (run_of s)) refl
 
-run_given : (showing : Showing) (s : Result Scenario ScenFault) (status : Status) → (IsWhole status → status ≡ (answer_of showing s).status) → IfOk s (λ scenario. IsWhole status → EndsAs scenario.turns (run_of scenario) status)
+run_given : (text : RunText) (s : Result Scenario ScenFault) (status : Status) → (IsWhole status → status ≡ (answer_of text s).status) → IfOk s (λ scenario. IsWhole status → EndsAs scenario.turns (run_of scenario) status)
 unfolding answer_of ran ran_so
-run_given showing (Err fault) status is = tt
-run_given showing (Ok s) status is = λ whole. subst (EndsAs s.turns (run_of s)) (sym (is whole)) (run_ended s)
+run_given text (Err fault) status is = tt
+run_given text (Ok s) status is = λ whole. subst (EndsAs s.turns (run_of s)) (sym (is whole)) (run_ended s)
 
-runs-told : (showing : Showing) (left : Option (List ℕ)) (status : Status) (h : List Entry) (w v : Option (List ℕ)) → (IsWhole status → IfSome left (λ input. GivesOne (IsThe (answer_to showing) (taken_of scenario_limit input)) status h w v))
-    → IfSome left (λ input. IfOk (scenario_of_input (taken_of scenario_limit input)) (λ scenario. IsWhole status → EndsAs scenario.turns (run_of scenario) status))
+runs-told : (text : RunText) (left : Option (List ℕ)) (status : Status) (h : List Entry) (w v : Option (List ℕ)) → (IsWhole status → IfSome left (λ input. GivesOne (IsThe (answer_to text) (taken_of scenario_limit input)) status h w v))
+    → EndsRounds left status
 unfolding answer_to
-runs-told showing None status h w v answers = tt
-runs-told showing (Some left) status h w v answers = run_given showing (scenario_of_input (taken_of scenario_limit left)) status (λ whole. let one = answers whole in one.given.status_is ∙ ap (λ (a : Answer). a.status) one.may)
+runs-told text None status h w v answers = tt
+runs-told text (Some left) status h w v answers = run_given text (scenario_of_input (taken_of scenario_limit left)) status (λ whole. let one = answers whole in one.given.status_is ∙ ap (λ (a : Answer). a.status) one.may)
 
-pub runs-scenario : (showing : Showing) (old new : Ends) (status : Status) (h : List Entry) → Reads scenario_limit (IsThe (answer_to showing)) in_rounds old new status h
-    → IfSome old.left (λ input. IfOk (scenario_of_input (taken_of scenario_limit input)) (λ scenario. IsWhole status → EndsAs scenario.turns (run_of scenario) status))
-runs-scenario showing old new status h r = runs-told showing old.left status h old.written new.written r.answers
+pub runs-scenario : (text : RunText) (old new : Ends) (status : Status) (h : List Entry) → Reads scenario_limit (IsThe (answer_to text)) in_rounds old new status h
+    → EndsRounds old.left status
+runs-scenario text old new status h r = runs-told text old.left status h old.written new.written r.answers

@@ -18,7 +18,7 @@ use Rattle.pr_world.proofs.RunLemmas.{told-lawful}
 use Rattle.pr_serve.proofs.InputLemmas.{input-range}
 use Rattle.pr_serve.proofs.RunEndLemmas.{status_cases}
 use Rattle.pr_serve.proofs.RunLemmas.{first_world-places}
-use Rattle.pr_serve.specs.Answers.{Answer, IsEndOf, MayAnswer, MayAnswerRead, ShowsEnd, end_status, ran, ran_so, refused_at}
+use Rattle.pr_serve.specs.Answers.{Answer, IsEndOf, MayAnswer, MayAnswerRead, RunText, ShowsEnd, end_status, ran, ran_so, refused_at, run_shown}
 use Rattle.pr_serve.specs.Ends.{EndsAs}
 use Rattle.pr_serve.specs.Giving.{Responds, RespondsOne, StopsEarly}
 use Rattle.pr_serve.specs.Histories.{HistoryIsKept, IsLedTo, IsMadeByThreads, RanOutEarly, by_threads}
@@ -68,13 +68,13 @@ end-ends s w e = over-ends w s.turns (told-lawful w e.told) e.over e.within (led
 
 -- ---- what is shown of it
 
-shown-history : (showing : Showing) (w : WorldState) → (ran showing w).history ≡ w.kernel.history
+shown-history : (text : RunText) (w : WorldState) → (ran text w).history ≡ w.kernel.history
 unfolding ran ran_so
-shown-history showing w = refl
+shown-history text w = refl
 
-shown-status : (showing : Showing) (w : WorldState) → (ran showing w).status ≡ end_status (end_of w)
+shown-status : (text : RunText) (w : WorldState) → (ran text w).status ≡ end_status (end_of w)
 unfolding ran ran_so
-shown-status showing w = refl
+shown-status text w = refl
 
 left-stopped : (s : Scenario) (w : WorldState) (h : List Entry) (old new : Option (List ℕ)) → CameFrom (first_world s) w → LeftWith w.kernel.history h old new → StoppedThreads s h old new
 left-stopped s w h old new came left = record { unwritten = left.unwritten; so_far = inr (record { world = w; came = came; is = left.is }) }
@@ -91,12 +91,12 @@ responds-left answer s w status h old new before after came r = record {
 
 -- The run that led to a world was shown, or memory had run out in it.
 pub shown-one : (showing : Showing) (s : Scenario) (w : WorldState) (end : Result End NoMemory) (status : Status) (h : List Entry) (old new : Option (List ℕ)) (before after : ℕ) → CameFrom (first_world s) w → IsTold w → length w.kernel.history ≤ w.kernel.places → IfOk end (λ end. ended_as w ≡ Some end)
-    → OnOk end (Responds (ran showing w) (LeftWith w.kernel.history h old new) status h old new before after) → OnErr end (StopsEarly (LeftWith w.kernel.history h old new) status before after) → RespondsOne (ShowsEnd showing s) (StoppedThreads s h old new) status h old new before after
+    → OnOk end (Responds (ran (run_shown showing) w) (LeftWith w.kernel.history h old new) status h old new before after) → OnErr end (StopsEarly (LeftWith w.kernel.history h old new) status before after) → RespondsOne (ShowsEnd showing s) (StoppedThreads s h old new) status h old new before after
 shown-one showing s w (Ok end) status h old new before after came told within ended shown stopped =
     inl (record {
-      answer = ran showing w;
+      answer = ran (run_shown showing) w;
       may = record { world = w; ends = record { came = came; told = told; over = is-over w end ended; within = within }; is = refl };
-      responds = responds-left (ran showing w) s w status h old new before after came shown;
+      responds = responds-left (ran (run_shown showing) w) s w status h old new before after came shown;
     })
 shown-one showing s w (Err e) status h old new before after came told within ended shown stopped =
     inr (record { status_is = stopped.status_is; left = left-stopped s w h old new came stopped.left; no_fault = stopped.no_fault })
@@ -113,7 +113,7 @@ module _ (showing : Showing) where
   of_read old new input (Err fault) answer h read took may is = inl (is ∙ ap (λ (a : Answer). a.history) may)
   of_read old new input (Ok s) answer h read took may is =
       of_led old new input h took
-      (record { scenario = s; read = read; led = record { world = may.world; came = may.ends.came; is = is ∙ (ap (λ (a : Answer). a.history) may.is ∙ shown-history showing may.world) } })
+      (record { scenario = s; read = read; led = record { world = may.world; came = may.ends.came; is = is ∙ (ap (λ (a : Answer). a.history) may.is ∙ shown-history (run_shown showing) may.world) } })
 
   of_answer : (old new input : Option (List ℕ)) (answer : Answer) (h : List Entry) → Took scenario_limit old new input → MayAnswer showing input answer → h ≡ answer.history → HistoryIsKept by_threads old new h
   of_answer old new input answer h took may is = of_read old new input (scenario_of_input input) answer h refl took may is
@@ -149,8 +149,8 @@ module _ (showing : Showing) (status : Status) (h : List Entry) (w v : Option (L
       let one = gives whole in
       let shown : ShowsEnd showing s one.answer = one.may in
       record {
-        led = record { world = shown.world; came = shown.ends.came; is = one.given.history_is ∙ (ap (λ (a : Answer). a.history) shown.is ∙ shown-history showing shown.world) };
-        ends = subst (EndsAs s.turns shown.world) (sym (one.given.status_is ∙ (ap (λ (a : Answer). a.status) shown.is ∙ shown-status showing shown.world))) (end-ends s shown.world shown.ends);
+        led = record { world = shown.world; came = shown.ends.came; is = one.given.history_is ∙ (ap (λ (a : Answer). a.history) shown.is ∙ shown-history (run_shown showing) shown.world) };
+        ends = subst (EndsAs s.turns shown.world) (sym (one.given.status_is ∙ (ap (λ (a : Answer). a.status) shown.is ∙ shown-status (run_shown showing) shown.world))) (end-ends s shown.world shown.ends);
       }
 
   run_left : (left : Option (List ℕ)) → (IsWhole status → IfSome left (λ input. GivesOne (MayAnswer showing (taken_of scenario_limit input)) status h w v))

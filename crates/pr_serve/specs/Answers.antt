@@ -22,7 +22,7 @@ use Rattle.pr_serve.specs.Usage.{usage_line}
 use Rattle.pr_serve.specs.declared.checks.Wrong.{Wrong}
 use Rattle.pr_serve.specs.declared.checks.Wrong.TheVariants as wrong
 use Rattle.pr_serve.specs.declared.commands.Showing.{Showing}
-use Rattle.pr_serve.specs.declared.commands.Showing.TheVariants.{Whole, Quiet, Stripped}
+use Rattle.pr_serve.specs.declared.commands.Showing.TheVariants.{Whole, Quiet}
 use Rattle.pr_serve.specs.declared.outcomes.Status.{Status}
 use Rattle.pr_serve.specs.declared.outcomes.Status.TheVariants.{Done, Usage, Refused, Spent, Stuck, NotLegal}
 
@@ -63,31 +63,37 @@ end_status end.Stuck = Stuck
 
 -- ---- the commands `run` and `plain`
 
--- what is written of a run with this history and these reports that ended with this status: the history, or not, the
--- reports, and the status; or the untraced steps of the history, its trace, and the status
-unfoldable pub run_shown : Showing → List Entry → List Report → ℕ → List ℕ
+-- what a command writes of a run with this history and these reports that ended with this status
+abbrev pub RunText : Type 0
+RunText = List Entry → List Report → ℕ → List ℕ
+
+-- what `run` writes: the history, or not, the reports, and the status
+unfoldable pub run_shown : Showing → RunText
 run_shown Whole history reports status = run_text false history reports status
 run_shown Quiet history reports status = run_text true history reports status
-run_shown Stripped history reports status = plain_run_text (untraced_steps history) (untraced_trace history) status
 
--- a run that ended so with this history and these reports
-unfoldable pub ran_so : Showing → End → List Entry → List Report → Answer
-ran_so showing end history reports = record {
+-- what `plain` writes: the untraced steps of the history, its trace, and the status
+unfoldable pub plain_shown : RunText
+plain_shown history reports status = plain_run_text (untraced_steps history) (untraced_trace history) status
+
+-- a run that ended so with this history and these reports, of which this is written
+unfoldable pub ran_so : RunText → End → List Entry → List Report → Answer
+ran_so text end history reports = record {
   status = end_status end;
   history = history;
-  text = run_shown showing history reports (number (end_status end));
+  text = text history reports (number (end_status end));
 }
 
-unfoldable pub ran : Showing → WorldState → Answer
-ran showing w = ran_so showing (end_of w) w.kernel.history (reports_of w)
+unfoldable pub ran : RunText → WorldState → Answer
+ran text w = ran_so text (end_of w) w.kernel.history (reports_of w)
 
-unfoldable pub answer_of : Showing → Result Scenario ScenFault → Answer
-answer_of showing (Err fault) = refused_at fault.line (kind_name fault.kind)
-answer_of showing (Ok s) = ran showing (run_of s)
+unfoldable pub answer_of : RunText → Result Scenario ScenFault → Answer
+answer_of text (Err fault) = refused_at fault.line (kind_name fault.kind)
+answer_of text (Ok s) = ran text (run_of s)
 
 -- the answer to an input; none: it had more bytes than it may have
-unfoldable pub answer_to : Showing → Option (List ℕ) → Answer
-answer_to showing input = answer_of showing (scenario_of_input input)
+unfoldable pub answer_to : RunText → Option (List ℕ) → Answer
+answer_to text input = answer_of text (scenario_of_input input)
 
 -- ---- the command `run` on several threads
 
@@ -103,7 +109,7 @@ pub record IsEndOf (s : Scenario) (w : WorldState) : Type 0 where
 pub record ShowsEnd (showing : Showing) (s : Scenario) (answer : Answer) : Type 0 where
   pub world : WorldState
   pub ends : IsEndOf s world
-  pub is : answer ≡ ran showing world
+  pub is : answer ≡ ran (run_shown showing) world
 
 abbrev pub MayAnswerRead : Showing → Result Scenario ScenFault → Answer → Type 0
 MayAnswerRead showing (Err fault) answer = answer ≡ refused_at fault.line (kind_name fault.kind)

@@ -4,14 +4,15 @@ use Rattle.std.specs.Option.{option_map_or}
 use Rattle.std.specs.Str.{bytes_eq}
 use Rattle.pr_num.specs.Limits.{child_limit, worker_limit}
 use Rattle.pr_serve.specs.declared.commands.Showing.{Showing}
-use Rattle.pr_serve.specs.declared.commands.Showing.TheVariants.{Whole, Quiet, Stripped}
+use Rattle.pr_serve.specs.declared.commands.Showing.TheVariants.{Whole, Quiet}
 use Rattle.pr_serve.specs.declared.commands.Work.{Work}
-use Rattle.pr_serve.specs.declared.commands.Work.TheVariants.{Checks, Explains, Generates, Runs, Shares}
+use Rattle.pr_serve.specs.declared.commands.Work.TheVariants.{Checks, Explains, Generates, Runs, Shares, Strips}
 
--- What the words after the program's name ask for: the run of a scenario on one thread, of which the history is
--- written, or not, or what the machine without controllers makes of it; the run of a scenario on several threads; the
--- judging of a history; the writing of a scenario for so many children. The shapes are run, run -q, run -j N,
--- run -q -j N, run -j N -q, check, plain and gen N; words of no other shape ask for anything, and get the usage line.
+-- What the words after the program's name ask for: the run of a scenario on one thread or on several, of which the
+-- history is written, or not; the run of a scenario on one thread, of which is written what the machine without
+-- controllers makes of its history; the judging of a history; the writing of a scenario for so many children. The
+-- shapes are run, run -q, run -j N, run -q -j N, run -j N -q, check, plain and gen N; words of no other shape ask for
+-- anything, and get the usage line.
 
 -- The number from 1 on, of so many, that a word writes in decimal. No numeral has a leading zero or a sign.
 unfoldable pub number_up_to : ℕ → List ℕ → Option ℕ
@@ -29,7 +30,7 @@ unfoldable pub of_one_word : List ℕ → Work
 of_one_word a =
     if bytes_eq a (codes "run") then Runs Whole
     else (if bytes_eq a (codes "check") then Checks
-    else (if bytes_eq a (codes "plain") then Runs Stripped
+    else (if bytes_eq a (codes "plain") then Strips
     else Explains))
 
 unfoldable pub of_two_words : List ℕ → List ℕ → Work

@@ -6,7 +6,7 @@ use Rattle.pr_model.specs.declared.events.Entry.{Entry}
 use Rattle.pr_num.specs.Limits.{checked_limit, scenario_limit}
 use Rattle.pr_run_laws.specs.ScenarioRuns.{first_state_of, run_of}
 use Rattle.pr_scen.specs.Scenarios.{Scenario}
-use Rattle.pr_serve.specs.Answers.{Answer, MayAnswer, answer_to, check_of, explained, generated, judged}
+use Rattle.pr_serve.specs.Answers.{Answer, MayAnswer, answer_to, check_of, explained, generated, judged, plain_shown, run_shown}
 use Rattle.pr_serve.specs.Checks.{checked_of_input}
 use Rattle.pr_serve.specs.Ends.{EndsAs}
 use Rattle.pr_serve.specs.Giving.{IsGiven, IsCutShort, RanOutLate, Responds}
@@ -15,7 +15,7 @@ use Rattle.pr_serve.specs.Inputs.{Took, scenario_of_input, taken_of}
 use Rattle.pr_serve.specs.Statuses.{IsWhole, number}
 use Rattle.pr_serve.specs.declared.commands.Showing.{Showing}
 use Rattle.pr_serve.specs.declared.commands.Work.{Work}
-use Rattle.pr_serve.specs.declared.commands.Work.TheVariants.{Checks, Explains, Generates, Runs, Shares}
+use Rattle.pr_serve.specs.declared.commands.Work.TheVariants.{Checks, Explains, Generates, Runs, Shares, Strips}
 use Rattle.pr_serve.specs.declared.outcomes.Status.{Status}
 use Rattle.pr_serve.specs.declared.outcomes.Status.TheVariants.{ReadFailed, WriteFailed, OutOfMemory}
 
@@ -32,8 +32,9 @@ pub data Row : Type 0 where
 unfoldable pub row_of : Work → Row
 row_of Explains = says explained
 row_of (Generates children) = says (generated children)
-row_of (Runs showing) = reads scenario_limit (answer_to showing) in_rounds
+row_of (Runs showing) = reads scenario_limit (answer_to (run_shown showing)) in_rounds
 row_of (Shares showing workers) = shares showing
+row_of Strips = reads scenario_limit (answer_to plain_shown) in_rounds
 row_of Checks = reads checked_limit check_of no_run
 
 -- how a command of a row makes a run
@@ -162,11 +163,16 @@ pub record IsJudged (s : Scenario) (entries : List Entry) (old new : Ends) (stat
   pub judges : Judges (length s.controllers) (first_state_of s) entries first
   pub given : IsGiven (judged (length entries) first) status history old.written new.written
 
+-- The input is a scenario: its run is made in rounds, and the status says how that ended.
+abbrev pub EndsRounds : Option (List ℕ) → Status → Type 0
+EndsRounds left status =
+    IfSome left (λ input. IfOk (scenario_of_input (taken_of scenario_limit input)) (λ scenario. IsWhole status → EndsAs scenario.turns (run_of scenario) status))
+
 -- What is done of an input, unless a read or a write failed or memory ran out: one that is a scenario is run, and the
 -- status says how that ended; one that is a scenario and a history is judged.
 abbrev pub DoesWork : Work → Ends → Ends → Status → List Entry → Type 0
-DoesWork (Runs showing) old new status history =
-    IfSome old.left (λ left. IfOk (scenario_of_input (taken_of scenario_limit left)) (λ scenario. IsWhole status → EndsAs scenario.turns (run_of scenario) status))
+DoesWork (Runs showing) old new status history = EndsRounds old.left status
+DoesWork Strips old new status history = EndsRounds old.left status
 DoesWork (Shares showing workers) old new status history =
     IfSome old.left (λ left. IfOk (scenario_of_input (taken_of scenario_limit left)) (λ scenario. IsWhole status → EndsRun scenario status history))
 DoesWork Checks old new status history =

@@ -4,14 +4,11 @@ ghost use Rattle.pr_serve.specs.Commands.{work_of, number_up_to, shared_run, gen
 use itoa::Buffer;
 use pr_num::limits::{CHILD_LIMIT, WORKER_LIMIT};
 
-/// What is written of a run, beside its status.
+/// Whether the command `run` writes the history of its run.
 #[derive(Clone, Copy, Debug, PartialEq, Eq)]
 pub enum Showing {
-    /// Its history.
     Whole,
     Quiet,
-    /// The untraced steps of its history, and its trace.
-    Stripped,
 }
 
 /// What the words after the program's name ask for.
@@ -23,6 +20,9 @@ pub enum Work {
     Runs { showing: Showing },
     /// It is made on several threads, of which so many share the processor, 1 to 16.
     Shares { showing: Showing, workers: u32 },
+    /// The run of the scenario of the input is made on one thread, and what the machine without controllers makes of it
+    /// is written.
+    Strips,
     /// The history of the input is judged by the scenario above it.
     Checks,
     /// A scenario is written in which so many children are forked, 1 to 64.
@@ -57,9 +57,7 @@ fn of_one_word(first: &str) -> Work
             showing: Showing::Whole,
         },
         "check" => Work::Checks,
-        "plain" => Work::Runs {
-            showing: Showing::Stripped,
-        },
+        "plain" => Work::Strips,
         _ => Work::Explains,
     }
 }

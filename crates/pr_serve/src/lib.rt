@@ -13,6 +13,7 @@ mod running;
 mod runs;
 mod serving;
 mod sharing;
+mod showings;
 
 pub use outcomes::{Outcome, Status, number};
 pub use serving::serve;

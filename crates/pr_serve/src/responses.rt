@@ -1,27 +1,23 @@
 //! What the commands `run` and `plain` answer to an input.
 ghost use Rattle.std.specs.Prelude.{◌≡◌, ◌≤◌, length, IfOk, IfSome, OnErr};
-ghost use Rattle.pr_model.specs.UntracedSteps.{untraced_steps, untraced_trace};
 ghost use Rattle.pr_num.specs.Limits.{scenario_limit};
-ghost use Rattle.pr_output.specs.Output.{plain_run_text};
-ghost use Rattle.pr_output.specs.Puts.{Puts};
 ghost use Rattle.pr_run_laws.specs.ScenarioRuns.{run_of};
 ghost use Rattle.pr_scen.specs.Scenarios.{IsWithinLimits};
-ghost use Rattle.pr_serve.specs.Answers.{answer_to, kind_name, ran, ran_so, refused_at, run_shown};
+ghost use Rattle.pr_serve.specs.Answers.{answer_to, kind_name, ran, ran_so, refused_at};
 ghost use Rattle.pr_serve.specs.Giving.{Responds, StopsEarly};
 ghost use Rattle.pr_serve.specs.Histories.{RanOutEarly, in_rounds};
 ghost use Rattle.pr_serve.specs.Made.{LeftWith, StoppedRun};
 
 use crate::answers::status_after;
-use crate::commands::Showing;
 use crate::inputs::scenario_of_input;
 use crate::outcomes::{Ending, Status, end_status, number, out_of_memory, without_history};
 use crate::runs::{Made, Ran, make_run};
+use crate::showings::Shows;
 use pr_io::Sink;
 use pr_model::History;
 use pr_num::Bytes;
-use pr_output::{Cut, Report, write_plain, write_refusal, write_run};
+use pr_output::write_refusal;
 use pr_scen::{ScenFault, ScenKind, ScenRefusal, Scenario};
-use pr_strip::{strip, trace};
 use std::alloc::Global;
 
 /// The name of a kind of refusal.
@@ -51,55 +47,20 @@ pub fn refuse_input<K: Sink>(alloc: Global, line: u32, kind: &[u8], sink: &mut K
     without_history(alloc, status_after(written, Status::Refused))
 }
 
-/// Writes a run as the machine without controllers makes it.
-fn write_stripped<K: Sink>(
-    alloc: Global,
-    history: &History,
-    status: u8,
-    sink: &mut K,
-) -> Result<(), Cut>
-    ensures { Puts result (K.written sink.old) (K.written sink.new) (K.faults sink.old) (K.faults sink.new)
-        (plain_run_text (untraced_steps history.now.entries) (untraced_trace history.now.entries) status) }
-{
-    let steps = strip(alloc, history)?;
-    let trace = trace(alloc, history)?;
-    write_plain(alloc, sink, steps.as_slice(), trace.as_slice(), status)
-}
-
-/// Writes a run with this history and these reports that ended with this status.
-#[tactic(auto, unfolding(crate::specs::Answers::run_shown))]
-fn show_run<K: Sink>(
-    alloc: Global,
-    showing: Showing,
-    history: &History,
-    reports: &[Report],
-    status: u8,
-    sink: &mut K,
-) -> Result<(), Cut>
-    ensures { Puts result (K.written sink.old) (K.written sink.new) (K.faults sink.old) (K.faults sink.new)
-        (run_shown showing history.now.entries reports.now status) }
-{
-    match showing {
-        Showing::Whole => write_run(alloc, sink, false, history, reports, status),
-        Showing::Quiet => write_run(alloc, sink, true, history, reports, status),
-        Showing::Stripped => write_stripped(alloc, history, status, sink),
-    }
-}
-
 /// Shows a run that ended so.
-pub fn show_ran<K: Sink>(
+pub fn show_ran<W: Shows, K: Sink>(
     alloc: Global,
-    showing: Showing,
+    showing: &W,
     ran: Ran,
     history: History,
     sink: &mut K,
 ) -> Ending
-    ensures { Responds (ran_so showing ran.end history.entries ran.reports.items) ⊥ result.status result.history.entries
+    ensures { Responds (ran_so (W.text showing.now) ran.end history.entries ran.reports.items) ⊥ result.status result.history.entries
         (K.written sink.old) (K.written sink.new) (K.faults sink.old) (K.faults sink.new) }
 {
     let status = end_status(ran.end);
     let reports = ran.reports.as_slice();
-    let written = show_run(alloc, showing, &history, reports, number(status), sink);
+    let written = showing.write(alloc, &history, reports, number(status), sink);
     Ending {
         status: status_after(written, status),
         history,
@@ -107,8 +68,8 @@ pub fn show_ran<K: Sink>(
 }
 
 /// Shows a run that was made, or leaves its history where memory ran out in it.
-fn show_made<K: Sink>(alloc: Global, showing: Showing, made: Made, sink: &mut K) -> Ending
-    ensures shown { IfOk made.ran (λ run. Responds (ran_so showing run.end made.history.entries run.reports.items) ⊥
+fn show_made<W: Shows, K: Sink>(alloc: Global, showing: &W, made: Made, sink: &mut K) -> Ending
+    ensures shown { IfOk made.ran (λ run. Responds (ran_so (W.text showing.now) run.end made.history.entries run.reports.items) ⊥
         result.status result.history.entries
         (K.written sink.old) (K.written sink.new) (K.faults sink.old) (K.faults sink.new)) }
     ensures stopped { OnErr made.ran (StopsEarly
@@ -123,14 +84,14 @@ fn show_made<K: Sink>(alloc: Global, showing: Showing, made: Made, sink: &mut K)
 }
 
 /// Answers a scenario: its run is made, and written.
-fn run_scenario<K: Sink>(
+fn run_scenario<W: Shows, K: Sink>(
     alloc: Global,
-    showing: Showing,
+    showing: &W,
     scenario: Scenario,
     sink: &mut K,
 ) -> Ending
     requires limits { IsWithinLimits scenario }
-    ensures { Responds (ran showing (run_of scenario))
+    ensures { Responds (ran (W.text showing.now) (run_of scenario))
         (StoppedRun scenario result.history.entries (K.written sink.old) (K.written sink.new))
         result.status result.history.entries
         (K.written sink.old) (K.written sink.new) (K.faults sink.old) (K.faults sink.new) }
@@ -148,14 +109,14 @@ pub fn refuse_at<K: Sink>(alloc: Global, fault: ScenFault, sink: &mut K) -> Endi
 }
 
 /// Answers an input: it is refused, or the run of its scenario is made, and shown so.
-pub fn respond<K: Sink>(
+pub fn respond<W: Shows, K: Sink>(
     alloc: Global,
-    showing: Showing,
+    showing: &W,
     input: Option<Bytes>,
     sink: &mut K,
 ) -> Ending
     requires { IfSome input (λ bytes. length bytes ≤ scenario_limit) }
-    ensures { Responds (answer_to showing input)
+    ensures { Responds (answer_to (W.text showing.now) input)
         (RanOutEarly in_rounds input result.history.entries (K.written sink.old) (K.written sink.new))
         result.status result.history.entries
         (K.written sink.old) (K.written sink.new) (K.faults sink.old) (K.faults sink.new) }

@@ -13,6 +13,7 @@ use crate::judgements::judge_input;
 use crate::outcomes::{Ending, Status, without_history};
 use crate::responses::respond;
 use crate::sharing::share;
+use crate::showings::{Shows, Stripped};
 use pr_io::{Gate, Sink, Source};
 use pr_num::limits::{CHECKED_LIMIT, SCENARIO_LIMIT};
 use std::alloc::Global;
@@ -33,8 +34,13 @@ fn without_input(alloc: Global, unread: Unread) -> Ending
 
 /// Reads a scenario, makes its run on one thread, and writes what is to be shown of it; or writes why the input is
 /// refused.
-fn run<S: Source, K: Sink>(alloc: Global, showing: Showing, source: &mut S, sink: &mut K) -> Ending
-    ensures { Reads scenario_limit (IsThe (answer_to showing)) in_rounds
+fn run<W: Shows, S: Source, K: Sink>(
+    alloc: Global,
+    showing: &W,
+    source: &mut S,
+    sink: &mut K,
+) -> Ending
+    ensures { Reads scenario_limit (IsThe (answer_to (W.text showing.now))) in_rounds
         (ends_of S.left S.faults K.written K.faults source.old sink.old)
         (ends_of S.left S.faults K.written K.faults source.new sink.new)
         result.status result.history.entries }
@@ -107,10 +113,11 @@ pub fn carry_out<R: Threads + Wait + Sync, S: Source, K: Sink, G: Gate + Sync>(
     match work {
         Work::Explains => explain(alloc, sink),
         Work::Generates { children } => generate(alloc, children, sink),
-        Work::Runs { showing } => run(alloc, showing, source, sink),
+        Work::Runs { showing } => run(alloc, &showing, source, sink),
         Work::Shares { showing, workers } => {
             run_on_threads(rt, alloc, showing, workers, source, sink, gate)
         }
+        Work::Strips => run(alloc, &Stripped, source, sink),
         Work::Checks => check(alloc, source, sink),
     }
 }

@@ -3,7 +3,7 @@ ghost use Rattle.std.specs.Prelude.{◌≡◌, ◌≤◌, length, Some, IfOk, If
 ghost use Rattle.pr_num.specs.Limits.{scenario_limit, worker_limit};
 ghost use Rattle.pr_scen.specs.Scenarios.{IsWithinLimits};
 ghost use Rattle.pr_world.specs.Worlds.{ended_as, seen};
-ghost use Rattle.pr_serve.specs.Answers.{MayAnswer, ShowsEnd, ran};
+ghost use Rattle.pr_serve.specs.Answers.{MayAnswer, ShowsEnd, ran, run_shown};
 ghost use Rattle.pr_serve.specs.Giving.{Responds, RespondsOne, StopsEarly};
 ghost use Rattle.pr_serve.specs.Histories.{RanOutEarly, by_threads};
 ghost use Rattle.pr_serve.specs.Made.{LeftWith, StoppedThreads, kern_view};
@@ -35,7 +35,7 @@ fn show_world<K: Sink>(
     sink: &mut K,
 ) -> Ending
     requires { ended_as (seen kern_view world) ≡ Some end }
-    ensures { Responds (ran showing (seen kern_view world))
+    ensures { Responds (ran (run_shown showing) (seen kern_view world))
         (LeftWith world.kernel.history result.history.entries (K.written sink.old) (K.written sink.new))
         result.status result.history.entries
         (K.written sink.old) (K.written sink.new) (K.faults sink.old) (K.faults sink.new) }
@@ -43,7 +43,7 @@ fn show_world<K: Sink>(
     let reports = reports_of(alloc, &world);
     let history = world.into_kernel().into_history();
     match reports {
-        Ok(reports) => show_ran(alloc, showing, Ran { end, reports }, history, sink),
+        Ok(reports) => show_ran(alloc, &showing, Ran { end, reports }, history, sink),
         Err(error) => out_of_memory(error, history),
     }
 }
@@ -57,7 +57,7 @@ fn show_end<K: Sink>(
     sink: &mut K,
 ) -> Ending
     requires { IfOk end (λ end. ended_as (seen kern_view world) ≡ Some end) }
-    ensures ended { OnOk end (Responds (ran showing (seen kern_view world))
+    ensures ended { OnOk end (Responds (ran (run_shown showing) (seen kern_view world))
         (LeftWith world.kernel.history result.history.entries (K.written sink.old) (K.written sink.new))
         result.status result.history.entries
         (K.written sink.old) (K.written sink.new) (K.faults sink.old) (K.faults sink.new)) }
