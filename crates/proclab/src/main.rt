@@ -1,4 +1,4 @@
-//! The program `proclab`: its words say what is done, and its status how that ended.
+//! The program `proclab`: it hands its words and the standard streams to `serve`, and ends with the status of that.
 #![tactic(auto)]
 
 ghost use Rattle.std.specs.Prelude.{◌≡◌, ◌≢◌, [], drop, IfOk, IfErr, IsErr};
@@ -6,22 +6,8 @@ ghost use Rattle.std.specs.IoError.{error_kind};
 ghost use Rattle.std.specs.Vec.Iter.{into_iter_items};
 ghost use Rattle.std.specs.declared.io.ErrorKind.TheVariants.{OutOfMemory};
 
-mod answers;
-mod checks;
-mod commands;
-mod inputs;
-mod judgements;
-mod outcomes;
-mod reports;
-mod responses;
-mod running;
-mod runs;
-mod serving;
-mod sharing;
-
-use crate::outcomes::{Status, number};
-use crate::serving::serve;
 use pr_io::{OpenGate, StdSink, StdSource};
+use pr_serve::{Status, number, serve};
 use std::alloc::{AllocError, Global};
 use std::env::Args;
 use std::io::ErrorKind;

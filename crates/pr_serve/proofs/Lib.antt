@@ -1,0 +1,13 @@
+pub mod CheckLemmas
+pub mod CommandLemmas
+pub mod EarlyLemmas
+pub mod GivingLemmas
+pub mod InputLemmas
+pub mod MadeLemmas
+pub mod MarkLemmas
+pub mod PieceLemmas
+pub mod ReadingLemmas
+pub mod ReportLemmas
+pub mod RunEndLemmas
+pub mod RunLemmas
+pub mod SharedLemmas

@@ -1,0 +1,204 @@
+-- Runs on several threads: what is kept of them, and how their status is caused.
+use Rattle.std.proofs.Common.{◌≡◌, ◌≤◌, ◌⊎◌, inl, inr, ⊎_elim, ℕ, Bool, true, false, ◌&&◌, List, [], Option, Some, None, is_some, Result, Ok, Err, IfOk, IfSome, OnErr, OnOk, length, nat_lt, refl, sym, ◌∙◌, ap, subst, arith}
+use borrow.Author.Tests.{ltb-false}
+use Rattle.pr_api.specs.Views.{IsLawful}
+use Rattle.pr_model.specs.declared.events.Actor.{Actor}
+use Rattle.pr_model.specs.declared.events.Entry.{Entry}
+use Rattle.pr_num.specs.Limits.{scenario_limit}
+use Rattle.pr_num.specs.declared.memory.NoMemory.{NoMemory}
+use Rattle.pr_run_laws.specs.ScenarioRuns.{IsKept, first_world}
+use Rattle.pr_run_laws.proofs.KeptLemmas.{came-kept}
+use Rattle.pr_scen.specs.Scenarios.{Scenario}
+use Rattle.pr_scen.specs.declared.refusals.ScenFault.{ScenFault}
+use Rattle.pr_world.specs.Runs.{CameFrom, IsTold}
+use Rattle.pr_world.specs.Worlds.{WorldState, all_finished, end_of, end_with, ended_as, goes_on, next_actor, quiet_end}
+use Rattle.pr_world.specs.declared.ends.End.{End}
+use Rattle.pr_world.proofs.RestLemmas.{all-rest, next-acts}
+use Rattle.pr_world.proofs.RunLemmas.{told-lawful}
+use Rattle.pr_serve.proofs.InputLemmas.{input-range}
+use Rattle.pr_serve.proofs.RunEndLemmas.{status_cases}
+use Rattle.pr_serve.proofs.RunLemmas.{first_world-places}
+use Rattle.pr_serve.specs.Answers.{Answer, IsEndOf, MayAnswer, MayAnswerRead, RunText, ShowsEnd, end_status, ran, ran_so, refused_at, run_shown}
+use Rattle.pr_serve.specs.Ends.{EndsAs}
+use Rattle.pr_serve.specs.Giving.{Responds, RespondsOne, StopsEarly}
+use Rattle.pr_serve.specs.Histories.{HistoryIsKept, IsLedTo, IsMadeByThreads, RanOutEarly, by_threads}
+use Rattle.pr_serve.specs.Inputs.{Took, scenario_of_input, taken_of}
+use Rattle.pr_serve.specs.Made.{LeftWith, StoppedThreads}
+use Rattle.pr_serve.specs.Rows.{Ends, EndsRun, GivesOne, OneRanOut, RanOutAfter, RanOutReading, Reads}
+use Rattle.pr_serve.specs.Statuses.{IsWhole}
+use Rattle.pr_serve.specs.declared.commands.Showing.{Showing}
+use Rattle.pr_serve.specs.declared.outcomes.Status.{Status}
+use Rattle.pr_serve.specs.declared.outcomes.Status.TheVariants.{ReadFailed, WriteFailed, OutOfMemory}
+
+-- ---- the end of a world
+
+is-over : (w : WorldState) (end : End) → ended_as w ≡ Some end → goes_on w ≡ false
+unfolding ended_as
+is-over w end is = of (goes_on w) refl
+  where
+    of : (b : Bool) → goes_on w ≡ b → goes_on w ≡ false
+    of true goes = cc
+    of false goes = goes
+
+full : (turns n places : ℕ) → (nat_lt n places && true) ≡ false → n ≤ places → places ≡ turns → n ≡ turns
+full turns n places over within same = of (nat_lt n places) refl
+  where
+    of : (b : Bool) → nat_lt n places ≡ b → n ≡ turns
+    of true less = let no : true ≡ false = sym (ap (λ (b : Bool). b && true) less) ∙ over in cc
+    of false not_less = omega (arith, ltb-false n places not_less, within, same)
+
+-- A world that does not go on has ended, and no two causes hold of it.
+over-ends : (w : WorldState) (turns : ℕ) → IsLawful w.kernel → goes_on w ≡ false → length w.kernel.history ≤ w.kernel.places → w.kernel.places ≡ turns → EndsAs turns w (end_status (end_of w))
+unfolding end_of goes_on end_status
+over-ends w turns lawful over within places = of (next_actor w) refl over
+  where
+    of : (next : Option Actor) → next_actor w ≡ next → (nat_lt (length w.kernel.history) w.kernel.places && is_some next) ≡ false → EndsAs turns w (end_status (end_with w next))
+    of None rest over = by (all_finished w) refl
+      where
+        by : (b : Bool) → all_finished w ≡ b → EndsAs turns w (end_status (quiet_end b))
+        by true finished = inl (refl, record { rest = λ actor. all-rest w actor lawful rest; finished = finished })
+        by false unfinished = inr (inr (refl, record { rest = λ actor. all-rest w actor lawful rest; unfinished = unfinished }))
+    of (Some actor) next over = inr (inl (refl, record { mover = actor; can_move = next-acts w actor next; full = full turns (length w.kernel.history) w.kernel.places over within places }))
+
+led-places : (s : Scenario) (w : WorldState) → CameFrom (first_world s) w → w.kernel.places ≡ s.turns
+led-places s w came = came.led.places ∙ first_world-places s
+
+end-ends : (s : Scenario) (w : WorldState) → IsEndOf s w → EndsAs s.turns w (end_status (end_of w))
+end-ends s w e = over-ends w s.turns (told-lawful w e.told) e.over e.within (led-places s w e.came)
+
+-- ---- what is shown of it
+
+shown-history : (text : RunText) (w : WorldState) → (ran text w).history ≡ w.kernel.history
+unfolding ran ran_so
+shown-history text w = refl
+
+shown-status : (text : RunText) (w : WorldState) → (ran text w).status ≡ end_status (end_of w)
+unfolding ran ran_so
+shown-status text w = refl
+
+left-stopped : (s : Scenario) (w : WorldState) (h : List Entry) (old new : Option (List ℕ)) → CameFrom (first_world s) w → LeftWith w.kernel.history h old new → StoppedThreads s h old new
+left-stopped s w h old new came left = record { unwritten = left.unwritten; so_far = inr (record { world = w; came = came; is = left.is }) }
+
+responds-left : (answer : Answer) (s : Scenario) (w : WorldState) (status : Status) (h : List Entry) (old new : Option (List ℕ)) (before after : ℕ) → CameFrom (first_world s) w → Responds answer (LeftWith w.kernel.history h old new) status h old new before after → Responds answer (StoppedThreads s h old new) status h old new before after
+responds-left answer s w status h old new before after came r = record {
+  whole = r.whole;
+  cut = r.cut;
+  rose = r.rose;
+  memory = λ m. ⊎_elim (λ (left : LeftWith w.kernel.history h old new). inl (left-stopped s w h old new came left)) (λ late. inr late) (r.memory m);
+  no_fault = r.no_fault;
+  read = r.read;
+}
+
+-- The run that led to a world was shown, or memory had run out in it.
+pub shown-one : (showing : Showing) (s : Scenario) (w : WorldState) (end : Result End NoMemory) (status : Status) (h : List Entry) (old new : Option (List ℕ)) (before after : ℕ) → CameFrom (first_world s) w → IsTold w → length w.kernel.history ≤ w.kernel.places → IfOk end (λ end. ended_as w ≡ Some end)
+    → OnOk end (Responds (ran (run_shown showing) w) (LeftWith w.kernel.history h old new) status h old new before after) → OnErr end (StopsEarly (LeftWith w.kernel.history h old new) status before after) → RespondsOne (ShowsEnd showing s) (StoppedThreads s h old new) status h old new before after
+shown-one showing s w (Ok end) status h old new before after came told within ended shown stopped =
+    inl (record {
+      answer = ran (run_shown showing) w;
+      may = record { world = w; ends = record { came = came; told = told; over = is-over w end ended; within = within }; is = refl };
+      responds = responds-left (ran (run_shown showing) w) s w status h old new before after came shown;
+    })
+shown-one showing s w (Err e) status h old new before after came told within ended shown stopped =
+    inr (record { status_is = stopped.status_is; left = left-stopped s w h old new came stopped.left; no_fault = stopped.no_fault })
+
+-- ---- the history is kept
+
+module _ (showing : Showing) where
+  of_led : (old new input : Option (List ℕ)) (h : List Entry) → Took scenario_limit old new input → IsMadeByThreads input h → HistoryIsKept by_threads old new h
+  of_led old new input h took made =
+      inr (record { input = input; took = took; made = made; kept = subst (λ (x : List Entry). IsKept made.scenario x) (sym made.led.is) (came-kept made.scenario made.led.world (input-range input made.scenario made.read) made.led.came) })
+
+  of_read : (old new input : Option (List ℕ)) (s : Result Scenario ScenFault) (answer : Answer) (h : List Entry) → scenario_of_input input ≡ s → Took scenario_limit old new input → MayAnswerRead showing s answer → h ≡ answer.history → HistoryIsKept by_threads old new h
+  unfolding refused_at
+  of_read old new input (Err fault) answer h read took may is = inl (is ∙ ap (λ (a : Answer). a.history) may)
+  of_read old new input (Ok s) answer h read took may is =
+      of_led old new input h took
+      (record { scenario = s; read = read; led = record { world = may.world; came = may.ends.came; is = is ∙ (ap (λ (a : Answer). a.history) may.is ∙ shown-history (run_shown showing) may.world) } })
+
+  of_answer : (old new input : Option (List ℕ)) (answer : Answer) (h : List Entry) → Took scenario_limit old new input → MayAnswer showing input answer → h ≡ answer.history → HistoryIsKept by_threads old new h
+  of_answer old new input answer h took may is = of_read old new input (scenario_of_input input) answer h refl took may is
+
+  of_so_far : (old new input : Option (List ℕ)) (h : List Entry) → Took scenario_limit old new input → (h ≡ []) ⊎ IsMadeByThreads input h → HistoryIsKept by_threads old new h
+  of_so_far old new input h took (inl none) = inl none
+  of_so_far old new input h took (inr made) = of_led old new input h took made
+
+  of_memory : (old new : Ends) (h : List Entry) → RanOutReading old new h ⊎ RanOutAfter scenario_limit (MayAnswer showing) by_threads old new h → HistoryIsKept by_threads old.left new.left h
+  of_memory old new h (inl early) = inl early.nothing.no_history
+  of_memory old new h (inr after) =
+      ⊎_elim
+      (λ (early : RanOutEarly by_threads after.input h old.written new.written). of_so_far old.left new.left after.input h after.took early.left)
+      (λ (late : OneRanOut (MayAnswer showing after.input) h old.written new.written). of_answer old.left new.left after.input late.answer h after.took late.may late.ran_out.history_is)
+      after.ran_out
+
+-- Whatever the status is, the history is kept.
+pub shared-kept : (showing : Showing) (old new : Ends) (status : Status) (h : List Entry) → Reads scenario_limit (MayAnswer showing) by_threads old new status h → HistoryIsKept by_threads old.left new.left h
+shared-kept showing old new status h r = by (status_cases status)
+  where
+    by : IsWhole status ⊎ ((status ≡ ReadFailed) ⊎ ((status ≡ WriteFailed) ⊎ (status ≡ OutOfMemory))) → HistoryIsKept by_threads old.left new.left h
+    by (inl s) = let a = r.answered s in of_answer showing old.left new.left a.input a.gives.answer h a.took a.gives.may a.gives.given.history_is
+    by (inr (inl s)) = inl (r.not_read s).no_history
+    by (inr (inr (inl s))) = let c = r.cut s in of_answer showing old.left new.left c.input c.answer h c.took c.may c.cut.history_is
+    by (inr (inr (inr s))) = of_memory showing old new h (r.memory s)
+
+-- ---- a scenario is run
+
+module _ (showing : Showing) (status : Status) (h : List Entry) (w v : Option (List ℕ)) where
+  run_given : (s : Result Scenario ScenFault) → (IsWhole status → GivesOne (MayAnswerRead showing s) status h w v) → IfOk s (λ scenario. IsWhole status → EndsRun scenario status h)
+  run_given (Err fault) gives = tt
+  run_given (Ok s) gives = λ whole.
+      let one = gives whole in
+      let shown : ShowsEnd showing s one.answer = one.may in
+      record {
+        led = record { world = shown.world; came = shown.ends.came; is = one.given.history_is ∙ (ap (λ (a : Answer). a.history) shown.is ∙ shown-history (run_shown showing) shown.world) };
+        ends = subst (EndsAs s.turns shown.world) (sym (one.given.status_is ∙ (ap (λ (a : Answer). a.status) shown.is ∙ shown-status (run_shown showing) shown.world))) (end-ends s shown.world shown.ends);
+      }
+
+  run_left : (left : Option (List ℕ)) → (IsWhole status → IfSome left (λ input. GivesOne (MayAnswer showing (taken_of scenario_limit input)) status h w v))
+      → IfSome left (λ input. IfOk (scenario_of_input (taken_of scenario_limit input)) (λ scenario. IsWhole status → EndsRun scenario status h))
+  run_left None gives = tt
+  run_left (Some left) gives = run_given (scenario_of_input (taken_of scenario_limit left)) gives
+
+pub shares-scenario : (showing : Showing) (old new : Ends) (status : Status) (h : List Entry) → Reads scenario_limit (MayAnswer showing) by_threads old new status h
+    → IfSome old.left (λ input. IfOk (scenario_of_input (taken_of scenario_limit input)) (λ scenario. IsWhole status → EndsRun scenario status h))
+shares-scenario showing old new status h r = run_left showing status h old.written new.written old.left r.answers
+
+-- ---- the parts of an answer to an input
+
+-- One answer that takes no memory before it is told.
+pub one-answer : (May : Answer → Type 0) (answer : Answer) (early : Type 0) (status : Status) (h : List Entry) (old new : Option (List ℕ)) (before after : ℕ) → May answer → Responds answer ⊥ status h old new before after → RespondsOne May early status h old new before after
+one-answer May answer early status h old new before after may r = inl (record {
+  answer = answer;
+  may = may;
+  responds = record {
+    whole = r.whole;
+    cut = r.cut;
+    rose = r.rose;
+    memory = λ m. ⊎_elim (λ never. absurd never) (λ late. inr late) (r.memory m);
+    no_fault = r.no_fault;
+    read = r.read;
+  };
+})
+
+-- the answers of which one may come are also of another kind, and what is left is too
+pub one-else : (May Other : Answer → Type 0) (early other : Type 0) (status : Status) (h : List Entry) (old new : Option (List ℕ)) (before after : ℕ) → ((a : Answer) → May a → Other a) → (early → other) → RespondsOne May early status h old new before after → RespondsOne Other other status h old new before after
+one-else May Other early other status h old new before after so left (inl one) = inl (record {
+  answer = one.answer;
+  may = so one.answer one.may;
+  responds = record {
+    whole = one.responds.whole;
+    cut = one.responds.cut;
+    rose = one.responds.rose;
+    memory = λ m. ⊎_elim (λ e. inl (left e)) (λ late. inr late) (one.responds.memory m);
+    no_fault = one.responds.no_fault;
+    read = one.responds.read;
+  };
+})
+one-else May Other early other status h old new before after so left (inr stops) = inr (record { status_is = stops.status_is; left = left stops.left; no_fault = stops.no_fault })
+
+-- What threads made of a scenario is made of the input that it was read of.
+pub threads-left : (input : Option (List ℕ)) (s : Scenario) (h : List Entry) (old new : Option (List ℕ)) → scenario_of_input input ≡ Ok s → StoppedThreads s h old new → RanOutEarly by_threads input h old new
+threads-left input s h old new read stopped = record { unwritten = stopped.unwritten; left = of stopped.so_far }
+  where
+    of : (h ≡ []) ⊎ IsLedTo s h → (h ≡ []) ⊎ IsMadeByThreads input h
+    of (inl none) = inl none
+    of (inr led) = inr (record { scenario = s; read = read; led = led })

@@ -1,0 +1,8 @@
+use Rattle.pr_serve.proofs.MadeLemmas.{made-shown}
+use Rattle.pr_serve.proofs.responses.run_scenario.Goals as goal
+
+pub returns : goal.returns
+returns g c =
+    let made = c.make_run-made in
+    let shown = c.show_made.ensures in
+    made-shown (g.W.Shows.text c.args.showing.now) c.args.scenario made.result.history.entries _ _ _ _ _ _ made.result.ran made.ensures.ended made.ensures.reports made.ensures.history made.ensures.stopped shown.shown shown.stopped

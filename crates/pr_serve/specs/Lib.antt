@@ -1,0 +1,12 @@
+pub mod Answers
+pub mod Checks
+pub mod Commands
+pub mod Ends
+pub mod Giving
+pub mod Histories
+pub mod Inputs
+pub mod Made
+pub mod Reports
+pub mod Rows
+pub mod Statuses
+pub mod Usage

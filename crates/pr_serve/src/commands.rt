@@ -1,0 +1,126 @@
+ghost use Rattle.std.specs.Prelude.{◌≡◌, ◌<◌, ◌-◌, ◌^◌, map, string_bytes};
+ghost use Rattle.pr_serve.specs.Commands.{work_of, number_up_to, shared_run, generation, of_one_word, of_two_words, of_three_words, of_four_words};
+
+use itoa::Buffer;
+use pr_num::limits::{CHILD_LIMIT, WORKER_LIMIT};
+
+/// Whether the command `run` writes the history of its run.
+#[derive(Clone, Copy, Debug, PartialEq, Eq)]
+pub enum Showing {
+    Whole,
+    Quiet,
+}
+
+/// What the words after the program's name ask for.
+#[derive(Clone, Copy, Debug, PartialEq, Eq)]
+pub enum Work {
+    /// They ask for nothing, and get the usage line.
+    Explains,
+    /// The run of the scenario of the input is made on one thread, and written.
+    Runs { showing: Showing },
+    /// It is made on several threads, of which so many share the processor, 1 to 16.
+    Shares { showing: Showing, workers: u32 },
+    /// The run of the scenario of the input is made on one thread, and what the machine without controllers makes of it
+    /// is written.
+    Strips,
+    /// The history of the input is judged by the scenario above it.
+    Checks,
+    /// A scenario is written in which so many children are forked, 1 to 64.
+    Generates { children: u32 },
+}
+
+/// What words ask for.
+#[tactic(auto, unfolding(crate::specs::Commands::work_of))]
+pub fn work_of(words: &[String]) -> Work
+    ensures { result ≡ work_of (map string_bytes words.now) }
+{
+    match words {
+        [first] => of_one_word(first.as_str()),
+        [first, second] => of_two_words(first.as_str(), second.as_str()),
+        [first, second, third] => of_three_words(first.as_str(), second.as_str(), third.as_str()),
+        [first, second, third, fourth] => of_four_words(
+            first.as_str(),
+            second.as_str(),
+            third.as_str(),
+            fourth.as_str(),
+        ),
+        _ => Work::Explains,
+    }
+}
+
+#[tactic(auto, unfolding(crate::specs::Commands::of_one_word))]
+fn of_one_word(first: &str) -> Work
+    ensures { result ≡ of_one_word first.now }
+{
+    match first {
+        "run" => Work::Runs {
+            showing: Showing::Whole,
+        },
+        "check" => Work::Checks,
+        "plain" => Work::Strips,
+        _ => Work::Explains,
+    }
+}
+
+#[tactic(auto, unfolding(crate::specs::Commands::of_two_words))]
+fn of_two_words(first: &str, second: &str) -> Work
+    ensures { result ≡ of_two_words first.now second.now }
+{
+    match (first, second) {
+        ("run", "-q") => Work::Runs {
+            showing: Showing::Quiet,
+        },
+        ("gen", children) => generation(children),
+        _ => Work::Explains,
+    }
+}
+
+#[tactic(auto, unfolding(crate::specs::Commands::of_three_words))]
+fn of_three_words(first: &str, second: &str, third: &str) -> Work
+    ensures { result ≡ of_three_words first.now second.now third.now }
+{
+    match (first, second, third) {
+        ("run", "-j", workers) => shared_run(Showing::Whole, workers),
+        _ => Work::Explains,
+    }
+}
+
+#[tactic(auto, unfolding(crate::specs::Commands::of_four_words))]
+fn of_four_words(first: &str, second: &str, third: &str, fourth: &str) -> Work
+    ensures { result ≡ of_four_words first.now second.now third.now fourth.now }
+{
+    match (first, second, third, fourth) {
+        ("run", "-q", "-j", workers) => shared_run(Showing::Quiet, workers),
+        ("run", "-j", workers, "-q") => shared_run(Showing::Quiet, workers),
+        _ => Work::Explains,
+    }
+}
+
+#[tactic(auto, unfolding(crate::specs::Commands::shared_run))]
+fn shared_run(showing: Showing, workers: &str) -> Work
+    ensures { result ≡ shared_run showing workers.now }
+{
+    match number_up_to(WORKER_LIMIT, workers) {
+        Some(workers) => Work::Shares { showing, workers },
+        None => Work::Explains,
+    }
+}
+
+#[tactic(auto, unfolding(crate::specs::Commands::generation))]
+fn generation(children: &str) -> Work
+    ensures { result ≡ generation children.now }
+{
+    match number_up_to(CHILD_LIMIT, children) {
+        Some(children) => Work::Generates { children },
+        None => Work::Explains,
+    }
+}
+
+// The number from 1 to `most` that is written so.
+#[tactic(auto, unfolding(crate::specs::Commands::number_up_to))]
+fn number_up_to(most: u32, word: &str) -> Option<u32>
+    requires { most < 2 ^ 32 - 1 }
+    ensures { result ≡ number_up_to most word.now }
+{
+    (1..most + 1).find(|n| Buffer::new().format(*n) == word)
+}

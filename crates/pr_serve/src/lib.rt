@@ -1,0 +1,19 @@
+//! What the program does: `serve` carries out what its words ask for, from a source to a sink, and says how that ended.
+#![tactic(auto)]
+
+mod answers;
+mod checks;
+mod commands;
+mod inputs;
+mod judgements;
+mod outcomes;
+mod reports;
+mod responses;
+mod running;
+mod runs;
+mod serving;
+mod sharing;
+mod showings;
+
+pub use outcomes::{Outcome, Status, number};
+pub use serving::serve;

@@ -1,0 +1,12 @@
+//! Tests of `serve`, with ends in memory and a gate that counts. They stand apart from what they test, which is so
+//! proved once.
+#![tactic(auto)]
+
+#[cfg(test)]
+mod calls;
+#[cfg(test)]
+mod failures;
+#[cfg(test)]
+mod statuses;
+#[cfg(test)]
+mod threads;

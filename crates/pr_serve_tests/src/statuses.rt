@@ -1,0 +1,90 @@
+//! What no clause says: that a call whose ends are sound has the status, the text and the history of its input.
+use crate::calls::{
+    ALONE, ALONE_HISTORY, CUT, CUT_HISTORY, MUCH, STUCK, call, is_made_of, source, text_of,
+};
+use pr_io::{MemSink, OpenGate};
+use std::test::Fail;
+
+const STUCK_HISTORY: &str = "history 4
+0 c0 open 1 ctl w -> handle 0
+1 1/1 entered pause
+2 c0 ctl 0 0300000000000000 -> half 0
+3 1/1 slept pause
+";
+
+const JUDGED: &str =
+    "program p\nsys pause\nend\nspawn p\n%history\nhistory 1\n0 1/1 entered pause\n";
+
+const MISJUDGED: &str = "%history\nhistory 2\n0 clock 1\n1 clock 3\n";
+
+const USAGE: &str = "usage: proclab run [-q] [-j N] | check | plain | gen N\n";
+
+// A run keeps its history, whether that is written or not; other calls have none.
+#[test]
+fn each_status_comes_with_its_text_and_its_history(rt: HostRuntime) -> Result<(), Fail> {
+    let alloc = rt.alloc();
+    for (words, input, status, first, second, history) in [
+        (
+            ["run"].as_slice(),
+            ALONE,
+            0,
+            ALONE_HISTORY,
+            "status 0\n",
+            ALONE_HISTORY,
+        ),
+        (
+            ["run", "-q"].as_slice(),
+            CUT,
+            3,
+            "",
+            "status 3\n",
+            CUT_HISTORY,
+        ),
+        (
+            ["run"].as_slice(),
+            STUCK,
+            4,
+            STUCK_HISTORY,
+            "status 4\n",
+            STUCK_HISTORY,
+        ),
+        (
+            ["plain"].as_slice(),
+            STUCK,
+            4,
+            "plain 1\n1/1 sleep pause\n",
+            "trace 0\nstatus 4\n",
+            STUCK_HISTORY,
+        ),
+        (
+            ["run"].as_slice(),
+            "turns 5\nfrob\n",
+            2,
+            "line 2: ",
+            "UnknownWord\n",
+            "",
+        ),
+        (["check"].as_slice(), JUDGED, 0, "legal 1", "\n", ""),
+        (
+            ["check"].as_slice(),
+            MISJUDGED,
+            8,
+            "entry 1: ",
+            "not legal\n",
+            "",
+        ),
+        (["frob"].as_slice(), ALONE, 1, USAGE, "", ""),
+    ] {
+        let mut source = source(alloc, input.as_bytes(), &[])?;
+        let mut sink = MemSink::new(alloc, MUCH, Vec::new(alloc))?;
+        let outcome = call(&rt, alloc, words, &mut source, &mut sink, &OpenGate)?;
+        assert_eq!(rt; outcome.status, status, "{input}");
+        assert!(rt; is_made_of(sink.bytes(), first, second), "{input}");
+        assert_eq!(rt;
+            text_of(alloc, &outcome.history)?.as_slice(),
+            history.as_bytes(),
+            "{input}"
+        );
+    }
+    Ok(())
+}

@@ -1,0 +1,295 @@
+//! What no clause says: that several workers make a run with `-j`, each at the gate that `serve` was given.
+use crate::calls::{
+    ALONE, ALONE_HISTORY, CUT, CUT_HISTORY, MUCH, STUCK, call, is_made_of, source, text_of,
+};
+use pr_io::{Gate, MemSink, OpenGate};
+use pr_model::{Actor, History};
+use pr_num::NoMemory;
+use std::alloc::Global;
+use std::sync::Wait;
+use std::sync::atomic::{AtomicU64, Ordering};
+use std::test::Fail;
+use std::thread;
+use std::thread::Threads;
+
+/// Two shells like that of `examples/truss-on-several-threads.in`, each with a truss that counts the calls, and a
+/// script. What the trusses print is the same in any order of moves.
+const BUSY: &str = "turns 4000
+program shell
+space ends 16
+text writer \"greet\"
+text reader \"count\"
+set r1, ends
+sys pipe
+sys fork
+jz r0, first
+sys fork
+jz r0, second
+set r1, 0
+sys close
+set r1, 1
+sys close
+set r1, 0
+sys wait
+sys wait
+set r1, 0
+sys exit
+first:
+set r1, writer
+sys exec
+second:
+set r1, reader
+sys exec
+end
+program greet
+text words \"hi\\n\"
+set r1, 1
+set r2, words
+set r3, 3
+sys write
+set r1, 0
+sys exit
+end
+program count
+space bytes 16
+set r1, 1
+sys close
+set r1, 0
+set r2, bytes
+set r3, 16
+sys read
+mov r1, r0
+sys exit
+end
+truss -f -c -s !CLD shell
+truss -f -c -s !CLD shell
+script
+list
+until 3
+list
+end
+";
+
+const FIRST_COUNTS: &str = "controller 0 truss
+syscall calls errors
+exit 3 0
+fork 2 0
+read 1 0
+write 1 0
+close 3 0
+wait 2 0
+exec 2 0
+pipe 1 0
+total 15 0
+";
+
+const SECOND_COUNTS: &str = "controller 1 truss
+syscall calls errors
+exit 3 0
+fork 2 0
+read 1 0
+write 1 0
+close 3 0
+wait 2 0
+exec 2 0
+pipe 1 0
+total 15 0
+status 0
+";
+
+/// How many controllers it has.
+const CONTROLLERS: u32 = 3;
+
+/// A process that goes round for good, and a script that waits for it to stop, as in
+/// `cases/programs/turns-cut-with-a-script.in`.
+const ENDLESS: &str =
+    "turns 11\nprogram p\nm:\njmp m\nend\nspawn p\nscript\nopen a 1 ctl w\nwrite a wstop\nend\n";
+
+// How often a worker looks whether the others have come.
+const LOOKS: u32 = 10_000_000;
+
+/// A gate at which all workers of a run wait for one another before their first turns. It counts how often each of them
+/// passes, and how many have met all others.
+#[derive(Drop)]
+struct Meeting {
+    passes: Vec<AtomicU64>,
+    met: AtomicU64,
+}
+
+impl Meeting {
+    fn new(alloc: Global, workers: u32) -> Result<Meeting, NoMemory> {
+        let mut passes = Vec::new(alloc);
+        for _ in 0..workers {
+            passes.push(AtomicU64::new(0))?;
+        }
+        Ok(Meeting {
+            passes,
+            met: AtomicU64::new(0),
+        })
+    }
+
+    fn have_all_come(&self) -> bool {
+        self.passes
+            .iter()
+            .all(|passes| passes.load(Ordering::SeqCst) != 0)
+    }
+
+    fn meet(&self) {
+        for _ in 0..LOOKS {
+            if self.have_all_come() {
+                self.met.fetch_add(1, Ordering::SeqCst);
+                break;
+            }
+            thread::yield_now();
+        }
+    }
+
+    /// How often a worker has passed.
+    fn passes_of(&self, worker: u32) -> u64 {
+        match self.passes.get(worker as usize) {
+            Some(passes) => passes.load(Ordering::SeqCst),
+            None => 0,
+        }
+    }
+
+    /// How often the first workers have passed, so many of them.
+    fn passes_of_first(&self, workers: u32) -> u64 {
+        let mut count = 0u64;
+        for worker in 0..workers {
+            count = count.saturating_add(self.passes_of(worker));
+        }
+        count
+    }
+}
+
+impl Gate for Meeting {
+    fn pass(&self, worker: u32, turn: u64) {
+        if let Some(passes) = self.passes.get(worker as usize) {
+            passes.fetch_add(1, Ordering::SeqCst);
+            if turn == 0 {
+                self.meet();
+            }
+        }
+    }
+}
+
+/// How many entries are of a controller, or of all else where there is no number.
+fn entries_of(history: &History, controller: Option<u32>) -> u64 {
+    let mut count = 0u64;
+    for place in 0..history.len() {
+        if let Some(entry) = history.get(place) {
+            let by = match entry.actor {
+                Actor::Controller(number) => Some(number),
+                _ => None,
+            };
+            if by == controller {
+                count = count.saturating_add(1);
+            }
+        }
+    }
+    count
+}
+
+/// Whether `check` finds a history legal from the first state of a scenario.
+fn is_legal<R: Threads + Wait + Sync>(
+    rt: &R,
+    alloc: Global,
+    scenario: &str,
+    history: &History,
+) -> Result<bool, NoMemory> {
+    let mut input = scenario.as_bytes().to_vec(alloc)?;
+    input.extend_from_slice(b"%history\n")?;
+    input.extend_from_slice(text_of(alloc, history)?.as_slice())?;
+    let mut source = source(alloc, input.as_slice(), &[])?;
+    let mut sink = MemSink::new(alloc, MUCH, Vec::new(alloc))?;
+    let outcome = call(rt, alloc, &["check"], &mut source, &mut sink, &OpenGate)?;
+    Ok(outcome.status == 0)
+}
+
+// All workers are at the gate at one time, so as many threads make the run; and each move was made after a pass of the
+// worker to which it falls.
+#[test]
+fn all_workers_meet_at_the_gate(rt: HostRuntime) -> Result<(), Fail> {
+    let alloc = rt.alloc();
+    for (number, processors) in [("1", 1u32), ("2", 2), ("16", 16)] {
+        let workers = processors.saturating_add(CONTROLLERS);
+        let gate = Meeting::new(alloc, workers)?;
+        let mut source = source(alloc, BUSY.as_bytes(), &[])?;
+        let mut sink = MemSink::new(alloc, MUCH, Vec::new(alloc))?;
+        let words = ["run", "-q", "-j", number];
+        let outcome = call(&rt, alloc, &words, &mut source, &mut sink, &gate)?;
+        assert_eq!(rt; outcome.status, 0);
+        assert!(rt; is_made_of(sink.bytes(), FIRST_COUNTS, SECOND_COUNTS));
+        assert_eq!(rt; gate.met.load(Ordering::SeqCst), workers as u64);
+        for controller in 0..CONTROLLERS {
+            let entries = entries_of(&outcome.history, Some(controller));
+            let passes = gate.passes_of(processors.saturating_add(controller));
+            assert!(rt; 0 < entries && entries <= passes);
+        }
+        let entries = entries_of(&outcome.history, None);
+        let passes = gate.passes_of_first(processors);
+        assert!(rt; 0 < entries && entries <= passes);
+        assert!(rt; is_legal(&rt, alloc, BUSY, &outcome.history)?);
+    }
+    Ok(())
+}
+
+// In any order of moves these runs end so, with as many entries. Where one lwp alone moves there is one order.
+#[test]
+fn threads_end_as_their_scenario_does(rt: HostRuntime) -> Result<(), Fail> {
+    let alloc = rt.alloc();
+    for (words, input, status, first, second, entries) in [
+        (
+            ["run", "-j", "1"].as_slice(),
+            ALONE,
+            0,
+            ALONE_HISTORY,
+            "status 0\n",
+            3,
+        ),
+        (
+            ["run", "-j", "16"].as_slice(),
+            CUT,
+            3,
+            CUT_HISTORY,
+            "status 3\n",
+            3,
+        ),
+        (
+            ["run", "-j", "2", "-q"].as_slice(),
+            ENDLESS,
+            3,
+            "",
+            "status 3\n",
+            11,
+        ),
+        (
+            ["run", "-q", "-j", "2"].as_slice(),
+            STUCK,
+            4,
+            "",
+            "status 4\n",
+            4,
+        ),
+        (
+            ["run", "-j", "2"].as_slice(),
+            "turns 5\nfrob\n",
+            2,
+            "line 2: ",
+            "UnknownWord\n",
+            0,
+        ),
+    ] {
+        let mut source = source(alloc, input.as_bytes(), &[])?;
+        let mut sink = MemSink::new(alloc, MUCH, Vec::new(alloc))?;
+        let outcome = call(&rt, alloc, words, &mut source, &mut sink, &OpenGate)?;
+        assert_eq!(rt; outcome.status, status, "{input}");
+        assert!(rt; is_made_of(sink.bytes(), first, second), "{input}");
+        assert_eq!(rt; outcome.history.len(), entries, "{input}");
+        assert!(rt;
+            status == 2 || is_legal(&rt, alloc, input, &outcome.history)?,
+            "{input}"
+        );
+    }
+    Ok(())
+}

@@ -1,6 +1,0 @@
-use Rattle.std.proofs.Common.{◌∙◌, Some, arith, sym}
-use Rattle.proclab.proofs.MarkLemmas.{found-within}
-use Rattle.proclab.proofs.checks.read_checked.Goals as goal
-
-pub read_parts-requires-clause-within : goal.read_parts-requires-clause-within
-read_parts-requires-clause-within c = omega (arith, found-within c.args.text.now (Some c.in-Some.place) (sym c.in-Some.is ∙ c.mark_place.ensures))

@@ -1,8 +1,0 @@
-use Rattle.proclab.proofs.MadeLemmas.{made-shown}
-use Rattle.proclab.proofs.responses.run_scenario.Goals as goal
-
-pub returns : goal.returns
-returns g c =
-    let made = c.make_run-made in
-    let shown = c.show_made.ensures in
-    made-shown c.args.showing c.args.scenario made.result.history.entries _ _ _ _ _ _ made.result.ran made.ensures.ended made.ensures.reports made.ensures.history made.ensures.stopped shown.shown shown.stopped

@@ -1,8 +1,0 @@
-use Rattle.std.proofs.Common.{sym, subst}
-use Rattle.std.specs.Prelude.{map, string_bytes}
-use Rattle.proclab.specs.Commands.{HasWorkers}
-use Rattle.proclab.proofs.CommandLemmas.{words-workers}
-use Rattle.proclab.proofs.serving.serve.Goals as goal
-
-pub carry_out-requires-clause-workers : goal.carry_out-requires-clause-workers
-carry_out-requires-clause-workers g c κs within = subst HasWorkers (sym c.work_of.ensures) (words-workers (map string_bytes c.args.words.now))
