@@ -15,7 +15,7 @@ programs_of() {
   programs=("$@")
   [ "$#" -gt 0 ] || programs=("$(cd "$(dirname "${BASH_SOURCE[0]}")/.." && pwd)/crates/proclab/out/proclab")
   for program in "${programs[@]}"; do
-    [ -x "$program" ] || { echo "no program $program: run ./proclab once" >&2; return 1; }
+    [ -x "$program" ] || { echo "no program $program: run ./build" >&2; return 1; }
   done
 }
 
