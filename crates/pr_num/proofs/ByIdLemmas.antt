@@ -107,14 +107,6 @@ set-put_at [] i e w here = cc
 set-put_at (d ∷ es) zero e w here = ap (λ (x : ℕ × _). (x.0, w) ∷ es) (sym (same_Some d e here))
 set-put_at (d ∷ es) (suc i) e w here = ap (λ ds. d ∷ ds) (set-put_at es i e w here)
 
-pub set-put_under : {X : Type 0} (low : ℕ) (es : List (ℕ × X)) (i : ℕ) (e : ℕ × X) (w : X) → rises_from low es ≡ true → slice_get es i ≡ Some e → set es i (e.0, w) ≡ put_under e.0 w es
-set-put_under low [] i e w rises here = cc
-set-put_under low (d ∷ es) zero e w rises here = rw (same_Some d e here, eq-eqb e.0 e.0 refl) refl
-set-put_under low (d ∷ es) (suc i) e w rises here =
-    let tail = rises_from-tail low d es rises in
-    let next = rises_from-at (d.0 + 1) es i e tail here in
-    rw (ne_eqb d.0 e.0 (λ same. absurd (omega arith))) (ap (λ ds. d ∷ ds) (set-put_under (d.0 + 1) es i e w tail here))
-
 pub remove-without_id : {X : Type 0} (low : ℕ) (es : List (ℕ × X)) (i : ℕ) (e : ℕ × X) → rises_from low es ≡ true → slice_get es i ≡ Some e → remove es i ≡ without_id e.0 es
 remove-without_id low [] i e rises here = cc
 remove-without_id low (d ∷ es) zero e rises here = rw (same_Some d e here, eq-eqb e.0 e.0 refl) refl
@@ -135,11 +127,37 @@ same_id es i id e at here = same_Some e.0 id (sym (id_at-slice_get es i e here) 
 pub under-id_at : {X : Type 0} (es : List (ℕ × X)) (i id : ℕ) (e : ℕ × X) → IsRising es → id_at i es ≡ Some id → slice_get es i ≡ Some e → under id es ≡ Some e.1
 under-id_at es i id e rises at here = ap (λ n. under n es) (sym (same_id es i id e at here)) ∙ under-at 0 es i e rises here
 
-pub set-id_at : {X : Type 0} (es : List (ℕ × X)) (i id : ℕ) (e : ℕ × X) (w : X) → IsRising es → id_at i es ≡ Some id → slice_get es i ≡ Some e → set es i (e.0, w) ≡ put_under id w es
-set-id_at es i id e w rises at here = set-put_under 0 es i e w rises here ∙ ap (λ n. put_under n w es) (same_id es i id e at here)
-
 pub remove-id_at : {X : Type 0} (es : List (ℕ × X)) (i id : ℕ) (e : ℕ × X) → IsRising es → id_at i es ≡ Some id → slice_get es i ≡ Some e → remove es i ≡ without_id id es
 remove-id_at es i id e rises at here = remove-without_id 0 es i e rises here ∙ ap (λ n. without_id n es) (same_id es i id e at here)
+
+id_at-above : {X : Type 0} (low : ℕ) (es : List (ℕ × X)) (i id : ℕ) → rises_from low es ≡ true → id_at i es ≡ Some id → low ≤ id
+id_at-above low [] i id rises at = cc
+id_at-above low (d ∷ es) zero id rises at =
+    let first = rises_from-head low d es rises in
+    let same = same_Some d.0 id at in
+    omega arith
+id_at-above low (d ∷ es) (suc i) id rises at =
+    let first = rises_from-head low d es rises in
+    let next = id_at-above (d.0 + 1) es i id (rises_from-tail low d es rises) at in
+    omega arith
+
+-- the id at a place is no earlier one
+not_earlier : {X : Type 0} (low : ℕ) (d : ℕ × X) (es : List (ℕ × X)) (i id : ℕ) → rises_from low (d ∷ es) ≡ true → id_at i es ≡ Some id → eqb d.0 id ≡ false
+not_earlier low d es i id rises at =
+    let next = id_at-above (d.0 + 1) es i id (rises_from-tail low d es rises) at in
+    ne_eqb d.0 id (λ same. absurd (omega arith))
+
+pub put_at-id_at : {X : Type 0} (low : ℕ) (es : List (ℕ × X)) (i id : ℕ) (w : X) → rises_from low es ≡ true → id_at i es ≡ Some id → put_at i w es ≡ put_under id w es
+put_at-id_at low [] i id w rises at = refl
+put_at-id_at low (d ∷ es) zero id w rises at = rw (eq-eqb d.0 id (same_Some d.0 id at)) refl
+put_at-id_at low (d ∷ es) (suc i) id w rises at =
+    rw (not_earlier low d es i id rises at) (ap (λ ds. d ∷ ds) (put_at-id_at (d.0 + 1) es i id w (rises_from-tail low d es rises) at))
+
+pub under-thing_at : {X : Type 0} (low : ℕ) (es : List (ℕ × X)) (i id : ℕ) → rises_from low es ≡ true → id_at i es ≡ Some id → under id es ≡ thing_at i es
+under-thing_at low [] i id rises at = refl
+under-thing_at low (d ∷ es) zero id rises at = rw (eq-eqb d.0 id (same_Some d.0 id at)) refl
+under-thing_at low (d ∷ es) (suc i) id rises at =
+    rw (not_earlier low d es i id rises at) (under-thing_at (d.0 + 1) es i id (rises_from-tail low d es rises) at)
 
 -- none stands where the search for the place of an id ended at another id, or at the end
 pub under-past : {X : Type 0} (id : ℕ) (es : List (ℕ × X)) → IsRising es → length es ≤ place_from id es → under id es ≡ None

@@ -1,5 +1,5 @@
-use Rattle.std.proofs.Common.{◌≡◌, ℕ, ◌+◌, ◌-◌, ◌≤◌, List, ◌++◌, length, take, drop, replicate, ap, arith, ◌∙◌, sym}
-use Rattle.std.proofs.lemmas.List.{length-append, take-append-le, take_all, drop-replicate, length-replicate}
+use Rattle.std.proofs.Common.{ℕ, ◌+◌, ◌-◌, ◌≤◌, List, ◌++◌, length, drop, replicate, ap, arith, ◌∙◌, sym}
+use Rattle.std.proofs.lemmas.List.{length-append, drop-replicate, length-replicate}
 use Rattle.pr_num.specs.Padding.{padded, IsName}
 use Rattle.pr_num.proofs.ListLemmas.{take-front}
 

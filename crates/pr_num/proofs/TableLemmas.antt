@@ -1,10 +1,10 @@
-use Rattle.std.proofs.Common.{◌≡◌, ℕ, zero, suc, ◌+◌, ◌<◌, ◌≤◌, Bool, true, false, not, ltb, cond, Option, Some, None, IsSome, is_some, List, [], ◌∷◌, ◌++◌, length, map, take, drop, get_or, set, refl, sym, ◌∙◌, ap, arith, inl, inr}
+use Rattle.std.proofs.Common.{◌≡◌, ℕ, ◌+◌, ◌<◌, ◌≤◌, Bool, true, false, not, ltb, cond, Option, Some, None, List, [], ◌∷◌, ◌++◌, length, map, take, drop, get_or, set, refl, sym, ◌∙◌, ap, arith, inl, inr}
 use Rattle.std.specs.List.{find, list_any, slice_get, position, position_or_len, remove}
-use Rattle.std.proofs.lemmas.Bool.{ltb-true, ltb-false, false≢true, cases_Bool}
+use Rattle.std.proofs.lemmas.Bool.{ltb-true, ltb-false, cases_Bool}
 use Rattle.std.proofs.lemmas.List.{drop_more, map_more, set_at, get_or_at, append_assoc, length-take-le, length-map}
 use Rattle.std.proofs.lemmas.List.Folds.{find_at}
 use Rattle.std.proofs.lemmas.Option.{slice_get_past, cond_some, same_Some}
-use Rattle.pr_num.specs.KeyedTables.{change_first, put_first, without_first}
+use Rattle.pr_num.specs.KeyedTables.{change_first, without_first}
 use Rattle.pr_num.proofs.NumberLemmas.{one_more}
 use Rattle.pr_num.proofs.SearchLemmas.{list_any-find_none}
 
@@ -33,19 +33,12 @@ find-none p xs e = find_at p xs ∙ slice_get_past xs _ (not_below _ _ _ e)
 pub list_any-no_place : {X : Type 0} (p : X → Bool) (xs : List X) → position p xs ≡ None → list_any p xs ≡ false
 list_any-no_place p xs none = list_any-find_none p xs (find-none p xs none)
 
-pub position-found : {X : Type 0} (p : X → Bool) (xs : List X) → IsSome (find p xs) → IsSome (position p xs)
-position-found p xs found =
-    elim (cases_Bool (ltb (position_or_len p xs) (length xs))) [ inl t ↦ ap (λ b. is_some (cond b (Some (position_or_len p xs)) None)) t | inr f ↦ let past : find p xs ≡ None = find_at p xs ∙ slice_get_past xs _ (ltb-false _ _ f) in absurd (false≢true (sym (ap is_some past) ∙ found)) ]
-
 -- ---- what is written there
 
-set-put_first : {X : Type 0} (p : X → Bool) (w : X) (xs : List X) → set xs (position_or_len p xs) w ≡ put_first p w xs
-set-put_first p w [] = refl
-set-put_first p w (x ∷ xs) =
-    elim (p x) as (λ b. set (x ∷ xs) (cond (not b) (1 + position_or_len p xs) 0) w ≡ cond b (w ∷ xs) (x ∷ put_first p w xs)) [ true ↦ refl | false ↦ ap (λ n. set (x ∷ xs) n w) (one_more _) ∙ ap (λ ys. x ∷ ys) (set-put_first p w xs) ]
-
-pub set-position : {X : Type 0} (p : X → Bool) (w : X) (xs : List X) (i : ℕ) → position p xs ≡ Some i → set xs i w ≡ put_first p w xs
-set-position p w xs i e = ap (λ n. set xs n w) (sym (position-some p xs i e)) ∙ set-put_first p w xs
+set-change_first : {X : Type 0} (p : X → Bool) (f : X → X) (x : X) (xs : List X) → find p xs ≡ Some x → set xs (position_or_len p xs) (f x) ≡ change_first p f xs
+set-change_first p f x [] found = refl
+set-change_first p f x (y ∷ ys) found =
+    elim (p y) as (λ b. cond b (Some y) (find p ys) ≡ Some x → set (y ∷ ys) (cond (not b) (1 + position_or_len p ys) 0) (f x) ≡ cond b (f y ∷ ys) (y ∷ change_first p f ys)) [ true ↦ λ e. ap (λ z. f z ∷ ys) (sym (same_Some y x e)) | false ↦ λ e. ap (λ n. set (y ∷ ys) n (f x)) (one_more _) ∙ ap (λ zs. y ∷ zs) (set-change_first p f x ys e) ] found
 
 pub remove-without_first : {X : Type 0} (p : X → Bool) (xs : List X) (i : ℕ) → position p xs ≡ Some i → remove xs i ≡ without_first p xs
 remove-without_first p xs i e = ap (remove xs) (sym (position-some p xs i e)) ∙ removed p xs where
@@ -54,16 +47,11 @@ remove-without_first p xs i e = ap (remove xs) (sym (position-some p xs i e)) �
   removed p (x ∷ xs) =
       elim (p x) as (λ b. remove (x ∷ xs) (cond (not b) (1 + position_or_len p xs) 0) ≡ cond b xs (x ∷ without_first p xs)) [ true ↦ refl | false ↦ ap (remove (x ∷ xs)) (one_more _) ∙ ap (λ ys. x ∷ ys) (removed p xs) ]
 
-pub put_first-found : {X : Type 0} (p : X → Bool) (f : X → X) (x : X) (xs : List X) → find p xs ≡ Some x → put_first p (f x) xs ≡ change_first p f xs
-put_first-found p f x [] found = refl
-put_first-found p f x (y ∷ ys) found =
-    elim (p y) as (λ b. cond b (Some y) (find p ys) ≡ Some x → cond b (f x ∷ ys) (y ∷ put_first p (f x) ys) ≡ cond b (f y ∷ ys) (y ∷ change_first p f ys)) [ true ↦ λ e. ap (λ z. f z ∷ ys) (sym (same_Some y x e)) | false ↦ λ e. ap (λ zs. y ∷ zs) (put_first-found p f x ys e) ] found
-
 -- ---- what callers of a table cite: the step of a row is a step of the list
 
 pub change_first-place : {X : Type 0} (p : X → Bool) (f : X → X) (xs : List X) (i : ℕ) (x : X) → position p xs ≡ Some i → slice_get xs i ≡ Some x → set xs i (f x) ≡ change_first p f xs
 change_first-place p f xs i x at here =
-    set-position p (f x) xs i at ∙ put_first-found p f x xs (find-position p xs i at ∙ here)
+    ap (λ n. set xs n (f x)) (sym (position-some p xs i at)) ∙ set-change_first p f x xs (find-position p xs i at ∙ here)
 
 pub change_first-none : {X : Type 0} (p : X → Bool) (f : X → X) (xs : List X) → find p xs ≡ None → change_first p f xs ≡ xs
 change_first-none p f [] none = refl
@@ -82,18 +70,7 @@ without_first-none p (x ∷ xs) none =
 pub without_first-no_place : {X : Type 0} (p : X → Bool) (xs : List X) → position p xs ≡ None → without_first p xs ≡ xs
 without_first-no_place p xs none = without_first-none p xs (find-none p xs none)
 
--- what was found and is put back changes nothing
-pub set-found : {X : Type 0} (xs : List X) (i : ℕ) (x : X) → slice_get xs i ≡ Some x → set xs i x ≡ xs
-set-found [] i x found = refl
-set-found (y ∷ ys) zero x found = ap (λ z. z ∷ ys) (sym (same_Some y x found))
-set-found (y ∷ ys) (suc i) x found = ap (λ zs. y ∷ zs) (set-found ys i x found)
-
-pub put_first-same : {X : Type 0} (p : X → Bool) (x : X) (xs : List X) → find p xs ≡ Some x → put_first p x xs ≡ xs
-put_first-same p x [] found = refl
-put_first-same p x (y ∷ ys) found =
-    elim (p y) as (λ b. cond b (Some y) (find p ys) ≡ Some x → cond b (x ∷ ys) (y ∷ put_first p x ys) ≡ y ∷ ys) [ true ↦ λ e. ap (λ z. z ∷ ys) (sym (same_Some y x e)) | false ↦ λ e. ap (λ zs. y ∷ zs) (put_first-same p x ys e) ] found
-
-pub ruleset change_first_laws = (change_first-place, change_first-no_place, change_first-none, put_first-found, find-position, find-none, remove-without_first, without_first-no_place, without_first-none, set-found, put_first-same)
+pub ruleset change_first_laws = (change_first-place, change_first-no_place, change_first-none, find-position, find-none, remove-without_first, without_first-no_place, without_first-none)
 
 -- one more element is changed, as at a step of a loop over all of them
 pub map_step : {X : Type 0} (f : X → X) (xs ys : List X) (i : ℕ) (d : X) → i < length xs → ys ≡ map f (take i xs) ++ drop i xs → set ys i (f (get_or ys i d)) ≡ map f (take (i + 1) xs) ++ drop (i + 1) xs

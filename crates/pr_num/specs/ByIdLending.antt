@@ -1,5 +1,5 @@
-use Rattle.std.specs.Prelude.{ℕ, List}
-use Rattle.std.specs.Borrow.{Lends, MutBor, Fml, RattleType}
+use Rattle.std.specs.Prelude.{ℕ, List, Option}
+use Rattle.std.specs.Borrow.{Lends, LendsIf, MutBor, Fml, RattleType}
 use Rattle.pr_num.specs.ById.{put_at, put_under}
 use Rattle.pr_num.specs.contracts.by_id.ById.{the_row}
 
@@ -10,3 +10,7 @@ module _ (T : RattleType) (s : MutBor (List (ℕ × T.Denot))) where
 
   abbrev pub lends_under : ℕ → MutBor T.Denot → Fml
   lends_under id r = Lends (the_row T) T s r (λ w. put_under id w s.now)
+
+  -- the list stays where there is none
+  abbrev pub lends_found : ℕ → Option (MutBor T.Denot) → Fml
+  lends_found id r = LendsIf (the_row T) T s r (λ w. put_under id w s.now) s.now

@@ -1,5 +1,5 @@
 ghost use Rattle.std.specs.Prelude.{◌≡◌, ◌==◌, ◌<◌, ◌≤◌, [], ℕ, List, length, slice_get, is_some, IsSome, IfSome, IfNone, IsNone, OnOk, OnErr, Some, None};
-ghost use Rattle.std.specs.Option.{option_copied};
+ghost use Rattle.std.specs.Option.{option_copied, option_copied_mut};
 ghost use Rattle.std.specs.Borrow.{sem};
 ghost use Rattle.std.specs.Slice.Iter.{iter_rest};
 ghost use Rattle.std.specs.Iterator.Adapters.{IterYieldsInOrder};
@@ -70,7 +70,7 @@ fn place_of<T>(items: &[(u32, T)], id: u64) -> Option<usize>
 }
 
 impl<T> ById<T> {
-    ghost use Rattle.pr_num.specs.ByIdLending.{lends_at, lends_under};
+    ghost use Rattle.pr_num.specs.ByIdLending.{lends_at, lends_under, lends_found};
 
     /// An empty table. Takes no memory.
     pub fn new(alloc: Global) -> ById<T>
@@ -173,6 +173,15 @@ impl<T> ById<T> {
         &mut self.items[place].1
     }
 
+    /// The thing under an id, to be changed; `None` exactly where the id does not stand. The ids stay.
+    pub fn find_mut(&mut self, id: u32) -> Option<&mut T>
+        ensures* writes_back { sem 𝓛 (lends_found T.row self.entry id result) }
+        ensures value { option_copied_mut result ≡ under id self.old }
+    {
+        let place = place_of(&self.items, id as u64)?;
+        Some(self.at_mut(place))
+    }
+
     /// The thing under an id that stands. Its id stays.
     pub fn get_mut(&mut self, id: u32) -> &mut T
         requires { IsSome (under id self.old) }
@@ -180,7 +189,7 @@ impl<T> ById<T> {
         ensures value { under id self.old ≡ Some result.now }
     {
         let place = place_of(&self.items, id as u64).unwrap();
-        &mut self.items[place].1
+        self.at_mut(place)
     }
 
     /// Adds a thing under an id that does not stand, behind those of lower ids. Where memory runs out, the table stays

@@ -112,6 +112,10 @@ impl Numbered for Flt {
 
     ghost number_of = { fault_number };
 
+    ghost of_number = { fault_of_number };
+
+    ghost of_name = { fault_of_name };
+
     #[tactic(auto, using(crate::proofs::NumberedLemmas::tables_counted))]
     fn entries<'a>() -> &'a [Flt] {
         &Flt::ALL
@@ -119,6 +123,15 @@ impl Numbered for Flt {
 
     fn number(self) -> u64 {
         Flt::number(self)
+    }
+
+    #[tactic(auto, unfolding(crate::specs::Faults::fault_of_number))]
+    fn from_number(n: u64) -> Option<Flt> {
+        Flt::from_number(n)
+    }
+
+    fn from_name(name: &[u8]) -> Option<Flt> {
+        Flt::from_name(name)
     }
 
     ghost fits = { lit≤ tt };

@@ -35,15 +35,24 @@ impl<B: FlagBits> Model for KnownFlags<B> {
     ghost inverse = { λ word. record { word = word; of = record {} } };
 }
 
+/// The flag of these bits alone. A macro, since the value of a constant calls no function.
+macro_rules! flag {
+    ($bits:expr) => {
+        $crate::flags::KnownFlags {
+            word: $bits.0,
+            of: std::marker::PhantomData,
+        }
+    };
+}
+
+pub(crate) use flag;
+
 impl<B: FlagBits> KnownFlags<B> {
     fn new(bits: B) -> KnownFlags<B>
         requires { B.Flags.set_of bits < 2 ^ B.width }
         ensures { result ≡ B.Flags.set_of bits }
     {
-        KnownFlags {
-            word: bits.bits(),
-            of: PhantomData,
-        }
+        KnownFlags::of_word(bits.bits())
     }
 
     fn bits(self) -> B
@@ -66,6 +75,17 @@ impl<B: FlagBits> KnownFlags<B> {
     {
         let bits = B::from_bits(w)?;
         Some(KnownFlags::new(bits))
+    }
+
+    /// The flags of a word that has no other bit.
+    pub fn of_word(word: u64) -> KnownFlags<B>
+        requires { word < 2 ^ B.width }
+        ensures { result ≡ word }
+    {
+        KnownFlags {
+            word,
+            of: PhantomData,
+        }
     }
 
     pub fn word(self) -> u64

@@ -2,8 +2,8 @@ ghost use Rattle.std.specs.Prelude.{◌≡◌};
 ghost use Rattle.pr_num.specs.Instructions.{register_number, register_of, fields, fields_of, immediate_alone, one_register, two_registers, registers_alone, with_no_field, instruction_bytes, instruction_with, instruction_in};
 
 use crate::Sysno;
-use crate::bytes::are_zeros;
 use crate::limits::INSTRUCTION_SIZE;
+use crate::texts::are_zeros;
 
 /// A general register of the machine.
 #[derive(Clone, Copy, Debug, PartialEq, Eq)]

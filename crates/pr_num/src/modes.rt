@@ -1,9 +1,8 @@
 ghost use Rattle.std.specs.Prelude.{⊤, ◌≡◌, [], ◌∷◌, codes};
 ghost use Rattle.pr_num.specs.Flags.{known_bits-four};
 
-use crate::flags::{FlagBits, KnownFlags};
+use crate::flags::{FlagBits, KnownFlags, flag};
 use bitflags::{Flag, Flags, bitflag_items};
-use std::marker::PhantomData;
 
 /// Any bits of a word, also such as are no mode: what `bitflags` works on.
 #[derive(Clone, Copy, Debug, PartialEq, Eq)]
@@ -53,26 +52,14 @@ pub type Modes = KnownFlags<ModeBits>;
 
 impl KnownFlags<ModeBits> {
     /// A child is traced too, with the same sets (PR_FORK).
-    pub const FORK: Modes = KnownFlags {
-        word: ModeBits::FORK.0,
-        of: PhantomData,
-    };
+    pub const FORK: Modes = flag!(ModeBits::FORK);
 
     /// The process runs when its last writable file is closed (PR_RLC).
-    pub const RLC: Modes = KnownFlags {
-        word: ModeBits::RLC.0,
-        of: PhantomData,
-    };
+    pub const RLC: Modes = flag!(ModeBits::RLC);
 
     /// The process is killed when its last writable file is closed (PR_KLC).
-    pub const KLC: Modes = KnownFlags {
-        word: ModeBits::KLC.0,
-        of: PhantomData,
-    };
+    pub const KLC: Modes = flag!(ModeBits::KLC);
 
     /// A stop of one lwp leaves the others running (PR_ASYNC).
-    pub const ASYNC: Modes = KnownFlags {
-        word: ModeBits::ASYNC.0,
-        of: PhantomData,
-    };
+    pub const ASYNC: Modes = flag!(ModeBits::ASYNC);
 }

@@ -1,9 +1,8 @@
 ghost use Rattle.std.specs.Prelude.{⊤, ◌≡◌, [], ◌∷◌, codes};
 ghost use Rattle.pr_num.specs.Flags.{known_bits-three};
 
-use crate::flags::{FlagBits, KnownFlags};
+use crate::flags::{FlagBits, KnownFlags, flag};
 use bitflags::{Flag, Flags, bitflag_items};
-use std::marker::PhantomData;
 
 /// The protection that running an instruction needs, as a word (mmap(2)).
 pub const PROT_EXEC: u8 = 1;
@@ -61,20 +60,11 @@ pub type Prot = KnownFlags<ProtBits>;
 
 impl KnownFlags<ProtBits> {
     /// To run instructions (PROT_EXEC).
-    pub const EXEC: Prot = KnownFlags {
-        word: ProtBits::EXEC.0,
-        of: PhantomData,
-    };
+    pub const EXEC: Prot = flag!(ProtBits::EXEC);
 
     /// To write (PROT_WRITE).
-    pub const WRITE: Prot = KnownFlags {
-        word: ProtBits::WRITE.0,
-        of: PhantomData,
-    };
+    pub const WRITE: Prot = flag!(ProtBits::WRITE);
 
     /// To read (PROT_READ).
-    pub const READ: Prot = KnownFlags {
-        word: ProtBits::READ.0,
-        of: PhantomData,
-    };
+    pub const READ: Prot = flag!(ProtBits::READ);
 }

@@ -1,11 +1,14 @@
 ghost use Rattle.std.specs.Prelude.{◌≡◌, ◌≢◌, ◌==◌, ◌-◌, ◌^◌, ◌<◌, ◌≤◌, ◌↔◌, ◌&&◌, ◌||◌, ℕ, not, true, false, Some, IsSome, [], ◌∷◌};
 ghost use Rattle.pr_num.specs.Sets.{has_number, union_word, common_word, minus_word, with_number, without_number, set_of_word, least_entry};
 ghost use Rattle.pr_num.specs.Signals.{holdable_word};
-ghost use Rattle.pr_num.specs.Control.{has_flags, fork_mode, rlc_mode, klc_mode, async_mode, watch_read, watch_write, watch_exec, watch_trap_after, prot_read, prot_write, prot_exec};
+ghost use Rattle.pr_num.specs.Control.{has_flags, fork_mode, rlc_mode, klc_mode, async_mode, watch_read, watch_write, watch_exec, watch_trap_after, prot_read, prot_write, prot_exec, clear_signal, clear_fault, single_step, abort_call, stop_again, issys_flag, stopped_flag, istop_flag, dstop_flag, step_flag, asleep_flag, agent_flag};
 
+use crate::lwp_flags::LwpFlags;
 use crate::modes::Modes;
 use crate::numbered::Numbered;
+use crate::process_flags::ProcessFlags;
 use crate::protections::Prot;
+use crate::run_flags::RunFlags;
 use crate::watch_flags::WatchFlags;
 
 // A set is known by the numbers that it has.
@@ -75,4 +78,44 @@ pub fn words_of_protections() -> [u64; 3]
     ensures { result ≡ prot_read ∷ prot_write ∷ prot_exec ∷ [] }
 {
     [Prot::READ.word(), Prot::WRITE.word(), Prot::EXEC.word()]
+}
+
+/// The words of the run flags.
+pub fn words_of_run_flags() -> [u64; 5]
+    ensures { result ≡ clear_signal ∷ clear_fault ∷ single_step ∷ abort_call ∷ stop_again ∷ [] }
+{
+    [
+        RunFlags::CSIG.word(),
+        RunFlags::CFAULT.word(),
+        RunFlags::STEP.word(),
+        RunFlags::SABORT.word(),
+        RunFlags::STOP.word(),
+    ]
+}
+
+/// The words of the flags of a process.
+pub fn words_of_process_flags() -> [u64; 5]
+    ensures { result ≡ fork_mode ∷ rlc_mode ∷ klc_mode ∷ async_mode ∷ issys_flag ∷ [] }
+{
+    [
+        ProcessFlags::FORK.word(),
+        ProcessFlags::RLC.word(),
+        ProcessFlags::KLC.word(),
+        ProcessFlags::ASYNC.word(),
+        ProcessFlags::ISSYS.word(),
+    ]
+}
+
+/// The words of the flags of an lwp.
+pub fn words_of_lwp_flags() -> [u64; 6]
+    ensures { result ≡ stopped_flag ∷ istop_flag ∷ dstop_flag ∷ step_flag ∷ asleep_flag ∷ agent_flag ∷ [] }
+{
+    [
+        LwpFlags::STOPPED.word(),
+        LwpFlags::ISTOP.word(),
+        LwpFlags::DSTOP.word(),
+        LwpFlags::STEP.word(),
+        LwpFlags::ASLEEP.word(),
+        LwpFlags::AGENT.word(),
+    ]
 }

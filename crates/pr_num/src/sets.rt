@@ -47,7 +47,8 @@ fn bit_of(n: u64) -> u64
 }
 
 impl<T: Numbered> SetOf<T> {
-    fn new(word: u64) -> SetOf<T>
+    /// The set of a word in which no bit beyond the last entry is set.
+    pub fn of_word(word: u64) -> SetOf<T>
         requires { word < 2 ^ T.COUNT }
         ensures { result ≡ word }
     {
@@ -68,21 +69,21 @@ impl<T: Numbered> SetOf<T> {
     pub fn empty() -> SetOf<T>
         ensures { result ≡ 0 }
     {
-        SetOf::new(0)
+        SetOf::of_word(0)
     }
 
     /// One entry.
     fn one(entry: T) -> SetOf<T>
         ensures { result ≡ 2 ^ (T.number_of entry - 1) }
     {
-        SetOf::new(bit_of(entry.number()))
+        SetOf::of_word(bit_of(entry.number()))
     }
 
     /// Every entry.
     pub fn all() -> SetOf<T>
         ensures { result ≡ 2 ^ T.COUNT - 1 }
     {
-        SetOf::new(SetOf::<T>::beyond() - 1)
+        SetOf::of_word(SetOf::<T>::beyond() - 1)
     }
 
     /// The set of a word, `None` exactly where a bit beyond the last entry is set.
@@ -90,7 +91,7 @@ impl<T: Numbered> SetOf<T> {
         ensures { result ≡ set_of_word T.COUNT w }
     {
         if w < SetOf::<T>::beyond() {
-            Some(SetOf::new(w))
+            Some(SetOf::of_word(w))
         } else {
             None
         }
@@ -144,7 +145,7 @@ impl<T: Numbered> SetOf<T> {
     pub fn union(self, other: SetOf<T>) -> SetOf<T>
         ensures { result ≡ union_word self other }
     {
-        SetOf::new(self.word | other.word)
+        SetOf::of_word(self.word | other.word)
     }
 
     /// The entries of both sets.
@@ -152,7 +153,7 @@ impl<T: Numbered> SetOf<T> {
     pub fn intersection(self, other: SetOf<T>) -> SetOf<T>
         ensures { result ≡ common_word self other }
     {
-        SetOf::new(self.word & other.word)
+        SetOf::of_word(self.word & other.word)
     }
 
     /// The entries of this set that the other has not.
@@ -160,7 +161,7 @@ impl<T: Numbered> SetOf<T> {
     pub fn minus(self, other: SetOf<T>) -> SetOf<T>
         ensures { result ≡ minus_word self other }
     {
-        SetOf::new(self.word & !other.word)
+        SetOf::of_word(self.word & !other.word)
     }
 
     /// The entry of least number, `None` exactly where the set is empty.

@@ -252,6 +252,10 @@ impl Numbered for Sig {
 
     ghost number_of = { signal_number };
 
+    ghost of_number = { signal_of_number };
+
+    ghost of_name = { signal_of_name };
+
     #[tactic(auto, using(crate::proofs::NumberedLemmas::tables_counted))]
     fn entries<'a>() -> &'a [Sig] {
         &Sig::ALL
@@ -259,6 +263,15 @@ impl Numbered for Sig {
 
     fn number(self) -> u64 {
         Sig::number(self)
+    }
+
+    #[tactic(auto, unfolding(crate::specs::Signals::signal_of_number))]
+    fn from_number(n: u64) -> Option<Sig> {
+        Sig::from_number(n)
+    }
+
+    fn from_name(name: &[u8]) -> Option<Sig> {
+        Sig::from_name(name)
     }
 
     ghost fits = { lit≤ tt };

@@ -255,6 +255,10 @@ impl Numbered for Sysno {
 
     ghost number_of = { syscall_number };
 
+    ghost of_number = { syscall_of_number };
+
+    ghost of_name = { syscall_of_name };
+
     #[tactic(auto, using(crate::proofs::NumberedLemmas::tables_counted))]
     fn entries<'a>() -> &'a [Sysno] {
         &Sysno::ALL
@@ -262,6 +266,15 @@ impl Numbered for Sysno {
 
     fn number(self) -> u64 {
         Sysno::number(self)
+    }
+
+    #[tactic(auto, unfolding(crate::specs::Syscalls::syscall_of_number))]
+    fn from_number(n: u64) -> Option<Sysno> {
+        Sysno::from_number(n)
+    }
+
+    fn from_name(name: &[u8]) -> Option<Sysno> {
+        Sysno::from_name(name)
     }
 
     ghost fits = { lit≤ tt };

@@ -1,9 +1,8 @@
 ghost use Rattle.std.specs.Prelude.{⊤, ◌≡◌, [], ◌∷◌, codes};
 ghost use Rattle.pr_num.specs.Flags.{known_bits-four};
 
-use crate::flags::{FlagBits, KnownFlags};
+use crate::flags::{FlagBits, KnownFlags, flag};
 use bitflags::{Flag, Flags, bitflag_items};
-use std::marker::PhantomData;
 
 /// Any bits of a word, also such as are no watch flag: what `bitflags` works on.
 #[derive(Clone, Copy, Debug, PartialEq, Eq)]
@@ -53,26 +52,14 @@ pub type WatchFlags = KnownFlags<WatchBits>;
 
 impl KnownFlags<WatchBits> {
     /// A read (WA_READ).
-    pub const READ: WatchFlags = KnownFlags {
-        word: WatchBits::READ.0,
-        of: PhantomData,
-    };
+    pub const READ: WatchFlags = flag!(WatchBits::READ);
 
     /// A write (WA_WRITE).
-    pub const WRITE: WatchFlags = KnownFlags {
-        word: WatchBits::WRITE.0,
-        of: PhantomData,
-    };
+    pub const WRITE: WatchFlags = flag!(WatchBits::WRITE);
 
     /// An instruction that is fetched (WA_EXEC).
-    pub const EXEC: WatchFlags = KnownFlags {
-        word: WatchBits::EXEC.0,
-        of: PhantomData,
-    };
+    pub const EXEC: WatchFlags = flag!(WatchBits::EXEC);
 
     /// The stop comes after the access and not before it (WA_TRAPAFTER).
-    pub const TRAPAFTER: WatchFlags = KnownFlags {
-        word: WatchBits::TRAPAFTER.0,
-        of: PhantomData,
-    };
+    pub const TRAPAFTER: WatchFlags = flag!(WatchBits::TRAPAFTER);
 }

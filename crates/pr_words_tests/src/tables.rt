@@ -1,5 +1,5 @@
 use pr_num::{
-    ArgKind, ById, Bytes, DefAct, Errno, Flt, FltSet, Handles, Keyed, Modes, Name, NoMemory, Prot,
+    ArgKind, ById, Bytes, DefAct, Errno, Flt, FltSet, Handles, Modes, Name, NoMemory, Prot,
     Sig, SigSet, StopReason, SysSet, Sysno, Table, WatchFlags,
 };
 use std::alloc::Global;
@@ -122,7 +122,11 @@ fn things_stand_by_rising_ids(rt: HostRuntime) -> Result<(), Fail> {
     assert!(rt; things.place_after(Some(3)) == 1 && things.place_after(Some(5)) == things.len());
     assert!(rt; things.get_u64(4).copied() == Some(40) && things.get_u64((1 << 32) + 4).is_none());
     assert!(rt; things.contains(4));
-    *things.get_mut(4) = 41;
+    *things.get_mut(4) = 40;
+    if let Some(thing) = things.find_mut(4) {
+        *thing = 41;
+    }
+    assert!(rt; things.find_mut(6).is_none());
     assert!(rt; things.contains(3));
     assert!(rt; things.remove(3) == 30);
     assert!(rt; things.as_slice() == [(4, 41), (5, 50)].as_slice());
@@ -131,67 +135,16 @@ fn things_stand_by_rising_ids(rt: HostRuntime) -> Result<(), Fail> {
     Ok(())
 }
 
-#[derive(Drop)]
-struct Count {
-    number: u32,
-    so_far: u64,
-}
-
-impl Keyed for Count {
-    ghost key = { λ count. count.number };
-
-    fn id(&self) -> u32 {
-        self.number
+#[test]
+fn a_table_grows_at_its_end(rt: HostRuntime) -> Result<(), Fail> {
+    let mut table = Table::new(rt.alloc());
+    assert!(rt; table.is_empty());
+    for number in [3u32, 5, 4] {
+        table.push(number)?;
     }
-}
-
-fn total(table: &Table<Count>) -> u64 {
-    table.iter().fold(0, |sum, count| sum ^ count.so_far)
-}
-
-/// A table of the counts 3, 5 and 4, in this order.
-fn counts(alloc: Global) -> Result<Table<Count>, NoMemory> {
-    let mut table = Table::new(alloc);
-    for number in [3, 5, 4] {
-        table.push(Count { number, so_far: 0 })?;
-    }
-    Ok(table)
-}
-
-#[test]
-fn a_table_finds_its_ids(rt: HostRuntime) -> Result<(), Fail> {
-    assert!(rt; Table::<Count>::new(rt.alloc()).is_empty());
-    let table = counts(rt.alloc())?;
     assert!(rt; table.len() == 3);
-    assert!(rt; table.place_of(5) == Some(1));
-    assert!(rt; table.place_of(6).is_none());
-    assert!(rt; table.contains(4) && !table.contains(6));
-    Ok(())
-}
-
-#[test]
-fn entries_are_changed_by_id_and_by_place(rt: HostRuntime) -> Result<(), Fail> {
-    let mut table = counts(rt.alloc())?;
-    assert!(rt; table.contains(4));
-    table.get_mut(4).so_far = 9;
-    assert!(rt; table.len() == 3);
-    table.at_mut(1).so_far = 6;
-    assert!(rt; table.get(4).map(|count| count.so_far) == Some(9));
-    assert!(rt; table.len() == 3);
-    assert!(rt; table.at(0).number == 3);
-    assert!(rt; total(&table) == 15);
-    Ok(())
-}
-
-#[test]
-fn entries_are_removed(rt: HostRuntime) -> Result<(), Fail> {
-    let mut table = counts(rt.alloc())?;
-    assert!(rt; table.len() == 3);
-    assert!(rt; table.remove(1).number == 5);
-    assert!(rt; table.place_of(4) == Some(1));
-    table.truncate(1);
-    assert!(rt; table.as_slice().len() == 1);
-    assert!(rt; table.get(4).is_none());
+    assert!(rt; *table.at(1) == 5);
+    assert!(rt; table.iter().max() == Some(&5));
     Ok(())
 }
 

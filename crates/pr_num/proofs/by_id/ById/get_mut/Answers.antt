@@ -1,27 +1,16 @@
-use Rattle.std.proofs.Common.{◌<◌, ◌≡◌, ◌∙◌, Some, refl, length}
-use Rattle.std.proofs.lemmas.Option.{slice_get_read}
-use Rattle.pr_num.specs.ById.{id_at}
-use Rattle.pr_num.proofs.ByIdLemmas.{under-id_at, set-id_at, rises_from-put_under}
+use Rattle.std.proofs.Common.{◌≡◌, ◌∙◌, Some, refl}
+use Rattle.pr_num.specs.ById.{id_at, IsRising}
+use Rattle.pr_num.proofs.ByIdLemmas.{put_at-id_at, under-thing_at}
 use Rattle.pr_num.proofs.by_id.ById.get_mut.Goals as goal
-
-pub invariant_of-self-lent : goal.invariant_of-self-lent
-invariant_of-self-lent g c =
-    let es = c.self.inside.items.items in
-    let at : id_at c.unwrap-place.result es ≡ Some c.args.id = rw (← c.deref.ensures.value) (rw c.unwrap-place.ensures at c.place_of.ensures.some) in
-    let within : c.unwrap-place.result < length es = rw (← c.deref.ensures.value) (rw c.unwrap-place.ensures at c.place_of.ensures.within) in
-    let here = slice_get_read es _ _ _ (refl {a = length es}) within c.index_mut.ensures.value in
-    λ w. rw (set-id_at es _ c.args.id _ w c.self.invariant at here) (rises_from-put_under 0 c.args.id w es ∙ c.self.invariant)
 
 pub returns : goal.returns
 returns g c =
-    let es = c.self.inside.items.items in
-    let at : id_at c.unwrap-place.result es ≡ Some c.args.id = rw (← c.deref.ensures.value) (rw c.unwrap-place.ensures at c.place_of.ensures.some) in
-    let within : c.unwrap-place.result < length es = rw (← c.deref.ensures.value) (rw c.unwrap-place.ensures at c.place_of.ensures.within) in
-    let here = slice_get_read es _ _ _ (refl {a = length es}) within c.index_mut.ensures.value in
-    rw (← c.self.view_is) (
-      (refl, λ w. set-id_at es _ c.args.id _ w c.self.invariant at here),
+    let es = c.args.self.now in
+    let at : id_at c.unwrap-place.result es ≡ Some c.args.id = rw (← c.self.view_is, ← c.deref.ensures.value) (rw c.unwrap-place.ensures at c.place_of.ensures.some) in
+    let rises : IsRising es = rw (← c.self.view_is) c.self.invariant in (
+      (refl, λ w. put_at-id_at 0 es _ c.args.id w rises at),
       record {
         writes_back = tt;
-        value = under-id_at es _ c.args.id _ c.self.invariant at here;
+        value = under-thing_at 0 es _ c.args.id rises at ∙ c.at_mut.ensures.value;
       },
     )
