@@ -1,7 +1,6 @@
-# Prints each file of crates/*/specs that the index of docs/DEFINITIONS.md does not name, as `crate File`, each file that
-# it names and that is not there, and each name of its first tables that no file of its row defines. The tables of `##`
-# headings have names in the second column and their files, `crate File`, in the third; below `### crate` the first
-# column names a file of that crate. Read docs/DEFINITIONS.md first, and then the files.
+# Prints each name of the first tables of docs/DEFINITIONS.md that no file of its row defines. The tables have names in
+# the second column and their files, `crate File`, in the third; the index of files that ends the page has no names. Read
+# docs/DEFINITIONS.md first, and then the files.
 
 FNR == 1 {
   document = FILENAME ~ /DEFINITIONS\.md$/
@@ -9,13 +8,11 @@ FNR == 1 {
   sub(/^crates\//, "", file)
   sub(/\/specs\//, " ", file)
   sub(/\.antt$/, "", file)
-  if (!document && file !~ / Lib$/) there[file] = 1
 }
 
-document && /^### / { crate = $2; next }
-document && /^## / { crate = ""; next }
+document && /^## / { is_index = /^## Every file/ }
 
-document && /^\| / && crate == "" {
+document && /^\| / && !is_index {
   if (split($0, column, " \\| ") < 4 || column[1] == "| Definition") next
   names = split(column[2], part, "`")
   files = split(column[3], of, ", ")
@@ -24,14 +21,6 @@ document && /^\| / && crate == "" {
     name[row] = part[n]
     for (f = 1; f <= files; f++) candidates[row] = candidates[row] "," of[f]
   }
-  next
-}
-
-document && /^\| / {
-  split($0, column, " \\| ")
-  sub(/^\| /, "", column[1])
-  if (column[1] != "File") named[crate " " column[1]] = 1
-  next
 }
 
 document { next }
@@ -48,8 +37,6 @@ line ~ /^(abbrev |unfoldable )?pub / && line !~ /^(abbrev |unfoldable )?pub (mod
 line ~ /^[a-z_]+ :/ { sub(/ .*/, "", line); defined[file, line] = 1 }
 
 END {
-  for (f in there) if (!(f in named)) print f ": no row"
-  for (f in named) if (!(f in there)) print f ": no such file"
   for (row = 1; row <= rows; row++) {
     found = 0
     files = split(substr(candidates[row], 2), of, ",")
