@@ -1,0 +1,4 @@
+pub mod KeepsLemmas
+pub mod MessageLemmas
+pub mod CallLemmas
+pub mod RowLemmas
