@@ -2,3 +2,4 @@ pub mod KeepsLemmas
 pub mod MessageLemmas
 pub mod CallLemmas
 pub mod RowLemmas
+pub mod UsageLemmas
