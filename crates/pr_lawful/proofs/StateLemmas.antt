@@ -19,6 +19,7 @@ use Rattle.pr_num.specs.declared.errnos.Errno.TheVariants.{Inval, Noent, Busy}
 use Rattle.pr_num.specs.declared.messages.Message.{Message}
 use Rattle.pr_num.specs.declared.signals.Sig.TheVariants.{Kill}
 use Rattle.pr_parts.specs.FileTables.{count_at, users_at}
+use Rattle.pr_keeps.proofs.CallLemmas.{close-edit}
 use Rattle.pr_keeps.specs.MessageEdits.{MessageEdit, nothing, a_process, an_end, a_signal}
 use Rattle.pr_model.specs.FirstState.{system_process}
 use Rattle.pr_model.specs.Handles.{is_writable, is_writer, has_writer, fits_file, has_file, conflicts, open_refusal, with_opened, released_lwp, released_control, released, with_last_close, after_last_close, was_last_writer, with_closed}
@@ -37,7 +38,7 @@ use Rattle.pr_lawful.proofs.HandleLemmas.{all-fixed, alone-before, alone-then, e
 use Rattle.pr_lawful.proofs.InfoLemmas.{no-infos}
 use Rattle.pr_lawful.proofs.ProgramLemmas.{program-leaves}
 use Rattle.pr_lawful.proofs.LocalLemmas.{KeepsLwp, same_sets, Keeps, mapped_lwps}
-use Rattle.pr_lawful.proofs.MadeLemmas.{Grows, closed-grows, either-grows, ended-grows, generated-grows, handles-on, process-grows, same-grows, settled-grows}
+use Rattle.pr_lawful.proofs.MadeLemmas.{Grows, closed-grows, edit-grows, ended-grows, generated-grows, handles-on, process-grows, same-grows, settled-grows}
 use Rattle.pr_lawful.proofs.MessageLemmas.{edit-lawful}
 use Rattle.pr_lawful.proofs.ReleasedLemmas.{buried-released, ended-released, generated-released, modeless-released, process-released, settled-released, writer-released, zombie-released}
 use Rattle.pr_lawful.proofs.SystemLemmas.{joined, kept}
@@ -74,12 +75,6 @@ same-state s t system opens h = record {
 }
 
 -- ---- a message
-
-edit-grows : (s : TracedSystem) (pid : ℕ) (p : TracedProcess) (m : Message) (tail : List ℕ) (t : TracedSystem) → MessageEdit s pid p m tail t → Grows s t
-edit-grows s pid p m tail t nothing = same-grows s
-edit-grows s pid p m tail t (a_process f edits) = process-grows s pid f
-edit-grows s pid p m tail t an_end = ended-grows s pid p (signal_number Kill)
-edit-grows s pid p m tail t (a_signal target g is) = generated-grows s pid target g by_controller
 
 -- nothing is asked of a process that a controller has open for writing
 edit-released : (opens : Places) (s : TracedSystem) (pid : ℕ) (p : TracedProcess) (m : Message) (tail : List ℕ) (t : TracedSystem) → has_writer pid opens ≡ true → All (IsReleased opens) s.processes → MessageEdit s pid p m tail t → All (IsReleased opens) t.processes
@@ -247,7 +242,7 @@ closed-state s number h lawful there = record {
   fitting = fitting-freed s.opens number h there lawful.fitting;
   handles =
       All-set (IsOfMade (cond (was_last_writer h (slice_set s.opens number None)) (after_last_close h.pid (live_process s.system h.pid) s.system) s.system).made) s.opens number None tt
-      (handles-on s.opens s.system (cond (was_last_writer h (slice_set s.opens number None)) (after_last_close h.pid (live_process s.system h.pid) s.system) s.system) (either-grows (was_last_writer h (slice_set s.opens number None)) s.system (after_last_close h.pid (live_process s.system h.pid) s.system) s.system (closed-grows s.system h.pid (live_process s.system h.pid)) (same-grows s.system)) lawful.handles);
+      (handles-on s.opens s.system (with_closed h number s).system (closed-grows s.system h.pid (with_closed h number s).system (close-edit s number h)) lawful.handles);
   exclusive = exclusive-left s.opens number h there lawful.exclusive;
   released =
       choice (λ (t : TracedSystem). All (IsReleased (slice_set s.opens number None)) t.processes) (was_last_writer h (slice_set s.opens number None)) _ _
