@@ -1,15 +1,13 @@
-use Rattle.std.proofs.Common.{◌≡◌, ◌⊎◌, ℕ, Bool, true, false, List, Option, Some, None, cond, refl, sym, ◌∙◌, ap, inl, inr}
+use Rattle.std.proofs.Common.{◌≡◌, ℕ, Bool, true, false, List, Option, Some, None, refl, inl, inr}
 use Rattle.pr_num.specs.declared.signals.Sig.{Sig}
 use Rattle.pr_num.specs.declared.syscalls.Sysno.{Sysno}
 use Rattle.pr_parts.specs.declared.actions.Action.{Action}
 use Rattle.pr_parts.specs.declared.actions.Action.TheVariants as act
-use Rattle.pr_model.specs.InstructionEffects.{instruction_effect}
-use Rattle.pr_model.specs.LwpTurns.{LwpTurn, settled, turn_of}
 use Rattle.pr_model.specs.Registers.{arguments}
-use Rattle.pr_model.specs.Rows.{Row, requested_row, posted_row, caught_row, acted_row, call_row, row_in, taken_or, signal_row_or, current_row_or, posted_row_or, row_for}
+use Rattle.pr_model.specs.Rows.{Row, caught_row, acted_row, call_row, row_in, taken_or, signal_row_or, current_row_or, posted_row_or, row_for}
 use Rattle.pr_model.specs.Signals.{action_for, own_takeable, shared_takeable}
 use Rattle.pr_model.specs.State.{TracedLwp, TracedProcess, TracedSystem}
-use Rattle.pr_model.specs.UntracedMachine.{is_caught, is_caught_by}
+use Rattle.pr_model.specs.UntracedMachine.{is_caught}
 use Rattle.pr_model.specs.declared.lwps.Current.{Current}
 use Rattle.pr_model.specs.declared.lwps.Phase.{Phase}
 use Rattle.pr_model.specs.declared.lwps.Phase.TheVariants.{User, Entered, Asleep, Exiting, Faulted}
@@ -23,7 +21,8 @@ module _ (s : TracedSystem) (pid : ℕ) (p : TracedProcess) (id : ℕ) (l : Trac
   abbrev Kind : Row → Type 0
   Kind r = RowKind s pid p id l r
 
-  caught-kind : (c : Current) (handler : ℕ) (ph : Phase) → l.current ≡ Some c → action_for p.dispositions c.signal ≡ act.Catch handler → l.phase ≡ ph → Kind (caught_row l c handler ph)
+  caught-kind : (c : Current) (handler : ℕ) (ph : Phase) → l.current ≡ Some c
+      → action_for p.dispositions c.signal ≡ act.Catch handler → l.phase ≡ ph → Kind (caught_row l c handler ph)
   unfolding caught_row
   caught-kind c handler ph now is at = by ph at
     where
@@ -47,25 +46,40 @@ module _ (s : TracedSystem) (pid : ℕ) (p : TracedProcess) (id : ℕ) (l : Trac
       by act.Die is = rw is (row.dies now is)
       by (act.Catch handler) is = rw is (caught-kind c handler l.phase now is refl)
 
-  current-kind : (o : Option Current) (rest : Row) → l.current ≡ o → (l.current ≡ None → Kind rest) → Kind (current_row_or s pid p id l o rest)
+  current-kind : (o : Option Current) (rest : Row) → l.current ≡ o → (l.current ≡ None → Kind rest)
+      → Kind (current_row_or s pid p id l o rest)
   current-kind (Some c) rest is other = acted-kind c is
   current-kind None rest is other = other is
 
-  taken-kind : (own shared : Option Sig) (rest : Row) → l.current ≡ None → own_takeable l ≡ own → shared_takeable p l ≡ shared → Kind rest → Kind (taken_or s pid p id l own shared rest)
+  taken-kind : (own shared : Option Sig) (rest : Row) → l.current ≡ None → own_takeable l ≡ own
+      → shared_takeable p l ≡ shared → Kind rest → Kind (taken_or s pid p id l own shared rest)
   taken-kind (Some g) shared rest none is also other = row.takes_own none is
   taken-kind None (Some g) rest none is also other = row.takes_shared none is also
   taken-kind None None rest none is also other = other
 
-  call-kind : (woken : Bool) (call : Sysno) (args : List ℕ) (since : ℕ) → IsInCall s l woken call args since → l.current ≡ None → Kind (call_row s pid p id l woken call args since)
+  call-kind : (woken : Bool) (call : Sysno) (args : List ℕ) (since : ℕ) → IsInCall s l woken call args since
+      → l.current ≡ None → Kind (call_row s pid p id l woken call args since)
   unfolding call_row
-  call-kind woken call args since it none = choice Kind l.control.abort _ _ (λ aborted. row.interrupts it (inl aborted)) (λ goes_on. row.performs it goes_on none)
+  call-kind woken call args since it none =
+      choice Kind l.control.abort _ _ (λ aborted. row.interrupts it (inl aborted))
+      (λ goes_on. row.performs it goes_on none)
 
-  phase-kind : (ph : Phase) → l.phase ≡ ph → Kind (posted_row_or s pid p id l ph (current_row_or s pid p id l l.current (signal_row_or s pid p id l ph (row_in s pid p id l ph))))
+  phase-kind : (ph : Phase) → l.phase ≡ ph
+      → Kind (posted_row_or s pid p id l ph
+      (current_row_or s pid p id l l.current (signal_row_or s pid p id l ph (row_in s pid p id l ph))))
   unfolding signal_row_or row_in
-  phase-kind User at = current-kind l.current _ refl (λ none. taken-kind (own_takeable l) (shared_takeable p l) _ none refl refl (row.executes at none))
-  phase-kind (Entered call) at = current-kind l.current _ refl (λ none. call-kind false call (arguments l.regs) s.clock (row.at_it at) none)
-  phase-kind (Asleep call args since) at = current-kind l.current _ refl (λ none. taken-kind (own_takeable l) (shared_takeable p l) _ none refl refl (call-kind true call args since (row.asleep_in_it at) none))
-  phase-kind (Exiting call args result) at = current-kind l.current _ refl (λ none. taken-kind (own_takeable l) (shared_takeable p l) _ none refl refl (row.returns at none))
+  phase-kind User at =
+      current-kind l.current _ refl
+      (λ none. taken-kind (own_takeable l) (shared_takeable p l) _ none refl refl (row.executes at none))
+  phase-kind (Entered call) at =
+      current-kind l.current _ refl (λ none. call-kind false call (arguments l.regs) s.clock (row.at_it at) none)
+  phase-kind (Asleep call args since) at =
+      current-kind l.current _ refl
+      (λ none. taken-kind (own_takeable l) (shared_takeable p l) _ none refl refl
+      (call-kind true call args since (row.asleep_in_it at) none))
+  phase-kind (Exiting call args result) at =
+      current-kind l.current _ refl
+      (λ none. taken-kind (own_takeable l) (shared_takeable p l) _ none refl refl (row.returns at none))
   phase-kind (Faulted f address) at = row.posts at
 
   pub row-kind : Kind (row_for s pid p id l)

@@ -1,4 +1,4 @@
-use Rattle.std.specs.Prelude.{◌≡◌, ◌≢◌, ◌<◌, ◌+◌, ℕ, Bool, true, false, List, Some, None, Result, Ok, is_none}
+use Rattle.std.specs.Prelude.{◌≡◌, ◌≢◌, ◌<◌, ◌+◌, ℕ, Bool, true, false, List, Some, None, Ok, is_none}
 use Rattle.std.specs.List.{position}
 use Rattle.pr_num.specs.Control.{has_flags, rlc_mode, klc_mode}
 use Rattle.pr_num.specs.Infos.{killed_by}
@@ -35,14 +35,17 @@ use Rattle.pr_keeps.specs.MessageEdits.{MessageEdit}
 -- What the close of a handle makes of the system: nothing; its process ends as by SIGKILL; or it is released.
 pub data CloseEdit (s : TracedSystem) (pid : ℕ) : TracedSystem → Type 0 where
   nothing : CloseEdit s pid s
-  kills : (p : TracedProcess) → live_process s pid ≡ Some p → has_flags p.control.modes klc_mode ≡ true → CloseEdit s pid (with_this_ended traced pid p (signal_number sig.Kill) s)
-  releases : (p : TracedProcess) → live_process s pid ≡ Some p → has_flags p.control.modes klc_mode ≡ false → has_flags p.control.modes rlc_mode ≡ true → CloseEdit s pid (with_process pid released s)
+  kills : (p : TracedProcess) → live_process s pid ≡ Some p → has_flags p.control.modes klc_mode ≡ true
+      → CloseEdit s pid (with_this_ended traced pid p (signal_number sig.Kill) s)
+  releases : (p : TracedProcess) → live_process s pid ≡ Some p → has_flags p.control.modes klc_mode ≡ false
+      → has_flags p.control.modes rlc_mode ≡ true → CloseEdit s pid (with_process pid released s)
 
 -- ---- a control message that is taken
 
 -- A controller writes bytes that begin with a message, by a handle of a control file of a live process which is not the
 -- system process.
-pub record IsMessageTo (s : TracedState) (by handle : ℕ) (bytes : List ℕ) (held : Held) (p : TracedProcess) (m : Message) : Type 0 where
+pub record IsMessageTo (s : TracedState) (by handle : ℕ) (bytes : List ℕ) (held : Held) (p : TracedProcess)
+    (m : Message) : Type 0 where
   pub handle_is : handle_of s.opens by handle ≡ Some held
   pub controls : is_control held.file ≡ true
   pub target : target_of s.system held ≡ Some p
@@ -57,15 +60,22 @@ pub record IsMessageTo (s : TracedState) (by handle : ℕ) (bytes : List ℕ) (h
 pub data CallEdit (s : TracedState) (by : ℕ) : Call → TracedState → Type 0 where
   -- it answers, and nothing changes
   looks : {c : Call} → CallEdit s by c s
-  opens : {pid id place : ℕ} {file : File} {mode : Mode} → position is_none s.opens ≡ Some place → open_refusal s pid id file mode ≡ None
-      → CallEdit s by (Open pid id file mode) (with_opened (record { controller = by; pid = pid; lwp = id; file = file; mode = mode }) place s)
-  closes : {handle : ℕ} {held : Held} → handle_of s.opens by handle ≡ Some held → CallEdit s by (Close handle) (with_closed held handle s)
-  controls : {handle : ℕ} {bytes : List ℕ} {held : Held} {p : TracedProcess} {m : Message} {t : TracedSystem} → IsMessageTo s by handle bytes held p m
-      → MessageEdit s.system held.pid p m (tail_of m bytes) t → CallEdit s by (Ctl handle bytes) (record s { system = t })
+  opens : {pid id place : ℕ} {file : File} {mode : Mode} → position is_none s.opens ≡ Some place
+      → open_refusal s pid id file mode ≡ None
+      → CallEdit s by (Open pid id file mode)
+          (with_opened (record { controller = by; pid = pid; lwp = id; file = file; mode = mode }) place s)
+  closes : {handle : ℕ} {held : Held} → handle_of s.opens by handle ≡ Some held
+      → CallEdit s by (Close handle) (with_closed held handle s)
+  controls : {handle : ℕ} {bytes : List ℕ} {held : Held} {p : TracedProcess} {m : Message} {t : TracedSystem}
+      → IsMessageTo s by handle bytes held p m
+      → MessageEdit s.system held.pid p m (tail_of m bytes) t → CallEdit s by (Ctl handle bytes)
+          (record s { system = t })
   -- a wait shows that the controller was interrupted
   sees_interrupt : {c : Call} → CallEdit s by c (with_interrupt_seen by s)
-  interrupts : {other : ℕ} → other < controller_limit → CallEdit s by (Interrupt other) (record s { interrupted = with_number s.interrupted (other + 1) })
-  spawns : {name : List ℕ} {held : Bool} {program : Program} → program_named s.system.programs name ≡ Some program → spawn_refusal s.system program ≡ None
+  interrupts : {other : ℕ} → other < controller_limit
+      → CallEdit s by (Interrupt other) (record s { interrupted = with_number s.interrupted (other + 1) })
+  spawns : {name : List ℕ} {held : Bool} {program : Program} → program_named s.system.programs name ≡ Some program
+      → spawn_refusal s.system program ≡ None
       → CallEdit s by (Spawn name held) (record s { system = with_spawned traced program held s.system })
   sends : {pid number : ℕ} {g : Sig} → sending pid number (life_of s.system pid) ≡ sends_it g
       → CallEdit s by (Kill pid number) (record s { system = generated traced pid None g (killed_by 0) s.system })

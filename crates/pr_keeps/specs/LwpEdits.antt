@@ -1,4 +1,4 @@
-use Rattle.std.specs.Prelude.{◌≡◌, ℕ, Bool, true, false, List, Option, Some, None, is_none}
+use Rattle.std.specs.Prelude.{◌≡◌, ℕ, Bool, true, false, List, Some, None, is_none}
 use Rattle.pr_num.specs.Control.{has_flags, clear_signal, clear_fault, single_step, abort_call}
 use Rattle.pr_num.specs.Infos.{by_controller}
 use Rattle.pr_num.specs.Signals.{signal_of_number}
@@ -40,14 +40,18 @@ pub data LwpEdit : Message → TracedLwp → TracedLwp → Type 0 where
   undirects : {flags : ℕ} {l : TracedLwp} → LwpEdit (Run flags) l (without_directive l)
   -- it runs: its stop is over; its stop counts as requested from now on; its requested stop is over
   lets_go : {flags : ℕ} {l : TracedLwp} → LwpEdit (Run flags) l (let_go l)
-  requests : {flags : ℕ} {l : TracedLwp} → has_event_stop l ≡ true → LwpEdit (Run flags) l (record l { control = record l.control { stop = Some Requested } })
-  ends_request : {flags : ℕ} {l : TracedLwp} → was_requested l.control.stop ≡ true → LwpEdit (Run flags) l (record l { control = record l.control { stop = None } })
+  requests : {flags : ℕ} {l : TracedLwp} → has_event_stop l ≡ true
+      → LwpEdit (Run flags) l (record l { control = record l.control { stop = Some Requested } })
+  ends_request : {flags : ℕ} {l : TracedLwp} → was_requested l.control.stop ≡ true
+      → LwpEdit (Run flags) l (record l { control = record l.control { stop = None } })
   -- marks of PCRUN
   steps : {flags : ℕ} {l : TracedLwp} → has_flags flags single_step ≡ true → LwpEdit (Run flags) l (with_step l)
   aborts : {flags : ℕ} {l : TracedLwp} → has_flags flags abort_call ≡ true → LwpEdit (Run flags) l (with_abort l)
   -- its signals
-  signal_is : {number : ℕ} {g : Sig} {l : TracedLwp} → signal_of_number number ≡ Some g → LwpEdit (Ssig number) l (record l { current = Some (record { signal = g; info = by_controller }) })
-  takes_back : {number : ℕ} {g : Sig} {l : TracedLwp} → signal_of_number number ≡ Some g → LwpEdit (Unkill number) l (lwp_without_one g l)
+  signal_is : {number : ℕ} {g : Sig} {l : TracedLwp} → signal_of_number number ≡ Some g
+      → LwpEdit (Ssig number) l (record l { current = Some (record { signal = g; info = by_controller }) })
+  takes_back : {number : ℕ} {g : Sig} {l : TracedLwp} → signal_of_number number ≡ Some g
+      → LwpEdit (Unkill number) l (lwp_without_one g l)
   holds : {signals : ℕ} {l : TracedLwp} → LwpEdit (Shold signals) l (with_held_set signals l)
   -- its registers
   registers_are : {regs : List ℕ} {l : TracedLwp} → LwpEdit (Sreg regs) l (with_registers regs l)

@@ -1,4 +1,4 @@
-use Rattle.std.specs.Prelude.{◌≡◌, ◌⊎◌, ℕ, Bool, true, false, List, Option, Some, None}
+use Rattle.std.specs.Prelude.{◌≡◌, ◌⊎◌, ℕ, Bool, true, false, List, Some, None}
 use Rattle.pr_num.specs.declared.faults.Flt.{Flt}
 use Rattle.pr_num.specs.declared.signals.Sig.{Sig}
 use Rattle.pr_num.specs.declared.syscalls.Sysno.{Sysno}
@@ -23,25 +23,36 @@ use Rattle.pr_model.specs.declared.lwps.Phase.TheVariants.{User, Entered, Asleep
 -- an lwp is at a call that it has not made, or asleep in one: with these arguments, since this moment
 pub data IsInCall (s : TracedSystem) (l : TracedLwp) : Bool → Sysno → List ℕ → ℕ → Type 0 where
   at_it : {call : Sysno} → l.phase ≡ Entered call → IsInCall s l false call (arguments l.regs) s.clock
-  asleep_in_it : {call : Sysno} {args : List ℕ} {since : ℕ} → l.phase ≡ Asleep call args since → IsInCall s l true call args since
+  asleep_in_it : {call : Sysno} {args : List ℕ} {since : ℕ} → l.phase ≡ Asleep call args since
+      → IsInCall s l true call args since
 
 pub data RowKind (s : TracedSystem) (pid : ℕ) (p : TracedProcess) (id : ℕ) (l : TracedLwp) : Row → Type 0 where
   -- it stops as directed; the signal of its fault is posted
   stops : l.control.directed ≡ true → RowKind s pid p id l requested_row
   posts : {f : Flt} {address : ℕ} → l.phase ≡ Faulted f address → RowKind s pid p id l (posted_row f address)
   -- its current signal is acted on
-  ignores : {c : Current} → l.current ≡ Some c → action_for p.dispositions c.signal ≡ act.Ignore → RowKind s pid p id l (quiet_row (Acted c.signal Ignored) dropped)
-  stops_job : {c : Current} → l.current ≡ Some c → action_for p.dispositions c.signal ≡ act.Stop → RowKind s pid p id l (quiet_row (Acted c.signal JobStop) (job_stopped c.signal))
-  dies : {c : Current} → l.current ≡ Some c → action_for p.dispositions c.signal ≡ act.Die → RowKind s pid p id l (quiet_row (Acted c.signal Died) (died c.signal))
-  catches : {c : Current} {handler : ℕ} → l.current ≡ Some c → action_for p.dispositions c.signal ≡ act.Catch handler → RowKind s pid p id l (handler_row l c handler)
+  ignores : {c : Current} → l.current ≡ Some c → action_for p.dispositions c.signal ≡ act.Ignore
+      → RowKind s pid p id l (quiet_row (Acted c.signal Ignored) dropped)
+  stops_job : {c : Current} → l.current ≡ Some c → action_for p.dispositions c.signal ≡ act.Stop
+      → RowKind s pid p id l (quiet_row (Acted c.signal JobStop) (job_stopped c.signal))
+  dies : {c : Current} → l.current ≡ Some c → action_for p.dispositions c.signal ≡ act.Die
+      → RowKind s pid p id l (quiet_row (Acted c.signal Died) (died c.signal))
+  catches : {c : Current} {handler : ℕ} → l.current ≡ Some c → action_for p.dispositions c.signal ≡ act.Catch handler
+      → RowKind s pid p id l (handler_row l c handler)
   -- a signal is taken
   takes_own : {g : Sig} → l.current ≡ None → own_takeable l ≡ Some g → RowKind s pid p id l (own_taken_row l g)
-  takes_shared : {g : Sig} → l.current ≡ None → own_takeable l ≡ None → shared_takeable p l ≡ Some g → RowKind s pid p id l (shared_taken_row p g)
-  -- its call ends with EINTR, since it was aborted or a signal is caught; its call does what it does; it leaves its call
+  takes_shared : {g : Sig} → l.current ≡ None → own_takeable l ≡ None → shared_takeable p l ≡ Some g
+      → RowKind s pid p id l (shared_taken_row p g)
+  -- its call ends with EINTR, since it was aborted or a signal is caught; its call does what it does; it leaves its
+  -- call
   interrupts : {woken : Bool} {call : Sysno} {args : List ℕ} {since : ℕ} → IsInCall s l woken call args since
-      → (l.control.abort ≡ true) ⊎ (is_caught p.dispositions l.current ≡ true) → RowKind s pid p id l (interrupted_row woken call args)
+      → (l.control.abort ≡ true) ⊎ (is_caught p.dispositions l.current ≡ true) → RowKind s pid p id l
+          (interrupted_row woken call args)
   performs : {woken : Bool} {call : Sysno} {args : List ℕ} {since : ℕ} → IsInCall s l woken call args since
-      → l.control.abort ≡ false → l.current ≡ None → RowKind s pid p id l (performed_row woken call args since (call_effect s pid p id l since call args))
-  returns : {call : Sysno} {args : List ℕ} {result : Res} → l.phase ≡ Exiting call args result → l.current ≡ None → RowKind s pid p id l (returned_row p l call)
+      → l.control.abort ≡ false → l.current ≡ None → RowKind s pid p id l
+          (performed_row woken call args since (call_effect s pid p id l since call args))
+  returns : {call : Sysno} {args : List ℕ} {result : Res} → l.phase ≡ Exiting call args result → l.current ≡ None
+      → RowKind s pid p id l (returned_row p l call)
   -- it carries out an instruction
-  executes : l.phase ≡ User → l.current ≡ None → RowKind s pid p id l (executed_row p l (instruction_effect p.space p.control.areas l.regs))
+  executes : l.phase ≡ User → l.current ≡ None
+      → RowKind s pid p id l (executed_row p l (instruction_effect p.space p.control.areas l.regs))

@@ -1,4 +1,4 @@
-use Rattle.std.proofs.Common.{◌≡◌, ℕ, ◌<◌, ◌≤◌, Bool, true, false, leb, cond, Option, Some, None, refl, sym, arith}
+use Rattle.std.proofs.Common.{◌≡◌, ℕ, ◌<◌, ◌≤◌, Bool, true, false, leb, cond, Some, None, refl, sym, arith}
 use Rattle.std.proofs.lemmas.Bool.{leb-true, leb-false}
 use Rattle.std.proofs.lemmas.List.Elements.{All-weaker}
 use Rattle.std.proofs.lemmas.Option.{none-some}
@@ -44,7 +44,8 @@ module _ (s : TracedState) (h : IsLawful s) where
       by false true room has ok = (leb-false process_limit s.system.made room, has)
       by false false room big wrong = absurd (none-some Nomem (sym wrong))
 
-  spawned-state : (program : Program) (held : Bool) → IsLawfulProgram program → spawn_refusal s.system program ≡ None → IsLawful (record s { system = with_spawned traced program held s.system })
+  spawned-state : (program : Program) (held : Bool) → IsLawfulProgram program → spawn_refusal s.system program ≡ None
+      → IsLawful (record s { system = with_spawned traced program held s.system })
   unfolding total_has_room
   spawned-state program held within is =
       let room = spawn-room program is in
@@ -61,19 +62,25 @@ module _ (s : TracedState) (h : IsLawful s) where
   edited-state : (by : ℕ) (c : Call) (t : TracedState) → CallEdit s by c t → IsLawful t
   edited-state by c t edit.looks = h
   edited-state by c t (edit.opens {place = place} free grants) = opened-state s place _ h free grants
-  edited-state by c t (edit.closes {handle = handle} {held = held} at) = closed-state s handle held h (handle-at s.opens by handle held at)
+  edited-state by c t (edit.closes {handle = handle} {held = held} at) =
+      closed-state s handle held h (handle-at s.opens by handle held at)
   edited-state by c t (edit.controls {handle = handle} {bytes = bytes} {held = held} {p = p} {m = m} {t = u} it e) =
       let at = found-live s.system held.pid p it.live in
-      let written = handle-writer s.opens handle held h.fitting (handle-at s.opens by handle held it.handle_is) it.controls in
+      let written =
+          handle-writer s.opens handle held h.fitting (handle-at s.opens by handle held it.handle_is) it.controls in
       edit-state s held.pid p m (tail_of m bytes) u h it.user at.0 at.1 written e
   edited-state by c t edit.sees_interrupt = same-state s t refl refl h
   edited-state by c t (edit.interrupts there) = same-state s t refl refl h
   edited-state by c t (edit.spawns {name = name} {held = held} {program = program} named grants) =
       spawned-state program held (named-lawful name s.system.programs program h.system.programs named) grants
   edited-state by c t (edit.sends {pid = pid} {number = number} {g = g} is) = record {
-    system = generated-lawful s.system pid None g (killed_by 0) (record { code = omega arith; pid = omega arith }) h.system (sent-user pid number (life_of s.system pid) g is);
+    system =
+        generated-lawful s.system pid None g (killed_by 0) (record { code = omega arith; pid = omega arith }) h.system
+        (sent-user pid number (life_of s.system pid) g is);
     fitting = h.fitting;
-    handles = handles-on s.opens s.system (generated traced pid None g (killed_by 0) s.system) (generated-grows s.system pid None g (killed_by 0)) h.handles;
+    handles =
+        handles-on s.opens s.system (generated traced pid None g (killed_by 0) s.system)
+        (generated-grows s.system pid None g (killed_by 0)) h.handles;
     exclusive = h.exclusive;
     released = generated-released s.opens s.system pid None g (killed_by 0) h.released;
   }

@@ -1,4 +1,4 @@
-use Rattle.std.proofs.Common.{◌&&◌, ℕ, ◌≤◌, Bool, true, false, eqb, Option, Some, None, List, [], ◌∷◌, length, cond, arith}
+use Rattle.std.proofs.Common.{◌&&◌, ℕ, ◌≤◌, Bool, true, false, eqb, Option, Some, None, List, ◌∷◌, length, cond, arith, []}
 use Rattle.std.specs.List.{All}
 use Rattle.std.proofs.lemmas.List.Elements.{All-weaker}
 use Rattle.pr_num.specs.Programs.{Program}
@@ -14,8 +14,7 @@ use Rattle.pr_num.specs.Infos.{by_controller}
 use Rattle.pr_num.specs.declared.messages.Message.{Message}
 use Rattle.pr_model.specs.Changes.{Change, files_are, space_is, signals, signals_itself, takes_shared, job_stops, disposition_is, held_is, resumes, forks, reaps, becomes, makes_lwp, suspends, Ending, ends_process, ends_lwp, changed, all_changed, ended}
 use Rattle.pr_model.specs.Generation.{told}
-use Rattle.pr_num.specs.Control.{has_flags, klc_mode, rlc_mode}
-use Rattle.pr_model.specs.Handles.{after_last_close, released, with_last_close}
+use Rattle.pr_model.specs.Handles.{released}
 use Rattle.pr_model.specs.Lawful.{IsOfMade}
 use Rattle.pr_model.specs.Lives.{with_made, with_parent_told, without_lwp, with_reaped, with_spawned, with_child, with_this_ended, ended_if_live, with_ended, with_lwp_ended}
 use Rattle.pr_model.specs.LwpTurns.{settled}
@@ -69,7 +68,8 @@ lwp_ended-grows s pid p id = either-grows (eqb (length p.lwps) 1) s _ _ (ended-g
 
 -- ---- messages and closes
 
-pub edit-grows : (s : TracedSystem) (pid : ℕ) (p : TracedProcess) (m : Message) (tail : List ℕ) (t : TracedSystem) → MessageEdit s pid p m tail t → Grows s t
+pub edit-grows : (s : TracedSystem) (pid : ℕ) (p : TracedProcess) (m : Message) (tail : List ℕ) (t : TracedSystem)
+    → MessageEdit s pid p m tail t → Grows s t
 edit-grows s pid p m tail t message.nothing = same-grows s
 edit-grows s pid p m tail t (message.a_process f edits) = process-grows s pid f
 edit-grows s pid p m tail t message.an_end = ended-grows s pid p (signal_number Kill)

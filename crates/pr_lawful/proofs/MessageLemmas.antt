@@ -1,4 +1,4 @@
-use Rattle.std.proofs.Common.{◌≡◌, ◌≢◌, ◌&&◌, ℕ, ◌<◌, false, Option, Some, None, List, length, refl, sym, ◌∙◌, arith, inr, lit≤}
+use Rattle.std.proofs.Common.{◌≡◌, ◌≢◌, ℕ, ◌<◌, false, Some, None, List, length, refl, sym, ◌∙◌, arith, inr, lit≤}
 use Rattle.std.proofs.lemmas.List.Elements.{All-nil}
 use Rattle.std.proofs.lemmas.Option.{none-some}
 use Rattle.pr_num.proofs.BoolLemmas.{and_false}
@@ -22,7 +22,7 @@ use Rattle.pr_keeps.specs.ProcessEdits as process
 use Rattle.pr_keeps.specs.ProcessEdits.{ControlEdit, ProcessEdit, ProcessEdits}
 use Rattle.pr_keeps.proofs.KeepsLemmas.{lwp-edits-keep, process-edits-keep}
 use Rattle.pr_model.specs.Changes.{with_space}
-use Rattle.pr_model.specs.Lawful.{IsLawfulFrame, IsLawfulLwp, IsLawfulProcess, IsLawfulSystem}
+use Rattle.pr_model.specs.Lawful.{IsLawfulFrame, IsLawfulLwp, IsLawfulSystem}
 use Rattle.pr_model.specs.Lives.{new_lwp}
 use Rattle.pr_model.specs.Messages.{lwp_without_one, with_held_set, with_registers, with_address, tracing_signals, tracing_faults, tracing_entries, tracing_exits, with_modes, without_modes, with_areas, agent_lwp, with_agent}
 use Rattle.pr_model.specs.Running.{without_current, without_fault, with_step, with_abort, with_directive, without_directive, let_go}
@@ -44,19 +44,42 @@ controller-info = record { code = omega arith; pid = omega arith }
 
 module _ (next id : ℕ) where
   -- what makes an lwp lawful is left
-  alike : (l k : TracedLwp) → k.held ≡ l.held → k.frames ≡ l.frames → k.pending ≡ l.pending → k.current ≡ l.current → IsLawfulLwp next (id, l) → IsLawfulLwp next (id, k)
-  alike l k held frames pending current h = record { id = h.id; held = rw held h.held; frames = rw frames h.frames; pending = rw pending h.pending; current = rw current h.current }
+  alike : (l k : TracedLwp) → k.held ≡ l.held → k.frames ≡ l.frames → k.pending ≡ l.pending → k.current ≡ l.current
+      → IsLawfulLwp next (id, l) → IsLawfulLwp next (id, k)
+  alike l k held frames pending current h = record {
+    id = h.id;
+    held = rw held h.held;
+    frames = rw frames h.frames;
+    pending = rw pending h.pending;
+    current = rw current h.current;
+  }
 
   edited-lwp : (m : Message) (l k : TracedLwp) → LwpEdit m l k → IsLawfulLwp next (id, l) → IsLawfulLwp next (id, k)
-  unfolding without_current without_fault with_directive without_directive let_go with_step with_abort lwp_without_one with_held_set with_registers with_address
-  edited-lwp m l k (lwp.drops_signal is) h = record { id = h.id; held = h.held; frames = h.frames; pending = h.pending; current = tt }
-  edited-lwp m l k (lwp.signal_is is) h = record { id = h.id; held = h.held; frames = h.frames; pending = h.pending; current = controller-info }
-  edited-lwp m l k (lwp.takes_back {g = g} is) h = record { id = h.id; held = h.held; frames = h.frames; pending = taken-infos g l.pending h.pending; current = h.current }
-  edited-lwp m l k (lwp.holds {signals = signals}) h = record { id = h.id; held = holdable-holdable signals; frames = h.frames; pending = h.pending; current = h.current }
+  unfolding without_current without_fault with_directive without_directive let_go with_step with_abort lwp_without_one
+      with_held_set with_registers with_address
+  edited-lwp m l k (lwp.drops_signal is) h =
+      record { id = h.id; held = h.held; frames = h.frames; pending = h.pending; current = tt }
+  edited-lwp m l k (lwp.signal_is is) h =
+      record { id = h.id; held = h.held; frames = h.frames; pending = h.pending; current = controller-info }
+  edited-lwp m l k (lwp.takes_back {g = g} is) h = record {
+    id = h.id;
+    held = h.held;
+    frames = h.frames;
+    pending = taken-infos g l.pending h.pending;
+    current = h.current;
+  }
+  edited-lwp m l k (lwp.holds {signals = signals}) h = record {
+    id = h.id;
+    held = holdable-holdable signals;
+    frames = h.frames;
+    pending = h.pending;
+    current = h.current;
+  }
   edited-lwp m l k _ h = alike l k refl refl refl refl h
 
 edits-keep : (m : Message) (f : TracedLwp → TracedLwp) → ((l : TracedLwp) → LwpEdits m l (f l)) → KeepsLwp f
-edits-keep m f edits next id l h = lwp-edits-keep m (λ k. IsLawfulLwp next (id, k)) (edited-lwp next id m) l (f l) (edits l) h
+edits-keep m f edits next id l h =
+    lwp-edits-keep m (λ k. IsLawfulLwp next (id, k)) (edited-lwp next id m) l (f l) (edits l) h
 
 -- ---- what is set on a process
 
@@ -65,14 +88,18 @@ signals-traced : (signals : ℕ) (c : TracedControl) → has_number (tracing_sig
 unfolding tracing_signals signal_number
 signals-traced signals c = has_number-without signals 9 9 (lit≤ tt) (lit≤ tt) (lit≤ tt) (lit≤ tt) ∙ and_false (has_number signals 9)
 
-edited-control : (m : Message) (c d : TracedControl) → ControlEdit m c d → has_number c.traced_signals (signal_number Kill) ≡ false → has_number d.traced_signals (signal_number Kill) ≡ false
+edited-control : (m : Message) (c d : TracedControl) → ControlEdit m c d
+    → has_number c.traced_signals (signal_number Kill) ≡ false
+    → has_number d.traced_signals (signal_number Kill) ≡ false
 unfolding tracing_faults tracing_entries tracing_exits with_modes without_modes with_areas
 edited-control m c d (process.signals {set = signals}) untraced = signals-traced signals c
 edited-control m c d _ untraced = untraced
 
 -- ---- processes
 
-control-kept : (pid : ℕ) (x : TracedProcess) (c : TracedControl) → (has_number x.control.traced_signals (signal_number Kill) ≡ false → has_number c.traced_signals (signal_number Kill) ≡ false) → IsKept pid x (record x { control = c })
+control-kept : (pid : ℕ) (x : TracedProcess) (c : TracedControl)
+    → (has_number x.control.traced_signals (signal_number Kill) ≡ false
+    → has_number c.traced_signals (signal_number Kill) ≡ false) → IsKept pid x (record x { control = c })
 control-kept pid x c traced_too = record {
   lawful = λ it. record {
     has_lwps = record { some = it.has_lwps.some };
@@ -152,18 +179,27 @@ module _ (pid : ℕ) (p : TracedProcess) (live : p.ended ≡ None) where
   edited-process m tail y (process.one_lwp id f edits) = keeps-lwp id f (edits-keep m f edits) pid p
   edited-process m tail y (process.each_lwp f edits) = keeps-each f (edits-keep m f edits) pid p
   edited-process m tail y (process.control_is {c = c} e) = control-kept pid p c (edited-control m p.control c e)
-  edited-process m tail y (process.takes_back {g = g} is) = kept-parts pid p (record p { pending = without_one g p.pending }) refl (same_rest p _ refl refl refl refl (taken-infos g p.pending)) (same_lwps p _ refl refl) refl refl
+  edited-process m tail y (process.takes_back {g = g} is) =
+      kept-parts pid p (record p { pending = without_one g p.pending }) refl
+      (same_rest p _ refl refl refl refl (taken-infos g p.pending)) (same_lwps p _ refl refl) refl refl
   edited-process m tail y (process.gets_agent {regs = regs} none room) = agent-kept regs none room
   edited-process m tail y (process.is_written {at = at} mapped) = written-kept at tail
 
-edits-kept : (pid : ℕ) (p : TracedProcess) → p.ended ≡ None → (m : Message) (tail : List ℕ) (y : TracedProcess) → ProcessEdits m tail p y → IsKept pid p y
+edits-kept : (pid : ℕ) (p : TracedProcess) → p.ended ≡ None → (m : Message) (tail : List ℕ) (y : TracedProcess)
+    → ProcessEdits m tail p y → IsKept pid p y
 edits-kept pid p live m tail y edits =
-    process-edits-keep m tail (λ x. IsKept pid p x) (λ x z e kept. kept-next pid p x z kept (edited-process pid x (kept.ended ∙ live) m tail z e)) p y edits (kept-same pid p)
+    process-edits-keep m tail (λ x. IsKept pid p x)
+        (λ x z e kept. kept-next pid p x z kept (edited-process pid x (kept.ended ∙ live) m tail z e)) p y edits
+        (kept-same pid p)
 
 -- ---- the system
 
-pub edit-lawful : (s : TracedSystem) (pid : ℕ) (p : TracedProcess) (m : Message) (tail : List ℕ) (t : TracedSystem) → IsLawfulSystem s → pid ≢ 0 → process_of s pid ≡ Some p → p.ended ≡ None → MessageEdit s pid p m tail t → IsLawfulSystem t
+pub edit-lawful : (s : TracedSystem) (pid : ℕ) (p : TracedProcess) (m : Message) (tail : List ℕ) (t : TracedSystem)
+    → IsLawfulSystem s → pid ≢ 0 → process_of s pid ≡ Some p → p.ended ≡ None → MessageEdit s pid p m tail t
+    → IsLawfulSystem t
 edit-lawful s pid p m tail t h user found live nothing = h
-edit-lawful s pid p m tail t h user found live (a_process f edits) = replaced s s.files pid f p h user found (kept-replaces s pid p (f p) h (edits-kept pid p live m tail (f p) edits))
+edit-lawful s pid p m tail t h user found live (a_process f edits) =
+    replaced s s.files pid f p h user found (kept-replaces s pid p (f p) h (edits-kept pid p live m tail (f p) edits))
 edit-lawful s pid p m tail t h user found live an_end = ended-lawful s pid p (signal_number Kill) h user found
-edit-lawful s pid p m tail t h user found live (a_signal target g is) = generated-lawful s pid target g by_controller controller-info h user
+edit-lawful s pid p m tail t h user found live (a_signal target g is) =
+    generated-lawful s pid target g by_controller controller-info h user

@@ -1,4 +1,4 @@
-use Rattle.std.proofs.Common.{◌≡◌, ◌≢◌, ◌&&◌, ℕ, ◌+◌, ◌<◌, ◌≤◌, Bool, true, false, not, is_none, eqb, cond, Option, Some, None, List, [], ◌∷◌, refl, sym, subst, ◌∙◌, ap, arith, inl, inr}
+use Rattle.std.proofs.Common.{◌≡◌, ◌≢◌, ◌&&◌, ℕ, ◌+◌, ◌<◌, ◌≤◌, Bool, true, false, not, is_none, eqb, cond, Option, Some, None, List, ◌∷◌, refl, sym, subst, ◌∙◌, ap, arith, inl, inr, []}
 use Rattle.std.specs.List.{All, position, slice_get, slice_set}
 use Rattle.std.specs.Option.{option_and_then}
 use Rattle.std.proofs.lemmas.Bool.{cases_eq, false≢true, ne_eqb}
@@ -38,7 +38,7 @@ use Rattle.pr_lawful.proofs.HandleLemmas.{all-fixed, alone-before, alone-then, e
 use Rattle.pr_lawful.proofs.InfoLemmas.{no-infos}
 use Rattle.pr_lawful.proofs.ProgramLemmas.{program-leaves}
 use Rattle.pr_lawful.proofs.LocalLemmas.{KeepsLwp, same_sets, Keeps, mapped_lwps}
-use Rattle.pr_lawful.proofs.MadeLemmas.{Grows, closed-grows, edit-grows, ended-grows, generated-grows, handles-on, process-grows, same-grows, settled-grows}
+use Rattle.pr_lawful.proofs.MadeLemmas.{Grows, closed-grows, edit-grows, handles-on, settled-grows}
 use Rattle.pr_lawful.proofs.MessageLemmas.{edit-lawful}
 use Rattle.pr_lawful.proofs.ReleasedLemmas.{buried-released, ended-released, generated-released, modeless-released, process-released, settled-released, writer-released, zombie-released}
 use Rattle.pr_lawful.proofs.SystemLemmas.{joined, kept}
@@ -77,13 +77,19 @@ same-state s t system opens h = record {
 -- ---- a message
 
 -- nothing is asked of a process that a controller has open for writing
-edit-released : (opens : Places) (s : TracedSystem) (pid : ℕ) (p : TracedProcess) (m : Message) (tail : List ℕ) (t : TracedSystem) → has_writer pid opens ≡ true → All (IsReleased opens) s.processes → MessageEdit s pid p m tail t → All (IsReleased opens) t.processes
+edit-released : (opens : Places) (s : TracedSystem) (pid : ℕ) (p : TracedProcess) (m : Message) (tail : List ℕ)
+    (t : TracedSystem) → has_writer pid opens ≡ true → All (IsReleased opens) s.processes → MessageEdit s pid p m tail t
+    → All (IsReleased opens) t.processes
 edit-released opens s pid p m tail t written all nothing = all
-edit-released opens s pid p m tail t written all (a_process f edits) = process-released opens s pid f (λ x at it. writer-released opens pid (f x) written) all
+edit-released opens s pid p m tail t written all (a_process f edits) =
+    process-released opens s pid f (λ x at it. writer-released opens pid (f x) written) all
 edit-released opens s pid p m tail t written all an_end = ended-released opens s pid p (signal_number Kill) all
-edit-released opens s pid p m tail t written all (a_signal target g is) = generated-released opens s pid target g by_controller all
+edit-released opens s pid p m tail t written all (a_signal target g is) =
+    generated-released opens s pid target g by_controller all
 
-pub edit-state : (s : TracedState) (pid : ℕ) (p : TracedProcess) (m : Message) (tail : List ℕ) (t : TracedSystem) → IsLawful s → pid ≢ 0 → process_of s.system pid ≡ Some p → p.ended ≡ None → has_writer pid s.opens ≡ true → MessageEdit s.system pid p m tail t → IsLawful (record s { system = t })
+pub edit-state : (s : TracedState) (pid : ℕ) (p : TracedProcess) (m : Message) (tail : List ℕ) (t : TracedSystem)
+    → IsLawful s → pid ≢ 0 → process_of s.system pid ≡ Some p → p.ended ≡ None → has_writer pid s.opens ≡ true
+    → MessageEdit s.system pid p m tail t → IsLawful (record s { system = t })
 edit-state s pid p m tail t h user found live written e = record {
   system = edit-lawful s.system pid p m tail t h.system user found live e;
   fitting = h.fitting;
@@ -242,7 +248,8 @@ closed-state s number h lawful there = record {
   fitting = fitting-freed s.opens number h there lawful.fitting;
   handles =
       All-set (IsOfMade (cond (was_last_writer h (slice_set s.opens number None)) (after_last_close h.pid (live_process s.system h.pid) s.system) s.system).made) s.opens number None tt
-      (handles-on s.opens s.system (with_closed h number s).system (closed-grows s.system h.pid (with_closed h number s).system (close-edit s number h)) lawful.handles);
+      (handles-on s.opens s.system (with_closed h number s).system
+          (closed-grows s.system h.pid (with_closed h number s).system (close-edit s number h)) lawful.handles);
   exclusive = exclusive-left s.opens number h there lawful.exclusive;
   released =
       choice (λ (t : TracedSystem). All (IsReleased (slice_set s.opens number None)) t.processes) (was_last_writer h (slice_set s.opens number None)) _ _

@@ -1,4 +1,4 @@
-use Rattle.std.proofs.Common.{◌≡◌, ◌≢◌, ◌&&◌, ℕ, Bool, true, false, eqb, ltb, leb, length, Option, Some, None, List, [], ◌∷◌, cond, refl, sym, subst, ◌∙◌, ap}
+use Rattle.std.proofs.Common.{◌≡◌, ◌≢◌, ◌&&◌, ℕ, Bool, true, false, eqb, ltb, leb, length, Option, Some, None, List, ◌∷◌, refl, sym, subst, ◌∙◌, ap, []}
 use Rattle.std.proofs.lemmas.Bool.{and_parts, eqb-false, false≢true, leb-true}
 use Rattle.std.proofs.lemmas.List.Elements.{All-nil, All-cons, All-append}
 use Rattle.std.proofs.lemmas.Option.{same_Some, none-some}
@@ -11,7 +11,6 @@ use Rattle.pr_num.specs.declared.signals.Sig.{Sig}
 use Rattle.pr_num.specs.declared.signals.Sig.TheVariants.{Kill, Stop, Segv}
 use Rattle.pr_num.specs.declared.syscalls.Sysno.{Sysno}
 use Rattle.pr_parts.specs.SignalRules.{action_of}
-use Rattle.pr_parts.specs.declared.actions.Action.{Action}
 use Rattle.pr_parts.specs.declared.actions.Action.TheVariants as act
 use Rattle.pr_keeps.specs.RowKinds as kind
 use Rattle.pr_keeps.specs.RowKinds.{RowKind}
@@ -24,18 +23,16 @@ use Rattle.pr_model.specs.InstructionEffects as instruction
 use Rattle.pr_model.specs.InstructionEffects.{InstructionEffect, Store, instruction_effect}
 use Rattle.pr_model.specs.Lawful.{IsHoldable, IsLawfulFrame, AreUncaught, IsLawfulSystem}
 use Rattle.pr_model.specs.Lives.{bare_process}
-use Rattle.pr_model.specs.LwpTurns.{LwpTurn, may_turn, settled, turn_of_lwp, turn_of_process, turn_of}
+use Rattle.pr_model.specs.LwpTurns.{LwpTurn, settled, turn_of}
 use Rattle.pr_model.specs.Moves.{Move, posts, returns, runs, enters, incurs, traps, leaves, sleeps, takes, drops, catches}
-use Rattle.pr_model.specs.Registers.{arguments, pc_of}
-use Rattle.pr_model.specs.Rows.{Row, requested_row, posted_row, returned_row, ran_row, entered_row, incurred_row, watched_row, executed_row, own_taken_row, shared_taken_row, handler_row, caught_row, interrupted_row, acted_row, performed_row, call_row, row_in, taken_or, signal_row_or, current_row_or, posted_row_or, row_for}
+use Rattle.pr_model.specs.Registers.{pc_of}
+use Rattle.pr_model.specs.Rows.{Row, requested_row, posted_row, returned_row, ran_row, entered_row, incurred_row, watched_row, executed_row, own_taken_row, shared_taken_row, handler_row, interrupted_row, performed_row, row_for}
 use Rattle.pr_model.specs.SignalCalls.{can_be_caught}
-use Rattle.pr_model.specs.Signals.{action_for, current_of, with_frame, handler_registers, handler_held, own_takeable, shared_takeable}
+use Rattle.pr_model.specs.Signals.{action_for, current_of, with_frame, handler_registers, handler_held}
 use Rattle.pr_model.specs.State.{TracedLwp, TracedProcess, TracedSystem, live_process, lwp_of, process_of}
 use Rattle.pr_model.specs.Transitions.{Transition, moving, changing, ending, stored_in, requested, posted, returned, ran, entered, incurred, trapped, own_taken, shared_taken, handled, dropped, job_stopped, died, interrupted, performed}
 use Rattle.pr_model.specs.declared.events.Res.TheVariants.{Error}
 use Rattle.pr_model.specs.declared.lwps.Current.{Current}
-use Rattle.pr_model.specs.declared.lwps.Phase.{Phase}
-use Rattle.pr_model.specs.declared.lwps.Phase.TheVariants.{User, Entered, Asleep, Exiting, Faulted}
 use Rattle.pr_lawful.proofs.EffectLemmas.{IsActing, own-process, own-lwp, Suits, call-suits, stored-suits}
 use Rattle.pr_lawful.proofs.EndLemmas.{found-live}
 use Rattle.pr_lawful.proofs.FileLemmas.{choice}
@@ -137,20 +134,26 @@ module _ (s : TracedSystem) (pid : ℕ) (p : TracedProcess) (id : ℕ) (l : Trac
       choice (λ (row : Row). SuitsT row.transition) l.control.step _ _ (λ marked. trap-suits Trace (pc_of l.regs) l.regs None) (λ plain. move-suits returns tt refl)
 
   kind-suits : (row : Row) → RowKind s pid p id l row → SuitsRow row
-  unfolding SuitsRow requested_row requested posted_row posted dropped job_stopped died handler_row own_taken_row shared_taken_row own_taken shared_taken interrupted_row interrupted
-  kind-suits row (kind.stops now) = record { changes = tt; move = tt; alone = λ how is. absurd (none-some how is); stop = λ is. (now, refl) }
+  unfolding SuitsRow requested_row requested posted_row posted dropped job_stopped died handler_row own_taken_row
+      shared_taken_row own_taken shared_taken interrupted_row interrupted
+  kind-suits row (kind.stops now) =
+      record { changes = tt; move = tt; alone = λ how is. absurd (none-some how is); stop = λ is. (now, refl) }
   kind-suits row (kind.posts {f = f} {address = address} at) = move-suits (posts f address) tt refl
   kind-suits row (kind.ignores now is) = move-suits drops tt refl
   kind-suits row (kind.stops_job {c = c} now is) = change-suits (job_stops c.signal ∷ []) drops (tt, tt) tt refl
   kind-suits row (kind.dies {c = c} now is) = end-suits (ends_process (signal_number c.signal))
   kind-suits row (kind.catches {c = c} {handler = handler} now is) =
       handled-suits c handler (caught-can p.dispositions c.signal handler (own-process s pid p id l a).uncaught is)
-  kind-suits row (kind.takes_own {g = g} none is) = move-suits (takes (current_of g l.pending) true) (current-info g l.pending (own-lwp s pid p id l a).pending) refl
+  kind-suits row (kind.takes_own {g = g} none is) =
+      move-suits (takes (current_of g l.pending) true) (current-info g l.pending (own-lwp s pid p id l a).pending) refl
   kind-suits row (kind.takes_shared {g = g} none own is) =
-      change-suits (takes_shared g ∷ []) (takes (current_of g p.pending) false) (tt, tt) (current-info g p.pending (own-process s pid p id l a).pending) refl
-  kind-suits row (kind.interrupts {call = call} {args = args} it why) = move-suits (leaves call args (Error Intr)) tt refl
+      change-suits (takes_shared g ∷ []) (takes (current_of g p.pending) false) (tt, tt)
+          (current-info g p.pending (own-process s pid p id l a).pending) refl
+  kind-suits row (kind.interrupts {call = call} {args = args} it why) =
+      move-suits (leaves call args (Error Intr)) tt refl
   kind-suits row (kind.performs {woken = woken} {call = call} {args = args} {since = since} it goes none) =
-      performed-suits woken call args since (call_effect s pid p id l since call args) (call-suits s pid p id l a since call args)
+      performed-suits woken call args since (call_effect s pid p id l since call args)
+          (call-suits s pid p id l a since call args)
   kind-suits row (kind.returns {call = call} at none) = returned-suits call
   kind-suits row (kind.executes at none) = executed-suits (instruction_effect p.space p.control.areas l.regs)
 

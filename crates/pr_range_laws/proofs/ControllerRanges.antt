@@ -71,18 +71,23 @@ read-message bytes m len all read =
 
 -- ---- the calls
 
-edited-range : (s : TracedState) (by : ℕ) (c : Call) (t : TracedState) → CallEdit s by c t → IsOfBytes c → IsInRange s.system → IsInRange t.system
+edited-range : (s : TracedState) (by : ℕ) (c : Call) (t : TracedState) → CallEdit s by c t → IsOfBytes c
+    → IsInRange s.system → IsInRange t.system
 unfolding with_opened
 edited-range s by c t edit.looks all h = h
 edited-range s by c t (edit.opens free grants) all h = h
-edited-range s by c t (edit.closes {handle = handle} {held = held} at) all h = closed-range s.system held.pid (with_closed held handle s).system (close-edit s handle held) h
+edited-range s by c t (edit.closes {handle = handle} {held = held} at) all h =
+    closed-range s.system held.pid (with_closed held handle s).system (close-edit s handle held) h
 edited-range s by c t (edit.controls {bytes = bytes} {held = held} {p = p} {m = m} {t = u} it e) all h =
-    edit-range s.system held.pid p m (tail_of m bytes) u e (found-live s.system held.pid p it.live).0 (read-message bytes m it.length all it.read) h
+    edit-range s.system held.pid p m (tail_of m bytes) u e (found-live s.system held.pid p it.live).0
+        (read-message bytes m it.length all it.read) h
 edited-range s by c t edit.sees_interrupt all h = h
 edited-range s by c t (edit.interrupts there) all h = h
 edited-range s by c t (edit.spawns {name = name} {held = held} {program = program} named grants) all h =
     spawned-range s.system program held (named-range s.system.programs name program h.programs named) h
-edited-range s by c t (edit.sends {pid = pid} {g = g} is) all h = generated-range s.system pid None g (killed_by 0) (omega arith) h
+edited-range s by c t (edit.sends {pid = pid} {g = g} is) all h =
+    generated-range s.system pid None g (killed_by 0) (omega arith) h
 
-pub controller-range : (s : TracedState) (h : IsInRange s.system) (by : ℕ) (c : Call) (a : Answer) → IsOfBytes c → answer_to s by c ≡ Some a → IsInRange a.state.system
+pub controller-range : (s : TracedState) (h : IsInRange s.system) (by : ℕ) (c : Call) (a : Answer) → IsOfBytes c
+    → answer_to s by c ≡ Some a → IsInRange a.state.system
 controller-range s h by c a all is = edited-range s by c a.state (call-edit s by c a is) all h

@@ -1,4 +1,4 @@
-use Rattle.std.proofs.Common.{◌≡◌, ◌||◌, ◌&&◌, ◌+◌, ◌^◌, ◌<◌, ◌≤◌, ℕ, Bool, true, false, cond, eqb, ltb, not, Option, Some, None, List, [], ◌∷◌, length, refl, sym, arith}
+use Rattle.std.proofs.Common.{◌≡◌, ◌||◌, ◌&&◌, ◌+◌, ◌^◌, ◌<◌, ◌≤◌, ℕ, Bool, true, false, cond, eqb, ltb, not, Option, Some, None, List, ◌∷◌, length, refl, sym, arith, []}
 use Rattle.std.specs.List.{All}
 use Rattle.std.proofs.lemmas.Bool.{and_parts, ltb-true}
 use Rattle.std.proofs.lemmas.List.Elements.{All-head, All-tail}
@@ -23,9 +23,8 @@ use Rattle.pr_keeps.specs.LwpEdits as lwp
 use Rattle.pr_keeps.specs.LwpEdits.{LwpEdit, LwpEdits}
 use Rattle.pr_keeps.specs.MessageEdits.{MessageEdit, nothing, a_process, an_end, a_signal}
 use Rattle.pr_keeps.specs.ProcessEdits as process
-use Rattle.pr_keeps.specs.ProcessEdits.{ControlEdit, ProcessEdit, ProcessEdits}
+use Rattle.pr_keeps.specs.ProcessEdits.{ControlEdit, ProcessEdit}
 use Rattle.pr_keeps.proofs.KeepsLemmas.{lwp-edits-keep, process-edits-keep}
-use Rattle.pr_model.specs.Changes.{with_space}
 use Rattle.pr_model.specs.Messages.{lwp_without_one, with_held_set, with_registers, with_address, tracing_signals, tracing_faults, tracing_entries, tracing_exits, with_modes, without_modes, with_areas, agent_lwp, with_agent}
 use Rattle.pr_model.specs.Readers.{space_seen}
 use Rattle.pr_model.specs.Running.{without_current, without_fault, with_step, with_abort, with_directive, without_directive, let_go}
@@ -39,7 +38,7 @@ use Rattle.pr_range_laws.proofs.MemoryRanges.{with_bytes-range}
 use Rattle.pr_range_laws.proofs.PendingRanges.{taken-words}
 use Rattle.pr_range_laws.proofs.ProcessRanges.{KeepsLwp, changed-found, keeps-each, keeps-more, keeps-one, with_marks, with_pending_set}
 use Rattle.pr_range_laws.proofs.RegisterRanges.{registers-set}
-use Rattle.pr_range_laws.specs.InRange.{AreRegisters, IsAreaInRange, IsControlInRange, IsInRange, IsLwpInRange, IsPhaseInRange, IsProcessInRange, IsSignalSet}
+use Rattle.pr_range_laws.specs.InRange.{IsAreaInRange, IsControlInRange, IsInRange, IsLwpInRange, IsPhaseInRange, IsProcessInRange}
 
 -- Each edit of a control message leaves a system in range, where the operands of the message are words within their
 -- columns, and the bytes that it writes are bytes: a line a kind of edit.
@@ -87,36 +86,129 @@ unfaulted-phase l h = by l.phase h
     by (Exiting call args result) it = it
     by (Faulted f address) it = tt
 
-edited-lwp : (m : Message) (tail : List ℕ) (l k : TracedLwp) → LwpEdit m l k → IsReadMessage m tail → IsLwpInRange l → IsLwpInRange k
-unfolding without_current without_fault with_directive without_directive let_go with_step with_abort lwp_without_one with_held_set with_registers with_address operands operand_count bad_operand
-edited-lwp m tail l k (lwp.drops_signal is) it h = record { regs = h.regs; held = h.held; frames = h.frames; pending = h.pending; current = tt; phase = h.phase }
-edited-lwp m tail l k (lwp.drops_fault is) it h = record { regs = h.regs; held = h.held; frames = h.frames; pending = h.pending; current = h.current; phase = unfaulted-phase l h.phase }
-edited-lwp m tail l k (lwp.signal_is is) it h = record { regs = h.regs; held = h.held; frames = h.frames; pending = h.pending; current = omega arith; phase = h.phase }
-edited-lwp m tail l k (lwp.takes_back {g = g} is) it h = with_pending_set l (without_one g l.pending) (taken-words g l.pending h.pending) h
-edited-lwp m tail l k (lwp.holds {signals = signals}) it h = record { regs = h.regs; held = holdable-set signals (below-column signals (2 ^ signal_count) 1 it.columns); frames = h.frames; pending = h.pending; current = h.current; phase = h.phase }
-edited-lwp m tail l k (lwp.registers_are {regs = regs}) it h = record { regs = record { words = it.words; count = it.count }; held = h.held; frames = h.frames; pending = h.pending; current = h.current; phase = h.phase }
-edited-lwp m tail l k (lwp.goes_to {pc = pc}) it h = record { regs = registers-set l.regs 10 pc (All-head IsWord pc [] it.words) h.regs; held = h.held; frames = h.frames; pending = h.pending; current = h.current; phase = h.phase }
+edited-lwp : (m : Message) (tail : List ℕ) (l k : TracedLwp) → LwpEdit m l k → IsReadMessage m tail → IsLwpInRange l
+    → IsLwpInRange k
+unfolding without_current without_fault with_directive without_directive let_go with_step with_abort lwp_without_one
+    with_held_set with_registers with_address operands operand_count bad_operand
+edited-lwp m tail l k (lwp.drops_signal is) it h =
+    record { regs = h.regs; held = h.held; frames = h.frames; pending = h.pending; current = tt; phase = h.phase }
+edited-lwp m tail l k (lwp.drops_fault is) it h = record {
+  regs = h.regs;
+  held = h.held;
+  frames = h.frames;
+  pending = h.pending;
+  current = h.current;
+  phase = unfaulted-phase l h.phase;
+}
+edited-lwp m tail l k (lwp.signal_is is) it h = record {
+  regs = h.regs;
+  held = h.held;
+  frames = h.frames;
+  pending = h.pending;
+  current = omega arith;
+  phase = h.phase;
+}
+edited-lwp m tail l k (lwp.takes_back {g = g} is) it h =
+    with_pending_set l (without_one g l.pending) (taken-words g l.pending h.pending) h
+edited-lwp m tail l k (lwp.holds {signals = signals}) it h = record {
+  regs = h.regs;
+  held = holdable-set signals (below-column signals (2 ^ signal_count) 1 it.columns);
+  frames = h.frames;
+  pending = h.pending;
+  current = h.current;
+  phase = h.phase;
+}
+edited-lwp m tail l k (lwp.registers_are {regs = regs}) it h = record {
+  regs = record { words = it.words; count = it.count };
+  held = h.held;
+  frames = h.frames;
+  pending = h.pending;
+  current = h.current;
+  phase = h.phase;
+}
+edited-lwp m tail l k (lwp.goes_to {pc = pc}) it h = record {
+  regs = registers-set l.regs 10 pc (All-head IsWord pc [] it.words) h.regs;
+  held = h.held;
+  frames = h.frames;
+  pending = h.pending;
+  current = h.current;
+  phase = h.phase;
+}
 edited-lwp m tail l k _ it h = with_marks l k.control h
 
-edits-keep : (m : Message) (tail : List ℕ) (f : TracedLwp → TracedLwp) → IsReadMessage m tail → ((l : TracedLwp) → LwpEdits m l (f l)) → KeepsLwp f
-edits-keep m tail f it edits l h = lwp-edits-keep m IsLwpInRange (λ k j e. edited-lwp m tail k j e it) l (f l) (edits l) h
+edits-keep : (m : Message) (tail : List ℕ) (f : TracedLwp → TracedLwp) → IsReadMessage m tail
+    → ((l : TracedLwp) → LwpEdits m l (f l)) → KeepsLwp f
+edits-keep m tail f it edits l h =
+    lwp-edits-keep m IsLwpInRange (λ k j e. edited-lwp m tail k j e it) l (f l) (edits l) h
 
 -- ---- what is set on a process
 
-areas-keep : (areas : List Area) (c : TracedControl) → All IsAreaInRange areas → length areas ≤ area_limit → IsControlInRange c → IsControlInRange (with_areas areas c)
+areas-keep : (areas : List Area) (c : TracedControl) → All IsAreaInRange areas → length areas ≤ area_limit
+    → IsControlInRange c → IsControlInRange (with_areas areas c)
 unfolding with_areas
-areas-keep areas c all few h = record { signals = h.signals; faults = h.faults; entries = h.entries; exits = h.exits; modes = h.modes; areas = all; few_areas = few }
+areas-keep areas c all few h = record {
+  signals = h.signals;
+  faults = h.faults;
+  entries = h.entries;
+  exits = h.exits;
+  modes = h.modes;
+  areas = all;
+  few_areas = few;
+}
 
-edited-control : (m : Message) (tail : List ℕ) (c d : TracedControl) → ControlEdit m c d → IsReadMessage m tail → IsControlInRange c → IsControlInRange d
-unfolding tracing_signals tracing_faults tracing_entries tracing_exits with_modes without_modes without_area with_area operands bad_operand
+edited-control : (m : Message) (tail : List ℕ) (c d : TracedControl) → ControlEdit m c d → IsReadMessage m tail
+    → IsControlInRange c → IsControlInRange d
+unfolding tracing_signals tracing_faults tracing_entries tracing_exits with_modes without_modes without_area with_area
+    operands bad_operand
 edited-control m tail c d (process.signals {set = set}) it h =
     let few = below-column set (2 ^ signal_count) 1 it.columns in
-    record { signals = let less = without_number-le set (signal_number Kill) in omega arith; faults = h.faults; entries = h.entries; exits = h.exits; modes = h.modes; areas = h.areas; few_areas = h.few_areas }
-edited-control m tail c d (process.faults {set = set}) it h = record { signals = h.signals; faults = below-column set (2 ^ fault_count) 1 it.columns; entries = h.entries; exits = h.exits; modes = h.modes; areas = h.areas; few_areas = h.few_areas }
-edited-control m tail c d (process.entries {set = set}) it h = record { signals = h.signals; faults = h.faults; entries = below-column set (2 ^ syscall_count) 1 it.columns; exits = h.exits; modes = h.modes; areas = h.areas; few_areas = h.few_areas }
-edited-control m tail c d (process.exits {set = set}) it h = record { signals = h.signals; faults = h.faults; entries = h.entries; exits = below-column set (2 ^ syscall_count) 1 it.columns; modes = h.modes; areas = h.areas; few_areas = h.few_areas }
-edited-control m tail c d (process.modes {set = set}) it h = record { signals = h.signals; faults = h.faults; entries = h.entries; exits = h.exits; modes = union_word-lt 4 c.modes set h.modes (below-column set 16 1 it.columns); areas = h.areas; few_areas = h.few_areas }
-edited-control m tail c d (process.fewer_modes {set = set}) it h = record { signals = h.signals; faults = h.faults; entries = h.entries; exits = h.exits; modes = let less = minus_word-le c.modes set in let few = h.modes in omega arith; areas = h.areas; few_areas = h.few_areas }
+    record { signals = let less = without_number-le set (signal_number Kill) in omega arith; faults = h.faults;
+        entries = h.entries; exits = h.exits; modes = h.modes; areas = h.areas; few_areas = h.few_areas }
+edited-control m tail c d (process.faults {set = set}) it h = record {
+  signals = h.signals;
+  faults = below-column set (2 ^ fault_count) 1 it.columns;
+  entries = h.entries;
+  exits = h.exits;
+  modes = h.modes;
+  areas = h.areas;
+  few_areas = h.few_areas;
+}
+edited-control m tail c d (process.entries {set = set}) it h = record {
+  signals = h.signals;
+  faults = h.faults;
+  entries = below-column set (2 ^ syscall_count) 1 it.columns;
+  exits = h.exits;
+  modes = h.modes;
+  areas = h.areas;
+  few_areas = h.few_areas;
+}
+edited-control m tail c d (process.exits {set = set}) it h = record {
+  signals = h.signals;
+  faults = h.faults;
+  entries = h.entries;
+  exits = below-column set (2 ^ syscall_count) 1 it.columns;
+  modes = h.modes;
+  areas = h.areas;
+  few_areas = h.few_areas;
+}
+edited-control m tail c d (process.modes {set = set}) it h = record {
+  signals = h.signals;
+  faults = h.faults;
+  entries = h.entries;
+  exits = h.exits;
+  modes = union_word-lt 4 c.modes set h.modes (below-column set 16 1 it.columns);
+  areas = h.areas;
+  few_areas = h.few_areas;
+}
+edited-control m tail c d (process.fewer_modes {set = set}) it h = record {
+  signals = h.signals;
+  faults = h.faults;
+  entries = h.entries;
+  exits = h.exits;
+  modes = let less = minus_word-le c.modes set in let few = h.modes in omega arith;
+  areas = h.areas;
+  few_areas = h.few_areas;
+}
 edited-control m tail c d (process.unwatches {at = at}) it h =
     areas-keep (without_area at c.areas) c (All-without_first IsAreaInRange (begins_at at) c.areas h.areas)
     (let few = h.few_areas in let less = length-without_first (begins_at at) c.areas in omega arith) h
@@ -124,25 +216,45 @@ edited-control m tail c d (process.watches {at = at} {size = size} {flags = flag
     let a : Area = record { at = at; size = size; flags = flags } in
     let is_at = All-head IsWord at (size ∷ flags ∷ []) it.words in
     let is_size = All-head IsWord size (flags ∷ []) (All-tail IsWord at (size ∷ flags ∷ []) it.words) in
-    areas-keep (with_area a c.areas) c (All-placed IsAreaInRange area_address a c.areas (record { at = is_at; size = is_size; flags = area-flags at size flags some it.columns }) h.areas)
+    areas-keep (with_area a c.areas) c
+        (All-placed IsAreaInRange area_address a c.areas
+        (record { at = is_at; size = is_size; flags = area-flags at size flags some it.columns }) h.areas)
     (let more = length-placed area_address a c.areas in omega arith) h
 
 -- ---- processes
 
-edited-process : (m : Message) (tail : List ℕ) (x y : TracedProcess) → ProcessEdit m tail x y → IsReadMessage m tail → IsProcessInRange x → IsProcessInRange y
+edited-process : (m : Message) (tail : List ℕ) (x y : TracedProcess) → ProcessEdit m tail x y → IsReadMessage m tail
+    → IsProcessInRange x → IsProcessInRange y
 unfolding with_agent agent_lwp operands operand_count
 edited-process m tail x y (process.one_lwp id f edits) it h = keeps-one id f (edits-keep m tail f it edits) x h
 edited-process m tail x y (process.each_lwp f edits) it h = keeps-each f (edits-keep m tail f it edits) x h
-edited-process m tail x y (process.control_is {c = c} e) it h = record { program = h.program; made_at = h.made_at; ended = h.ended; space = h.space; dispositions = h.dispositions; pending = h.pending; lwps = h.lwps; control = edited-control m tail x.control c e it h.control }
-edited-process m tail x y (process.takes_back {g = g} is) it h = pending-kept x (without_one g x.pending) (taken-words g x.pending h.pending) h
+edited-process m tail x y (process.control_is {c = c} e) it h = record {
+  program = h.program;
+  made_at = h.made_at;
+  ended = h.ended;
+  space = h.space;
+  dispositions = h.dispositions;
+  pending = h.pending;
+  lwps = h.lwps;
+  control = edited-control m tail x.control c e it h.control;
+}
+edited-process m tail x y (process.takes_back {g = g} is) it h =
+    pending-kept x (without_one g x.pending) (taken-words g x.pending h.pending) h
 edited-process m tail x y (process.gets_agent {regs = regs} none room) it h =
-    keeps-more agent_id (agent_lwp regs) x (new_lwp-range regs _ _ (record { words = it.words; count = it.count }) (holdable-set all_signals (omega arith))) h
-edited-process m tail x y (process.is_written {at = at} mapped) it h = space-keeps (with_bytes at tail (space_seen x)) (with_bytes-range at tail it.tail_bytes x.space h.space) x h
+    keeps-more agent_id (agent_lwp regs) x
+        (new_lwp-range regs _ _ (record { words = it.words; count = it.count })
+        (holdable-set all_signals (omega arith))) h
+edited-process m tail x y (process.is_written {at = at} mapped) it h =
+    space-keeps (with_bytes at tail (space_seen x)) (with_bytes-range at tail it.tail_bytes x.space h.space) x h
 
 -- ---- the system
 
-pub edit-range : (s : TracedSystem) (pid : ℕ) (p : TracedProcess) (m : Message) (tail : List ℕ) (t : TracedSystem) → MessageEdit s pid p m tail t → process_of s pid ≡ Some p → IsReadMessage m tail → IsInRange s → IsInRange t
+pub edit-range : (s : TracedSystem) (pid : ℕ) (p : TracedProcess) (m : Message) (tail : List ℕ) (t : TracedSystem)
+    → MessageEdit s pid p m tail t → process_of s pid ≡ Some p → IsReadMessage m tail → IsInRange s → IsInRange t
 edit-range s pid p m tail t nothing found it h = h
-edit-range s pid p m tail t (a_process f edits) found it h = changed-found s pid p f found (process-edits-keep m tail IsProcessInRange (λ x y e. edited-process m tail x y e it) p (f p) edits) h
+edit-range s pid p m tail t (a_process f edits) found it h =
+    changed-found s pid p f found
+    (process-edits-keep m tail IsProcessInRange (λ x y e. edited-process m tail x y e it) p (f p) edits) h
 edit-range s pid p m tail t an_end found it h = this_ended-range s pid p (signal_number Kill) (signal-word Kill) h
-edit-range s pid p m tail t (a_signal target g is) found it h = generated-range s pid target g by_controller (omega arith) h
+edit-range s pid p m tail t (a_signal target g is) found it h =
+    generated-range s pid target g by_controller (omega arith) h

@@ -93,9 +93,13 @@ pub changed-one : (s : TracedSystem) (pid : ℕ) (f : TracedProcess → TracedPr
 changed-one s pid f keeps h = changed-at s pid f (λ x there it. keeps x it) h
 
 -- the process that stands there is changed
-pub changed-found : (s : TracedSystem) (pid : ℕ) (p : TracedProcess) (f : TracedProcess → TracedProcess) → process_of s pid ≡ Some p → (IsProcessInRange p → IsProcessInRange (f p)) → IsInRange s → IsInRange (with_process pid f s)
+pub changed-found : (s : TracedSystem) (pid : ℕ) (p : TracedProcess) (f : TracedProcess → TracedProcess)
+    → process_of s pid ≡ Some p → (IsProcessInRange p → IsProcessInRange (f p)) → IsInRange s
+    → IsInRange (with_process pid f s)
 unfolding with_process
-changed-found s pid p f found keeps h = with_processes s (change_under pid f s.processes) (all-replaced ProcessInRange pid f p s.processes found keeps h.processes) h
+changed-found s pid p f found keeps h =
+    with_processes s (change_under pid f s.processes)
+    (all-replaced ProcessInRange pid f p s.processes found keeps h.processes) h
 
 -- every process is changed
 pub changed-each : (es : List (ℕ × TracedProcess)) (f : TracedProcess → TracedProcess) → KeepsProcess f → All ProcessInRange es → All ProcessInRange (map_each f es)

@@ -1,4 +1,4 @@
-use Rattle.std.proofs.Common.{◌≡◌, ◌-◌, ℕ, Bool, true, false, eqb, ltb, length, set, Option, Some, None, List, [], ◌∷◌, refl, subst, arith}
+use Rattle.std.proofs.Common.{◌≡◌, ◌-◌, ℕ, Bool, true, false, eqb, ltb, length, set, Option, Some, None, List, ◌∷◌, subst, arith, []}
 use Rattle.std.specs.List.{All}
 use Rattle.std.proofs.lemmas.List.Elements.{All-append, All-cons, All-nil}
 use Rattle.pr_num.proofs.NumberedLemmas.{signal_number-range}
@@ -36,16 +36,16 @@ use Rattle.pr_model.specs.Lawful.{IsLawfulCurrent}
 use Rattle.pr_model.specs.Machines.{call_over, fault_incurred, fault_posted, step_taken, stopped_as_directed, traced}
 use Rattle.pr_model.specs.Moves as move
 use Rattle.pr_model.specs.Moves.{Move, moved}
-use Rattle.pr_model.specs.Registers.{arguments, pc_of}
-use Rattle.pr_model.specs.Rows.{Row, requested_row, posted_row, returned_row, ran_row, entered_row, incurred_row, watched_row, executed_row, own_taken_row, shared_taken_row, handler_row, caught_row, interrupted_row, acted_row, performed_row, call_row, row_in, taken_or, signal_row_or, current_row_or, posted_row_or, row_for}
-use Rattle.pr_model.specs.Signals.{action_for, current_of, disposition_of, handler_held, handler_registers, own_takeable, shared_takeable, with_frame}
+use Rattle.pr_model.specs.Registers.{pc_of}
+use Rattle.pr_model.specs.Rows.{Row, requested_row, posted_row, returned_row, ran_row, entered_row, incurred_row, watched_row, executed_row, own_taken_row, shared_taken_row, handler_row, interrupted_row, performed_row, row_for}
+use Rattle.pr_model.specs.Signals.{action_for, current_of, disposition_of, handler_held, handler_registers, with_frame}
 use Rattle.pr_model.specs.State.{TracedLwp, TracedProcess, TracedSystem}
 use Rattle.pr_model.specs.Transitions.{Transition, changing, died, dropped, ending, entered, handled, incurred, interrupted, job_stopped, moving, own_taken, performed, posted, ran, requested, returned, shared_taken, stored_in, trapped}
 use Rattle.pr_model.specs.declared.events.Res.TheVariants.{Error}
 use Rattle.pr_model.specs.declared.frames.Frame.{Frame}
 use Rattle.pr_model.specs.declared.lwps.Current.{Current}
 use Rattle.pr_model.specs.declared.lwps.Phase.{Phase}
-use Rattle.pr_model.specs.declared.lwps.Phase.TheVariants.{User, Entered, Asleep, Exiting, Faulted}
+use Rattle.pr_model.specs.declared.lwps.Phase.TheVariants.{User, Entered, Asleep, Faulted}
 use Rattle.pr_range_laws.proofs.CallRanges.{IsEffectInRange, acting-lwp, acting-process, call-range}
 use Rattle.pr_range_laws.proofs.ChangeRanges.{IsChangeInRange}
 use Rattle.pr_range_laws.proofs.EndRanges.{IsEndingInRange, signal-word}
@@ -205,16 +205,23 @@ module _ (s : TracedSystem) (pid : ℕ) (p : TracedProcess) (id : ℕ) (l : Trac
 
   -- what comes with the current signal
   its-current : (c : Current) → l.current ≡ Some c → IsTaken c
-  its-current c now = record { info = subst IsLawfulCurrent now (own-lwp s pid p id l a).current; value = subst HasWordCurrent now (acting-lwp s pid p id l a h).current }
+  its-current c now = record {
+    info = subst IsLawfulCurrent now (own-lwp s pid p id l a).current;
+    value = subst HasWordCurrent now (acting-lwp s pid p id l a h).current;
+  }
 
   catcher-range : (c : Current) (handler : ℕ) → action_for p.dispositions c.signal ≡ act.Catch handler → IsWord handler
   unfolding disposition_of
   catcher-range c handler is =
-      subst IsActionInRange is (action-range c.signal _ (word_at p.dispositions (signal_number c.signal - 1) (acting-process s pid p id l a h).dispositions.words))
+      subst IsActionInRange is
+          (action-range c.signal _
+          (word_at p.dispositions (signal_number c.signal - 1) (acting-process s pid p id l a h).dispositions.words))
 
-  in_call-arguments : (woken : Bool) (call : Sysno) (args : List ℕ) (since : ℕ) → IsInCall s l woken call args since → AreArguments args
+  in_call-arguments : (woken : Bool) (call : Sysno) (args : List ℕ) (since : ℕ) → IsInCall s l woken call args since
+      → AreArguments args
   in_call-arguments woken call args since (kind.at_it at) = arguments-words l.regs own-regs
-  in_call-arguments woken call args since (kind.asleep_in_it at) = subst IsPhaseInRange at (acting-lwp s pid p id l a h).phase
+  in_call-arguments woken call args since (kind.asleep_in_it at) =
+      subst IsPhaseInRange at (acting-lwp s pid p id l a h).phase
 
   performed-range : (woken : Bool) (call : Sysno) (args : List ℕ) (since : ℕ) (effect : Effect) → AreArguments args → IsEffectInRange effect → IsRowInRange (performed_row woken call args since effect)
   unfolding performed_row performed
@@ -228,24 +235,32 @@ module _ (s : TracedSystem) (pid : ℕ) (p : TracedProcess) (id : ℕ) (l : Trac
       choice IsRowInRange l.control.step _ _ (λ marked. trap-range Trace (pc_of l.regs) l.regs None (register-at l.regs 10 own-regs) own-regs tt) (λ plain. moves move.returns tt)
 
   kind-range : (row : Row) → RowKind s pid p id l row → IsRowInRange row
-  unfolding requested_row requested posted_row posted dropped job_stopped died handler_row own_taken_row shared_taken_row own_taken shared_taken interrupted_row interrupted
+  unfolding requested_row requested posted_row posted dropped job_stopped died handler_row own_taken_row
+      shared_taken_row own_taken shared_taken interrupted_row interrupted
   kind-range row (kind.stops now) = moves move.stops tt
-  kind-range row (kind.posts {f = f} {address = address} at) = moves (move.posts f address) (subst IsPhaseInRange at (acting-lwp s pid p id l a h).phase)
+  kind-range row (kind.posts {f = f} {address = address} at) =
+      moves (move.posts f address) (subst IsPhaseInRange at (acting-lwp s pid p id l a h).phase)
   kind-range row (kind.ignores now is) = moves move.drops tt
-  kind-range row (kind.stops_job {c = c} now is) = changes (job_stops c.signal ∷ []) move.drops (one (job_stops c.signal) tt) tt
+  kind-range row (kind.stops_job {c = c} now is) =
+      changes (job_stops c.signal ∷ []) move.drops (one (job_stops c.signal) tt) tt
   kind-range row (kind.dies {c = c} now is) = ends (ends_process (signal_number c.signal)) (signal-word c.signal)
-  kind-range row (kind.catches {c = c} {handler = handler} now is) = handled-range c handler (its-current c now) (catcher-range c handler is)
-  kind-range row (kind.takes_own {g = g} none is) = moves (move.takes (current_of g l.pending) true) (current-word g l.pending (acting-lwp s pid p id l a h).pending)
+  kind-range row (kind.catches {c = c} {handler = handler} now is) =
+      handled-range c handler (its-current c now) (catcher-range c handler is)
+  kind-range row (kind.takes_own {g = g} none is) =
+      moves (move.takes (current_of g l.pending) true) (current-word g l.pending (acting-lwp s pid p id l a h).pending)
   kind-range row (kind.takes_shared {g = g} none own is) =
-      changes (takes_shared g ∷ []) (move.takes (current_of g p.pending) false) (one (takes_shared g) tt) (current-word g p.pending (acting-process s pid p id l a h).pending)
+      changes (takes_shared g ∷ []) (move.takes (current_of g p.pending) false) (one (takes_shared g) tt)
+          (current-word g p.pending (acting-process s pid p id l a h).pending)
   kind-range row (kind.interrupts {woken = woken} {call = call} {args = args} {since = since} it why) =
       moves (move.leaves call args (Error Intr)) (in_call-arguments woken call args since it, tt)
   kind-range row (kind.performs {woken = woken} {call = call} {args = args} {since = since} it goes none) =
       let given = in_call-arguments woken call args since it in
-      performed-range woken call args since (call_effect s pid p id l since call args) given (call-range s pid p id l a h since call args given)
+      performed-range woken call args since (call_effect s pid p id l since call args) given
+          (call-range s pid p id l a h since call args given)
   kind-range row (kind.returns {call = call} at none) = returned-range call
   kind-range row (kind.executes at none) =
-      executed-range (instruction_effect p.space p.control.areas l.regs) (instruction-range p.space p.control.areas (acting-process s pid p id l a h).space.mappings l.regs own-regs)
+      executed-range (instruction_effect p.space p.control.areas l.regs)
+          (instruction-range p.space p.control.areas (acting-process s pid p id l a h).space.mappings l.regs own-regs)
 
   pub row-range : IsTransitionInRange (row_for s pid p id l).transition
   row-range = kind-range (row_for s pid p id l) (row-kind s pid p id l)

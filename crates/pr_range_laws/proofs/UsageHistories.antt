@@ -1,29 +1,19 @@
-use Rattle.std.proofs.Common.{◌≡◌, ◌||◌, ◌==◌, ◌+◌, ◌≤◌, ℕ, Bool, true, false, not, is_none, leb, ltb, length, Option, Some, None, Result, Ok, Err, List, [], ◌∷◌, refl, sym, subst, arith}
-use Rattle.std.specs.List.{find, list_all, position, slice_get}
+use Rattle.std.proofs.Common.{◌≡◌, ◌+◌, ◌≤◌, ℕ, Bool, true, false, length, Option, Some, None, List, ◌∷◌, refl, sym, subst, arith, []}
+use Rattle.std.specs.List.{slice_get}
 use Rattle.std.proofs.lemmas.List.Elements.{All-cons, All-nil, All-weaker}
 use Rattle.pr_num.proofs.ByIdLaws.{All-change_under, All-under}
-use Rattle.std.specs.Prelude.{slice_set}
-use Rattle.std.specs.Option.{option_map}
-use Rattle.pr_num.specs.Control.{has_flags, klc_mode, rlc_mode}
 use Rattle.pr_num.specs.Infos.{killed_by}
-use Rattle.pr_num.specs.Limits.{controller_limit, handle_limit}
-use Rattle.pr_num.specs.Messages.{first_message}
 use Rattle.pr_num.specs.Words.{IsWord}
 use Rattle.pr_num.specs.Programs.{Program}
 use Rattle.pr_num.specs.Signals.{signal_number}
-use Rattle.pr_num.specs.declared.errnos.Errno.{Errno}
-use Rattle.pr_num.specs.declared.errnos.Errno.TheVariants.{Intr}
-use Rattle.pr_num.specs.declared.messages.Message.{Message}
-use Rattle.pr_num.specs.declared.messages.MsgFault.{MsgFault}
 use Rattle.pr_num.specs.declared.signals.Sig.TheVariants.{Kill}
-use Rattle.pr_lawful.proofs.FileLemmas.{choice}
 use Rattle.pr_keeps.specs.CallEdits as edit
 use Rattle.pr_keeps.specs.CallEdits.{CallEdit, CloseEdit}
 use Rattle.pr_keeps.proofs.CallLemmas.{call-edit, close-edit}
 use Rattle.pr_model.proofs.StateLemmas.{live_process-found}
-use Rattle.pr_model.specs.Calls.{Answer, opened, open_unless, open_answer, close_held, close_answer, is_interrupted, controlled, waited, is_open_by, is_polled_ready, ready_answer, poll_answer, until_answer, interrupt_answer, spawn_unless, spawn_found, spawn_answer, kill_answer, answer_to}
-use Rattle.pr_model.specs.ControlMessages.{target_of, aim_of, control_handle, tail_of, decoded_answer, targeted_answer, held_answer, control_answer, wait_reply}
-use Rattle.pr_model.specs.Handles.{after_last_close, handle_of, open_refusal, released, released_control, was_last_writer, with_closed, with_last_close, with_opened}
+use Rattle.pr_model.specs.Calls.{Answer, answer_to}
+use Rattle.pr_model.specs.ControlMessages.{tail_of}
+use Rattle.pr_model.specs.Handles.{released, released_control, with_closed, with_opened}
 use Rattle.pr_model.specs.Machines.{traced}
 use Rattle.pr_model.specs.Changes.{Ending, all_changed}
 use Rattle.pr_model.specs.FirstState.{bare_system, first_state, spawned_at, system_process, with_spawns}
@@ -47,18 +37,9 @@ use Rattle.pr_model.specs.declared.events.Did.TheVariants.{Made, Woke, Took, Fau
 use Rattle.pr_model.specs.declared.events.Entry.{Entry}
 use Rattle.pr_num.specs.declared.files.StoredFile.{StoredFile}
 use Rattle.pr_rec.specs.InRange.{IsUsage}
-use Rattle.pr_model.specs.ProcessCalls.{program_named}
-use Rattle.pr_model.specs.Readers.{life_of}
-use Rattle.pr_model.specs.SignalCalls.{Sending, refuses, sends_nothing, sends, sending, with_sent}
-use Rattle.pr_model.specs.Spawning.{spawn_refusal}
-use Rattle.pr_model.specs.State.{TracedLwp, TracedProcess, TracedState, TracedSystem, live_process, process_of, with_lwp, with_lwp_of, with_process}
+use Rattle.pr_model.specs.SignalCalls.{sends}
+use Rattle.pr_model.specs.State.{TracedLwp, TracedProcess, TracedState, TracedSystem, process_of, with_lwp, with_lwp_of, with_process}
 use Rattle.pr_model.specs.declared.calls.Call.{Call}
-use Rattle.pr_model.specs.declared.calls.Call.TheVariants as call
-use Rattle.pr_model.specs.declared.calls.File.{File}
-use Rattle.pr_model.specs.declared.calls.Mode.{Mode}
-use Rattle.pr_model.specs.declared.calls.Reply.{Reply}
-use Rattle.pr_model.specs.declared.calls.Reply.TheVariants.{Fail}
-use Rattle.pr_model.specs.declared.handles.Held.{Held}
 use Rattle.pr_range_laws.proofs.CallRanges.{process-id}
 use Rattle.pr_range_laws.proofs.UsageMessages.{edit-used}
 use Rattle.pr_range_laws.proofs.UsageRanges.{Keeps, UsedWithin, all_changed-used, ended-used, generated-used, lwp-keeps, meeting-keeps, nothing-used, spawned-used, this_ended-used, used-one}
@@ -139,16 +120,19 @@ module _ (most : ℕ) where
   closed-used s pid t (edit.kills p live mode) h = this_ended-used most s pid p (signal_number Kill) h
   closed-used s pid t (edit.releases p live spares mode) h = used-one most s pid released released-keeps h
 
-  edited-used : (s : TracedState) (by : ℕ) (c : Call) (t : TracedState) → CallEdit s by c t → HaveUsed most s.system → HaveUsed most t.system
+  edited-used : (s : TracedState) (by : ℕ) (c : Call) (t : TracedState) → CallEdit s by c t → HaveUsed most s.system
+      → HaveUsed most t.system
   unfolding with_opened
   edited-used s by c t edit.looks h = h
   edited-used s by c t (edit.opens free grants) h = h
-  edited-used s by c t (edit.closes {handle = handle} {held = held} at) h = closed-used s.system held.pid (with_closed held handle s).system (close-edit s handle held) h
+  edited-used s by c t (edit.closes {handle = handle} {held = held} at) h =
+      closed-used s.system held.pid (with_closed held handle s).system (close-edit s handle held) h
   edited-used s by c t (edit.controls {bytes = bytes} {held = held} {p = p} {m = m} {t = u} it e) h =
       edit-used most s.system held.pid p m (tail_of m bytes) u e (live_process-found s.system held.pid p it.live) h
   edited-used s by c t edit.sees_interrupt h = h
   edited-used s by c t (edit.interrupts there) h = h
-  edited-used s by c t (edit.spawns {held = held} {program = program} named grants) h = spawned-used most s.system program held h
+  edited-used s by c t (edit.spawns {held = held} {program = program} named grants) h =
+      spawned-used most s.system program held h
   edited-used s by c t (edit.sends {pid = pid} {g = g} is) h = generated-used most s.system pid None g (killed_by 0) h
 
   module _ (s : TracedState) (h : HaveUsed most s.system) where

@@ -36,17 +36,21 @@ closed-fits s pid t (edit.releases p live spares mode) h = changed-one s pid rel
 
 -- ---- the calls
 
-edited-fits : (s : TracedState) (by : ℕ) (c : Call) (t : TracedState) → CallEdit s by c t → IsFitSystem s.system → IsFitSystem t.system
+edited-fits : (s : TracedState) (by : ℕ) (c : Call) (t : TracedState) → CallEdit s by c t → IsFitSystem s.system
+    → IsFitSystem t.system
 unfolding with_opened
 edited-fits s by c t edit.looks h = h
 edited-fits s by c t (edit.opens free grants) h = h
-edited-fits s by c t (edit.closes {handle = handle} {held = held} at) h = closed-fits s.system held.pid (with_closed held handle s).system (close-edit s handle held) h
+edited-fits s by c t (edit.closes {handle = handle} {held = held} at) h =
+    closed-fits s.system held.pid (with_closed held handle s).system (close-edit s handle held) h
 edited-fits s by c t (edit.controls {bytes = bytes} {held = held} {p = p} {m = m} {t = u} it e) h =
     edit-fits s.system held.pid p m (tail_of m bytes) u e (live_process-found s.system held.pid p it.live) h
 edited-fits s by c t edit.sees_interrupt h = h
 edited-fits s by c t (edit.interrupts there) h = h
-edited-fits s by c t (edit.spawns {held = held} {program = program} named grants) h = spawned-fits s.system program held h
+edited-fits s by c t (edit.spawns {held = held} {program = program} named grants) h =
+    spawned-fits s.system program held h
 edited-fits s by c t (edit.sends {pid = pid} {g = g} is) h = generated-fits s.system pid None g (killed_by 0) h
 
-pub call-fits : (s : TracedState) (h : IsFitSystem s.system) (by : ℕ) (c : Call) (a : Answer) → answer_to s by c ≡ Some a → IsFitSystem a.state.system
+pub call-fits : (s : TracedState) (h : IsFitSystem s.system) (by : ℕ) (c : Call) (a : Answer)
+    → answer_to s by c ≡ Some a → IsFitSystem a.state.system
 call-fits s h by c a is = edited-fits s by c a.state (call-edit s by c a is) h

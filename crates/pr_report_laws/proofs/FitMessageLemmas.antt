@@ -36,12 +36,14 @@ unfaulted-fits l h =
     }
 
 edited-lwp : (m : Message) (l k : TracedLwp) → LwpEdit m l k → IsFitLwp l → IsFitLwp k
-unfolding without_current with_directive without_directive let_go with_step with_abort lwp_without_one with_held_set with_registers with_address
+unfolding without_current with_directive without_directive let_go with_step with_abort lwp_without_one with_held_set
+    with_registers with_address
 edited-lwp m l k (lwp.drops_fault is) h = unfaulted-fits l h
 edited-lwp m l k lwp.lets_go h = stopless-fits k refl h.pending
 edited-lwp m l k (lwp.requests stands) h = requested-fits k refl h.pending
 edited-lwp m l k (lwp.ends_request requested) h = stopless-fits k refl h.pending
-edited-lwp m l k (lwp.takes_back {g = g} is) h = record { entry = h.entry; exit = h.exit; pending = taken-spares g l.pending h.pending }
+edited-lwp m l k (lwp.takes_back {g = g} is) h =
+    record { entry = h.entry; exit = h.exit; pending = taken-spares g l.pending h.pending }
 edited-lwp m l k _ h = record { entry = h.entry; exit = h.exit; pending = h.pending }
 
 edits-keep : (m : Message) (f : TracedLwp → TracedLwp) → ((l : TracedLwp) → LwpEdits m l (f l)) → KeepsFit f
@@ -49,20 +51,25 @@ edits-keep m f edits l h = lwp-edits-keep m IsFitLwp (edited-lwp m) l (f l) (edi
 
 -- ---- processes
 
-edited-process : (m : Message) (tail : List ℕ) (x y : TracedProcess) → ProcessEdit m tail x y → IsFitProcess x → IsFitProcess y
+edited-process : (m : Message) (tail : List ℕ) (x y : TracedProcess) → ProcessEdit m tail x y → IsFitProcess x
+    → IsFitProcess y
 unfolding with_space with_agent agent_lwp new_lwp
 edited-process m tail x y (process.one_lwp id f edits) h = keeps-one id f (edits-keep m f edits) x h
 edited-process m tail x y (process.each_lwp f edits) h = keeps-each f (edits-keep m f edits) x h
-edited-process m tail x y (process.takes_back {g = g} is) h = record { lwps = h.lwps; pending = taken-spares g x.pending h.pending }
-edited-process m tail x y (process.gets_agent {regs = regs} none room) h = keeps-more agent_id (agent_lwp regs) x y (requested-fits (agent_lwp regs) refl nothing-spares) refl refl h
+edited-process m tail x y (process.takes_back {g = g} is) h =
+    record { lwps = h.lwps; pending = taken-spares g x.pending h.pending }
+edited-process m tail x y (process.gets_agent {regs = regs} none room) h =
+    keeps-more agent_id (agent_lwp regs) x y (requested-fits (agent_lwp regs) refl nothing-spares) refl refl h
 edited-process m tail x y _ h = record { lwps = h.lwps; pending = h.pending }
 
 -- ---- the system
 
-pub edit-fits : (s : TracedSystem) (pid : ℕ) (p : TracedProcess) (m : Message) (tail : List ℕ) (t : TracedSystem) → MessageEdit s pid p m tail t → process_of s pid ≡ Some p → IsFitSystem s → IsFitSystem t
+pub edit-fits : (s : TracedSystem) (pid : ℕ) (p : TracedProcess) (m : Message) (tail : List ℕ) (t : TracedSystem)
+    → MessageEdit s pid p m tail t → process_of s pid ≡ Some p → IsFitSystem s → IsFitSystem t
 unfolding with_process
 edit-fits s pid p m tail t nothing found h = h
 edit-fits s pid p m tail t (a_process f edits) found h =
-    record { processes = all-replaced ProcessFits pid f p s.processes found (process-edits-keep m tail IsFitProcess (edited-process m tail) p (f p) edits) h.processes }
+    record { processes = all-replaced ProcessFits pid f p s.processes found
+        (process-edits-keep m tail IsFitProcess (edited-process m tail) p (f p) edits) h.processes }
 edit-fits s pid p m tail t an_end found h = this_ended-fits s pid p (signal_number Kill) h
 edit-fits s pid p m tail t (a_signal target g is) found h = generated-fits s pid target g by_controller h

@@ -1,12 +1,9 @@
-use Rattle.std.proofs.Common.{◌≡◌, ℕ, Bool, true, false, Option, Some, None, List, refl}
+use Rattle.std.proofs.Common.{◌≡◌, ℕ, Bool, Option, Some, None, List, refl}
 use Rattle.pr_num.specs.Faults.{fault_signal}
 use Rattle.pr_num.specs.Infos.{of_fault}
 use Rattle.pr_num.specs.declared.errnos.Errno.TheVariants.{Intr}
-use Rattle.pr_num.specs.declared.signals.Sig.{Sig}
 use Rattle.pr_num.specs.declared.syscalls.Sysno.{Sysno}
 use Rattle.pr_parts.specs.PendingSignals.{without_one}
-use Rattle.pr_parts.specs.declared.actions.Action.{Action}
-use Rattle.pr_parts.specs.declared.actions.Action.TheVariants as act
 use Rattle.pr_lawful.proofs.FileLemmas.{choice}
 use Rattle.pr_keeps.specs.RowKinds as kind
 use Rattle.pr_keeps.specs.RowKinds.{RowKind}
@@ -19,16 +16,12 @@ use Rattle.pr_model.specs.InstructionEffects.{InstructionEffect, instruction_eff
 use Rattle.pr_model.specs.Machines.{call_over, fault_incurred, fault_posted, step_taken, stopped_as_directed, traced}
 use Rattle.pr_model.specs.Moves as move
 use Rattle.pr_model.specs.Moves.{Move, moved}
-use Rattle.pr_model.specs.Registers.{arguments}
-use Rattle.pr_model.specs.Rows.{Row, requested_row, posted_row, returned_row, ran_row, entered_row, incurred_row, watched_row, executed_row, own_taken_row, shared_taken_row, handler_row, caught_row, interrupted_row, acted_row, performed_row, call_row, row_in, taken_or, signal_row_or, current_row_or, posted_row_or, row_for}
-use Rattle.pr_model.specs.Signals.{action_for, own_takeable, shared_takeable}
+use Rattle.pr_model.specs.Rows.{Row, requested_row, posted_row, returned_row, ran_row, entered_row, incurred_row, watched_row, executed_row, own_taken_row, shared_taken_row, handler_row, interrupted_row, performed_row, row_for}
 use Rattle.pr_model.specs.State.{TracedLwp, TracedProcess, TracedSystem}
 use Rattle.pr_model.specs.Transitions.{ran, entered, incurred, trapped, own_taken, shared_taken, interrupted, performed}
 use Rattle.pr_model.specs.declared.events.Res.{Res}
 use Rattle.pr_model.specs.declared.events.Res.TheVariants.{Error}
-use Rattle.pr_model.specs.declared.lwps.Current.{Current}
-use Rattle.pr_model.specs.declared.lwps.Phase.{Phase}
-use Rattle.pr_model.specs.declared.lwps.Phase.TheVariants.{User, Entered, Asleep, Exiting, Faulted}
+use Rattle.pr_model.specs.declared.lwps.Phase.TheVariants.{Entered, Exiting}
 use Rattle.pr_model.specs.declared.stops.Point.{Point}
 use Rattle.pr_model.specs.declared.stops.Point.TheVariants.{Signal, Fault, Entry, Exit}
 use Rattle.pr_model.specs.Points.{stopped_at}
@@ -108,7 +101,8 @@ module _ (s : TracedSystem) (pid : ℕ) (p : TracedProcess) (id : ℕ) (l : Trac
   kind-fits row (kind.takes_own none is) = meets refl (λ k. tt)
   kind-fits row (kind.takes_shared none own is) = meets refl (λ k. tt)
   kind-fits row (kind.interrupts {woken = woken} {call = call} {args = args} it why) = interrupted-fits woken call args
-  kind-fits row (kind.performs {woken = woken} {call = call} {args = args} {since = since} it goes none) = performed-fits woken call args since (call_effect s pid p id l since call args)
+  kind-fits row (kind.performs {woken = woken} {call = call} {args = args} {since = since} it goes none) =
+      performed-fits woken call args since (call_effect s pid p id l since call args)
   kind-fits row (kind.returns {call = call} at none) = returned-fits call
   kind-fits row (kind.executes at none) = executed-fits (instruction_effect p.space p.control.areas l.regs)
   kind-fits row _ = quiet refl

@@ -1,4 +1,4 @@
-use Rattle.std.proofs.Common.{◌≡◌, ◌==◌, ◌&&◌, ◌∙◌, ℕ, Bool, true, false, cond, length, None, Some, Option, List, [], ◌∷◌, refl, ap}
+use Rattle.std.proofs.Common.{◌≡◌, ◌==◌, ◌&&◌, ◌∙◌, ℕ, Bool, true, false, cond, length, None, Some, Option, List, ◌∷◌, refl, ap, []}
 use Rattle.std.specs.List.{slice_get}
 use Rattle.pr_lawful.proofs.HistoryLemmas.{history-state}
 use Rattle.pr_lawful.proofs.StartLemmas.{first-lawful}
@@ -32,7 +32,6 @@ use Rattle.pr_model.specs.declared.events.Act.TheVariants as act
 use Rattle.pr_model.specs.declared.events.Actor.{Actor}
 use Rattle.pr_model.specs.declared.events.Actor.TheVariants.{Controller, Lwp, Clock}
 use Rattle.pr_model.specs.declared.events.Entry.{Entry}
-use Rattle.pr_num.specs.Control.{has_flags, klc_mode, rlc_mode}
 use Rattle.pr_num.specs.Programs.{Program}
 use Rattle.pr_num.specs.Signals.{signal_number}
 use Rattle.pr_num.specs.declared.files.StoredFile.{StoredFile}
@@ -129,7 +128,8 @@ turn-same s pid id t turn =
 
 -- ---- calls
 
-message-same : (s : TracedSystem) (target : ℕ) (p : TracedProcess) (m : Message) (tail : List ℕ) (t : TracedSystem) → MessageEdit s target p m tail t → Same s t
+message-same : (s : TracedSystem) (target : ℕ) (p : TracedProcess) (m : Message) (tail : List ℕ) (t : TracedSystem)
+    → MessageEdit s target p m tail t → Same s t
 message-same s target p m tail t message.nothing = refl
 message-same s target p m tail t (message.a_process f edits) = process-same s target f
 message-same s target p m tail t message.an_end = ended-same s target p (signal_number Kill)
@@ -144,8 +144,10 @@ call-same : (s : TracedState) (by : ℕ) (c : Call) (t : TracedState) → CallEd
 unfolding with_opened
 call-same s by c t edit.looks = refl
 call-same s by c t (edit.opens free grants) = refl
-call-same s by c t (edit.closes {handle = handle} {held = h} at) = closed-same s.system h.pid (with_closed h handle s).system (close-edit s handle h)
-call-same s by c t (edit.controls {bytes = bytes} {held = h} {p = p} {m = m} {t = u} it e) = message-same s.system h.pid p m (tail_of m bytes) u e
+call-same s by c t (edit.closes {handle = handle} {held = h} at) =
+    closed-same s.system h.pid (with_closed h handle s).system (close-edit s handle h)
+call-same s by c t (edit.controls {bytes = bytes} {held = h} {p = p} {m = m} {t = u} it e) =
+    message-same s.system h.pid p m (tail_of m bytes) u e
 call-same s by c t edit.sees_interrupt = refl
 call-same s by c t (edit.interrupts there) = refl
 call-same s by c t (edit.spawns {held = held} {program = program} named grants) = spawned-same s.system program held

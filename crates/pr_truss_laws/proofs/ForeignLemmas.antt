@@ -1,13 +1,8 @@
-use Rattle.std.proofs.Common.{◌≡◌, ◌≢◌, ◌==◌, ◌&&◌, ℕ, Bool, true, false, cond, not, None, Some, Option, List, Result, Ok, Err, refl, sym, subst, ap, ◌∙◌, arith, inl, inr}
+use Rattle.std.proofs.Common.{◌≡◌, ◌≢◌, ◌==◌, ◌&&◌, ℕ, Bool, true, false, cond, not, None, Some, List, refl, sym, subst, ap, ◌∙◌, arith, inl, inr}
 use Rattle.std.proofs.lemmas.Bool.{false≢true, cases_Bool, eqb-true, eqb-false, eq-eqb}
-use Rattle.std.proofs.lemmas.Option.{get_or_from_slice_get, same_Some, none-some, slice_get_within}
-use Rattle.std.specs.List.{All, position, slice_get, slice_set}
-use Rattle.std.specs.Option.{is_none}
-use Rattle.pr_num.specs.Control.{has_flags, klc_mode, rlc_mode}
+use Rattle.std.proofs.lemmas.Option.{get_or_from_slice_get, same_Some, slice_get_within}
+use Rattle.std.specs.List.{All, slice_get, slice_set}
 use Rattle.pr_num.specs.declared.messages.Message.{Message}
-use Rattle.pr_num.specs.declared.messages.MsgFault.{MsgFault}
-use Rattle.pr_num.specs.Messages.{first_message}
-use Rattle.pr_num.proofs.ByIdLaws.{All-under}
 use Rattle.pr_lawful.proofs.EndLemmas.{found-live}
 use Rattle.pr_lawful.proofs.HandleLemmas.{any-at, control-writes, handle-at}
 use Rattle.pr_keeps.specs.CallEdits as edit
@@ -19,22 +14,18 @@ use Rattle.pr_num.specs.Infos.{by_controller, killed_by}
 use Rattle.pr_model.specs.Calls.{Answer, answer_to}
 use Rattle.pr_model.specs.ControlMessages.{tail_of}
 use Rattle.pr_model.specs.Handles.{after_last_close, handle_of, has_writer, is_writable, is_writer, released, with_closed, with_opened}
-use Rattle.pr_model.specs.Lawful.{IsFitting, IsLawful, IsLawfulProcess}
-use Rattle.pr_model.specs.Messages.{Controlled, message_answer, refused}
+use Rattle.pr_model.specs.Lawful.{IsFitting, IsLawful}
 use Rattle.pr_model.specs.State.{TracedProcess, TracedState, TracedSystem, live_process, process_of}
 use Rattle.pr_model.specs.Lives.{new_process, with_spawned}
 use Rattle.pr_model.specs.Machines.{traced}
-use Rattle.pr_model.specs.SignalCalls.{Sending, refuses, sends_nothing, sends, with_sent}
-use Rattle.pr_model.specs.Spawning.{spawn_refusal}
+use Rattle.pr_model.specs.SignalCalls.{sends}
 use Rattle.pr_num.specs.Programs.{Program}
-use Rattle.pr_num.specs.declared.errnos.Errno.{Errno}
-use Rattle.pr_num.specs.declared.infos.Info.{Info}
 use Rattle.pr_truss_laws.specs.Stills.{IsUndisturbed}
 use Rattle.pr_model.specs.declared.calls.Call.{Call}
 use Rattle.pr_model.specs.declared.calls.Call.TheVariants as call
 use Rattle.pr_model.specs.declared.calls.Mode.TheVariants.{WriteExcl}
 use Rattle.pr_model.specs.declared.handles.Held.{Held}
-use Rattle.pr_truss_laws.proofs.FrameLemmas.{ByKill, Passes, either-passes, end-passes, generated-passes, made-passes, other-passes, passed-alone, same-passes, was-made}
+use Rattle.pr_truss_laws.proofs.FrameLemmas.{ByKill, Passes, end-passes, generated-passes, made-passes, other-passes, passed-alone, same-passes, was-made}
 use Rattle.pr_truss_laws.proofs.OpensLemmas.{handle-controller}
 use Rattle.pr_truss_laws.proofs.ReleaseLemmas.{none-left}
 use Rattle.pr_file.proofs.PlaceLemmas.{slice_get-set_other}
@@ -47,15 +38,20 @@ All-at-place {X} P xs i x at all = subst P (get_or_from_slice_get xs i x x at) (
 
 module _ (pid : ℕ) where
   -- a control message to another process, and the last close of one
-  message-passes : (s : TracedSystem) (target : ℕ) (p : TracedProcess) (m : Message) (tail : List ℕ) (t : TracedSystem) → target ≢ pid → MessageEdit s target p m tail t → Passes pid ByKill s t
+  message-passes : (s : TracedSystem) (target : ℕ) (p : TracedProcess) (m : Message) (tail : List ℕ) (t : TracedSystem)
+      → target ≢ pid → MessageEdit s target p m tail t → Passes pid ByKill s t
   message-passes s target p m tail t other message.nothing = same-passes pid ByKill s
   message-passes s target p m tail t other (message.a_process f edits) = other-passes pid ByKill target f s other
-  message-passes s target p m tail t other message.an_end = end-passes pid ByKill target p _ s (λ same. absurd (other same))
-  message-passes s target p m tail t other (message.a_signal own g is) = generated-passes pid ByKill target own g by_controller s refl
+  message-passes s target p m tail t other message.an_end =
+      end-passes pid ByKill target p _ s (λ same. absurd (other same))
+  message-passes s target p m tail t other (message.a_signal own g is) =
+      generated-passes pid ByKill target own g by_controller s refl
 
-  closed-passes : (s : TracedSystem) (target : ℕ) (t : TracedSystem) → target ≢ pid → CloseEdit s target t → Passes pid ByKill s t
+  closed-passes : (s : TracedSystem) (target : ℕ) (t : TracedSystem) → target ≢ pid → CloseEdit s target t
+      → Passes pid ByKill s t
   closed-passes s target t other edit.nothing = same-passes pid ByKill s
-  closed-passes s target t other (edit.kills p live mode) = end-passes pid ByKill target p _ s (λ same. absurd (other same))
+  closed-passes s target t other (edit.kills p live mode) =
+      end-passes pid ByKill target p _ s (λ same. absurd (other same))
   closed-passes s target t other (edit.releases p live spares mode) = other-passes pid ByKill target released s other
 
 -- whether a call writes control messages to this handle, or closes it
@@ -75,9 +71,12 @@ module _ (s : TracedState) (by pid : ℕ) (lawful : IsLawful s) where
   -- a close of a handle that is not for writing leaves the system
   closed-reader : (m : ℕ) (g : Held) → is_writable g.mode ≡ false → (with_closed g m s).system ≡ s.system
   unfolding with_closed
-  closed-reader m g reads = ap (λ b. cond (b && not (has_writer g.pid (slice_set s.opens m None))) (after_last_close g.pid (live_process s.system g.pid) s.system) s.system) reads
+  closed-reader m g reads =
+      ap (λ b. cond (b && not (has_writer g.pid (slice_set s.opens m None)))
+      (after_last_close g.pid (live_process s.system g.pid) s.system) s.system) reads
 
-  close-passes : (m : ℕ) (g : Held) → Apart m → handle_of s.opens by m ≡ Some g → Passes pid ByKill s.system (with_closed g m s).system
+  close-passes : (m : ℕ) (g : Held) → Apart m → handle_of s.opens by m ≡ Some g
+      → Passes pid ByKill s.system (with_closed g m s).system
   close-passes m g apart at = elim (cases_Bool (is_writable g.mode)) [
     | inl writes ↦ closed-passes pid s.system g.pid (with_closed g m s).system (apart g at writes) (close-edit s m g)
     | inr reads ↦ subst (Passes pid ByKill s.system) (sym (closed-reader m g reads)) stays-same
@@ -88,18 +87,23 @@ module _ (s : TracedState) (by pid : ℕ) (lawful : IsLawful s) where
     unfolding with_spawned
     new-passes program held = let below = was-made pid s.system p lawful.system stands in made-passes pid ByKill (new_process traced program s.system.clock held) s.system (λ same. omega arith)
 
-    edit-passes : (c : Call) (t : TracedState) → CallEdit s by c t → ((number : ℕ) → names c number ≡ true → Apart number) → Passes pid ByKill s.system t.system
+    edit-passes : (c : Call) (t : TracedState) → CallEdit s by c t
+        → ((number : ℕ) → names c number ≡ true → Apart number) → Passes pid ByKill s.system t.system
     unfolding with_opened
     edit-passes c t edit.looks apart = stays-same
     edit-passes c t (edit.opens free grants) apart = stays-same
     edit-passes c t (edit.closes {handle = m} {held = g} at) apart = close-passes m g (apart m (eq-eqb m m refl)) at
     edit-passes c t (edit.controls {handle = handle} {bytes = bytes} {held = g} {p = q} {m = m} {t = u} it e) apart =
-        let fits : IsFitting (Some g) = All-at-place IsFitting s.opens handle (Some g) (handle-at s.opens by handle g it.handle_is) lawful.fitting in
-        message-passes pid s.system g.pid q m (tail_of m bytes) u (apart handle (eq-eqb handle handle refl) g it.handle_is (control-writes g fits it.controls)) e
+        let fits : IsFitting (Some g) =
+            All-at-place IsFitting s.opens handle (Some g)
+            (handle-at s.opens by handle g it.handle_is) lawful.fitting in
+        message-passes pid s.system g.pid q m (tail_of m bytes) u
+            (apart handle (eq-eqb handle handle refl) g it.handle_is (control-writes g fits it.controls)) e
     edit-passes c t edit.sees_interrupt apart = stays-same
     edit-passes c t (edit.interrupts there) apart = stays-same
     edit-passes c t (edit.spawns {held = held} {program = program} named grants) apart = new-passes program held
-    edit-passes c t (edit.sends {pid = target} {g = g} is) apart = generated-passes pid ByKill target None g (killed_by 0) s.system refl
+    edit-passes c t (edit.sends {pid = target} {g = g} is) apart =
+        generated-passes pid ByKill target None g (killed_by 0) s.system refl
 
     pub call-passes : (c : Call) (a : Answer) → ((number : ℕ) → names c number ≡ true → Apart number) → answer_to s by c ≡ Some a → Passes pid ByKill s.system a.state.system
     call-passes c a apart is = edit-passes c a.state (call-edit s by c a is) apart

@@ -1,28 +1,24 @@
-use Rattle.std.proofs.Common.{◌≡◌, ◌≢◌, ◌==◌, ◌&&◌, ◌<◌, ◌≤◌, ◌+◌, ℕ, Bool, true, false, cond, is_none, length, None, Some, Option, List, [], ◌∷◌, Result, Ok, Err, refl, sym, subst, ap, ◌∙◌, arith, inl, inr}
+use Rattle.std.proofs.Common.{◌≡◌, ◌≢◌, ◌==◌, ◌&&◌, ◌<◌, ◌≤◌, ◌+◌, ℕ, Bool, true, false, cond, is_none, length, None, Some, Option, List, ◌∷◌, refl, sym, subst, ap, ◌∙◌, arith, inl, inr, []}
 use Rattle.std.proofs.lemmas.Bool.{cases_Bool, eqb-false, eqb-true}
 use Rattle.std.proofs.lemmas.List.Elements.{All-cons, All-nil, All-weaker}
-use Rattle.std.proofs.lemmas.Option.{none-some, same_Some}
-use Rattle.std.specs.List.{All, position, slice_set}
+use Rattle.std.proofs.lemmas.Option.{none-some}
+use Rattle.std.specs.List.{All}
 use Rattle.std.specs.Option.{option_and_then}
 use Rattle.pr_num.proofs.ByIdLaws.{All-change_under, All-inserted, All-map_each, All-under, All-without_id}
 use Rattle.pr_num.proofs.ByIdLemmas.{rises_from-tail}
 use Rattle.pr_num.specs.ById.{change_under, rises_from, under}
-use Rattle.pr_num.specs.Control.{has_flags, klc_mode, rlc_mode}
 use Rattle.pr_num.specs.Infos.{by_controller, killed_by}
-use Rattle.pr_num.specs.Messages.{first_message}
 use Rattle.pr_num.specs.Programs.{Program}
 use Rattle.pr_num.specs.Signals.{signal_number}
-use Rattle.pr_num.specs.declared.errnos.Errno.{Errno}
 use Rattle.pr_num.specs.declared.infos.Info.{Info}
 use Rattle.pr_num.specs.declared.messages.Message.{Message}
-use Rattle.pr_num.specs.declared.messages.MsgFault.{MsgFault}
 use Rattle.pr_num.specs.declared.signals.Sig.{Sig}
 use Rattle.pr_num.specs.declared.signals.Sig.TheVariants.{Cld, Kill}
 use Rattle.pr_parts.specs.FileCalls.{with_all_shared}
 use Rattle.pr_laws.proofs.RepresentativeLemmas.{ids-above}
-use Rattle.pr_lawful.proofs.EndLemmas.{buried, found-live}
+use Rattle.pr_lawful.proofs.EndLemmas.{buried}
 use Rattle.pr_lawful.proofs.FileLemmas.{choice}
-use Rattle.pr_lawful.proofs.MadeLemmas.{Grows, closed-grows, edit-grows, ended-grows, generated-grows, process-grows, same-grows, settled-grows, spawned-grows}
+use Rattle.pr_lawful.proofs.MadeLemmas.{Grows, closed-grows, edit-grows, generated-grows, same-grows, settled-grows, spawned-grows}
 use Rattle.pr_keeps.specs.CallEdits as edit
 use Rattle.pr_keeps.specs.CallEdits.{CallEdit, CloseEdit}
 use Rattle.pr_keeps.specs.MessageEdits as message
@@ -34,31 +30,24 @@ use Rattle.pr_model.specs.Changes.{Change, files_are, space_is, signals, signals
 use Rattle.pr_model.specs.ControlMessages.{tail_of}
 use Rattle.pr_model.specs.Generation.{told}
 use Rattle.pr_model.specs.Handles.{released, with_closed, with_opened}
-use Rattle.pr_model.specs.Lawful.{IsLawful, IsLawfulProcess, IsLawfulSystem}
+use Rattle.pr_model.specs.Lawful.{IsLawful, IsLawfulSystem}
 use Rattle.pr_model.specs.Legal.{IsLegalEntry, after}
 use Rattle.pr_model.specs.Lives.{ended_if_live, forked, new_process, orphaned, with_child, with_ended, with_lwp_ended, with_made, with_parent_told, with_reaped, with_spawned, with_this_ended, zombie}
 use Rattle.pr_model.specs.LwpTurns.{LwpTurn, settled, turn_of, with_counted}
 use Rattle.pr_model.specs.Machines.{traced}
-use Rattle.pr_model.specs.Messages.{Controlled}
 use Rattle.pr_model.specs.Moves.{moved}
 use Rattle.pr_model.specs.Points.{after_meeting}
-use Rattle.pr_model.specs.ProcessCalls.{program_named}
 use Rattle.pr_model.specs.Rows.{Row, row_for}
-use Rattle.pr_model.specs.SignalCalls.{Sending, refuses, sends_nothing, sends, with_sent}
+use Rattle.pr_model.specs.SignalCalls.{sends}
 use Rattle.pr_model.specs.Signals.{generated, is_kill}
-use Rattle.pr_model.specs.Spawning.{spawn_refusal}
 use Rattle.pr_model.specs.State.{TracedLwp, TracedProcess, TracedState, TracedSystem, if_live, live_process, process_of, with_lwp, with_lwp_of, with_process}
 use Rattle.pr_model.specs.Transitions.{Transition, after_transition, ended_if}
 use Rattle.pr_model.specs.declared.calls.Call.{Call}
-use Rattle.pr_model.specs.declared.calls.Call.TheVariants as call
-use Rattle.pr_model.specs.declared.calls.File.{File}
-use Rattle.pr_model.specs.declared.calls.Mode.{Mode}
 use Rattle.pr_model.specs.declared.events.Act.{Act}
 use Rattle.pr_model.specs.declared.events.Act.TheVariants as act
 use Rattle.pr_model.specs.declared.events.Actor.{Actor}
 use Rattle.pr_model.specs.declared.events.Actor.TheVariants.{Controller, Lwp, Clock}
 use Rattle.pr_model.specs.declared.events.Entry.{Entry}
-use Rattle.pr_model.specs.declared.handles.Held.{Held}
 use Rattle.pr_truss_laws.proofs.FrameLemmas.{ended-same, orphaned-undisturbed, told-undisturbed}
 
 -- A process that does not live, and whose id was given out, never lives again: no process is made under an id that was
@@ -70,8 +59,10 @@ pub call-grows : (s : TracedState) (by : ℕ) (c : Call) (t : TracedState) → C
 unfolding with_opened
 call-grows s by c t edit.looks = same-grows s.system
 call-grows s by c t (edit.opens free grants) = same-grows s.system
-call-grows s by c t (edit.closes {handle = handle} {held = h} at) = closed-grows s.system h.pid (with_closed h handle s).system (close-edit s handle h)
-call-grows s by c t (edit.controls {bytes = bytes} {held = h} {p = p} {m = m} {t = u} it e) = edit-grows s.system h.pid p m (tail_of m bytes) u e
+call-grows s by c t (edit.closes {handle = handle} {held = h} at) =
+    closed-grows s.system h.pid (with_closed h handle s).system (close-edit s handle h)
+call-grows s by c t (edit.controls {bytes = bytes} {held = h} {p = p} {m = m} {t = u} it e) =
+    edit-grows s.system h.pid p m (tail_of m bytes) u e
 call-grows s by c t edit.sees_interrupt = same-grows s.system
 call-grows s by c t (edit.interrupts there) = same-grows s.system
 call-grows s by c t (edit.spawns {held = held} {program = program} named grants) = spawned-grows s.system program held
@@ -261,7 +252,8 @@ module _ (pid : ℕ) where
 
   -- ---- a call of a controller
 
-  message-over : (s : TracedSystem) (target : ℕ) (p : TracedProcess) (m : Message) (tail : List ℕ) (t : TracedSystem) → target ≢ pid → IsOver pid s → MessageEdit s target p m tail t → IsOver pid t
+  message-over : (s : TracedSystem) (target : ℕ) (p : TracedProcess) (m : Message) (tail : List ℕ) (t : TracedSystem)
+      → target ≢ pid → IsOver pid s → MessageEdit s target p m tail t → IsOver pid t
   message-over s target p m tail t other o message.nothing = o
   message-over s target p m tail t other o (message.a_process f edits) = change-over target f s other o
   message-over s target p m tail t other o message.an_end = end-over target p (signal_number Kill) s o
@@ -270,22 +262,26 @@ module _ (pid : ℕ) where
   closed-over : (s : TracedSystem) (target : ℕ) (t : TracedSystem) → IsOver pid s → CloseEdit s target t → IsOver pid t
   closed-over s target t o edit.nothing = o
   closed-over s target t o (edit.kills p live mode) = end-over target p (signal_number Kill) s o
-  closed-over s target t o (edit.releases p live spares mode) = change-over target released s (over-other s target p o live) o
+  closed-over s target t o (edit.releases p live spares mode) =
+      change-over target released s (over-other s target p o live) o
 
   spawned-over : (s : TracedSystem) (program : Program) (held : Bool) → IsOver pid s → IsOver pid (with_spawned traced program held s)
   unfolding with_spawned
   spawned-over s program held o = made-over (new_process traced program s.clock held) s o
 
-  pub call-over : (s : TracedState) (by : ℕ) (c : Call) (t : TracedState) → IsOver pid s.system → CallEdit s by c t → IsOver pid t.system
+  pub call-over : (s : TracedState) (by : ℕ) (c : Call) (t : TracedState) → IsOver pid s.system → CallEdit s by c t
+      → IsOver pid t.system
   unfolding with_opened
   call-over s by c t o edit.looks = o
   call-over s by c t o (edit.opens free grants) = o
-  call-over s by c t o (edit.closes {handle = handle} {held = h} at) = closed-over s.system h.pid (with_closed h handle s).system o (close-edit s handle h)
+  call-over s by c t o (edit.closes {handle = handle} {held = h} at) =
+      closed-over s.system h.pid (with_closed h handle s).system o (close-edit s handle h)
   call-over s by c t o (edit.controls {bytes = bytes} {held = h} {p = p} {m = m} {t = u} it e) =
       message-over s.system h.pid p m (tail_of m bytes) u (over-other s.system h.pid p o it.live) o e
   call-over s by c t o edit.sees_interrupt = o
   call-over s by c t o (edit.interrupts there) = o
-  call-over s by c t o (edit.spawns {held = held} {program = program} named grants) = spawned-over s.system program held o
+  call-over s by c t o (edit.spawns {held = held} {program = program} named grants) =
+      spawned-over s.system program held o
   call-over s by c t o (edit.sends {pid = target} {g = g} is) = generated-over target None g (killed_by 0) s.system o
 
   -- ---- every entry
