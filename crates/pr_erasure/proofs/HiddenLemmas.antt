@@ -1,4 +1,4 @@
-use Rattle.std.proofs.Common.{◌≡◌, ◌⊎◌, ℕ, Bool, true, false, List, cond, refl, sym, ◌∙◌, ap, inl, inr}
+use Rattle.std.proofs.Common.{◌≡◌, ◌⊎◌, ℕ, Some, Bool, true, false, List, cond, refl, sym, ◌∙◌, ap, inl, inr}
 use Rattle.std.proofs.lemmas.Bool.{false≢true}
 use Rattle.pr_num.specs.declared.syscalls.Sysno.{Sysno}
 use Rattle.pr_keeps.specs.RowKinds as kind
