@@ -1,8 +1,9 @@
-use Rattle.std.proofs.Common.{◌≡◌, ℕ, Bool, true, false, Option, Some, None, List, cond, refl, sym, subst, ◌∙◌, ap}
-use Rattle.pr_num.specs.declared.signals.Sig.{Sig}
+use Rattle.std.proofs.Common.{◌≡◌, ◌⊎◌, ℕ, Some, Bool, true, false, List, cond, refl, sym, ◌∙◌, ap, inl, inr}
+use Rattle.std.proofs.lemmas.Bool.{false≢true}
 use Rattle.pr_num.specs.declared.syscalls.Sysno.{Sysno}
-use Rattle.pr_parts.specs.declared.actions.Action.{Action}
-use Rattle.pr_parts.specs.declared.actions.Action.TheVariants as act
+use Rattle.pr_keeps.specs.RowKinds as kind
+use Rattle.pr_keeps.specs.RowKinds.{RowKind}
+use Rattle.pr_keeps.proofs.RowLemmas.{row-kind}
 use Rattle.pr_model.specs.CallEffects.{call_effect}
 use Rattle.pr_model.specs.Changes.{Effect}
 use Rattle.pr_model.specs.Changes as change
@@ -15,6 +16,9 @@ use Rattle.pr_model.specs.Registers.{arguments}
 use Rattle.pr_model.specs.Rows.{Row, requested_row, posted_row, interrupted_row, performed_row, own_taken_row, shared_taken_row, handler_row, caught_row, acted_row, returned_row, ran_row, entered_row, incurred_row, watched_row, executed_row, call_row, row_in, taken_or, signal_row_or, current_row_or, posted_row_or, row_for}
 use Rattle.pr_model.specs.Running.{with_run}
 use Rattle.pr_model.specs.Signals.{action_for, own_takeable, shared_takeable}
+use Rattle.pr_model.specs.Machines.{untraced}
+use Rattle.pr_model.specs.Moves.{moved}
+use Rattle.pr_model.specs.Moves as move
 use Rattle.pr_model.specs.State.{TracedLwp, TracedProcess, TracedSystem, with_lwp}
 use Rattle.pr_model.specs.Stops.{directed, with_all_directed}
 use Rattle.pr_model.specs.declared.events.Did.{Did}
@@ -80,34 +84,6 @@ module _ (s : TracedSystem) (pid : ℕ) (p : TracedProcess) (id : ℕ) (l : Trac
   interrupted-goes false call args = refl
   interrupted-goes true call args = refl
 
-  caught-goes : (c : Current) (handler : ℕ) (where_it_is : Phase) → GoesOn (caught_row l c handler where_it_is)
-  unfolding caught_row GoesOn is_stop handler_row
-  caught-goes c handler phase.User = refl
-  caught-goes c handler (phase.Entered call) = interrupted-goes false call (arguments l.regs)
-  caught-goes c handler (phase.Asleep call args since) = interrupted-goes true call args
-  caught-goes c handler (phase.Exiting call args result) = refl
-  caught-goes c handler (phase.Faulted f address) = refl
-
-  acted-goes : (c : Current) → GoesOn (acted_row p l c)
-  unfolding GoesOn is_stop acted_row
-  acted-goes c = by (action_for p.dispositions c.signal) refl
-    where
-      by : (a : Action) → action_for p.dispositions c.signal ≡ a → GoesOn (acted_row p l c)
-      by act.Ignore is = rw is refl
-      by act.Stop is = rw is refl
-      by act.Die is = rw is refl
-      by (act.Catch handler) is = rw is (caught-goes c handler l.phase)
-
-  taken-goes : (a b : Option Sig) (rest : Row) → GoesOn rest → GoesOn (taken_or s pid p id l a b rest)
-  unfolding GoesOn is_stop own_taken_row shared_taken_row
-  taken-goes (Some g) b rest other = refl
-  taken-goes None (Some g) rest other = refl
-  taken-goes None None rest other = other
-
-  current-goes : (o : Option Current) (rest : Row) → GoesOn rest → GoesOn (current_row_or s pid p id l o rest)
-  current-goes (Some c) rest other = acted-goes c
-  current-goes None rest other = other
-
   performed-goes : (woken : Bool) (call : Sysno) (args : List ℕ) (since : ℕ) (effect : Effect) → GoesOn (performed_row woken call args since effect)
   unfolding GoesOn is_stop performed_row
   performed-goes false call args since (change.does result changes) = refl
@@ -116,34 +92,24 @@ module _ (s : TracedSystem) (pid : ℕ) (p : TracedProcess) (id : ℕ) (l : Trac
   performed-goes false call args since (change.ends how) = refl
   performed-goes true call args since (change.ends how) = refl
 
-  call-goes : (woken : Bool) (call : Sysno) (args : List ℕ) (since : ℕ) → GoesOn (call_row s pid p id l woken call args since)
-  unfolding call_row
-  call-goes woken call args since = either l.control.abort _ _ (interrupted-goes woken call args) (performed-goes woken call args since (call_effect s pid p id l since call args))
-
-  phase-goes : (where_it_is : Phase) → GoesOn (posted_row_or s pid p id l where_it_is (current_row_or s pid p id l l.current (signal_row_or s pid p id l where_it_is (row_in s pid p id l where_it_is))))
-  unfolding GoesOn is_stop signal_row_or row_in posted_row returned_row
-  phase-goes phase.User = current-goes l.current _ (taken-goes (own_takeable l) (shared_takeable p l) _ (executed-goes (instruction_effect p.space p.control.areas l.regs)))
-  phase-goes (phase.Entered call) = current-goes l.current _ (call-goes false call (arguments l.regs) s.clock)
-  phase-goes (phase.Asleep call args since) = current-goes l.current _ (taken-goes (own_takeable l) (shared_takeable p l) _ (call-goes true call args since))
-  phase-goes (phase.Exiting call args result) = current-goes l.current _ (taken-goes (own_takeable l) (shared_takeable p l) _ (either l.control.step _ _ refl refl))
-  phase-goes (phase.Faulted f address) = refl
+  -- it stops as directed, or goes on
+  kind-goes : (row : Row) → RowKind s pid p id l row → (row ≡ requested_row) ⊎ GoesOn row
+  unfolding GoesOn is_stop posted_row handler_row own_taken_row shared_taken_row returned_row
+  kind-goes row (kind.stops now) = inl refl
+  kind-goes row (kind.interrupts {woken = woken} {call = call} {args = args} it why) =
+      inr (interrupted-goes woken call args)
+  kind-goes row (kind.performs {woken = woken} {call = call} {args = args} {since = since} it goes none) =
+      inr (performed-goes woken call args since (call_effect s pid p id l since call args))
+  kind-goes row (kind.returns at none) = inr (either l.control.step _ _ refl refl)
+  kind-goes row (kind.executes at none) = inr (executed-goes (instruction_effect p.space p.control.areas l.regs))
+  kind-goes row _ = inr refl
 
   only_requested : (row_for s pid p id l).did ≡ Stopped → row_for s pid p id l ≡ requested_row
-  unfolding row_for GoesOn is_stop
-  only_requested did = by l.control.directed refl
-    where
-      rest : Row
-      rest = posted_row_or s pid p id l l.phase (current_row_or s pid p id l l.current (signal_row_or s pid p id l l.phase (row_in s pid p id l l.phase)))
-
-      clash : is_stop rest.did ≡ false → rest.did ≡ Stopped → ⊥
-      clash goes stops = no (sym (ap is_stop stops) ∙ goes)
-        where
-          no : true ≡ false → ⊥
-          no e = cc
-
-      by : (b : Bool) → l.control.directed ≡ b → row_for s pid p id l ≡ requested_row
-      by true is = rw is refl
-      by false is = absurd (clash (phase-goes l.phase) (subst (λ b. (cond b requested_row rest).did ≡ Stopped) is did))
+  unfolding GoesOn is_stop
+  only_requested did = elim (kind-goes (row_for s pid p id l) (row-kind s pid p id l)) [
+    | inl is ↦ is
+    | inr goes ↦ absurd (false≢true (sym goes ∙ ap is_stop did))
+  ]
 
 -- and that row changes what controllers set alone
 stop-bare : (s : TracedSystem) (pid id : ℕ) (t : LwpTurn) → turn_of s pid id ≡ Some t → t.turned.did ≡ Stopped → bare_system t.system ≡ bare_system s

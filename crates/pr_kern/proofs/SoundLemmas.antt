@@ -1,4 +1,4 @@
-use Rattle.std.proofs.Common.{◌≡◌, ℕ, ◌≤◌, Bool, true, false, cond, Option, sym, subst, arith}
+use Rattle.std.proofs.Common.{◌≡◌, ℕ, ◌≤◌, Option, sym, subst, arith}
 use Rattle.pr_num.specs.declared.infos.Info.{Info}
 use Rattle.pr_num.specs.declared.signals.Sig.{Sig}
 use Rattle.pr_model.specs.Lives.{with_made, with_this_ended}
@@ -15,11 +15,6 @@ use Rattle.pr_kern.specs.Soundness.{IsSound}
 -- a sound system is sound after more steps
 pub IsSound-more : (n m : ℕ) (s : TracedSystem) → n ≤ m → IsSound n s → IsSound m s
 IsSound-more n m s more h = record { clock = omega (arith, h.clock); counts = AllUsedAtMost-more n m s more h.counts }
-
--- whether one choice or the other is made
-pub sound-either : (n : ℕ) (b : Bool) (s t : TracedSystem) → IsSound n s → IsSound n t → IsSound n (cond b s t)
-sound-either n true s t h k = h
-sound-either n false s t h k = k
 
 -- a change that leaves what a process has used
 unfoldable pub KeepsUsage : (TracedProcess → TracedProcess) → Type 0

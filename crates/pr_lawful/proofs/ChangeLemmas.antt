@@ -133,7 +133,7 @@ disposition-keeps g d catchable pid x = record {
   };
   parent = refl;
   ended = refl;
-  space = refl;
+  size = refl;
   fds = refl;
 }
 
@@ -188,7 +188,7 @@ one_more-kept pid new held regs x live next last few holdable = by (is_some (lwp
           };
       parent = refl;
       ended = refl;
-      space = refl;
+      size = refl;
       fds = refl;
     }
 

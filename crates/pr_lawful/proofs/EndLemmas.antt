@@ -245,7 +245,7 @@ without_lwp-kept pid id x live more = record {
   };
   parent = refl;
   ended = refl;
-  space = refl;
+  size = refl;
   fds = refl;
 }
   where

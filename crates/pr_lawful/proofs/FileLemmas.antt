@@ -1,7 +1,8 @@
-use Rattle.std.proofs.Common.{◌≡◌, ℕ, ◌+◌, ◌<◌, ◌≤◌, Bool, true, false, eqb, ltb, leb, cond, Ok, Option, Some, None, is_some, is_none, List, [], length, set, drop, refl, ◌∙◌, ap, arith, length-drop}
+use Rattle.std.proofs.Common.{◌≡◌, ℕ, ◌+◌, ◌<◌, ◌≤◌, Bool, true, false, eqb, ltb, leb, Ok, Option, Some, None, is_some, is_none, List, length, set, drop, refl, ◌∙◌, ap, arith, length-drop, []}
 use Rattle.std.specs.List.{count_by, position}
 use Rattle.std.proofs.lemmas.Bool.{ltb-true, ltb-false, leb-true}
 use Rattle.std.proofs.lemmas.List.{length-set, length-take}
+pub use Rattle.pr_keeps.proofs.KeepsLemmas.{choice}
 use Rattle.pr_num.specs.Limits.{file_limit, file_size_limit, pipe_limit, pipe_size_limit}
 use Rattle.pr_num.specs.Files.{FileTable, Descriptors, pipe_of}
 use Rattle.pr_num.specs.declared.files.OpenFile.{OpenFile}
@@ -17,11 +18,6 @@ use Rattle.pr_file.proofs.TableLemmas.{IsFileTable-user_gone, IsFileTable-user_a
 use Rattle.pr_num.proofs.TableLemmas.{position-within}
 
 -- What a call on files makes of a table that is in order is in order, and counts the descriptors that there are then.
-
--- one of two, each where its test says so
-pub choice : {X : Type 0} (P : X → Type 0) (b : Bool) (x y : X) → (b ≡ true → P x) → (b ≡ false → P y) → P (cond b x y)
-choice P true x y one other = one refl
-choice P false x y one other = other refl
 
 -- the table and the number of places for descriptors after a call
 pub record IsOrdered {A : Type 0} (t : FileTable) (fds : Descriptors) (e : FileEffect A) : Type 0 where

@@ -45,27 +45,27 @@ live-empty x live = record {
   no_files = λ status is. absurd (none-some status (sym live ∙ is));
 }
 
--- What a process that is changed in its place keeps: it stays lawful, with the same parent, end, memory and
--- descriptors.
+-- What a process that is changed in its place keeps: it stays lawful, with the same parent, end and descriptors, and as
+-- much memory.
 pub record IsKept (pid : ℕ) (x y : TracedProcess) : Type 0 where
   pub lawful : IsLawfulProcess (pid, x) → IsLawfulProcess (pid, y)
   pub parent : y.parent ≡ x.parent
   pub ended : y.ended ≡ x.ended
-  pub space : y.space ≡ x.space
+  pub size : mapped_size y.space ≡ mapped_size x.space
   pub fds : y.fds ≡ x.fds
 
 abbrev pub Keeps : (TracedProcess → TracedProcess) → Type 0
 Keeps f = (pid : ℕ) (x : TracedProcess) → IsKept pid x (f x)
 
 pub kept-same : (pid : ℕ) (x : TracedProcess) → IsKept pid x x
-kept-same pid x = record { lawful = λ h. h; parent = refl; ended = refl; space = refl; fds = refl }
+kept-same pid x = record { lawful = λ h. h; parent = refl; ended = refl; size = refl; fds = refl }
 
 pub kept-next : (pid : ℕ) (x y z : TracedProcess) → IsKept pid x y → IsKept pid y z → IsKept pid x z
 kept-next pid x y z first next = record {
   lawful = λ h. next.lawful (first.lawful h);
   parent = next.parent ∙ first.parent;
   ended = next.ended ∙ first.ended;
-  space = next.space ∙ first.space;
+  size = next.size ∙ first.size;
   fds = next.fds ∙ first.fds;
 }
 
@@ -143,7 +143,7 @@ kept-parts pid x y parent rest lwps space fds = record {
   lawful = lawful-lwps pid x y rest lwps space fds;
   parent = parent;
   ended = rest.ended;
-  space = space;
+  size = ap mapped_size space;
   fds = fds;
 }
 

@@ -1,4 +1,4 @@
-use Rattle.std.proofs.Common.{◌&&◌, ℕ, ◌≤◌, Bool, true, false, eqb, Option, Some, None, List, [], ◌∷◌, length, cond, arith}
+use Rattle.std.proofs.Common.{◌&&◌, ℕ, ◌≤◌, Bool, true, false, eqb, Option, Some, None, List, ◌∷◌, length, cond, arith, []}
 use Rattle.std.specs.List.{All}
 use Rattle.std.proofs.lemmas.List.Elements.{All-weaker}
 use Rattle.pr_num.specs.Programs.{Program}
@@ -6,10 +6,15 @@ use Rattle.pr_num.specs.Signals.{signal_number}
 use Rattle.pr_num.specs.declared.infos.Info.{Info}
 use Rattle.pr_num.specs.declared.signals.Sig.{Sig}
 use Rattle.pr_num.specs.declared.signals.Sig.TheVariants.{Kill}
+use Rattle.pr_keeps.specs.CallEdits as close
+use Rattle.pr_keeps.specs.CallEdits.{CloseEdit}
+use Rattle.pr_keeps.specs.MessageEdits as message
+use Rattle.pr_keeps.specs.MessageEdits.{MessageEdit}
+use Rattle.pr_num.specs.Infos.{by_controller}
+use Rattle.pr_num.specs.declared.messages.Message.{Message}
 use Rattle.pr_model.specs.Changes.{Change, files_are, space_is, signals, signals_itself, takes_shared, job_stops, disposition_is, held_is, resumes, forks, reaps, becomes, makes_lwp, suspends, Ending, ends_process, ends_lwp, changed, all_changed, ended}
 use Rattle.pr_model.specs.Generation.{told}
-use Rattle.pr_num.specs.Control.{has_flags, klc_mode, rlc_mode}
-use Rattle.pr_model.specs.Handles.{after_last_close, released, with_last_close}
+use Rattle.pr_model.specs.Handles.{released}
 use Rattle.pr_model.specs.Lawful.{IsOfMade}
 use Rattle.pr_model.specs.Lives.{Birth, with_made, with_parent_told, without_lwp, with_reaped, with_spawned, with_child, with_this_ended, ended_if_live, with_ended, with_lwp_ended}
 use Rattle.pr_model.specs.LwpTurns.{settled}
@@ -61,13 +66,19 @@ lwp_ended-grows : (s : TracedSystem) (pid : ℕ) (p : TracedProcess) (id : ℕ) 
 unfolding with_lwp_ended
 lwp_ended-grows s pid p id = either-grows (eqb (length p.lwps) 1) s _ _ (ended-grows s pid p 0) (process-grows s pid (without_lwp id))
 
--- the last close for writing
-pub closed-grows : (s : TracedSystem) (pid : ℕ) (o : Option TracedProcess) → Grows s (after_last_close pid o s)
-unfolding with_last_close
-closed-grows s pid None = same-grows s
-closed-grows s pid (Some p) =
-    either-grows (has_flags p.control.modes klc_mode) s _ _ (ended-grows s pid p (signal_number Kill))
-    (either-grows (has_flags p.control.modes rlc_mode) s _ _ (process-grows s pid released) (same-grows s))
+-- ---- messages and closes
+
+pub edit-grows : (s : TracedSystem) (pid : ℕ) (p : TracedProcess) (m : Message) (tail : List ℕ) (t : TracedSystem)
+    → MessageEdit s pid p m tail t → Grows s t
+edit-grows s pid p m tail t message.nothing = same-grows s
+edit-grows s pid p m tail t (message.a_process f edits) = process-grows s pid f
+edit-grows s pid p m tail t message.an_end = ended-grows s pid p (signal_number Kill)
+edit-grows s pid p m tail t (message.a_signal target g is room) = generated-grows s pid target g by_controller
+
+pub closed-grows : (s : TracedSystem) (pid : ℕ) (t : TracedSystem) → CloseEdit s pid t → Grows s t
+closed-grows s pid t close.nothing = same-grows s
+closed-grows s pid t (close.kills p live mode) = ended-grows s pid p (signal_number Kill)
+closed-grows s pid t (close.releases p live spares mode) = process-grows s pid released
 
 -- ---- beginnings
 

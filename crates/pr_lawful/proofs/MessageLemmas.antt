@@ -8,23 +8,24 @@ use Rattle.pr_num.proofs.ByIdLemmas.{rises_from-inserted}
 use Rattle.pr_num.proofs.ByIdLaws.{All-inserted, length-inserted}
 use Rattle.pr_num.proofs.SetLemmas.{has_number-without}
 use Rattle.pr_num.specs.Agents.{agent_id}
-use Rattle.pr_num.specs.ById.{map_each}
-use Rattle.pr_num.specs.Control.{has_flags, clear_signal, clear_fault, single_step, abort_call, stop_again}
 use Rattle.pr_num.specs.Infos.{by_controller}
-use Rattle.pr_num.specs.Limits.{area_limit, lwp_limit, all_signals}
+use Rattle.pr_num.specs.Limits.{lwp_limit, all_signals}
 use Rattle.pr_num.specs.Sets.{has_number}
 use Rattle.pr_num.specs.Spaces.{bytes_for}
 use Rattle.pr_num.specs.Signals.{signal_number, signal_of_number}
 use Rattle.pr_num.specs.declared.infos.Info.{Info}
 use Rattle.pr_num.specs.declared.mappings.BadByte.{BadByte}
 use Rattle.pr_num.specs.declared.messages.Message.{Message}
-use Rattle.pr_num.specs.declared.messages.Message.TheVariants as message
-use Rattle.pr_num.specs.declared.signals.Sig.{Sig}
 use Rattle.pr_num.specs.declared.signals.Sig.TheVariants.{Kill}
 use Rattle.pr_parts.specs.AddressSpaces.{with_bytes}
-use Rattle.pr_parts.specs.PendingSignals.{has_room}
-use Rattle.pr_parts.specs.WatchedAreas.{is_taken, with_area, without_area}
+use Rattle.pr_parts.specs.PendingSignals.{without_one}
 use Rattle.pr_parts.proofs.SpaceLemmas.{mapped_size-with_bytes}
+use Rattle.pr_keeps.specs.LwpEdits as lwp
+use Rattle.pr_keeps.specs.LwpEdits.{LwpEdit, LwpEdits}
+use Rattle.pr_keeps.specs.MessageEdits.{MessageEdit, nothing, a_process, an_end, a_signal}
+use Rattle.pr_keeps.specs.ProcessEdits as process
+use Rattle.pr_keeps.specs.ProcessEdits.{ControlEdit, ProcessEdit, ProcessEdits}
+use Rattle.pr_keeps.proofs.KeepsLemmas.{lwp-edits-keep, process-edits-keep}
 use Rattle.pr_model.specs.Changes.{with_space}
 use Rattle.pr_model.specs.Lawful.{IsLawfulFrame, IsLawfulLwp, IsLawfulProcess, IsLawfulSystem}
 use Rattle.pr_model.specs.Lives.{new_lwp, with_this_ended}
@@ -37,7 +38,6 @@ use Rattle.pr_model.specs.State.{TracedControl, TracedLwp, TracedProcess, Traced
 use Rattle.pr_model.specs.declared.stops.Stop.TheVariants.{Requested}
 use Rattle.pr_model.specs.Stops.{directed, has_event_stop, representative, with_all_directed}
 use Rattle.pr_lawful.proofs.EndLemmas.{ended-lawful, generated-lawful}
-use Rattle.pr_lawful.proofs.FileLemmas.{choice}
 use Rattle.pr_lawful.proofs.HoldableLemmas.{holdable-holdable}
 use Rattle.pr_mem.proofs.HeapPlaceLemmas.{LeavesHeapPlace-with_bytes}
 use Rattle.pr_rec.specs.InRange.{IsInfo}
@@ -47,153 +47,81 @@ use Rattle.pr_lawful.proofs.SignalLemmas.{HasRoomIn, MayPend}
 use Rattle.pr_lawful.proofs.SystemLemmas.{Replaces, replaced, kept-replaces}
 use Rattle.pr_lawful.proofs.TransitionLemmas.{directed-keeps, all_directed-keeps}
 
--- What a control message makes of a lawful system: one of four kinds of change, each of which leaves it lawful.
+-- Each edit of a control message leaves a lawful system lawful: a line a kind of edit.
 
-pub data Makes (s : TracedSystem) (pid : ℕ) (p : TracedProcess) (t : TracedSystem) : Type 0 where
-  -- nothing
-  nothing : t ≡ s → Makes s pid p t
-  -- the process is changed in its place
-  a_process : (f : TracedProcess → TracedProcess) → Replaces s s.files pid p (f p) → t ≡ with_process pid f s → Makes s pid p t
-  -- the process ends
-  an_end : (status : ℕ) → t ≡ with_this_ended traced pid p status s → Makes s pid p t
-  -- a signal is generated for it, which has room
-  a_signal : (target : Option ℕ) (g : Sig) (info : Info) → MayPend p target g info → t ≡ generated traced pid target g info s → Makes s pid p t
-
-pub makes-lawful : (s : TracedSystem) (pid : ℕ) (p : TracedProcess) (t : TracedSystem) → IsLawfulSystem s → pid ≢ 0 → process_of s pid ≡ Some p → Makes s pid p t → IsLawfulSystem t
-makes-lawful s pid p t h user found (nothing is) = subst IsLawfulSystem (sym is) h
-makes-lawful s pid p t h user found (a_process f replaces is) = subst IsLawfulSystem (sym is) (replaced s s.files pid f p h user found replaces)
-makes-lawful s pid p t h user found (an_end status is) = subst IsLawfulSystem (sym is) (ended-lawful s pid p status h user found)
-makes-lawful s pid p t h user found (a_signal target g info new is) = subst IsLawfulSystem (sym is) (generated-lawful s pid target g info (record { found = λ x at. subst (λ y. MayPend y target g info) (same_Some p x (sym found ∙ at)) new }) h user)
-
--- ---- what messages make of lwps
-
-pub same-keeps : KeepsLwp (λ l. l)
-same-keeps next id l it = it
-
-if_flag-keeps : (flags flag : ℕ) (f : TracedLwp → TracedLwp) → KeepsLwp f → KeepsLwp (if_flag flags flag f)
-if_flag-keeps flags flag f keeps = keeps-if (has_flags flags flag) f (λ l. l) keeps same-keeps
-
-without_current-keeps : KeepsLwp without_current
-unfolding without_current
-without_current-keeps next id l it = record { id = it.id; held = it.held; frames = it.frames; few_frames = it.few_frames; pending = it.pending; current = tt }
-
-without_fault-keeps : KeepsLwp without_fault
-unfolding without_fault
-without_fault-keeps = same_sets without_fault (λ l. refl) (λ l. refl) (λ l. refl) (λ l. refl)
-
-with_step-keeps : KeepsLwp with_step
-unfolding with_step
-with_step-keeps = same_sets with_step (λ l. refl) (λ l. refl) (λ l. refl) (λ l. refl)
-
-with_abort-keeps : KeepsLwp with_abort
-unfolding with_abort
-with_abort-keeps = same_sets with_abort (λ l. refl) (λ l. refl) (λ l. refl) (λ l. refl)
-
-with_directive-keeps : KeepsLwp with_directive
-unfolding with_directive
-with_directive-keeps = same_sets with_directive (λ l. refl) (λ l. refl) (λ l. refl) (λ l. refl)
-
-without_directive-keeps : KeepsLwp without_directive
-unfolding without_directive
-without_directive-keeps = same_sets without_directive (λ l. refl) (λ l. refl) (λ l. refl) (λ l. refl)
-
-let_go-keeps : KeepsLwp let_go
-unfolding let_go
-let_go-keeps = same_sets let_go (λ l. refl) (λ l. refl) (λ l. refl) (λ l. refl)
-
-with_cleared-keeps : (flags : ℕ) → KeepsLwp (with_cleared flags)
-unfolding with_cleared
-with_cleared-keeps flags next id l it =
-    if_flag-keeps flags clear_fault without_fault without_fault-keeps next id (if_flag flags clear_signal without_current l) (if_flag-keeps flags clear_signal without_current without_current-keeps next id l it)
-
-with_aborted-keeps : (flags : ℕ) (stop : _) → KeepsLwp (with_aborted flags stop)
-unfolding with_aborted
-with_aborted-keeps flags stop = if_flag-keeps flags abort_call (with_abort_from stop) (λ next id l it. keeps-if (is_entry_stop stop || is_asleep l.phase) with_abort (λ m. m) with_abort-keeps same-keeps next id l it)
-
-run_lwp-keeps : (flags : ℕ) → KeepsLwp (run_lwp flags)
-unfolding run_lwp
-run_lwp-keeps flags next id l it =
-    let gone = let_go-keeps next id l it in
-    let cleared = with_cleared-keeps flags next id (let_go l) gone in
-    let stepping = if_flag-keeps flags single_step with_step with_step-keeps next id (with_cleared flags (let_go l)) cleared in
-    let aborted = with_aborted-keeps flags l.control.stop next id (if_flag flags single_step with_step (with_cleared flags (let_go l))) stepping in
-    if_flag-keeps flags stop_again with_directive with_directive-keeps next id (with_aborted flags l.control.stop (if_flag flags single_step with_step (with_cleared flags (let_go l)))) aborted
-
-with_request-keeps : KeepsLwp with_request
-unfolding with_request
-with_request-keeps next id l it =
-    keeps-if (has_event_stop l) (λ m. record m { control = record m.control { stop = Some Requested } }) (λ m. m) (same_sets (λ m. record m { control = record m.control { stop = Some Requested } }) (λ m. refl) (λ m. refl) (λ m. refl) (λ m. refl)) same-keeps next id l it
-
-without_request-keeps : KeepsLwp without_request
-unfolding without_request
-without_request-keeps next id l it =
-    keeps-if (was_requested l.control.stop) (λ m. record m { control = record m.control { stop = None } }) (λ m. m) (same_sets (λ m. record m { control = record m.control { stop = None } }) (λ m. refl) (λ m. refl) (λ m. refl) (λ m. refl)) same-keeps next id l it
-
-with_flags_on-keeps : (flags : ℕ) → KeepsLwp (with_flags_on flags)
-unfolding with_flags_on
-with_flags_on-keeps flags next id l it = with_aborted-keeps flags l.control.stop next id (with_cleared flags l) (with_cleared-keeps flags next id l it)
-
-controller-info : IsInfo by_controller
+pub controller-info : IsInfo by_controller
 controller-info = record { code = omega arith; pid = omega arith }
 
-current-keeps : (signal : Option Sig) → KeepsLwp (with_signal_set signal)
-unfolding with_signal_set without_current
-current-keeps None next id l it = record { id = it.id; held = it.held; frames = it.frames; few_frames = it.few_frames; pending = it.pending; current = tt }
-current-keeps (Some g) next id l it = record { id = it.id; held = it.held; frames = it.frames; few_frames = it.few_frames; pending = it.pending; current = controller-info }
+-- ---- lwps
 
-without_one-keeps : (g : Sig) → KeepsLwp (lwp_without_one g)
-unfolding lwp_without_one
-without_one-keeps g next id l it = record { id = it.id; held = it.held; frames = it.frames; few_frames = it.few_frames; pending = taken-infos g l.pending it.pending; current = it.current }
+module _ (next id : ℕ) where
+  -- what makes an lwp lawful is left
+  alike : (l k : TracedLwp) → k.held ≡ l.held → k.frames ≡ l.frames → k.pending ≡ l.pending → k.current ≡ l.current
+      → IsLawfulLwp next (id, l) → IsLawfulLwp next (id, k)
+  alike l k held frames pending current h = record {
+    id = h.id;
+    held = rw held h.held;
+    frames = rw frames h.frames;
+    few_frames = rw frames h.few_frames;
+    pending = rw pending h.pending;
+    current = rw current h.current;
+  }
 
-held_set-keeps : (signals : ℕ) → KeepsLwp (with_held_set signals)
-unfolding with_held_set
-held_set-keeps signals next id l it = record { id = it.id; held = holdable-holdable signals; frames = it.frames; few_frames = it.few_frames; pending = it.pending; current = it.current }
+  edited-lwp : (m : Message) (l k : TracedLwp) → LwpEdit m l k → IsLawfulLwp next (id, l) → IsLawfulLwp next (id, k)
+  unfolding without_current without_fault with_directive without_directive let_go with_step with_abort lwp_without_one
+      with_held_set with_registers with_address
+  edited-lwp m l k (lwp.drops_signal is) h =
+      record { id = h.id; held = h.held; frames = h.frames; few_frames = h.few_frames; pending = h.pending; current = tt }
+  edited-lwp m l k (lwp.signal_is is) h = record {
+    id = h.id;
+    held = h.held;
+    frames = h.frames;
+    few_frames = h.few_frames;
+    pending = h.pending;
+    current = controller-info;
+  }
+  edited-lwp m l k (lwp.takes_back {g = g} is) h = record {
+    id = h.id;
+    held = h.held;
+    frames = h.frames;
+    few_frames = h.few_frames;
+    pending = taken-infos g l.pending h.pending;
+    current = h.current;
+  }
+  edited-lwp m l k (lwp.holds {signals = signals}) h = record {
+    id = h.id;
+    held = holdable-holdable signals;
+    frames = h.frames;
+    few_frames = h.few_frames;
+    pending = h.pending;
+    current = h.current;
+  }
+  edited-lwp m l k _ h = alike l k refl refl refl refl h
 
-registers-keep : (regs : List ℕ) → KeepsLwp (with_registers regs)
-unfolding with_registers
-registers-keep regs = same_sets (with_registers regs) (λ l. refl) (λ l. refl) (λ l. refl) (λ l. refl)
+edits-keep : (m : Message) (f : TracedLwp → TracedLwp) → ((l : TracedLwp) → LwpEdits m l (f l)) → KeepsLwp f
+edits-keep m f edits next id l h =
+    lwp-edits-keep m (λ k. IsLawfulLwp next (id, k)) (edited-lwp next id m) l (f l) (edits l) h
 
-address-keeps : (pc : ℕ) → KeepsLwp (with_address pc)
-unfolding with_address
-address-keeps pc = same_sets (with_address pc) (λ l. refl) (λ l. refl) (λ l. refl) (λ l. refl)
+-- ---- what is set on a process
 
--- ---- PCRUN on a process
+-- SIGKILL is not traced
+signals-traced : (signals : ℕ) (c : TracedControl) → has_number (tracing_signals signals c).traced_signals (signal_number Kill) ≡ false
+unfolding tracing_signals signal_number
+signals-traced signals c = has_number-without signals 9 9 (lit≤ tt) (lit≤ tt) (lit≤ tt) (lit≤ tt) ∙ and_false (has_number signals 9)
 
--- the representative runs, and no lwp is directed
-representative-kept : (flags : ℕ) (pid : ℕ) (x : TracedProcess) (o : Option (ℕ × TracedLwp)) → IsKept pid x (record x { lwps = with_representative_run flags o x.lwps })
-unfolding with_lwp
-representative-kept flags pid x None = keeps-each without_directive without_directive-keeps pid x
-representative-kept flags pid x (Some r) =
-    let first = with_lwp r.0 (with_flags_on flags) x in
-    let second : TracedProcess = record first { lwps = map_each without_directive first.lwps } in
-    kept-next pid x second (with_lwp r.0 with_request second)
-    (kept-next pid x first second (keeps-lwp r.0 (with_flags_on flags) (with_flags_on-keeps flags) pid x) (keeps-each without_directive without_directive-keeps pid first))
-    (keeps-lwp r.0 with_request with_request-keeps pid second)
+edited-control : (m : Message) (c d : TracedControl) → ControlEdit m c d
+    → has_number c.traced_signals (signal_number Kill) ≡ false
+    → has_number d.traced_signals (signal_number Kill) ≡ false
+unfolding tracing_faults tracing_entries tracing_exits with_modes without_modes with_areas
+edited-control m c d (process.signals {set = signals}) untraced = signals-traced signals c
+edited-control m c d _ untraced = untraced
 
-all_run-keeps : (flags : ℕ) → Keeps (with_all_run flags)
-unfolding with_all_run if_all_requested
-all_run-keeps flags pid x =
-    let y : TracedProcess = record x { lwps = with_representative_run flags (representative x) x.lwps } in
-    let run = representative-kept flags pid x (representative x) in
-    elim (list_all (shows_run x.job_stop) y.lwps) as (λ b. IsKept pid x (record x { lwps = cond b (map_each without_request y.lwps) y.lwps })) [
-      | true ↦ kept-next pid x y (record y { lwps = map_each without_request y.lwps }) run (keeps-each without_request without_request-keeps pid y)
-      | false ↦ run
-    ]
+-- ---- processes
 
-one_run-keeps : (flags : ℕ) (o : Option (ℕ × TracedLwp)) → Keeps (with_one_run flags o)
-one_run-keeps flags None pid x = kept-same pid x
-one_run-keeps flags (Some r) pid x = keeps-lwp r.0 (run_lwp flags) (run_lwp-keeps flags) pid x
-
-run-keeps : (flags : ℕ) → Keeps (with_run flags)
-unfolding with_run
-run-keeps flags pid x =
-    kept-if pid (runs_one flags) x (with_one_run flags (representative x) x) (with_all_run flags x) (one_run-keeps flags (representative x) pid x) (all_run-keeps flags pid x)
-
--- ---- what messages make of what is set on a process
-
-control-kept : (f : TracedControl → TracedControl) (pid : ℕ) (x : TracedProcess) → (has_number x.control.traced_signals (signal_number Kill) ≡ false → has_number (f x.control).traced_signals (signal_number Kill) ≡ false) → IsKept pid x (with_control f x)
-unfolding with_control
-control-kept f pid x traced_too = record {
+control-kept : (pid : ℕ) (x : TracedProcess) (c : TracedControl)
+    → (has_number x.control.traced_signals (signal_number Kill) ≡ false
+    → has_number c.traced_signals (signal_number Kill) ≡ false) → IsKept pid x (record x { control = c })
+control-kept pid x c traced_too = record {
   lawful = λ it. record {
     has_lwps = record { some = it.has_lwps.some };
     empty_zombie = record { no_lwps = it.empty_zombie.no_lwps; no_memory = it.empty_zombie.no_memory; no_files = it.empty_zombie.no_files };
@@ -210,93 +138,11 @@ control-kept f pid x traced_too = record {
   };
   parent = refl;
   ended = refl;
-  space = refl;
+  size = refl;
   fds = refl;
 }
 
--- SIGKILL is not traced
-signals-traced : (signals : ℕ) (c : TracedControl) → has_number (tracing_signals signals c).traced_signals (signal_number Kill) ≡ false
-unfolding tracing_signals signal_number
-signals-traced signals c = has_number-without signals 9 9 (lit≤ tt) (lit≤ tt) (lit≤ tt) (lit≤ tt) ∙ and_false (has_number signals 9)
-
-shared_one-keeps : (s : TracedSystem) (q : ℕ) (p : TracedProcess) (g : Sig) → Keeps (process_without_one s q p g)
-unfolding process_without_one
-shared_one-keeps s q p g pid x = kept-parts pid x (process_without_one s q p g x) refl (same_rest x _ refl refl refl refl (taken-infos g x.pending)) (same_lwps x _ refl refl) refl refl
-
--- ---- the rows
-
-module _ (s : TracedSystem) (pid : ℕ) (p : TracedProcess) (h : IsLawfulSystem s) (live : p.ended ≡ None) (own : IsLawfulProcess (pid, p)) where
-  MakesOf : Controlled → Type 0
-  MakesOf c = Makes s pid p c.system
-
-  kept-makes : (t : TracedSystem) (f : TracedProcess → TracedProcess) → IsKept pid p (f p) → t ≡ with_process pid f s → Makes s pid p t
-  kept-makes t f kept is = a_process f (kept-replaces s pid p (f p) h kept) is
-
-  lwp-makes : (t : TracedSystem) (id : ℕ) (f : TracedLwp → TracedLwp) → KeepsLwp f → t ≡ with_process pid (with_lwp id f) s → Makes s pid p t
-  lwp-makes t id f keeps is = kept-makes t (with_lwp id f) (keeps-lwp id f keeps pid p) is
-
-  on_lwp-makes : (len : ℕ) (f : TracedLwp → TracedLwp) → KeepsLwp f → (o : Option (ℕ × TracedLwp)) → MakesOf (on_found s pid p len f o)
-  unfolding MakesOf
-  on_lwp-makes len f keeps None = nothing refl
-  on_lwp-makes len f keeps (Some e) = lwp-makes _ e.0 f keeps refl
-
-  on_stopped-makes : (len : ℕ) (f : TracedLwp → TracedLwp) → KeepsLwp f → (o : Option (ℕ × TracedLwp)) → MakesOf (on_stopped_found s pid p len f o)
-  unfolding MakesOf
-  on_stopped-makes len f keeps None = nothing refl
-  on_stopped-makes len f keeps (Some e) = choice MakesOf (has_event_stop e.1) _ _ (λ stopped. lwp-makes _ e.0 f keeps refl) (λ runs. nothing refl)
-
-  set-makes : (len : ℕ) (f : TracedControl → TracedControl) → (has_number p.control.traced_signals (signal_number Kill) ≡ false → has_number (f p.control).traced_signals (signal_number Kill) ≡ false) → Makes s pid p (with_process pid (with_control f) s)
-  set-makes len f traced_too = kept-makes _ (with_control f) (control-kept f pid p traced_too) refl
-
-  directed-makes : (aim : Aim) → Makes s pid p (with_aim_directed s pid p aim)
-  unfolding with_aim_directed
-  directed-makes (at_lwp id) = lwp-makes _ id directed directed-keeps refl
-  directed-makes at_process = kept-makes _ with_all_directed (all_directed-keeps pid p) refl
-
-  run_found-makes : (flags len : ℕ) (o : Option (ℕ × TracedLwp)) → MakesOf (run_found s pid p flags len o)
-  unfolding MakesOf
-  run_found-makes flags len None = nothing refl
-  run_found-makes flags len (Some e) = choice MakesOf (lwp_run_refused p e.0 e.1) _ _ (λ no_run. nothing refl) (λ run. lwp-makes _ e.0 (run_lwp flags) (run_lwp-keeps flags) refl)
-
-  run-makes : (aim : Aim) (flags len : ℕ) → MakesOf (run_answer s pid p aim flags len)
-  unfolding run_answer MakesOf
-  run-makes (at_lwp id) flags len = run_found-makes flags len (found_at s pid p id (lwp_of p id))
-  run-makes at_process flags len = choice MakesOf (run_refused p) _ _ (λ no_run. nothing refl) (λ run. kept-makes _ (with_run flags) (run-keeps flags pid p) refl)
-
-  ssig-makes : (aim : Aim) (number len : ℕ) → MakesOf (ssig_answer s pid p aim number len)
-  unfolding ssig_answer killed MakesOf
-  ssig-makes aim number len =
-      choice MakesOf (is_kill_of s pid p (signal_of_number number)) _ _ (λ kill. an_end (signal_number Kill) refl)
-      (λ other. on_lwp-makes len (with_signal_set (signal_of_number number)) (current-keeps (signal_of_number number)) (aimed_lwp s pid p aim))
-
-  aimed-room : (aim : Aim) (g : Sig) → has_room g (pending_at s pid p aim) ≡ true → HasRoomIn p g (target_of_aim s pid p aim)
-  aimed-room at_process g room = room
-  aimed-room (at_lwp id) g room = λ l there. ap (λ (o : Option TracedLwp). has_room g (pending_of_found s pid p o)) (sym there) ∙ room
-
-  kill-makes : (aim : Aim) (len : ℕ) (o : Option Sig) → MakesOf (kill_by s pid p aim len o)
-  unfolding MakesOf
-  kill-makes aim len None = nothing refl
-  kill-makes aim len (Some g) =
-      choice MakesOf (has_room g (pending_at s pid p aim)) _ _ (λ room. a_signal (target_of_aim s pid p aim) g by_controller (record { fits = controller-info; room = aimed-room aim g room }) refl) (λ full. nothing refl)
-
-  unkill-makes : (aim : Aim) (len : ℕ) (o : Option Sig) → MakesOf (unkill_by s pid p aim len o)
-  unfolding MakesOf
-  unkill-makes (at_lwp id) len None = nothing refl
-  unkill-makes at_process len None = nothing refl
-  unkill-makes (at_lwp id) len (Some g) = lwp-makes _ id (lwp_without_one g) (without_one-keeps g) refl
-  unkill-makes at_process len (Some g) = kept-makes _ (process_without_one s pid p g) (shared_one-keeps s pid p g pid p) refl
-
-  areas-makes : (areas : _) → Makes s pid p (with_process pid (with_control (with_areas areas)) s)
-  unfolding with_areas
-  areas-makes areas = set-makes 0 (with_areas areas) (λ it. it)
-
-  watch-makes : (at size flags len : ℕ) → MakesOf (watch_answer s pid p at size flags len)
-  unfolding watch_answer MakesOf
-  watch-makes at size flags len =
-      choice MakesOf (eqb flags 0) _ _ (λ clear. areas-makes (without_area at p.control.areas)) (λ watch.
-      choice MakesOf (is_taken at size p.control.areas) _ _ (λ taken. nothing refl) (λ free.
-      choice MakesOf (leb area_limit (length p.control.areas)) _ _ (λ full. nothing refl) (λ room. areas-makes (with_area (record { at = at; size = size; flags = flags }) p.control.areas))))
-
+module _ (pid : ℕ) (p : TracedProcess) (live : p.ended ≡ None) where
   agent-kept : (regs : List ℕ) → has_agent p ≡ false → length p.lwps < lwp_limit → IsKept pid p (with_agent regs p)
   unfolding with_agent agent_lwp new_lwp
   agent-kept regs none room =
@@ -318,25 +164,13 @@ module _ (s : TracedSystem) (pid : ℕ) (p : TracedProcess) (h : IsLawfulSystem 
         };
         parent = refl;
         ended = refl;
-        space = refl;
+        size = refl;
         fds = refl;
       }
 
-  agent-makes : (regs : List ℕ) (len : ℕ) → MakesOf (agent_answer s pid p regs len)
-  unfolding agent_answer MakesOf
-  agent-makes regs len =
-      choice MakesOf (has_agent p || not (list_all (lets_agent p.job_stop) p.lwps)) _ _ (λ busy. nothing refl) (λ idle.
-      choice MakesOf (leb lwp_limit (length p.lwps)) _ _ (λ full. nothing refl) (λ room.
-      kept-makes _ (with_agent regs) (agent-kept regs (or_parts (has_agent p) (not (list_all (lets_agent p.job_stop) p.lwps)) idle).0 (leb-false lwp_limit (length p.lwps) room)) refl))
-
-  read-makes : (r : Result (List ℕ) BadByte) → MakesOf (read_of s pid p r)
-  unfolding MakesOf
-  read-makes (Err bad) = nothing refl
-  read-makes (Ok bytes) = nothing refl
-
-  written-replaces : (at : ℕ) (bytes : List ℕ) → Replaces s s.files pid p (with_space (with_bytes at bytes p.space) p)
-  unfolding with_space size_of
-  written-replaces at bytes = record {
+  written-kept : (at : ℕ) (bytes : List ℕ) → IsKept pid p (with_space (with_bytes at bytes p.space) p)
+  unfolding with_space
+  written-kept at bytes = record {
     lawful = λ it. record {
       has_lwps = record { some = it.has_lwps.some };
       empty_zombie = live-empty (with_space (with_bytes at bytes p.space) p) live;
@@ -353,39 +187,41 @@ module _ (s : TracedSystem) (pid : ℕ) (p : TracedProcess) (h : IsLawfulSystem 
     };
     parent = refl;
     ended = refl;
-    mapped = let limit = h.mapped in let same = mapped_size-with_bytes at bytes p.space in omega arith;
-    table = h.files.table;
-    pipes = h.files.pipes;
-    users = λ place. refl;
+    size = mapped_size-with_bytes at bytes p.space;
+    fds = refl;
   }
 
-  write-makes : (at : ℕ) (bytes : List ℕ) (len : ℕ) → MakesOf (write_answer s pid p at bytes len)
-  unfolding write_answer MakesOf
-  write-makes at bytes len =
-      choice MakesOf (is_ok (bytes_for 0 p.space at (length bytes))) _ _ (λ mapped. a_process (with_space (with_bytes at bytes p.space)) (written-replaces at bytes) refl) (λ hole. nothing refl)
+  edited-process : (m : Message) (tail : List ℕ) (y : TracedProcess) → ProcessEdit m tail p y → IsKept pid p y
+  edited-process m tail y (process.one_lwp id f edits) = keeps-lwp id f (edits-keep m f edits) pid p
+  edited-process m tail y (process.each_lwp f edits) = keeps-each f (edits-keep m f edits) pid p
+  edited-process m tail y (process.control_is {c = c} e) = control-kept pid p c (edited-control m p.control c e)
+  edited-process m tail y (process.takes_back {g = g} is) =
+      kept-parts pid p (record p { pending = without_one g p.pending }) refl
+      (same_rest p _ refl refl refl refl (taken-infos g p.pending)) (same_lwps p _ refl refl) refl refl
+  edited-process m tail y (process.gets_agent {regs = regs} none room) = agent-kept regs none room
+  edited-process m tail y (process.is_written {at = at} mapped) = written-kept at tail
 
-  pub message-makes : (aim : Aim) (m : Message) (tail : List ℕ) (len : ℕ) → Makes s pid p (message_answer s pid p aim m tail len).system
-  unfolding message_answer MakesOf kill_answer unkill_answer read_answer tracing_faults tracing_entries tracing_exits with_modes without_modes
-  message-makes aim message.Stop tail len = directed-makes aim
-  message-makes aim message.Dstop tail len = directed-makes aim
-  message-makes aim message.Wstop tail len = nothing refl
-  message-makes aim (message.Twstop ms) tail len = nothing refl
-  message-makes aim (message.Run flags) tail len = run-makes aim flags len
-  message-makes aim message.Csig tail len = on_lwp-makes len without_current without_current-keeps (aimed_lwp s pid p aim)
-  message-makes aim message.Cfault tail len = on_lwp-makes len without_fault without_fault-keeps (aimed_lwp s pid p aim)
-  message-makes aim (message.Ssig number) tail len = ssig-makes aim number len
-  message-makes aim (message.Kill number) tail len = kill-makes aim len (signal_of_number number)
-  message-makes aim (message.Unkill number) tail len = unkill-makes aim len (signal_of_number number)
-  message-makes aim (message.Shold signals) tail len = on_lwp-makes len (with_held_set signals) (held_set-keeps signals) (aimed_lwp s pid p aim)
-  message-makes aim (message.Strace signals) tail len = set-makes len (tracing_signals signals) (λ it. signals-traced signals p.control)
-  message-makes aim (message.Sfault faults) tail len = set-makes len (tracing_faults faults) (λ it. it)
-  message-makes aim (message.Sentry calls) tail len = set-makes len (tracing_entries calls) (λ it. it)
-  message-makes aim (message.Sexit calls) tail len = set-makes len (tracing_exits calls) (λ it. it)
-  message-makes aim (message.Set modes) tail len = set-makes len (with_modes modes) (λ it. it)
-  message-makes aim (message.Unset modes) tail len = set-makes len (without_modes modes) (λ it. it)
-  message-makes aim (message.Sreg regs) tail len = on_stopped-makes len (with_registers regs) (registers-keep regs) (aimed_lwp s pid p aim)
-  message-makes aim (message.Svaddr pc) tail len = on_stopped-makes len (with_address pc) (address-keeps pc) (aimed_lwp s pid p aim)
-  message-makes aim (message.Watch at size flags) tail len = watch-makes at size flags len
-  message-makes aim (message.Agent regs) tail len = agent-makes regs len
-  message-makes aim (message.Read at size) tail len = read-makes (mapped_bytes s pid p at size)
-  message-makes aim (message.Write at size) tail len = write-makes at tail len
+edits-kept : (pid : ℕ) (p : TracedProcess) → p.ended ≡ None → (m : Message) (tail : List ℕ) (y : TracedProcess)
+    → ProcessEdits m tail p y → IsKept pid p y
+edits-kept pid p live m tail y edits =
+    process-edits-keep m tail (λ x. IsKept pid p x)
+        (λ x z e kept. kept-next pid p x z kept (edited-process pid x (kept.ended ∙ live) m tail z e)) p y edits
+        (kept-same pid p)
+
+-- ---- the system
+
+pub edit-lawful : (s : TracedSystem) (pid : ℕ) (p : TracedProcess) (m : Message) (tail : List ℕ) (t : TracedSystem)
+    → IsLawfulSystem s → pid ≢ 0 → process_of s pid ≡ Some p → p.ended ≡ None → MessageEdit s pid p m tail t
+    → IsLawfulSystem t
+edit-lawful s pid p m tail t h user found live nothing = h
+edit-lawful s pid p m tail t h user found live (a_process f edits) =
+    replaced s s.files pid f p h user found (kept-replaces s pid p (f p) h (edits-kept pid p live m tail (f p) edits))
+edit-lawful s pid p m tail t h user found live an_end = ended-lawful s pid p (signal_number Kill) h user found
+edit-lawful s pid p m tail t h user found live (a_signal target g is room) =
+    generated-lawful s pid target g by_controller
+    (record {
+      found = λ x at.
+          subst (λ y. MayPend y target g by_controller) (same_Some p x (sym found ∙ at))
+          (record { fits = controller-info; room = room });
+    })
+    h user

@@ -11,6 +11,7 @@ use Rattle.pr_model.specs.Generation.{ends_job_stop, lwp_without_pending, lwp_wi
 use Rattle.pr_model.specs.Lawful.{IsLawfulLwp}
 use Rattle.pr_model.specs.Readers.{life_of}
 use Rattle.pr_model.specs.SignalCalls.{refuses, sends_nothing, sends, sending}
+use Rattle.pr_keeps.specs.MessageEdits.{HasRoomIn}
 use Rattle.pr_model.specs.State.{TracedLwp, TracedProcess, TracedSystem, lwp_of, process_of}
 use Rattle.pr_rec.specs.InRange.{IsInfo}
 use Rattle.pr_lawful.proofs.InfoLemmas.{added-infos, deleted-infos}
@@ -19,11 +20,6 @@ use Rattle.pr_lawful.proofs.LocalLemmas.{KeepsLwp, IsKept, Keeps, kept-same, kep
 -- A signal that is sent to a process, and has room where it is to pend, leaves it lawful.
 
 -- ---- room
-
--- it has room in the queue of the process, or in that of the lwp of an id, if there is one
-abbrev pub HasRoomIn : TracedProcess → Sig → Option ℕ → Type 0
-HasRoomIn x g None = has_room g x.pending ≡ true
-HasRoomIn x g (Some id) = (l : TracedLwp) → lwp_of x id ≡ Some l → has_room g l.pending ≡ true
 
 -- A signal may come to pend for a process, or for the lwp of an id in it: records can hold what comes with it, and it has
 -- room.

@@ -10,14 +10,18 @@ use Rattle.pr_num.specs.ById.{map_each}
 use Rattle.pr_num.proofs.ByIdLaws.{All-under}
 use Rattle.pr_num.proofs.SetLemmas.{has_number-zero}
 use Rattle.pr_num.specs.Control.{has_flags, klc_mode, rlc_mode}
+use Rattle.pr_num.specs.Infos.{by_controller}
 use Rattle.pr_num.specs.Limits.{process_limit, all_mappings_limit}
 use Rattle.pr_num.specs.Programs.{Program}
 use Rattle.pr_num.specs.Sets.{common_word, minus_word, without_number}
 use Rattle.pr_num.specs.Signals.{holdable_word, signal_number}
 use Rattle.pr_num.specs.Spaces.{Space, first_space, mapped_size}
 use Rattle.pr_num.specs.declared.errnos.Errno.TheVariants.{Inval, Noent, Busy}
+use Rattle.pr_num.specs.declared.messages.Message.{Message}
 use Rattle.pr_num.specs.declared.signals.Sig.TheVariants.{Kill}
 use Rattle.pr_parts.specs.FileTables.{count_at, users_at}
+use Rattle.pr_keeps.proofs.CallLemmas.{close-edit}
+use Rattle.pr_keeps.specs.MessageEdits.{MessageEdit, nothing, a_process, an_end, a_signal}
 use Rattle.pr_model.specs.FirstState.{system_process}
 use Rattle.pr_model.specs.Handles.{is_writable, is_writer, has_writer, fits_file, has_file, conflicts, open_refusal, with_opened, released_lwp, released_control, released, with_last_close, after_last_close, was_last_writer, with_closed}
 use Rattle.pr_model.specs.Lawful.{IsNumberedBelow, IsOfMade, IsLawfulFrame, IsLawfulLwp, IsLawfulProgram, IsLawfulProcess, IsLawfulSystem, IsFitting, AreExclusive, IsReleasedLwp, IsReleased, IsLawful}
@@ -35,8 +39,8 @@ use Rattle.pr_lawful.proofs.HandleLemmas.{all-fixed, alone-before, alone-then, e
 use Rattle.pr_lawful.proofs.InfoLemmas.{no-infos}
 use Rattle.pr_lawful.proofs.ProgramLemmas.{program-leaves, program-small}
 use Rattle.pr_lawful.proofs.LocalLemmas.{KeepsLwp, same_sets, live-empty, Keeps, mapped_lwps}
-use Rattle.pr_lawful.proofs.MadeLemmas.{Grows, closed-grows, either-grows, ended-grows, generated-grows, handles-on, process-grows, same-grows, settled-grows}
-use Rattle.pr_lawful.proofs.MessageLemmas.{Makes, nothing, a_process, an_end, a_signal, makes-lawful}
+use Rattle.pr_lawful.proofs.MadeLemmas.{Grows, closed-grows, either-grows, ended-grows, generated-grows, handles-on, process-grows, same-grows, settled-grows, edit-grows}
+use Rattle.pr_lawful.proofs.MessageLemmas.{Makes, nothing, a_process, an_end, a_signal, makes-lawful, edit-lawful}
 use Rattle.pr_lawful.proofs.ReleasedLemmas.{buried-released, ended-released, generated-released, modeless-released, process-released, settled-released, writer-released, zombie-released}
 use Rattle.pr_lawful.proofs.SystemLemmas.{joined, kept}
 use Rattle.pr_lawful.proofs.TransitionLemmas.{change_under-same}
@@ -75,29 +79,28 @@ same-state s t system opens h = record {
 
 -- ---- a message
 
-pub made-state : (s : TracedState) (pid : ℕ) (p : TracedProcess) (t : TracedSystem) → IsLawful s → pid ≢ 0 → process_of s.system pid ≡ Some p → has_writer pid s.opens ≡ true → Makes s.system pid p t → IsLawful (record s { system = t })
-made-state s pid p t h user found written makes = record {
-  system = makes-lawful s.system pid p t h.system user found makes;
+-- nothing is asked of a process that a controller has open for writing
+edit-released : (opens : Places) (s : TracedSystem) (pid : ℕ) (p : TracedProcess) (m : Message) (tail : List ℕ)
+    (t : TracedSystem) → has_writer pid opens ≡ true → All (IsReleased opens) s.processes → MessageEdit s pid p m tail t
+    → All (IsReleased opens) t.processes
+edit-released opens s pid p m tail t written all nothing = all
+edit-released opens s pid p m tail t written all (a_process f edits) =
+    process-released opens s pid f (λ x at it. writer-released opens pid (f x) written) all
+edit-released opens s pid p m tail t written all an_end = ended-released opens s pid p (signal_number Kill) all
+edit-released opens s pid p m tail t written all (a_signal target g is room) =
+    generated-released opens s pid target g by_controller all
+
+pub edit-state : (s : TracedState) (pid : ℕ) (p : TracedProcess) (m : Message) (tail : List ℕ) (t : TracedSystem)
+    → IsLawful s → pid ≢ 0 → process_of s.system pid ≡ Some p → p.ended ≡ None → has_writer pid s.opens ≡ true
+    → MessageEdit s.system pid p m tail t → IsLawful (record s { system = t })
+edit-state s pid p m tail t h user found live written e = record {
+  system = edit-lawful s.system pid p m tail t h.system user found live e;
   places = h.places;
   fitting = h.fitting;
-  handles = handles-on s.opens s.system t (made-on makes) h.handles;
+  handles = handles-on s.opens s.system t (edit-grows s.system pid p m tail t e) h.handles;
   exclusive = h.exclusive;
-  released = by makes;
+  released = edit-released s.opens s.system pid p m tail t written h.released e;
 }
-  where
-    made-on : Makes s.system pid p t → Grows s.system t
-    made-on (nothing is) = subst (Grows s.system) (sym is) (same-grows s.system)
-    made-on (a_process f replaces is) = subst (Grows s.system) (sym is) (process-grows s.system pid f)
-    made-on (an_end status is) = subst (Grows s.system) (sym is) (ended-grows s.system pid p status)
-    made-on (a_signal target g info new is) = subst (Grows s.system) (sym is) (generated-grows s.system pid target g info)
-
-    by : Makes s.system pid p t → All (IsReleased s.opens) t.processes
-    by (nothing is) = subst (λ (u : TracedSystem). All (IsReleased s.opens) u.processes) (sym is) h.released
-    by (a_process f replaces is) =
-        subst (λ (u : TracedSystem). All (IsReleased s.opens) u.processes) (sym is) (process-released s.opens s.system pid f (λ x at it. writer-released s.opens pid (f x) written) h.released)
-    by (an_end status is) = subst (λ (u : TracedSystem). All (IsReleased s.opens) u.processes) (sym is) (ended-released s.opens s.system pid p status h.released)
-    by (a_signal target g info new is) =
-        subst (λ (u : TracedSystem). All (IsReleased s.opens) u.processes) (sym is) (generated-released s.opens s.system pid target g info h.released)
 
 -- ---- opens
 
@@ -155,7 +158,7 @@ released-keeps pid x =
       };
       parent = refl;
       ended = refl;
-      space = refl;
+      size = refl;
       fds = refl;
     }
 
@@ -252,7 +255,8 @@ closed-state s number h lawful there = record {
   fitting = fitting-freed s.opens number h there lawful.fitting;
   handles =
       All-set (IsOfMade (cond (was_last_writer h (slice_set s.opens number None)) (after_last_close h.pid (live_process s.system h.pid) s.system) s.system).made) s.opens number None tt
-      (handles-on s.opens s.system (cond (was_last_writer h (slice_set s.opens number None)) (after_last_close h.pid (live_process s.system h.pid) s.system) s.system) (either-grows (was_last_writer h (slice_set s.opens number None)) s.system (after_last_close h.pid (live_process s.system h.pid) s.system) s.system (closed-grows s.system h.pid (live_process s.system h.pid)) (same-grows s.system)) lawful.handles);
+      (handles-on s.opens s.system (with_closed h number s).system
+          (closed-grows s.system h.pid (with_closed h number s).system (close-edit s number h)) lawful.handles);
   exclusive = exclusive-left s.opens number h there lawful.exclusive;
   released =
       choice (λ (t : TracedSystem). All (IsReleased (slice_set s.opens number None)) t.processes) (was_last_writer h (slice_set s.opens number None)) _ _

@@ -113,7 +113,7 @@ kept-replaces s pid x y h kept = record {
   lawful = kept.lawful;
   parent = kept.parent;
   ended = kept.ended;
-  mapped = let limit = h.mapped in rw kept.space (omega arith);
+  mapped = let limit = h.mapped in let same = kept.size in omega arith;
   table = h.files.table;
   pipes = h.files.pipes;
   users = λ place. ap (λ fds. users_at s.files place + count_at fds place) (sym kept.fds);

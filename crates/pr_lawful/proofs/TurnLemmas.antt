@@ -12,8 +12,10 @@ use Rattle.pr_num.specs.declared.signals.Sig.{Sig}
 use Rattle.pr_num.specs.declared.signals.Sig.TheVariants.{Kill, Stop, Segv}
 use Rattle.pr_num.specs.declared.syscalls.Sysno.{Sysno}
 use Rattle.pr_parts.specs.SignalRules.{action_of}
-use Rattle.pr_parts.specs.declared.actions.Action.{Action}
 use Rattle.pr_parts.specs.declared.actions.Action.TheVariants as act
+use Rattle.pr_keeps.specs.RowKinds as kind
+use Rattle.pr_keeps.specs.RowKinds.{RowKind}
+use Rattle.pr_keeps.proofs.RowLemmas.{row-kind}
 use Rattle.pr_model.specs.CallEffects.{call_effect}
 use Rattle.pr_model.specs.Changes as change
 use Rattle.pr_model.specs.Changes.{Change, Effect, Ending, ends_process, job_stops, takes_shared}
@@ -24,16 +26,14 @@ use Rattle.pr_model.specs.Lawful.{IsHoldable, IsLawfulFrame, AreUncaught, IsLawf
 use Rattle.pr_model.specs.Lives.{bare_process}
 use Rattle.pr_model.specs.LwpTurns.{LwpTurn, settled, turn_of}
 use Rattle.pr_model.specs.Moves.{Move, posts, returns, runs, enters, incurs, traps, leaves, sleeps, takes, drops, catches}
-use Rattle.pr_model.specs.Registers.{arguments, pc_of}
-use Rattle.pr_model.specs.Rows.{Row, requested_row, posted_row, returned_row, ran_row, entered_row, incurred_row, watched_row, executed_row, own_taken_row, shared_taken_row, handler_row, caught_row, interrupted_row, acted_row, performed_row, call_row, row_in, taken_or, signal_row_or, current_row_or, posted_row_or, row_for}
+use Rattle.pr_model.specs.Registers.{pc_of}
+use Rattle.pr_model.specs.Rows.{Row, requested_row, posted_row, returned_row, ran_row, entered_row, incurred_row, watched_row, executed_row, own_taken_row, shared_taken_row, handler_row, interrupted_row, performed_row, row_for}
 use Rattle.pr_model.specs.SignalCalls.{can_be_caught}
-use Rattle.pr_model.specs.Signals.{action_for, current_of, with_frame, handler_registers, handler_held, own_takeable, shared_takeable}
+use Rattle.pr_model.specs.Signals.{action_for, current_of, with_frame, handler_registers, handler_held}
 use Rattle.pr_model.specs.State.{TracedLwp, TracedProcess, TracedSystem, live_process, lwp_of, process_of}
 use Rattle.pr_model.specs.Transitions.{Transition, moving, changing, ending, stored_in, requested, posted, returned, ran, entered, incurred, trapped, own_taken, shared_taken, handled, dropped, job_stopped, died, interrupted, performed}
 use Rattle.pr_model.specs.declared.events.Res.TheVariants.{Error}
 use Rattle.pr_model.specs.declared.lwps.Current.{Current}
-use Rattle.pr_model.specs.declared.lwps.Phase.{Phase}
-use Rattle.pr_model.specs.declared.lwps.Phase.TheVariants.{User, Entered, Asleep, Exiting, Faulted}
 use Rattle.pr_lawful.proofs.EffectLemmas.{IsActing, own-process, own-lwp, Suits, call-suits, stored-suits}
 use Rattle.pr_lawful.proofs.EndLemmas.{found-live}
 use Rattle.pr_lawful.proofs.FileLemmas.{choice}
@@ -124,62 +124,44 @@ module _ (s : TracedSystem) (pid : ℕ) (p : TracedProcess) (id : ℕ) (l : Trac
       }) refl)
       (λ full. end-suits (ends_process (signal_number Segv)))
 
-  caught-suits : (c : Current) (handler : ℕ) (phase : Phase) → can_be_caught c.signal ≡ true → SuitsRow (caught_row l c handler phase)
-  unfolding SuitsRow caught_row interrupted_row interrupted handler_row
-  caught-suits c handler User catchable = handled-suits c handler catchable
-  caught-suits c handler (Entered call) catchable = move-suits (leaves call (arguments l.regs) (Error Intr)) tt refl
-  caught-suits c handler (Asleep call args since) catchable = move-suits (leaves call args (Error Intr)) tt refl
-  caught-suits c handler (Exiting call args result) catchable = handled-suits c handler catchable
-  caught-suits c handler (Faulted f address) catchable = handled-suits c handler catchable
-
-  acted-suits : (c : Current) → SuitsRow (acted_row p l c)
-  unfolding SuitsRow acted_row dropped job_stopped died
-  acted-suits c = by (action_for p.dispositions c.signal) refl
-    where
-      by : (action : Action) → action_for p.dispositions c.signal ≡ action → SuitsRow (acted_row p l c)
-      by act.Ignore is = rw is (move-suits drops tt refl)
-      by act.Stop is = rw is (change-suits (job_stops c.signal ∷ []) drops (tt, tt) tt refl)
-      by act.Die is = rw is (end-suits (ends_process (signal_number c.signal)))
-      by (act.Catch handler) is = rw is (caught-suits c handler l.phase (caught-can p.dispositions c.signal handler (own-process s pid p id l a).uncaught is))
-
-  taken-suits : (x y : Option Sig) (rest : Row) → SuitsRow rest → SuitsRow (taken_or s pid p id l x y rest)
-  unfolding SuitsRow own_taken_row shared_taken_row own_taken shared_taken
-  taken-suits (Some g) y rest other = move-suits (takes (current_of g l.pending) true) (current-info g l.pending (own-lwp s pid p id l a).pending) refl
-  taken-suits None (Some g) rest other = change-suits (takes_shared g ∷ []) (takes (current_of g p.pending) false) (tt, tt) (current-info g p.pending (own-process s pid p id l a).pending) refl
-  taken-suits None None rest other = other
-
-  current-suits : (o : Option Current) (rest : Row) → SuitsRow rest → SuitsRow (current_row_or s pid p id l o rest)
-  current-suits (Some c) rest other = acted-suits c
-  current-suits None rest other = other
-
   performed-suits : (woken : Bool) (call : Sysno) (args : List ℕ) (since : ℕ) (effect : Effect) → Suits s pid p id l a effect → SuitsRow (performed_row woken call args since effect)
   unfolding SuitsRow performed_row performed Suits
   performed-suits woken call args since (change.does result changes) suits = change-suits changes (leaves call args result) suits tt refl
   performed-suits woken call args since change.sleeps suits = move-suits (sleeps call args since) tt refl
   performed-suits woken call args since (change.ends how) suits = end-suits how
 
-  call_row-suits : (woken : Bool) (call : Sysno) (args : List ℕ) (since : ℕ) → SuitsRow (call_row s pid p id l woken call args since)
-  unfolding SuitsRow call_row interrupted_row interrupted
-  call_row-suits woken call args since =
-      choice (λ (row : Row). SuitsT row.transition) l.control.abort _ _ (λ aborted. move-suits (leaves call args (Error Intr)) tt refl)
-      (λ goes_on. performed-suits woken call args since (call_effect s pid p id l since call args) (call-suits s pid p id l a since call args))
-
   returned-suits : (call : Sysno) → SuitsRow (returned_row p l call)
   unfolding SuitsRow returned_row returned
   returned-suits call =
       choice (λ (row : Row). SuitsT row.transition) l.control.step _ _ (λ marked. trap-suits Trace (pc_of l.regs) l.regs None) (λ plain. move-suits returns tt refl)
 
-  phase-suits : (phase : Phase) → SuitsRow (posted_row_or s pid p id l phase (current_row_or s pid p id l l.current (signal_row_or s pid p id l phase (row_in s pid p id l phase))))
-  unfolding SuitsRow signal_row_or row_in posted_row posted
-  phase-suits User = current-suits l.current _ (taken-suits (own_takeable l) (shared_takeable p l) _ (executed-suits (instruction_effect p.space p.control.areas l.regs)))
-  phase-suits (Entered call) = current-suits l.current _ (call_row-suits false call (arguments l.regs) s.clock)
-  phase-suits (Asleep call args since) = current-suits l.current _ (taken-suits (own_takeable l) (shared_takeable p l) _ (call_row-suits true call args since))
-  phase-suits (Exiting call args result) = current-suits l.current _ (taken-suits (own_takeable l) (shared_takeable p l) _ (returned-suits call))
-  phase-suits (Faulted f address) = move-suits (posts f address) tt refl
+  kind-suits : (row : Row) → RowKind s pid p id l row → SuitsRow row
+  unfolding SuitsRow requested_row requested posted_row posted dropped job_stopped died handler_row own_taken_row
+      shared_taken_row own_taken shared_taken interrupted_row interrupted
+  kind-suits row (kind.stops now) =
+      record { changes = tt; move = tt; alone = λ how is. absurd (none-some how is); stop = λ is. (now, refl) }
+  kind-suits row (kind.posts {f = f} {address = address} at) = move-suits (posts f address) tt refl
+  kind-suits row (kind.ignores now is) = move-suits drops tt refl
+  kind-suits row (kind.stops_job {c = c} now is) = change-suits (job_stops c.signal ∷ []) drops (tt, tt) tt refl
+  kind-suits row (kind.dies {c = c} now is) = end-suits (ends_process (signal_number c.signal))
+  kind-suits row (kind.catches {c = c} {handler = handler} now is) =
+      handled-suits c handler (caught-can p.dispositions c.signal handler (own-process s pid p id l a).uncaught is)
+  kind-suits row (kind.takes_own {g = g} none is) =
+      move-suits (takes (current_of g l.pending) true) (current-info g l.pending (own-lwp s pid p id l a).pending) refl
+  kind-suits row (kind.takes_shared {g = g} none own is) =
+      change-suits (takes_shared g ∷ []) (takes (current_of g p.pending) false) (tt, tt)
+          (current-info g p.pending (own-process s pid p id l a).pending) refl
+  kind-suits row (kind.interrupts {call = call} {args = args} it why) =
+      move-suits (leaves call args (Error Intr)) tt refl
+  kind-suits row (kind.performs {woken = woken} {call = call} {args = args} {since = since} it goes none) =
+      performed-suits woken call args since (call_effect s pid p id l since call args)
+          (call-suits s pid p id l a since call args)
+  kind-suits row (kind.returns {call = call} at none) = returned-suits call
+  kind-suits row (kind.executes at none) = executed-suits (instruction_effect p.space p.control.areas l.regs)
 
   pub row-suits : SuitsT (row_for s pid p id l).transition
-  unfolding SuitsRow row_for requested_row requested
-  row-suits = choice (λ (row : Row). SuitsT row.transition) l.control.directed _ _ (λ now. record { changes = tt; move = tt; alone = λ how is. absurd (none-some how is); stop = λ is. (now, refl) }) (λ later. phase-suits l.phase)
+  unfolding SuitsRow
+  row-suits = kind-suits (row_for s pid p id l) (row-kind s pid p id l)
 
   pub row-lawful : IsLawfulSystem (settled s pid p id l (row_for s pid p id l)).system
   unfolding SuitsRow

@@ -4,6 +4,7 @@ use Rattle.pr_num.proofs.ByIdLaws.{All-change_under, All-inserted, All-map_each,
 use Rattle.pr_num.specs.ById.{change_under, inserted, map_each}
 use Rattle.pr_num.specs.Files.{FileTable}
 use Rattle.pr_lawful.proofs.FileLemmas.{choice}
+use Rattle.pr_keeps.proofs.KeepsLemmas.{all-replaced}
 use Rattle.pr_model.specs.Lives.{with_made, with_reaped}
 use Rattle.pr_model.specs.State.{TracedLwp, TracedProcess, TracedSystem, lwp_of, process_of, with_lwp, with_process}
 use Rattle.pr_model.specs.Stops.{directed, has_event_stop, with_all_directed}
@@ -90,6 +91,15 @@ changed-at s pid f keeps h = with_processes s (change_under pid f s.processes) (
 
 pub changed-one : (s : TracedSystem) (pid : ℕ) (f : TracedProcess → TracedProcess) → KeepsProcess f → IsInRange s → IsInRange (with_process pid f s)
 changed-one s pid f keeps h = changed-at s pid f (λ x there it. keeps x it) h
+
+-- the process that stands there is changed
+pub changed-found : (s : TracedSystem) (pid : ℕ) (p : TracedProcess) (f : TracedProcess → TracedProcess)
+    → process_of s pid ≡ Some p → (IsProcessInRange p → IsProcessInRange (f p)) → IsInRange s
+    → IsInRange (with_process pid f s)
+unfolding with_process
+changed-found s pid p f found keeps h =
+    with_processes s (change_under pid f s.processes)
+    (all-replaced ProcessInRange pid f p s.processes found keeps h.processes) h
 
 -- every process is changed
 pub changed-each : (es : List (ℕ × TracedProcess)) (f : TracedProcess → TracedProcess) → KeepsProcess f → All ProcessInRange es → All ProcessInRange (map_each f es)

@@ -1,4 +1,4 @@
-use Rattle.std.proofs.Common.{◌≡◌, ◌-◌, ℕ, Bool, true, false, eqb, ltb, length, set, Option, Some, None, List, [], ◌∷◌, refl, arith}
+use Rattle.std.proofs.Common.{◌≡◌, ◌-◌, ℕ, Bool, true, false, eqb, ltb, length, set, Option, Some, None, List, ◌∷◌, subst, arith, []}
 use Rattle.std.specs.List.{All}
 use Rattle.std.proofs.lemmas.List.Elements.{All-append, All-cons, All-nil}
 use Rattle.pr_num.proofs.NumberedLemmas.{signal_number-range}
@@ -24,6 +24,9 @@ use Rattle.pr_parts.specs.declared.actions.Action.TheVariants as act
 use Rattle.pr_rec.specs.InRange.{IsInfo}
 use Rattle.pr_lawful.proofs.EffectLemmas.{IsActing, own-lwp}
 use Rattle.pr_lawful.proofs.FileLemmas.{choice}
+use Rattle.pr_keeps.specs.RowKinds as kind
+use Rattle.pr_keeps.specs.RowKinds.{IsInCall, RowKind}
+use Rattle.pr_keeps.proofs.RowLemmas.{row-kind}
 use Rattle.pr_model.specs.CallEffects.{call_effect}
 use Rattle.pr_model.specs.Changes as change
 use Rattle.pr_model.specs.Changes.{Change, Effect, Ending, ends_process, job_stops, space_is, takes_shared}
@@ -33,16 +36,16 @@ use Rattle.pr_model.specs.Lawful.{IsLawfulCurrent}
 use Rattle.pr_model.specs.Machines.{call_over, fault_incurred, fault_posted, step_taken, stopped_as_directed, traced}
 use Rattle.pr_model.specs.Moves as move
 use Rattle.pr_model.specs.Moves.{Move, moved}
-use Rattle.pr_model.specs.Registers.{arguments, pc_of}
-use Rattle.pr_model.specs.Rows.{Row, requested_row, posted_row, returned_row, ran_row, entered_row, incurred_row, watched_row, executed_row, own_taken_row, shared_taken_row, handler_row, caught_row, interrupted_row, acted_row, performed_row, call_row, row_in, taken_or, signal_row_or, current_row_or, posted_row_or, row_for}
-use Rattle.pr_model.specs.Signals.{action_for, current_of, disposition_of, handler_held, handler_registers, own_takeable, shared_takeable, with_frame}
+use Rattle.pr_model.specs.Registers.{pc_of}
+use Rattle.pr_model.specs.Rows.{Row, requested_row, posted_row, returned_row, ran_row, entered_row, incurred_row, watched_row, executed_row, own_taken_row, shared_taken_row, handler_row, interrupted_row, performed_row, row_for}
+use Rattle.pr_model.specs.Signals.{action_for, current_of, disposition_of, handler_held, handler_registers, with_frame}
 use Rattle.pr_model.specs.State.{TracedLwp, TracedProcess, TracedSystem}
 use Rattle.pr_model.specs.Transitions.{Transition, changing, died, dropped, ending, entered, handled, incurred, interrupted, job_stopped, moving, own_taken, performed, posted, ran, requested, returned, shared_taken, stored_in, trapped}
 use Rattle.pr_model.specs.declared.events.Res.TheVariants.{Error}
 use Rattle.pr_model.specs.declared.frames.Frame.{Frame}
 use Rattle.pr_model.specs.declared.lwps.Current.{Current}
 use Rattle.pr_model.specs.declared.lwps.Phase.{Phase}
-use Rattle.pr_model.specs.declared.lwps.Phase.TheVariants.{User, Entered, Asleep, Exiting, Faulted}
+use Rattle.pr_model.specs.declared.lwps.Phase.TheVariants.{User, Entered, Asleep, Faulted}
 use Rattle.pr_range_laws.proofs.CallRanges.{IsEffectInRange, acting-lwp, acting-process, call-range}
 use Rattle.pr_range_laws.proofs.ChangeRanges.{IsChangeInRange}
 use Rattle.pr_range_laws.proofs.EndRanges.{IsEndingInRange, signal-word}
@@ -200,33 +203,25 @@ module _ (s : TracedSystem) (pid : ℕ) (p : TracedProcess) (id : ℕ) (l : Trac
       (All-append IsFrameInRange l.frames (back ∷ []) own.frames (All-cons IsFrameInRange back [] (record { regs = own.regs; held = own.held }) (All-nil IsFrameInRange)), handler-registers c handler l.regs it fits own.regs, handler-held c l.held own.held))
       (λ full. ends (ends_process (signal_number Segv)) (signal-word Segv))
 
-  caught-range : (c : Current) (handler : ℕ) (phase : Phase) → IsTaken c → IsWord handler → IsPhaseInRange phase → IsRowInRange (caught_row l c handler phase)
-  unfolding caught_row interrupted_row interrupted handler_row
-  caught-range c handler User it fits stands = handled-range c handler it fits
-  caught-range c handler (Entered call) it fits stands = moves (move.leaves call (arguments l.regs) (Error Intr)) (arguments-words l.regs own-regs, tt)
-  caught-range c handler (Asleep call args since) it fits stands = moves (move.leaves call args (Error Intr)) (stands, tt)
-  caught-range c handler (Exiting call args result) it fits stands = handled-range c handler it fits
-  caught-range c handler (Faulted f address) it fits stands = handled-range c handler it fits
+  -- what comes with the current signal
+  its-current : (c : Current) → l.current ≡ Some c → IsTaken c
+  its-current c now = record {
+    info = subst IsLawfulCurrent now (own-lwp s pid p id l a).current;
+    value = subst HasWordCurrent now (acting-lwp s pid p id l a h).current;
+  }
 
-  acted-range : (c : Current) → IsTaken c → IsRowInRange (acted_row p l c)
-  unfolding acted_row dropped job_stopped died disposition_of
-  acted-range c it = by (action_for p.dispositions c.signal) refl (action-range c.signal _ (word_at p.dispositions (signal_number c.signal - 1) (acting-process s pid p id l a h).dispositions.words))
-    where
-      by : (action : Action) → action_for p.dispositions c.signal ≡ action → IsActionInRange action → IsRowInRange (acted_row p l c)
-      by act.Ignore is fits = rw is (moves move.drops tt)
-      by act.Stop is fits = rw is (changes (job_stops c.signal ∷ []) move.drops (one (job_stops c.signal) tt) tt)
-      by act.Die is fits = rw is (ends (ends_process (signal_number c.signal)) (signal-word c.signal))
-      by (act.Catch handler) is fits = rw is (caught-range c handler l.phase it fits (acting-lwp s pid p id l a h).phase)
+  catcher-range : (c : Current) (handler : ℕ) → action_for p.dispositions c.signal ≡ act.Catch handler → IsWord handler
+  unfolding disposition_of
+  catcher-range c handler is =
+      subst IsActionInRange is
+          (action-range c.signal _
+          (word_at p.dispositions (signal_number c.signal - 1) (acting-process s pid p id l a h).dispositions.words))
 
-  taken-range : (x y : Option Sig) (rest : Row) → IsRowInRange rest → IsRowInRange (taken_or s pid p id l x y rest)
-  unfolding own_taken_row shared_taken_row own_taken shared_taken
-  taken-range (Some g) y rest other = moves (move.takes (current_of g l.pending) true) (current-word g l.pending (acting-lwp s pid p id l a h).pending)
-  taken-range None (Some g) rest other = changes (takes_shared g ∷ []) (move.takes (current_of g p.pending) false) (one (takes_shared g) tt) (current-word g p.pending (acting-process s pid p id l a h).pending)
-  taken-range None None rest other = other
-
-  current-range : (o : Option Current) (rest : Row) → IsLawfulCurrent o → HasWordCurrent o → IsRowInRange rest → IsRowInRange (current_row_or s pid p id l o rest)
-  current-range (Some c) rest info value other = acted-range c (record { info = info; value = value })
-  current-range None rest info value other = other
+  in_call-arguments : (woken : Bool) (call : Sysno) (args : List ℕ) (since : ℕ) → IsInCall s l woken call args since
+      → AreArguments args
+  in_call-arguments woken call args since (kind.at_it at) = arguments-words l.regs own-regs
+  in_call-arguments woken call args since (kind.asleep_in_it at) =
+      subst IsPhaseInRange at (acting-lwp s pid p id l a h).phase
 
   performed-range : (woken : Bool) (call : Sysno) (args : List ℕ) (since : ℕ) (effect : Effect) → AreArguments args → IsEffectInRange effect → IsRowInRange (performed_row woken call args since effect)
   unfolding performed_row performed
@@ -234,25 +229,38 @@ module _ (s : TracedSystem) (pid : ℕ) (p : TracedProcess) (id : ℕ) (l : Trac
   performed-range woken call args since change.sleeps given it = moves (move.sleeps call args since) given
   performed-range woken call args since (change.ends how) given it = ends how it
 
-  call_row-range : (woken : Bool) (call : Sysno) (args : List ℕ) (since : ℕ) → AreArguments args → IsRowInRange (call_row s pid p id l woken call args since)
-  unfolding call_row interrupted_row interrupted
-  call_row-range woken call args since given =
-      choice IsRowInRange l.control.abort _ _ (λ aborted. moves (move.leaves call args (Error Intr)) (given, tt))
-      (λ goes_on. performed-range woken call args since (call_effect s pid p id l since call args) given (call-range s pid p id l a h since call args given))
-
   returned-range : (call : Sysno) → IsRowInRange (returned_row p l call)
   unfolding returned_row returned
   returned-range call =
       choice IsRowInRange l.control.step _ _ (λ marked. trap-range Trace (pc_of l.regs) l.regs None (register-at l.regs 10 own-regs) own-regs tt) (λ plain. moves move.returns tt)
 
-  phase-range : (phase : Phase) → IsPhaseInRange phase → IsRowInRange (posted_row_or s pid p id l phase (current_row_or s pid p id l l.current (signal_row_or s pid p id l phase (row_in s pid p id l phase))))
-  unfolding signal_row_or row_in posted_row posted
-  phase-range User stands = current-range l.current _ (own-lwp s pid p id l a).current (acting-lwp s pid p id l a h).current (taken-range (own_takeable l) (shared_takeable p l) _ (executed-range (instruction_effect p.space p.control.areas l.regs) (instruction-range p.space p.control.areas (acting-process s pid p id l a h).space.mappings l.regs own-regs)))
-  phase-range (Entered call) stands = current-range l.current _ (own-lwp s pid p id l a).current (acting-lwp s pid p id l a h).current (call_row-range false call (arguments l.regs) s.clock (arguments-words l.regs own-regs))
-  phase-range (Asleep call args since) stands = current-range l.current _ (own-lwp s pid p id l a).current (acting-lwp s pid p id l a h).current (taken-range (own_takeable l) (shared_takeable p l) _ (call_row-range true call args since stands))
-  phase-range (Exiting call args result) stands = current-range l.current _ (own-lwp s pid p id l a).current (acting-lwp s pid p id l a h).current (taken-range (own_takeable l) (shared_takeable p l) _ (returned-range call))
-  phase-range (Faulted f address) stands = moves (move.posts f address) stands
+  kind-range : (row : Row) → RowKind s pid p id l row → IsRowInRange row
+  unfolding requested_row requested posted_row posted dropped job_stopped died handler_row own_taken_row
+      shared_taken_row own_taken shared_taken interrupted_row interrupted
+  kind-range row (kind.stops now) = moves move.stops tt
+  kind-range row (kind.posts {f = f} {address = address} at) =
+      moves (move.posts f address) (subst IsPhaseInRange at (acting-lwp s pid p id l a h).phase)
+  kind-range row (kind.ignores now is) = moves move.drops tt
+  kind-range row (kind.stops_job {c = c} now is) =
+      changes (job_stops c.signal ∷ []) move.drops (one (job_stops c.signal) tt) tt
+  kind-range row (kind.dies {c = c} now is) = ends (ends_process (signal_number c.signal)) (signal-word c.signal)
+  kind-range row (kind.catches {c = c} {handler = handler} now is) =
+      handled-range c handler (its-current c now) (catcher-range c handler is)
+  kind-range row (kind.takes_own {g = g} none is) =
+      moves (move.takes (current_of g l.pending) true) (current-word g l.pending (acting-lwp s pid p id l a h).pending)
+  kind-range row (kind.takes_shared {g = g} none own is) =
+      changes (takes_shared g ∷ []) (move.takes (current_of g p.pending) false) (one (takes_shared g) tt)
+          (current-word g p.pending (acting-process s pid p id l a h).pending)
+  kind-range row (kind.interrupts {woken = woken} {call = call} {args = args} {since = since} it why) =
+      moves (move.leaves call args (Error Intr)) (in_call-arguments woken call args since it, tt)
+  kind-range row (kind.performs {woken = woken} {call = call} {args = args} {since = since} it goes none) =
+      let given = in_call-arguments woken call args since it in
+      performed-range woken call args since (call_effect s pid p id l since call args) given
+          (call-range s pid p id l a h since call args given)
+  kind-range row (kind.returns {call = call} at none) = returned-range call
+  kind-range row (kind.executes at none) =
+      executed-range (instruction_effect p.space p.control.areas l.regs)
+          (instruction-range p.space p.control.areas (acting-process s pid p id l a h).space.mappings l.regs own-regs)
 
   pub row-range : IsTransitionInRange (row_for s pid p id l).transition
-  unfolding row_for requested_row requested
-  row-range = choice IsRowInRange l.control.directed _ _ (λ now. moves move.stops tt) (λ later. phase-range l.phase (acting-lwp s pid p id l a h).phase)
+  row-range = kind-range (row_for s pid p id l) (row-kind s pid p id l)

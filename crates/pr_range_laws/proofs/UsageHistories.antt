@@ -1,25 +1,19 @@
-use Rattle.std.proofs.Common.{◌≡◌, ◌||◌, ◌==◌, ◌+◌, ◌≤◌, ℕ, Bool, true, false, not, is_none, leb, ltb, length, Option, Some, None, Result, Ok, Err, List, [], ◌∷◌, refl, sym, subst, arith}
-use Rattle.std.specs.List.{find, list_all, position, slice_get}
+use Rattle.std.proofs.Common.{◌≡◌, ◌+◌, ◌≤◌, ℕ, Bool, true, false, length, Option, Some, None, List, ◌∷◌, refl, sym, subst, arith, []}
+use Rattle.std.specs.List.{slice_get}
 use Rattle.std.proofs.lemmas.List.Elements.{All-cons, All-nil, All-weaker}
 use Rattle.pr_num.proofs.ByIdLaws.{All-change_under, All-under}
-use Rattle.std.specs.Prelude.{slice_set}
-use Rattle.std.specs.Option.{option_map}
-use Rattle.pr_num.specs.Control.{has_flags, klc_mode, rlc_mode}
 use Rattle.pr_num.specs.Infos.{killed_by}
-use Rattle.pr_num.specs.Limits.{controller_limit, handle_limit}
-use Rattle.pr_num.specs.Messages.{first_message}
 use Rattle.pr_num.specs.Words.{IsWord}
 use Rattle.pr_num.specs.Programs.{Program}
 use Rattle.pr_num.specs.Signals.{signal_number}
-use Rattle.pr_num.specs.declared.errnos.Errno.{Errno}
-use Rattle.pr_num.specs.declared.errnos.Errno.TheVariants.{Intr}
-use Rattle.pr_num.specs.declared.messages.Message.{Message}
-use Rattle.pr_num.specs.declared.messages.MsgFault.{MsgFault}
 use Rattle.pr_num.specs.declared.signals.Sig.TheVariants.{Kill}
-use Rattle.pr_lawful.proofs.FileLemmas.{choice}
-use Rattle.pr_model.specs.Calls.{Answer, opened, open_unless, open_answer, close_held, close_answer, is_interrupted, controlled, waited, is_open_by, is_polled_ready, ready_answer, poll_answer, until_answer, interrupt_answer, spawn_unless, spawn_found, spawn_answer, kill_answer, answer_to}
-use Rattle.pr_model.specs.ControlMessages.{target_of, aim_of, control_handle, tail_of, decoded_answer, targeted_answer, held_answer, control_answer, wait_reply}
-use Rattle.pr_model.specs.Handles.{after_last_close, handle_of, open_refusal, released, released_control, was_last_writer, with_closed, with_last_close, with_opened}
+use Rattle.pr_keeps.specs.CallEdits as edit
+use Rattle.pr_keeps.specs.CallEdits.{CallEdit, CloseEdit}
+use Rattle.pr_keeps.proofs.CallLemmas.{call-edit, close-edit}
+use Rattle.pr_model.proofs.StateLemmas.{live_process-found}
+use Rattle.pr_model.specs.Calls.{Answer, answer_to}
+use Rattle.pr_model.specs.ControlMessages.{tail_of}
+use Rattle.pr_model.specs.Handles.{released, released_control, with_closed, with_opened}
 use Rattle.pr_model.specs.Machines.{traced}
 use Rattle.pr_model.specs.Changes.{Ending, all_changed}
 use Rattle.pr_model.specs.FirstState.{bare_system, first_state, spawned_at, system_process, with_spawns}
@@ -43,20 +37,11 @@ use Rattle.pr_model.specs.declared.events.Did.TheVariants.{Made, Woke, Took, Fau
 use Rattle.pr_model.specs.declared.events.Entry.{Entry}
 use Rattle.pr_num.specs.declared.files.StoredFile.{StoredFile}
 use Rattle.pr_rec.specs.InRange.{IsUsage}
-use Rattle.pr_model.specs.ProcessCalls.{program_named}
-use Rattle.pr_model.specs.Readers.{life_of}
-use Rattle.pr_model.specs.SignalCalls.{Sending, refuses, sends_nothing, sends, sending, with_sent}
-use Rattle.pr_model.specs.Spawning.{spawn_refusal}
-use Rattle.pr_model.specs.State.{TracedLwp, TracedProcess, TracedState, TracedSystem, live_process, process_of, with_lwp, with_lwp_of, with_process}
+use Rattle.pr_model.specs.SignalCalls.{sends}
+use Rattle.pr_model.specs.State.{TracedLwp, TracedProcess, TracedState, TracedSystem, process_of, with_lwp, with_lwp_of, with_process}
 use Rattle.pr_model.specs.declared.calls.Call.{Call}
-use Rattle.pr_model.specs.declared.calls.Call.TheVariants as call
-use Rattle.pr_model.specs.declared.calls.File.{File}
-use Rattle.pr_model.specs.declared.calls.Mode.{Mode}
-use Rattle.pr_model.specs.declared.calls.Reply.{Reply}
-use Rattle.pr_model.specs.declared.calls.Reply.TheVariants.{Fail}
-use Rattle.pr_model.specs.declared.handles.Held.{Held}
 use Rattle.pr_range_laws.proofs.CallRanges.{process-id}
-use Rattle.pr_range_laws.proofs.UsageMessages.{message-used}
+use Rattle.pr_range_laws.proofs.UsageMessages.{edit-used}
 use Rattle.pr_range_laws.proofs.UsageRanges.{Keeps, UsedWithin, all_changed-used, ended-used, generated-used, lwp-keeps, meeting-keeps, nothing-used, spawned-used, this_ended-used, used-one}
 use Rattle.pr_range_laws.specs.Used.{HaveUsed, IsUsedWithin}
 
@@ -130,132 +115,30 @@ module _ (most : ℕ) where
   unfolding released released_control
   released-keeps x h = h
 
-  last_close-used : (s : TracedSystem) (pid : ℕ) (o : Option TracedProcess) → HaveUsed most s → HaveUsed most (after_last_close pid o s)
-  unfolding with_last_close
-  last_close-used s pid None h = h
-  last_close-used s pid (Some p) h =
-      choice (HaveUsed most) (has_flags p.control.modes klc_mode) _ _ (λ kills. this_ended-used most s pid p (signal_number Kill) h)
-      (λ spares. choice (HaveUsed most) (has_flags p.control.modes rlc_mode) _ _ (λ releases. used-one most s pid released released-keeps h) (λ stays. h))
+  closed-used : (s : TracedSystem) (pid : ℕ) (t : TracedSystem) → CloseEdit s pid t → HaveUsed most s → HaveUsed most t
+  closed-used s pid t edit.nothing h = h
+  closed-used s pid t (edit.kills p live mode) h = this_ended-used most s pid p (signal_number Kill) h
+  closed-used s pid t (edit.releases p live spares mode) h = used-one most s pid released released-keeps h
 
-  -- what comes of a call, if anything does
-  abbrev IsAnswerUsed : Option Answer → Type 0
-  IsAnswerUsed None = Unit {0}
-  IsAnswerUsed (Some a) = HaveUsed most a.state.system
+  edited-used : (s : TracedState) (by : ℕ) (c : Call) (t : TracedState) → CallEdit s by c t → HaveUsed most s.system
+      → HaveUsed most t.system
+  unfolding with_opened
+  edited-used s by c t edit.looks h = h
+  edited-used s by c t (edit.opens free grants) h = h
+  edited-used s by c t (edit.closes {handle = handle} {held = held} at) h =
+      closed-used s.system held.pid (with_closed held handle s).system (close-edit s handle held) h
+  edited-used s by c t (edit.controls {bytes = bytes} {held = held} {p = p} {m = m} {t = u} it e) h =
+      edit-used most s.system held.pid p m (tail_of m bytes) u e (live_process-found s.system held.pid p it.live) h
+  edited-used s by c t edit.sees_interrupt h = h
+  edited-used s by c t (edit.interrupts there) h = h
+  edited-used s by c t (edit.spawns {held = held} {program = program} named grants) h =
+      spawned-used most s.system program held h
+  edited-used s by c t (edit.sends {pid = pid} {g = g} is) h = generated-used most s.system pid None g (killed_by 0) h
 
   module _ (s : TracedState) (h : HaveUsed most s.system) where
-    abbrev Used : Answer → Type 0
-    Used a = HaveUsed most a.state.system
-
-    open-used : (by pid id : ℕ) (file : File) (mode : Mode) → Used (open_answer s by pid id file mode)
-    unfolding open_answer with_opened
-    open-used by pid id file mode = of (open_refusal s pid id file mode)
-      where
-        held : Held
-        held = record { controller = by; pid = pid; lwp = id; file = file; mode = mode }
-
-        at : (o : Option ℕ) → Used (opened s held o)
-        at None = h
-        at (Some place) = h
-
-        of : (o : Option Errno) → Used (open_unless s held o)
-        of (Some e) = h
-        of None = at (position is_none s.opens)
-
-    close-used : (by handle : ℕ) → Used (close_answer s by handle)
-    unfolding close_answer with_closed
-    close-used by handle = of (handle_of s.opens by handle)
-      where
-        of : (o : Option Held) → Used (close_held s handle o)
-        of None = h
-        of (Some held) = choice (HaveUsed most) (was_last_writer held (slice_set s.opens handle None)) _ _ (λ last. last_close-used s.system held.pid (live_process s.system held.pid) h) (λ others. h)
-
-    decoded-used : (held : Held) (p : TracedProcess) (bytes : List ℕ) (r : Result (Message × ℕ) MsgFault) → Used (controlled s (decoded_answer s.system held p bytes r))
-    decoded-used held p bytes (Err fault) = h
-    decoded-used held p bytes (Ok (m, len)) =
-        choice (λ c. Used (controlled s c)) (held.pid == 0) _ _ (λ system. h) (λ user. message-used most s.system held.pid p h (aim_of held) m (tail_of m bytes) len)
-
-    ctl-used : (by handle : ℕ) (bytes : List ℕ) → Used (controlled s (control_answer s.system s.opens by handle bytes))
-    unfolding control_answer
-    ctl-used by handle bytes = of (control_handle (handle_of s.opens by handle))
-      where
-        to : (held : Held) (o : Option TracedProcess) → Used (controlled s (targeted_answer s.system held o bytes))
-        to held None = h
-        to held (Some p) = decoded-used held p bytes (first_message bytes)
-
-        of : (o : Option Held) → Used (controlled s (held_answer s.system o bytes))
-        of None = h
-        of (Some held) = to held (target_of s.system held)
-
-    failed-used : (by : ℕ) (e : Errno) → Used (waited s by (Fail e))
-    failed-used by Intr = h
-    failed-used by _ = h
-
-    waited-used : (by : ℕ) (reply : Reply) → Used (waited s by reply)
-    waited-used by (Fail e) = failed-used by e
-    waited-used by _ = h
-
-    wait-used : (by : ℕ) (o : Option Reply) → IsAnswerUsed (option_map (waited s by) o)
-    wait-used by None = tt
-    wait-used by (Some reply) = waited-used by reply
-
-    ready-used : (o : Option ℕ) → IsAnswerUsed (ready_answer s o)
-    ready-used None = tt
-    ready-used (Some handle) = h
-
-    poll-used : (by : ℕ) (handles : List ℕ) → IsAnswerUsed (poll_answer s by handles)
-    unfolding poll_answer
-    poll-used by handles =
-        choice IsAnswerUsed (not (list_all (is_open_by s.opens by) handles)) _ _ (λ closed. h) (λ open_all.
-        choice IsAnswerUsed ((length handles == 0) || ltb handle_limit (length handles)) _ _ (λ wrong. h) (λ right.
-        choice IsAnswerUsed (is_interrupted s by) _ _ (λ interrupted. h) (λ calm. ready-used (find (is_polled_ready s by) handles))))
-
-    until-used : (by moment : ℕ) → IsAnswerUsed (until_answer s by moment)
-    unfolding until_answer
-    until-used by moment =
-        choice IsAnswerUsed (is_interrupted s by) _ _ (λ interrupted. h) (λ calm. choice IsAnswerUsed (leb moment s.system.clock) _ _ (λ now. h) (λ later. tt))
-
-    interrupt-used : (controller : ℕ) → Used (interrupt_answer s controller)
-    unfolding interrupt_answer
-    interrupt-used controller = choice Used (ltb controller controller_limit) _ _ (λ there. h) (λ none. h)
-
-    spawn-used : (name : List ℕ) (held : Bool) → Used (spawn_answer s name held)
-    unfolding spawn_answer
-    spawn-used name held = of (program_named s.system.programs name)
-      where
-        unless : (program : Program) (o : Option Errno) → Used (spawn_unless s program held o)
-        unless program (Some e) = h
-        unless program None = spawned-used most s.system program held h
-
-        of : (o : Option Program) → Used (spawn_found s held o)
-        of None = h
-        of (Some program) = unless program (spawn_refusal s.system program)
-
-    kill-used : (pid number : ℕ) → Used (kill_answer s pid number)
-    unfolding kill_answer with_sent
-    kill-used pid number = of (sending pid number (life_of s.system pid))
-      where
-        of : (x : Sending) → HaveUsed most (with_sent traced pid (killed_by 0) x s.system)
-        of (refuses e) = h
-        of sends_nothing = h
-        of (sends g) = generated-used most s.system pid None g (killed_by 0) h
-
-    answer-used : (by : ℕ) (c : Call) → IsAnswerUsed (answer_to s by c)
-    unfolding answer_to
-    answer-used by (call.Open pid id file mode) = open-used by pid id file mode
-    answer-used by (call.Close handle) = close-used by handle
-    answer-used by (call.Ctl handle bytes) = ctl-used by handle bytes
-    answer-used by (call.CtlWait handle until bytes) = wait-used by (wait_reply s.system s.opens by handle until (is_interrupted s by) bytes)
-    answer-used by (call.Read handle from len) = h
-    answer-used by (call.Poll handles) = poll-used by handles
-    answer-used by (call.Interrupt controller) = interrupt-used controller
-    answer-used by (call.Spawn program held) = spawn-used program held
-    answer-used by (call.Kill pid sig) = kill-used pid sig
-    answer-used by (call.Until moment) = until-used by moment
-    answer-used by call.List = h
-
-    called-used : (o : Option Answer) → IsAnswerUsed o → HaveUsed most (after_call s o).system
-    called-used None it = h
-    called-used (Some a) it = it
+    called-used : (by : ℕ) (c : Call) (o : Option Answer) → answer_to s by c ≡ o → HaveUsed most (after_call s o).system
+    called-used by c None is = h
+    called-used by c (Some a) is = edited-used s by c a.state (call-edit s by c a is) h
 
     turned-used : (o : Option LwpTurn) → ((t : LwpTurn) → o ≡ Some t → HaveUsed (most + 1) t.system) → HaveUsed (most + 1) (after_turn s o).system
     turned-used None it = used-more s.system h
@@ -264,7 +147,7 @@ module _ (most : ℕ) where
     -- whatever an entry is
     pub entry-used : (actor : Actor) (it : Act) → HaveUsed (most + 1) (after s (record { actor = actor; act = it })).system
     unfolding after
-    entry-used (Controller k) (act.Call c r) = used-more _ (called-used (answer_to s k c) (answer-used k c))
+    entry-used (Controller k) (act.Call c r) = used-more _ (called-used k c (answer_to s k c) refl)
     entry-used (Lwp p l) (act.Turn t) = turned-used (turn_of s.system p l) (λ turn taken. turn-used s.system p l turn h taken)
     entry-used Clock (act.Tick moment) = record { processes = (used-more s.system h).processes }
     entry-used _ _ = used-more s.system h

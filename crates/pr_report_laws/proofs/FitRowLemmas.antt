@@ -1,13 +1,13 @@
-use Rattle.std.proofs.Common.{◌≡◌, ℕ, Bool, true, false, Option, Some, None, List, refl}
+use Rattle.std.proofs.Common.{◌≡◌, ℕ, Bool, Option, Some, None, List, refl}
 use Rattle.pr_num.specs.Faults.{fault_signal}
 use Rattle.pr_num.specs.Infos.{of_fault}
 use Rattle.pr_num.specs.declared.errnos.Errno.TheVariants.{Intr}
-use Rattle.pr_num.specs.declared.signals.Sig.{Sig}
 use Rattle.pr_num.specs.declared.syscalls.Sysno.{Sysno}
 use Rattle.pr_parts.specs.PendingSignals.{without_one}
-use Rattle.pr_parts.specs.declared.actions.Action.{Action}
-use Rattle.pr_parts.specs.declared.actions.Action.TheVariants as act
 use Rattle.pr_lawful.proofs.FileLemmas.{choice}
+use Rattle.pr_keeps.specs.RowKinds as kind
+use Rattle.pr_keeps.specs.RowKinds.{RowKind}
+use Rattle.pr_keeps.proofs.RowLemmas.{row-kind}
 use Rattle.pr_model.specs.CallEffects.{call_effect}
 use Rattle.pr_model.specs.Changes as change
 use Rattle.pr_model.specs.Changes.{Effect}
@@ -16,16 +16,12 @@ use Rattle.pr_model.specs.InstructionEffects.{InstructionEffect, instruction_eff
 use Rattle.pr_model.specs.Machines.{call_over, fault_incurred, fault_posted, step_taken, stopped_as_directed, traced}
 use Rattle.pr_model.specs.Moves as move
 use Rattle.pr_model.specs.Moves.{Move, moved}
-use Rattle.pr_model.specs.Registers.{arguments}
-use Rattle.pr_model.specs.Rows.{Row, requested_row, posted_row, returned_row, ran_row, entered_row, incurred_row, watched_row, executed_row, own_taken_row, shared_taken_row, handler_row, caught_row, interrupted_row, acted_row, performed_row, call_row, row_in, taken_or, signal_row_or, current_row_or, posted_row_or, row_for}
-use Rattle.pr_model.specs.Signals.{action_for, own_takeable, shared_takeable}
+use Rattle.pr_model.specs.Rows.{Row, requested_row, posted_row, returned_row, ran_row, entered_row, incurred_row, watched_row, executed_row, own_taken_row, shared_taken_row, handler_row, interrupted_row, performed_row, row_for}
 use Rattle.pr_model.specs.State.{TracedLwp, TracedProcess, TracedSystem}
 use Rattle.pr_model.specs.Transitions.{ran, entered, incurred, trapped, own_taken, shared_taken, interrupted, performed}
 use Rattle.pr_model.specs.declared.events.Res.{Res}
 use Rattle.pr_model.specs.declared.events.Res.TheVariants.{Error}
-use Rattle.pr_model.specs.declared.lwps.Current.{Current}
-use Rattle.pr_model.specs.declared.lwps.Phase.{Phase}
-use Rattle.pr_model.specs.declared.lwps.Phase.TheVariants.{User, Entered, Asleep, Exiting, Faulted}
+use Rattle.pr_model.specs.declared.lwps.Phase.TheVariants.{Entered, Exiting}
 use Rattle.pr_model.specs.declared.stops.Point.{Point}
 use Rattle.pr_model.specs.declared.stops.Point.TheVariants.{Signal, Fault, Entry, Exit}
 use Rattle.pr_model.specs.Points.{stopped_at}
@@ -96,52 +92,20 @@ module _ (s : TracedSystem) (pid : ℕ) (p : TracedProcess) (id : ℕ) (l : Trac
   executed-fits (instruction.faults f address) = meets refl (λ k. tt)
   executed-fits (instruction.runs_into_watch address regs store) = meets refl (λ k. tt)
 
-  caught-fits : (c : Current) (handler : ℕ) (phase : Phase) → FitsRow (caught_row l c handler phase)
-  unfolding caught_row handler_row
-  caught-fits c handler User = quiet refl
-  caught-fits c handler (Entered call) = interrupted-fits false call (arguments l.regs)
-  caught-fits c handler (Asleep call args since) = interrupted-fits true call args
-  caught-fits c handler (Exiting call args result) = quiet refl
-  caught-fits c handler (Faulted f address) = quiet refl
-
-  acted-fits : (c : Current) → FitsRow (acted_row p l c)
-  unfolding acted_row
-  acted-fits c = by (action_for p.dispositions c.signal) refl
-    where
-      by : (action : Action) → action_for p.dispositions c.signal ≡ action → FitsRow (acted_row p l c)
-      by act.Ignore is = rw is (quiet refl)
-      by act.Stop is = rw is (quiet refl)
-      by act.Die is = rw is (quiet refl)
-      by (act.Catch handler) is = rw is (caught-fits c handler l.phase)
-
-  taken-fits : (x y : Option Sig) (rest : Row) → FitsRow rest → FitsRow (taken_or s pid p id l x y rest)
-  unfolding own_taken_row shared_taken_row own_taken shared_taken
-  taken-fits (Some g) y rest other = meets refl (λ k. tt)
-  taken-fits None (Some g) rest other = meets refl (λ k. tt)
-  taken-fits None None rest other = other
-
-  current-fits : (o : Option Current) (rest : Row) → FitsRow rest → FitsRow (current_row_or s pid p id l o rest)
-  current-fits (Some c) rest other = acted-fits c
-  current-fits None rest other = other
-
-  call-fits : (woken : Bool) (call : Sysno) (args : List ℕ) (since : ℕ) → FitsRow (call_row s pid p id l woken call args since)
-  unfolding call_row
-  call-fits woken call args since =
-      choice FitsRow l.control.abort _ _ (λ aborted. interrupted-fits woken call args)
-      (λ goes_on. performed-fits woken call args since (call_effect s pid p id l since call args))
-
   returned-fits : (call : Sysno) → FitsRow (returned_row p l call)
   unfolding returned_row trapped
   returned-fits call = choice FitsRow l.control.step _ _ (λ marked. meets refl (λ k. tt)) (λ plain. quiet refl)
 
-  phase-fits : (phase : Phase) → FitsRow (posted_row_or s pid p id l phase (current_row_or s pid p id l l.current (signal_row_or s pid p id l phase (row_in s pid p id l phase))))
-  unfolding signal_row_or row_in posted_row
-  phase-fits User = current-fits l.current _ (taken-fits (own_takeable l) (shared_takeable p l) _ (executed-fits (instruction_effect p.space p.control.areas l.regs)))
-  phase-fits (Entered call) = current-fits l.current _ (call-fits false call (arguments l.regs) s.clock)
-  phase-fits (Asleep call args since) = current-fits l.current _ (taken-fits (own_takeable l) (shared_takeable p l) _ (call-fits true call args since))
-  phase-fits (Exiting call args result) = current-fits l.current _ (taken-fits (own_takeable l) (shared_takeable p l) _ (returned-fits call))
-  phase-fits (Faulted f address) = quiet refl
+  kind-fits : (row : Row) → RowKind s pid p id l row → FitsRow row
+  unfolding requested_row posted_row handler_row own_taken_row shared_taken_row own_taken shared_taken
+  kind-fits row (kind.takes_own none is) = meets refl (λ k. tt)
+  kind-fits row (kind.takes_shared none own is) = meets refl (λ k. tt)
+  kind-fits row (kind.interrupts {woken = woken} {call = call} {args = args} it why) = interrupted-fits woken call args
+  kind-fits row (kind.performs {woken = woken} {call = call} {args = args} {since = since} it goes none) =
+      performed-fits woken call args since (call_effect s pid p id l since call args)
+  kind-fits row (kind.returns {call = call} at none) = returned-fits call
+  kind-fits row (kind.executes at none) = executed-fits (instruction_effect p.space p.control.areas l.regs)
+  kind-fits row _ = quiet refl
 
   pub row-fits : FitsRow (row_for s pid p id l)
-  unfolding row_for requested_row
-  row-fits = choice FitsRow l.control.directed _ _ (λ now. quiet refl) (λ later. phase-fits l.phase)
+  row-fits = kind-fits (row_for s pid p id l) (row-kind s pid p id l)

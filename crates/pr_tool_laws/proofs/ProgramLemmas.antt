@@ -1,15 +1,22 @@
-use Rattle.std.proofs.Common.{◌≡◌, ◌==◌, ◌&&◌, ◌∙◌, ℕ, Bool, true, false, cond, length, None, Some, Option, List, [], ◌∷◌, refl, ap}
+use Rattle.std.proofs.Common.{◌≡◌, ◌==◌, ◌&&◌, ◌∙◌, ℕ, Bool, true, false, cond, length, None, Some, Option, List, ◌∷◌, refl, ap, []}
 use Rattle.std.specs.List.{slice_get}
 use Rattle.pr_lawful.proofs.HistoryLemmas.{history-state}
 use Rattle.pr_lawful.proofs.StartLemmas.{first-lawful}
-use Rattle.pr_lawful.proofs.MessageLemmas.{Makes, a_process, a_signal, an_end, nothing}
+use Rattle.pr_keeps.specs.CallEdits as edit
+use Rattle.pr_keeps.specs.CallEdits.{CallEdit, CloseEdit}
+use Rattle.pr_keeps.specs.MessageEdits as message
+use Rattle.pr_keeps.specs.MessageEdits.{MessageEdit}
+use Rattle.pr_keeps.proofs.CallLemmas.{call-edit, close-edit}
+use Rattle.pr_num.specs.Infos.{by_controller, killed_by}
+use Rattle.pr_num.specs.declared.messages.Message.{Message}
 use Rattle.pr_lawful.specs.Starts.{IsStart}
 use Rattle.pr_model.proofs.TurnLemmas.{turn-taken}
 use Rattle.pr_model.specs.Calls.{Answer, answer_to}
 use Rattle.pr_model.specs.Changes.{Change, signals, signals_itself, forks, reaps, Ending, ends_process, ends_lwp, all_changed, changed, ended}
+use Rattle.pr_model.specs.ControlMessages.{tail_of}
 use Rattle.pr_model.specs.FirstState.{bare_system, first_state, spawned_at, with_spawns}
 use Rattle.pr_model.specs.Generation.{told}
-use Rattle.pr_model.specs.Handles.{released, with_last_close}
+use Rattle.pr_model.specs.Handles.{released, with_closed, with_opened}
 use Rattle.pr_model.specs.Lawful.{IsLawful}
 use Rattle.pr_model.specs.Legal.{IsLegal, IsLegalEntry, after, state_after}
 use Rattle.pr_model.specs.Lives.{ended_if_live, with_child, with_ended, with_lwp_ended, with_made, with_parent_told, with_reaped, with_spawned, with_this_ended, without_lwp}
@@ -19,19 +26,18 @@ use Rattle.pr_model.specs.Rows.{Row}
 use Rattle.pr_model.specs.Signals.{generated, is_kill}
 use Rattle.pr_model.specs.State.{TracedLwp, TracedProcess, TracedState, TracedSystem, live_process, with_lwp_of, with_process}
 use Rattle.pr_model.specs.Transitions.{Transition, after_transition, ended_if}
+use Rattle.pr_model.specs.declared.calls.Call.{Call}
 use Rattle.pr_model.specs.declared.events.Act.{Act}
 use Rattle.pr_model.specs.declared.events.Act.TheVariants as act
 use Rattle.pr_model.specs.declared.events.Actor.{Actor}
 use Rattle.pr_model.specs.declared.events.Actor.TheVariants.{Controller, Lwp, Clock}
 use Rattle.pr_model.specs.declared.events.Entry.{Entry}
-use Rattle.pr_num.specs.Control.{has_flags, klc_mode, rlc_mode}
 use Rattle.pr_num.specs.Programs.{Program}
 use Rattle.pr_num.specs.Signals.{signal_number}
 use Rattle.pr_num.specs.declared.files.StoredFile.{StoredFile}
 use Rattle.pr_num.specs.declared.infos.Info.{Info}
 use Rattle.pr_num.specs.declared.signals.Sig.{Sig}
 use Rattle.pr_num.specs.declared.signals.Sig.TheVariants.{Kill}
-use Rattle.pr_truss_laws.proofs.OverLemmas.{CallDoes, call-does, closes_last, leaves, makes_process, sends_signal, writes}
 
 -- No entry of a legal history changes which programs a system has.
 
@@ -70,12 +76,6 @@ generated-same s pid target g info = either-same (is_kill g) s _ _ (live_ended-s
 lwp_ended-same : (s : TracedSystem) (pid : ℕ) (p : TracedProcess) (id : ℕ) → Same s (with_lwp_ended traced pid p id s)
 unfolding with_lwp_ended
 lwp_ended-same s pid p id = either-same (length p.lwps == 1) s _ _ (ended-same s pid p 0) (process-same s pid (without_lwp id))
-
-closed-same : (s : TracedSystem) (pid : ℕ) (p : TracedProcess) → Same s (with_last_close pid p s)
-unfolding with_last_close
-closed-same s pid p =
-    either-same (has_flags p.control.modes klc_mode) s _ _ (ended-same s pid p (signal_number Kill))
-    (either-same (has_flags p.control.modes rlc_mode) s _ _ (process-same s pid released) refl)
 
 -- ---- beginnings
 
@@ -128,18 +128,30 @@ turn-same s pid id t turn =
 
 -- ---- calls
 
-made-same : (s : TracedSystem) (target : ℕ) (p : TracedProcess) (t : TracedSystem) → Makes s target p t → Same s t
-made-same s target p t (nothing is) = ap (λ (u : TracedSystem). u.programs) is
-made-same s target p t (a_process f replaces is) = ap (λ (u : TracedSystem). u.programs) is ∙ process-same s target f
-made-same s target p t (an_end status is) = ap (λ (u : TracedSystem). u.programs) is ∙ ended-same s target p status
-made-same s target p t (a_signal own g info new is) = ap (λ (u : TracedSystem). u.programs) is ∙ generated-same s target own g info
+message-same : (s : TracedSystem) (target : ℕ) (p : TracedProcess) (m : Message) (tail : List ℕ) (t : TracedSystem)
+    → MessageEdit s target p m tail t → Same s t
+message-same s target p m tail t message.nothing = refl
+message-same s target p m tail t (message.a_process f edits) = process-same s target f
+message-same s target p m tail t message.an_end = ended-same s target p (signal_number Kill)
+message-same s target p m tail t (message.a_signal own g is room) = generated-same s target own g by_controller
 
-call-same : (s t : TracedSystem) → CallDoes s t → Same s t
-call-same s t (leaves is) = ap (λ (u : TracedSystem). u.programs) is
-call-same s t (writes target p live makes) = made-same s target p t makes
-call-same s t (closes_last target p live is) = ap (λ (u : TracedSystem). u.programs) is ∙ closed-same s target p
-call-same s t (makes_process program held is) = ap (λ (u : TracedSystem). u.programs) is ∙ spawned-same s program held
-call-same s t (sends_signal target g info is) = ap (λ (u : TracedSystem). u.programs) is ∙ generated-same s target None g info
+closed-same : (s : TracedSystem) (target : ℕ) (t : TracedSystem) → CloseEdit s target t → Same s t
+closed-same s target t edit.nothing = refl
+closed-same s target t (edit.kills p live mode) = ended-same s target p (signal_number Kill)
+closed-same s target t (edit.releases p live spares mode) = process-same s target released
+
+call-same : (s : TracedState) (by : ℕ) (c : Call) (t : TracedState) → CallEdit s by c t → Same s.system t.system
+unfolding with_opened
+call-same s by c t edit.looks = refl
+call-same s by c t (edit.opens free grants) = refl
+call-same s by c t (edit.closes {handle = handle} {held = h} at) =
+    closed-same s.system h.pid (with_closed h handle s).system (close-edit s handle h)
+call-same s by c t (edit.controls {bytes = bytes} {held = h} {p = p} {m = m} {t = u} it e) =
+    message-same s.system h.pid p m (tail_of m bytes) u e
+call-same s by c t edit.sees_interrupt = refl
+call-same s by c t (edit.interrupts there) = refl
+call-same s by c t (edit.spawns {held = held} {program = program} named grants) = spawned-same s.system program held
+call-same s by c t (edit.sends {pid = pid} {g = g} is) = generated-same s.system pid None g (killed_by 0)
 
 -- ---- histories
 
@@ -148,7 +160,7 @@ unfolding IsLegalEntry after
 entry-same n s (Controller by) (act.Call c r) lawful legal =
     let a : Answer = record { state = legal.1.0; reply = r } in
     let answer : answer_to s by c ≡ Some a = legal.1.1 in
-    rw answer (call-same s.system a.state.system (call-does s lawful by c a answer))
+    rw answer (call-same s by c a.state (call-edit s by c a answer))
 entry-same n s (Lwp pid id) (act.Turn turned) lawful legal =
     let t : LwpTurn = record { system = legal.0; turned = turned } in
     let taken : turn_of s.system pid id ≡ Some t = legal.1 in

@@ -1,191 +1,72 @@
-use Rattle.std.proofs.Common.{◌≡◌, ◌≢◌, ◌==◌, ◌&&◌, ◌<◌, ◌≤◌, ◌+◌, ℕ, Bool, true, false, cond, is_none, length, None, Some, Option, List, [], ◌∷◌, Result, Ok, Err, refl, sym, subst, ap, ◌∙◌, arith, inl, inr}
+use Rattle.std.proofs.Common.{◌≡◌, ◌≢◌, ◌==◌, ◌&&◌, ◌<◌, ◌≤◌, ◌+◌, ℕ, Bool, true, false, cond, is_none, length, None, Some, Option, List, ◌∷◌, refl, sym, subst, ap, ◌∙◌, arith, inl, inr, []}
 use Rattle.std.proofs.lemmas.Bool.{cases_Bool, eqb-false, eqb-true}
 use Rattle.std.proofs.lemmas.List.Elements.{All-cons, All-nil, All-weaker}
-use Rattle.std.proofs.lemmas.Option.{none-some, same_Some}
-use Rattle.std.specs.List.{All, position, slice_set}
+use Rattle.std.proofs.lemmas.Option.{none-some}
+use Rattle.std.specs.List.{All}
 use Rattle.std.specs.Option.{option_and_then}
 use Rattle.pr_num.proofs.ByIdLaws.{All-change_under, All-inserted, All-map_each, All-under, All-without_id}
 use Rattle.pr_num.proofs.ByIdLemmas.{rises_from-tail}
 use Rattle.pr_num.specs.ById.{change_under, rises_from, under}
-use Rattle.pr_num.specs.Control.{has_flags, klc_mode, rlc_mode}
-use Rattle.pr_num.specs.Infos.{killed_by}
-use Rattle.pr_num.specs.Messages.{first_message}
+use Rattle.pr_num.specs.Infos.{by_controller, killed_by}
 use Rattle.pr_num.specs.Programs.{Program}
 use Rattle.pr_num.specs.Signals.{signal_number}
-use Rattle.pr_num.specs.declared.errnos.Errno.{Errno}
 use Rattle.pr_num.specs.declared.infos.Info.{Info}
 use Rattle.pr_num.specs.declared.messages.Message.{Message}
-use Rattle.pr_num.specs.declared.messages.MsgFault.{MsgFault}
 use Rattle.pr_num.specs.declared.signals.Sig.{Sig}
 use Rattle.pr_num.specs.declared.signals.Sig.TheVariants.{Cld, Kill}
 use Rattle.pr_parts.specs.FileCalls.{with_all_shared}
 use Rattle.pr_laws.proofs.RepresentativeLemmas.{ids-above}
-use Rattle.pr_lawful.proofs.EndLemmas.{buried, found-live}
+use Rattle.pr_lawful.proofs.EndLemmas.{buried}
 use Rattle.pr_lawful.proofs.FileLemmas.{choice}
-use Rattle.pr_lawful.proofs.MadeLemmas.{Grows, closed-grows, ended-grows, generated-grows, process-grows, same-grows, settled-grows, spawned-grows}
-use Rattle.pr_lawful.proofs.MessageLemmas.{Makes, a_process, a_signal, an_end, message-makes, nothing}
+use Rattle.pr_lawful.proofs.MadeLemmas.{Grows, closed-grows, edit-grows, generated-grows, same-grows, settled-grows, spawned-grows}
+use Rattle.pr_keeps.specs.CallEdits as edit
+use Rattle.pr_keeps.specs.CallEdits.{CallEdit, CloseEdit}
+use Rattle.pr_keeps.specs.MessageEdits as message
+use Rattle.pr_keeps.specs.MessageEdits.{MessageEdit}
+use Rattle.pr_keeps.proofs.CallLemmas.{call-edit, close-edit}
 use Rattle.pr_model.proofs.TurnLemmas.{turn-taken}
-use Rattle.pr_model.specs.Calls.{Answer, answer_to, close_answer, close_held, kill_answer, open_answer, open_unless, opened, spawn_answer, spawn_found, spawn_unless}
+use Rattle.pr_model.specs.Calls.{Answer, answer_to}
 use Rattle.pr_model.specs.Changes.{Change, files_are, space_is, signals, signals_itself, takes_shared, job_stops, disposition_is, held_is, resumes, forks, reaps, becomes, makes_lwp, suspends, Ending, ends_process, ends_lwp, all_changed, changed, ended, with_fds}
-use Rattle.pr_model.specs.ControlMessages.{aim_of, control_answer, control_handle, decoded_answer, held_answer, still_there, tail_of, target_of, targeted_answer}
+use Rattle.pr_model.specs.ControlMessages.{tail_of}
 use Rattle.pr_model.specs.Generation.{told}
-use Rattle.pr_model.specs.Handles.{after_last_close, handle_of, is_control, open_refusal, was_last_writer, with_closed, with_last_close, with_opened}
-use Rattle.pr_model.specs.Lawful.{IsLawful, IsLawfulProcess, IsLawfulSystem}
+use Rattle.pr_model.specs.Handles.{released, with_closed, with_opened}
+use Rattle.pr_model.specs.Lawful.{IsLawful, IsLawfulSystem}
 use Rattle.pr_model.specs.Legal.{IsLegalEntry, after}
 use Rattle.pr_model.specs.Lives.{ended_if_live, forked, new_process, orphaned, with_child, with_ended, with_lwp_ended, with_made, with_parent_told, with_reaped, with_spawned, with_this_ended, zombie}
 use Rattle.pr_model.specs.LwpTurns.{LwpTurn, settled, turn_of, with_counted}
 use Rattle.pr_model.specs.Machines.{traced}
-use Rattle.pr_model.specs.Messages.{Controlled}
 use Rattle.pr_model.specs.Moves.{moved}
 use Rattle.pr_model.specs.Points.{after_meeting}
-use Rattle.pr_model.specs.ProcessCalls.{program_named}
 use Rattle.pr_model.specs.Rows.{Row, row_for}
-use Rattle.pr_model.specs.SignalCalls.{Sending, refuses, sends_nothing, sends, with_sent}
+use Rattle.pr_model.specs.SignalCalls.{sends}
 use Rattle.pr_model.specs.Signals.{generated, is_kill}
-use Rattle.pr_model.specs.Spawning.{spawn_refusal}
 use Rattle.pr_model.specs.State.{TracedLwp, TracedProcess, TracedState, TracedSystem, if_live, live_process, process_of, with_lwp, with_lwp_of, with_process}
 use Rattle.pr_model.specs.Transitions.{Transition, after_transition, ended_if}
 use Rattle.pr_model.specs.declared.calls.Call.{Call}
-use Rattle.pr_model.specs.declared.calls.Call.TheVariants as call
-use Rattle.pr_model.specs.declared.calls.File.{File}
-use Rattle.pr_model.specs.declared.calls.Mode.{Mode}
 use Rattle.pr_model.specs.declared.events.Act.{Act}
 use Rattle.pr_model.specs.declared.events.Act.TheVariants as act
 use Rattle.pr_model.specs.declared.events.Actor.{Actor}
 use Rattle.pr_model.specs.declared.events.Actor.TheVariants.{Controller, Lwp, Clock}
 use Rattle.pr_model.specs.declared.events.Entry.{Entry}
-use Rattle.pr_model.specs.declared.handles.Held.{Held}
 use Rattle.pr_truss_laws.proofs.FrameLemmas.{ended-same, orphaned-undisturbed, told-undisturbed}
-use Rattle.pr_truss_laws.proofs.OpensLemmas.{looking-stays, only_looks}
 
 -- A process that does not live, and whose id was given out, never lives again: no process is made under an id that was
 -- given out, and none that has ended becomes live.
 
--- ---- what a call of a controller does to the system
-
--- It leaves the system; it writes a control message to a live process; it is the last close for writing of one; it
--- makes a process; or it sends a signal.
-pub data CallDoes (s t : TracedSystem) : Type 0 where
-  leaves : t ≡ s → CallDoes s t
-  writes : (target : ℕ) (p : TracedProcess) → live_process s target ≡ Some p → Makes s target p t → CallDoes s t
-  closes_last : (target : ℕ) (p : TracedProcess) → live_process s target ≡ Some p → t ≡ with_last_close target p s → CallDoes s t
-  makes_process : (program : Program) (held : Bool) → t ≡ with_spawned traced program held s → CallDoes s t
-  sends_signal : (target : ℕ) (g : Sig) (info : Info) → t ≡ generated traced target None g info s → CallDoes s t
-
-module _ (s : TracedState) (lawful : IsLawful s) where
-  abbrev Does : Answer → Type 0
-  Does a = CallDoes s.system a.state.system
-
-  abbrev DoesOf : Controlled → Type 0
-  DoesOf c = CallDoes s.system c.system
-
-  -- ---- opens and closes
-
-  open-does : (by pid id : ℕ) (file : File) (mode : Mode) → Does (open_answer s by pid id file mode)
-  unfolding open_answer with_opened
-  open-does by pid id file mode = of (open_refusal s pid id file mode)
-    where
-      held : Held
-      held = record { controller = by; pid = pid; lwp = id; file = file; mode = mode }
-
-      at : (o : Option ℕ) → Does (opened s held o)
-      at None = leaves refl
-      at (Some place) = leaves refl
-
-      of : (o : Option Errno) → Does (open_unless s held o)
-      of (Some e) = leaves refl
-      of None = at (position is_none s.opens)
-
-  close-does : (by handle : ℕ) → Does (close_answer s by handle)
-  unfolding close_answer with_closed
-  close-does by handle = of (handle_of s.opens by handle)
-    where
-      last : (h : Held) (o : Option TracedProcess) → live_process s.system h.pid ≡ o → CallDoes s.system (after_last_close h.pid o s.system)
-      last h None live = leaves refl
-      last h (Some p) live = closes_last h.pid p live refl
-
-      of : (o : Option Held) → Does (close_held s handle o)
-      of None = leaves refl
-      of (Some h) = choice (λ t. CallDoes s.system t) (was_last_writer h (slice_set s.opens handle None)) _ _ (λ was. last h (live_process s.system h.pid) refl) (λ not. leaves refl)
-
-  -- ---- a control message, which goes to a live process
-
-  decoded-does : (held : Held) (p : TracedProcess) (bytes : List ℕ) (r : Result (Message × ℕ) MsgFault) → live_process s.system held.pid ≡ Some p → DoesOf (decoded_answer s.system held p bytes r)
-  decoded-does held p bytes (Err fault) live = leaves refl
-  decoded-does held p bytes (Ok (m, len)) live =
-      let it = found-live s.system held.pid p live in
-      let own = All-under IsLawfulProcess held.pid p s.system.processes lawful.system.processes it.0 in
-      choice DoesOf (held.pid == 0) _ _ (λ system. leaves refl) (λ user. writes held.pid p live (message-makes s.system held.pid p lawful.system it.1 own (aim_of held) m (tail_of m bytes) len))
-
-  targeted-does : (held : Held) (bytes : List ℕ) → DoesOf (targeted_answer s.system held (target_of s.system held) bytes)
-  unfolding target_of
-  targeted-does held bytes = of (live_process s.system held.pid) refl
-    where
-      of : (o : Option TracedProcess) → live_process s.system held.pid ≡ o → DoesOf (targeted_answer s.system held (still_there held o) bytes)
-      of None live = leaves refl
-      of (Some p) live = choice (λ (x : Option TracedProcess). DoesOf (targeted_answer s.system held x bytes)) _ (Some p) None (λ there. decoded-does held p bytes (first_message bytes) live) (λ gone. leaves refl)
-
-  ctl-does : (by handle : ℕ) (bytes : List ℕ) → DoesOf (control_answer s.system s.opens by handle bytes)
-  unfolding control_answer
-  ctl-does by handle bytes = of (handle_of s.opens by handle)
-    where
-      of : (o : Option Held) → DoesOf (held_answer s.system (control_handle o) bytes)
-      of None = leaves refl
-      of (Some held) = choice (λ (x : Option Held). DoesOf (held_answer s.system x bytes)) (is_control held.file) (Some held) None (λ control. targeted-does held bytes) (λ no. leaves refl)
-
-  -- ---- what comes from outside
-
-  spawn-does : (name : List ℕ) (held : Bool) → Does (spawn_answer s name held)
-  unfolding spawn_answer
-  spawn-does name held = of (program_named s.system.programs name)
-    where
-      unless : (program : Program) (o : Option Errno) → Does (spawn_unless s program held o)
-      unless program None = makes_process program held refl
-      unless program (Some e) = leaves refl
-
-      of : (o : Option Program) → Does (spawn_found s held o)
-      of None = leaves refl
-      of (Some program) = unless program (spawn_refusal s.system program)
-
-  sent-does : (target : ℕ) (info : Info) (sent : Sending) → CallDoes s.system (with_sent traced target info sent s.system)
-  unfolding with_sent
-  sent-does target info (refuses e) = leaves refl
-  sent-does target info sends_nothing = leaves refl
-  sent-does target info (sends g) = sends_signal target g info refl
-
-  -- ---- every call
-
-  looking-does : (by : ℕ) (c : Call) (a : Answer) → only_looks c ≡ true → answer_to s by c ≡ Some a → Does a
-  looking-does by c a looks is = leaves (ap (λ (x : TracedState). x.system) (looking-stays s by c a looks is))
-
-  pub call-does : (by : ℕ) (c : Call) (a : Answer) → answer_to s by c ≡ Some a → CallDoes s.system a.state.system
-  unfolding answer_to kill_answer
-  call-does by (call.Open pid id file mode) a is = subst Does (same_Some _ a is) (open-does by pid id file mode)
-  call-does by (call.Close handle) a is = subst Does (same_Some _ a is) (close-does by handle)
-  call-does by (call.Ctl handle bytes) a is = subst Does (same_Some _ a is) (ctl-does by handle bytes)
-  call-does by (call.Spawn program held) a is = subst Does (same_Some _ a is) (spawn-does program held)
-  call-does by (call.Kill pid sig) a is = subst Does (same_Some _ a is) (sent-does pid (killed_by 0) _)
-  call-does by (call.CtlWait handle until bytes) a is = looking-does by (call.CtlWait handle until bytes) a refl is
-  call-does by (call.Read handle from len) a is = looking-does by (call.Read handle from len) a refl is
-  call-does by (call.Poll handles) a is = looking-does by (call.Poll handles) a refl is
-  call-does by (call.Interrupt controller) a is = looking-does by (call.Interrupt controller) a refl is
-  call-does by (call.Until moment) a is = looking-does by (call.Until moment) a refl is
-  call-does by call.List a is = looking-does by call.List a refl is
-
 -- ---- how many processes were made
 
-made-by : (s : TracedSystem) (target : ℕ) (p : TracedProcess) (t : TracedSystem) → Makes s target p t → Grows s t
-made-by s target p t (nothing is) = subst (Grows s) (sym is) (same-grows s)
-made-by s target p t (a_process f replaces is) = subst (Grows s) (sym is) (process-grows s target f)
-made-by s target p t (an_end status is) = subst (Grows s) (sym is) (ended-grows s target p status)
-made-by s target p t (a_signal own g info new is) = subst (Grows s) (sym is) (generated-grows s target own g info)
-
-pub call-grows : (s t : TracedSystem) → CallDoes s t → Grows s t
-call-grows s t (leaves is) = subst (Grows s) (sym is) (same-grows s)
-call-grows s t (writes target p live makes) = made-by s target p t makes
-call-grows s t (closes_last target p live is) = subst (Grows s) (sym is) (closed-grows s target (Some p))
-call-grows s t (makes_process program held is) = subst (Grows s) (sym is) (spawned-grows s program held)
-call-grows s t (sends_signal target g info is) = subst (Grows s) (sym is) (generated-grows s target None g info)
+pub call-grows : (s : TracedState) (by : ℕ) (c : Call) (t : TracedState) → CallEdit s by c t → Grows s.system t.system
+unfolding with_opened
+call-grows s by c t edit.looks = same-grows s.system
+call-grows s by c t (edit.opens free grants) = same-grows s.system
+call-grows s by c t (edit.closes {handle = handle} {held = h} at) =
+    closed-grows s.system h.pid (with_closed h handle s).system (close-edit s handle h)
+call-grows s by c t (edit.controls {bytes = bytes} {held = h} {p = p} {m = m} {t = u} it e) =
+    edit-grows s.system h.pid p m (tail_of m bytes) u e
+call-grows s by c t edit.sees_interrupt = same-grows s.system
+call-grows s by c t (edit.interrupts there) = same-grows s.system
+call-grows s by c t (edit.spawns {held = held} {program = program} named grants) = spawned-grows s.system program held
+call-grows s by c t (edit.sends {pid = pid} {g = g} is) = generated-grows s.system pid None g (killed_by 0)
 
 pub turn-grows : (s : TracedSystem) (acting id : ℕ) (t : LwpTurn) → turn_of s acting id ≡ Some t → Grows s t.system
 turn-grows s acting id t turn =
@@ -198,7 +79,7 @@ unfolding IsLegalEntry after
 entry-grows n s (Controller by) (act.Call c r) lawful legal =
     let a : Answer = record { state = legal.1.0; reply = r } in
     let answer : answer_to s by c ≡ Some a = legal.1.1 in
-    rw answer (call-grows s.system a.state.system (call-does s lawful by c a answer))
+    rw answer (call-grows s by c a.state (call-edit s by c a answer))
 entry-grows n s (Lwp acting id) (act.Turn turned) lawful legal =
     let t : LwpTurn = record { system = legal.0; turned = turned } in
     let taken : turn_of s.system acting id ≡ Some t = legal.1 in
@@ -371,28 +252,37 @@ module _ (pid : ℕ) where
 
   -- ---- a call of a controller
 
-  message-over : (s : TracedSystem) (target : ℕ) (p : TracedProcess) (t : TracedSystem) → target ≢ pid → IsOver pid s → Makes s target p t → IsOver pid t
-  message-over s target p t other o (nothing is) = subst (IsOver pid) (sym is) o
-  message-over s target p t other o (a_process f replaces is) = subst (IsOver pid) (sym is) (change-over target f s other o)
-  message-over s target p t other o (an_end status is) = subst (IsOver pid) (sym is) (end-over target p status s o)
-  message-over s target p t other o (a_signal own g info new is) = subst (IsOver pid) (sym is) (generated-over target own g info s o)
+  message-over : (s : TracedSystem) (target : ℕ) (p : TracedProcess) (m : Message) (tail : List ℕ) (t : TracedSystem)
+      → target ≢ pid → IsOver pid s → MessageEdit s target p m tail t → IsOver pid t
+  message-over s target p m tail t other o message.nothing = o
+  message-over s target p m tail t other o (message.a_process f edits) = change-over target f s other o
+  message-over s target p m tail t other o message.an_end = end-over target p (signal_number Kill) s o
+  message-over s target p m tail t other o (message.a_signal own g is room) = generated-over target own g by_controller s o
 
-  last-over : (s : TracedSystem) (target : ℕ) (p : TracedProcess) → target ≢ pid → IsOver pid s → IsOver pid (with_last_close target p s)
-  unfolding with_last_close
-  last-over s target p other o =
-      choice (IsOver pid) (has_flags p.control.modes klc_mode) _ _ (λ kills. end-over target p (signal_number Kill) s o) (λ spares.
-      choice (IsOver pid) (has_flags p.control.modes rlc_mode) _ _ (λ runs. change-over target _ s other o) (λ stays. o))
+  closed-over : (s : TracedSystem) (target : ℕ) (t : TracedSystem) → IsOver pid s → CloseEdit s target t → IsOver pid t
+  closed-over s target t o edit.nothing = o
+  closed-over s target t o (edit.kills p live mode) = end-over target p (signal_number Kill) s o
+  closed-over s target t o (edit.releases p live spares mode) =
+      change-over target released s (over-other s target p o live) o
 
   spawned-over : (s : TracedSystem) (program : Program) (held : Bool) → IsOver pid s → IsOver pid (with_spawned traced program held s)
   unfolding with_spawned
   spawned-over s program held o = made-over (new_process traced program s.clock held) s o
 
-  pub call-over : (s t : TracedSystem) → IsOver pid s → CallDoes s t → IsOver pid t
-  call-over s t o (leaves is) = subst (IsOver pid) (sym is) o
-  call-over s t o (writes target p live makes) = message-over s target p t (over-other s target p o live) o makes
-  call-over s t o (closes_last target p live is) = subst (IsOver pid) (sym is) (last-over s target p (over-other s target p o live) o)
-  call-over s t o (makes_process program held is) = subst (IsOver pid) (sym is) (spawned-over s program held o)
-  call-over s t o (sends_signal target g info is) = subst (IsOver pid) (sym is) (generated-over target None g info s o)
+  pub call-over : (s : TracedState) (by : ℕ) (c : Call) (t : TracedState) → IsOver pid s.system → CallEdit s by c t
+      → IsOver pid t.system
+  unfolding with_opened
+  call-over s by c t o edit.looks = o
+  call-over s by c t o (edit.opens free grants) = o
+  call-over s by c t o (edit.closes {handle = handle} {held = h} at) =
+      closed-over s.system h.pid (with_closed h handle s).system o (close-edit s handle h)
+  call-over s by c t o (edit.controls {bytes = bytes} {held = h} {p = p} {m = m} {t = u} it e) =
+      message-over s.system h.pid p m (tail_of m bytes) u (over-other s.system h.pid p o it.live) o e
+  call-over s by c t o edit.sees_interrupt = o
+  call-over s by c t o (edit.interrupts there) = o
+  call-over s by c t o (edit.spawns {held = held} {program = program} named grants) =
+      spawned-over s.system program held o
+  call-over s by c t o (edit.sends {pid = target} {g = g} is) = generated-over target None g (killed_by 0) s.system o
 
   -- ---- every entry
 
@@ -401,7 +291,7 @@ module _ (pid : ℕ) where
   entry-over n s (Controller by) (act.Call c r) lawful legal o =
       let a : Answer = record { state = legal.1.0; reply = r } in
       let answer : answer_to s by c ≡ Some a = legal.1.1 in
-      rw answer (call-over s.system a.state.system o (call-does s lawful by c a answer))
+      rw answer (call-over s by c a.state o (call-edit s by c a answer))
   entry-over n s (Lwp acting id) (act.Turn turned) lawful legal o =
       let t : LwpTurn = record { system = legal.0; turned = turned } in
       let taken : turn_of s.system acting id ≡ Some t = legal.1 in

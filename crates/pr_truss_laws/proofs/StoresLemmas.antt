@@ -1,4 +1,4 @@
-use Rattle.std.proofs.Common.{◌≡◌, ◌&&◌, ◌||◌, ℕ, ◌+◌, ◌*◌, Bool, true, false, is_none, eqb, ltb, leb, cond, Option, Some, None, Result, Ok, Err, List, [], ◌∷◌, length, refl}
+use Rattle.std.proofs.Common.{◌≡◌, ◌&&◌, ◌||◌, ℕ, ◌+◌, ◌*◌, Bool, true, false, is_none, eqb, ltb, leb, cond, Option, Some, None, Result, Ok, Err, List, ◌∷◌, length, refl, []}
 use Rattle.std.specs.List.{list_any, slice_get}
 use Rattle.std.specs.Prelude.{◌-◌, slice_index}
 use Rattle.pr_num.specs.Agents.{agent_id}
@@ -20,12 +20,13 @@ use Rattle.pr_num.specs.declared.syscalls.Sysno.TheVariants as sys
 use Rattle.pr_parts.specs.AddressSpaces.{gap_in, has_range, with_break, with_mapping, zeros_at}
 use Rattle.pr_parts.specs.FileCalls.{FileEffect, are_open_flags, closed, described, open_for_reading, open_for_writing, piped}
 use Rattle.pr_parts.specs.FileTransfers.{read_fd}
-use Rattle.pr_parts.specs.declared.actions.Action.{Action}
-use Rattle.pr_parts.specs.declared.actions.Action.TheVariants as act
 use Rattle.pr_parts.specs.declared.files.FileNo.{FileNo}
 use Rattle.pr_parts.specs.declared.files.FileNo.TheVariants.{Sleep, NoReader}
 use Rattle.pr_parts.specs.declared.files.Stat.{Stat}
 use Rattle.pr_lawful.proofs.FileLemmas.{choice}
+use Rattle.pr_keeps.specs.RowKinds as kind
+use Rattle.pr_keeps.specs.RowKinds.{RowKind}
+use Rattle.pr_keeps.proofs.RowLemmas.{row-kind}
 use Rattle.pr_model.specs.CallEffects.{call_effect}
 use Rattle.pr_model.specs.Changes.{Change, space_is, Effect, does, sleeps, ends}
 use Rattle.pr_model.specs.FileCallRows.{read_effect, write_effect, open_effect, close_effect, pipe_effect, fstat_effect, dup_effect, lseek_effect, refusal_effect, file_effect, word_size}
@@ -35,16 +36,13 @@ use Rattle.pr_model.specs.LwpCalls.{lwp_create_effect, lwp_suspend_effect, lwp_c
 use Rattle.pr_model.specs.MemoryCalls.{can_write, path_at, brk_effect, mmap_effect, munmap_effect, mprotect_effect, unless_too_big, is_mapped_range, prot_limit}
 use Rattle.pr_model.specs.ProcessCalls.{exit_effect, fork_effect, wait_effect, exec_effect, sleep_effect, program_named}
 use Rattle.pr_model.specs.Readers.{Life, Children, no_child, all_live, first_zombie, children_of, life_of, size_of, total_has_room}
-use Rattle.pr_model.specs.Registers.{arguments}
-use Rattle.pr_model.specs.Rows.{Row, requested_row, posted_row, returned_row, ran_row, entered_row, incurred_row, watched_row, executed_row, own_taken_row, shared_taken_row, handler_row, caught_row, interrupted_row, acted_row, performed_row, call_row, row_in, taken_or, signal_row_or, current_row_or, posted_row_or, row_for}
+use Rattle.pr_model.specs.Rows.{Row, requested_row, posted_row, returned_row, ran_row, entered_row, incurred_row, watched_row, executed_row, own_taken_row, shared_taken_row, handler_row, interrupted_row, performed_row, row_for}
 use Rattle.pr_model.specs.SignalCalls.{Sending, refuses, sends_nothing, sends, sending, sent_effect, send_effect, can_be_caught, sigaction_effect, sigmask_effect, sigreturn_effect}
-use Rattle.pr_model.specs.Signals.{action_for, is_kill, own_takeable, shared_takeable}
+use Rattle.pr_model.specs.Signals.{is_kill}
 use Rattle.pr_model.specs.State.{TracedLwp, TracedProcess, TracedSystem}
 use Rattle.pr_model.specs.Transitions.{Transition, stored_in, requested, posted, returned, ran, entered, incurred, trapped, own_taken, shared_taken, handled, dropped, job_stopped, died, interrupted, performed}
 use Rattle.pr_model.specs.declared.frames.Frame.{Frame}
 use Rattle.pr_model.specs.declared.lwps.Current.{Current}
-use Rattle.pr_model.specs.declared.lwps.Phase.{Phase}
-use Rattle.pr_model.specs.declared.lwps.Phase.TheVariants.{User, Entered, Asleep, Exiting, Faulted}
 
 -- A turn makes one change, and after it at most stores bytes in the memory of its process.
 
@@ -245,52 +243,22 @@ module _ (s : TracedSystem) (pid : ℕ) (p : TracedProcess) (id : ℕ) (l : Trac
   unfolding handler_row handled
   handler-stores c handler = choice (λ (t : Transition). stores_after t.changes ≡ true) (ltb (length l.frames) frame_limit) _ _ (λ room. refl) (λ full. refl)
 
-  caught-stores : (c : Current) (handler : ℕ) (phase : Phase) → StoresRow (caught_row l c handler phase)
-  unfolding caught_row interrupted_row interrupted
-  caught-stores c handler User = handler-stores c handler
-  caught-stores c handler (Entered call) = refl
-  caught-stores c handler (Asleep call args since) = refl
-  caught-stores c handler (Exiting call args result) = handler-stores c handler
-  caught-stores c handler (Faulted f address) = handler-stores c handler
-
-  acted-stores : (c : Current) → StoresRow (acted_row p l c)
-  unfolding acted_row dropped job_stopped died
-  acted-stores c = by (action_for p.dispositions c.signal) refl
-    where
-      by : (a : Action) → action_for p.dispositions c.signal ≡ a → StoresRow (acted_row p l c)
-      by act.Ignore is = rw is refl
-      by act.Stop is = rw is refl
-      by act.Die is = rw is refl
-      by (act.Catch handler) is = rw is (caught-stores c handler l.phase)
-
-  taken-stores : (a b : Option Sig) (rest : Row) → StoresRow rest → StoresRow (taken_or s pid p id l a b rest)
-  unfolding own_taken_row shared_taken_row own_taken shared_taken
-  taken-stores (Some g) b rest other = refl
-  taken-stores None (Some g) rest other = refl
-  taken-stores None None rest other = other
-
-  current-stores : (o : Option Current) (rest : Row) → StoresRow rest → StoresRow (current_row_or s pid p id l o rest)
-  current-stores (Some c) rest other = acted-stores c
-  current-stores None rest other = other
-
   performed-stores : (woken : Bool) (call : Sysno) (args : List ℕ) (since : ℕ) (effect : Effect) → Stores effect → StoresRow (performed_row woken call args since effect)
   unfolding performed_row performed
   performed-stores woken call args since (does result changes) stores = stores
   performed-stores woken call args since sleeps stores = refl
   performed-stores woken call args since (ends how) stores = refl
 
-  call_row-stores : (woken : Bool) (call : Sysno) (args : List ℕ) (since : ℕ) → StoresRow (call_row s pid p id l woken call args since)
-  unfolding call_row interrupted_row interrupted
-  call_row-stores woken call args since = either-row l.control.abort _ _ refl (performed-stores woken call args since (call_effect s pid p id l since call args) (call-stores since call args))
-
-  phase-stores : (phase : Phase) → StoresRow (posted_row_or s pid p id l phase (current_row_or s pid p id l l.current (signal_row_or s pid p id l phase (row_in s pid p id l phase))))
-  unfolding signal_row_or row_in posted_row posted returned_row returned trapped stored_in
-  phase-stores User = current-stores l.current _ (taken-stores (own_takeable l) (shared_takeable p l) _ (executed-stores (instruction_effect p.space p.control.areas l.regs)))
-  phase-stores (Entered call) = current-stores l.current _ (call_row-stores false call (arguments l.regs) s.clock)
-  phase-stores (Asleep call args since) = current-stores l.current _ (taken-stores (own_takeable l) (shared_takeable p l) _ (call_row-stores true call args since))
-  phase-stores (Exiting call args result) = current-stores l.current _ (taken-stores (own_takeable l) (shared_takeable p l) _ (either-row l.control.step _ _ refl refl))
-  phase-stores (Faulted f address) = refl
+  kind-stores : (row : Row) → RowKind s pid p id l row → StoresRow row
+  unfolding requested_row requested posted_row posted dropped job_stopped died own_taken_row shared_taken_row own_taken
+      shared_taken interrupted_row interrupted returned_row returned trapped stored_in
+  kind-stores row (kind.catches {c = c} {handler = handler} now is) = handler-stores c handler
+  kind-stores row (kind.performs {woken = woken} {call = call} {args = args} {since = since} it goes none) =
+      performed-stores woken call args since (call_effect s pid p id l since call args) (call-stores since call args)
+  kind-stores row (kind.returns at none) = either-row l.control.step _ _ refl refl
+  kind-stores row (kind.executes at none) = executed-stores (instruction_effect p.space p.control.areas l.regs)
+  kind-stores row _ = refl
 
   pub row-stores : stores_after (row_for s pid p id l).transition.changes ≡ true
-  unfolding row_for requested_row requested
-  row-stores = either-row l.control.directed _ _ refl (phase-stores l.phase)
+  row-stores = kind-stores (row_for s pid p id l) (row-kind s pid p id l)
+

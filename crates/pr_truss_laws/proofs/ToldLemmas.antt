@@ -1,4 +1,4 @@
-use Rattle.std.proofs.Common.{◌≡◌, ℕ, Bool, true, false, cond, None, Some, Option, List, [], ◌∷◌, length, Result, Ok, Err, refl, sym, subst, ap, ◌∙◌}
+use Rattle.std.proofs.Common.{◌≡◌, ℕ, Bool, true, false, cond, None, Some, Option, List, ◌∷◌, length, Result, Ok, Err, refl, sym, subst, ap, ◌∙◌, []}
 use Rattle.std.proofs.lemmas.Bool.{false≢true, eq-eqb}
 use Rattle.std.proofs.lemmas.Option.{same_Some, none-some}
 use Rattle.std.specs.Option.{option_map}
@@ -18,29 +18,28 @@ use Rattle.pr_num.specs.declared.mappings.BadByte.{BadByte}
 use Rattle.pr_num.specs.declared.mappings.BadByte.TheVariants.{Hole, NotAllowed}
 use Rattle.pr_num.specs.Syscalls.{syscall_number}
 use Rattle.pr_rec.specs.Fields.{disposition_of as class_of}
-use Rattle.pr_model.specs.Signals.{action_for, current_of, disposition_of, own_takeable, shared_takeable}
-use Rattle.pr_model.specs.declared.events.How.TheVariants.{Died, Ignored, JobStop}
+use Rattle.pr_keeps.specs.RowKinds as kind
+use Rattle.pr_keeps.specs.RowKinds.{IsInCall, RowKind}
+use Rattle.pr_keeps.proofs.RowLemmas.{row-kind}
+use Rattle.pr_model.specs.Signals.{current_of, disposition_of}
 use Rattle.pr_model.specs.declared.events.Res.{Res}
 use Rattle.pr_model.specs.declared.events.Res.TheVariants.{Value, Error, Ended}
 use Rattle.pr_model.specs.declared.lwps.Current.{Current}
-use Rattle.pr_model.specs.declared.lwps.Phase.{Phase}
 use Rattle.pr_model.specs.declared.lwps.Phase.TheVariants as phase
 use Rattle.pr_model.specs.declared.stops.Stop.TheVariants as stop
 use Rattle.pr_num.specs.declared.signals.Sig.{Sig}
 use Rattle.pr_num.specs.declared.syscalls.Sysno.{Sysno}
 use Rattle.pr_model.specs.Events.{entry, event_of, exit, fault, signal}
 use Rattle.pr_model.specs.InstructionEffects.{InstructionEffect, access_fault, calls, faults, instruction_effect, runs, runs_into_watch, trapped_after, unless_watched, load_effect, store_effect, executed, of_instruction, of_fetch, unless_exec_watched, decoded, Decoded, faults_itself, enters_call, leaves, loads, stores, Store, Load, is_stack_load, loaded}
-use Rattle.pr_parts.specs.declared.actions.Action.{Action}
-use Rattle.pr_parts.specs.declared.actions.Action.TheVariants as act
 use Rattle.pr_model.specs.CallEffects.{call_effect}
 use Rattle.pr_model.specs.Changes.{Change, takes_shared, Effect, does, sleeps, ends}
 use Rattle.pr_model.specs.Machines.{traced}
 use Rattle.pr_model.specs.Moves.{Move, moved}
 use Rattle.pr_model.specs.Moves as move
 use Rattle.pr_model.specs.Points.{stop_at}
-use Rattle.pr_model.specs.Rows.{Row, acted_row, call_row, caught_row, current_row_or, handler_row, posted_row, posted_row_or, requested_row, row_for, row_in, signal_row_or, taken_or, entered_row, executed_row, finished, incurred_row, instruction_row, interrupted_row, own_taken_row, performed_row, point_row, quiet_row, ran_row, returned_row, shared_taken_row, watched_row}
-use Rattle.pr_model.specs.Transitions.{died, dropped, entered, incurred, interrupted, job_stopped, own_taken, performed, ran, returned, shared_taken, trapped}
-use Rattle.pr_model.specs.declared.events.Did.TheVariants.{Acted, Faulted, Ran, Returned, Took}
+use Rattle.pr_model.specs.Rows.{Row, handler_row, posted_row, requested_row, row_for, entered_row, executed_row, finished, incurred_row, instruction_row, interrupted_row, own_taken_row, performed_row, point_row, quiet_row, ran_row, returned_row, shared_taken_row, watched_row}
+use Rattle.pr_model.specs.Transitions.{entered, incurred, interrupted, own_taken, performed, ran, returned, shared_taken, trapped}
+use Rattle.pr_model.specs.declared.events.Did.TheVariants.{Faulted, Ran, Returned, Took}
 use Rattle.pr_model.specs.declared.stops.Point.{Point}
 use Rattle.pr_model.specs.declared.stops.Point.TheVariants.{Signal, Fault, Entry, Exit}
 use Rattle.pr_model.specs.Registers.{address_at, arguments, moved_on, pc_of, with_pc}
@@ -306,67 +305,26 @@ module _ (p : TracedProcess) (l : TracedLwp) where
 
   -- ---- the table
 
-  caught-tells : (c : Current) (handler : ℕ) (ph : Phase) → l.phase ≡ ph → TellsRow (caught_row l c handler ph)
-  unfolding caught_row handler_row arguments_in
-  caught-tells c handler (phase.Entered call) at = interrupted-tells false call (arguments l.regs) (ap (arguments_in l.regs) at)
-  caught-tells c handler (phase.Asleep call args since) at = interrupted-tells true call args (ap (arguments_in l.regs) at)
-  caught-tells c handler phase.User at = quiet-tells (handler_row l c handler) refl
-  caught-tells c handler (phase.Exiting call args result) at = quiet-tells (handler_row l c handler) refl
-  caught-tells c handler (phase.Faulted f address) at = quiet-tells (handler_row l c handler) refl
-
-  acted-tells : (c : Current) → TellsRow (acted_row p l c)
-  unfolding acted_row
-  acted-tells c = by (action_for p.dispositions c.signal) refl
-    where
-      by : (a : Action) → action_for p.dispositions c.signal ≡ a → TellsRow (acted_row p l c)
-      by act.Ignore is = rw is (quiet-tells (quiet_row (Acted c.signal Ignored) dropped) refl)
-      by act.Stop is = rw is (quiet-tells (quiet_row (Acted c.signal JobStop) (job_stopped c.signal)) refl)
-      by act.Die is = rw is (quiet-tells (quiet_row (Acted c.signal Died) (died c.signal)) refl)
-      by (act.Catch handler) is = rw is (caught-tells c handler l.phase refl)
-
   module _ (s : TracedSystem) (pid id : ℕ) where
-    call-tells : (woken : Bool) (call : Sysno) (args : List ℕ) (since : ℕ) → arguments_in l.regs l.phase ≡ args → TellsRow (call_row s pid p id l woken call args since)
-    unfolding call_row
-    call-tells woken call args since same = either-tells l.control.abort (interrupted_row woken call args) (performed_row woken call args since (call_effect s pid p id l since call args)) (interrupted-tells woken call args same) (performed-tells woken call args since (call_effect s pid p id l since call args) same)
+    in_call-arguments : (woken : Bool) (call : Sysno) (args : List ℕ) (since : ℕ) → IsInCall s l woken call args since
+        → arguments_in l.regs l.phase ≡ args
+    unfolding arguments_in
+    in_call-arguments woken call args since (kind.at_it at) = ap (arguments_in l.regs) at
+    in_call-arguments woken call args since (kind.asleep_in_it at) = ap (arguments_in l.regs) at
 
-    in-phase : (ph : Phase) → l.phase ≡ ph → TellsRow (row_in s pid p id l ph)
-    unfolding row_in arguments_in posted_row
-    in-phase phase.User at = executed-tells (instruction_effect p.space p.control.areas l.regs) (effect-on l.regs p.space p.control.areas)
-    in-phase (phase.Entered call) at = call-tells false call (arguments l.regs) s.clock (ap (arguments_in l.regs) at)
-    in-phase (phase.Asleep call args since) at = call-tells true call args since (ap (arguments_in l.regs) at)
-    in-phase (phase.Exiting call args result) at = returned-tells call
-    in-phase (phase.Faulted f address) at = quiet-tells (posted_row f address) refl
-
-    taken-tells : (own shared : Option Sig) (otherwise : Row) → TellsRow otherwise → TellsRow (taken_or s pid p id l own shared otherwise)
-    taken-tells (Some g) shared otherwise tells = own-tells g
-    taken-tells None (Some g) otherwise tells = shared-tells g
-    taken-tells None None otherwise tells = tells
-
-    signal-tells : (ph : Phase) (otherwise : Row) → TellsRow otherwise → TellsRow (signal_row_or s pid p id l ph otherwise)
-    unfolding signal_row_or
-    signal-tells phase.User otherwise tells = taken-tells (own_takeable l) (shared_takeable p l) otherwise tells
-    signal-tells (phase.Entered call) otherwise tells = tells
-    signal-tells (phase.Asleep call args since) otherwise tells = taken-tells (own_takeable l) (shared_takeable p l) otherwise tells
-    signal-tells (phase.Exiting call args result) otherwise tells = taken-tells (own_takeable l) (shared_takeable p l) otherwise tells
-    signal-tells (phase.Faulted f address) otherwise tells = tells
-
-    current-tells : (c : Option Current) (otherwise : Row) → TellsRow otherwise → TellsRow (current_row_or s pid p id l c otherwise)
-    current-tells (Some c) otherwise tells = acted-tells c
-    current-tells None otherwise tells = tells
-
-    posted-tells : (ph : Phase) (otherwise : Row) → TellsRow otherwise → TellsRow (posted_row_or s pid p id l ph otherwise)
-    unfolding posted_row
-    posted-tells (phase.Faulted f address) otherwise tells = quiet-tells (posted_row f address) refl
-    posted-tells phase.User otherwise tells = tells
-    posted-tells (phase.Entered call) otherwise tells = tells
-    posted-tells (phase.Asleep call args since) otherwise tells = tells
-    posted-tells (phase.Exiting call args result) otherwise tells = tells
+    kind-tells : (row : Row) → RowKind s pid p id l row → TellsRow row
+    unfolding requested_row posted_row handler_row
+    kind-tells row (kind.takes_own {g = g} none is) = own-tells g
+    kind-tells row (kind.takes_shared {g = g} none own is) = shared-tells g
+    kind-tells row (kind.interrupts {woken = woken} {call = call} {args = args} {since = since} it why) =
+        interrupted-tells woken call args (in_call-arguments woken call args since it)
+    kind-tells row (kind.performs {woken = woken} {call = call} {args = args} {since = since} it goes none) =
+        performed-tells woken call args since (call_effect s pid p id l since call args)
+            (in_call-arguments woken call args since it)
+    kind-tells row (kind.returns {call = call} at none) = returned-tells call
+    kind-tells row (kind.executes at none) =
+        executed-tells (instruction_effect p.space p.control.areas l.regs) (effect-on l.regs p.space p.control.areas)
+    kind-tells row _ = quiet-tells row refl
 
     pub row-tells : TellsRow (row_for s pid p id l)
-    unfolding row_for requested_row
-    row-tells =
-        let here : Row = row_in s pid p id l l.phase in
-        let signalled : Row = signal_row_or s pid p id l l.phase here in
-        let acted : Row = current_row_or s pid p id l l.current signalled in
-        let posted_first : Row = posted_row_or s pid p id l l.phase acted in
-        either-tells l.control.directed requested_row posted_first (quiet-tells requested_row refl) (posted-tells l.phase acted (current-tells l.current signalled (signal-tells l.phase here (in-phase l.phase refl))))
+    row-tells = kind-tells (row_for s pid p id l) (row-kind s pid p id l)

@@ -1,0 +1,5 @@
+pub mod KeepsLemmas
+pub mod MessageLemmas
+pub mod CallLemmas
+pub mod RowLemmas
+pub mod UsageLemmas

@@ -1,0 +1,5 @@
+pub mod LwpEdits
+pub mod ProcessEdits
+pub mod MessageEdits
+pub mod CallEdits
+pub mod RowKinds

@@ -1,0 +1,12 @@
+//! What control messages and calls of controllers make of the state, and what a turn can be, as closed lists: whatever
+//! is so of each of them is so of every message, call and turn. Each public function carries one law in its contract,
+//! and does nothing.
+#![tactic(auto)]
+
+mod calls;
+mod messages;
+mod turns;
+
+pub use calls::{calls_make_their_edits, closes_make_their_edits};
+pub use messages::messages_make_their_edits;
+pub use turns::turns_are_rows;
