@@ -28,7 +28,7 @@ use Rattle.pr_lawful.proofs.MadeLemmas.{generated-grows, handles-on, spawned-gro
 use Rattle.pr_lawful.proofs.ProgramLemmas.{named-lawful}
 use Rattle.pr_lawful.proofs.ReleasedLemmas.{generated-released, spawned-released}
 use Rattle.pr_lawful.proofs.SignalLemmas.{sent-reaches}
-use Rattle.pr_lawful.proofs.StateLemmas.{closed-state, made-state, opened-state, same-state, spawned-lawful, edit-state}
+use Rattle.pr_lawful.proofs.StateLemmas.{closed-state, edit-state, opened-state, same-state, spawned-lawful}
 use Rattle.pr_lawful.proofs.SystemLemmas.{parents-on}
 
 -- Every edit of a call of a controller leaves a state lawful: a line a kind of edit.

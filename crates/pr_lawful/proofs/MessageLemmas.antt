@@ -43,7 +43,7 @@ use Rattle.pr_mem.proofs.HeapPlaceLemmas.{LeavesHeapPlace-with_bytes}
 use Rattle.pr_rec.specs.InRange.{IsInfo}
 use Rattle.pr_lawful.proofs.InfoLemmas.{no-infos, taken-infos}
 use Rattle.pr_lawful.proofs.LocalLemmas.{KeepsLwp, same_sets, keeps-if, live-empty, IsKept, Keeps, kept-same, kept-next, kept-if, same_rest, same_lwps, kept-parts, keeps-lwp, keeps-each}
-use Rattle.pr_lawful.proofs.SignalLemmas.{HasRoomIn, MayPend}
+use Rattle.pr_lawful.proofs.SignalLemmas.{MayPend}
 use Rattle.pr_lawful.proofs.SystemLemmas.{Replaces, replaced, kept-replaces}
 use Rattle.pr_lawful.proofs.TransitionLemmas.{directed-keeps, all_directed-keeps}
 

@@ -249,7 +249,7 @@ edited-process m tail x y (process.gets_agent {regs = regs} none room) it h =
         (new_lwp-range regs _ _ (record { words = it.words; count = it.count })
         (holdable-set all_signals (omega arith))) h
 edited-process m tail x y (process.is_written {at = at} mapped) it h =
-    space-keeps (with_bytes at tail (space_seen x)) (with_bytes-range at tail it.tail_bytes x.space h.space) x h
+    space-keeps (with_bytes at tail x.space) (with_bytes-range at tail it.tail_bytes x.space h.space) x h
 
 -- ---- the system
 
