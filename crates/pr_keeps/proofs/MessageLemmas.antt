@@ -133,7 +133,7 @@ module _ (flags : ℕ) (tail : List ℕ) (x : TracedProcess) where
   one_run-edits (Some r) =
       process.then_edit process.as_it_is (process.one_lwp r.0 (run_lwp flags) (run_lwp-edits flags))
 
-  run-edits : RunsTo (with_run flags x)
+  pub run-edits : ProcessEdits (message.Run flags) tail x (with_run flags x)
   unfolding with_run
   run-edits = choice RunsTo (runs_one flags) _ _ (λ one. one_run-edits (representative x)) (λ all. all_run-edits)
 
