@@ -22,7 +22,7 @@ use Rattle.pr_model.specs.Machines.{traced}
 use Rattle.pr_model.specs.UntracedSteps.{steps_of_call}
 use Rattle.pr_model.specs.Calls.{Answer, refused, opened, open_unless, open_answer, close_held, close_answer, controlled, interrupted_answer, is_interrupted, waited, ready_answer, is_polled_ready, poll_answer, until_answer, interrupt_answer, spawn_unless, spawn_found, spawn_answer, sent_reply, kill_answer, answer_to}
 use Rattle.pr_model.specs.ControlMessages.{aim_of, system_refusal, tail_of, target_of, control_handle, decoded_answer, targeted_answer, held_answer, control_answer, wait_reply}
-use Rattle.pr_model.specs.Erasure.{bare_lwp, bare_process, bare_system, erased_system, bare_lwp, bare_process}
+use Rattle.pr_model.specs.Erasure.{bare_lwp, bare_process, bare_system, erased_system}
 use Rattle.pr_model.specs.Handles.{handle_of, open_refusal, with_opened, was_last_writer, released_lwp, released_control, released, with_last_close, after_last_close, with_closed}
 use Rattle.pr_model.specs.Messages.{Controlled, Aim, at_lwp, at_process, found_at, run_found, with_aim_directed, run_answer, with_control, tracing_signals, tracing_faults, tracing_entries, tracing_exits, with_modes, without_modes, read_of, mapped_bytes, read_answer, message_answer, refused as message_refused}
 use Rattle.pr_model.specs.Passive.{is_passive_message, is_passive_write, is_passive_call}
