@@ -2,7 +2,7 @@ use Rattle.std.proofs.Common.{◌≡◌, ◌==◌, ◌+◌, ◌-◌, ◌^◌, �
 use Rattle.std.proofs.lemmas.Bool.{eqb-true, cases_Bool, not-true}
 use Rattle.std.proofs.lemmas.Option.{same_Some}
 use Rattle.std.specs.List.{All, find, list_all}
-use Rattle.std.specs.Option.{option_map, option_and_then}
+use Rattle.std.specs.Option.{option_map}
 use Rattle.pr_num.specs.ById.{change_under, map_each}
 use Rattle.pr_num.specs.Control.{has_flags, klc_mode, rlc_mode, stop_again}
 use Rattle.pr_num.specs.Infos.{killed_by}
@@ -32,7 +32,7 @@ use Rattle.pr_model.specs.Machines.{traced}
 use Rattle.pr_model.specs.UntracedSteps.{steps_of_call}
 use Rattle.pr_model.specs.Calls.{Answer, refused, opened, open_unless, open_answer, close_held, close_answer, controlled, interrupted_answer, is_interrupted, waited, ready_answer, is_polled_ready, poll_answer, until_answer, interrupt_answer, spawn_unless, spawn_found, spawn_answer, sent_reply, kill_answer, answer_to}
 use Rattle.pr_model.specs.ControlMessages.{aim_of, system_refusal, tail_of, target_of, control_handle, decoded_answer, targeted_answer, held_answer, control_answer, wait_reply}
-use Rattle.pr_model.specs.Erasure.{erased_lwp, erased_process, erased_system}
+use Rattle.pr_model.specs.Erasure.{bare_lwp, bare_process, bare_system, erased_system}
 use Rattle.pr_model.specs.Handles.{handle_of, open_refusal, with_opened, was_last_writer, released_lwp, released_control, released, with_last_close, after_last_close, with_closed}
 use Rattle.pr_model.specs.Messages.{Controlled, Aim, at_lwp, at_process, found_at, run_found, with_aim_directed, run_answer, with_control, tracing_signals, tracing_faults, tracing_entries, tracing_exits, with_modes, without_modes, read_of, mapped_bytes, read_answer, message_answer, refused as message_refused}
 use Rattle.pr_model.specs.Passive.{is_passive_message, is_passive_write, is_passive_call}
@@ -45,11 +45,12 @@ use Rattle.pr_laws.proofs.RefusalLemmas.{control-leaves, refused-system}
 use Rattle.pr_laws.proofs.RunLemmas.{no_flags}
 use Rattle.pr_erasure.proofs.OutsideLemmas.{Follows, follows-nothing, spawn-follows, kill-follows, refused_sent}
 use Rattle.pr_model.specs.Running.{let_go, run_lwp, lwp_run_refused, with_directive, with_one_run, with_cleared, with_aborted, with_flags_on, without_directive, with_request, without_request, was_requested, if_all_requested, shows_run, run_refused, with_representative_run, with_all_run, with_run}
-use Rattle.pr_model.specs.State.{Places, TracedControl, TracedLwp, TracedProcess, TracedSystem, TracedState, process_of, if_live, live_process, lwp_of, with_process, with_lwp, with_system}
+use Rattle.pr_model.specs.State.{Places, TracedControl, TracedLwp, TracedProcess, TracedSystem, TracedState, live_process, lwp_of, with_process, with_lwp, with_system}
 use Rattle.pr_model.specs.Stops.{has_event_stop, directed, with_all_directed, representative}
 use Rattle.pr_model.specs.declared.handles.Held.{Held}
 use Rattle.pr_model.specs.declared.stops.Stop.TheVariants.{Requested}
 use Rattle.pr_erasure.specs.Untouched.{IsUntouchedLwp, IsUntouchedProcess, IsUntouched}
+use Rattle.pr_erasure.proofs.BareLemmas.{same-system}
 use Rattle.pr_erasure.proofs.PointLemmas.{directed-hidden, with_all_directed-hidden}
 use Rattle.pr_erasure.proofs.StateLemmas.{map_each-hidden, map_each-all_hidden, with_process-hidden, with_lwp-hidden}
 use Rattle.pr_erasure.proofs.UntouchedLemmas.{KeepsLwps, KeepsProcesses, directed-keeps, lwp-keeps, lwps-keep, process-keeps}
@@ -64,45 +65,45 @@ active e = absurd (clash e)
     clash : false ≡ true → ⊥
     clash e = cc
 
--- a change of the system that programs do not see, and that leaves it untouched
+-- a change of the system in what controllers set alone, that leaves it untouched
 pub record Hides (s t : TracedSystem) : Type 0 where
-  pub same : erased_system t ≡ erased_system s
+  pub same : bare_system t ≡ bare_system s
   pub untouched : IsUntouched t
 
 pub hides-nothing : (s : TracedSystem) → IsUntouched s → Hides s s
 hides-nothing s u = record { same = refl; untouched = u }
 
-hides-process : (pid : ℕ) (f : TracedProcess → TracedProcess) → ((x : TracedProcess) → erased_process (f x) ≡ erased_process x) → KeepsProcesses f → (s : TracedSystem) → IsUntouched s → Hides s (with_process pid f s)
+hides-process : (pid : ℕ) (f : TracedProcess → TracedProcess) → ((x : TracedProcess) → bare_process (f x) ≡ bare_process x) → KeepsProcesses f → (s : TracedSystem) → IsUntouched s → Hides s (with_process pid f s)
 hides-process pid f hides keeps s u = record { same = with_process-hidden s pid f hides; untouched = process-keeps pid f keeps s u }
 
 -- ---- lwps that are directed to stop, run and released
 
-without_directive-hidden : (l : TracedLwp) → erased_lwp (without_directive l) ≡ erased_lwp l
-unfolding erased_lwp without_directive
+without_directive-hidden : (l : TracedLwp) → bare_lwp (without_directive l) ≡ bare_lwp l
+unfolding bare_lwp without_directive
 without_directive-hidden l = refl
 
 without_directive-keeps : KeepsLwps without_directive
 unfolding without_directive
 without_directive-keeps id x u = record { no_step = u.no_step; no_abort = u.no_abort; no_agent = u.no_agent }
 
-with_request-hidden : (l : TracedLwp) → erased_lwp (with_request l) ≡ erased_lwp l
-unfolding erased_lwp with_request
-with_request-hidden l = elim (has_event_stop l) as (λ b. erased_lwp (cond b (record l { control = record l.control { stop = Some Requested } }) l) ≡ erased_lwp l) [ true ↦ refl | false ↦ refl ]
+with_request-hidden : (l : TracedLwp) → bare_lwp (with_request l) ≡ bare_lwp l
+unfolding bare_lwp with_request
+with_request-hidden l = elim (has_event_stop l) as (λ b. bare_lwp (cond b (record l { control = record l.control { stop = Some Requested } }) l) ≡ bare_lwp l) [ true ↦ refl | false ↦ refl ]
 
 with_request-keeps : KeepsLwps with_request
 unfolding with_request
 with_request-keeps id x u = elim (has_event_stop x) as (λ b. IsUntouchedLwp (id, cond b (record x { control = record x.control { stop = Some Requested } }) x)) [ true ↦ record { no_step = u.no_step; no_abort = u.no_abort; no_agent = u.no_agent } | false ↦ u ]
 
-without_request-hidden : (l : TracedLwp) → erased_lwp (without_request l) ≡ erased_lwp l
-unfolding erased_lwp without_request
-without_request-hidden l = elim (was_requested l.control.stop) as (λ b. erased_lwp (cond b (record l { control = record l.control { stop = None } }) l) ≡ erased_lwp l) [ true ↦ refl | false ↦ refl ]
+without_request-hidden : (l : TracedLwp) → bare_lwp (without_request l) ≡ bare_lwp l
+unfolding bare_lwp without_request
+without_request-hidden l = elim (was_requested l.control.stop) as (λ b. bare_lwp (cond b (record l { control = record l.control { stop = None } }) l) ≡ bare_lwp l) [ true ↦ refl | false ↦ refl ]
 
 without_request-keeps : KeepsLwps without_request
 unfolding without_request
 without_request-keeps id x u = elim (was_requested x.control.stop) as (λ b. IsUntouchedLwp (id, cond b (record x { control = record x.control { stop = None } }) x)) [ true ↦ record { no_step = u.no_step; no_abort = u.no_abort; no_agent = u.no_agent } | false ↦ u ]
 
-released_lwp-hidden : (l : TracedLwp) → erased_lwp (released_lwp l) ≡ erased_lwp l
-unfolding erased_lwp released_lwp
+released_lwp-hidden : (l : TracedLwp) → bare_lwp (released_lwp l) ≡ bare_lwp l
+unfolding bare_lwp released_lwp
 released_lwp-hidden l = refl
 
 released_lwp-keeps : KeepsLwps released_lwp
@@ -113,20 +114,20 @@ released_lwp-keeps id x u = record { no_step = refl; no_abort = u.no_abort; no_a
 
 -- lwps that look the same, and are untouched
 record SameLwps (old new : List (ℕ × TracedLwp)) : Type 0 where
-  seen : map_each erased_lwp new ≡ map_each erased_lwp old
+  seen : map_each bare_lwp new ≡ map_each bare_lwp old
   untouched : All IsUntouchedLwp old → All IsUntouchedLwp new
 
-one : (id : ℕ) (f : TracedLwp → TracedLwp) → ((x : TracedLwp) → erased_lwp (f x) ≡ erased_lwp x) → KeepsLwps f → (ls : List (ℕ × TracedLwp)) → SameLwps ls (change_under id f ls)
-one id f hides keeps ls = record { seen = map_each-hidden erased_lwp id f ls hides; untouched = All-change_under IsUntouchedLwp id f ls (λ l found un. keeps id l un) }
+one : (id : ℕ) (f : TracedLwp → TracedLwp) → ((x : TracedLwp) → bare_lwp (f x) ≡ bare_lwp x) → KeepsLwps f → (ls : List (ℕ × TracedLwp)) → SameLwps ls (change_under id f ls)
+one id f hides keeps ls = record { seen = map_each-hidden bare_lwp id f ls hides; untouched = All-change_under IsUntouchedLwp id f ls (λ l found un. keeps id l un) }
 
-each : (f : TracedLwp → TracedLwp) → ((x : TracedLwp) → erased_lwp (f x) ≡ erased_lwp x) → KeepsLwps f → (ls : List (ℕ × TracedLwp)) → SameLwps ls (map_each f ls)
-each f hides keeps ls = record { seen = map_each-all_hidden erased_lwp f ls hides; untouched = All-map_each IsUntouchedLwp IsUntouchedLwp f (λ e un. keeps e.0 e.1 un) ls }
+each : (f : TracedLwp → TracedLwp) → ((x : TracedLwp) → bare_lwp (f x) ≡ bare_lwp x) → KeepsLwps f → (ls : List (ℕ × TracedLwp)) → SameLwps ls (map_each f ls)
+each f hides keeps ls = record { seen = map_each-all_hidden bare_lwp f ls hides; untouched = All-map_each IsUntouchedLwp IsUntouchedLwp f (λ e un. keeps e.0 e.1 un) ls }
 
 next : {a b c : List (ℕ × TracedLwp)} → SameLwps a b → SameLwps b c → SameLwps a c
 next x y = record { seen = y.seen ∙ x.seen; untouched = λ u. y.untouched (x.untouched u) }
 
-flagged-hidden : (x : TracedLwp) → erased_lwp (with_flags_on 0 x) ≡ erased_lwp x
-flagged-hidden x = ap erased_lwp (no_flags x)
+flagged-hidden : (x : TracedLwp) → bare_lwp (with_flags_on 0 x) ≡ bare_lwp x
+flagged-hidden x = ap bare_lwp (no_flags x)
 
 flagged-keeps : KeepsLwps (with_flags_on 0)
 flagged-keeps id x u = subst (λ l. IsUntouchedLwp (id, l)) (sym (no_flags x)) u
@@ -150,21 +151,21 @@ run_is : (p : TracedProcess) → with_run 0 p ≡ record p { lwps = (with_run 0 
 unfolding with_run with_all_run has_flags common_word
 run_is p = refl
 
-with_lwps-hidden : (p : TracedProcess) (ls : List (ℕ × TracedLwp)) → SameLwps p.lwps ls → erased_process (record p { lwps = ls }) ≡ erased_process p
-unfolding erased_process
-with_lwps-hidden p ls same = ap (λ seen. record (erased_process p) { lwps = seen }) same.seen
+with_lwps-hidden : (p : TracedProcess) (ls : List (ℕ × TracedLwp)) → SameLwps p.lwps ls → bare_process (record p { lwps = ls }) ≡ bare_process p
+unfolding bare_process
+with_lwps-hidden p ls same = ap (λ seen. record (bare_process p) { lwps = seen }) same.seen
 
-pub with_run-hidden : (p : TracedProcess) → erased_process (with_run 0 p) ≡ erased_process p
-with_run-hidden p = ap erased_process (run_is p) ∙ with_lwps-hidden p (with_run 0 p).lwps (run-lwps p)
+pub with_run-hidden : (p : TracedProcess) → bare_process (with_run 0 p) ≡ bare_process p
+with_run-hidden p = ap bare_process (run_is p) ∙ with_lwps-hidden p (with_run 0 p).lwps (run-lwps p)
 
 with_run-keeps : KeepsProcesses (with_run 0)
 with_run-keeps pid x u =
     let ls = run-lwps x in
     subst (λ y. IsUntouchedProcess (pid, y)) (sym (run_is x)) (record { no_kill = u.no_kill; unwatched = u.unwatched; lwps = ls.untouched u.lwps })
 
-pub released-hidden : (p : TracedProcess) → erased_process (released p) ≡ erased_process p
-unfolding erased_process released
-released-hidden p = ap (λ ls. record (erased_process p) { lwps = ls }) (map_each-all_hidden erased_lwp released_lwp p.lwps released_lwp-hidden)
+pub released-hidden : (p : TracedProcess) → bare_process (released p) ≡ bare_process p
+unfolding bare_process released
+released-hidden p = ap (λ ls. record (bare_process p) { lwps = ls }) (map_each-all_hidden bare_lwp released_lwp p.lwps released_lwp-hidden)
 
 released-keeps : KeepsProcesses released
 unfolding released released_control
@@ -176,21 +177,21 @@ all_directed-keeps pid x u = record { no_kill = u.no_kill; unwatched = u.unwatch
 
 -- ---- an lwp that is run: without flags, or with PRSTOP alone
 
--- a change of lwps that programs do not see, and that leaves them untouched
+-- a change of lwps in what controllers set alone, that leaves them untouched
 record Quiet (f : TracedLwp → TracedLwp) : Type 0 where
-  hides : (l : TracedLwp) → erased_lwp (f l) ≡ erased_lwp l
+  hides : (l : TracedLwp) → bare_lwp (f l) ≡ bare_lwp l
   keeps : KeepsLwps f
 
 record QuietProcess (f : TracedProcess → TracedProcess) : Type 0 where
-  hides : (p : TracedProcess) → erased_process (f p) ≡ erased_process p
+  hides : (p : TracedProcess) → bare_process (f p) ≡ bare_process p
   keeps : KeepsProcesses f
 
 run-quiet : Quiet (run_lwp 0)
-unfolding erased_lwp run_lwp let_go with_aborted with_cleared has_flags common_word
+unfolding bare_lwp run_lwp let_go with_aborted with_cleared has_flags common_word
 run-quiet = record { hides = λ l. refl; keeps = λ id x u. record { no_step = u.no_step; no_abort = u.no_abort; no_agent = u.no_agent } }
 
 stop_again-quiet : Quiet (run_lwp stop_again)
-unfolding erased_lwp run_lwp let_go with_aborted with_cleared with_directive has_flags common_word
+unfolding bare_lwp run_lwp let_go with_aborted with_cleared with_directive has_flags common_word
 stop_again-quiet = record { hides = λ l. refl; keeps = λ id x u. record { no_step = u.no_step; no_abort = u.no_abort; no_agent = u.no_agent } }
 
 one-quiet : (id : ℕ) (f : TracedLwp → TracedLwp) → Quiet f → QuietProcess (with_lwp id f)
@@ -203,7 +204,7 @@ one_run-is : (p : TracedProcess) → with_run stop_again p ≡ with_one_run stop
 unfolding with_run has_flags common_word
 one_run-is p = refl
 
-one_run-hides : (r : Option (ℕ × TracedLwp)) (p : TracedProcess) → erased_process (with_one_run stop_again r p) ≡ erased_process p
+one_run-hides : (r : Option (ℕ × TracedLwp)) (p : TracedProcess) → bare_process (with_one_run stop_again r p) ≡ bare_process p
 one_run-hides None p = refl
 one_run-hides (Some r) p = let q = one-quiet r.0 (run_lwp stop_again) stop_again-quiet in q.hides p
 
@@ -213,7 +214,7 @@ one_run-keeps (Some r) pid p u = let q = one-quiet r.0 (run_lwp stop_again) stop
 
 stop_again-all-quiet : QuietProcess (with_run stop_again)
 stop_again-all-quiet = record {
-  hides = λ p. ap erased_process (one_run-is p) ∙ one_run-hides (representative p) p;
+  hides = λ p. ap bare_process (one_run-is p) ∙ one_run-hides (representative p) p;
   keeps = λ pid x u. subst (λ y. IsUntouchedProcess (pid, y)) (sym (one_run-is x)) (one_run-keeps (representative x) pid x u);
 }
 
@@ -276,7 +277,7 @@ module _ (s : TracedSystem) (u : IsUntouched s) where
 
     -- what is traced and which modes are set
     set-hides : (f : TracedControl → TracedControl) → ((c : TracedControl) → (f c).areas ≡ c.areas) → ((c : TracedControl) → has_flags c.modes klc_mode ≡ false → has_flags (f c).modes klc_mode ≡ false) → Hides s (with_process pid (with_control f) s)
-    unfolding with_control erased_process
+    unfolding with_control bare_process
     set-hides f areas kept =
         hides-process pid (with_control f) (λ x. refl)
         (λ q x un. record { no_kill = kept x.control un.no_kill; unwatched = areas x.control ∙ un.unwatched; lwps = un.lwps }) s u
@@ -443,7 +444,7 @@ module _ (s : TracedState) (u : IsUntouched s.system) where
   -- a call that is hidden has no step
   hidden : (c : calls.Call) (a : Answer) → steps_of_call c a.reply ≡ [] → HidesAnswer s a → Follows s.system (steps_of_call c a.reply) a.state.system
   unfolding HidesAnswer
-  hidden c a none hides = subst (λ steps. Follows s.system steps a.state.system) (sym none) (record { run = subst (UntracedRun (erased_system s.system) []) (sym hides.same) ends_here; untouched = hides.untouched })
+  hidden c a none hides = subst (λ steps. Follows s.system steps a.state.system) (sym none) (record { run = subst (UntracedRun (erased_system s.system) []) (sym (same-system a.state.system s.system hides.same)) ends_here; untouched = hides.untouched })
 
   spawn_unless-follows : (name : List ℕ) (program : Program) (held : Bool) → program_named s.system.programs name ≡ Some program → (o : Option Errno) → spawn_refusal s.system program ≡ o → Follows s.system (steps_of_call (call.Spawn name held) (spawn_unless s program held o).reply) (spawn_unless s program held o).state.system
   spawn_unless-follows name program held named (Some e) refusal = follows-nothing s.system u

@@ -42,7 +42,7 @@ module _ (pid : ℕ) (p : TracedProcess) (id : ℕ) (l : TracedLwp) where
   changed-erased (disposition_is g d) sent s = with_process-erased s pid (with_disposition_of g d) (with_disposition_of g d) (λ x found. refl)
   changed-erased (held_is held) sent s = own_lwp s id (with_held held) (with_held held) (λ x. refl)
   changed-erased (resumes frame frames) sent s = own_lwp s id (resumed frame frames) (resumed frame frames) (λ x. refl)
-  changed-erased (forks args) sent s = unless (eqb s.made pid) s _ (with_child-erased pid p l args s)
+  changed-erased (forks birth args) sent s = unless (eqb s.made pid) s _ (with_child-erased birth pid p l args s)
   changed-erased (reaps child) sent s = unless (eqb child pid) s _ (with_reaped-erased child s)
   changed-erased (becomes program) sent s = with_process-erased s pid (with_program traced id l program) (with_program untraced id (erased_lwp l) program) (λ x found. with_program-erased id l program x)
   changed-erased (makes_lwp new regs held) sent s = with_process-erased s pid (with_new_lwp traced new regs held) (with_new_lwp untraced new regs held) (λ x found. with_new_lwp-erased new regs held x)

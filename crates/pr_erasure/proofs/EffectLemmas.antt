@@ -28,6 +28,7 @@ use Rattle.pr_model.specs.CallEffects.{call_effect}
 use Rattle.pr_model.specs.Changes.{Change, files_are, space_is, signals, disposition_is, held_is, resumes, forks, reaps, becomes, makes_lwp, suspends, ends_process, Effect, does, sleeps, ends, gives, fails, is_over}
 use Rattle.pr_model.specs.FileCallRows.{word_size, refusal_effect, file_effect, read_effect, write_effect, open_effect, close_effect, pipe_effect, dup_effect, lseek_effect, fstat_effect}
 use Rattle.pr_num.specs.Limits.{last_lwp, sleep_limit, transfer_limit}
+use Rattle.pr_model.specs.Lives.{by_fork}
 use Rattle.pr_model.specs.LwpCalls.{lwp_create_effect, lwp_suspend_effect, lwp_continue_effect}
 use Rattle.pr_model.specs.LwpTurns.{is_ready}
 use Rattle.pr_model.specs.MemoryCalls.{can_write, path_at, unless_too_big, brk_effect, mmap_effect, munmap_effect, mprotect_effect}
@@ -280,7 +281,7 @@ exit-done status = record { proper = tt; over = refl }
 
 fork-done : (s : TracedSystem) (p : TracedProcess) (id : ℕ) (args : List ℕ) → IsDone (fork_effect s p id args)
 unfolding fork_effect
-fork-done s p id args = unless _ (fails Notsup) _ (failed Notsup) (unless _ (fails Again) _ (failed Again) (unless _ (gives s.made (forks args ∷ [])) (fails Nomem) (gave s.made (forks args ∷ []) (tt, tt)) (failed Nomem)))
+fork-done s p id args = unless _ (fails Notsup) _ (failed Notsup) (unless _ (fails Again) _ (failed Again) (unless _ (gives s.made (forks by_fork args ∷ [])) (fails Nomem) (gave s.made (forks by_fork args ∷ []) (tt, tt)) (failed Nomem)))
 
 exec-done : (s : TracedSystem) (p : TracedProcess) (id at : ℕ) → IsDone (exec_effect s p id at)
 unfolding exec_effect

@@ -6,39 +6,44 @@ use Rattle.pr_parts.specs.declared.actions.Action.TheVariants as act
 use Rattle.pr_model.specs.CallEffects.{call_effect}
 use Rattle.pr_model.specs.Changes.{Effect}
 use Rattle.pr_model.specs.Changes as change
-use Rattle.pr_model.specs.Erasure.{erased_process, erased_system}
+use Rattle.pr_model.specs.Erasure.{bare_system, erased_process, erased_system}
+use Rattle.pr_model.specs.Handles.{released}
 use Rattle.pr_model.specs.InstructionEffects.{InstructionEffect, Store, instruction_effect}
 use Rattle.pr_model.specs.InstructionEffects as instruction
 use Rattle.pr_model.specs.LwpTurns.{LwpTurn, turn_of, settled}
-use Rattle.pr_model.specs.Machines.{untraced}
-use Rattle.pr_model.specs.Moves.{moved}
-use Rattle.pr_model.specs.Moves as move
 use Rattle.pr_model.specs.Registers.{arguments}
 use Rattle.pr_model.specs.Rows.{Row, requested_row, posted_row, interrupted_row, performed_row, own_taken_row, shared_taken_row, handler_row, caught_row, acted_row, returned_row, ran_row, entered_row, incurred_row, watched_row, executed_row, call_row, row_in, taken_or, signal_row_or, current_row_or, posted_row_or, row_for}
+use Rattle.pr_model.specs.Running.{with_run}
 use Rattle.pr_model.specs.Signals.{action_for, own_takeable, shared_takeable}
 use Rattle.pr_model.specs.State.{TracedLwp, TracedProcess, TracedSystem, with_lwp}
-use Rattle.pr_model.specs.Stops.{directed}
-use Rattle.pr_model.specs.Transitions.{after_transition, requested}
-use Rattle.pr_model.specs.Changes.{all_changed}
+use Rattle.pr_model.specs.Stops.{directed, with_all_directed}
 use Rattle.pr_model.specs.declared.events.Did.{Did}
 use Rattle.pr_model.specs.declared.events.Did.TheVariants.{Stopped, Ran, Entered, Made, Slept, Woke, Returned, Faulted, Posted, Took, Acted}
 use Rattle.pr_model.specs.declared.lwps.Current.{Current}
 use Rattle.pr_model.specs.declared.lwps.Phase.{Phase}
 use Rattle.pr_model.specs.declared.lwps.Phase.TheVariants as phase
+use Rattle.pr_erasure.proofs.BareLemmas.{same-process, same-system}
 use Rattle.pr_erasure.proofs.CallLemmas.{with_run-hidden, released-hidden}
 use Rattle.pr_erasure.proofs.PointLemmas.{directed-hidden, with_all_directed-hidden}
-use Rattle.pr_erasure.proofs.StateLemmas.{unmoved, with_lwp-hidden}
-use Rattle.pr_erasure.proofs.TransitionLemmas.{settled-erased}
-use Rattle.pr_erasure.specs.Suiting.{IsThere}
+use Rattle.pr_erasure.proofs.StateLemmas.{with_lwp-hidden}
+use Rattle.pr_erasure.proofs.TransitionLemmas.{requested-bare}
 use Rattle.pr_model.proofs.TurnLemmas.{turn-taken}
-use Rattle.pr_model.proofs.StateLemmas.{live_process-found}
 
 -- What controllers do to stop lwps and to run them, and stops that were asked for, as programs see them: nothing.
 
-pub lwp_directed-hidden : (id : ℕ) (p : TracedProcess) → erased_process (with_lwp id directed p) ≡ erased_process p
-lwp_directed-hidden id p = with_lwp-hidden p id directed directed-hidden
+pub lwp-directed : (id : ℕ) (p : TracedProcess) → erased_process (with_lwp id directed p) ≡ erased_process p
+lwp-directed id p = same-process (with_lwp id directed p) p (with_lwp-hidden p id directed directed-hidden)
 
-pub ruleset hidden = (lwp_directed-hidden, with_all_directed-hidden, with_run-hidden, released-hidden)
+pub all-directed : (p : TracedProcess) → erased_process (with_all_directed p) ≡ erased_process p
+all-directed p = same-process (with_all_directed p) p (with_all_directed-hidden p)
+
+pub all-run : (p : TracedProcess) → erased_process (with_run 0 p) ≡ erased_process p
+all-run p = same-process (with_run 0 p) p (with_run-hidden p)
+
+pub all-released : (p : TracedProcess) → erased_process (released p) ≡ erased_process p
+all-released p = same-process (released p) p (released-hidden p)
+
+pub ruleset hidden = (lwp-directed, all-directed, all-run, all-released)
 
 -- ---- only the first row is a requested stop
 
@@ -140,22 +145,18 @@ module _ (s : TracedSystem) (pid : ℕ) (p : TracedProcess) (id : ℕ) (l : Trac
       by true is = rw is refl
       by false is = absurd (clash (phase-goes l.phase) (subst (λ b. (cond b requested_row rest).did ≡ Stopped) is did))
 
--- what that row makes of the system
-stopped-hidden : (s : TracedSystem) (pid : ℕ) (p : TracedProcess) (id : ℕ) (l : TracedLwp) → IsThere s pid p id l → erased_system (settled s pid p id l requested_row).system ≡ erased_system s
-unfolding requested_row requested after_transition moved untraced all_changed
-stopped-hidden s pid p id l there =
-    settled-erased s pid p id l there requested_row (record { fits = tt; sent = tt })
-    ∙ unmoved s pid p id l there.found there.there (moved untraced move.stops) refl
-
-pub stop-hidden : (s : TracedSystem) (pid id : ℕ) (t : LwpTurn) → turn_of s pid id ≡ Some t → t.turned.did ≡ Stopped → erased_system t.system ≡ erased_system s
+-- and that row changes what controllers set alone
+stop-bare : (s : TracedSystem) (pid id : ℕ) (t : LwpTurn) → turn_of s pid id ≡ Some t → t.turned.did ≡ Stopped → bare_system t.system ≡ bare_system s
 unfolding settled
-stop-hidden s pid id t turn did =
+stop-bare s pid id t turn did =
     let taken = turn-taken s pid id t turn in
     let p = taken.process in
     let l = taken.lwp in
     let was : (row_for s pid p id l).did ≡ Stopped = sym (ap (λ (x : LwpTurn). x.turned.did) taken.is) ∙ did in
-    let there : IsThere s pid p id l = record { found = live_process-found s pid p taken.live; there = taken.there } in
-    ap (λ (x : LwpTurn). erased_system x.system) (taken.is ∙ ap (settled s pid p id l) (only_requested s pid p id l was))
-    ∙ stopped-hidden s pid p id l there
+    ap (λ (x : LwpTurn). bare_system x.system) (taken.is ∙ ap (settled s pid p id l) (only_requested s pid p id l was))
+    ∙ requested-bare s pid p id l
+
+pub stop-hidden : (s : TracedSystem) (pid id : ℕ) (t : LwpTurn) → turn_of s pid id ≡ Some t → t.turned.did ≡ Stopped → erased_system t.system ≡ erased_system s
+stop-hidden s pid id t turn did = same-system t.system s (stop-bare s pid id t turn did)
 
 pub ruleset stops = (stop-hidden)

@@ -53,7 +53,7 @@ turn-follows s pid id t m turn u =
     let row = row_for s pid p id l in
     let pu : IsUntouchedProcess (pid, p) = All-under IsUntouchedProcess pid p s.processes u.processes (live_process-found s pid p taken.live) in
     let lu : IsUntouchedLwp (id, l) = All-under IsUntouchedLwp id l p.lwps pu.lwps taken.there in
-    let has : HasTurn s pid p id l = record { live = taken.live; there = taken.there; free = taken.free; no_agent = lu.no_agent; no_step = lu.no_step; no_abort = lu.no_abort; unwatched = pu.unwatched } in
+    let has : l.control.directed ≡ false → HasTurn s pid p id l = λ directed. record { live = taken.live; there = taken.there; free = taken.free; not_directed = directed; no_agent = lu.no_agent; no_step = lu.no_step; no_abort = lu.no_abort; unwatched = pu.unwatched } in
     subst (λ (v : LwpTurn). Follows s (steps_of_turn (m.returning pid id) pid id v.turned.did) v.system) (sym taken.is) (record {
       run = row-runs s pid p id l has taken.goes (m.returning pid id);
       untouched = settled-keeps pid p id l lu s u row (row-proper s pid p id l);

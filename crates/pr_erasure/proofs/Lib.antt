@@ -1,3 +1,4 @@
+pub mod BareLemmas
 pub mod CallLemmas
 pub mod ChangeLemmas
 pub mod DecisionLemmas

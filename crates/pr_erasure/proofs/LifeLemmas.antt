@@ -10,7 +10,7 @@ use Rattle.pr_num.specs.Files.{Descriptors, with_all_closed}
 use Rattle.pr_model.specs.Erasure.{erased_lwp, erased_pending, erased_phase, erased_process, erased_system}
 use Rattle.pr_num.specs.Spaces.{first_space}
 use Rattle.pr_model.specs.Generation.{told}
-use Rattle.pr_model.specs.Lives.{with_made, orphaned, with_parent_told, without_lwp, with_reaped, new_lwp, first_lwp, bare_process, new_process, with_spawned, forked_lwp, forked, with_child, started, with_program, with_new_lwp, uncaught, zombie, with_this_ended, ended_if_live, with_ended, with_lwp_ended}
+use Rattle.pr_model.specs.Lives.{Birth, with_made, orphaned, with_parent_told, without_lwp, with_reaped, new_lwp, first_lwp, bare_process, new_process, with_spawned, forked_lwp, forked, with_child, started, with_program, with_new_lwp, uncaught, zombie, with_this_ended, ended_if_live, with_ended, with_lwp_ended}
 use Rattle.pr_model.specs.Machines.{no_marks, traced, untraced}
 use Rattle.pr_model.specs.State.{TracedLwp, TracedProcess, TracedSystem, live_process, lwp_of, with_process}
 use Rattle.pr_erasure.proofs.SignalLemmas.{told-erased}
@@ -77,20 +77,20 @@ pub with_spawned-erased : (program : Program) (held : Bool) (s : TracedSystem) �
 unfolding with_spawned erased_system
 with_spawned-erased program held s = with_made-erased (new_process traced program s.clock held) s ∙ ap (λ p. with_made p (erased_system s)) (new_process-erased program s.clock held)
 
-forked-erased : (pid : ℕ) (p : TracedProcess) (l : TracedLwp) (args : List ℕ) (clock : ℕ) → erased_process (forked traced pid p l args clock) ≡ forked untraced pid (erased_process p) (erased_lwp l) args clock
+forked-erased : (birth : Birth) (pid : ℕ) (p : TracedProcess) (l : TracedLwp) (args : List ℕ) (clock : ℕ) → erased_process (forked traced birth pid p l args clock) ≡ forked untraced birth pid (erased_process p) (erased_lwp l) args clock
 unfolding erased_process erased_lwp erased_phase erased_pending forked forked_lwp traced untraced
-forked-erased pid p l args clock = refl
+forked-erased birth pid p l args clock = refl
 
 fds-erased : (p : TracedProcess) → (erased_process p).fds ≡ p.fds
 unfolding erased_process
 fds-erased p = refl
 
-pub with_child-erased : (pid : ℕ) (p : TracedProcess) (l : TracedLwp) (args : List ℕ) (s : TracedSystem) → erased_system (with_child traced pid p l args s) ≡ with_child untraced pid (erased_process p) (erased_lwp l) args (erased_system s)
+pub with_child-erased : (birth : Birth) (pid : ℕ) (p : TracedProcess) (l : TracedLwp) (args : List ℕ) (s : TracedSystem) → erased_system (with_child traced birth pid p l args s) ≡ with_child untraced birth pid (erased_process p) (erased_lwp l) args (erased_system s)
 unfolding with_child erased_system
-with_child-erased pid p l args s =
-    with_made-erased (forked traced pid p l args s.clock) (record s { files = with_all_shared s.files p.fds })
-    ∙ ap (λ q. with_made q (record (erased_system s) { files = with_all_shared s.files p.fds })) (forked-erased pid p l args s.clock)
-    ∙ ap (λ fds. with_made (forked untraced pid (erased_process p) (erased_lwp l) args s.clock) (record (erased_system s) { files = with_all_shared s.files fds })) (sym (fds-erased p))
+with_child-erased birth pid p l args s =
+    with_made-erased (forked traced birth pid p l args s.clock) (record s { files = with_all_shared s.files p.fds })
+    ∙ ap (λ q. with_made q (record (erased_system s) { files = with_all_shared s.files p.fds })) (forked-erased birth pid p l args s.clock)
+    ∙ ap (λ fds. with_made (forked untraced birth pid (erased_process p) (erased_lwp l) args s.clock) (record (erased_system s) { files = with_all_shared s.files fds })) (sym (fds-erased p))
 
 -- An lwp that runs another program, and its process with it alone. What is set on the process goes its own way.
 started-erased : (l : TracedLwp) → erased_lwp (started traced l) ≡ started untraced (erased_lwp l)

@@ -1,5 +1,5 @@
-use Rattle.std.proofs.Common.{◌≡◌, ◌≢◌, ℕ, Bool, true, false, not, ◌||◌, ◌&&◌, is_some, is_none, eqb, ltb, length, Option, Some, None, List, [], ◌∷◌, cond, refl, sym, subst, ◌∙◌, ap}
-use Rattle.std.specs.Option.{option_map, option_and_then, option_or}
+use Rattle.std.proofs.Common.{◌≡◌, ◌≢◌, ℕ, Bool, true, false, not, ◌||◌, ◌&&◌, is_some, eqb, ltb, length, Option, Some, None, List, [], ◌∷◌, cond, refl, sym, subst, ◌∙◌, ap}
+use Rattle.std.specs.Option.{option_map, option_or}
 use Rattle.pr_num.specs.Agents.{agent_id}
 use Rattle.pr_num.specs.Limits.{frame_limit}
 use Rattle.pr_num.specs.declared.faults.Flt.{Flt}
@@ -15,8 +15,7 @@ use Rattle.pr_model.specs.InstructionEffects.{InstructionEffect, Store, instruct
 use Rattle.pr_model.specs.InstructionEffects as instruction
 use Rattle.pr_model.specs.LwpTurns.{is_held_back, settled}
 use Rattle.pr_model.specs.Machines.{UntracedLwp, in_program, unchanged, untraced}
-use Rattle.pr_model.specs.Moves as move
-use Rattle.pr_model.specs.Moves.{Move, catches, takes, posts, returns, moved}
+use Rattle.pr_model.specs.Moves.{catches, takes, posts, returns, moved}
 use Rattle.pr_model.specs.Rows.{Row, handler_row, caught_row, interrupted_row, acted_row, performed_row, quiet_row, instruction_row, requested_row, posted_row, returned_row, entered_row, incurred_row, ran_row, executed_row, own_taken_row, shared_taken_row}
 use Rattle.pr_model.specs.CallEffects.{call_effect}
 use Rattle.pr_model.specs.Registers.{arguments}
@@ -29,8 +28,8 @@ use Rattle.pr_num.specs.declared.signals.Sig.TheVariants.{Segv}
 use Rattle.pr_num.specs.Signals.{signal_number, least_signal}
 use Rattle.pr_parts.specs.SignalRules.{takeable_signal}
 use Rattle.pr_parts.specs.PendingSignals.{pending_set}
-use Rattle.pr_model.specs.State.{TracedLwp, TracedProcess, TracedSystem, process_of, if_live, live_process, lwp_of, with_lwp_of}
-use Rattle.pr_model.specs.Transitions.{performed, interrupted, handled, dropped, job_stopped, died, ending, moving, stored_in, after_transition, requested, posted, returned, ran, entered, incurred, own_taken, shared_taken}
+use Rattle.pr_model.specs.State.{TracedLwp, TracedProcess, TracedSystem, live_process, lwp_of, with_lwp_of}
+use Rattle.pr_model.specs.Transitions.{performed, interrupted, handled, dropped, job_stopped, died, ending, moving, stored_in, after_transition, posted, returned, ran, entered, incurred, own_taken, shared_taken}
 use Rattle.pr_model.specs.UntracedMachine.{MayStep, Makes, IsUnsignalled, RunsProgram, takes_in, takes_own, takes_shared, wakes, is_caught, is_caught_by, at_it, asleep_in_it, Acting, ignores, stops, kills, handles, acts_on, interrupts_call, interrupts_sleep, makes_call, falls_asleep, executes, incurs, UntracedRun, ends_here, by_call_entry, step_by}
 use Rattle.pr_model.specs.UntracedSteps.{steps_of_turn, steps_of_fault}
 use Rattle.pr_model.specs.declared.events.Did.TheVariants as did
@@ -38,22 +37,24 @@ use Rattle.pr_model.specs.declared.lwps.Phase.{Phase}
 use Rattle.pr_model.specs.declared.lwps.Phase.TheVariants.{User, Entered, Asleep, Exiting, Faulted}
 use Rattle.pr_model.specs.declared.steps.Step.TheVariants.{Fault, Act as ActOn}
 use Rattle.pr_erasure.specs.Suiting.{AreProper}
+use Rattle.pr_erasure.proofs.BareLemmas.{same-system}
 use Rattle.pr_erasure.proofs.FaultLemmas.{plain}
 use Rattle.pr_erasure.specs.PlainEffects.{IsPlain}
 use Rattle.pr_erasure.specs.Suiting.{HasNoFault}
 use Rattle.pr_erasure.proofs.StateLemmas.{lwp-erased, live-erased, unmoved}
-use Rattle.pr_erasure.proofs.TransitionLemmas.{settled-erased}
+use Rattle.pr_erasure.proofs.TransitionLemmas.{requested-bare, settled-erased}
 use Rattle.pr_erasure.specs.Suiting.{IsThere, Suits}
 use Rattle.pr_model.proofs.StateLemmas.{live_process-found}
 
 -- Each row of the turn table, as programs see it: which steps of the untraced machine it is.
 
--- An lwp that may have a turn, in a process of which nothing is watched; it has no mark of a controller, and is not the
--- agent.
+-- An lwp that may have a turn and is not directed to stop, in a process of which nothing is watched; it has no mark of a
+-- controller, and is not the agent.
 pub record HasTurn (s : TracedSystem) (pid : ℕ) (p : TracedProcess) (id : ℕ) (l : TracedLwp) : Type 0 where
   pub live : live_process s pid ≡ Some p
   pub there : lwp_of p id ≡ Some l
   pub free : is_held_back p id l ≡ false
+  pub not_directed : l.control.directed ≡ false
   pub no_agent : eqb id agent_id ≡ false
   pub no_step : l.control.step ≡ false
   pub no_abort : l.control.abort ≡ false
@@ -65,6 +66,12 @@ RowRuns s pid p id l row = (returning : Bool) → UntracedRun (erased_system s) 
 
 is_there : (s : TracedSystem) (pid : ℕ) (p : TracedProcess) (id : ℕ) (l : TracedLwp) → HasTurn s pid p id l → IsThere s pid p id l
 is_there s pid p id l h = record { found = live_process-found s pid p h.live; there = h.there }
+
+-- a directed lwp stops, also where it may make no step
+pub requested-runs : (s : TracedSystem) (pid : ℕ) (p : TracedProcess) (id : ℕ) (l : TracedLwp) → RowRuns s pid p id l requested_row
+unfolding requested_row
+requested-runs s pid p id l returning =
+    subst (λ v. UntracedRun (erased_system s) [] v) (sym (same-system (settled s pid p id l requested_row).system s (requested-bare s pid p id l))) ends_here
 
 -- ---- it may make a step
 
@@ -104,10 +111,6 @@ module _ (s : TracedSystem) (pid : ℕ) (p : TracedProcess) (id : ℕ) (l : Trac
 
   hides : (row : Row) → Suits row.transition l.phase → after_transition untraced pid (erased_process p) id (erased_lwp l) row.transition (erased_system s) ≡ erased_system s → UntracedRun (erased_system s) [] (erased_system (settled s pid p id l row).system)
   hides row suits same = subst (λ v. UntracedRun (erased_system s) [] v) (sym ((makes row suits).state ∙ same)) ends_here
-
-  pub requested-runs : RowRuns s pid p id l requested_row
-  unfolding requested_row requested after_transition moved untraced all_changed
-  requested-runs returning = hides requested_row (record { fits = tt; sent = tt }) (same_system (moved untraced move.stops) refl)
 
   pub posted-runs : (f : Flt) (address : ℕ) → l.phase ≡ Faulted f address → RowRuns s pid p id l (posted_row f address)
   unfolding posted_row posted after_transition moved untraced all_changed unchanged

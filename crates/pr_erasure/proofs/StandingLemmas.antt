@@ -191,7 +191,7 @@ module _ (pid id : ℕ) (phase : Phase) where
     stands-changed (disposition_is g d) s st = stands-process pid (with_disposition_of g d) (λ q k. same_lwps id phase q (with_disposition_of g d q) refl k) s st
     stands-changed (held_is held) s st = stands-process pid (with_lwp id (with_held held)) (λ q k. keeps-lwp id phase q id (with_held held) (held-stays held) k) s st
     stands-changed (resumes frame frames) s st = stands-process pid (with_lwp id (resumed frame frames)) (λ q k. keeps-lwp id phase q id (resumed frame frames) (resumed-stays frame frames) k) s st
-    stands-changed (forks args) s st = unless-same (eqb s.made pid) s _ (λ apart. stands-made _ _ apart (same_processes s _ refl st)) st
+    stands-changed (forks birth args) s st = unless-same (eqb s.made pid) s _ (λ apart. stands-made _ _ apart (same_processes s _ refl st)) st
     stands-changed (reaps child) s st = unless-same (eqb child pid) s _ (λ apart. stands-reaped child s apart st) st
     stands-changed (becomes program) s st = stands-process pid (with_program traced id l program) (λ q k. keeps-program program q) s st
     stands-changed (makes_lwp new regs held) s st = stands-process pid (with_new_lwp traced new regs held) (keeps-new_lwp new regs held) s st

@@ -1,21 +1,22 @@
 use Rattle.std.proofs.Common.{◌≡◌, ℕ, Option, Some, None, refl, sym, subst, ◌∙◌, ap}
 use Rattle.std.proofs.lemmas.Option.{same_Some}
 use Rattle.pr_model.specs.Changes.{Ending, all_changed}
-use Rattle.pr_model.specs.Erasure.{erased_lwp, erased_process, erased_system}
+use Rattle.pr_model.specs.Erasure.{bare_lwp, bare_system, erased_lwp, erased_process, erased_system}
 use Rattle.pr_model.specs.LwpTurns.{with_counted, settled}
 use Rattle.pr_model.specs.Machines.{traced, untraced}
-use Rattle.pr_model.specs.Moves.{Move, moved}
+use Rattle.pr_model.specs.Moves.{Move, moved, stops}
 use Rattle.pr_model.specs.Points.{after_meeting}
-use Rattle.pr_model.specs.Rows.{Row}
+use Rattle.pr_model.specs.Rows.{Row, requested_row}
 use Rattle.pr_model.specs.State.{TracedLwp, TracedProcess, TracedSystem, lwp_of, with_process, with_lwp, with_lwp_of}
-use Rattle.pr_model.specs.Transitions.{Transition, ended_if, after_transition}
+use Rattle.pr_model.specs.Transitions.{Transition, ended_if, after_transition, requested}
 use Rattle.pr_model.specs.declared.lwps.Phase.{Phase}
 use Rattle.pr_erasure.specs.Suiting.{Fits, IsThere, Suits}
+use Rattle.pr_erasure.proofs.BareLemmas.{same-system}
 use Rattle.pr_erasure.proofs.ChangeLemmas.{all_changed-erased, ended-erased}
 use Rattle.pr_erasure.proofs.MoveLemmas.{moved-erased}
 use Rattle.pr_erasure.proofs.PointLemmas.{after_meeting-hidden, with_counted-hidden}
 use Rattle.pr_erasure.proofs.StandingLemmas.{Stands, stands-all}
-use Rattle.pr_erasure.proofs.StateLemmas.{with_process-erased, with_process-hidden, with_lwp-erased}
+use Rattle.pr_erasure.proofs.StateLemmas.{with_process-erased, with_process-hidden, with_lwp-erased, with_lwp-hidden}
 
 -- A turn, as programs see it: its transition is the same transition of the untraced machine.
 
@@ -42,12 +43,26 @@ transition-erased s pid p id l here t suits =
     by None to = refl
     by (Some how) to = ended-erased pid p id l how to
 
--- a turn: counts and stops are hidden
-pub settled-erased : (s : TracedSystem) (pid : ℕ) (p : TracedProcess) (id : ℕ) (l : TracedLwp) → IsThere s pid p id l → (row : Row) → Suits row.transition l.phase → erased_system (settled s pid p id l row).system ≡ after_transition untraced pid (erased_process p) id (erased_lwp l) row.transition (erased_system s)
+-- ---- a turn
+
+-- counts and stops are hidden
+settled-bare : (s : TracedSystem) (pid : ℕ) (p : TracedProcess) (id : ℕ) (l : TracedLwp) (row : Row) → bare_system (settled s pid p id l row).system ≡ bare_system (after_transition traced pid p id l row.transition s)
 unfolding settled
-settled-erased s pid p id l here row suits =
+settled-bare s pid p id l row =
     with_process-hidden (with_process pid (with_counted row.did row.begun) (after_transition traced pid p id l row.transition s)) pid (after_meeting row.point id) (after_meeting-hidden row.point id)
     ∙ with_process-hidden (after_transition traced pid p id l row.transition s) pid (with_counted row.did row.begun) (with_counted-hidden row.did row.begun)
+
+-- so that programs see its transition alone
+pub settled-erased : (s : TracedSystem) (pid : ℕ) (p : TracedProcess) (id : ℕ) (l : TracedLwp) → IsThere s pid p id l → (row : Row) → Suits row.transition l.phase → erased_system (settled s pid p id l row).system ≡ after_transition untraced pid (erased_process p) id (erased_lwp l) row.transition (erased_system s)
+settled-erased s pid p id l here row suits =
+    same-system (settled s pid p id l row).system (after_transition traced pid p id l row.transition s) (settled-bare s pid p id l row)
     ∙ transition-erased s pid p id l here row.transition suits
+
+-- an lwp that stops as directed, whatever else it might do
+pub requested-bare : (s : TracedSystem) (pid : ℕ) (p : TracedProcess) (id : ℕ) (l : TracedLwp) → bare_system (settled s pid p id l requested_row).system ≡ bare_system s
+unfolding bare_lwp requested_row requested after_transition with_lwp_of all_changed moved
+requested-bare s pid p id l =
+    settled-bare s pid p id l requested_row
+    ∙ with_process-hidden s pid (with_lwp id (moved traced stops)) (λ x. with_lwp-hidden x id (moved traced stops) (λ k. refl))
 
 pub ruleset transitions = (transition-erased)

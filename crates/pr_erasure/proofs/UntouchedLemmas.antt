@@ -1,4 +1,4 @@
-use Rattle.std.proofs.Common.{◌≡◌, ◌+◌, ℕ, Bool, true, false, is_some, eqb, bit_and, Option, Some, None, List, [], ◌∷◌, cond, refl, sym, subst, ◌∙◌, ap}
+use Rattle.std.proofs.Common.{◌≡◌, ◌+◌, ℕ, true, false, is_some, eqb, bit_and, Option, Some, None, List, [], ◌∷◌, cond, refl, sym, subst, ◌∙◌, ap}
 use Rattle.std.proofs.lemmas.List.Elements.{All-nil, All-cons}
 use Rattle.std.specs.List.{All}
 use Rattle.pr_num.specs.Agents.{agent_id}
@@ -16,7 +16,7 @@ use Rattle.pr_parts.specs.FileCalls.{with_all_shared}
 use Rattle.pr_parts.specs.SignalRules.{deleted_by}
 use Rattle.pr_model.specs.Changes.{Change, files_are, space_is, signals, signals_itself, takes_shared, job_stops, disposition_is, held_is, resumes, forks, reaps, becomes, makes_lwp, suspends, Ending, ends_process, ends_lwp, with_fds, with_space, with_shared_taken, with_job_stop, with_disposition_of, with_held, resumed, with_suspended, changed, all_changed, ended}
 use Rattle.pr_model.specs.Generation.{lwp_without_pending, lwp_with_pending, without_pending, without_job_stop, with_deletions, with_pending, told}
-use Rattle.pr_model.specs.Lives.{with_made, orphaned, with_parent_told, without_lwp, with_reaped, new_lwp, bare_process, forked_lwp, forked, with_child, started, with_program, with_new_lwp, zombie, with_this_ended, ended_if_live, with_ended, with_lwp_ended}
+use Rattle.pr_model.specs.Lives.{Birth, with_made, orphaned, with_parent_told, without_lwp, with_reaped, new_lwp, bare_process, forked_lwp, forked, with_child, started, with_program, with_new_lwp, zombie, with_this_ended, ended_if_live, with_ended, with_lwp_ended}
 use Rattle.pr_model.specs.LwpTurns.{with_counted, settled}
 use Rattle.pr_model.specs.Machines.{nothing_set, no_marks, nothing_used, zombie_control, exec_control, child_control, birth_marks, call_over, stopped_as_directed, step_taken, fault_incurred, fault_posted, traced}
 use Rattle.pr_model.specs.Moves.{Move, moved}
@@ -151,9 +151,9 @@ child_control-mild : (c : TracedControl) → IsMild (child_control c)
 unfolding child_control nothing_set has_flags common_word
 child_control-mild c = either IsMild (eqb (bit_and c.modes fork_mode) fork_mode) (record c { modes = fork_mode; areas = []; usage = nothing_used }) nothing_set (record { no_kill = refl; unwatched = refl }) (record { no_kill = refl; unwatched = refl })
 
-forked-untouched : (pid : ℕ) (p : TracedProcess) (l : TracedLwp) (args : List ℕ) (clock : ℕ) (own : ℕ) → IsUntouchedProcess (own, forked traced pid p l args clock)
+forked-untouched : (birth : Birth) (pid : ℕ) (p : TracedProcess) (l : TracedLwp) (args : List ℕ) (clock : ℕ) (own : ℕ) → IsUntouchedProcess (own, forked traced birth pid p l args clock)
 unfolding forked forked_lwp traced birth_marks no_marks
-forked-untouched pid p l args clock own =
+forked-untouched birth pid p l args clock own =
     let set = child_control-mild p.control in
     record { no_kill = set.no_kill; unwatched = set.unwatched; lwps = All-cons IsUntouchedLwp _ [] (record { no_step = refl; no_abort = refl; no_agent = refl }) (All-nil IsUntouchedLwp) }
 
@@ -180,7 +180,7 @@ module _ (pid : ℕ) (p : TracedProcess) (id : ℕ) (l : TracedLwp) (lu : IsUnto
   changed-keeps (disposition_is g d) proper s u = process-keeps pid (with_disposition_of g d) (same_parts (with_disposition_of g d) (λ x. refl) (λ x. refl)) s u
   changed-keeps (held_is held) proper s u = process-keeps pid (with_lwp id (with_held held)) (lwp-keeps id (with_held held) (same_control (with_held held) (λ x. refl))) s u
   changed-keeps (resumes frame frames) proper s u = process-keeps pid (with_lwp id (resumed frame frames)) (lwp-keeps id (resumed frame frames) (same_control (resumed frame frames) (λ x. refl))) s u
-  changed-keeps (forks args) proper s u = either IsUntouched (eqb s.made pid) s (with_child traced pid p l args s) u (made-keeps (forked traced pid p l args s.clock) (record s { files = with_all_shared s.files p.fds }) (forked-untouched pid p l args s.clock) (record { processes = u.processes }))
+  changed-keeps (forks birth args) proper s u = either IsUntouched (eqb s.made pid) s (with_child traced birth pid p l args s) u (made-keeps (forked traced birth pid p l args s.clock) (record s { files = with_all_shared s.files p.fds }) (forked-untouched birth pid p l args s.clock) (record { processes = u.processes }))
   changed-keeps (reaps child) proper s u = either IsUntouched (eqb child pid) s (with_reaped child s) u (record { processes = All-without_id IsUntouchedProcess child s.processes u.processes })
   changed-keeps (becomes program) proper s u = process-keeps pid (with_program traced id l program) (program-keeps program) s u
   changed-keeps (makes_lwp new regs held) proper s u = process-keeps pid (with_new_lwp traced new regs held) (new_lwp-keeps new regs held proper) s u

@@ -42,6 +42,7 @@ use Rattle.pr_lawful.proofs.MadeLemmas.{generated-grows, handles-on, spawned-gro
 use Rattle.pr_lawful.proofs.MessageLemmas.{message-makes}
 use Rattle.pr_lawful.proofs.ProgramLemmas.{named-lawful}
 use Rattle.pr_lawful.proofs.ReleasedLemmas.{generated-released, spawned-released}
+use Rattle.pr_lawful.proofs.SignalLemmas.{sent-reaches}
 use Rattle.pr_lawful.proofs.StateLemmas.{closed-state, made-state, opened-state, same-state, spawned-lawful}
 use Rattle.pr_lawful.proofs.SystemLemmas.{parents-on}
 
@@ -176,6 +177,7 @@ module _ (s : TracedState) (h : IsLawful s) where
       let room = spawn-room program is in
       record {
         system = spawned-lawful s.system program held within h.system room.0 (let limit = leb-true _ _ room.1 in omega arith);
+        places = h.places;
         fitting = h.fitting;
         handles = handles-on s.opens s.system (with_spawned traced program held s.system) (spawned-grows s.system program held) h.handles;
         exclusive = h.exclusive;
@@ -198,7 +200,8 @@ module _ (s : TracedState) (h : IsLawful s) where
       of (refuses e) is = h
       of sends_nothing is = h
       of (sends g) is = record {
-        system = generated-lawful s.system pid None g (killed_by 0) (record { code = omega arith; pid = omega arith }) h.system (sent-user pid number (life_of s.system pid) g is);
+        system = generated-lawful s.system pid None g (killed_by 0) (sent-reaches s.system pid number g (killed_by 0) (record { code = omega arith; pid = omega arith }) is) h.system (sent-user pid number (life_of s.system pid) g is);
+        places = h.places;
         fitting = h.fitting;
         handles = handles-on s.opens s.system (generated traced pid None g (killed_by 0) s.system) (generated-grows s.system pid None g (killed_by 0)) h.handles;
         exclusive = h.exclusive;
@@ -240,6 +243,7 @@ module _ (s : TracedState) (h : IsLawful s) where
       mapped = tick-mapped;
       files = record { table = h.system.files.table; pipes = h.system.files.pipes; users = h.system.files.users };
     };
+    places = h.places;
     fitting = h.fitting;
     handles = h.handles;
     exclusive = h.exclusive;

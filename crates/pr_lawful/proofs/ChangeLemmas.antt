@@ -1,8 +1,7 @@
 use Rattle.std.proofs.Common.{◌≡◌, ◌≢◌, ◌&&◌, ℕ, zero, suc, ◌+◌, ◌-◌, ◌<◌, ◌≤◌, Bool, true, false, is_some, is_none, eqb, get_or, map, Option, Some, None, List, [], ◌∷◌, length, cond, refl, sym, subst, ◌∙◌, ap, arith, inl, inr, get_or-set_other}
-use Rattle.std.specs.List.{All}
 use Rattle.std.proofs.lemmas.Bool.{eqb-false, le-leb}
 use Rattle.std.proofs.lemmas.List.Elements.{All-nil, All-cons}
-use Rattle.std.proofs.lemmas.Option.{same_Some, none-some}
+use Rattle.std.proofs.lemmas.Option.{same_Some}
 use Rattle.pr_num.specs.ById.{inserted}
 use Rattle.pr_num.specs.Control.{has_flags, fork_mode}
 use Rattle.pr_num.specs.Sets.{has_number}
@@ -19,7 +18,7 @@ use Rattle.pr_file.proofs.EndLemmas.{ends-all_shared}
 use Rattle.pr_file.proofs.UserLemmas.{IsFileTable-all_shared}
 use Rattle.pr_model.specs.Changes.{Change, files_are, space_is, signals, signals_itself, takes_shared, job_stops, disposition_is, held_is, resumes, forks, reaps, becomes, makes_lwp, suspends, with_fds, with_space, with_shared_taken, with_job_stop, with_disposition_of, with_held, resumed, with_suspended, changed, all_changed}
 use Rattle.pr_model.specs.Lawful.{IsHoldable, IsLawfulFrame, IsLawfulLwp, AreUncaught, IsLawfulProcess, IsLawfulSystem}
-use Rattle.pr_model.specs.Lives.{uncaught, new_lwp, forked_lwp, forked, with_child, started, with_program, with_new_lwp}
+use Rattle.pr_model.specs.Lives.{Birth, uncaught, new_lwp, forked_lwp, forked, with_child, started, with_program, with_new_lwp}
 use Rattle.pr_model.specs.Machines.{nothing_set, nothing_used, no_marks, child_control, exec_control, traced}
 use Rattle.pr_model.specs.Readers.{size_of}
 use Rattle.pr_model.specs.SignalCalls.{can_be_caught}
@@ -28,8 +27,8 @@ use Rattle.pr_model.specs.State.{TracedControl, TracedLwp, TracedProcess, Traced
 use Rattle.pr_model.specs.declared.frames.Frame.{Frame}
 use Rattle.pr_lawful.proofs.EndLemmas.{generated-lawful}
 use Rattle.pr_lawful.proofs.InfoLemmas.{no-infos, taken-infos}
-use Rattle.pr_lawful.proofs.LocalLemmas.{KeepsLwp, same_sets, IsKept, Keeps, kept-same, kept-parts, same_rest, same_lwps, keeps-lwp}
-use Rattle.pr_lawful.proofs.SuitingLemmas.{SuitsFiles, SuitsSpace, SuitsChild, SuitsProgram, SuitsLwp, SuitsChange, SuitChanges}
+use Rattle.pr_lawful.proofs.LocalLemmas.{KeepsLwp, same_sets, live-empty, IsKept, Keeps, kept-same, kept-parts, same_rest, same_lwps, keeps-lwp}
+use Rattle.pr_lawful.proofs.SuitingLemmas.{SuitsFiles, SuitsSpace, SuitsFrames, SuitsChild, SuitsProgram, SuitsLwp, SuitsChange, SuitChanges}
 use Rattle.pr_lawful.proofs.SystemLemmas.{replaced, kept, joined, reaped, lives, lives-live, descriptors-open}
 
 -- Each change that suits a lawful system leaves it lawful: a line a kind of change.
@@ -43,11 +42,7 @@ files-lawful s pid files fds user h suits =
     replaced s files pid (with_fds fds) x h user suits.found (record {
       lawful = λ it. record {
         has_lwps = record { some = it.has_lwps.some };
-        empty_zombie = record {
-          no_lwps = λ status is. absurd (none-some status (sym suits.live ∙ is));
-          no_memory = λ status is. absurd (none-some status (sym suits.live ∙ is));
-          no_files = λ status is. absurd (none-some status (sym suits.live ∙ is));
-        };
+        empty_zombie = live-empty (with_fds fds x) suits.live;
         rising = it.rising;
         lwps = it.lwps;
         next_lwp = it.next_lwp;
@@ -57,6 +52,7 @@ files-lawful s pid files fds user h suits =
         uncaught = it.uncaught;
         pending = it.pending;
         heap_place = it.heap_place;
+        small_space = it.small_space;
       };
       parent = refl;
       ended = refl;
@@ -72,11 +68,7 @@ space-lawful s pid space user h suits =
     replaced s s.files pid (with_space space) suits.process h user suits.found (record {
       lawful = λ it. record {
         has_lwps = record { some = it.has_lwps.some };
-        empty_zombie = record {
-          no_lwps = λ status is. absurd (none-some status (sym suits.live ∙ is));
-          no_memory = λ status is. absurd (none-some status (sym suits.live ∙ is));
-          no_files = λ status is. absurd (none-some status (sym suits.live ∙ is));
-        };
+        empty_zombie = live-empty (with_space space suits.process) suits.live;
         rising = it.rising;
         lwps = it.lwps;
         next_lwp = it.next_lwp;
@@ -86,6 +78,7 @@ space-lawful s pid space user h suits =
         uncaught = it.uncaught;
         pending = it.pending;
         heap_place = suits.heap_place;
+        small_space = suits.small;
       };
       parent = refl;
       ended = refl;
@@ -136,6 +129,7 @@ disposition-keeps g d catchable pid x = record {
     };
     pending = it.pending;
     heap_place = it.heap_place;
+    small_space = it.small_space;
   };
   parent = refl;
   ended = refl;
@@ -147,11 +141,11 @@ disposition-keeps g d catchable pid x = record {
 
 pub held-keeps : (held : ℕ) → IsHoldable held → KeepsLwp (with_held held)
 unfolding with_held
-held-keeps held holdable next id l it = record { id = it.id; held = holdable; frames = it.frames; pending = it.pending; current = it.current }
+held-keeps held holdable next id l it = record { id = it.id; held = holdable; frames = it.frames; few_frames = it.few_frames; pending = it.pending; current = it.current }
 
-resumed-keeps : (frame : Frame) (frames : List Frame) → IsHoldable frame.held → All IsLawfulFrame frames → KeepsLwp (resumed frame frames)
+resumed-keeps : (frame : Frame) (frames : List Frame) → SuitsFrames frame.held frames → KeepsLwp (resumed frame frames)
 unfolding resumed
-resumed-keeps frame frames holdable backs next id l it = record { id = it.id; held = holdable; frames = backs; pending = it.pending; current = it.current }
+resumed-keeps frame frames suits next id l it = record { id = it.id; held = suits.holdable; frames = suits.backs; few_frames = suits.few; pending = it.pending; current = it.current }
 
 suspended-keeps : (suspended : Bool) → KeepsLwp (with_suspended suspended)
 unfolding with_suspended
@@ -159,10 +153,10 @@ suspended-keeps suspended = same_sets (with_suspended suspended) (λ l. refl) (�
 
 new_lwp-lawful : (regs : List ℕ) (held next id : ℕ) (marks : Bool) → IsHoldable held → id < next → IsLawfulLwp next (id, new_lwp traced regs held (no_marks marks))
 unfolding new_lwp
-new_lwp-lawful regs held next id marks holdable low = record { id = inl low; held = holdable; frames = All-nil IsLawfulFrame; pending = no-infos; current = tt }
+new_lwp-lawful regs held next id marks holdable low = record { id = inl low; held = holdable; frames = All-nil IsLawfulFrame; few_frames = omega arith; pending = no-infos; current = tt }
 
 more-ids : (next : ℕ) (e : ℕ × TracedLwp) → IsLawfulLwp next e → IsLawfulLwp (next + 1) e
-more-ids next e it = record { id = elim it.id [ inl low ↦ inl (omega arith) | inr agent ↦ inr agent ]; held = it.held; frames = it.frames; pending = it.pending; current = it.current }
+more-ids next e it = record { id = elim it.id [ inl low ↦ inl (omega arith) | inr agent ↦ inr agent ]; held = it.held; frames = it.frames; few_frames = it.few_frames; pending = it.pending; current = it.current }
 
 one_more-kept : (pid new held : ℕ) (regs : List ℕ) (x : TracedProcess) → x.ended ≡ None → new ≡ x.next_lwp → x.next_lwp ≤ last_lwp → length x.lwps < lwp_limit → IsHoldable held → IsKept pid x (with_new_lwp traced new regs held x)
 unfolding with_new_lwp traced
@@ -178,11 +172,7 @@ one_more-kept pid new held regs x live next last few holdable = by (is_some (lwp
           let count = length-inserted new (new_lwp traced regs held (no_marks false)) x.lwps in
           record {
             has_lwps = record { some = λ user is. omega arith };
-            empty_zombie = record {
-              no_lwps = λ status is. absurd (none-some status (sym live ∙ is));
-              no_memory = λ status is. absurd (none-some status (sym live ∙ is));
-              no_files = λ status is. absurd (none-some status (sym live ∙ is));
-            };
+            empty_zombie = live-empty made live;
             rising = rises_from-inserted 0 new (new_lwp traced regs held (no_marks false)) x.lwps (omega arith) it.rising free;
             lwps =
                 All-inserted (IsLawfulLwp (new + 1)) new (new_lwp traced regs held (no_marks false)) x.lwps (new_lwp-lawful regs held (new + 1) new false holdable (omega arith))
@@ -194,6 +184,7 @@ one_more-kept pid new held regs x live next last few holdable = by (is_some (lwp
             uncaught = it.uncaught;
             pending = it.pending;
             heap_place = it.heap_place;
+            small_space = it.small_space;
           };
       parent = refl;
       ended = refl;
@@ -226,13 +217,9 @@ program-lawful s pid id l program user h suits =
     replaced s s.files pid (with_program traced id l program) suits.process h user suits.found (record {
       lawful = λ it. record {
         has_lwps = record { some = λ other is. omega arith };
-        empty_zombie = record {
-          no_lwps = λ status is. absurd (none-some status (sym suits.live ∙ is));
-          no_memory = λ status is. absurd (none-some status (sym suits.live ∙ is));
-          no_files = λ status is. absurd (none-some status (sym suits.live ∙ is));
-        };
+        empty_zombie = live-empty (with_program traced id l program suits.process) suits.live;
         rising = rw (le-leb 0 id (omega arith)) refl;
-        lwps = All-cons (IsLawfulLwp suits.process.next_lwp) (id, started traced l) [] (record { id = lwp.id; held = lwp.held; frames = All-nil IsLawfulFrame; pending = lwp.pending; current = lwp.current }) (All-nil (IsLawfulLwp suits.process.next_lwp));
+        lwps = All-cons (IsLawfulLwp suits.process.next_lwp) (id, started traced l) [] (record { id = lwp.id; held = lwp.held; frames = All-nil IsLawfulFrame; few_frames = omega arith; pending = lwp.pending; current = lwp.current }) (All-nil (IsLawfulLwp suits.process.next_lwp));
         next_lwp = it.next_lwp;
         few_lwps = omega arith;
         descriptors = it.descriptors;
@@ -240,6 +227,7 @@ program-lawful s pid id l program user h suits =
         uncaught = uncaught-all suits.process.dispositions it.uncaught;
         pending = it.pending;
         heap_place = suits.heap_place;
+        small_space = suits.small;
       };
       parent = refl;
       ended = refl;
@@ -257,20 +245,16 @@ child_control-traced c is = by (has_flags c.modes fork_mode)
     by true = is
     by false = has_number-zero (signal_number Kill)
 
-child-lawful : (s : TracedSystem) (pid : ℕ) (p : TracedProcess) (l : TracedLwp) (args : List ℕ) → IsLawfulSystem s → SuitsChild s pid p l → IsLawfulSystem (with_child traced pid p l args s)
+child-lawful : (birth : Birth) (s : TracedSystem) (pid : ℕ) (p : TracedProcess) (l : TracedLwp) (args : List ℕ) → IsLawfulSystem s → SuitsChild s pid p l → IsLawfulSystem (with_child traced birth pid p l args s)
 unfolding with_child forked forked_lwp traced size_of
-child-lawful s pid p l args h suits =
+child-lawful birth s pid p l args h suits =
     let own = All-under IsLawfulProcess pid p s.processes h.processes suits.found in
-    joined s _ (forked traced pid p l args s.clock) h (record {
+    joined s _ (forked traced birth pid p l args s.clock) h (record {
       lawful = record {
         has_lwps = record { some = λ user is. omega arith };
-        empty_zombie = record {
-          no_lwps = λ status is. absurd (none-some status is);
-          no_memory = λ status is. absurd (none-some status is);
-          no_files = λ status is. absurd (none-some status is);
-        };
+        empty_zombie = live-empty (forked traced birth pid p l args s.clock) refl;
         rising = refl;
-        lwps = All-cons (IsLawfulLwp 2) (1, forked_lwp traced args p.control l) [] (record { id = inl (omega arith); held = suits.held; frames = suits.frames; pending = no-infos; current = tt }) (All-nil (IsLawfulLwp 2));
+        lwps = All-cons (IsLawfulLwp 2) (1, forked_lwp traced birth args p.control l) [] (record { id = inl (omega arith); held = suits.held; frames = suits.frames; few_frames = suits.few_frames; pending = no-infos; current = tt }) (All-nil (IsLawfulLwp 2));
         next_lwp = omega arith;
         few_lwps = omega arith;
         descriptors = own.descriptors;
@@ -278,6 +262,7 @@ child-lawful s pid p l args h suits =
         uncaught = own.uncaught;
         pending = no-infos;
         heap_place = own.heap_place;
+        small_space = own.small_space;
       };
       parent = record { parent = inr (lives-live s pid ∙ ap lives suits.found ∙ ap (λ (o : Option ℕ). is_none o) suits.live) };
       room = suits.room;
@@ -304,8 +289,8 @@ module _ (pid : ℕ) (p : TracedProcess) (id : ℕ) (l : TracedLwp) (user : pid 
   changed-lawful (job_stops g) s h suits = kept s pid (with_job_stop g) user (λ x is. job_stop-keeps g pid x) h
   changed-lawful (disposition_is g d) s h suits = kept s pid (with_disposition_of g d) user (λ x is. disposition-keeps g d suits pid x) h
   changed-lawful (held_is held) s h suits = kept s pid (with_lwp id (with_held held)) user (λ x is. keeps-lwp id (with_held held) (held-keeps held suits) pid x) h
-  changed-lawful (resumes frame frames) s h suits = kept s pid (with_lwp id (resumed frame frames)) user (λ x is. keeps-lwp id (resumed frame frames) (resumed-keeps frame frames suits.0 suits.1) pid x) h
-  changed-lawful (forks args) s h suits = unless (eqb s.made pid) s _ h (child-lawful s pid p l args h suits)
+  changed-lawful (resumes frame frames) s h suits = kept s pid (with_lwp id (resumed frame frames)) user (λ x is. keeps-lwp id (resumed frame frames) (resumed-keeps frame frames suits) pid x) h
+  changed-lawful (forks birth args) s h suits = unless (eqb s.made pid) s _ h (child-lawful birth s pid p l args h suits)
   changed-lawful (reaps child) s h suits = unless (eqb child pid) s _ h (reaped s child suits.status suits.zombie h suits.found suits.over)
   changed-lawful (becomes program) s h suits = program-lawful s pid id l program user h suits
   changed-lawful (makes_lwp new regs held) s h suits = new-lawful s pid new held regs user h suits

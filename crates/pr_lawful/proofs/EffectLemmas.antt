@@ -3,6 +3,7 @@ use Rattle.std.specs.List.{All, list_any, slice_get, sum_by}
 use Rattle.std.specs.Option.{option_map}
 use Rattle.std.specs.Prelude.{slice_index}
 use Rattle.std.proofs.lemmas.Bool.{and_parts, or_parts, eqb-false, eq-eqb, leb-true, leb-false, ltb-false, ne_eqb}
+use Rattle.std.proofs.lemmas.List.{length-take}
 use Rattle.std.proofs.lemmas.List.Elements.{All-take}
 use Rattle.std.proofs.lemmas.List.Sums.{sum_by-cons}
 use Rattle.std.proofs.lemmas.Option.{none-some}
@@ -15,10 +16,10 @@ use Rattle.pr_num.specs.Files.{FileTable, Descriptors}
 use Rattle.pr_num.specs.KeyedTables.{without_first}
 use Rattle.pr_num.specs.Limits.{last_lwp, lwp_limit, process_limit, signal_count, sleep_limit, transfer_limit}
 use Rattle.pr_num.specs.Programs.{Program, rounded}
-use Rattle.pr_num.specs.Signals.{signal_of_number}
+use Rattle.pr_num.specs.Signals.{signal_number, signal_of_number}
 use Rattle.pr_num.specs.Spaces.{Space, bytes_for, first_space, mapped_size, mapping_limit}
 use Rattle.pr_num.specs.Control.{prot_read}
-use Rattle.pr_num.specs.Infos.{killed_by, queued_by}
+use Rattle.pr_num.specs.Infos.{killed_by, of_broken_pipe, queued_by}
 use Rattle.pr_num.specs.declared.errnos.Errno.{Errno}
 use Rattle.pr_num.specs.declared.errnos.Errno.TheVariants.{Inval, Perm, Nomem, Fault}
 use Rattle.pr_num.specs.Words.{word_bytes}
@@ -27,6 +28,7 @@ use Rattle.pr_num.specs.declared.infos.Info.{Info}
 use Rattle.pr_num.specs.declared.mappings.BadByte.{BadByte}
 use Rattle.pr_num.specs.declared.mappings.Mapping.{Mapping}
 use Rattle.pr_num.specs.declared.signals.Sig.{Sig}
+use Rattle.pr_num.specs.declared.signals.Sig.TheVariants.{Pipe}
 use Rattle.pr_num.specs.declared.syscalls.Sysno.{Sysno}
 use Rattle.pr_num.specs.declared.syscalls.Sysno.TheVariants as sys
 use Rattle.pr_parts.specs.AddressSpaces.{with_bytes, with_break, gap_in, with_mapping, zeros_at, has_range, without_range, with_protected, is_range}
@@ -40,7 +42,7 @@ use Rattle.pr_parts.proofs.SpaceLemmas.{mapped_size-with_bytes, mapped_size-with
 use Rattle.pr_model.specs.CallEffects.{call_effect}
 use Rattle.pr_model.specs.Changes.{files_are, space_is, reaps, Effect, does, sleeps, ends, gives, fails, with_fds, changed}
 use Rattle.pr_model.specs.FileCallRows.{read_effect, write_effect, open_effect, close_effect, pipe_effect, dup_effect, lseek_effect, fstat_effect, refusal_effect, file_effect, word_size}
-use Rattle.pr_model.specs.Lawful.{IsLawfulFrame, IsLawfulLwp, IsLawfulProcess, IsLawfulSystem}
+use Rattle.pr_model.specs.Lawful.{IsLawfulFrame, IsLawfulLwp, IsLawfulProgram, IsLawfulProcess, IsLawfulSystem}
 use Rattle.pr_model.specs.Lives.{with_reaped}
 use Rattle.pr_model.specs.LwpCalls.{lwp_create_effect, lwp_suspend_effect, lwp_continue_effect, can_be_named}
 use Rattle.pr_model.specs.Machines.{traced}
@@ -58,9 +60,10 @@ use Rattle.pr_parts.proofs.HeapLemmas.{LeavesHeapPlace-with_heap}
 use Rattle.pr_mem.proofs.HeapPlaceLemmas.{LeavesHeapPlace-with_bytes, LeavesHeapPlace-with_mapping, LeavesHeapPlace-with_protected}
 use Rattle.pr_rec.specs.InRange.{IsInfo}
 use Rattle.pr_lawful.proofs.EndLemmas.{own-id}
-use Rattle.pr_lawful.proofs.ProgramLemmas.{gap-outside, named-lawful, program-leaves}
+use Rattle.pr_lawful.proofs.ProgramLemmas.{gap-outside, named-lawful, program-leaves, program-small}
 use Rattle.pr_lawful.proofs.FileLemmas.{choice, IsFair, fair-closed, fair-duplicated, fair-opened, fair-piped, fair-sought, fair-written, fair-read, read-ends, read-ordered}
 use Rattle.pr_lawful.proofs.HoldableLemmas.{holdable-holdable}
+use Rattle.pr_lawful.proofs.SignalLemmas.{sent-reaches, standard-reaches}
 use Rattle.pr_lawful.proofs.SuitingLemmas.{SuitsFiles, SuitsSpace, SuitsReaped, SuitChanges}
 use Rattle.pr_num.proofs.SearchLemmas.{All-at}
 
@@ -170,11 +173,11 @@ module _ (s : TracedSystem) (pid : ℕ) (p : TracedProcess) (id : ℕ) (l : Trac
   -- a space that is no larger; one for which there is room
   no_larger : (space : Space) → mapped_size space ≤ mapped_size p.space → All LeavesHeapPlace space → SuitsSpace s pid space
   unfolding size_of
-  no_larger space small leaves = record { process = p; found = a.found; live = a.live; mapped = let limit = a.lawful.mapped in omega arith; heap_place = leaves }
+  no_larger space small leaves = record { process = p; found = a.found; live = a.live; mapped = let limit = a.lawful.mapped in omega arith; heap_place = leaves; small = let few = own-process.small_space in omega arith }
 
-  with_room : (space : Space) → total_has_room s (mapped_size space) (size_of p) ≡ true → All LeavesHeapPlace space → SuitsSpace s pid space
+  with_room : (space : Space) → mapped_size space ≤ mapping_limit → total_has_room s (mapped_size space) (size_of p) ≡ true → All LeavesHeapPlace space → SuitsSpace s pid space
   unfolding total_has_room
-  with_room space room leaves = record { process = p; found = a.found; live = a.live; mapped = leb-true _ _ room; heap_place = leaves }
+  with_room space small room leaves = record { process = p; found = a.found; live = a.live; mapped = leb-true _ _ room; heap_place = leaves; small = small }
 
   pub stored-suits : (at : ℕ) (bytes : List ℕ) → SuitsSpace s pid (with_bytes at bytes p.space)
   stored-suits at bytes = no_larger (with_bytes at bytes p.space) (let same = mapped_size-with_bytes at bytes p.space in omega arith) (LeavesHeapPlace-with_bytes at bytes p.space own-process.heap_place)
@@ -188,6 +191,7 @@ module _ (s : TracedSystem) (pid : ℕ) (p : TracedProcess) (id : ℕ) (l : Trac
     live = alive;
     mapped = let limit = lawful.mapped in let same = mapped_size-with_bytes at bytes p.space in let as_before = ap mapped_size space in omega arith;
     heap_place = LeavesHeapPlace-with_bytes at bytes p.space own-process.heap_place;
+    small = let few = own-process.small_space in let same = mapped_size-with_bytes at bytes p.space in omega arith;
   }
 
   one-space : (value : ℕ) (space : Space) → SuitsSpace s pid space → Suits (gives value (space_is space ∷ []))
@@ -197,7 +201,7 @@ module _ (s : TracedSystem) (pid : ℕ) (p : TracedProcess) (id : ℕ) (l : Trac
   big-suits : (value : ℕ) (space : Space) → All LeavesHeapPlace space → Suits (unless_too_big s p value space)
   big-suits value space leaves =
       choice Suits (leb (mapped_size space) mapping_limit && total_has_room s (mapped_size space) (size_of p)) _ _
-      (λ fits. one-space value space (with_room space (and_parts _ _ fits).1 leaves)) (λ big. fails-suits _)
+      (λ fits. let within = and_parts _ _ fits in one-space value space (with_room space (leb-true (mapped_size space) mapping_limit within.0) within.1 leaves)) (λ big. fails-suits _)
 
   brk-suits : (end : ℕ) → Suits (brk_effect s p end)
   unfolding brk_effect
@@ -249,9 +253,9 @@ module _ (s : TracedSystem) (pid : ℕ) (p : TracedProcess) (id : ℕ) (l : Trac
       (under-change_under pid (with_fds fds) s.processes ∙ ap (option_map (with_fds fds)) a.found) a.live refl
 
   refusal-suits : (why : FileNo) → Suits (refusal_effect why)
-  unfolding Suits
+  unfolding Suits signal_number
   refusal-suits Sleep = tt
-  refusal-suits NoReader = (record { code = omega arith; pid = omega arith }, tt)
+  refusal-suits NoReader = (standard-reaches s pid (Some id) Pipe of_broken_pipe (record { code = omega arith; pid = omega arith }) refl, tt)
   refusal-suits _ = tt
 
   file-suits : (e : FileEffect ℕ) → IsFair s.files p.fds e → Suits (file_effect e)
@@ -341,23 +345,26 @@ module _ (s : TracedSystem) (pid : ℕ) (p : TracedProcess) (id : ℕ) (l : Trac
       choice Suits (eqb id agent_id) _ _ (λ agent. tt) (λ other.
       choice Suits (leb process_limit s.made) _ _ (λ full. tt) (λ room.
       choice Suits (total_has_room s (size_of p) 0) _ _
-      (λ fits. (record { found = a.found; live = a.live; room = leb-false process_limit s.made room; mapped = let limit = leb-true _ _ fits in omega arith; held = own-lwp.held; frames = own-lwp.frames }, tt))
+      (λ fits. (record { found = a.found; live = a.live; room = leb-false process_limit s.made room; mapped = let limit = leb-true _ _ fits in omega arith; held = own-lwp.held; frames = own-lwp.frames; few_frames = own-lwp.few_frames }, tt))
       (λ big. tt)))
 
   exec-suits : (at : ℕ) → Suits (exec_effect s p id at)
   unfolding exec_effect Suits total_has_room
   exec-suits at = by (path_at p.space at) refl
     where
-      named : (name : List ℕ) (o : Option Program) → path_at p.space at ≡ Ok name → program_named s.programs name ≡ o → Suits (exec_effect s p id at)
-      named name None is found = rw (is, found) (choice Suits (eqb id agent_id) _ _ (λ agent. tt) (λ other. tt))
-      named name (Some program) is found =
+      named : (name : List ℕ) (program : Program) → program_named s.programs name ≡ Some program → IsLawfulProgram program
+      named name program found = named-lawful name s.programs program a.lawful.programs found
+
+      run : (name : List ℕ) (o : Option Program) → path_at p.space at ≡ Ok name → program_named s.programs name ≡ o → Suits (exec_effect s p id at)
+      run name None is found = rw (is, found) (choice Suits (eqb id agent_id) _ _ (λ agent. tt) (λ other. tt))
+      run name (Some program) is found =
           rw (is, found) (choice Suits (eqb id agent_id) _ _ (λ agent. tt) (λ other.
           choice Suits (total_has_room s (mapped_size (first_space program)) (size_of p)) _ _
-          (λ fits. (record { process = p; found = a.found; live = a.live; mapped = leb-true _ _ fits; heap_place = program-leaves program (named-lawful name s.programs program a.lawful.programs found); there = a.there }, tt)) (λ big. tt)))
+          (λ fits. (record { process = p; found = a.found; live = a.live; mapped = leb-true _ _ fits; heap_place = program-leaves program (named name program found); small = program-small program (named name program found); there = a.there }, tt)) (λ big. tt)))
 
       by : (r : Result (List ℕ) Errno) → path_at p.space at ≡ r → Suits (exec_effect s p id at)
       by (Err e) is = rw is (choice Suits (eqb id agent_id) _ _ (λ agent. tt) (λ other. tt))
-      by (Ok name) is = named name (program_named s.programs name) is refl
+      by (Ok name) is = run name (program_named s.programs name) is refl
 
   -- the caller stands once a zombie is reaped
   reaped-then : (child : ℕ) → process_of (changed traced pid p id l (reaps child) s) pid ≡ Some p
@@ -387,14 +394,14 @@ module _ (s : TracedSystem) (pid : ℕ) (p : TracedProcess) (id : ℕ) (l : Trac
 
   -- ---- signals
 
-  send-suits : (target number : ℕ) (info : Info) (life : Life) → IsInfo info → Suits (send_effect pid target number info life)
+  send-suits : (target number : ℕ) (info : Info) → IsInfo info → Suits (send_effect pid target number info (life_of s target))
   unfolding send_effect sent_effect Suits
-  send-suits target number info life new = by (sending target number life) refl
+  send-suits target number info new = by (sending target number (life_of s target)) refl
     where
-      by : (x : Sending) → sending target number life ≡ x → Suits (sent_effect pid target info x)
+      by : (x : Sending) → sending target number (life_of s target) ≡ x → Suits (sent_effect pid target info x)
       by (refuses e) is = tt
       by sends_nothing is = tt
-      by (sends g) is = choice Suits (is_kill g && eqb target pid) _ _ (λ own. tt) (λ other. ((sent-user target number life g is, new), tt))
+      by (sends g) is = choice Suits (is_kill g && eqb target pid) _ _ (λ own. tt) (λ other. ((sent-user target number (life_of s target) g is, sent-reaches s target number g info new is), tt))
 
   sigaction-suits : (number disposition : ℕ) → Suits (sigaction_effect p.dispositions number disposition)
   unfolding sigaction_effect Suits
@@ -414,7 +421,15 @@ module _ (s : TracedSystem) (pid : ℕ) (p : TracedProcess) (id : ℕ) (l : Trac
     where
       by : (o : Option Frame) → slice_get l.frames (length l.frames - 1) ≡ o → Suits (sigreturn_effect l.frames)
       by None is = rw is tt
-      by (Some frame) is = rw is ((All-at IsLawfulFrame l.frames (length l.frames - 1) frame is own-lwp.frames, All-take IsLawfulFrame (length l.frames - 1) l.frames own-lwp.frames), tt)
+      by (Some frame) is =
+          rw is (
+            record {
+              holdable = All-at IsLawfulFrame l.frames (length l.frames - 1) frame is own-lwp.frames;
+              backs = All-take IsLawfulFrame (length l.frames - 1) l.frames own-lwp.frames;
+              few = let few = own-lwp.few_frames in let fewer = length-take (length l.frames - 1) l.frames in omega arith;
+            },
+            tt,
+          )
 
   -- ---- lwps
 
@@ -451,7 +466,7 @@ module _ (s : TracedSystem) (pid : ℕ) (p : TracedProcess) (id : ℕ) (l : Trac
   call-suits since sys.Pipe args = pipe-suits (slice_index args 0)
   call-suits since sys.Dup args = dup-suits (slice_index args 0)
   call-suits since sys.Lseek args = lseek-suits (slice_index args 0) (slice_index args 1)
-  call-suits since sys.Kill args = send-suits (slice_index args 0) (slice_index args 1) (killed_by pid) (life_of s (slice_index args 0)) (record { code = omega arith; pid = own-id s pid p a.lawful a.found })
+  call-suits since sys.Kill args = send-suits (slice_index args 0) (slice_index args 1) (killed_by pid) (record { code = omega arith; pid = own-id s pid p a.lawful a.found })
   call-suits since sys.Sigaction args = sigaction-suits (slice_index args 0) (slice_index args 1)
   call-suits since sys.Sigmask args = sigmask-suits (slice_index args 0)
   call-suits since sys.Pause args = tt
@@ -467,4 +482,4 @@ module _ (s : TracedSystem) (pid : ℕ) (p : TracedProcess) (id : ℕ) (l : Trac
   call-suits since sys.LwpSuspend args = suspend-suits (slice_index args 0)
   call-suits since sys.LwpContinue args = continue-suits (slice_index args 0)
   call-suits since sys.Fstat args = fstat-suits (slice_index args 0) (slice_index args 1)
-  call-suits since sys.Sigqueue args = send-suits (slice_index args 0) (slice_index args 1) (queued_by pid (slice_index args 2)) (life_of s (slice_index args 0)) (record { code = omega arith; pid = own-id s pid p a.lawful a.found })
+  call-suits since sys.Sigqueue args = send-suits (slice_index args 0) (slice_index args 1) (queued_by pid (slice_index args 2)) (record { code = omega arith; pid = own-id s pid p a.lawful a.found })

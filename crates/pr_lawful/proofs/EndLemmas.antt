@@ -1,5 +1,5 @@
-use Rattle.std.proofs.Common.{◌≡◌, ◌≢◌, ◌⊎◌, ℕ, suc, ◌+◌, ◌^◌, ◌<◌, ◌≤◌, Bool, true, false, is_none, eqb, Option, Some, None, IsSome, List, [], ◌∷◌, length, cond, refl, sym, subst, ◌∙◌, ap, arith, inl, inr}
-use Rattle.std.specs.Option.{option_map, option_and_then}
+use Rattle.std.proofs.Common.{◌≡◌, ◌≢◌, ◌⊎◌, ℕ, suc, ◌+◌, ◌^◌, ◌<◌, ◌≤◌, true, false, is_none, eqb, Option, Some, None, IsSome, List, [], ◌∷◌, length, cond, refl, sym, subst, ◌∙◌, ap, arith, inl, inr}
+use Rattle.std.specs.Option.{option_map}
 use Rattle.std.proofs.lemmas.Bool.{eqb-false, ne_eqb}
 use Rattle.std.proofs.lemmas.List.Elements.{All-nil}
 use Rattle.std.proofs.lemmas.Option.{same_Some, none-some}
@@ -23,12 +23,12 @@ use Rattle.pr_model.specs.Lives.{bare_process, orphaned, with_parent_told, witho
 use Rattle.pr_model.specs.Machines.{nothing_set, zombie_control, traced}
 use Rattle.pr_model.specs.Readers.{size_of, total_size}
 use Rattle.pr_model.specs.Signals.{is_kill, generated, disposition_of}
-use Rattle.pr_model.specs.State.{TracedProcess, TracedSystem, process_of, if_live, live_process, with_process}
+use Rattle.pr_model.specs.State.{TracedProcess, TracedSystem, process_of, live_process, with_process}
 use Rattle.pr_parts.specs.AddressSpaces.{LeavesHeapPlace}
 use Rattle.pr_rec.specs.InRange.{IsInfo}
 use Rattle.pr_lawful.proofs.InfoLemmas.{no-infos}
-use Rattle.pr_lawful.proofs.LocalLemmas.{IsKept, same_rest, same_lwps, lawful-lwps}
-use Rattle.pr_lawful.proofs.SignalLemmas.{told-keeps}
+use Rattle.pr_lawful.proofs.LocalLemmas.{live-empty, IsKept, same_rest, same_lwps, lawful-lwps}
+use Rattle.pr_lawful.proofs.SignalLemmas.{MayReach, standard-pends, told-keeps}
 use Rattle.pr_lawful.proofs.SumLemmas.{sum-change_under, sum-map_each, count_in, all_users-sum, sizes-sum}
 use Rattle.pr_lawful.proofs.SystemLemmas.{lives, lives-live, parent-same, kept, descriptors-open}
 use Rattle.pr_model.proofs.StateLemmas.{live_process-found, live_process-live}
@@ -51,6 +51,7 @@ zombie-lawful pid status p = record {
   uncaught = record { kill = refl; stop = refl };
   pending = no-infos;
   heap_place = All-nil LeavesHeapPlace;
+  small_space = omega arith;
 }
 
 -- a process whose parent has ended
@@ -166,11 +167,11 @@ buried-lawful s pid p status h user found =
     }
 
 told-lawful : (parent pid status : ℕ) (s : TracedSystem) → IsInfo (of_child pid status) → IsLawfulSystem s → IsLawfulSystem (with_parent_told parent pid status s)
-unfolding with_parent_told
+unfolding with_parent_told signal_number
 told-lawful parent pid status s new h =
     elim (eqb parent 0) as (λ b. eqb parent 0 ≡ b → IsLawfulSystem (cond b s (with_process parent (told None Cld (of_child pid status)) s))) [
       | true ↦ λ is. h
-      | false ↦ λ apart. kept s parent (told None Cld (of_child pid status)) (eqb-false parent 0 apart) (λ x found. told-keeps None Cld (of_child pid status) new parent x) h
+      | false ↦ λ apart. kept s parent (told None Cld (of_child pid status)) (eqb-false parent 0 apart) (λ x found. told-keeps None Cld (of_child pid status) parent x (standard-pends x None Cld (of_child pid status) new refl)) h
     ] refl
 
 -- a process's id is small, and so is one that comes with a signal
@@ -206,12 +207,12 @@ with_ended-lawful s pid status h user = by (live_process s pid) refl
     by None is = h
     by (Some p) is = ended-lawful s pid p status h user (found-live s pid p is).0
 
--- a signal is generated, for another process than the system process
-pub generated-lawful : (s : TracedSystem) (pid : ℕ) (target : Option ℕ) (g : Sig) (info : Info) → IsInfo info → IsLawfulSystem s → pid ≢ 0 → IsLawfulSystem (generated traced pid target g info s)
+-- a signal is generated, for another process than the system process, where it has room
+pub generated-lawful : (s : TracedSystem) (pid : ℕ) (target : Option ℕ) (g : Sig) (info : Info) → MayReach s pid target g info → IsLawfulSystem s → pid ≢ 0 → IsLawfulSystem (generated traced pid target g info s)
 unfolding generated
 generated-lawful s pid target g info new h user =
     elim (is_kill g) as (λ b. IsLawfulSystem (cond b (with_ended traced pid (signal_number g) s) (with_process pid (told target g info) s)))
-    [ true ↦ with_ended-lawful s pid (signal_number g) h user | false ↦ kept s pid (told target g info) user (λ x found. told-keeps target g info new pid x) h ]
+    [ true ↦ with_ended-lawful s pid (signal_number g) h user | false ↦ kept s pid (told target g info) user (λ x found. told-keeps target g info pid x (new.found x found)) h ]
 
 -- ---- an lwp ends
 
@@ -230,11 +231,7 @@ unfolding without_lwp
 without_lwp-kept pid id x live more = record {
   lawful = λ h. record {
     has_lwps = record { some = λ user is. let one = h.has_lwps.some user is in let fewer = (length-without_id id x.lwps).1 in several (length x.lwps) (length (without_id id x.lwps)) one more fewer };
-    empty_zombie = record {
-      no_lwps = λ status is. absurd (none-some status (sym live ∙ is));
-      no_memory = λ status is. absurd (none-some status (sym live ∙ is));
-      no_files = λ status is. absurd (none-some status (sym live ∙ is));
-    };
+    empty_zombie = live-empty (without_lwp id x) live;
     rising = rises_from-without_id 0 id x.lwps h.rising;
     lwps = All-without_id (IsLawfulLwp x.next_lwp) id x.lwps h.lwps;
     next_lwp = h.next_lwp;
@@ -244,6 +241,7 @@ without_lwp-kept pid id x live more = record {
     uncaught = h.uncaught;
     pending = h.pending;
     heap_place = h.heap_place;
+    small_space = h.small_space;
   };
   parent = refl;
   ended = refl;

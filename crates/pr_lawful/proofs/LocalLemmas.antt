@@ -1,12 +1,16 @@
-use Rattle.std.proofs.Common.{◌≡◌, ℕ, ◌<◌, Bool, true, false, List, length, cond, refl, sym, subst, ◌∙◌, ap}
+use Rattle.std.proofs.Common.{◌≡◌, ℕ, ◌<◌, ◌≤◌, Bool, true, false, Some, None, List, length, cond, refl, sym, subst, ◌∙◌, ap}
 use Rattle.std.specs.List.{All}
 use Rattle.std.proofs.lemmas.List.{nil_from_length}
+use Rattle.std.proofs.lemmas.Option.{none-some}
 use Rattle.pr_num.specs.ById.{IsRising, change_under, map_each}
 use Rattle.pr_num.proofs.ByIdLemmas.{rises_from-change_under, rises_from-map_each}
 use Rattle.pr_num.proofs.ByIdLaws.{All-change_under, All-map_each, length-change_under, length-map_each}
+use Rattle.pr_num.specs.Limits.{frame_limit, mapping_limit}
+use Rattle.pr_num.specs.Spaces.{Space, mapped_size}
 use Rattle.pr_parts.specs.AddressSpaces.{LeavesHeapPlace}
-use Rattle.pr_model.specs.Lawful.{HaveInfos, IsLawfulCurrent, IsHoldable, IsLawfulFrame, IsLawfulLwp, IsLawfulProcess}
-use Rattle.pr_model.specs.State.{TracedLwp, TracedProcess, with_lwp}
+use Rattle.pr_model.specs.declared.frames.Frame.{Frame}
+use Rattle.pr_model.specs.Lawful.{IsLawfulPending, IsLawfulCurrent, IsHoldable, IsLawfulFrame, IsLawfulLwp, IsEmptyZombie, IsLawfulProcess}
+use Rattle.pr_model.specs.State.{TracedLwp, TracedProcess, lwp_of, with_lwp}
 
 -- Changes of an lwp, and of a process by itself, that leave it lawful.
 
@@ -22,7 +26,8 @@ same_sets f held frames pending current next id l h = record {
   id = h.id;
   held = subst IsHoldable (sym (held l)) h.held;
   frames = subst (All IsLawfulFrame) (sym (frames l)) h.frames;
-  pending = subst HaveInfos (sym (pending l)) h.pending;
+  few_frames = subst (λ (fs : List Frame). length fs ≤ frame_limit) (sym (frames l)) h.few_frames;
+  pending = subst IsLawfulPending (sym (pending l)) h.pending;
   current = subst IsLawfulCurrent (sym (current l)) h.current;
 }
 
@@ -31,6 +36,14 @@ keeps-if true f g one other next id l h = one next id l h
 keeps-if false f g one other next id l h = other next id l h
 
 -- ---- processes
+
+-- a live process is no zombie that could have something
+pub live-empty : (x : TracedProcess) → x.ended ≡ None → IsEmptyZombie x
+live-empty x live = record {
+  no_lwps = λ status is. absurd (none-some status (sym live ∙ is));
+  no_memory = λ status is. absurd (none-some status (sym live ∙ is));
+  no_files = λ status is. absurd (none-some status (sym live ∙ is));
+}
 
 -- What a process that is changed in its place keeps: it stays lawful, with the same parent, end, memory and
 -- descriptors.
@@ -66,7 +79,7 @@ pub record SameRest (x y : TracedProcess) : Type 0 where
   pub next_lwp : y.next_lwp ≡ x.next_lwp
   pub traced : y.control.traced_signals ≡ x.control.traced_signals
   pub dispositions : y.dispositions ≡ x.dispositions
-  pub pending : HaveInfos x.pending → HaveInfos y.pending
+  pub pending : IsLawfulPending x.pending → IsLawfulPending y.pending
 
 -- it has lwps in the place of its own, as many, under the same ids and lawful
 pub record SameLwps (x y : TracedProcess) : Type 0 where
@@ -91,6 +104,7 @@ lawful-lwps pid x y rest lwps space fds h = record {
   uncaught = rw rest.dispositions h.uncaught;
   pending = rest.pending h.pending;
   heap_place = subst (All LeavesHeapPlace) (sym space) h.heap_place;
+  small_space = subst (λ (ms : Space). mapped_size ms ≤ mapping_limit) (sym space) h.small_space;
 }
 
 -- its lwps are left
@@ -102,12 +116,15 @@ same_lwps x y lwps next = record {
 }
 
 -- lwps changed in their places
-pub changed_lwps : (x : TracedProcess) (id : ℕ) (f : TracedLwp → TracedLwp) → KeepsLwp f → SameLwps x (record x { lwps = change_under id f x.lwps })
-changed_lwps x id f keeps = record {
+pub changed_one : (x : TracedProcess) (id : ℕ) (f : TracedLwp → TracedLwp) → ((l : TracedLwp) → lwp_of x id ≡ Some l → IsLawfulLwp x.next_lwp (id, l) → IsLawfulLwp x.next_lwp (id, f l)) → SameLwps x (record x { lwps = change_under id f x.lwps })
+changed_one x id f keeps = record {
   count = length-change_under id f x.lwps;
   rising = λ h. rises_from-change_under 0 id f x.lwps ∙ h;
-  lawful = λ h. All-change_under (IsLawfulLwp x.next_lwp) id f x.lwps (λ l found it. keeps x.next_lwp id l it) h;
+  lawful = λ h. All-change_under (IsLawfulLwp x.next_lwp) id f x.lwps keeps h;
 }
+
+pub changed_lwps : (x : TracedProcess) (id : ℕ) (f : TracedLwp → TracedLwp) → KeepsLwp f → SameLwps x (record x { lwps = change_under id f x.lwps })
+changed_lwps x id f keeps = changed_one x id f (λ l found it. keeps x.next_lwp id l it)
 
 pub mapped_lwps : (x : TracedProcess) (f : TracedLwp → TracedLwp) → KeepsLwp f → SameLwps x (record x { lwps = map_each f x.lwps })
 mapped_lwps x f keeps = record {
@@ -118,7 +135,7 @@ mapped_lwps x f keeps = record {
 
 -- ---- changes that keep a process
 
-pub same_rest : (x y : TracedProcess) → y.ended ≡ x.ended → y.next_lwp ≡ x.next_lwp → y.control.traced_signals ≡ x.control.traced_signals → y.dispositions ≡ x.dispositions → (HaveInfos x.pending → HaveInfos y.pending) → SameRest x y
+pub same_rest : (x y : TracedProcess) → y.ended ≡ x.ended → y.next_lwp ≡ x.next_lwp → y.control.traced_signals ≡ x.control.traced_signals → y.dispositions ≡ x.dispositions → (IsLawfulPending x.pending → IsLawfulPending y.pending) → SameRest x y
 same_rest x y ended next traced dispositions pending = record { ended = ended; next_lwp = next; traced = traced; dispositions = dispositions; pending = pending }
 
 pub kept-parts : (pid : ℕ) (x y : TracedProcess) → y.parent ≡ x.parent → SameRest x y → SameLwps x y → y.space ≡ x.space → y.fds ≡ x.fds → IsKept pid x y

@@ -11,7 +11,7 @@ use Rattle.pr_model.specs.Generation.{told}
 use Rattle.pr_num.specs.Control.{has_flags, klc_mode, rlc_mode}
 use Rattle.pr_model.specs.Handles.{after_last_close, released, with_last_close}
 use Rattle.pr_model.specs.Lawful.{IsOfMade}
-use Rattle.pr_model.specs.Lives.{with_made, with_parent_told, without_lwp, with_reaped, with_spawned, with_child, with_this_ended, ended_if_live, with_ended, with_lwp_ended}
+use Rattle.pr_model.specs.Lives.{Birth, with_made, with_parent_told, without_lwp, with_reaped, with_spawned, with_child, with_this_ended, ended_if_live, with_ended, with_lwp_ended}
 use Rattle.pr_model.specs.LwpTurns.{settled}
 use Rattle.pr_model.specs.Machines.{traced}
 use Rattle.pr_model.specs.Rows.{Row}
@@ -79,9 +79,9 @@ pub spawned-grows : (s : TracedSystem) (program : Program) (held : Bool) → Gro
 unfolding with_spawned with_made
 spawned-grows s program held = omega arith
 
-child-grows : (s : TracedSystem) (pid : ℕ) (p : TracedProcess) (l : TracedLwp) (args : List ℕ) → Grows s (with_child traced pid p l args s)
+child-grows : (birth : Birth) (s : TracedSystem) (pid : ℕ) (p : TracedProcess) (l : TracedLwp) (args : List ℕ) → Grows s (with_child traced birth pid p l args s)
 unfolding with_child with_made
-child-grows s pid p l args = omega arith
+child-grows birth s pid p l args = omega arith
 
 -- ---- turns: a line a kind of change
 
@@ -97,7 +97,7 @@ module _ (pid : ℕ) (p : TracedProcess) (id : ℕ) (l : TracedLwp) where
   changed-grows (disposition_is g d) s = omega arith
   changed-grows (held_is held) s = omega arith
   changed-grows (resumes frame frames) s = omega arith
-  changed-grows (forks args) s = either-grows (eqb s.made pid) s _ _ (same-grows s) (child-grows s pid p l args)
+  changed-grows (forks birth args) s = either-grows (eqb s.made pid) s _ _ (same-grows s) (child-grows birth s pid p l args)
   changed-grows (reaps child) s = either-grows (eqb child pid) s _ _ (same-grows s) (omega arith)
   changed-grows (becomes program) s = omega arith
   changed-grows (makes_lwp new regs held) s = omega arith

@@ -1,8 +1,8 @@
-use Rattle.std.proofs.Common.{◌≡◌, ◌≢◌, ◌&&◌, ◌||◌, ℕ, ◌<◌, Bool, true, false, not, is_ok, eqb, leb, cond, Option, Some, None, Result, Ok, Err, List, length, refl, sym, subst, ◌∙◌, arith, inr, lit≤}
+use Rattle.std.proofs.Common.{◌≡◌, ◌≢◌, ◌||◌, ℕ, ◌<◌, true, false, not, is_ok, eqb, leb, cond, Option, Some, None, Result, Ok, Err, List, length, refl, sym, subst, ◌∙◌, ap, arith, inr, lit≤}
 use Rattle.std.specs.List.{list_all}
 use Rattle.std.proofs.lemmas.Bool.{or_parts, leb-false}
 use Rattle.std.proofs.lemmas.List.Elements.{All-nil}
-use Rattle.std.proofs.lemmas.Option.{none-some}
+use Rattle.std.proofs.lemmas.Option.{same_Some}
 use Rattle.pr_num.proofs.BoolLemmas.{and_false}
 use Rattle.pr_num.proofs.ByIdLemmas.{rises_from-inserted}
 use Rattle.pr_num.proofs.ByIdLaws.{All-inserted, length-inserted}
@@ -13,6 +13,7 @@ use Rattle.pr_num.specs.Control.{has_flags, clear_signal, clear_fault, single_st
 use Rattle.pr_num.specs.Infos.{by_controller}
 use Rattle.pr_num.specs.Limits.{area_limit, lwp_limit, all_signals}
 use Rattle.pr_num.specs.Sets.{has_number}
+use Rattle.pr_num.specs.Spaces.{bytes_for}
 use Rattle.pr_num.specs.Signals.{signal_number, signal_of_number}
 use Rattle.pr_num.specs.declared.infos.Info.{Info}
 use Rattle.pr_num.specs.declared.mappings.BadByte.{BadByte}
@@ -28,7 +29,7 @@ use Rattle.pr_model.specs.Changes.{with_space}
 use Rattle.pr_model.specs.Lawful.{IsLawfulFrame, IsLawfulLwp, IsLawfulProcess, IsLawfulSystem}
 use Rattle.pr_model.specs.Lives.{new_lwp, with_this_ended}
 use Rattle.pr_model.specs.Machines.{traced}
-use Rattle.pr_model.specs.Messages.{Controlled, Aim, at_lwp, at_process, with_signal_set, lwp_without_one, with_held_set, with_registers, with_address, with_control, tracing_signals, tracing_faults, tracing_entries, tracing_exits, with_modes, without_modes, with_areas, lets_agent, agent_lwp, with_agent, on_found, aimed_lwp, on_stopped_found, with_aim_directed, run_found, found_at, run_answer, killed, is_kill_of, ssig_answer, pending_at, target_of_aim, kill_by, kill_answer, process_without_one, unkill_by, unkill_answer, watch_answer, agent_answer, read_of, mapped_bytes, read_answer, write_answer, message_answer}
+use Rattle.pr_model.specs.Messages.{Controlled, Aim, at_lwp, at_process, with_signal_set, lwp_without_one, with_held_set, with_registers, with_address, with_control, tracing_signals, tracing_faults, tracing_entries, tracing_exits, with_modes, without_modes, with_areas, lets_agent, agent_lwp, with_agent, on_found, aimed_lwp, on_stopped_found, with_aim_directed, run_found, found_at, run_answer, killed, is_kill_of, ssig_answer, pending_of_found, pending_at, target_of_aim, kill_by, kill_answer, process_without_one, unkill_by, unkill_answer, watch_answer, agent_answer, read_of, mapped_bytes, read_answer, write_answer, message_answer}
 use Rattle.pr_model.specs.Readers.{size_of}
 use Rattle.pr_model.specs.Running.{without_current, without_fault, with_step, with_abort, with_directive, without_directive, let_go, if_flag, is_entry_stop, is_asleep, with_abort_from, with_cleared, with_aborted, run_lwp, lwp_run_refused, run_refused, shows_run, was_requested, with_request, without_request, if_all_requested, with_flags_on, with_representative_run, with_all_run, with_one_run, runs_one, with_run}
 use Rattle.pr_model.specs.Signals.{generated}
@@ -41,7 +42,8 @@ use Rattle.pr_lawful.proofs.HoldableLemmas.{holdable-holdable}
 use Rattle.pr_mem.proofs.HeapPlaceLemmas.{LeavesHeapPlace-with_bytes}
 use Rattle.pr_rec.specs.InRange.{IsInfo}
 use Rattle.pr_lawful.proofs.InfoLemmas.{no-infos, taken-infos}
-use Rattle.pr_lawful.proofs.LocalLemmas.{KeepsLwp, same_sets, keeps-if, IsKept, Keeps, kept-same, kept-next, kept-if, same_rest, same_lwps, kept-parts, keeps-lwp, keeps-each}
+use Rattle.pr_lawful.proofs.LocalLemmas.{KeepsLwp, same_sets, keeps-if, live-empty, IsKept, Keeps, kept-same, kept-next, kept-if, same_rest, same_lwps, kept-parts, keeps-lwp, keeps-each}
+use Rattle.pr_lawful.proofs.SignalLemmas.{HasRoomIn, MayPend}
 use Rattle.pr_lawful.proofs.SystemLemmas.{Replaces, replaced, kept-replaces}
 use Rattle.pr_lawful.proofs.TransitionLemmas.{directed-keeps, all_directed-keeps}
 
@@ -54,14 +56,14 @@ pub data Makes (s : TracedSystem) (pid : ℕ) (p : TracedProcess) (t : TracedSys
   a_process : (f : TracedProcess → TracedProcess) → Replaces s s.files pid p (f p) → t ≡ with_process pid f s → Makes s pid p t
   -- the process ends
   an_end : (status : ℕ) → t ≡ with_this_ended traced pid p status s → Makes s pid p t
-  -- a signal is generated for it
-  a_signal : (target : Option ℕ) (g : Sig) (info : Info) → IsInfo info → t ≡ generated traced pid target g info s → Makes s pid p t
+  -- a signal is generated for it, which has room
+  a_signal : (target : Option ℕ) (g : Sig) (info : Info) → MayPend p target g info → t ≡ generated traced pid target g info s → Makes s pid p t
 
 pub makes-lawful : (s : TracedSystem) (pid : ℕ) (p : TracedProcess) (t : TracedSystem) → IsLawfulSystem s → pid ≢ 0 → process_of s pid ≡ Some p → Makes s pid p t → IsLawfulSystem t
 makes-lawful s pid p t h user found (nothing is) = subst IsLawfulSystem (sym is) h
 makes-lawful s pid p t h user found (a_process f replaces is) = subst IsLawfulSystem (sym is) (replaced s s.files pid f p h user found replaces)
 makes-lawful s pid p t h user found (an_end status is) = subst IsLawfulSystem (sym is) (ended-lawful s pid p status h user found)
-makes-lawful s pid p t h user found (a_signal target g info new is) = subst IsLawfulSystem (sym is) (generated-lawful s pid target g info new h user)
+makes-lawful s pid p t h user found (a_signal target g info new is) = subst IsLawfulSystem (sym is) (generated-lawful s pid target g info (record { found = λ x at. subst (λ y. MayPend y target g info) (same_Some p x (sym found ∙ at)) new }) h user)
 
 -- ---- what messages make of lwps
 
@@ -73,7 +75,7 @@ if_flag-keeps flags flag f keeps = keeps-if (has_flags flags flag) f (λ l. l) k
 
 without_current-keeps : KeepsLwp without_current
 unfolding without_current
-without_current-keeps next id l it = record { id = it.id; held = it.held; frames = it.frames; pending = it.pending; current = tt }
+without_current-keeps next id l it = record { id = it.id; held = it.held; frames = it.frames; few_frames = it.few_frames; pending = it.pending; current = tt }
 
 without_fault-keeps : KeepsLwp without_fault
 unfolding without_fault
@@ -136,16 +138,16 @@ controller-info = record { code = omega arith; pid = omega arith }
 
 current-keeps : (signal : Option Sig) → KeepsLwp (with_signal_set signal)
 unfolding with_signal_set without_current
-current-keeps None next id l it = record { id = it.id; held = it.held; frames = it.frames; pending = it.pending; current = tt }
-current-keeps (Some g) next id l it = record { id = it.id; held = it.held; frames = it.frames; pending = it.pending; current = controller-info }
+current-keeps None next id l it = record { id = it.id; held = it.held; frames = it.frames; few_frames = it.few_frames; pending = it.pending; current = tt }
+current-keeps (Some g) next id l it = record { id = it.id; held = it.held; frames = it.frames; few_frames = it.few_frames; pending = it.pending; current = controller-info }
 
 without_one-keeps : (g : Sig) → KeepsLwp (lwp_without_one g)
 unfolding lwp_without_one
-without_one-keeps g next id l it = record { id = it.id; held = it.held; frames = it.frames; pending = taken-infos g l.pending it.pending; current = it.current }
+without_one-keeps g next id l it = record { id = it.id; held = it.held; frames = it.frames; few_frames = it.few_frames; pending = taken-infos g l.pending it.pending; current = it.current }
 
 held_set-keeps : (signals : ℕ) → KeepsLwp (with_held_set signals)
 unfolding with_held_set
-held_set-keeps signals next id l it = record { id = it.id; held = holdable-holdable signals; frames = it.frames; pending = it.pending; current = it.current }
+held_set-keeps signals next id l it = record { id = it.id; held = holdable-holdable signals; frames = it.frames; few_frames = it.few_frames; pending = it.pending; current = it.current }
 
 registers-keep : (regs : List ℕ) → KeepsLwp (with_registers regs)
 unfolding with_registers
@@ -204,6 +206,7 @@ control-kept f pid x traced_too = record {
     uncaught = it.uncaught;
     pending = it.pending;
     heap_place = it.heap_place;
+    small_space = it.small_space;
   };
   parent = refl;
   ended = refl;
@@ -266,11 +269,15 @@ module _ (s : TracedSystem) (pid : ℕ) (p : TracedProcess) (h : IsLawfulSystem 
       choice MakesOf (is_kill_of s pid p (signal_of_number number)) _ _ (λ kill. an_end (signal_number Kill) refl)
       (λ other. on_lwp-makes len (with_signal_set (signal_of_number number)) (current-keeps (signal_of_number number)) (aimed_lwp s pid p aim))
 
+  aimed-room : (aim : Aim) (g : Sig) → has_room g (pending_at s pid p aim) ≡ true → HasRoomIn p g (target_of_aim s pid p aim)
+  aimed-room at_process g room = room
+  aimed-room (at_lwp id) g room = λ l there. ap (λ (o : Option TracedLwp). has_room g (pending_of_found s pid p o)) (sym there) ∙ room
+
   kill-makes : (aim : Aim) (len : ℕ) (o : Option Sig) → MakesOf (kill_by s pid p aim len o)
   unfolding MakesOf
   kill-makes aim len None = nothing refl
   kill-makes aim len (Some g) =
-      choice MakesOf (has_room g (pending_at s pid p aim)) _ _ (λ room. a_signal (target_of_aim s pid p aim) g by_controller controller-info refl) (λ full. nothing refl)
+      choice MakesOf (has_room g (pending_at s pid p aim)) _ _ (λ room. a_signal (target_of_aim s pid p aim) g by_controller (record { fits = controller-info; room = aimed-room aim g room }) refl) (λ full. nothing refl)
 
   unkill-makes : (aim : Aim) (len : ℕ) (o : Option Sig) → MakesOf (unkill_by s pid p aim len o)
   unfolding MakesOf
@@ -297,13 +304,9 @@ module _ (s : TracedSystem) (pid : ℕ) (p : TracedProcess) (h : IsLawfulSystem 
       record {
         lawful = λ it. record {
           has_lwps = record { some = λ user is. omega arith };
-          empty_zombie = record {
-            no_lwps = λ status is. absurd (none-some status (sym live ∙ is));
-            no_memory = λ status is. absurd (none-some status (sym live ∙ is));
-            no_files = λ status is. absurd (none-some status (sym live ∙ is));
-          };
+          empty_zombie = live-empty (with_agent regs p) live;
           rising = rises_from-inserted 0 agent_id (agent_lwp regs) p.lwps (omega arith) it.rising none;
-          lwps = All-inserted (IsLawfulLwp p.next_lwp) agent_id (agent_lwp regs) p.lwps (record { id = inr refl; held = holdable-holdable all_signals; frames = All-nil IsLawfulFrame; pending = no-infos; current = tt }) it.lwps;
+          lwps = All-inserted (IsLawfulLwp p.next_lwp) agent_id (agent_lwp regs) p.lwps (record { id = inr refl; held = holdable-holdable all_signals; frames = All-nil IsLawfulFrame; few_frames = omega arith; pending = no-infos; current = tt }) it.lwps;
           next_lwp = it.next_lwp;
           few_lwps = omega arith;
           descriptors = it.descriptors;
@@ -311,6 +314,7 @@ module _ (s : TracedSystem) (pid : ℕ) (p : TracedProcess) (h : IsLawfulSystem 
           uncaught = it.uncaught;
           pending = it.pending;
           heap_place = it.heap_place;
+          small_space = it.small_space;
         };
         parent = refl;
         ended = refl;
@@ -335,11 +339,7 @@ module _ (s : TracedSystem) (pid : ℕ) (p : TracedProcess) (h : IsLawfulSystem 
   written-replaces at bytes = record {
     lawful = λ it. record {
       has_lwps = record { some = it.has_lwps.some };
-      empty_zombie = record {
-        no_lwps = λ status is. absurd (none-some status (sym live ∙ is));
-        no_memory = λ status is. absurd (none-some status (sym live ∙ is));
-        no_files = λ status is. absurd (none-some status (sym live ∙ is));
-      };
+      empty_zombie = live-empty (with_space (with_bytes at bytes p.space) p) live;
       rising = it.rising;
       lwps = it.lwps;
       next_lwp = it.next_lwp;
@@ -349,6 +349,7 @@ module _ (s : TracedSystem) (pid : ℕ) (p : TracedProcess) (h : IsLawfulSystem 
       uncaught = it.uncaught;
       pending = it.pending;
       heap_place = LeavesHeapPlace-with_bytes at bytes p.space it.heap_place;
+      small_space = let few = it.small_space in let same = mapped_size-with_bytes at bytes p.space in omega arith;
     };
     parent = refl;
     ended = refl;
@@ -361,7 +362,7 @@ module _ (s : TracedSystem) (pid : ℕ) (p : TracedProcess) (h : IsLawfulSystem 
   write-makes : (at : ℕ) (bytes : List ℕ) (len : ℕ) → MakesOf (write_answer s pid p at bytes len)
   unfolding write_answer MakesOf
   write-makes at bytes len =
-      choice MakesOf (is_ok (mapped_bytes s pid p at (length bytes))) _ _ (λ mapped. a_process (with_space (with_bytes at bytes p.space)) (written-replaces at bytes) refl) (λ hole. nothing refl)
+      choice MakesOf (is_ok (bytes_for 0 p.space at (length bytes))) _ _ (λ mapped. a_process (with_space (with_bytes at bytes p.space)) (written-replaces at bytes) refl) (λ hole. nothing refl)
 
   pub message-makes : (aim : Aim) (m : Message) (tail : List ℕ) (len : ℕ) → Makes s pid p (message_answer s pid p aim m tail len).system
   unfolding message_answer MakesOf kill_answer unkill_answer read_answer tracing_faults tracing_entries tracing_exits with_modes without_modes

@@ -6,9 +6,9 @@ use Rattle.std.proofs.lemmas.Option.{same_Some, none-some}
 use Rattle.pr_num.specs.Layout.{break_limit, gap_base, heap_base, page_size}
 use Rattle.pr_num.proofs.ListLemmas.{length-text}
 use Rattle.pr_num.specs.Programs.{Program, text_of}
-use Rattle.pr_num.specs.Spaces.{Space, first_space}
+use Rattle.pr_num.specs.Spaces.{Space, first_space, mapped_size, mapping_limit}
 use Rattle.pr_parts.specs.AddressSpaces.{LeavesHeapPlace, gap_from, gap_in, is_gap}
-use Rattle.pr_parts.proofs.FirstLemmas.{first_space-mappings}
+use Rattle.pr_parts.proofs.FirstLemmas.{IsSpace-first, first_space-mappings}
 use Rattle.pr_mem.proofs.HeapPlaceLemmas.{LeavesHeapPlace-first}
 use Rattle.pr_mem.specs.Answers.{is_outside_heap_place}
 use Rattle.pr_model.specs.Lawful.{IsLawfulProgram}
@@ -42,6 +42,13 @@ program-leaves program h =
     let text = length-text program.code in
     let code = h.code in
     subst (λ (space : Space). All LeavesHeapPlace space) (sym (first_space-mappings program)) (LeavesHeapPlace-first (text_of program) program.bytes (omega arith) h.bytes)
+
+-- a program begins within the limit of a space
+pub program-small : (program : Program) → IsLawfulProgram program → mapped_size (first_space program) ≤ mapping_limit
+program-small program h =
+    let text = length-text program.code in
+    let code = h.code in
+    subst (λ (space : Space). mapped_size space ≤ mapping_limit) (sym (first_space-mappings program)) (IsSpace-first (text_of program) program.bytes (omega arith) h.bytes).limit
 
 -- ---- where mmap(2) maps
 

@@ -9,7 +9,7 @@ use Rattle.pr_rec.specs.NoLwp.{no_lwp}
 use Rattle.pr_rec.specs.declared.lwps.LwpStatus.{LwpStatus}
 use Rattle.pr_model.specs.Lawful.{IsLawfulCurrent, IsLawfulLwp, IsLawfulProcess}
 use Rattle.pr_model.specs.Records.{lstatus_of, statuses_of_lwps}
-use Rattle.pr_model.specs.State.{TracedLwp, TracedProcess, lwp_of}
+use Rattle.pr_model.specs.State.{TracedLwp, TracedProcess, TracedSystem, lwp_of}
 use Rattle.pr_model.specs.Statuses.{info_in, lwpstatus_of, status_of, status_of_found}
 use Rattle.pr_model.specs.Stops.{agent_of, first_in_class, is_in_class, representative}
 use Rattle.pr_model.specs.declared.lwps.Current.{Current}
@@ -69,9 +69,9 @@ module _ (pid : ℕ) (p : TracedProcess) (h : IsLawfulProcess (pid, p)) where
       either _ _ (either _ _ (either _ _ (either _ _ (either _ _ agent-lawful (class-lawful 1)) (class-lawful 2)) (class-lawful 3)) (class-lawful 4)) (class-lawful 5)
 
   -- the status of the process has that of the representative
-  pub status-info : HasInfo (status_of pid p).lwp
+  pub status-info : (s : TracedSystem) → HasInfo (status_of s pid p).lwp
   unfolding status_of no_lwp
-  status-info = by (representative p) representative-lawful
+  status-info s = by (representative p) representative-lawful
     where
       by : (o : Option (ℕ × TracedLwp)) → IfSome o (IsLawfulLwp p.next_lwp) → HasInfo (status_of_found p o)
       by None lawful = record { code = omega arith; pid = omega arith }

@@ -21,7 +21,7 @@ use Rattle.pr_model.specs.Changes.{Change, files_are, space_is, signals, signals
 use Rattle.pr_model.specs.Generation.{ends_job_stop, lwp_without_pending, lwp_with_pending, without_pending, without_job_stop, with_deletions, with_pending, told}
 use Rattle.pr_model.specs.Handles.{has_writer}
 use Rattle.pr_model.specs.Lawful.{IsReleasedLwp, IsUntraced, IsReleased}
-use Rattle.pr_model.specs.Lives.{bare_process, with_made, orphaned, with_parent_told, without_lwp, with_reaped, new_lwp, new_process, with_spawned, forked, with_child, started, with_program, with_new_lwp, zombie, with_this_ended, ended_if_live, with_ended, with_lwp_ended}
+use Rattle.pr_model.specs.Lives.{Birth, bare_process, with_made, orphaned, with_parent_told, without_lwp, with_reaped, new_lwp, new_process, with_spawned, forked, with_child, started, with_program, with_new_lwp, zombie, with_this_ended, ended_if_live, with_ended, with_lwp_ended}
 use Rattle.pr_model.specs.LwpTurns.{with_counted, settled}
 use Rattle.pr_model.specs.Machines.{nothing_set, no_marks, child_control, exec_control, call_over, step_taken, fault_incurred, fault_posted, traced}
 use Rattle.pr_model.specs.Moves as move
@@ -247,11 +247,11 @@ module _ (opens : Places) where
   unfolding child_control nothing_set has_flags common_word
   child-modes c = choice (λ (d : TracedControl). (has_flags d.modes klc_mode ≡ false) × (has_flags d.modes rlc_mode ≡ false)) (has_flags c.modes fork_mode) _ _ (λ inherits. (refl, refl)) (λ starts. (refl, refl))
 
-  child-released : (s : TracedSystem) (pid : ℕ) (p : TracedProcess) (l : TracedLwp) (args : List ℕ) → AllReleased s → AllReleased (with_child traced pid p l args s)
+  child-released : (birth : Birth) (s : TracedSystem) (pid : ℕ) (p : TracedProcess) (l : TracedLwp) (args : List ℕ) → AllReleased s → AllReleased (with_child traced birth pid p l args s)
   unfolding with_child forked traced
-  child-released s pid p l args all =
+  child-released birth s pid p l args all =
       let modes = child-modes p.control in
-      made-released _ (forked traced pid p l args s.clock) (modeless-released s.made (forked traced pid p l args s.clock) modes.0 modes.1) all
+      made-released _ (forked traced birth pid p l args s.clock) (modeless-released s.made (forked traced birth pid p l args s.clock) modes.0 modes.1) all
 
   pub spawned-released : (s : TracedSystem) (program : Program) (held : Bool) → AllReleased s → AllReleased (with_spawned traced program held s)
   unfolding with_spawned new_process bare_process traced nothing_set has_flags common_word
@@ -292,7 +292,7 @@ module _ (opens : Places) where
     changed-released (disposition_is g d) s suits all = calms s pid (with_disposition_of g d) (λ x. same_parts x (with_disposition_of g d x) refl refl refl) all
     changed-released (held_is held) s suits all = own s id (with_held held) (λ x. refl) all
     changed-released (resumes frame frames) s suits all = own s id (resumed frame frames) (λ x. refl) all
-    changed-released (forks args) s suits all = either (eqb s.made pid) s _ all (child-released s pid p l args all)
+    changed-released (forks birth args) s suits all = either (eqb s.made pid) s _ all (child-released birth s pid p l args all)
     changed-released (reaps child) s suits all = either (eqb child pid) s _ all (All-without_id (IsReleased opens) child s.processes all)
     changed-released (becomes program) s suits all =
         process-released s pid (with_program traced id l program) (λ x is it.

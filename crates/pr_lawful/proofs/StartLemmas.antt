@@ -1,6 +1,7 @@
 use Rattle.std.proofs.Common.{◌≡◌, ℕ, zero, suc, ◌+◌, ◌<◌, ◌≤◌, Bool, false, replicate, Option, Some, None, List, [], ◌∷◌, length, refl, sym, subst, ◌∙◌, ap, arith, inl}
 use Rattle.std.specs.List.{All, list_any, slice_get, sum_by}
 use Rattle.std.proofs.lemmas.Bool.{false≢true}
+use Rattle.std.proofs.lemmas.List.{length-replicate}
 use Rattle.std.proofs.lemmas.List.Elements.{All-nil, All-cons}
 use Rattle.std.proofs.lemmas.List.Sums.{sum_by-cons}
 use Rattle.pr_num.proofs.SetLemmas.{has_number-zero}
@@ -20,10 +21,12 @@ use Rattle.pr_model.specs.Lives.{bare_process, new_process, with_made, with_spaw
 use Rattle.pr_model.specs.Machines.{nothing_set, traced}
 use Rattle.pr_model.specs.Readers.{size_of, total_size}
 use Rattle.pr_model.specs.Signals.{disposition_of}
+use Rattle.pr_model.specs.declared.handles.Held.{Held}
 use Rattle.pr_model.specs.State.{Places, TracedState, TracedSystem, nothing_open}
 use Rattle.pr_lawful.specs.Starts.{IsStart}
 use Rattle.pr_parts.specs.AddressSpaces.{LeavesHeapPlace}
 use Rattle.pr_lawful.proofs.InfoLemmas.{no-infos}
+use Rattle.pr_lawful.proofs.LocalLemmas.{live-empty}
 use Rattle.pr_lawful.proofs.MadeLemmas.{handles-on, spawned-grows}
 use Rattle.pr_lawful.proofs.ProgramLemmas.{placed-lawful}
 use Rattle.pr_lawful.proofs.ReleasedLemmas.{modeless-released, spawned-released}
@@ -49,7 +52,7 @@ system-lawful : IsLawfulProcess (0, system_process)
 unfolding system_process bare_process traced nothing_set disposition_of signal_number
 system-lawful = record {
   has_lwps = record { some = λ user live. absurd (omega arith) };
-  empty_zombie = record { no_lwps = λ status is. refl; no_memory = λ status is. refl; no_files = λ status is. refl };
+  empty_zombie = live-empty system_process refl;
   rising = refl;
   lwps = All-nil (IsLawfulLwp 1);
   next_lwp = omega arith;
@@ -59,6 +62,7 @@ system-lawful = record {
   uncaught = record { kill = refl; stop = refl };
   pending = no-infos;
   heap_place = All-nil LeavesHeapPlace;
+  small_space = omega arith;
 }
 
 module _ (programs : List Program) (files : List StoredFile) (spawns : List ℕ) (start : IsStart programs files spawns) where
@@ -90,6 +94,7 @@ module _ (programs : List Program) (files : List StoredFile) (spawns : List ℕ)
         users = λ place. refl;
       };
     };
+    places = length-replicate {A = Option Held} handle_limit None;
     fitting = all-free IsFitting tt handle_limit;
     handles = all-free (IsOfMade 1) tt handle_limit;
     exclusive = record { alone = λ pid is. absurd (false≢true (sym (no-handle (is_exclusive_writer pid) refl handle_limit) ∙ is)) };
@@ -117,6 +122,7 @@ spawned-state : (opens : Places) (o : Option Program) (s : TracedSystem) → ((p
 spawned-state opens None s within h room mapped = h
 spawned-state opens (Some program) s within h room mapped = record {
   system = spawned-lawful s program false (within program refl) h.system room mapped;
+  places = h.places;
   fitting = h.fitting;
   handles = handles-on opens s (with_spawned traced program false s) (spawned-grows s program false) h.handles;
   exclusive = h.exclusive;

@@ -1,7 +1,8 @@
-use Rattle.std.proofs.Common.{◌≡◌, ◌≢◌, ◌&&◌, ℕ, ◌+◌, ◌<◌, ◌≤◌, Bool, true, false, not, is_none, eqb, cond, Option, Some, None, List, [], ◌∷◌, refl, sym, subst, ◌∙◌, ap, arith, inl, inr}
+use Rattle.std.proofs.Common.{◌≡◌, ◌≢◌, ◌&&◌, ℕ, ◌+◌, ◌<◌, ◌≤◌, Bool, true, false, not, is_none, eqb, cond, Option, Some, None, List, [], ◌∷◌, length, refl, sym, subst, ◌∙◌, ap, arith, inl, inr}
 use Rattle.std.specs.List.{All, position, slice_get, slice_set}
 use Rattle.std.specs.Option.{option_and_then}
 use Rattle.std.proofs.lemmas.Bool.{cases_eq, false≢true, ne_eqb}
+use Rattle.std.proofs.lemmas.List.{length-set}
 use Rattle.std.proofs.lemmas.List.Elements.{All-set, All-nil, All-cons, All-weaker}
 use Rattle.std.proofs.lemmas.Option.{same_Some, none-some}
 use Rattle.pr_num.proofs.BoolLemmas.{and_false}
@@ -32,8 +33,8 @@ use Rattle.pr_lawful.proofs.EndLemmas.{ended-lawful, found-live}
 use Rattle.pr_lawful.proofs.FileLemmas.{choice}
 use Rattle.pr_lawful.proofs.HandleLemmas.{all-fixed, alone-before, alone-then, exclusive-kept, exclusive-left, fitting-freed, fitting-taken, free-at, released-beside}
 use Rattle.pr_lawful.proofs.InfoLemmas.{no-infos}
-use Rattle.pr_lawful.proofs.ProgramLemmas.{program-leaves}
-use Rattle.pr_lawful.proofs.LocalLemmas.{KeepsLwp, same_sets, Keeps, mapped_lwps}
+use Rattle.pr_lawful.proofs.ProgramLemmas.{program-leaves, program-small}
+use Rattle.pr_lawful.proofs.LocalLemmas.{KeepsLwp, same_sets, live-empty, Keeps, mapped_lwps}
 use Rattle.pr_lawful.proofs.MadeLemmas.{Grows, closed-grows, either-grows, ended-grows, generated-grows, handles-on, process-grows, same-grows, settled-grows}
 use Rattle.pr_lawful.proofs.MessageLemmas.{Makes, nothing, a_process, an_end, a_signal, makes-lawful}
 use Rattle.pr_lawful.proofs.ReleasedLemmas.{buried-released, ended-released, generated-released, modeless-released, process-released, settled-released, writer-released, zombie-released}
@@ -52,6 +53,7 @@ turn-state s pid id t h turn =
     let a = acting s.system pid id it.process it.lwp h.system it.live it.there in
     record {
       system = turn-lawful s.system pid id t h.system turn;
+      places = h.places;
       fitting = h.fitting;
       handles = handles-on s.opens s.system t.system (subst (λ (v : LwpTurn). Grows s.system v.system) (sym it.is) (settled-grows pid it.process id it.lwp s.system (row_for s.system pid it.process id it.lwp))) h.handles;
       exclusive = h.exclusive;
@@ -64,6 +66,7 @@ turn-state s pid id t h turn =
 pub same-state : (s t : TracedState) → t.system ≡ s.system → t.opens ≡ s.opens → IsLawful s → IsLawful t
 same-state s t system opens h = record {
   system = subst IsLawfulSystem (sym system) h.system;
+  places = ap (λ (os : Places). length os) opens ∙ h.places;
   fitting = subst (All IsFitting) (sym opens) h.fitting;
   handles = rw (system, opens) h.handles;
   exclusive = subst AreExclusive (sym opens) h.exclusive;
@@ -75,6 +78,7 @@ same-state s t system opens h = record {
 pub made-state : (s : TracedState) (pid : ℕ) (p : TracedProcess) (t : TracedSystem) → IsLawful s → pid ≢ 0 → process_of s.system pid ≡ Some p → has_writer pid s.opens ≡ true → Makes s.system pid p t → IsLawful (record s { system = t })
 made-state s pid p t h user found written makes = record {
   system = makes-lawful s.system pid p t h.system user found makes;
+  places = h.places;
   fitting = h.fitting;
   handles = handles-on s.opens s.system t (made-on makes) h.handles;
   exclusive = h.exclusive;
@@ -110,6 +114,7 @@ opened-state s place h lawful at grants = by (fits_file h.file h.mode h.lwp) (ha
         let there = free-at s.opens place at in
         record {
           system = lawful.system;
+          places = length-set s.opens place (Some h) ∙ lawful.places;
           fitting = fitting-taken s.opens place h there fits lawful.fitting;
           handles = All-set (IsOfMade s.system.made) s.opens place (Some h) (made-file (process_of s.system h.pid) refl has) lawful.handles;
           exclusive = exclusive-kept s.opens place h there free lawful.exclusive;
@@ -146,6 +151,7 @@ released-keeps pid x =
         uncaught = it.uncaught;
         pending = it.pending;
         heap_place = it.heap_place;
+        small_space = it.small_space;
       };
       parent = refl;
       ended = refl;
@@ -242,6 +248,7 @@ pub closed-state : (s : TracedState) (number : ℕ) (h : Held) → IsLawful s �
 unfolding with_closed ButOne
 closed-state s number h lawful there = record {
   system = choice IsLawfulSystem (was_last_writer h (slice_set s.opens number None)) _ _ (λ last. after-close-lawful s.system h.pid lawful.system) (λ others. lawful.system);
+  places = length-set s.opens number None ∙ lawful.places;
   fitting = fitting-freed s.opens number h there lawful.fitting;
   handles =
       All-set (IsOfMade (cond (was_last_writer h (slice_set s.opens number None)) (after_last_close h.pid (live_process s.system h.pid) s.system) s.system).made) s.opens number None tt
@@ -271,13 +278,13 @@ closed-state s number h lawful there = record {
 
 new_lwp-lawful : (held : Bool) → IsLawfulLwp 2 (1, first_lwp traced held)
 unfolding first_lwp new_lwp holdable_word without_number minus_word
-new_lwp-lawful held = record { id = inl (omega arith); held = record { same = refl }; frames = All-nil IsLawfulFrame; pending = no-infos; current = tt }
+new_lwp-lawful held = record { id = inl (omega arith); held = record { same = refl }; frames = All-nil IsLawfulFrame; few_frames = omega arith; pending = no-infos; current = tt }
 
 new_process-lawful : (pid clock : ℕ) (program : Program) (held : Bool) → IsLawfulProgram program → IsLawfulProcess (pid, new_process traced program clock held)
 unfolding new_process bare_process traced nothing_set disposition_of signal_number
 new_process-lawful pid clock program held within = record {
   has_lwps = record { some = λ user live. omega arith };
-  empty_zombie = record { no_lwps = λ status is. absurd (none-some status is); no_memory = λ status is. absurd (none-some status is); no_files = λ status is. absurd (none-some status is) };
+  empty_zombie = live-empty (new_process traced program clock held) refl;
   rising = refl;
   lwps = All-cons (IsLawfulLwp 2) (1, first_lwp traced held) [] (new_lwp-lawful held) (All-nil (IsLawfulLwp 2));
   next_lwp = omega arith;
@@ -287,6 +294,7 @@ new_process-lawful pid clock program held within = record {
   uncaught = record { kill = refl; stop = refl };
   pending = no-infos;
   heap_place = program-leaves program within;
+  small_space = program-small program within;
 }
 
 new-parent : (program : Program) (clock : ℕ) (held : Bool) → (new_process traced program clock held).parent ≡ 0

@@ -1,7 +1,7 @@
 use Rattle.std.proofs.Common.{◌≡◌, ◌≢◌, ℕ, ◌+◌, ◌<◌, ◌≤◌, Bool, true, false, Some, None, List, [], ◌∷◌, length}
 use Rattle.std.specs.List.{All}
 use Rattle.pr_num.specs.Files.{FileTable, Descriptors}
-use Rattle.pr_num.specs.Limits.{all_mappings_limit, descriptor_limit, last_lwp, lwp_limit, process_limit}
+use Rattle.pr_num.specs.Limits.{all_mappings_limit, descriptor_limit, frame_limit, last_lwp, lwp_limit, mapping_limit, process_limit}
 use Rattle.pr_num.specs.Programs.{Program}
 use Rattle.pr_num.specs.Spaces.{Space, first_space, mapped_size}
 use Rattle.pr_parts.specs.FileTables.{CountsUsers, IsFileTable, PipesHaveEnds}
@@ -14,7 +14,9 @@ use Rattle.pr_model.specs.Moves.{Move, stays, stops, takes, catches}
 use Rattle.pr_model.specs.Readers.{size_of, total_size}
 use Rattle.pr_model.specs.SignalCalls.{can_be_caught}
 use Rattle.pr_model.specs.State.{TracedLwp, TracedProcess, TracedSystem, lwp_of, process_of}
+use Rattle.pr_model.specs.declared.frames.Frame.{Frame}
 use Rattle.pr_model.specs.Transitions.{Transition}
+use Rattle.pr_lawful.proofs.SignalLemmas.{MayReach}
 
 -- What turns keep to, so that they leave the system lawful: each change in the system that it finds, and each move.
 
@@ -30,13 +32,14 @@ pub record SuitsFiles (s : TracedSystem) (pid : ℕ) (files : FileTable) (fds : 
   pub counted : CountsUsers s.files process.fds files fds
   pub places : length fds ≡ descriptor_limit
 
--- another address space: there is room for it among those of all processes
+-- another address space: it is within the limit of one, and there is room for it among those of all processes
 pub record SuitsSpace (s : TracedSystem) (pid : ℕ) (space : Space) : Type 0 where
   pub process : TracedProcess
   pub found : process_of s pid ≡ Some process
   pub live : process.ended ≡ None
   pub mapped : total_size s + mapped_size space ≤ all_mappings_limit + size_of process
   pub heap_place : All LeavesHeapPlace space
+  pub small : mapped_size space ≤ mapping_limit
 
 -- a child: there is room for it and for its memory
 pub record SuitsChild (s : TracedSystem) (pid : ℕ) (p : TracedProcess) (l : TracedLwp) : Type 0 where
@@ -46,6 +49,7 @@ pub record SuitsChild (s : TracedSystem) (pid : ℕ) (p : TracedProcess) (l : Tr
   pub mapped : total_size s + size_of p ≤ all_mappings_limit
   pub held : IsHoldable l.held
   pub frames : All IsLawfulFrame l.frames
+  pub few_frames : length l.frames ≤ frame_limit
 
 -- what is reaped is a zombie
 pub record SuitsReaped (s : TracedSystem) (child : ℕ) : Type 0 where
@@ -54,13 +58,14 @@ pub record SuitsReaped (s : TracedSystem) (child : ℕ) : Type 0 where
   pub found : process_of s child ≡ Some zombie
   pub over : zombie.ended ≡ Some status
 
--- another program: there is room for its memory, and the lwp that goes on is one of the process
+-- another program: it begins within the limit of a space, there is room for its memory, and the lwp that goes on is one of the process
 pub record SuitsProgram (s : TracedSystem) (pid id : ℕ) (l : TracedLwp) (program : Program) : Type 0 where
   pub process : TracedProcess
   pub found : process_of s pid ≡ Some process
   pub live : process.ended ≡ None
   pub mapped : total_size s + mapped_size (first_space program) ≤ all_mappings_limit + size_of process
   pub heap_place : All LeavesHeapPlace (first_space program)
+  pub small : mapped_size (first_space program) ≤ mapping_limit
   pub there : lwp_of process id ≡ Some l
 
 -- an lwp more: it gets the next id, and there is room for it
@@ -73,19 +78,26 @@ pub record SuitsLwp (s : TracedSystem) (pid new held : ℕ) : Type 0 where
   pub few : length process.lwps < lwp_limit
   pub holdable : IsHoldable held
 
+-- another held set and other frames: a set that can be held, and no more frames than there may be, which come back to
+-- such sets
+pub record SuitsFrames (held : ℕ) (frames : List Frame) : Type 0 where
+  pub holdable : IsHoldable held
+  pub backs : All IsLawfulFrame frames
+  pub few : length frames ≤ frame_limit
+
 module _ (pid : ℕ) (p : TracedProcess) (id : ℕ) (l : TracedLwp) where
   -- A change in the turn of the lwp of an id suits a system.
   abbrev pub SuitsChange : TracedSystem → Change → Type 0
   SuitsChange s (files_are files fds) = SuitsFiles s pid files fds
   SuitsChange s (space_is space) = SuitsSpace s pid space
-  SuitsChange s (signals target g info) = (target ≢ 0) × IsInfo info
-  SuitsChange s (signals_itself g info) = IsInfo info
+  SuitsChange s (signals target g info) = (target ≢ 0) × MayReach s target None g info
+  SuitsChange s (signals_itself g info) = MayReach s pid (Some id) g info
   SuitsChange s (takes_shared g) = Unit {0}
   SuitsChange s (job_stops g) = Unit {0}
   SuitsChange s (disposition_is g disposition) = can_be_caught g ≡ true
   SuitsChange s (held_is held) = IsHoldable held
-  SuitsChange s (resumes frame frames) = IsHoldable frame.held × All IsLawfulFrame frames
-  SuitsChange s (forks args) = SuitsChild s pid p l
+  SuitsChange s (resumes frame frames) = SuitsFrames frame.held frames
+  SuitsChange s (forks birth args) = SuitsChild s pid p l
   SuitsChange s (reaps child) = SuitsReaped s child
   SuitsChange s (becomes program) = SuitsProgram s pid id l program
   SuitsChange s (makes_lwp new regs held) = SuitsLwp s pid new held
@@ -98,13 +110,8 @@ module _ (pid : ℕ) (p : TracedProcess) (id : ℕ) (l : TracedLwp) where
 
 -- ---- moves
 
--- a handler runs with a set that can be held, and comes back to such sets
-pub record SuitsHandler (held : ℕ) (frames : List _) : Type 0 where
-  pub holdable : IsHoldable held
-  pub backs : All IsLawfulFrame frames
-
 abbrev pub SuitsMove : Move → Type 0
-SuitsMove (catches frames regs held) = SuitsHandler held frames
+SuitsMove (catches frames regs held) = SuitsFrames held frames
 SuitsMove (takes c own) = IsInfo c.info
 SuitsMove _ = Unit {0}
 

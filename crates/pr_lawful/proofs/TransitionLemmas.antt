@@ -2,7 +2,7 @@ use Rattle.std.proofs.Common.{◌≡◌, ◌≢◌, ℕ, Bool, true, false, eqb,
 use Rattle.pr_num.specs.ById.{change_under}
 use Rattle.pr_num.specs.Control.{has_flags, async_mode}
 use Rattle.pr_model.specs.Changes.{Ending, ends_process, ends_lwp, all_changed, ended}
-use Rattle.pr_model.specs.Lawful.{HaveInfos, IsLawfulSystem}
+use Rattle.pr_model.specs.Lawful.{IsLawfulPending, IsLawfulSystem}
 use Rattle.pr_model.specs.LwpTurns.{with_counted, settled}
 use Rattle.pr_model.specs.Machines.{fault_incurred, fault_posted, traced}
 use Rattle.pr_model.specs.Moves as move
@@ -17,9 +17,13 @@ use Rattle.pr_lawful.proofs.ChangeLemmas.{all_changed-lawful}
 use Rattle.pr_lawful.proofs.EndLemmas.{ended-lawful, lwp_ended-lawful}
 use Rattle.pr_num.specs.Faults.{fault_signal}
 use Rattle.pr_num.specs.Infos.{of_fault}
-use Rattle.pr_parts.specs.PendingSignals.{without_one}
+use Rattle.pr_num.specs.Signals.{signal_number}
+use Rattle.pr_num.specs.declared.faults.Flt.{Flt}
+use Rattle.pr_num.specs.declared.faults.Flt.TheVariants.{Watch}
+use Rattle.pr_parts.specs.PendingSignals.{is_standard, without_one}
 use Rattle.pr_lawful.proofs.InfoLemmas.{added-infos, fault-info, taken-infos}
 use Rattle.pr_lawful.proofs.LocalLemmas.{KeepsLwp, same_sets, keeps-if, Keeps, kept-same, kept-next, kept-if, kept-parts, same_rest, same_lwps, keeps-lwp, keeps-each}
+use Rattle.pr_lawful.proofs.SignalLemmas.{standard-room}
 use Rattle.pr_lawful.proofs.SuitingLemmas.{SuitsMove, SuitsTransition}
 use Rattle.pr_lawful.proofs.SystemLemmas.{kept}
 
@@ -27,11 +31,17 @@ use Rattle.pr_lawful.proofs.SystemLemmas.{kept}
 
 -- ---- moves: a line a kind of move
 
+-- the signal of a fault does not queue
+fault-standard : (f : Flt) → is_standard (fault_signal f) ≡ true
+unfolding fault_signal signal_number
+fault-standard Watch = refl
+fault-standard _ = refl
+
 moved-keeps : (m : Move) → SuitsMove m → KeepsLwp (moved traced m)
 unfolding moved traced fault_incurred fault_posted
 moved-keeps move.stays suits = same_sets (moved traced move.stays) (λ l. refl) (λ l. refl) (λ l. refl) (λ l. refl)
 moved-keeps move.stops suits = same_sets (moved traced move.stops) (λ l. refl) (λ l. refl) (λ l. refl) (λ l. refl)
-moved-keeps (move.posts f address) suits = λ next id l it. record { id = it.id; held = it.held; frames = it.frames; pending = added-infos (fault_signal f) (of_fault address) l.pending (fault-info address) it.pending; current = it.current }
+moved-keeps (move.posts f address) suits = λ next id l it. record { id = it.id; held = it.held; frames = it.frames; few_frames = it.few_frames; pending = added-infos (fault_signal f) (of_fault address) l.pending (fault-info address) (standard-room (fault_signal f) l.pending (fault-standard f)) it.pending; current = it.current }
 moved-keeps move.returns suits = same_sets (moved traced move.returns) (λ l. refl) (λ l. refl) (λ l. refl) (λ l. refl)
 moved-keeps (move.runs regs) suits = same_sets (moved traced (move.runs regs)) (λ l. refl) (λ l. refl) (λ l. refl) (λ l. refl)
 moved-keeps (move.enters call regs) suits = same_sets (moved traced (move.enters call regs)) (λ l. refl) (λ l. refl) (λ l. refl) (λ l. refl)
@@ -39,9 +49,9 @@ moved-keeps (move.incurs f address) suits = same_sets (moved traced (move.incurs
 moved-keeps (move.traps f address regs) suits = same_sets (moved traced (move.traps f address regs)) (λ l. refl) (λ l. refl) (λ l. refl) (λ l. refl)
 moved-keeps (move.leaves call args result) suits = same_sets (moved traced (move.leaves call args result)) (λ l. refl) (λ l. refl) (λ l. refl) (λ l. refl)
 moved-keeps (move.sleeps call args since) suits = same_sets (moved traced (move.sleeps call args since)) (λ l. refl) (λ l. refl) (λ l. refl) (λ l. refl)
-moved-keeps (move.takes c own) suits = λ next id l it. record { id = it.id; held = it.held; frames = it.frames; pending = elim own as (λ b. HaveInfos (cond b (without_one c.signal l.pending) l.pending)) [ true ↦ taken-infos c.signal l.pending it.pending | false ↦ it.pending ]; current = suits }
-moved-keeps move.drops suits = λ next id l it. record { id = it.id; held = it.held; frames = it.frames; pending = it.pending; current = tt }
-moved-keeps (move.catches frames regs held) suits = λ next id l it. record { id = it.id; held = suits.holdable; frames = suits.backs; pending = it.pending; current = tt }
+moved-keeps (move.takes c own) suits = λ next id l it. record { id = it.id; held = it.held; frames = it.frames; few_frames = it.few_frames; pending = elim own as (λ b. IsLawfulPending (cond b (without_one c.signal l.pending) l.pending)) [ true ↦ taken-infos c.signal l.pending it.pending | false ↦ it.pending ]; current = suits }
+moved-keeps move.drops suits = λ next id l it. record { id = it.id; held = it.held; frames = it.frames; few_frames = it.few_frames; pending = it.pending; current = tt }
+moved-keeps (move.catches frames regs held) suits = λ next id l it. record { id = it.id; held = suits.holdable; frames = suits.backs; few_frames = suits.few; pending = it.pending; current = tt }
 
 -- ---- transitions
 

@@ -1,5 +1,6 @@
-use Rattle.std.proofs.Common.{◌≡◌, ◌≢◌, ◌&&◌, ℕ, Bool, true, false, eqb, ltb, leb, length, Option, Some, None, List, [], ◌∷◌, cond, refl, sym, subst, ◌∙◌, ap}
-use Rattle.std.proofs.lemmas.Bool.{and_parts, eqb-false, false≢true, leb-true}
+use Rattle.std.proofs.Common.{◌≡◌, ◌≢◌, ◌&&◌, ℕ, Bool, true, false, eqb, ltb, leb, length, Option, Some, None, List, [], ◌∷◌, refl, sym, subst, ◌∙◌, ap, arith}
+use Rattle.std.proofs.lemmas.Bool.{and_parts, eqb-false, false≢true, leb-true, ltb-true}
+use Rattle.std.proofs.lemmas.List.{length-append}
 use Rattle.std.proofs.lemmas.List.Elements.{All-nil, All-cons, All-append}
 use Rattle.std.proofs.lemmas.Option.{same_Some, none-some}
 use Rattle.pr_num.specs.Limits.{frame_limit}
@@ -21,7 +22,7 @@ use Rattle.pr_model.specs.InstructionEffects as instruction
 use Rattle.pr_model.specs.InstructionEffects.{InstructionEffect, Store, instruction_effect}
 use Rattle.pr_model.specs.Lawful.{IsHoldable, IsLawfulFrame, AreUncaught, IsLawfulSystem}
 use Rattle.pr_model.specs.Lives.{bare_process}
-use Rattle.pr_model.specs.LwpTurns.{LwpTurn, may_turn, settled, turn_of_lwp, turn_of_process, turn_of}
+use Rattle.pr_model.specs.LwpTurns.{LwpTurn, settled, turn_of}
 use Rattle.pr_model.specs.Moves.{Move, posts, returns, runs, enters, incurs, traps, leaves, sleeps, takes, drops, catches}
 use Rattle.pr_model.specs.Registers.{arguments, pc_of}
 use Rattle.pr_model.specs.Rows.{Row, requested_row, posted_row, returned_row, ran_row, entered_row, incurred_row, watched_row, executed_row, own_taken_row, shared_taken_row, handler_row, caught_row, interrupted_row, acted_row, performed_row, call_row, row_in, taken_or, signal_row_or, current_row_or, posted_row_or, row_for}
@@ -119,6 +120,7 @@ module _ (s : TracedSystem) (pid : ℕ) (p : TracedProcess) (id : ℕ) (l : Trac
       (λ room. move-suits (catches (with_frame l.regs l.held l.frames) (handler_registers c handler l.regs) (handler_held c l.held)) (record {
         holdable = held-suits c l.held own.held catchable;
         backs = All-append IsLawfulFrame l.frames (record { regs = l.regs; held = l.held } ∷ []) own.frames (All-cons IsLawfulFrame (record { regs = l.regs; held = l.held }) [] own.held (All-nil IsLawfulFrame));
+        few = let below = ltb-true (length l.frames) frame_limit room in let more = length-append l.frames (record { regs = l.regs; held = l.held } ∷ []) in omega arith;
       }) refl)
       (λ full. end-suits (ends_process (signal_number Segv)))
 

@@ -37,7 +37,7 @@ pub fn parts_of_lawful_systems_are_lawful()
 /// Records can hold what came with the signals of a lawful process: of the representative, of each lwp, and of the lwp of
 /// an id.
 pub fn infos_of_lawful_processes_are_in_range()
-    ensures status { (pid : ℕ) (p : TracedProcess) → IsLawfulProcess (pid, p) → IsInfo (status_of pid p).lwp.info }
+    ensures status { (s : TracedSystem) (pid : ℕ) (p : TracedProcess) → IsLawfulProcess (pid, p) → IsInfo (status_of s pid p).lwp.info }
     ensures lstatus { (pid : ℕ) (p : TracedProcess) → IsLawfulProcess (pid, p) → All (λ l. IsInfo l.info) (lstatus_of p) }
     ensures lwpstatus { (pid id : ℕ) (p : TracedProcess) (l : TracedLwp) → IsLawfulProcess (pid, p) → lwp_of p id ≡ Some l → IsInfo (lwpstatus_of p id l).info }
 {}

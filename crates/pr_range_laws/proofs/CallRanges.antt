@@ -40,6 +40,7 @@ use Rattle.pr_model.specs.FileCallRows.{read_effect, write_effect, open_effect, 
 use Rattle.pr_model.specs.Lawful.{HasParent, IsLawfulSystem, IsNumberedBelow}
 use Rattle.pr_model.specs.LwpCalls.{lwp_create_effect, lwp_suspend_effect, lwp_continue_effect, can_be_named, made_registers}
 use Rattle.pr_model.specs.MemoryCalls.{can_write, path_at, brk_effect, mmap_effect, munmap_effect, mprotect_effect, unless_too_big, is_mapped_range, prot_limit}
+use Rattle.pr_model.specs.Lives.{by_fork}
 use Rattle.pr_model.specs.ProcessCalls.{exit_effect, fork_effect, is_program_of, wait_effect, exec_effect, sleep_effect, program_named}
 use Rattle.pr_model.specs.Readers.{Life, Children, no_child, all_live, first_zombie, child_before, children_among, children_of, life_of, size_of, total_has_room}
 use Rattle.pr_model.specs.Registers.{with_sp}
@@ -303,7 +304,7 @@ module _ (s : TracedSystem) (pid : ℕ) (p : TracedProcess) (id : ℕ) (l : Trac
       let made = a.lawful.made in
       choice IsEffectInRange (eqb id agent_id) _ _ (λ agent. refusal) (λ other.
       choice IsEffectInRange (leb process_limit s.made) _ _ (λ full. refusal) (λ room.
-      choice IsEffectInRange (total_has_room s (size_of p) 0) _ _ (λ fits. (omega arith, one-change (forks args) given)) (λ big. refusal)))
+      choice IsEffectInRange (total_has_room s (size_of p) 0) _ _ (λ fits. (omega arith, one-change (forks by_fork args) given)) (λ big. refusal)))
 
   exec-call : (at : ℕ) → IsEffectInRange (exec_effect s p id at)
   unfolding exec_effect

@@ -15,7 +15,7 @@ use Rattle.pr_parts.specs.FileCalls.{with_all_shared}
 use Rattle.pr_parts.specs.PendingSignals.{without_one}
 use Rattle.pr_lawful.proofs.FileLemmas.{choice}
 use Rattle.pr_model.specs.Changes.{Change, files_are, space_is, signals, signals_itself, takes_shared, job_stops, disposition_is, held_is, resumes, forks, reaps, becomes, makes_lwp, suspends, with_fds, with_space, with_shared_taken, with_job_stop, with_disposition_of, with_held, resumed, with_suspended, changed, all_changed}
-use Rattle.pr_model.specs.Lives.{bare_process, first_lwp, forked, forked_lwp, new_lwp, new_process, started, uncaught, with_child, with_new_lwp, with_program, with_spawned}
+use Rattle.pr_model.specs.Lives.{Birth, bare_process, first_lwp, forked, forked_lwp, new_lwp, new_process, started, uncaught, with_child, with_new_lwp, with_program, with_spawned}
 use Rattle.pr_model.specs.Machines.{child_control, exec_control, no_marks, traced}
 use Rattle.pr_model.specs.Signals.{is_kill}
 use Rattle.pr_model.specs.State.{TracedControl, TracedLwp, TracedProcess, TracedSystem, lwp_of, with_lwp}
@@ -69,9 +69,9 @@ child-control c h =
     choice IsControlInRange (has_flags c.modes fork_mode) _ _
     (λ forks. record { signals = h.signals; faults = h.faults; entries = h.entries; exits = h.exits; modes = omega arith; areas = All-nil IsAreaInRange; few_areas = omega arith }) (λ alone. nothing-set)
 
-forked_lwp-range : (args : List ℕ) (c : TracedControl) (l : TracedLwp) → AreArguments args → IsLwpInRange l → IsLwpInRange (forked_lwp traced args c l)
+forked_lwp-range : (birth : Birth) (args : List ℕ) (c : TracedControl) (l : TracedLwp) → AreArguments args → IsLwpInRange l → IsLwpInRange (forked_lwp traced birth args c l)
 unfolding forked_lwp traced
-forked_lwp-range args c l given h = record {
+forked_lwp-range birth args c l given h = record {
   regs = result_0-registers l.regs h.regs;
   held = h.held;
   frames = h.frames;
@@ -80,17 +80,17 @@ forked_lwp-range args c l given h = record {
   phase = (given, omega arith);
 }
 
-child-range : (s : TracedSystem) (pid : ℕ) (p : TracedProcess) (l : TracedLwp) (args : List ℕ) → AreArguments args → IsProcessInRange p → IsLwpInRange l → IsInRange s → IsInRange (with_child traced pid p l args s)
+child-range : (birth : Birth) (s : TracedSystem) (pid : ℕ) (p : TracedProcess) (l : TracedLwp) (args : List ℕ) → AreArguments args → IsProcessInRange p → IsLwpInRange l → IsInRange s → IsInRange (with_child traced birth pid p l args s)
 unfolding with_child forked traced
-child-range s pid p l args given own own_lwp h =
-    made-range (record s { files = with_all_shared s.files p.fds }) (forked traced pid p l args s.clock) (record {
+child-range birth s pid p l args given own own_lwp h =
+    made-range (record s { files = with_all_shared s.files p.fds }) (forked traced birth pid p l args s.clock) (record {
       program = own.program;
       made_at = let now = h.clock in omega arith;
       ended = tt;
       space = own.space;
       dispositions = own.dispositions;
       pending = nothing-words;
-      lwps = All-cons LwpInRange (1, forked_lwp traced args p.control l) [] (forked_lwp-range args p.control l given own_lwp) (All-nil LwpInRange);
+      lwps = All-cons LwpInRange (1, forked_lwp traced birth args p.control l) [] (forked_lwp-range birth args p.control l given own_lwp) (All-nil LwpInRange);
       control = child-control p.control own.control;
     }) (with_files s (with_all_shared s.files p.fds) (all_shared-range s.files p.fds h.files) h)
 
@@ -195,7 +195,7 @@ IsChangeInRange (job_stops g) = Unit {0}
 IsChangeInRange (disposition_is g d) = IsWord d
 IsChangeInRange (held_is held) = IsSignalSet held
 IsChangeInRange (resumes frame frames) = IsFrameInRange frame × All IsFrameInRange frames
-IsChangeInRange (forks args) = AreArguments args
+IsChangeInRange (forks birth args) = AreArguments args
 IsChangeInRange (reaps child) = Unit {0}
 IsChangeInRange (becomes program) = IsProgramInRange program
 IsChangeInRange (makes_lwp new regs held) = AreRegisters regs × IsSignalSet held
@@ -213,7 +213,7 @@ module _ (pid : ℕ) (p : TracedProcess) (id : ℕ) (l : TracedLwp) (own : IsPro
   changed-range (disposition_is g d) s it h = changed-one s pid (with_disposition_of g d) (disposition-keeps g d it) h
   changed-range (held_is held) s it h = changed-one s pid (with_lwp id (with_held held)) (keeps-one id (with_held held) (held-keeps held it)) h
   changed-range (resumes frame frames) s it h = changed-one s pid (with_lwp id (resumed frame frames)) (keeps-one id (resumed frame frames) (resumed-keeps frame frames it.0 it.1)) h
-  changed-range (forks args) s it h = choice IsInRange (s.made == pid) _ _ (λ own_id. h) (λ apart. child-range s pid p l args it own own_lwp h)
+  changed-range (forks birth args) s it h = choice IsInRange (s.made == pid) _ _ (λ own_id. h) (λ apart. child-range birth s pid p l args it own own_lwp h)
   changed-range (reaps child) s it h = choice IsInRange (child == pid) _ _ (λ itself. h) (λ apart. reaped-range s child h)
   changed-range (becomes program) s it h = changed-one s pid (with_program traced id l program) (program-keeps id l program own_lwp it) h
   changed-range (makes_lwp new regs held) s it h = changed-one s pid (with_new_lwp traced new regs held) (new-keeps new held regs it.0 it.1) h

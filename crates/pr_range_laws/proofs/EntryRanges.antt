@@ -23,7 +23,7 @@ use Rattle.pr_parts.specs.FileTables.{IsOpenPlace, at_place}
 use Rattle.pr_rec.specs.InRange.{IsFdEntry, IsListEntry, IsMapEntry, IsNameField, IsPsinfo, IsWatchEntry}
 use Rattle.pr_lawful.proofs.FileLemmas.{choice}
 use Rattle.pr_model.specs.Lawful.{HasParent, IsLawfulProcess, IsLawfulSystem, IsNumberedBelow}
-use Rattle.pr_model.specs.Readers.{size_of}
+use Rattle.pr_model.specs.Readers.{size_seen}
 use Rattle.pr_model.specs.Records.{fd_entries_from, fd_entry_before, fd_entry_of, fds_of, list_entries, list_entry_of, list_of, map_entry_of, map_of, mapping_name, psinfo_of, watch_entry_of, watch_of}
 use Rattle.pr_model.specs.State.{TracedProcess, TracedSystem, process_of}
 use Rattle.pr_range_laws.proofs.CallRanges.{parent-below, parent-id, process-id}
@@ -55,8 +55,8 @@ status-word : (o : Option ℕ) → IsWordIf o → IsWord (unwrap_or o 0)
 status-word None it = omega arith
 status-word (Some status) it = it
 
-pub psinfo-range : (s : TracedSystem) (pid : ℕ) (p : TracedProcess) → IsLawfulSystem s → IsInRange s → process_of s pid ≡ Some p → IsPsinfo (psinfo_of pid p)
-unfolding psinfo_of size_of
+pub psinfo-range : (s : TracedSystem) (pid : ℕ) (p : TracedProcess) → IsLawfulSystem s → IsInRange s → process_of s pid ≡ Some p → IsPsinfo (psinfo_of s pid p)
+unfolding psinfo_of size_seen
 psinfo-range s pid p lawful h found =
     let own = All-under IsLawfulProcess pid p s.processes lawful.processes found in
     let ranged = process-range s pid p h found in
@@ -101,7 +101,7 @@ maps-range program (m ∷ space) named small all =
     (record { at = own.at; size = omega arith; prot = own.prot; name = name-field (mapping_name program m.kind) (mapping-name program m.kind named) })
     (maps-range program space named (All-tail (IsWithin all_mappings_limit) m space small) (All-tail IsMappingInRange m space all))
 
-pub map-range : (s : TracedSystem) (pid : ℕ) (p : TracedProcess) → IsLawfulSystem s → IsInRange s → process_of s pid ≡ Some p → All IsMapEntry (map_of p)
+pub map-range : (s : TracedSystem) (pid : ℕ) (p : TracedProcess) → IsLawfulSystem s → IsInRange s → process_of s pid ≡ Some p → All IsMapEntry (map_of s p)
 unfolding map_of
 map-range s pid p lawful h found =
     let ranged = process-range s pid p h found in

@@ -26,7 +26,7 @@ use Rattle.pr_parts.specs.WatchedAreas.{area_address, begins_at, is_taken, with_
 use Rattle.pr_lawful.proofs.FileLemmas.{choice}
 use Rattle.pr_model.specs.Changes.{with_space}
 use Rattle.pr_model.specs.Messages.{Controlled, Aim, at_lwp, at_process, with_signal_set, lwp_without_one, with_held_set, with_registers, with_address, with_control, tracing_signals, tracing_faults, tracing_entries, tracing_exits, with_modes, without_modes, with_areas, lets_agent, agent_lwp, with_agent, on_found, aimed_lwp, on_stopped_found, with_aim_directed, run_found, found_at, run_answer, killed, is_kill_of, ssig_answer, pending_at, target_of_aim, kill_by, kill_answer, process_without_one, unkill_by, unkill_answer, watch_answer, agent_answer, read_of, mapped_bytes, read_answer, write_answer, message_answer}
-use Rattle.pr_model.specs.Readers.{space_seen}
+use Rattle.pr_num.specs.Spaces.{bytes_for}
 use Rattle.pr_model.specs.Running.{without_current, without_fault, with_step, with_abort, with_directive, without_directive, let_go, if_flag, is_entry_stop, is_asleep, with_abort_from, with_cleared, with_aborted, run_lwp, lwp_run_refused, run_refused, shows_run, was_requested, with_request, without_request, if_all_requested, with_flags_on, with_representative_run, with_all_run, with_one_run, runs_one, with_run}
 use Rattle.pr_model.specs.State.{TracedControl, TracedLwp, TracedProcess, TracedSystem, has_agent, lwp_of, with_lwp, with_process}
 use Rattle.pr_model.specs.Stops.{directed, has_event_stop, representative, with_all_directed}
@@ -323,8 +323,8 @@ module _ (s : TracedSystem) (pid : ℕ) (p : TracedProcess) (h : IsInRange s) (o
   write-range : (at : ℕ) (bytes : List ℕ) (len : ℕ) → All IsByte bytes → Ranged (write_answer s pid p at bytes len)
   unfolding write_answer Ranged
   write-range at bytes len all =
-      choice Ranged (is_ok (mapped_bytes s pid p at (length bytes))) _ _
-      (λ mapped. changed-one s pid (with_space (with_bytes at bytes (space_seen p))) (space-keeps (with_bytes at bytes (space_seen p)) (with_bytes-range at bytes all p.space own.space)) h) (λ hole. h)
+      choice Ranged (is_ok (bytes_for 0 p.space at (length bytes))) _ _
+      (λ mapped. changed-one s pid (with_space (with_bytes at bytes p.space)) (space-keeps (with_bytes at bytes p.space) (with_bytes-range at bytes all p.space own.space)) h) (λ hole. h)
 
   pub message-range : (aim : Aim) (m : Message) (tail : List ℕ) (len : ℕ) → IsReadMessage m tail → IsInRange (message_answer s pid p aim m tail len).system
   unfolding message_answer Ranged kill_answer unkill_answer read_answer operands operand_count bad_operand

@@ -233,7 +233,7 @@ heap-within (m ∷ space) =
 process-flags-below : (modes : ℕ) (system : Bool) → modes < 2 ^ 4 → process_flags_of modes system < 2 ^ 5
 process-flags-below modes system few = omega (arith, flag-le system 16)
 
-pub status-range : (s : TracedSystem) (pid : ℕ) (p : TracedProcess) → IsLawfulSystem s → IsInRange s → process_of s pid ≡ Some p → IsStatus (status_of pid p)
+pub status-range : (s : TracedSystem) (pid : ℕ) (p : TracedProcess) → IsLawfulSystem s → IsInRange s → process_of s pid ≡ Some p → IsStatus (status_of s pid p)
 unfolding status_of process_flags
 status-range s pid p lawful h found =
     let own = All-under IsLawfulProcess pid p s.processes lawful.processes found in

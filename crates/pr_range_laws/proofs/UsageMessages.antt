@@ -14,7 +14,7 @@ use Rattle.pr_parts.specs.WatchedAreas.{is_taken}
 use Rattle.pr_lawful.proofs.FileLemmas.{choice}
 use Rattle.pr_model.specs.Changes.{with_space}
 use Rattle.pr_model.specs.Messages.{Controlled, Aim, at_lwp, at_process, with_signal_set, lwp_without_one, with_control, tracing_signals, tracing_faults, tracing_entries, tracing_exits, with_modes, without_modes, with_areas, lets_agent, with_agent, on_found, aimed_lwp, on_stopped_found, with_aim_directed, run_found, found_at, run_answer, killed, is_kill_of, ssig_answer, pending_at, target_of_aim, kill_by, kill_answer, process_without_one, unkill_by, unkill_answer, watch_answer, agent_answer, read_of, mapped_bytes, read_answer, write_answer, message_answer}
-use Rattle.pr_model.specs.Readers.{space_seen}
+use Rattle.pr_num.specs.Spaces.{bytes_for}
 use Rattle.pr_model.specs.Running.{lwp_run_refused, run_refused, with_all_run, with_one_run, runs_one, with_run}
 use Rattle.pr_model.specs.State.{TracedControl, TracedLwp, TracedProcess, TracedSystem, has_agent, lwp_of, with_lwp, with_process}
 use Rattle.pr_model.specs.Stops.{has_event_stop, representative, with_all_directed}
@@ -117,8 +117,8 @@ module _ (most : ℕ) where
     write-used : (at : ℕ) (bytes : List ℕ) (len : ℕ) → Used (write_answer s pid p at bytes len)
     unfolding write_answer
     write-used at bytes len =
-        choice Used (is_ok (mapped_bytes s pid p at (length bytes))) _ _
-        (λ mapped. used-one most s pid (with_space (with_bytes at bytes (space_seen p))) (space-keeps most (with_bytes at bytes (space_seen p))) h) (λ hole. h)
+        choice Used (is_ok (bytes_for 0 p.space at (length bytes))) _ _
+        (λ mapped. used-one most s pid (with_space (with_bytes at bytes p.space)) (space-keeps most (with_bytes at bytes p.space)) h) (λ hole. h)
 
     pub message-used : (aim : Aim) (m : Message) (tail : List ℕ) (len : ℕ) → HaveUsed most (message_answer s pid p aim m tail len).system
     unfolding message_answer kill_answer unkill_answer read_answer tracing_signals tracing_faults tracing_entries tracing_exits with_modes without_modes

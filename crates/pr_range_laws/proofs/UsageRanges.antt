@@ -14,7 +14,7 @@ use Rattle.pr_parts.specs.SignalRules.{deleted_by}
 use Rattle.pr_lawful.proofs.FileLemmas.{choice}
 use Rattle.pr_model.specs.Changes.{Change, files_are, space_is, signals, signals_itself, takes_shared, job_stops, disposition_is, held_is, resumes, forks, reaps, becomes, makes_lwp, suspends, Ending, ends_lwp, ends_process, all_changed, changed, ended, with_disposition_of, with_fds, with_job_stop, with_shared_taken, with_space}
 use Rattle.pr_model.specs.Generation.{ends_job_stop, told, with_deletions, with_pending, without_job_stop, without_pending}
-use Rattle.pr_model.specs.Lives.{bare_process, ended_if_live, forked, new_process, orphaned, with_child, with_ended, with_lwp_ended, with_made, with_new_lwp, with_parent_told, with_program, with_reaped, with_spawned, with_this_ended, without_lwp, zombie}
+use Rattle.pr_model.specs.Lives.{Birth, bare_process, ended_if_live, forked, new_process, orphaned, with_child, with_ended, with_lwp_ended, with_made, with_new_lwp, with_parent_told, with_program, with_reaped, with_spawned, with_this_ended, without_lwp, zombie}
 use Rattle.pr_model.specs.Machines.{child_control, exec_control, nothing_set, nothing_used, traced, zombie_control}
 use Rattle.pr_model.specs.Points.{after_meeting, is_traced, with_others_directed, with_stop_at}
 use Rattle.pr_model.specs.Signals.{generated, is_kill}
@@ -77,10 +77,10 @@ module _ (most : ℕ) where
   unfolding child_control nothing_set
   child-used c = choice (λ (x : TracedControl). IsUsedWithin most x.usage) (has_flags c.modes fork_mode) _ _ (λ forks. nothing-used most) (λ alone. nothing-used most)
 
-  forked-used : (s : TracedSystem) (pid : ℕ) (p : TracedProcess) (l : TracedLwp) (args : List ℕ) → HaveUsed most s → HaveUsed most (with_child traced pid p l args s)
+  forked-used : (birth : Birth) (s : TracedSystem) (pid : ℕ) (p : TracedProcess) (l : TracedLwp) (args : List ℕ) → HaveUsed most s → HaveUsed most (with_child traced birth pid p l args s)
   unfolding with_child forked traced
-  forked-used s pid p l args h =
-      used-made (record s { files = with_all_shared s.files p.fds }) (forked traced pid p l args s.clock) (child-used p.control) (record { processes = h.processes })
+  forked-used birth s pid p l args h =
+      used-made (record s { files = with_all_shared s.files p.fds }) (forked traced birth pid p l args s.clock) (child-used p.control) (record { processes = h.processes })
 
   zombie-keeps : (status : ℕ) → Keeps (zombie traced status)
   unfolding zombie traced zombie_control
@@ -160,7 +160,7 @@ module _ (most : ℕ) where
     changed-used (disposition_is g d) s h = used-one s pid (with_disposition_of g d) (disposition-keeps g d) h
     changed-used (held_is held) s h = used-one s pid (with_lwp id _) (lwp-keeps id _) h
     changed-used (resumes frame frames) s h = used-one s pid (with_lwp id _) (lwp-keeps id _) h
-    changed-used (forks args) s h = choice (HaveUsed most) (s.made == pid) _ _ (λ own_id. h) (λ apart. forked-used s pid p l args h)
+    changed-used (forks birth args) s h = choice (HaveUsed most) (s.made == pid) _ _ (λ own_id. h) (λ apart. forked-used birth s pid p l args h)
     changed-used (reaps child) s h = choice (HaveUsed most) (child == pid) _ _ (λ itself. h) (λ apart. record { processes = All-without_id UsedWithin child s.processes h.processes })
     changed-used (becomes program) s h = used-one s pid (with_program traced id l program) (program-keeps id l program) h
     changed-used (makes_lwp new regs held) s h = used-one s pid (with_new_lwp traced new regs held) (new-keeps new held regs) h

@@ -12,11 +12,11 @@ use Rattle.pr_model.specs.Statuses.{lwpstatus_of, status_of}
 -- those of a process, live or a zombie: "status", "lstatus", "lwpstatus" of each lwp, "psinfo", "map", "sigact",
 -- "watch" and "fds"
 pub record HasRecordsInRange (s : TracedSystem) (pid : ℕ) (p : TracedProcess) : Type 0 where
-  pub status : IsStatus (status_of pid p)
+  pub status : IsStatus (status_of s pid p)
   pub lstatus : All IsLwpStatus (lstatus_of p)
   pub lwpstatus : (id : ℕ) (l : TracedLwp) → lwp_of p id ≡ Some l → IsLwpStatus (lwpstatus_of p id l)
-  pub psinfo : IsPsinfo (psinfo_of pid p)
-  pub mappings : All IsMapEntry (map_of p)
+  pub psinfo : IsPsinfo (psinfo_of s pid p)
+  pub mappings : All IsMapEntry (map_of s p)
   pub dispositions : All IsWord p.dispositions
   pub signals : length p.dispositions ≡ signal_count
   pub areas : All IsWatchEntry (watch_of p)
