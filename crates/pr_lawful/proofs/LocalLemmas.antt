@@ -37,7 +37,7 @@ keeps-if false f g one other next id l h = other next id l h
 
 -- ---- processes
 
--- a live process is no zombie that could have something
+-- what a zombie has no more is asked of no live process
 pub live-empty : (x : TracedProcess) → x.ended ≡ None → IsEmptyZombie x
 live-empty x live = record {
   no_lwps = λ status is. absurd (none-some status (sym live ∙ is));
@@ -115,7 +115,7 @@ same_lwps x y lwps next = record {
   lawful = λ h. rw (next, lwps) h;
 }
 
--- lwps changed in their places
+-- an lwp is changed in its place, where that leaves the one that stands there lawful, or any lwp; and all are changed
 pub changed_one : (x : TracedProcess) (id : ℕ) (f : TracedLwp → TracedLwp) → ((l : TracedLwp) → lwp_of x id ≡ Some l → IsLawfulLwp x.next_lwp (id, l) → IsLawfulLwp x.next_lwp (id, f l)) → SameLwps x (record x { lwps = change_under id f x.lwps })
 changed_one x id f keeps = record {
   count = length-change_under id f x.lwps;
