@@ -32,7 +32,7 @@ use Rattle.pr_model.specs.Generation.{told}
 use Rattle.pr_model.specs.Handles.{released, with_closed, with_opened}
 use Rattle.pr_model.specs.Lawful.{IsLawful, IsLawfulSystem}
 use Rattle.pr_model.specs.Legal.{IsLegalEntry, after}
-use Rattle.pr_model.specs.Lives.{ended_if_live, forked, new_process, orphaned, with_child, with_ended, with_lwp_ended, with_made, with_parent_told, with_reaped, with_spawned, with_this_ended, zombie}
+use Rattle.pr_model.specs.Lives.{Birth, ended_if_live, forked, new_process, orphaned, with_child, with_ended, with_lwp_ended, with_made, with_parent_told, with_reaped, with_spawned, with_this_ended, zombie}
 use Rattle.pr_model.specs.LwpTurns.{LwpTurn, settled, turn_of, with_counted}
 use Rattle.pr_model.specs.Machines.{traced}
 use Rattle.pr_model.specs.Moves.{moved}
@@ -198,11 +198,12 @@ module _ (pid : ℕ) where
     unless-over : (b : Bool) (s t : TracedSystem) → IsOver pid s → IsOver pid t → IsOver pid (cond b s t)
     unless-over b s t o done = choice (IsOver pid) b s t (λ is. o) (λ is. done)
 
-    child-over : (args : List ℕ) (s : TracedSystem) → IsOver pid s → IsOver pid (with_child traced acting p l args s)
+    child-over : (birth : Birth) (args : List ℕ) (s : TracedSystem) → IsOver pid s
+        → IsOver pid (with_child traced birth acting p l args s)
     unfolding with_child
-    child-over args s o =
+    child-over birth args s o =
         let shared : TracedSystem = record s { files = with_all_shared s.files p.fds } in
-        made-over (forked traced acting p l args s.clock) shared (files-over s shared refl refl o)
+        made-over (forked traced birth acting p l args s.clock) shared (files-over s shared refl refl o)
 
     changed-over : (c : Change) (s : TracedSystem) → IsOver pid s → IsOver pid (changed traced acting p id l c s)
     unfolding changed
@@ -215,7 +216,7 @@ module _ (pid : ℕ) where
     changed-over (disposition_is g disposition) s o = acting-over _ s o
     changed-over (held_is held) s o = acting-over _ s o
     changed-over (resumes frame frames) s o = acting-over _ s o
-    changed-over (forks args) s o = unless-over (s.made == acting) s _ o (child-over args s o)
+    changed-over (forks birth args) s o = unless-over (s.made == acting) s _ o (child-over birth args s o)
     changed-over (reaps child) s o = unless-over (child == acting) s _ o (reaped-over child s o)
     changed-over (becomes program) s o = acting-over _ s o
     changed-over (makes_lwp fresh regs held) s o = acting-over _ s o

@@ -146,7 +146,9 @@ module _ (q : TracedProcess) (id : ℕ) (k : TracedLwp) where
   unfolding event_shown lwpstatus_of shown reason_shown what_shown call_in arguments_in
   entry-told call stops at = rw (stops, at) (ap (option_map (λ c. Entered c (arguments k.regs))) (named call))
 
-  exit-told : (call : Sysno) (args : List ℕ) (result : Res) → k.control.stop ≡ Some (stop.SysExit call) → k.phase ≡ phase.Exiting call args result → is_result result ≡ true → event_shown (lwpstatus_of q id k) ≡ option_map (Left call args) (result_told result)
+  pub exit-told : (call : Sysno) (args : List ℕ) (result : Res) → k.control.stop ≡ Some (stop.SysExit call)
+      → k.phase ≡ phase.Exiting call args result → is_result result ≡ true
+      → event_shown (lwpstatus_of q id k) ≡ option_map (Left call args) (result_told result)
   unfolding event_shown lwpstatus_of shown reason_shown what_shown call_in arguments_in result_in errno_in
   exit-told call args (Value v) stops at is = rw (stops, at) (ap (option_map (λ c. Left c args (Ok v))) (named call))
   exit-told call args (Error e) stops at is = rw (stops, at) (ap (option_map (λ c. Left c args (Err e))) (named call))
