@@ -1,3 +1,4 @@
+use Rattle.pr_num.specs.Spaces.{Space, bytes_for}
 use Rattle.std.proofs.Common.{◌||◌, ◌==◌, ℕ, Bool, true, false, cond, not, is_ok, leb, Option, Some, None, Result, Ok, Err, List, length, refl, ap}
 use Rattle.std.specs.List.{list_all}
 use Rattle.pr_num.specs.Agents.{agent_id}
@@ -18,7 +19,6 @@ use Rattle.pr_lawful.proofs.FileLemmas.{choice}
 use Rattle.pr_model.specs.Changes.{with_space}
 use Rattle.pr_model.specs.Lives.{new_lwp}
 use Rattle.pr_model.specs.Messages.{Controlled, Aim, at_lwp, at_process, with_signal_set, lwp_without_one, with_held_set, with_registers, with_address, with_control, tracing_signals, tracing_faults, tracing_entries, tracing_exits, with_modes, without_modes, with_areas, lets_agent, agent_lwp, with_agent, on_found, aimed_lwp, on_stopped_found, with_aim_directed, run_found, found_at, run_answer, killed, is_kill_of, ssig_answer, pending_at, target_of_aim, kill_by, kill_answer, process_without_one, unkill_by, unkill_answer, watch_answer, agent_answer, read_of, mapped_bytes, read_answer, write_answer, message_answer}
-use Rattle.pr_model.specs.Readers.{space_seen}
 use Rattle.pr_model.specs.Running.{without_current, without_fault, with_step, with_abort, with_directive, without_directive, let_go, if_flag, is_entry_stop, is_asleep, with_abort_from, with_cleared, with_aborted, run_lwp, lwp_run_refused, run_refused, shows_run, was_requested, with_request, without_request, if_all_requested, with_flags_on, with_representative_run, with_all_run, with_one_run, runs_one, with_run}
 use Rattle.pr_model.specs.State.{TracedControl, TracedLwp, TracedProcess, TracedSystem, has_agent, lwp_of, with_lwp, with_process}
 use Rattle.pr_model.specs.Stops.{directed, has_event_stop, representative, with_all_directed}
@@ -238,8 +238,9 @@ module _ (s : TracedSystem) (pid : ℕ) (p : TracedProcess) (h : IsFitSystem s) 
   write-fits : (at : ℕ) (bytes : List ℕ) (len : ℕ) → Fits (write_answer s pid p at bytes len)
   unfolding write_answer Fits
   write-fits at bytes len =
-      choice Fits (is_ok (mapped_bytes s pid p at (length bytes))) _ _
-      (λ mapped. changed-one s pid (with_space (with_bytes at bytes (space_seen p))) (space-keeps (with_bytes at bytes (space_seen p))) h) (λ hole. h)
+      let written : Space = with_bytes at bytes p.space in
+      choice Fits (is_ok (bytes_for 0 p.space at (length bytes))) _ _
+      (λ mapped. changed-one s pid (with_space written) (space-keeps written) h) (λ hole. h)
 
   pub message-fits : (aim : Aim) (m : Message) (tail : List ℕ) (len : ℕ) → IsFitSystem (message_answer s pid p aim m tail len).system
   unfolding message_answer Fits kill_answer unkill_answer read_answer
