@@ -70,12 +70,15 @@ use Rattle.pr_report_laws.specs.Watching.{told_of, with_exchange}
 
 -- ---- a read of memory
 
-memory-is : (s : TracedSystem) (pid from len : ℕ) (p : TracedProcess) → live_process s pid ≡ Some p → of_process s pid 0 from len Mem (read_process s pid Mem) ≡ unless_none (mapped_from (space_seen p) from len)
+memory-is : (s : TracedSystem) (pid from len : ℕ) (p : TracedProcess) → live_process s pid ≡ Some p
+    → of_process s pid 0 from len Mem (read_process s pid Mem) ≡ unless_none (mapped_from (space_seen s p) from len)
 unfolding read_process file_reply
 memory-is s pid from len p live = ap (of_process s pid 0 from len Mem) live
 
 -- the same is read of live processes with the same memory
-same-read : (s u : TracedSystem) (pid from len : ℕ) (p q : TracedProcess) → live_process s pid ≡ Some p → live_process u pid ≡ Some q → space_seen p ≡ space_seen q → file_read s pid 0 from len Mem ≡ file_read u pid 0 from len Mem
+same-read : (s u : TracedSystem) (pid from len : ℕ) (p q : TracedProcess) → live_process s pid ≡ Some p
+    → live_process u pid ≡ Some q → space_seen s p ≡ space_seen u q
+    → file_read s pid 0 from len Mem ≡ file_read u pid 0 from len Mem
 unfolding file_read
 same-read s u pid from len p q live there same =
     ap (λ (r : Reply). cond ((len == 0) || nat_lt read_limit len) (Fail Inval) r)
@@ -261,7 +264,9 @@ module _ (n k : ℕ) (o : Options) (s : TracedState) (h : List Entry) (lawful : 
     of-event = by text-read
       where
         by-memory : (q : TracedProcess) (then : TracedState) (between : List Entry) → live_process then.system pid ≡ Some q → Stays k o pid s q then between now → (text ≡ text_of len (bytes_in (file_read then.system pid 0 from len Mem))) ⊎ WasKilled pid then between
-        by-memory q then between lives (halts p live halting same) = inl (m.stood ∙ ap (λ (x : Reply). text_of len (bytes_in x)) (same-read now.system then.system pid from len p q live lives same))
+        by-memory q then between lives (halts p live halting memory) =
+            let same = same-read now.system then.system pid from len p q live lives memory.space in
+            inl (m.stood ∙ ap (λ (x : Reply). text_of len (bytes_in x)) same)
         by-memory q then between lives (over none killed) = inr killed
 
         by : ReadsText k reached now its.1.0 its.1.1.0 m.handle from len its.1.1.1 pid m.held m.there m.of m.file → IsOfItsEvent k o pid from len s h earlier l text

@@ -66,7 +66,7 @@ live-there : (s : TracedSystem) (pid id from len : ℕ) (p : TracedProcess) (f :
 unfolding file_reply answer_of
 live-there s pid id from len p file.Status is gone = cc
 live-there s pid id from len p file.Lstatus is gone = cc
-live-there s pid id from len p file.Mem is gone = memory-there (mapped_from (space_seen p) from len) gone
+live-there s pid id from len p file.Mem is gone = memory-there (mapped_from (space_seen s p) from len) gone
 live-there s pid id from len p file.Ctl is gone = absurd (false≢true is)
 live-there s pid id from len p file.Lwpctl is gone = absurd (false≢true is)
 live-there s pid id from len p file.Psinfo is gone = absurd (false≢true is)

@@ -13,7 +13,7 @@ use Rattle.pr_num.proofs.ByIdLaws.{All-under}
 use Rattle.pr_num.specs.Agents.{agent_id}
 use Rattle.pr_num.specs.ById.{IsRising, under}
 use Rattle.pr_num.specs.Control.{fork_mode}
-use Rattle.pr_truss.specs.Messages.{traced_entries, traced_exits}
+use Rattle.pr_truss.specs.Messages.{traced_entries, traced_exits, traced_faults, traced_signals}
 use Rattle.pr_truss_laws.proofs.OneEventLemmas.{or-some, some-or}
 use Rattle.pr_truss_laws.specs.Stills.{IsFrozen}
 use Rattle.pr_report_laws.proofs.SettingLaws.{HasPlainModes, follow-plain, set-halting, set-waits}
@@ -128,18 +128,28 @@ pub plain-of : (p : TracedProcess) → IsSpared p → HasPlainModes p.control
 plain-of p h = record { directs = h.directs; spares = h.spares }
 
 module _ (o : Options) (p : TracedProcess) (old : ℕ) where
-  pub with-signals : IsCounted p old → HasSignals o (with_control (tracing_signals o.signals) p) old
+  pub with-signals : IsCounted p old → HasSignals o (with_control (tracing_signals (traced_signals o)) p) old
   unfolding with_control tracing_signals
   with-signals h =
       let plain = plain-of p h.attached.spared in
-      record { counted = counted-kept (tracing_signals o.signals) p old (record { directs = plain.directs; spares = plain.spares }) h; signals = refl }
+      record {
+        counted =
+            counted-kept (tracing_signals (traced_signals o)) p old
+            (record { directs = plain.directs; spares = plain.spares }) h;
+        signals = refl;
+      }
 
-  pub with-faults : HasSignals o p old → HasFaults o (with_control (tracing_faults (o.faults % 2 ^ 64)) p) old
+  pub with-faults : HasSignals o p old → HasFaults o (with_control (tracing_faults (traced_faults o % 2 ^ 64)) p) old
   unfolding with_control tracing_faults
   with-faults h =
       let plain = plain-of p h.counted.attached.spared in
       record {
-        before = record { counted = counted-kept (tracing_faults (o.faults % 2 ^ 64)) p old (record { directs = plain.directs; spares = plain.spares }) h.counted; signals = h.signals };
+        before = record {
+          counted =
+              counted-kept (tracing_faults (traced_faults o % 2 ^ 64)) p old
+              (record { directs = plain.directs; spares = plain.spares }) h.counted;
+          signals = h.signals;
+        };
         faults = refl;
       }
 

@@ -64,7 +64,7 @@ use Rattle.pr_report_laws.specs.Shown.{LwpEvent}
 
 -- the records of a process that truss reads have their fields in their ranges
 pub record ReadsBack (pid : ℕ) (s : TracedState) : Type 0 where
-  pub status : (p : TracedProcess) → live_process s.system pid ≡ Some p → IsStatus (status_of pid p)
+  pub status : (p : TracedProcess) → live_process s.system pid ≡ Some p → IsStatus (status_of s.system pid p)
   pub lwps : (p : TracedProcess) → live_process s.system pid ≡ Some p → All IsLwpStatus (lstatus_of p)
 
 -- a call of truss in a state, and what is known of both
@@ -120,10 +120,12 @@ lwps-tell p r rises fit accepted is = record {
 }
 
 -- where the representative stands on the event that is not read yet, the status of the process tells that event
-representative-tells : (pid : ℕ) (p : TracedProcess) (id : ℕ) (event : Event) (has : HasEvent p id event) → representative p ≡ Some (id, has.lwp) → (event_of (status_of pid p).lwp ≡ Some event) × ((status_of pid p).lwp.id ≡ id)
+representative-tells : (s : TracedSystem) (pid : ℕ) (p : TracedProcess) (id : ℕ) (event : Event)
+    (has : HasEvent p id event) → representative p ≡ Some (id, has.lwp)
+    → (event_of (status_of s pid p).lwp ≡ Some event) × ((status_of s pid p).lwp.id ≡ id)
 unfolding lwpstatus_of
-representative-tells pid p id event has first =
-    let is = reads.representative-told pid p (id, has.lwp) first in
+representative-tells s pid p id event has first =
+    let is = reads.representative-told s pid p (id, has.lwp) first in
     (ap event_of is ∙ has.tells, ap (λ (l : LwpStatus). l.id) is)
 
 module _ (k : ℕ) (o : Options) (pid : ℕ) (t : TrussState) (s : TracedState) (c : Call) (a : Answer) (i : IsCall k o pid t s c a) (K Ends : Type 0) (leaves : Leaves Ends pid t s a.state) (base : List LwpEvent) (standing : Standing (Lost K pid s) o pid t s base) where
@@ -234,17 +236,21 @@ module _ (k : ℕ) (o : Options) (pid : ℕ) (t : TrussState) (s : TracedState) 
           let rises = live-rising s.system pid p i.lawful.system live in
           record {
             accepted = sees.accepted;
-            lwp = (status_of pid p).lwp;
+            lwp = (status_of s.system pid p).lwp;
             read = sees.lwp;
             waits = λ no_agent n waits. met p live (waits-first p rises no_agent n waits);
-            tells = λ no_agent id event has waits. representative-tells pid p id event has (event-first p rises no_agent id event has (waits-stopped p rises no_agent 0 waits));
+            tells = λ no_agent id event has waits.
+                representative-tells s.system pid p id event has
+                (event-first p rises no_agent id event has (waits-stopped p rises no_agent 0 waits));
           }
         where
-          met : (p : TracedProcess) → live_process s.system pid ≡ Some p → HasMetFirst p → is_on_event (status_of pid p).lwp ≡ true
+          met : (p : TracedProcess) → live_process s.system pid ≡ Some p → HasMetFirst p
+              → is_on_event (status_of s.system pid p).lwp ≡ true
           met p live first =
               let rises = live-rising s.system pid p i.lawful.system live in
               let fit = fit-lwp p first.lwp.0 first.lwp.1 (fit-process s.system pid p i.fit live) (representative-stands p first.lwp rises first.is) in
-              ap is_on_event (reads.representative-told pid p first.lwp first.is) ∙ stops.on-where-met p first.lwp.0 first.lwp.1 fit ∙ first.met
+              ap is_on_event (reads.representative-told s.system pid p first.lwp first.is)
+              ∙ stops.on-where-met p first.lwp.0 first.lwp.1 fit ∙ first.met
 
   -- ---- the memory of an event
 

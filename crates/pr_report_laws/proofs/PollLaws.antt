@@ -220,7 +220,9 @@ module _ (s : TracedSystem) (pid : ℕ) (p : TracedProcess) where
 
   write-calm : (at : ℕ) (bytes : List ℕ) (len : ℕ) → IsCalm (write_answer s pid p at bytes len)
   unfolding write_answer
-  write-calm at bytes len = either _ _ _ (calm (with_process pid (with_space (with_bytes at bytes (space_seen p))) s) (reply.Used len) refl) (calm s (reply.Fail Io) refl)
+  write-calm at bytes len =
+      either _ _ _ (calm (with_process pid (with_space (with_bytes at bytes p.space)) s) (reply.Used len) refl)
+      (calm s (reply.Fail Io) refl)
 
   message-calm : (aim : Aim) (m : Message) (tail : List ℕ) (len : ℕ) → IsCalm (message_answer s pid p aim m tail len)
   unfolding message_answer kill_message unkill_answer
@@ -331,7 +333,7 @@ file-calm : (s : TracedSystem) (pid : ℕ) (p : TracedProcess) (id from len : �
 unfolding file_reply
 file-calm s pid p id from len file.Ctl = made (reply.Fail Badf) refl
 file-calm s pid p id from len file.Lwpctl = made (reply.Fail Badf) refl
-file-calm s pid p id from len file.Mem = bytes-calm (mapped_from (space_seen p) from len)
+file-calm s pid p id from len file.Mem = bytes-calm (mapped_from (space_seen s p) from len)
 file-calm s pid p id from len file.Lwpstatus = lwp-calm p id from len (lwp_of p id)
 file-calm s pid p id from len _ = made (reply.Bytes _) refl
 

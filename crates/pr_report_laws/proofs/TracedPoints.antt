@@ -1,6 +1,6 @@
 use Rattle.std.proofs.Common.{◌≡◌, ◌≢◌, ◌==◌, ◌&&◌, ◌<◌, ◌≤◌, ◌-◌, ◌^◌, lit≤, ℕ, Bool, true, false, cond, not, is_some, None, Some, Option, List, [], ◌∷◌, Result, Ok, Err, refl, sym, subst, ap, ◌∙◌, arith, inl, inr}
 use Rattle.std.proofs.Math.Bool.{and_comm}
-use Rattle.std.proofs.lemmas.Bool.{false≢true, cases_Bool, eqb-true, eq-eqb, ne_eqb, or_parts, and_parts}
+use Rattle.std.proofs.lemmas.Bool.{false≢true, cases_Bool, eqb-true, eq-eqb, ne_eqb, and_parts}
 use Rattle.std.proofs.lemmas.Option.{same_Some, none-some}
 use Rattle.std.specs.List.{cons_option}
 use Rattle.std.specs.Option.{option_and_then, option_map}
@@ -9,14 +9,13 @@ use Rattle.pr_line.specs.declared.events.Event.{Event}
 use Rattle.pr_line.specs.declared.events.Event.TheVariants.{Entered, Left, Received, Incurred}
 use Rattle.pr_line.specs.declared.options.Options.{Options}
 use Rattle.pr_num.proofs.ByIdLaws.{All-under}
-use Rattle.pr_num.proofs.EntryLemmas.{fault_numbers-range, fault_of_number-number, syscall_numbers-range, syscall_of_number-number}
+use Rattle.pr_num.proofs.EntryLemmas.{fault_numbers-range, fault_of_number-number}
 use Rattle.pr_num.proofs.NumberedLemmas.{has_number-least_signal, signal_number-range}
-use Rattle.pr_num.proofs.SetLemmas.{has_number-common, has_number-minus, has_number-with, has_number-without}
+use Rattle.pr_num.proofs.SetLemmas.{has_number-common, has_number-minus, has_number-without}
 use Rattle.pr_num.specs.Faults.{fault_number}
-use Rattle.pr_num.specs.Limits.{syscall_count}
 use Rattle.pr_num.specs.Sets.{common_word, has_number, minus_word, union_word, with_number}
 use Rattle.pr_num.specs.Signals.{least_signal, signal_number}
-use Rattle.pr_num.specs.Syscalls.{syscall_number}
+use Rattle.pr_num.specs.Syscalls.{is_fork_call, syscall_number}
 use Rattle.pr_num.specs.declared.errnos.Errno.{Errno}
 use Rattle.pr_num.specs.declared.errnos.Errno.TheVariants.{Intr}
 use Rattle.pr_num.specs.declared.faults.Flt.{Flt}
@@ -56,7 +55,8 @@ use Rattle.pr_model.specs.declared.lwps.Phase.{Phase}
 use Rattle.pr_model.specs.declared.lwps.Phase.TheVariants as phase
 use Rattle.pr_model.specs.declared.stops.Point.{Point}
 use Rattle.pr_model.specs.declared.stops.Point.TheVariants as point
-use Rattle.pr_truss.specs.Messages.{ending_calls, traced_entries, traced_exits}
+use Rattle.pr_truss.proofs.ForkLemmas.{call_number-range, with_forks-has, with_forks-others}
+use Rattle.pr_truss.specs.Messages.{ending_calls, traced_entries, traced_exits, traced_faults, traced_signals, with_forks}
 use Rattle.pr_truss_laws.proofs.ToldLemmas.{is_result}
 use Rattle.pr_truss_laws.specs.Told.{has_ended, told}
 use Rattle.pr_report_laws.proofs.CallResults.{IsAnswered, call-answered}
@@ -134,9 +134,6 @@ ending_calls-small : ending_calls < 2 ^ 64
 unfolding ending_calls syscall_number with_number union_word
 ending_calls-small = lit≤ tt
 
-pub call_number-range : (c : Sysno) → (1 ≤ syscall_number c) × (syscall_number c ≤ syscall_count)
-call_number-range c = (syscall_numbers-range (syscall_number c)).0 (ap is_some (syscall_of_number-number c))
-
 unselected : (o : Options) (e : Event) → is_selected o e ≡ false → if_selected o e ≡ None
 unselected o e off = ap (λ b. cond b (Some e) None) off
 
@@ -160,8 +157,17 @@ module _ (o : Options) (p : TracedProcess) (traced_by : IsTracedBy o p) where
   unfolding traced_exits
   exit-lacks c = by o.follow
     where
-      by : (b : Bool) → has_number (cond b (with_number (minus_word o.calls ending_calls) (syscall_number call.Fork)) (minus_word o.calls ending_calls)) (syscall_number c) ≡ false → has_number (minus_word o.calls ending_calls) (syscall_number c) ≡ false
-      by true off = (or_parts _ _ (sym (has_number-with (minus_word o.calls ending_calls) (syscall_number call.Fork) (syscall_number c) (call_number-range call.Fork).0 (call_number-range c).0) ∙ off)).0
+      others : ℕ
+      others = minus_word o.calls ending_calls
+
+      added : (b : Bool) → is_fork_call c ≡ b → has_number (with_forks others) (syscall_number c) ≡ false
+          → has_number others (syscall_number c) ≡ false
+      added true makes off = absurd (false≢true (sym off ∙ with_forks-has others c makes))
+      added false other off = sym (with_forks-others others c other) ∙ off
+
+      by : (b : Bool) → has_number (cond b (with_forks others) others) (syscall_number c) ≡ false
+          → has_number others (syscall_number c) ≡ false
+      by true off = added (is_fork_call c) refl off
       by false off = off
 
   exit-unselected : (c : Sysno) (args : List ℕ) (r : Result ℕ Errno) → is_traced p.control (point.Exit c) ≡ false → if_selected o (Left c args r) ≡ None
@@ -173,21 +179,26 @@ module _ (o : Options) (p : TracedProcess) (traced_by : IsTracedBy o p) where
       unselected o (Left c args r) (no-line (never_returns c) (is_birth c r) (has_number o.calls (syscall_number c)) both)
 
   signal-unselected : (g : Sig) (d : Disposition) (info : Info) → (signal_number g == signal_number Kill) ≡ false → is_traced p.control (point.Signal g) ≡ false → if_selected o (Received g d info) ≡ None
-  unfolding is_traced is_selected has_line is_chosen
+  unfolding is_traced traced_signals is_selected has_line is_chosen
   signal-unselected g d info not_kill off =
       let range = signal_number-range g in
       let kill = signal_number-range Kill in
-      let has = sym (has_number-without o.signals (signal_number Kill) (signal_number g) (omega arith) (omega arith) (omega arith) (omega arith)) ∙ ap (λ w. has_number w (signal_number g)) (sym traced_by.signals) ∙ off in
+      let has =
+      sym (has_number-without (traced_signals o) (signal_number Kill) (signal_number g) (omega arith) (omega arith)
+      (omega arith) (omega arith))
+      ∙ ap (λ w. has_number w (signal_number g)) (sym traced_by.signals) ∙ off in
       unselected o (Received g d info) (without-not (has_number o.signals (signal_number g)) (signal_number g == signal_number Kill) not_kill has)
 
   fault_number-range : (f : Flt) → (1 ≤ fault_number f) × (fault_number f ≤ 8)
   fault_number-range f = (fault_numbers-range (fault_number f)).0 (ap is_some (fault_of_number-number f))
 
   fault-unselected : (f : Flt) (pc : ℕ) → is_traced p.control (point.Fault f) ≡ false → if_selected o (Incurred f pc) ≡ None
-  unfolding is_traced is_selected has_line is_chosen
+  unfolding is_traced traced_faults is_selected has_line is_chosen
   fault-unselected f pc off =
       let range = fault_number-range f in
-      let has = sym (wrapped-has o.faults (fault_number f) (omega arith) (omega arith)) ∙ ap (λ w. has_number w (fault_number f)) (sym traced_by.faults) ∙ off in
+      let has =
+      sym (wrapped-has (traced_faults o) (fault_number f) (omega arith) (omega arith))
+      ∙ ap (λ w. has_number w (fault_number f)) (sym traced_by.faults) ∙ off in
       unselected o (Incurred f pc) has
 
   -- ---- the row of a turn
