@@ -13,7 +13,6 @@ use Rattle.pr_parts.specs.PendingSignals.{has_room}
 use Rattle.pr_parts.specs.WatchedAreas.{is_taken, with_area, without_area}
 use Rattle.pr_model.specs.Changes.{with_space}
 use Rattle.pr_model.specs.Messages.{Controlled, Aim, at_lwp, at_process, with_signal_set, lwp_without_one, with_held_set, with_registers, with_address, with_control, tracing_signals, tracing_faults, tracing_entries, tracing_exits, with_modes, without_modes, with_areas, lets_agent, with_agent, on_found, aimed_lwp, on_stopped_found, with_aim_directed, run_found, found_at, run_answer, killed, is_kill_of, ssig_answer, pending_at, target_of_aim, kill_by, kill_answer, process_without_one, unkill_by, unkill_answer, watch_answer, agent_answer, read_of, mapped_bytes, read_answer, write_answer, message_answer}
-use Rattle.pr_model.specs.Readers.{space_seen}
 use Rattle.pr_model.specs.Running.{without_current, without_fault, with_step, with_abort, with_directive, without_directive, let_go, if_flag, is_entry_stop, is_asleep, with_cleared, with_aborted, run_lwp, lwp_run_refused, run_refused, shows_run, was_requested, with_request, without_request, if_all_requested, with_flags_on, with_representative_run, with_all_run, with_one_run, runs_one, with_run}
 use Rattle.pr_model.specs.State.{TracedControl, TracedLwp, TracedProcess, TracedSystem, has_agent, lwp_of, with_process, with_lwp}
 use Rattle.pr_model.specs.Stops.{directed, has_event_stop, representative, with_all_directed}
@@ -253,7 +252,7 @@ module _ (s : TracedSystem) (pid : ℕ) (p : TracedProcess) (tail : List ℕ) (l
   unfolding write_answer
   write-made at size =
       choice (Made (message.Write at size)) (is_ok (mapped_bytes s pid p at (length tail))) _ _
-      (λ mapped. one-process (message.Write at size) (with_space (with_bytes at tail (space_seen p)))
+      (λ mapped. one-process (message.Write at size) (with_space (with_bytes at tail p.space))
       (process.is_written mapped)) (λ hole. edit.nothing)
 
   by-one : (m : Message) (f : TracedLwp → TracedLwp) → ((l : TracedLwp) → LwpEdit m l (f l)) → Edits m f

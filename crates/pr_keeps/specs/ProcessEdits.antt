@@ -11,7 +11,6 @@ use Rattle.pr_parts.specs.PendingSignals.{without_one}
 use Rattle.pr_parts.specs.WatchedAreas.{is_taken, with_area, without_area}
 use Rattle.pr_model.specs.Changes.{with_space}
 use Rattle.pr_model.specs.Messages.{tracing_signals, tracing_faults, tracing_entries, tracing_exits, with_modes, without_modes, with_areas, with_agent}
-use Rattle.pr_model.specs.Readers.{space_seen}
 use Rattle.pr_model.specs.State.{TracedControl, TracedLwp, TracedProcess, has_agent, with_lwp}
 use Rattle.pr_keeps.specs.LwpEdits.{LwpEdits}
 
@@ -51,8 +50,8 @@ pub data ProcessEdit : Message → List ℕ → TracedProcess → TracedProcess 
       → ProcessEdit (Agent regs) tail x (with_agent regs x)
   -- all of the range is mapped
   is_written : {at size : ℕ} {tail : List ℕ} {x : TracedProcess}
-      → is_ok (bytes_for 0 (space_seen x) at (length tail)) ≡ true
-      → ProcessEdit (Write at size) tail x (with_space (with_bytes at tail (space_seen x)) x)
+      → is_ok (bytes_for 0 x.space at (length tail)) ≡ true
+      → ProcessEdit (Write at size) tail x (with_space (with_bytes at tail x.space) x)
 
 -- edits of a process, one after another
 pub data ProcessEdits (m : Message) (tail : List ℕ) (x : TracedProcess) : TracedProcess → Type 0 where

@@ -26,7 +26,6 @@ use Rattle.pr_keeps.specs.ProcessEdits as process
 use Rattle.pr_keeps.specs.ProcessEdits.{ControlEdit, ProcessEdit}
 use Rattle.pr_keeps.proofs.KeepsLemmas.{lwp-edits-keep, process-edits-keep}
 use Rattle.pr_model.specs.Messages.{lwp_without_one, with_held_set, with_registers, with_address, tracing_signals, tracing_faults, tracing_entries, tracing_exits, with_modes, without_modes, with_areas, agent_lwp, with_agent}
-use Rattle.pr_model.specs.Readers.{space_seen}
 use Rattle.pr_model.specs.Running.{without_current, without_fault, with_step, with_abort, with_directive, without_directive, let_go}
 use Rattle.pr_model.specs.State.{TracedControl, TracedLwp, TracedProcess, TracedSystem, process_of}
 use Rattle.pr_model.specs.declared.lwps.Phase.{Phase}
@@ -252,7 +251,7 @@ edited-process m tail x y (process.gets_agent {regs = regs} none room) it h =
     (new_lwp-range regs _ _ (record { words = it.words; count = it.count })
     (holdable-set all_signals (omega arith))) h
 edited-process m tail x y (process.is_written {at = at} mapped) it h =
-    space-keeps (with_bytes at tail (space_seen x)) (with_bytes-range at tail it.tail_bytes x.space h.space) x h
+    space-keeps (with_bytes at tail x.space) (with_bytes-range at tail it.tail_bytes x.space h.space) x h
 
 -- ---- the system
 
