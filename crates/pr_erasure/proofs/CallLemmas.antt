@@ -97,6 +97,7 @@ no-flag flags flag none other passive is = elim (cases_Bool (eqb flags 0)) [
       false≢true (sym other ∙ ap (λ f. has_flags f flag) (sym same) ∙ is)
 ]
 
+-- a passive message clears no current signal, and no fault
 keeps-signal : (m : Message) → clears_current m ≡ true → is_passive_message m ≡ true → ⊥
 unfolding is_passive_message has_flags common_word
 keeps-signal (message.Run flags) is passive = no-flag flags clear_signal refl refl passive is
@@ -107,25 +108,23 @@ unfolding is_passive_message has_flags common_word
 keeps-fault (message.Run flags) is passive = no-flag flags clear_fault refl refl passive is
 keeps-fault _ is passive = cc
 
+-- only where it stops and runs is changed
+alike : (l k : TracedLwp) → bare_lwp k ≡ bare_lwp l → k.control.step ≡ l.control.step
+    → k.control.abort ≡ l.control.abort → HidesLwp l k
+alike l k seen step abort = record {
+  seen = seen;
+  untouched = λ id u. record { no_step = step ∙ u.no_step; no_abort = abort ∙ u.no_abort; no_agent = u.no_agent };
+}
+
 edit-hides : (m : Message) (l k : TracedLwp) → LwpEdit m l k → is_passive_message m ≡ true → HidesLwp l k
 unfolding bare_lwp with_directive without_directive let_go is_passive_message has_flags common_word
 edit-hides m l k (lwp.drops_signal is) passive = absurd (keeps-signal m is passive)
 edit-hides m l k (lwp.drops_fault is) passive = absurd (keeps-fault m is passive)
-edit-hides m l k (lwp.directs_it is) passive =
-    record { seen = refl; untouched =
-        λ id u. record { no_step = u.no_step; no_abort = u.no_abort; no_agent = u.no_agent } }
-edit-hides m l k lwp.undirects passive =
-    record { seen = refl; untouched =
-        λ id u. record { no_step = u.no_step; no_abort = u.no_abort; no_agent = u.no_agent } }
-edit-hides m l k lwp.lets_go passive =
-    record { seen = refl; untouched =
-        λ id u. record { no_step = u.no_step; no_abort = u.no_abort; no_agent = u.no_agent } }
-edit-hides m l k (lwp.requests is) passive =
-    record { seen = refl; untouched =
-        λ id u. record { no_step = u.no_step; no_abort = u.no_abort; no_agent = u.no_agent } }
-edit-hides m l k (lwp.ends_request is) passive =
-    record { seen = refl; untouched =
-        λ id u. record { no_step = u.no_step; no_abort = u.no_abort; no_agent = u.no_agent } }
+edit-hides m l k (lwp.directs_it is) passive = alike l k refl refl refl
+edit-hides m l k lwp.undirects passive = alike l k refl refl refl
+edit-hides m l k lwp.lets_go passive = alike l k refl refl refl
+edit-hides m l k (lwp.requests is) passive = alike l k refl refl refl
+edit-hides m l k (lwp.ends_request is) passive = alike l k refl refl refl
 edit-hides m l k (lwp.steps {flags = flags} is) passive = absurd (no-flag flags single_step refl refl passive is)
 edit-hides m l k (lwp.aborts {flags = flags} is) passive = absurd (no-flag flags abort_call refl refl passive is)
 edit-hides m l k _ passive = active passive
@@ -209,8 +208,11 @@ processes-hide : (m : Message) (tail : List ℕ) → is_passive_message m ≡ tr
     → (x y : TracedProcess) → ProcessEdits m tail x y → HidesProcess x y
 processes-hide m tail passive =
     process-edits-relate m tail HidesProcess (λ x. record { seen = refl; untouched = λ pid u. u })
-    (λ x y z one two. record { seen = two.seen ∙ one.seen; untouched = λ pid u. two.untouched pid
-        (one.untouched pid u) })
+    (λ x y z one two. record {
+      seen = two.seen ∙ one.seen;
+      untouched = λ pid u. two.untouched pid
+          (one.untouched pid u);
+    })
     (λ x y e. process-hides m tail x y e passive)
 
 pub with_run-hidden : (p : TracedProcess) → bare_process (with_run 0 p) ≡ bare_process p
@@ -227,7 +229,7 @@ map_each-found : {X Y : Type 0} (view : X → Y) (id : ℕ) (f : X → X) (x : X
 map_each-found view id f x [] there same = refl
 map_each-found {X} view id f x (e ∷ es) there same =
     elim (eqb e.0 id) as (λ b. cond b (Some e.1) (under id es) ≡ Some x
-        → map_each view (cond b ((e.0, f e.1) ∷ es) (e ∷ change_under id f es)) ≡ (e.0, view e.1) ∷ map_each view es) [
+    → map_each view (cond b ((e.0, f e.1) ∷ es) (e ∷ change_under id f es)) ≡ (e.0, view e.1) ∷ map_each view es) [
       | true ↦ λ is.
           ap (λ y. (e.0, y) ∷ map_each view es) (subst (λ (z : X). view (f z) ≡ view z) (sym (same_Some e.1 x is)) same)
       | false ↦ λ is. ap (λ ds. (e.0, view e.1) ∷ ds) (map_each-found view id f x es is same)
@@ -266,7 +268,8 @@ released-hidden p = ap (λ ls. record (bare_process p) { lwps = ls }) (map_each-
 
 released-keeps : KeepsProcesses released
 unfolding released released_control
-released-keeps pid x u = record { no_kill = u.no_kill; unwatched = refl; lwps = lwps-keep released_lwp released_lwp-keeps x u.lwps }
+released-keeps pid x u =
+    record { no_kill = u.no_kill; unwatched = refl; lwps = lwps-keep released_lwp released_lwp-keeps x u.lwps }
 
 close-hides : (s : TracedSystem) (pid : ℕ) (t : TracedSystem) → CloseEdit s pid t → IsUntouched s → Hides s t
 close-hides s pid t edit.nothing u = hides-nothing s u
@@ -321,7 +324,7 @@ module _ (s : TracedState) (u : IsUntouched s.system) where
       (hides-nothing s.system u)
   ctl-hides by handle bytes _ is passive =
       answer-hides by (call.Ctl handle bytes)
-          (controlled s (control_answer s.system s.opens by handle bytes)) refl passive
+      (controlled s (control_answer s.system s.opens by handle bytes)) refl passive
 
   -- ---- what calls are for the untraced machine
 
@@ -352,9 +355,9 @@ module _ (s : TracedState) (u : IsUntouched s.system) where
       let c = control_answer s.system s.opens by handle bytes in
       let answer : controlled s c ≡ a = same_Some _ _ is in
       let passed =
-          subst (λ (x : Answer). is_passive_call (call.Ctl handle bytes) x.reply ≡ true) (sym answer) passive in
+      subst (λ (x : Answer). is_passive_call (call.Ctl handle bytes) x.reply ≡ true) (sym answer) passive in
       hidden (call.Ctl handle bytes) a refl
-          (subst (HidesAnswer s) answer (ctl-hides by handle bytes c.reply refl passed))
+      (subst (HidesAnswer s) answer (ctl-hides by handle bytes c.reply refl passed))
   call-follows by (call.Spawn name held) a is passive =
       subst (λ (x : Answer). Follows s.system (steps_of_call (call.Spawn name held) x.reply) x.state.system) (same_Some (spawn_found s held (program_named s.system.programs name)) a is)
       (spawn_found-follows name held (program_named s.system.programs name) refl)

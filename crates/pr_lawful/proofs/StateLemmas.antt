@@ -256,7 +256,7 @@ closed-state s number h lawful there = record {
   handles =
       All-set (IsOfMade (cond (was_last_writer h (slice_set s.opens number None)) (after_last_close h.pid (live_process s.system h.pid) s.system) s.system).made) s.opens number None tt
       (handles-on s.opens s.system (with_closed h number s).system
-          (closed-grows s.system h.pid (with_closed h number s).system (close-edit s number h)) lawful.handles);
+      (closed-grows s.system h.pid (with_closed h number s).system (close-edit s number h)) lawful.handles);
   exclusive = exclusive-left s.opens number h there lawful.exclusive;
   released =
       choice (λ (t : TracedSystem). All (IsReleased (slice_set s.opens number None)) t.processes) (was_last_writer h (slice_set s.opens number None)) _ _

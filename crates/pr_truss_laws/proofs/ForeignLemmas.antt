@@ -98,10 +98,10 @@ module _ (s : TracedState) (by pid : ℕ) (lawful : IsLawful s) where
     edit-passes c t (edit.closes {handle = m} {held = g} at) apart = close-passes m g (apart m (eq-eqb m m refl)) at
     edit-passes c t (edit.controls {handle = handle} {bytes = bytes} {held = g} {p = q} {m = m} {t = u} it e) apart =
         let fits : IsFitting (Some g) =
-            All-at-place IsFitting s.opens handle (Some g)
-            (handle-at s.opens by handle g it.handle_is) lawful.fitting in
+        All-at-place IsFitting s.opens handle (Some g)
+        (handle-at s.opens by handle g it.handle_is) lawful.fitting in
         message-passes pid s.system g.pid q m (tail_of m bytes) u
-            (apart handle (eq-eqb handle handle refl) g it.handle_is (control-writes g fits it.controls)) e
+        (apart handle (eq-eqb handle handle refl) g it.handle_is (control-writes g fits it.controls)) e
     edit-passes c t edit.sees_interrupt apart = stays-same
     edit-passes c t (edit.interrupts there) apart = stays-same
     edit-passes c t (edit.spawns {held = held} {program = program} named grants) apart = new-passes program held

@@ -261,4 +261,3 @@ module _ (s : TracedSystem) (pid : ℕ) (p : TracedProcess) (id : ℕ) (l : Trac
 
   pub row-stores : stores_after (row_for s pid p id l).transition.changes ≡ true
   row-stores = kind-stores (row_for s pid p id l) (row-kind s pid p id l)
-

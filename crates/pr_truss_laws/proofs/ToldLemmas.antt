@@ -322,7 +322,7 @@ module _ (p : TracedProcess) (l : TracedLwp) where
         interrupted-tells woken call args (in_call-arguments woken call args since it)
     kind-tells row (kind.performs {woken = woken} {call = call} {args = args} {since = since} it goes none) =
         performed-tells woken call args since (call_effect s pid p id l since call args)
-            (in_call-arguments woken call args since it)
+        (in_call-arguments woken call args since it)
     kind-tells row (kind.returns {call = call} at none) = returned-tells call
     kind-tells row (kind.executes at none) =
         executed-tells (instruction_effect p.space p.control.areas l.regs) (effect-on l.regs p.space p.control.areas)
