@@ -1,6 +1,6 @@
 use pr_num::{
-    ArgKind, ById, Bytes, DefAct, Errno, Flt, FltSet, Handles, Modes, Name, NoMemory, Prot,
-    Sig, SigSet, StopReason, SysSet, Sysno, Table, WatchFlags,
+    ArgKind, ById, Bytes, DefAct, Errno, Flt, FltSet, Handles, Modes, Name, NoMemory, Prot, Sig,
+    SigSet, StopReason, SysSet, Sysno, Table, WatchFlags,
 };
 use std::alloc::Global;
 use std::test::Fail;
