@@ -18,7 +18,6 @@ use Rattle.pr_model.specs.Lawful.{IsFitting, IsLawful}
 use Rattle.pr_model.specs.State.{TracedProcess, TracedState, TracedSystem, live_process, process_of}
 use Rattle.pr_model.specs.Lives.{new_process, with_spawned}
 use Rattle.pr_model.specs.Machines.{traced}
-use Rattle.pr_model.specs.SignalCalls.{sends}
 use Rattle.pr_num.specs.Programs.{Program}
 use Rattle.pr_num.specs.declared.errnos.Errno.{Errno}
 use Rattle.pr_num.specs.declared.infos.Info.{Info}

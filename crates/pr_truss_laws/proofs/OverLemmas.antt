@@ -38,7 +38,6 @@ use Rattle.pr_model.specs.Machines.{traced}
 use Rattle.pr_model.specs.Moves.{moved}
 use Rattle.pr_model.specs.Points.{after_meeting}
 use Rattle.pr_model.specs.Rows.{Row, row_for}
-use Rattle.pr_model.specs.SignalCalls.{sends}
 use Rattle.pr_model.specs.Signals.{generated, is_kill}
 use Rattle.pr_model.specs.State.{TracedLwp, TracedProcess, TracedState, TracedSystem, if_live, live_process, process_of, with_lwp, with_lwp_of, with_process}
 use Rattle.pr_model.specs.Transitions.{Transition, after_transition, ended_if}
