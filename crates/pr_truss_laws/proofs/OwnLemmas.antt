@@ -38,8 +38,8 @@ use Rattle.pr_truss.specs.declared.stages.OpeningStep.{OpeningStep}
 use Rattle.pr_truss.specs.declared.stages.OpeningStep.TheVariants as opening
 use Rattle.pr_truss.specs.declared.stages.Stage.{Stage}
 use Rattle.pr_truss.specs.declared.stages.Stage.TheVariants.{Spawning, OpeningControl, Opening, Polling, ReadingStatus, ReadingText, OpeningChildControl, OpeningChild, Running, Closing, Unfollowing, ReadingLwps, FreeingChild, Finished}
-use Rattle.pr_truss_laws.proofs.ClosesLemmas.{first-fits, held-is, nothing-held}
-use Rattle.pr_truss_laws.proofs.FedLemmas.{Changes, Gives, fed-well, gives}
+use Rattle.pr_truss_laws.proofs.ClosesLemmas.{first-fits, nothing-held}
+use Rattle.pr_truss_laws.proofs.FedLemmas.{Changes, Gives, fed-changes, fed-fits, gives}
 use Rattle.pr_truss_laws.proofs.HeldLemmas.{Fits, held, unit}
 use Rattle.pr_truss_laws.proofs.OpensLemmas.{ClosesOne, NotOpen, Opens, Refuses, close-closes, foreign-call, held_by, keeps_handles, open-opens, own-free, own-mine, own-other, own-set, plain-leaves}
 use Rattle.pr_truss_laws.specs.Exchanges.{Ends, Exchange, Makes, exchange_in, exchange_of, exchanges, truss_after}
@@ -134,11 +134,11 @@ module _ (k : ℕ) (t : TrussState) (s : TracedState) (o : Owns k t s) where
   -- what is remembered after the reply
   changed : (pid h : ℕ) (r : Reply) (c : Call) → next_call_of t ≡ Some c → (n : ℕ) × ((held pid h (fed t r) ≡ n) × Changes t pid h r (Some c) (held pid h t) n)
   changed pid h r c is =
-      let w = fed-well pid h r t o.fits in
-      (w.count, (held-is t pid h (held pid h t) r (next_call_of t) (fed t r) w, subst (λ x. Changes t pid h r x (held pid h t) w.count) is w.changes))
+      let all = fed-changes pid h r t o.fits in
+      (held pid h (fed t r), (refl, subst (λ x. Changes t pid h r x (held pid h t) (held pid h (fed t r))) is all))
 
   fits-on : (r : Reply) → Fits (fed t r).traced (fed t r).stage
-  fits-on r = let w = fed-well 0 0 r t o.fits in w.well.fits
+  fits-on r = fed-fits t r o.fits
 
   no-gift : (e : Errno) (of handle pid h : ℕ) → gives (refusal_of e) of handle pid h ≡ 0
   no-gift Intr of handle pid h = refl
