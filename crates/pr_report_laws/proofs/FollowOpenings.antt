@@ -80,10 +80,7 @@ awaited-call n pid x0 (x1 ∷ x2 ∷ x3 ∷ x4 ∷ x5 ∷ xs) few is = absurd (o
 
 child-some : (step : ChildStep) → 0 < child_left step
 child-some child.SetRelease = omega arith
-child-some child.OpenStatus = omega arith
-child-some child.OpenLstatus = omega arith
-child-some child.OpenMemory = omega arith
-child-some child.Start = omega arith
+child-some _ = omega arith
 
 last-step : (step : ChildStep) → child_step_after step ≡ None → step ≡ child.Start
 unfolding child_step_after
@@ -331,9 +328,7 @@ module _ (f : TrussState) (control pid : ℕ) (base : List Report) where
 
       start-end : (a : Answer) → answer_of x.reply ≡ a → ChildEnd u child.Start (x ∷ xs)
       start-end Gone is = ends-there is
-      start-end Accepted is = lives-on (λ gone. cc)
-      start-end Interrupted is = lives-on (λ gone. cc)
-      start-end (Refused errno) is = lives-on (λ gone. cc)
+      start-end _ is = lives-on (λ gone. cc)
 
     -- a call before it
     module _ (step next : ChildStep) (after : child_step_after step ≡ Some next) (at : IsAt s u parent place step) (call : x.call ≡ child_call u step) (makes : Makes (fed s x.reply) xs) (last : truss_after (fed s x.reply) xs ≡ f) where

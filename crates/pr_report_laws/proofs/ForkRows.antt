@@ -15,7 +15,7 @@ use Rattle.pr_parts.specs.declared.actions.Action.TheVariants as act
 use Rattle.pr_model.specs.CallEffects.{call_effect}
 use Rattle.pr_model.specs.Changes.{Effect, does, ends, forks, gives, fails, sleeps}
 use Rattle.pr_model.specs.Events.{event_of}
-use Rattle.pr_model.specs.InstructionEffects.{InstructionEffect, calls, faults, instruction_effect, runs, runs_into_watch}
+use Rattle.pr_model.specs.InstructionEffects.{InstructionEffect, instruction_effect, runs}
 use Rattle.pr_model.specs.ProcessCalls.{fork_effect}
 use Rattle.pr_model.specs.Readers.{size_of, total_has_room}
 use Rattle.pr_model.specs.Registers.{arguments}
@@ -58,13 +58,7 @@ told-made p l new (did.Made c (Error e)) args v is = cc
 told-made p l new (did.Made c Ended) args v is = cc
 told-made p l new (did.Slept c) args v is = cc
 told-made p l new (did.Woke c (Value w)) args v is = made-left c v w args _ is
-told-made p l new (did.Woke c (Error e)) args v is = cc
-told-made p l new (did.Woke c Ended) args v is = cc
-told-made p l new (did.Returned c) args v is = cc
-told-made p l new (did.Faulted f) args v is = cc
-told-made p l new (did.Posted f) args v is = cc
-told-made p l new (did.Took g) args v is = cc
-told-made p l new (did.Acted g how) args v is = cc
+told-made p l new _ args v is = cc
 
 -- ---- the row of the turn
 
@@ -148,9 +142,7 @@ module _ (s : TracedSystem) (pid : ℕ) (p : TracedProcess) (id : ℕ) (l : Trac
   executed-makes : (e : InstructionEffect) → MakesChild (executed_row p l e)
   unfolding executed_row ran_row entered_row incurred_row watched_row
   executed-makes (runs regs store) = either-makes l.control.step _ _ (none-makes _ refl) (none-makes _ refl)
-  executed-makes (calls c regs) = none-makes _ refl
-  executed-makes (faults f address) = none-makes _ refl
-  executed-makes (runs_into_watch address regs store) = none-makes _ refl
+  executed-makes _ = none-makes _ refl
 
   posted-makes : (f : Flt) (address : ℕ) → MakesChild (posted_row f address)
   unfolding posted_row
@@ -164,9 +156,7 @@ module _ (s : TracedSystem) (pid : ℕ) (p : TracedProcess) (id : ℕ) (l : Trac
   unfolding caught_row
   caught-makes c handler (phase.Entered made) = interrupted-makes false made (arguments l.regs)
   caught-makes c handler (phase.Asleep made args since) = interrupted-makes true made args
-  caught-makes c handler phase.User = handler-makes c handler
-  caught-makes c handler (phase.Exiting made args result) = handler-makes c handler
-  caught-makes c handler (phase.Faulted f address) = handler-makes c handler
+  caught-makes c handler _ = handler-makes c handler
 
   acted-makes : (c : Current) → MakesChild (acted_row p l c)
   unfolding acted_row
@@ -208,10 +198,7 @@ module _ (s : TracedSystem) (pid : ℕ) (p : TracedProcess) (id : ℕ) (l : Trac
 
   first-makes : (ph : Phase) (otherwise : Row) → MakesChild otherwise → MakesChild (posted_row_or s pid p id l ph otherwise)
   first-makes (phase.Faulted f address) otherwise makes = posted-makes f address
-  first-makes phase.User otherwise makes = makes
-  first-makes (phase.Entered c) otherwise makes = makes
-  first-makes (phase.Asleep c args since) otherwise makes = makes
-  first-makes (phase.Exiting c args result) otherwise makes = makes
+  first-makes _ otherwise makes = makes
 
   requested-makes : MakesChild requested_row
   unfolding requested_row

@@ -305,9 +305,7 @@ module _ (o : Options) (p : TracedProcess) (traced_by : IsTracedBy o p) where
     unfolding caught_row
     caught-goes c handler (phase.Entered made) = interrupted-goes false made (arguments l.regs)
     caught-goes c handler (phase.Asleep made args since) = interrupted-goes true made args
-    caught-goes c handler phase.User = handler-goes c handler
-    caught-goes c handler (phase.Exiting made args result) = handler-goes c handler
-    caught-goes c handler (phase.Faulted f address) = handler-goes c handler
+    caught-goes c handler _ = handler-goes c handler
 
     acted-goes : (c : Current) → GoesWithPoint (acted_row p l c)
     unfolding acted_row event_of
@@ -358,10 +356,7 @@ module _ (o : Options) (p : TracedProcess) (traced_by : IsTracedBy o p) where
 
       first-goes : (ph : Phase) (otherwise : Row) → GoesWithPoint otherwise → GoesWithPoint (posted_row_or s pid p id l ph otherwise)
       first-goes (phase.Faulted f address) otherwise goes = posted-goes f address
-      first-goes phase.User otherwise goes = goes
-      first-goes (phase.Entered c) otherwise goes = goes
-      first-goes (phase.Asleep c args since) otherwise goes = goes
-      first-goes (phase.Exiting c args result) otherwise goes = goes
+      first-goes _ otherwise goes = goes
 
       requested-goes : GoesWithPoint requested_row
       unfolding requested_row event_of

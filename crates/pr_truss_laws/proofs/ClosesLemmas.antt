@@ -16,7 +16,7 @@ use Rattle.pr_truss.specs.Replies.{answer_of}
 use Rattle.pr_truss.specs.Trusses.{TrussState, first_of_program, first_truss, idle, opening_or}
 use Rattle.pr_truss.specs.declared.processes.Traced.{Traced}
 use Rattle.pr_truss.specs.declared.stages.Stage.{Stage}
-use Rattle.pr_truss.specs.declared.stages.Stage.TheVariants.{Spawning, OpeningControl, Opening, Polling, ReadingStatus, ReadingText, OpeningChildControl, OpeningChild, Running, Closing, Unfollowing, ReadingLwps, FreeingChild, Finished}
+use Rattle.pr_truss.specs.declared.stages.Stage.TheVariants.{Finished}
 use Rattle.pr_truss_laws.proofs.FedLemmas.{Changes, fed-changes, fed-fits, fed-grown, gives}
 use Rattle.pr_truss_laws.proofs.HeldLemmas.{Fits, Grown, grown-all, grown-same, held, of_stage, of_traced, unit}
 use Rattle.pr_truss_laws.proofs.OpeningLemmas.{ends-later}
@@ -59,19 +59,7 @@ none-is c e = none-some c (sym e)
 nothing-in : (pid h : ℕ) (ts : List Traced) (stage : Stage) (s : TrussState) → call_of s stage ≡ None → Fits ts stage → sum_by (of_traced pid h) ts + of_stage pid h stage ≡ 0
 unfolding call_of
 nothing-in pid h ts Finished s e f = let none : sum_by (of_traced pid h) ts ≡ 0 = ap (sum_by (of_traced pid h)) f in omega arith
-nothing-in pid h ts (Spawning program) s e f = absurd (none-is _ e)
-nothing-in pid h ts (OpeningControl of) s e f = absurd (none-is _ e)
-nothing-in pid h ts (Opening place step) s e f = absurd (none-is _ e)
-nothing-in pid h ts Polling s e f = absurd (none-is _ e)
-nothing-in pid h ts (ReadingStatus place) s e f = absurd (none-is _ e)
-nothing-in pid h ts (ReadingText place l from len) s e f = absurd (none-is _ e)
-nothing-in pid h ts (OpeningChildControl parent of) s e f = absurd (none-is _ e)
-nothing-in pid h ts (OpeningChild parent place step) s e f = absurd (none-is _ e)
-nothing-in pid h ts (Running place) s e f = absurd (none-is _ e)
-nothing-in pid h ts (Closing place next) s e f = absurd (none-is _ e)
-nothing-in pid h ts Unfollowing s e f = absurd (none-is _ e)
-nothing-in pid h ts ReadingLwps s e f = absurd (none-is _ e)
-nothing-in pid h ts (FreeingChild of step) s e f = absurd (none-is _ e)
+nothing-in pid h ts _ s e f = absurd (none-is _ e)
 
 pub nothing-held : (pid h : ℕ) (s : TrussState) → Fits s.traced s.stage → next_call_of s ≡ None → held pid h s ≡ 0
 unfolding held next_call_of
@@ -86,15 +74,7 @@ goes-on s pid h n m r (call.Close handle) ch one = elim (cases_Bool (handle == h
     no-unit : (b c : Bool) → c ≡ false → unit (b && c) ≡ 0
     no-unit true c is = ap unit is
     no-unit false c is = refl
-goes-on s pid h n m r (call.Ctl handle bytes) ch one = inr (omega arith)
-goes-on s pid h n m r (call.CtlWait handle until bytes) ch one = inr (omega arith)
-goes-on s pid h n m r (call.Read handle from len) ch one = inr (omega arith)
-goes-on s pid h n m r (call.Poll handles) ch one = inr (omega arith)
-goes-on s pid h n m r (call.Interrupt controller) ch one = inr (omega arith)
-goes-on s pid h n m r (call.Spawn program kept) ch one = inr (omega arith)
-goes-on s pid h n m r (call.Kill of sig) ch one = inr (omega arith)
-goes-on s pid h n m r (call.Until moment) ch one = inr (omega arith)
-goes-on s pid h n m r call.List ch one = inr (omega arith)
+goes-on s pid h n m r _ ch one = inr (omega arith)
 
 closes-more : (h : ℕ) (x : Exchange) (xs : List Exchange) → Closes h xs → Closes h (x ∷ xs)
 closes-more h x xs c = record { before = x ∷ c.before; reply = c.reply; after = c.after; is = ap (λ ys. x ∷ ys) c.is }

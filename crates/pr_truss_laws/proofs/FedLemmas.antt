@@ -74,8 +74,6 @@ module _ (s : TrussState) (r : Reply) where
       subst (Grown s.reports) (sym same.reports) (looks-grown stage _ _ _ w)
   step-grown stage v (step.closes w) = closes-grown stage _ _ _ w
   step-grown stage v (step.returns (step.refuses_child_control _ _)) = grown-one s.reports _
-  step-grown stage v (step.returns (step.child_runs _)) = grown-same s.reports
-  step-grown stage v (step.returns (step.child_closed _)) = grown-same s.reports
   step-grown stage v _ = grown-same s.reports
 
 pub fed-grown : (s : TrussState) (r : Reply) → Grown s.reports (fed s r).reports

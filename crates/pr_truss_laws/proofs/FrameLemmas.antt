@@ -15,7 +15,7 @@ use Rattle.pr_lawful.proofs.SuitingLemmas.{SuitChanges, SuitsChange, SuitsReaped
 use Rattle.pr_lawful.proofs.TurnLemmas.{acting as acting_in, row-suits}
 use Rattle.pr_parts.specs.SignalRules.{deleted_by}
 use Rattle.pr_model.specs.Generation.{ends_job_stop, lwp_with_pending, lwp_without_pending, told, with_deletions, with_pending, without_job_stop, without_pending}
-use Rattle.pr_model.specs.Changes.{Change, changed, files_are, space_is, signals, signals_itself, takes_shared, job_stops, disposition_is, held_is, resumes, forks, reaps, becomes, makes_lwp, suspends, all_changed, ended, Ending, ends_process, ends_lwp, with_fds, with_space}
+use Rattle.pr_model.specs.Changes.{Change, changed, files_are, space_is, signals, signals_itself, takes_shared, job_stops, disposition_is, held_is, resumes, forks, reaps, all_changed, ended, Ending, ends_process, ends_lwp, with_fds, with_space}
 use Rattle.pr_model.specs.Lives.{forked, with_child, with_lwp_ended, ended_if_live, orphaned, with_ended, with_made, with_parent_told, with_reaped, with_this_ended, zombie}
 use Rattle.pr_model.specs.Lawful.{IsLawfulSystem, IsNumberedBelow}
 use Rattle.pr_model.specs.LwpTurns.{LwpTurn, settled, turn_of, with_counted}
@@ -285,9 +285,7 @@ module _ (pid acting : ℕ) (p : TracedProcess) (id : ℕ) (l : TracedLwp) (othe
     change-passes (resumes frame frames) suits = changed-pass _ s
     change-passes (forks args) suits = unless-pass (s.made == acting) s _ (child-passes args s new)
     change-passes (reaps child) suits = unless-pass (child == acting) s _ (zombie-passes child suits)
-    change-passes (becomes program) suits = changed-pass _ s
-    change-passes (makes_lwp fresh regs held) suits = changed-pass _ s
-    change-passes (suspends target suspended) suits = changed-pass _ s
+    change-passes _ suits = changed-pass _ s
 
     -- a first change, and what is stored after it
     changes-pass : (cs : List Change) → SuitChanges acting p id l s cs → stores_after cs ≡ true → Passes pid ByKill s (all_changed traced acting p id l cs s)

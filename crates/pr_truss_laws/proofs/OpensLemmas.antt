@@ -148,13 +148,7 @@ stays-waited s by (reply.Fail errno) = refused-wait errno
     refused-wait : (e : Errno) → (waited s by (reply.Fail e)).state ≡ record s { interrupted = (waited s by (reply.Fail e)).state.interrupted }
     refused-wait Intr = refl
     refused-wait _ = refl
-stays-waited s by (reply.Handle h) = refl
-stays-waited s by reply.Done = refl
-stays-waited s by (reply.Used n) = refl
-stays-waited s by (reply.Half n) = refl
-stays-waited s by (reply.Bytes bytes) = refl
-stays-waited s by (reply.Pid pid) = refl
-stays-waited s by (reply.Ready h) = refl
+stays-waited s by _ = refl
 
 stays-wait : (s : TracedState) (by : ℕ) (r : Option Reply) → Stays s (option_map (waited s by) r)
 stays-wait s by None = stays-none s
@@ -197,11 +191,7 @@ call-stays s by (call.Poll handles) looks = stays-poll s by handles
 call-stays s by (call.Interrupt controller) looks = stays-interrupt s controller
 call-stays s by (call.Until moment) looks = stays-until s by moment
 call-stays s by call.List looks = stays-some s _ refl
-call-stays s by (call.Open pid id file mode) looks = cc
-call-stays s by (call.Close number) looks = cc
-call-stays s by (call.Ctl handle bytes) looks = cc
-call-stays s by (call.Spawn program held) looks = cc
-call-stays s by (call.Kill pid sig) looks = cc
+call-stays s by _ looks = cc
 
 pub looking-stays : (s : TracedState) (by : ℕ) (c : Call) (a : Answer) → only_looks c ≡ true → answer_to s by c ≡ Some a → a.state ≡ record s { interrupted = a.state.interrupted }
 unfolding Stays

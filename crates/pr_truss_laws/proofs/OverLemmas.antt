@@ -26,7 +26,7 @@ use Rattle.pr_lawful.proofs.MadeLemmas.{Grows, closed-grows, ended-grows, genera
 use Rattle.pr_lawful.proofs.MessageLemmas.{Makes, a_process, a_signal, an_end, message-makes, nothing}
 use Rattle.pr_model.proofs.TurnLemmas.{turn-taken}
 use Rattle.pr_model.specs.Calls.{Answer, answer_to, close_answer, close_held, kill_answer, open_answer, open_unless, opened, spawn_answer, spawn_found, spawn_unless}
-use Rattle.pr_model.specs.Changes.{Change, files_are, space_is, signals, signals_itself, takes_shared, job_stops, disposition_is, held_is, resumes, forks, reaps, becomes, makes_lwp, suspends, Ending, ends_process, ends_lwp, all_changed, changed, ended, with_fds}
+use Rattle.pr_model.specs.Changes.{Change, files_are, space_is, signals, signals_itself, takes_shared, job_stops, disposition_is, held_is, resumes, forks, reaps, Ending, ends_process, ends_lwp, all_changed, changed, ended, with_fds}
 use Rattle.pr_model.specs.ControlMessages.{aim_of, control_answer, control_handle, decoded_answer, held_answer, still_there, tail_of, target_of, targeted_answer}
 use Rattle.pr_model.specs.Generation.{told}
 use Rattle.pr_model.specs.Handles.{after_last_close, handle_of, is_control, open_refusal, was_last_writer, with_closed, with_last_close, with_opened}
@@ -336,9 +336,7 @@ module _ (pid : ℕ) where
     changed-over (resumes frame frames) s o = acting-over _ s o
     changed-over (forks args) s o = unless-over (s.made == acting) s _ o (child-over args s o)
     changed-over (reaps child) s o = unless-over (child == acting) s _ o (reaped-over child s o)
-    changed-over (becomes program) s o = acting-over _ s o
-    changed-over (makes_lwp fresh regs held) s o = acting-over _ s o
-    changed-over (suspends target suspended) s o = acting-over _ s o
+    changed-over _ s o = acting-over _ s o
 
     all_changed-over : (cs : List Change) (s : TracedSystem) → IsOver pid s → IsOver pid (all_changed traced acting p id l cs s)
     unfolding all_changed

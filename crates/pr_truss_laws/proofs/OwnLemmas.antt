@@ -24,7 +24,7 @@ use Rattle.pr_model.specs.declared.events.Actor.TheVariants.{Controller, Lwp, Cl
 use Rattle.pr_model.specs.declared.events.Entry.{Entry}
 use Rattle.pr_model.specs.declared.handles.Held.{Held}
 use Rattle.pr_num.specs.declared.errnos.Errno.{Errno}
-use Rattle.pr_num.specs.declared.errnos.Errno.TheVariants.{Intr, Noent}
+use Rattle.pr_num.specs.declared.errnos.Errno.TheVariants.{Intr}
 use Rattle.pr_truss.specs.Feeding.{fed}
 use Rattle.pr_truss.specs.NextCalls.{call_of, child_call, freeing_call, next_call_of, opening_call}
 use Rattle.pr_truss.specs.Replies.{answer_of, refusal_of}
@@ -61,17 +61,7 @@ unfolding opening_call
 opening-excl o t opening.OpenStatus = λ is. cc
 opening-excl o t opening.OpenLstatus = λ is. cc
 opening-excl o t opening.OpenMemory = λ is. cc
-opening-excl o t opening.ClearModes = tt
-opening-excl o t opening.SetRelease = tt
-opening-excl o t opening.Stop = tt
-opening-excl o t (opening.AwaitStop until) = tt
-opening-excl o t opening.ReadLwps = tt
-opening-excl o t opening.TraceSignals = tt
-opening-excl o t opening.TraceFaults = tt
-opening-excl o t opening.TraceEntries = tt
-opening-excl o t opening.TraceExits = tt
-opening-excl o t opening.Follow = tt
-opening-excl o t opening.Start = tt
+opening-excl o t _ = tt
 
 child-excl : (t : Traced) (step : ChildStep) → OpensExclusively (Some (child_call t step))
 unfolding child_call
@@ -142,7 +132,6 @@ module _ (k : ℕ) (t : TrussState) (s : TracedState) (o : Owns k t s) where
 
   no-gift : (e : Errno) (of handle pid h : ℕ) → gives (refusal_of e) of handle pid h ≡ 0
   no-gift Intr of handle pid h = refl
-  no-gift Noent of handle pid h = refl
   no-gift _ of handle pid h = refl
 
   fail-gives : (e : Errno) (of handle pid h : ℕ) → gives (answer_of (reply.Fail e)) of handle pid h ≡ 0

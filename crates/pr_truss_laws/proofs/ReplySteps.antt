@@ -40,8 +40,7 @@ use Rattle.pr_truss.specs.declared.stages.Stage.TheVariants.{Spawning, OpeningCo
 -- ---- what comes next
 
 -- Nothing is to be done for a process: truss polls, leaves its first process, or has finished. After an opening the
--- next
--- process that it was given comes first.
+-- next process that it was given comes first.
 pub data GoesOn (u : TrussState) : Bool → TrussState → Type 0 where
   finishes : {given : Bool} → slice_get u.traced 0 ≡ None → GoesOn u given (with_stage u Finished)
   polls : {given : Bool} → u.leaving ≡ false → GoesOn u given (with_stage u Polling)

@@ -23,7 +23,7 @@ use Rattle.pr_parts.specs.FileTransfers.{read_fd}
 use Rattle.pr_parts.specs.declared.actions.Action.{Action}
 use Rattle.pr_parts.specs.declared.actions.Action.TheVariants as act
 use Rattle.pr_parts.specs.declared.files.FileNo.{FileNo}
-use Rattle.pr_parts.specs.declared.files.FileNo.TheVariants.{Sleep, NoReader}
+use Rattle.pr_parts.specs.declared.files.FileNo.TheVariants.{Sleep}
 use Rattle.pr_parts.specs.declared.files.Stat.{Stat}
 use Rattle.pr_lawful.proofs.FileLemmas.{choice}
 use Rattle.pr_model.specs.CallEffects.{call_effect}
@@ -71,7 +71,6 @@ either false x y one other = other
 
 refusal-stores : (why : FileNo) → Stores (refusal_effect why)
 refusal-stores Sleep = refl
-refusal-stores NoReader = refl
 refusal-stores _ = refl
 
 file-stores : (e : FileEffect ℕ) → Stores (file_effect e)
