@@ -39,7 +39,7 @@ use Rattle.pr_truss.specs.declared.stages.ChildStep.TheVariants as child
 use Rattle.pr_truss.specs.declared.stages.OpeningStep.{OpeningStep}
 use Rattle.pr_truss.specs.declared.stages.OpeningStep.TheVariants as opening
 use Rattle.pr_truss.specs.declared.stages.Stage.{Stage}
-use Rattle.pr_truss.specs.declared.stages.Stage.TheVariants.{Spawning, OpeningControl, Opening, Polling, ReadingStatus, ReadingText, OpeningChildControl, OpeningChild, Running, Closing, Unfollowing, ReadingLwps, FreeingChild, Finished}
+use Rattle.pr_truss.specs.declared.stages.Stage.TheVariants.{OpeningControl, Opening, ReadingStatus, OpeningChildControl, OpeningChild, Running, FreeingChild}
 use Rattle.pr_truss_laws.proofs.ForeignLemmas.{names}
 use Rattle.pr_truss_laws.proofs.HeldLemmas.{Fits, at_place}
 use Rattle.pr_truss_laws.proofs.OpensLemmas.{held_by}
@@ -366,15 +366,7 @@ module _ (n k : ℕ) (o : Options) (t : TrussState) (s : TracedState) (c : Call)
       open-in (Opening place step) at goes is = opening-reads t.options (traced_at t place) step of lwp opened_file mode (same_Some _ _ is) writes
       open-in (OpeningChild parent place step) at goes is = child-reads (traced_at t place) step of lwp opened_file mode (same_Some _ _ is) writes
       open-in (FreeingChild other step) at goes is = false≢true (sym own.stays ∙ goes)
-      open-in (Spawning program) at goes is = cc
-      open-in Polling at goes is = cc
-      open-in (ReadingStatus place) at goes is = cc
-      open-in (ReadingText place l from len) at goes is = cc
-      open-in (Running place) at goes is = cc
-      open-in (Closing place next) at goes is = cc
-      open-in Unfollowing at goes is = cc
-      open-in ReadingLwps at goes is = cc
-      open-in Finished at goes is = cc
+      open-in _ at goes is = cc
 
     not-opened : (lwp handle : ℕ) (opened_file : File) (mode : Mode) → call_entry k c a ≡ granted k of lwp opened_file mode handle → is_writable mode ≡ true → ⊥
     unfolding next_call_of

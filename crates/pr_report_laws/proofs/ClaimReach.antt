@@ -131,15 +131,7 @@ opening-names o x opening.OpenLstatus m named = absurd (false≢true named)
 opening-names o x opening.OpenMemory m named = absurd (false≢true named)
 opening-names o x opening.ReadLwps m named = absurd (false≢true named)
 opening-names o x (opening.AwaitStop until) m named = absurd (false≢true named)
-opening-names o x opening.ClearModes m named = eqb-true x.control m named
-opening-names o x opening.SetRelease m named = eqb-true x.control m named
-opening-names o x opening.Stop m named = eqb-true x.control m named
-opening-names o x opening.TraceSignals m named = eqb-true x.control m named
-opening-names o x opening.TraceFaults m named = eqb-true x.control m named
-opening-names o x opening.TraceEntries m named = eqb-true x.control m named
-opening-names o x opening.TraceExits m named = eqb-true x.control m named
-opening-names o x opening.Follow m named = eqb-true x.control m named
-opening-names o x opening.Start m named = eqb-true x.control m named
+opening-names o x _ m named = eqb-true x.control m named
 
 -- the process of the handle that the call names: truss opens or closes it, or runs it
 pub record Reaches (t : TrussState) (g : Held) : Type 0 where

@@ -178,7 +178,6 @@ refusal-not e is = not-accepted e is
   where
     not-accepted : (e : Errno) → refusal_of e ≡ Accepted → ⊥
     not-accepted Intr it = cc
-    not-accepted Noent it = cc
     not-accepted _ it = cc
 
 pub refused-not : (a : Answer) (t : TracedState) (e : Errno) → a ≡ record { state = t; reply = reply.Fail e } → answer_of a.reply ≡ Accepted → ⊥

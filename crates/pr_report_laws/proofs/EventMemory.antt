@@ -40,7 +40,7 @@ use Rattle.pr_truss.specs.declared.processes.Traced.{Traced}
 use Rattle.pr_truss.specs.declared.reports.Report.{Report}
 use Rattle.pr_truss.specs.declared.reports.Report.TheVariants.{Event as Reported}
 use Rattle.pr_truss.specs.declared.stages.Stage.TheVariants.{ReadingText}
-use Rattle.pr_truss_laws.proofs.ClosesLemmas.{after-grown, fed-fits, first-fits}
+use Rattle.pr_truss_laws.proofs.ClosesLemmas.{after-grown, first-fits}
 use Rattle.pr_truss_laws.proofs.HeldLemmas.{Fits, Grown, grown-all}
 use Rattle.pr_truss_laws.proofs.OwnLemmas.{Owns}
 use Rattle.pr_truss_laws.specs.Exchanges.{Exchange, Makes, exchange_of, exchanges, truss_after, truss_at}
@@ -140,8 +140,8 @@ module _ (k : ℕ) (o : Options) (past later : List Entry) (e : Entry) (r : Repl
   text-reported : Grown (t.reports ++ report ∷ []) (fed t r).reports
   unfolding fed with_reply with_text_answered with_event_shown
   text-reported =
-      let within : place < length t.traced = subst (Fits t.traced) stage fits in
-      subst (λ (u : TrussState). Grown (t.reports ++ report ∷ []) u.reports) (sym (ap (with_reply t r) stage)) (text-grown (with_report t report) place l (answer_of r) within)
+      subst (λ (u : TrussState). Grown (t.reports ++ report ∷ []) u.reports) (sym (ap (with_reply t r) stage))
+      (text-grown (with_report t report) place l (answer_of r))
 
   last-is : truss_at k o (past ++ e ∷ later) ≡ truss_after (fed t r) (exchanges k later)
   last-is =
@@ -153,7 +153,8 @@ module _ (k : ℕ) (o : Options) (past later : List Entry) (e : Entry) (r : Repl
   reported-then : Grown (t.reports ++ report ∷ []) (truss_at k o (past ++ e ∷ later)).reports
   reported-then =
       subst (λ (u : TrussState). Grown (t.reports ++ report ∷ []) u.reports) (sym last-is)
-      (grown-all (t.reports ++ report ∷ []) (fed t r).reports (truss_after (fed t r) (exchanges k later)).reports text-reported (after-grown (exchanges k later) (fed t r) (fed-fits t r fits)))
+      (grown-all (t.reports ++ report ∷ []) (fed t r).reports (truss_after (fed t r) (exchanges k later)).reports
+      text-reported (after-grown (exchanges k later) (fed t r)))
 
   -- so this report is of that status
   same-status : (base rest : List Report) (pid : ℕ) (m : LwpStatus) (text : Came) → t.reports ≡ base → (truss_at k o (past ++ e ∷ later)).reports ≡ base ++ Reported pid m text ∷ rest → l ≡ m

@@ -164,7 +164,7 @@ module _ (K : Type 0) (n k : ℕ) (o : Options) (pid : ℕ) (first : TracedState
     own-unread : (event : LwpEvent) → base ++ selected_of o pid t s e ≡ shown pid (told_of k t e) ++ event ∷ [] → HasCome k o pid first (past ++ e ∷ []) (shown pid (told_of k t e)) event (after s e)
     own-unread event still =
         let owns : Owns k t s = g.owns in
-        let grown = told-grows pid t (exchange_of k e) owns.fits in
+        let grown = told-grows pid t (exchange_of k e) in
         let missing : base ≡ shown pid t ++ event ∷ [] = missing-before base (shown pid t) few event (shown pid (told_of k t e)) grown.more grown.is (same-base ∙ still) in
         let same : shown pid t ≡ shown pid (told_of k t e) = append_cancel_right (shown pid t) (shown pid (told_of k t e)) (event ∷ []) (sym missing ∙ same-base ∙ still) in
         let come : HasCome k o pid first past (shown pid t) event s = knows.unread event missing in

@@ -17,7 +17,7 @@ use Rattle.pr_model.specs.declared.calls.Reply.TheVariants as reply
 use Rattle.pr_num.proofs.SearchLemmas.{All-at}
 use Rattle.pr_num.specs.Syscalls.{is_fork_call, syscall_args, syscall_number}
 use Rattle.pr_num.specs.declared.stop_reasons.StopReason.{StopReason}
-use Rattle.pr_num.specs.declared.stop_reasons.StopReason.TheVariants.{Requested, Signalled, SysEntry, SysExit, JobControl, Faulted, Suspended}
+use Rattle.pr_num.specs.declared.stop_reasons.StopReason.TheVariants.{SysExit}
 use Rattle.pr_num.specs.declared.syscalls.Sysno.{Sysno}
 use Rattle.pr_num.specs.declared.syscalls.Sysno.TheVariants.{Fork}
 use Rattle.pr_rec.specs.declared.lwps.LwpStatus.{LwpStatus}
@@ -59,13 +59,7 @@ child-forked l c is = by (has_ended_fork l && not (l.result == 0) && nat_lt l.re
   where
     exits : (w : Option StopReason) → is_exit w ≡ true → w ≡ Some SysExit
     exits (Some SysExit) e = refl
-    exits None e = absurd (false≢true e)
-    exits (Some Requested) e = absurd (false≢true e)
-    exits (Some Signalled) e = absurd (false≢true e)
-    exits (Some SysEntry) e = absurd (false≢true e)
-    exits (Some JobControl) e = absurd (false≢true e)
-    exits (Some Faulted) e = absurd (false≢true e)
-    exits (Some Suspended) e = absurd (false≢true e)
+    exits _ e = absurd (false≢true e)
 
     forks : (n : Option Sysno) → l.call ≡ n → is_fork n ≡ true → l.why ≡ Some SysExit → LeavesFork l
     forks (Some call) is makes left = record { call = call; makes = makes; exits = left; named = is }

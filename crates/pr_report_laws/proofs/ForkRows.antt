@@ -56,21 +56,17 @@ pub told-made : (p : TracedProcess) (l : TracedLwp) (new : Option TracedLwp) (d 
     (v : ℕ) → is_fork_call maker ≡ true → option_and_then told (event_of p l new d) ≡ Some (Left maker args (Ok v))
     → child_made d ≡ Some v
 unfolding event_of told
-told-made p l new did.Stopped maker args v makes is = cc
-told-made p l new did.Ran maker args v makes is = cc
-told-made p l new (did.Entered c) maker args v makes is = cc
 told-made p l new (did.Made c (Value w)) maker args v makes is = made-left c maker v w args _ makes is
 told-made p l new (did.Made c (Error e)) maker args v makes is = cc
 told-made p l new (did.Made c Ended) maker args v makes is = cc
-told-made p l new (did.Slept c) maker args v makes is = cc
 told-made p l new (did.Woke c (Value w)) maker args v makes is = made-left c maker v w args _ makes is
 told-made p l new (did.Woke c (Error e)) maker args v makes is = cc
 told-made p l new (did.Woke c Ended) maker args v makes is = cc
-told-made p l new (did.Returned c) maker args v makes is = cc
-told-made p l new (did.Faulted f) maker args v makes is = cc
-told-made p l new (did.Posted f) maker args v makes is = cc
-told-made p l new (did.Took g) maker args v makes is = cc
-told-made p l new (did.Acted g how) maker args v makes is = cc
+told-made p l new did.Stopped maker args v makes is = cc
+told-made p l new did.Ran maker args v makes is = cc
+told-made p l new (did.Entered c) maker args v makes is = cc
+told-made p l new (did.Slept c) maker args v makes is = cc
+told-made p l new _ maker args v makes is = cc
 
 -- ---- the row of the turn
 
@@ -178,9 +174,7 @@ module _ (s : TracedSystem) (pid : ℕ) (p : TracedProcess) (id : ℕ) (l : Trac
   executed-makes : (e : InstructionEffect) → MakesChild (executed_row p l e)
   unfolding executed_row ran_row entered_row incurred_row watched_row
   executed-makes (runs regs store) = either-makes l.control.step _ _ (none-makes _ refl) (none-makes _ refl)
-  executed-makes (calls c regs) = none-makes _ refl
-  executed-makes (faults f address) = none-makes _ refl
-  executed-makes (runs_into_watch address regs store) = none-makes _ refl
+  executed-makes _ = none-makes _ refl
 
   posted-makes : (f : Flt) (address : ℕ) → MakesChild (posted_row f address)
   unfolding posted_row
@@ -194,9 +188,7 @@ module _ (s : TracedSystem) (pid : ℕ) (p : TracedProcess) (id : ℕ) (l : Trac
   unfolding caught_row
   caught-makes c handler (phase.Entered made) = interrupted-makes false made (arguments l.regs)
   caught-makes c handler (phase.Asleep made args since) = interrupted-makes true made args
-  caught-makes c handler phase.User = handler-makes c handler
-  caught-makes c handler (phase.Exiting made args result) = handler-makes c handler
-  caught-makes c handler (phase.Faulted f address) = handler-makes c handler
+  caught-makes c handler _ = handler-makes c handler
 
   acted-makes : (c : Current) → MakesChild (acted_row p l c)
   unfolding acted_row
@@ -238,10 +230,7 @@ module _ (s : TracedSystem) (pid : ℕ) (p : TracedProcess) (id : ℕ) (l : Trac
 
   first-makes : (ph : Phase) (otherwise : Row) → MakesChild otherwise → MakesChild (posted_row_or s pid p id l ph otherwise)
   first-makes (phase.Faulted f address) otherwise makes = posted-makes f address
-  first-makes phase.User otherwise makes = makes
-  first-makes (phase.Entered c) otherwise makes = makes
-  first-makes (phase.Asleep c args since) otherwise makes = makes
-  first-makes (phase.Exiting c args result) otherwise makes = makes
+  first-makes _ otherwise makes = makes
 
   requested-makes : MakesChild requested_row
   unfolding requested_row

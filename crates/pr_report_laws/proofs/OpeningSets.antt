@@ -42,10 +42,7 @@ found-under f id x (e ∷ es) there passes =
 -- the classes of those that stand on events of interest come before that of those that are suspended
 stop-most : (s : Stop) → class_of_stop s ≤ 4
 stop-most stop.Requested = omega arith
-stop-most (stop.Signalled g) = omega arith
-stop-most (stop.SysEntry c) = omega arith
-stop-most (stop.SysExit c) = omega arith
-stop-most (stop.Faulted f) = omega arith
+stop-most _ = omega arith
 
 module _ (p : TracedProcess) where
   own-class : (l : TracedLwp) (s : Stop) → l.control.stop ≡ Some s → class_of p.job_stop l ≡ class_of_stop s
@@ -70,10 +67,7 @@ module _ (p : TracedProcess) where
 
       by : (s : Stop) → is_some (first_in_class p.job_stop (class_of_stop s) p.lwps) ≡ true → is_some (representative p) ≡ true
       by stop.Requested some = or-some _ (first_in_class p.job_stop 5 p.lwps) (some-or _ (first_in_class p.job_stop 4 p.lwps) some)
-      by (stop.Signalled g) some = third some
-      by (stop.SysEntry c) some = third some
-      by (stop.SysExit c) some = third some
-      by (stop.Faulted f) some = third some
+      by _ some = third some
 
   module _ (rises : IsRising p.lwps) (no_agent : has_agent p ≡ false) (frozen : IsFrozen p) (h : HasStop p) where
     -- the representative comes before the lwp that stands on an event, so that it stands on one too

@@ -34,7 +34,7 @@ use Rattle.pr_truss.specs.declared.processes.Traced.{Traced}
 use Rattle.pr_truss.specs.declared.replies.Answer.TheVariants.{Accepted}
 use Rattle.pr_truss.specs.declared.stages.Stage.{Stage}
 use Rattle.pr_truss.specs.declared.stages.Stage.TheVariants.{Polling, ReadingStatus, ReadingText, ReadingLwps}
-use Rattle.pr_truss_laws.proofs.ClosesLemmas.{fed-fits}
+use Rattle.pr_truss_laws.proofs.FedLemmas.{fed-fits}
 use Rattle.pr_truss_laws.proofs.ForeignLemmas.{names}
 use Rattle.pr_truss_laws.proofs.HeldLemmas.{Fits}
 use Rattle.pr_truss_laws.proofs.OpensLemmas.{held_by, looking-stays, only_looks}
@@ -89,13 +89,7 @@ pub record Comes (Why : Type 0) (o : Options) (pid : ℕ) (u : TrussState) (s : 
 pub ready-reply : (r : Reply) (handle : ℕ) → ready_in r ≡ Some handle → r ≡ reply.Ready handle
 unfolding ready_in
 ready-reply (reply.Ready m) handle is = ap (λ n. reply.Ready n) (same_Some m handle is)
-ready-reply (reply.Handle n) handle is = cc
-ready-reply reply.Done handle is = cc
-ready-reply (reply.Used n) handle is = cc
-ready-reply (reply.Half n) handle is = cc
-ready-reply (reply.Bytes bytes) handle is = cc
-ready-reply (reply.Pid pid) handle is = cc
-ready-reply (reply.Fail e) handle is = cc
+ready-reply _ handle is = cc
 
 -- the first of those that pass a test
 first-passes : {X : Type 0} (f : X → Bool) (xs : List X) (n : ℕ) → length (filter f xs) ≡ suc n → (x : X) × ((slice_get (filter f xs) 0 ≡ Some x) × (f x ≡ true))

@@ -254,7 +254,6 @@ module _ (s : TracedSystem) where
   system-calm : (m : Message) → IsCalm (message_refused s (system_refusal m))
   unfolding IsCalm
   system-calm (message.Set modes) = refl
-  system-calm (message.Unset modes) = refl
   system-calm _ = refl
 
   decoded-calm : (h : Held) (p : TracedProcess) (bytes : List ℕ) (r : Result (Message × ℕ) MsgFault) → IsCalm (decoded_answer s h p bytes r)
@@ -402,9 +401,7 @@ call-calm s by (call.Interrupt controller) a waits is = subst (λ (x : Answer). 
 call-calm s by (call.Spawn program held) a waits is = subst (λ (x : Answer). Calm x.reply) (same_Some _ a is) (spawn-calm s held (program_named s.system.programs program))
 call-calm s by (call.Kill pid number) a waits is = subst (λ (x : Answer). Calm x.reply) (same_Some _ a is) (sending-calm pid number (life_of s.system pid))
 call-calm s by call.List a waits is = subst (λ (x : Answer). Calm x.reply) (same_Some _ a is) (made (reply.Bytes _) refl)
-call-calm s by (call.CtlWait handle until bytes) a waits is = cc
-call-calm s by (call.Poll handles) a waits is = cc
-call-calm s by (call.Until moment) a waits is = cc
+call-calm s by _ a waits is = cc
 
 pub never-interrupted : (s : TracedState) (by : ℕ) (c : Call) (a : Answer) → can_wait c ≡ false → answer_to s by c ≡ Some a → answer_of a.reply ≢ Interrupted
 unfolding IsAnswer Calm

@@ -311,9 +311,7 @@ module _ (pid acting : ℕ) (p : TracedProcess) (id : ℕ) (l : TracedLwp) (othe
     change-passes (resumes frame frames) suits = changed-pass _ s
     change-passes (forks birth args) suits = unless-pass (s.made == acting) s _ (child-passes birth args s new)
     change-passes (reaps child) suits = unless-pass (child == acting) s _ (zombie-passes child suits)
-    change-passes (becomes program) suits = changed-pass _ s
-    change-passes (makes_lwp fresh regs held) suits = changed-pass _ s
-    change-passes (suspends target suspended) suits = changed-pass _ s
+    change-passes _ suits = changed-pass _ s
 
     -- a first change, and what is stored after it
     changes-pass : (cs : List Change) → SuitChanges acting p id l s cs → stores_after cs ≡ true → Passes pid ByKill s (all_changed traced acting p id l cs s)

@@ -19,8 +19,8 @@ pub mod OwnLemmas
 pub mod OwnTurnLemmas
 pub mod PolledLemmas
 pub mod ReleaseLemmas
+pub mod ReplySteps
 pub mod SequenceLemmas
-pub mod StepLemmas
 pub mod StillLemmas
 pub mod StoresLemmas
 pub mod TakenLemmas

@@ -25,9 +25,9 @@ use Rattle.pr_keeps.specs.MessageEdits as message
 use Rattle.pr_keeps.specs.MessageEdits.{MessageEdit}
 use Rattle.pr_keeps.proofs.CallLemmas.{call-edit, close-edit}
 use Rattle.pr_model.proofs.TurnLemmas.{turn-taken}
-use Rattle.pr_model.specs.Calls.{Answer, answer_to}
+use Rattle.pr_model.specs.Calls.{Answer, answer_to, close_answer, close_held, kill_answer, open_answer, open_unless, opened, spawn_answer, spawn_found, spawn_unless}
 use Rattle.pr_model.specs.Changes.{Change, files_are, space_is, signals, signals_itself, takes_shared, job_stops, disposition_is, held_is, resumes, forks, reaps, becomes, makes_lwp, suspends, Ending, ends_process, ends_lwp, all_changed, changed, ended, with_fds}
-use Rattle.pr_model.specs.ControlMessages.{tail_of}
+use Rattle.pr_model.specs.ControlMessages.{tail_of, aim_of, control_answer, control_handle, decoded_answer, held_answer, still_there, target_of, targeted_answer}
 use Rattle.pr_model.specs.Generation.{told}
 use Rattle.pr_model.specs.Handles.{released, with_closed, with_opened}
 use Rattle.pr_model.specs.Lawful.{IsLawful, IsLawfulSystem}
@@ -217,9 +217,7 @@ module _ (pid : ℕ) where
     changed-over (resumes frame frames) s o = acting-over _ s o
     changed-over (forks birth args) s o = unless-over (s.made == acting) s _ o (child-over birth args s o)
     changed-over (reaps child) s o = unless-over (child == acting) s _ o (reaped-over child s o)
-    changed-over (becomes program) s o = acting-over _ s o
-    changed-over (makes_lwp fresh regs held) s o = acting-over _ s o
-    changed-over (suspends target suspended) s o = acting-over _ s o
+    changed-over _ s o = acting-over _ s o
 
     all_changed-over : (cs : List Change) (s : TracedSystem) → IsOver pid s → IsOver pid (all_changed traced acting p id l cs s)
     unfolding all_changed

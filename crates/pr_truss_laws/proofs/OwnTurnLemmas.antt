@@ -17,7 +17,7 @@ use Rattle.pr_model.specs.Lives.{Birth, forked, new_lwp, started, with_child, wi
 use Rattle.pr_model.specs.Lawful.{IsLawfulProcess, IsLawfulSystem}
 use Rattle.pr_model.specs.LwpTurns.{LwpTurn, settled, turn_of, with_counted}
 use Rattle.pr_model.specs.Machines.{call_over, exec_control, fault_incurred, fault_posted, no_marks, step_taken, traced}
-use Rattle.pr_model.specs.Moves.{Move, moved, stays, stops, posts, returns, runs, enters, incurs, traps, leaves, sleeps, takes, drops, catches}
+use Rattle.pr_model.specs.Moves.{Move, moved, stops}
 use Rattle.pr_model.specs.Points.{after_meeting, is_traced, meets, stop_at, stopped_at, with_others_directed, with_stop_at}
 use Rattle.pr_model.specs.Rows.{Row, row_for}
 use Rattle.pr_model.specs.Signals.{is_kill}
@@ -229,18 +229,7 @@ module _ (pid : ℕ) where
     moved-stop : (m : Move) (k : TracedLwp) → is_stop m ≡ false → ((moved traced m k).control.stop ≡ k.control.stop) × ((moved traced m k).control.directed ≡ k.control.directed)
     unfolding moved traced fault_posted fault_incurred step_taken call_over
     moved-stop stops k not_stop = cc
-    moved-stop stays k not_stop = (refl, refl)
-    moved-stop (posts f address) k not_stop = (refl, refl)
-    moved-stop returns k not_stop = (refl, refl)
-    moved-stop (runs regs) k not_stop = (refl, refl)
-    moved-stop (enters call regs) k not_stop = (refl, refl)
-    moved-stop (incurs f address) k not_stop = (refl, refl)
-    moved-stop (traps f address regs) k not_stop = (refl, refl)
-    moved-stop (leaves call args result) k not_stop = (refl, refl)
-    moved-stop (sleeps call args since) k not_stop = (refl, refl)
-    moved-stop (takes c own) k not_stop = (refl, refl)
-    moved-stop drops k not_stop = (refl, refl)
-    moved-stop (catches frames regs held) k not_stop = (refl, refl)
+    moved-stop _ k not_stop = (refl, refl)
 
     -- where ids rise an lwp that ends is gone
     goes_on-without : (x : TracedProcess) → IsRising x.lwps → GoesOn x (without_lwp id x)
