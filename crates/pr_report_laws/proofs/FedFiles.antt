@@ -31,7 +31,8 @@ use Rattle.pr_truss.specs.declared.stages.Stage.TheVariants.{ReadingStatus, Read
 use Rattle.pr_truss_laws.proofs.HeldLemmas.{Fits, IsLast, at_place, set-at}
 use Rattle.pr_report_laws.proofs.StandLemmas.{Each, EachBut, HasMemoryOpen, IsAttached, IsNew, IsUnseen, Rests, Stands, StandsChild, StandsOpening, but-append, but-set, child-unseen, each-append, each-but, each-join, each-remove, each-set, old-attached, opening-unseen, rest-leaves, rest-stays}
 use Rattle.pr_truss_laws.proofs.ReplySteps as step
-use Rattle.pr_truss_laws.proofs.ReplySteps.{Closes, GoesOn, Learns, Looks, Opens, Reads, ReplyStep, Returns, Settles, StopOver, Turns, fed-step, leaving_now, old_less}
+use Rattle.pr_truss_laws.proofs.ReplySteps.{Closes, GoesOn, Learns, Looks, Opens, Reads, ReplyStep, Returns, Settles, StopOver, Turns, leaving_now, old_less}
+use Rattle.pr_truss_laws.proofs.FedSteps.{fed-step}
 use Rattle.pr_report_laws.proofs.KeepLemmas.{Base, FilesAre, FilesLeft, FreedIs, Grants, IsCalm, Keeps, base-leaves, can_wait, closing-keeps, lstatus-files, memory-files, new-files, new-fresh, old-files, on-keeps, over-keeps, reported-base, set-base, set-within, status-files, to, without-files}
 
 -- What each call and its reply do to the files that truss remembers, and to how its processes stand.

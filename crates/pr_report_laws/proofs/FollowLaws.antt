@@ -22,7 +22,7 @@ use Rattle.pr_truss.specs.declared.stages.ChildStep.TheVariants as child
 use Rattle.pr_truss.specs.declared.stages.Stage.TheVariants.{OpeningChildControl, Running}
 use Rattle.pr_truss_laws.proofs.AnswerLemmas.{IsAnswer, answer-is}
 use Rattle.pr_truss_laws.proofs.ClosesLemmas.{after-fits, after-grown, first-fits}
-use Rattle.pr_truss_laws.proofs.FedLemmas.{fed-fits}
+use Rattle.pr_truss_laws.proofs.FitLemmas.{fed-fits}
 use Rattle.pr_truss_laws.proofs.HeldLemmas.{Fits, Grown}
 use Rattle.pr_truss_laws.specs.Exchanges.{Exchange, IsGranted, Makes, errno_in, truss_after}
 use Rattle.pr_report_laws.proofs.BeginLaws.{at-options}

@@ -28,7 +28,7 @@ use Rattle.pr_truss.specs.declared.stages.ChildStep.TheVariants as child
 use Rattle.pr_truss.specs.declared.stages.Stage.TheVariants.{OpeningChild, Running, Closing}
 use Rattle.pr_truss_laws.proofs.AnswerLemmas.{IsAnswer, answer-is}
 use Rattle.pr_truss_laws.proofs.ClosesLemmas.{after-grown}
-use Rattle.pr_truss_laws.proofs.FedLemmas.{fed-fits}
+use Rattle.pr_truss_laws.proofs.FitLemmas.{fed-fits}
 use Rattle.pr_truss_laws.proofs.HeldLemmas.{Fits, IsFreshChild, Grown, set-at}
 use Rattle.pr_truss_laws.specs.Exchanges.{Exchange, IsGranted, Makes, calls_in, truss_after}
 use Rattle.pr_report_laws.proofs.OpeningRuns.{child-fed, child-pid, child-started, child_left, next-left}
