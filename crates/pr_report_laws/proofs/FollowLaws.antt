@@ -74,7 +74,8 @@ module _ (f t : TrussState) (parent of control : ℕ) (stage : t.stage ≡ Openi
         let now : Fits (refused_state errno).traced (refused_state errno).stage = subst (λ (v : TrussState). Fits v.traced v.stage) comes (fed-fits t x.reply fits) in
         let ends : truss_after (refused_state errno) xs ≡ f = ap (λ v. truss_after v xs) (sym comes) ∙ last in
         let g : Grown (refused_state errno).reports f.reports =
-        subst (λ (v : TrussState). Grown (refused_state errno).reports v.reports) ends (after-grown xs (refused_state errno)) in
+        subst (λ (v : TrussState). Grown (refused_state errno).reports v.reports) ends
+        (after-grown xs (refused_state errno)) in
         refused (record {
           errno = errno;
           opening = x ∷ [];
