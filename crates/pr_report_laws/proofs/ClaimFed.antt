@@ -10,7 +10,8 @@ use Rattle.pr_truss.specs.declared.stages.Stage.{Stage}
 use Rattle.pr_truss.specs.declared.stages.Stage.TheVariants.{Spawning, OpeningControl, Opening, Polling, ReadingStatus, ReadingText, OpeningChildControl, OpeningChild, Running, Closing, Unfollowing, ReadingLwps, FreeingChild, Finished}
 use Rattle.pr_truss_laws.proofs.HeldLemmas.{Fits, FitsAfter, IsLast}
 use Rattle.pr_truss_laws.proofs.ReplySteps as step
-use Rattle.pr_truss_laws.proofs.ReplySteps.{Closes, Looks, ReplyStep, Returns, Settles, fed-step, over-staged}
+use Rattle.pr_truss_laws.proofs.ReplySteps.{Closes, Looks, ReplyStep, Returns, Settles, over-staged}
+use Rattle.pr_truss_laws.proofs.FedSteps.{fed-step}
 use Rattle.pr_report_laws.proofs.Claims.{Comes, Names, claim_of, sets}
 use Rattle.pr_report_laws.proofs.ClaimOpenings.{child-control-goes, child-goes, closing-file-goes, opening-goes}
 use Rattle.pr_report_laws.proofs.ClaimReplies.{control-goes, poll-goes, run-goes, spawn-goes, status-goes, text-answered-goes}

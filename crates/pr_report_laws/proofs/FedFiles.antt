@@ -1,4 +1,4 @@
-use Rattle.std.proofs.Common.{◌-◌, ◌≡◌, ◌<◌, ◌++◌, ℕ, Bool, true, false, cond, Option, Some, None, List, [], ◌∷◌, length, refl, sym, subst, ◌∙◌, arith, inl, inr}
+use Rattle.std.proofs.Common.{◌-◌, ◌≡◌, ◌<◌, ◌++◌, ℕ, Bool, true, false, cond, Option, Some, None, [], ◌∷◌, length, refl, sym, subst, ◌∙◌, inl, inr}
 use Rattle.std.proofs.lemmas.Bool.{false≢true}
 use Rattle.std.proofs.lemmas.List.{get_or_push}
 use Rattle.pr_line.specs.declared.options.Options.{Options}
@@ -28,10 +28,12 @@ use Rattle.pr_truss.specs.declared.stages.OpeningStep.{OpeningStep}
 use Rattle.pr_truss.specs.declared.stages.OpeningStep.TheVariants as opening
 use Rattle.pr_truss.specs.declared.stages.Stage.{Stage}
 use Rattle.pr_truss.specs.declared.stages.Stage.TheVariants.{ReadingStatus, ReadingText, Running, Closing}
-use Rattle.pr_truss_laws.proofs.HeldLemmas.{Fits, IsLast, at_place, set-at}
+use Rattle.pr_truss_laws.proofs.HeldLemmas.{Fits, at_place, set-at}
 use Rattle.pr_report_laws.proofs.StandLemmas.{Each, EachBut, HasMemoryOpen, IsAttached, IsNew, IsUnseen, Rests, Stands, StandsChild, StandsOpening, but-append, but-set, child-unseen, each-append, each-but, each-join, each-remove, each-set, old-attached, opening-unseen, rest-leaves, rest-stays}
 use Rattle.pr_truss_laws.proofs.ReplySteps as step
-use Rattle.pr_truss_laws.proofs.ReplySteps.{Closes, GoesOn, Learns, Looks, Opens, Reads, ReplyStep, Returns, Settles, StopOver, Turns, fed-step, leaving_now, old_less}
+use Rattle.pr_truss_laws.proofs.ReplySteps.{Closes, GoesOn, Learns, Looks, Opens, Reads, ReplyStep, Returns, Settles, StopOver, Turns, leaving_now, old_less}
+use Rattle.pr_truss_laws.proofs.FedSteps.{fed-step}
+use Rattle.pr_truss_laws.proofs.FitLemmas.{last-within}
 use Rattle.pr_report_laws.proofs.KeepLemmas.{Base, FilesAre, FilesLeft, FreedIs, Grants, IsCalm, Keeps, base-leaves, can_wait, closing-keeps, lstatus-files, memory-files, new-files, new-fresh, old-files, on-keeps, over-keeps, reported-base, set-base, set-within, status-files, to, without-files}
 
 -- What each call and its reply do to the files that truss remembers, and to how its processes stand.
@@ -193,9 +195,6 @@ module _ (P : ℕ → File → Mode → ℕ → Type 0) (r : Reply) (s : TrussSt
 
   leaving-base : Each (Rests s.leaving) s.traced → Base P true (leaving_now s)
   leaving-base rests = let b = base-leaves P s (based rests) in record { files = b.files; rests = b.rests }
-
-  last-within : (ts : List Traced) (parent place : ℕ) → IsLast ts parent place → place < length ts
-  last-within ts parent place last = omega (arith, last.last)
 
   -- what the call of a stage was granted, and that it was not interrupted unless it waits
   abbrev Granted : Stage → Type 0

@@ -28,7 +28,7 @@ use Rattle.pr_truss.specs.declared.stages.ChildStep.TheVariants as child
 use Rattle.pr_truss.specs.declared.stages.Stage.TheVariants.{OpeningChild, Running, Closing}
 use Rattle.pr_truss_laws.proofs.AnswerLemmas.{IsAnswer, answer-is}
 use Rattle.pr_truss_laws.proofs.ClosesLemmas.{after-grown}
-use Rattle.pr_truss_laws.proofs.FedLemmas.{fed-fits}
+use Rattle.pr_truss_laws.proofs.FitLemmas.{fed-fits}
 use Rattle.pr_truss_laws.proofs.HeldLemmas.{Fits, IsFreshChild, Grown, set-at}
 use Rattle.pr_truss_laws.specs.Exchanges.{Exchange, IsGranted, Makes, calls_in, truss_after}
 use Rattle.pr_report_laws.proofs.OpeningRuns.{child-fed, child-pid, child-started, child_left, next-left}
@@ -355,7 +355,8 @@ module _ (f : TrussState) (control pid : ℕ) (base : List Report) where
           let fits : Fits (refused_state errno).traced (refused_state errno).stage = subst (λ (v : TrussState). Fits v.traced v.stage) comes (fed-fits s x.reply at.fits) in
           let ends : truss_after (refused_state errno) xs ≡ f = ap (λ v. truss_after v xs) (sym comes) ∙ last in
           let g : Grown (refused_state errno).reports f.reports =
-          subst (λ (v : TrussState). Grown (refused_state errno).reports v.reports) ends (after-grown xs (refused_state errno)) in
+          subst (λ (v : TrussState). Grown (refused_state errno).reports v.reports) ends
+          (after-grown xs (refused_state errno)) in
           failed (record {
             errno = errno;
             broken = broken-here errno is;

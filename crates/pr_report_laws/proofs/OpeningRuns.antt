@@ -30,6 +30,7 @@ use Rattle.pr_truss.specs.declared.stages.Stage.TheVariants.{Spawning, OpeningCo
 use Rattle.pr_truss_laws.proofs.HeldLemmas.{at_place, set-at}
 use Rattle.pr_truss_laws.specs.Exchanges.{Exchange, IsGranted, errno_in, truss_after}
 use Rattle.pr_report_laws.proofs.NextStages.{next_opening-comes}
+use Rattle.pr_report_laws.proofs.OpeningParts.{learnt-pid}
 use Rattle.pr_report_laws.proofs.WatchedPlaces.{IsWatched}
 
 -- An opening of which no call is refused runs to its end, and the process is watched then.
@@ -112,11 +113,6 @@ step-left o r opening.TraceEntries = omega arith
 step-left o r opening.TraceExits = elim o.follow as (λ b. 1 + cond b 2 1 ≡ suc (steps_left b (cond b opening.Follow opening.Start))) [ true ↦ refl | false ↦ refl ]
 step-left o r opening.Follow = refl
 step-left o r opening.Start = refl
-
-pub learnt-pid : (u : Traced) (r : Reply) (step : OpeningStep) → (learnt u r step).pid ≡ u.pid
-unfolding learnt
-learnt-pid u r (opening.AwaitStop until) = refl
-learnt-pid u r _ = refl
 
 learnt-attached : (o : Options) (u : Traced) (r : Reply) (step : OpeningStep) → (has_stopped step ≡ true → u.attached ≡ true) → stopped_after (step_after o r step) ≡ true → (learnt u r step).attached ≡ true
 unfolding learnt step_after

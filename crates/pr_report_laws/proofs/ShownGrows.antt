@@ -15,9 +15,10 @@ use Rattle.pr_truss.specs.declared.reports.Report.{Report}
 use Rattle.pr_truss.specs.declared.reports.Report.TheVariants.{Event as Reported}
 use Rattle.pr_truss.specs.declared.stages.Stage.{Stage}
 use Rattle.pr_truss.specs.declared.stages.Stage.TheVariants.{ReadingText}
-use Rattle.pr_truss_laws.proofs.FedLemmas.{fed-grown}
+use Rattle.pr_truss_laws.proofs.FitLemmas.{fed-grown}
 use Rattle.pr_truss_laws.proofs.HeldLemmas.{Grown, grown-same}
-use Rattle.pr_truss_laws.proofs.ReplySteps.{by_test, event-over, on-staged, over-staged, seen-on}
+use Rattle.pr_truss_laws.proofs.ReplySteps.{on-staged, over-staged}
+use Rattle.pr_truss_laws.proofs.FedSteps.{by_test, event-over, seen-on}
 use Rattle.pr_truss_laws.specs.Exchanges.{Exchange}
 use Rattle.pr_report_laws.proofs.NextStages.{reported, shown-all}
 use Rattle.pr_report_laws.proofs.StopsOver.{reported-text, shown-none, shown-text}

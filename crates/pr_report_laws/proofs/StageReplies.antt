@@ -1,12 +1,11 @@
-use Rattle.std.proofs.Common.{◌≡◌, ◌≢◌, ◌⊎◌, ◌==◌, ◌&&◌, ◌<◌, ℕ, Bool, true, false, Option, None, length, refl, sym, subst, ap, ◌∙◌, inl, inr}
+use Rattle.std.proofs.Common.{◌≡◌, ◌≢◌, ◌⊎◌, ◌==◌, ◌&&◌, ◌<◌, ℕ, Bool, true, false, Option, length, refl, sym, subst, ap, ◌∙◌, inl, inr}
 use Rattle.std.proofs.lemmas.Bool.{cases_eq, eq-eqb, false≢true, ne_eqb}
-use Rattle.pr_line.specs.declared.options.Options.{Options}
 use Rattle.pr_model.specs.Replies.{handle_in}
 use Rattle.pr_model.specs.declared.calls.Reply.{Reply}
 use Rattle.pr_rec.specs.declared.lwps.LwpStatus.{LwpStatus}
 use Rattle.pr_truss.specs.Children.{with_child_control}
 use Rattle.pr_truss.specs.Feeding.{fed}
-use Rattle.pr_truss.specs.Openings.{learnt, step_after, with_control}
+use Rattle.pr_truss.specs.Openings.{learnt, with_control}
 use Rattle.pr_truss.specs.Processes.{newly_traced}
 use Rattle.pr_truss.specs.Replies.{answer_of}
 use Rattle.pr_truss.specs.Trusses.{TrussState, traced_at, with_opened, with_report, with_stage, with_traced, without_traced}
@@ -16,33 +15,22 @@ use Rattle.pr_truss.specs.declared.reports.Report.{Report}
 use Rattle.pr_truss.specs.declared.stages.AfterClosing.{AfterClosing}
 use Rattle.pr_truss.specs.declared.stages.AfterClosing.TheVariants.{OpenNext, GoOn, RunParent}
 use Rattle.pr_truss.specs.declared.stages.FreeingStep.{FreeingStep}
-use Rattle.pr_truss.specs.declared.stages.OpeningStep.{OpeningStep}
 use Rattle.pr_truss.specs.declared.stages.OpeningStep.TheVariants as opening
 use Rattle.pr_truss.specs.declared.stages.Stage.{Stage}
 use Rattle.pr_truss.specs.declared.stages.Stage.TheVariants.{Opening, ReadingStatus, ReadingText, Running, Closing, ReadingLwps, FreeingChild}
-use Rattle.pr_truss_laws.proofs.FedLemmas.{parent-within}
+use Rattle.pr_truss_laws.proofs.FitLemmas.{parent-within}
 use Rattle.pr_truss_laws.proofs.HeldLemmas.{Fits}
 use Rattle.pr_truss_laws.proofs.ReplySteps as step
-use Rattle.pr_truss_laws.proofs.ReplySteps.{Closes, GoesOn, Looks, Reads, ReplyStep, Returns, Settles, StopOver, Turns, fed-step, lost-same, on-staged, seen_at}
+use Rattle.pr_truss_laws.proofs.ReplySteps.{Closes, GoesOn, Looks, Reads, ReplyStep, Returns, Settles, StopOver, Turns, lost-same, on-staged, seen_at}
+use Rattle.pr_truss_laws.proofs.FedSteps.{fed-step}
 use Rattle.pr_report_laws.proofs.NextStages
 use Rattle.pr_report_laws.proofs.NextStages.{on-comes}
-use Rattle.pr_report_laws.proofs.OpeningRuns.{learnt-pid}
+use Rattle.pr_report_laws.proofs.OpeningParts.{last-start, learnt-pid, learnt-start}
 use Rattle.pr_report_laws.proofs.StageChanges.{AllBegin, Begins, Comes, Ends, Idle, IsBased, IsLooking, Opens, StaysAt, asks-comes, at, away_before, based, both-stay, child_goes, child_interrupted, child_starts, closing-comes, followed, goes, gone, idle-begins, interrupted, is_new, less, looked, next-comes, no, opened, over-comes, plain-comes, push-other, runs, same-stays, set-other, set-stays, starts, status, text, unfollows}
 use Rattle.pr_report_laws.proofs.StandLemmas.{Leaves}
 use Rattle.pr_report_laws.specs.Watching.{is_away}
 
 -- What each reply makes of truss, a kind of step each.
-
--- ---- the last steps of an opening
-
-last-step : (o : Options) (r : Reply) (step : OpeningStep) → step_after o r step ≡ None → step ≡ opening.Start
-unfolding step_after
-last-step o r opening.Start none = refl
-last-step o r _ none = cc
-
-start-attached : (u : Traced) (r : Reply) → (learnt u r opening.Start).attached ≡ u.attached
-unfolding learnt
-start-attached u r = refl
 
 module _ (t : TrussState) (r : Reply) where
   -- where the stage is none that is about a process
@@ -152,8 +140,8 @@ module _ (t : TrussState) (r : Reply) where
   settles-comes stage given u v is f (step.refuses_control _ _) on =
       idle-next stage given u v is (λ other. refl) (same-stays t u refl) (λ left. inl left) on
   settles-comes stage given u v is f (step.ends_opening {place = place} {now = now} a none) on =
-      let last : now ≡ opening.Start = last-step t.options r now none in
-      let attached = ap (λ n. (learnt (traced_at t place) r n).attached) last ∙ start-attached (traced_at t place) r in
+      let last : now ≡ opening.Start = last-start t.options r now none in
+      let attached = ap (λ (x : Traced). x.attached) (learnt-start (traced_at t place) r now last) in
       next-comes t r u v given
       (set-stays t place (learnt (traced_at t place) r now) f.0 (learnt-pid (traced_at t place) r now) attached)
       (λ left. inl left)

@@ -16,7 +16,8 @@ use Rattle.pr_truss.specs.declared.stages.AfterClosing.{AfterClosing}
 use Rattle.pr_truss.specs.declared.stages.Stage.{Stage}
 use Rattle.pr_truss.specs.declared.stages.Stage.TheVariants.{ReadingStatus, ReadingText, ReadingLwps}
 use Rattle.pr_truss_laws.proofs.ReplySteps as step
-use Rattle.pr_truss_laws.proofs.ReplySteps.{Closes, GoesOn, IsNew, Looks, Reads, ReplyStep, Settles, StopOver, fed-step, on-staged, over-staged}
+use Rattle.pr_truss_laws.proofs.ReplySteps.{Closes, GoesOn, IsNew, Looks, Reads, ReplyStep, Settles, StopOver, on-staged, over-staged}
+use Rattle.pr_truss_laws.proofs.FedSteps.{fed-step}
 use Rattle.pr_report_laws.specs.Memories.{range_asked}
 
 -- What one reply adds to the reports of truss, and which memory truss asks for then.

@@ -36,7 +36,8 @@ use Rattle.pr_truss_laws.specs.Exchanges.{Exchange, IsGranted, Makes, calls_in, 
 use Rattle.pr_report_laws.proofs.FileLaws.{HasFiles}
 use Rattle.pr_report_laws.proofs.FileSteps.{MakesNext, makes-next}
 use Rattle.pr_report_laws.proofs.NextStages.{opens}
-use Rattle.pr_report_laws.proofs.OpeningRuns.{child-pid, learnt-pid}
+use Rattle.pr_report_laws.proofs.OpeningParts.{learnt-pid}
+use Rattle.pr_report_laws.proofs.OpeningRuns.{child-pid}
 use Rattle.pr_report_laws.proofs.OptionLemmas.{fed-options}
 use Rattle.pr_report_laws.proofs.StageChanges.{Comes, How, Opens, at, child_goes, child_starts, free, goes, less, no, starts}
 use Rattle.pr_report_laws.proofs.StageReplies.{fed-comes}

@@ -30,7 +30,8 @@ use Rattle.pr_truss_laws.proofs.ClosesLemmas.{after-grown}
 use Rattle.pr_truss_laws.proofs.HeldLemmas.{Grown, empty-list}
 use Rattle.pr_truss_laws.proofs.OpeningLemmas.{Done, Failed, Leads, OpeningEnd, SameBase, Stopped, closed, closing, closing-end, done, failed, going, leads-later, left, opening-end}
 use Rattle.pr_truss_laws.proofs.SequenceLemmas.{Goes, begun-calls, next-calls, whole-calls}
-use Rattle.pr_truss_laws.proofs.ReplySteps.{on-staged, opens-next}
+use Rattle.pr_truss_laws.proofs.ReplySteps.{on-staged}
+use Rattle.pr_truss_laws.proofs.FedSteps.{opens-next}
 use Rattle.pr_truss_laws.specs.Exchanges.{Ends, Exchange, IsClose, IsGranted, Makes, errno_in, truss_after}
 use Rattle.pr_truss_laws.specs.Given.{AreHandled, IsBegunOpening, IsHandled, IsHandledSoFar, IsRefusedOpening, IsStarting, IsWholeOpening, LeftAtStart, NotStarted, Started, opening_calls}
 

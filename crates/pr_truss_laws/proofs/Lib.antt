@@ -3,6 +3,8 @@ pub mod AnswerLemmas
 pub mod BridgeLemmas
 pub mod ClosesLemmas
 pub mod FedLemmas
+pub mod FedSteps
+pub mod FitLemmas
 pub mod ForeignLemmas
 pub mod FrameLemmas
 pub mod GivenLemmas

@@ -39,7 +39,8 @@ use Rattle.pr_truss.specs.declared.stages.OpeningStep.TheVariants as opening
 use Rattle.pr_truss.specs.declared.stages.Stage.{Stage}
 use Rattle.pr_truss.specs.declared.stages.Stage.TheVariants.{Spawning, OpeningControl, Opening, Polling, ReadingStatus, ReadingText, OpeningChildControl, OpeningChild, Running, Closing, Unfollowing, ReadingLwps, FreeingChild, Finished}
 use Rattle.pr_truss_laws.proofs.ClosesLemmas.{first-fits, nothing-held}
-use Rattle.pr_truss_laws.proofs.FedLemmas.{Changes, Gives, fed-changes, fed-fits, gives}
+use Rattle.pr_truss_laws.proofs.FedLemmas.{Changes, Gives, fed-changes, gives}
+use Rattle.pr_truss_laws.proofs.FitLemmas.{fed-fits}
 use Rattle.pr_truss_laws.proofs.HeldLemmas.{Fits, held, unit}
 use Rattle.pr_truss_laws.proofs.OpensLemmas.{ClosesOne, NotOpen, Opens, Refuses, close-closes, foreign-call, held_by, keeps_handles, open-opens, own-free, own-mine, own-other, own-set, plain-leaves}
 use Rattle.pr_truss_laws.specs.Exchanges.{Ends, Exchange, Makes, exchange_in, exchange_of, exchanges, truss_after}
