@@ -9,7 +9,7 @@ use Rattle.pr_lawful.proofs.SystemLemmas.{next-free}
 use Rattle.pr_lawful.proofs.UseLemmas.{files-room}
 use Rattle.pr_model.specs.Changes.{Effect, all_changed, changed, fails, forks, gives}
 use Rattle.pr_model.specs.Lawful.{IsLawfulSystem}
-use Rattle.pr_model.specs.Lives.{with_child}
+use Rattle.pr_model.specs.Lives.{by_fork, with_child}
 use Rattle.pr_model.specs.Machines.{traced}
 use Rattle.pr_model.specs.ProcessCalls.{fork_effect}
 use Rattle.pr_model.specs.Readers.{size_of, total_has_room}
@@ -27,7 +27,7 @@ module _ (s : TracedSystem) (p : TracedProcess) (id : ℕ) (args : List ℕ) whe
 
   abbrev by_refusal : (o : Option Errno) → Effect
   by_refusal (Some e) = fails e
-  by_refusal None = gives s.made (forks args ∷ [])
+  by_refusal None = gives s.made (forks by_fork args ∷ [])
 
   fork-by : (id == agent_id) ≡ false → fork_effect s p id args ≡ by_refusal (fork_refusal s p)
   unfolding fork_effect fork_refusal
@@ -40,7 +40,7 @@ module _ (s : TracedSystem) (p : TracedProcess) (id : ℕ) (args : List ℕ) whe
   pub fork-refused : (e : Errno) → (id == agent_id) ≡ false → fork_refusal s p ≡ Some e → fork_effect s p id args ≡ fails e
   fork-refused e other is = fork-by other ∙ ap by_refusal is
 
-  pub fork-granted : (id == agent_id) ≡ false → fork_refusal s p ≡ None → fork_effect s p id args ≡ gives s.made (forks args ∷ [])
+  pub fork-granted : (id == agent_id) ≡ false → fork_refusal s p ≡ None → fork_effect s p id args ≡ gives s.made (forks by_fork args ∷ [])
   fork-granted other is = fork-by other ∙ ap by_refusal is
 
 -- the next id is not that of a process that stands
@@ -57,7 +57,7 @@ module _ (s : TracedSystem) (pid : ℕ) (p : TracedProcess) (id : ℕ) (l : Trac
   unfolding after_effect all_changed
   forked-refused e other is = rw (fork-refused s p id args e other is) refl
 
-  pub forked-child : IsLawfulSystem s → live_process s pid ≡ Some p → (id == agent_id) ≡ false → fork_refusal s p ≡ None → with_child traced pid p l args s ≡ after_effect pid p id l (fork_effect s p id args) s
+  pub forked-child : IsLawfulSystem s → live_process s pid ≡ Some p → (id == agent_id) ≡ false → fork_refusal s p ≡ None → with_child traced by_fork pid p l args s ≡ after_effect pid p id l (fork_effect s p id args) s
   unfolding after_effect all_changed changed
   forked-child lawful found other is = rw (fork-granted s p id args other is, next-other s pid p lawful found) refl
 

@@ -14,7 +14,7 @@ ghost use Rattle.pr_ctl.specs.Memory.{memory_reply};
 use pr_mem::Space;
 use pr_model::Reply;
 use pr_num::{Bytes, Errno, NoMemory};
-use pr_proc::{Proc, Sys, live};
+use pr_proc::{Proc, Sys, live, seen};
 use std::alloc::Global;
 
 /// The bytes from an address on, whatever their protection (EIO where not all of them are mapped).
@@ -37,7 +37,7 @@ pub fn read(alloc: Global, sys: &Sys, pid: u32, at: u64, size: u64) -> Result<Re
     ensures { (lwp : Option ℕ) (tail : List ℕ) (used : ℕ) → IfOk result (λ reply. Answers sys.now pid lwp (message.Read at size) tail used sys.now reply) }
 {
     let process = live(sys, pid).unwrap();
-    read_space(alloc, &process.space, at, size)
+    read_space(alloc, seen(sys, process), at, size)
 }
 
 /// Writes bytes to a process's memory from an address on, whatever its protection; false: not all of it is mapped, and

@@ -5,7 +5,7 @@ use Rattle.std.proofs.lemmas.Option.{same_Some, none-some}
 use Rattle.pr_num.specs.ById.{change_under, inserted, under}
 use Rattle.pr_num.proofs.ByIdLaws.{under-inserted, under-inserted_other}
 use Rattle.pr_model.specs.Changes.{with_fds}
-use Rattle.pr_model.specs.Lives.{forked, with_child, with_made}
+use Rattle.pr_model.specs.Lives.{Birth, forked, with_child, with_made}
 use Rattle.pr_model.specs.Machines.{traced}
 use Rattle.pr_model.specs.State.{TracedLwp, TracedProcess, TracedSystem, live_process, process_of, with_process}
 use Rattle.pr_num.specs.Files.{Descriptors}
@@ -88,13 +88,13 @@ next-beside s added pid p child free live made = rw made (beside-next s pid p ch
 pub ruleset fork_laws = (beside-next, next-stands, next-files, given-child)
 
 -- with its descriptors it is the child
-pub with_fds-child : (pid clock : ℕ) (args : List ℕ) (p : TracedProcess) (l : TracedLwp) → with_fds p.fds (bare_child pid p l args clock) ≡ child_of pid p l args clock
+pub with_fds-child : (birth : Birth) (pid clock : ℕ) (args : List ℕ) (p : TracedProcess) (l : TracedLwp) → with_fds p.fds (bare_child birth pid p l args clock) ≡ child_of birth pid p l args clock
 unfolding bare_child forked with_fds
-with_fds-child pid clock args p l = refl
+with_fds-child birth pid clock args p l = refl
 
 -- so the system is the one with the child
-pub child-forked : (s same new : TracedSystem) (pid : ℕ) (args : List ℕ) (p child : TracedProcess) (l : TracedLwp) → same ≡ s → ((q : TracedProcess) → live_process same pid ≡ Some q → new ≡ with_made (with_fds q.fds child) (record same { files = with_all_shared same.files q.fds })) → live_process s pid ≡ Some p → child ≡ bare_child pid p l args s.clock → new ≡ with_child traced pid p l args s
+pub child-forked : (birth : Birth) (s same new : TracedSystem) (pid : ℕ) (args : List ℕ) (p child : TracedProcess) (l : TracedLwp) → same ≡ s → ((q : TracedProcess) → live_process same pid ≡ Some q → new ≡ with_made (with_fds q.fds child) (record same { files = with_all_shared same.files q.fds })) → live_process s pid ≡ Some p → child ≡ bare_child birth pid p l args s.clock → new ≡ with_child traced birth pid p l args s
 unfolding with_child
-child-forked s same new pid args p child l as_before made live is =
+child-forked birth s same new pid args p child l as_before made live is =
     let here : new ≡ with_made (with_fds p.fds child) (record s { files = with_all_shared s.files p.fds }) = (rw as_before at made) p live in
-    here ∙ ap (λ x. with_made x (record s { files = with_all_shared s.files p.fds })) (ap (with_fds p.fds) is ∙ with_fds-child pid s.clock args p l)
+    here ∙ ap (λ x. with_made x (record s { files = with_all_shared s.files p.fds })) (ap (with_fds p.fds) is ∙ with_fds-child birth pid s.clock args p l)

@@ -6,7 +6,7 @@ ghost use Rattle.pr_num.specs.ById.{under};
 ghost use Rattle.pr_parts.specs.FileCalls.{with_all_shared};
 ghost use Rattle.pr_parts.specs.FileTables.{HasRoom};
 ghost use Rattle.pr_model.specs.Changes.{with_fds};
-ghost use Rattle.pr_model.specs.Lives.{forked_lwp, with_child, with_made};
+ghost use Rattle.pr_model.specs.Lives.{by_fork, forked_lwp, with_child, with_made};
 ghost use Rattle.pr_model.specs.Machines.{birth_marks, birth_stop, child_control, traced};
 ghost use Rattle.pr_model.specs.Registers.{with_result};
 ghost use Rattle.pr_model.specs.State.{live_process, lwp_of, process_of, with_process};
@@ -61,24 +61,24 @@ fn frames_of(process: &mut Proc, lwp: u32) -> Frames
     frames_again(&mut process.lwps.get_mut(lwp).frames)
 }
 
-/// The stop of a child at its birth, on its exit from fork, where that is traced (proc(4), "PR_FORK").
+/// The stop of a child at its birth, on its exit from the call that made it, where that is traced (proc(4), "PR_FORK").
 #[tactic(auto, unfolding(pr_model::specs::Machines::birth_stop))]
-fn birth_stop(control: &Control<Areas>) -> Option<Stop>
-    ensures { result ≡ birth_stop control.now }
+fn birth_stop(call: Sysno, control: &Control<Areas>) -> Option<Stop>
+    ensures { result ≡ birth_stop call control.now }
 {
-    if control.modes.has(Modes::FORK) && control.traced_exits.has(Sysno::Fork) {
-        Some(Stop::SysExit(Sysno::Fork))
+    if control.modes.has(Modes::FORK) && control.traced_exits.has(call) {
+        Some(Stop::SysExit(call))
     } else {
         None
     }
 }
 
 #[tactic(auto, unfolding(pr_model::specs::Machines::birth_marks))]
-fn birth_marks(control: &Control<Areas>) -> LwpControl
-    ensures { result ≡ birth_marks control.now }
+fn birth_marks(call: Sysno, control: &Control<Areas>) -> LwpControl
+    ensures { result ≡ birth_marks call control.now }
 {
     LwpControl {
-        stop: birth_stop(control),
+        stop: birth_stop(call, control),
         ..no_marks(false)
     }
 }
@@ -123,7 +123,7 @@ fn with_zero(regs: [u64; 11]) -> [u64; 11]
 #[tactic(auto, unfolding(pr_model::specs::Lives::forked_lwp, pr_model::specs::Machines::traced))]
 fn forked_lwp(lwp: &Lwp, frames: Frames, args: [u64; 6], control: &Control<Areas>) -> Lwp
     requires { frames ≡ lwp.now.frames }
-    ensures { result ≡ forked_lwp traced args control.now lwp.now }
+    ensures { result ≡ forked_lwp traced by_fork args control.now lwp.now }
 {
     let regs = lwp.regs;
     LwpOf {
@@ -138,7 +138,7 @@ fn forked_lwp(lwp: &Lwp, frames: Frames, args: [u64; 6], control: &Control<Areas
             args,
             result: Res::Value(0),
         },
-        control: birth_marks(control),
+        control: birth_marks(Sysno::Fork, control),
     }
 }
 
@@ -154,7 +154,7 @@ fn bare_child(
     clock: u64,
 ) -> Result<Proc, NoMemory>
     requires { frames ≡ lwp.now.frames }
-    ensures { IfOk result (λ child. child ≡ bare_child pid process.now lwp.now args clock) }
+    ensures { IfOk result (λ child. child ≡ bare_child by_fork pid process.now lwp.now args clock) }
 {
     let space = process.space.copy(alloc)?;
     let lwps = one_lwp(alloc, 1, forked_lwp(lwp, frames, args, &process.control))?;
@@ -187,7 +187,7 @@ fn made_child(
     requires live { IsSome (live_process sys.old pid) }
     requires lwp { IfSome (live_process sys.old pid) (λ p. IsSome (lwp_of p lwp)) }
     ensures same { sys.new ≡ sys.old }
-    ensures child { IfOk result (λ child. ForSome (live_process sys.old pid) (λ p. ForSome (lwp_of p lwp) (λ l. child ≡ bare_child pid p l args sys.old.clock))) }
+    ensures child { IfOk result (λ child. ForSome (live_process sys.old pid) (λ p. ForSome (lwp_of p lwp) (λ l. child ≡ bare_child by_fork pid p l args sys.old.clock))) }
 {
     let frames = frames_of(sys.processes.get_mut(pid), lwp);
     let process = live(sys, pid).unwrap();
@@ -253,7 +253,7 @@ pub fn fork(alloc: Global, sys: &mut Sys, pid: u32, lwp: u32, args: [u64; 6]) ->
     requires free { process_of sys.old sys.old.made ≡ None }
     // open files can count a child's descriptors too
     requires users { HasRoom sys.old.files descriptor_limit }
-    ensures ok { OnOk result (ForSome (live_process sys.old pid) (λ p. ForSome (lwp_of p lwp) (λ l. sys.new ≡ with_child traced pid p l args sys.old))) }
+    ensures ok { OnOk result (ForSome (live_process sys.old pid) (λ p. ForSome (lwp_of p lwp) (λ l. sys.new ≡ with_child traced by_fork pid p l args sys.old))) }
     ensures child { IfOk result (λ child. child ≡ sys.old.made) }
     ensures refused { ForSome (live_process sys.old pid) (λ p. Says result (fork_refusal sys.old p)) }
     ensures memory { result ≡ Err ProcNo.NoMemory → ForSome (live_process sys.old pid) (λ p. fork_refusal sys.old p ≡ None) }

@@ -36,5 +36,5 @@ pub use signals::{disposition_of, generate};
 pub use sizes::{size_of, total_has_room};
 pub use spawns::spawn;
 pub use stops::shows;
-pub use systems::{Lwp, Proc, Sys, has_agent, live};
+pub use systems::{Lwp, Proc, Sys, has_agent, live, seen};
 pub use zombies::{children, reap};

@@ -1,5 +1,6 @@
 ghost use Rattle.std.specs.Prelude.{◌≡◌};
 ghost use Rattle.std.specs.Option.{option_copied};
+ghost use Rattle.pr_model.specs.Readers.{space_seen};
 ghost use Rattle.pr_model.specs.State.{has_agent, live_process};
 
 use pr_asm::Program;
@@ -29,6 +30,13 @@ pub fn live(sys: &Sys, pid: u32) -> Option<&Proc>
         return None;
     }
     Some(process)
+}
+
+/// The address space of a process of a system as controllers see it, through its files and by messages.
+pub fn seen<'a>(sys: &'a Sys, process: &'a Proc) -> &'a Space
+    ensures { result.now ≡ space_seen sys.now process.now }
+{
+    &process.space
 }
 
 /// Whether a process has an agent.

@@ -9,12 +9,12 @@ use pr_model::{Act, Actor, Call, Did, Entry, How, Reply, Res};
 use pr_msg::decode_one;
 use pr_num::{AGENT, Message, NoMemory, Sysno};
 
-/// The first lwp of a forked child begins on its way out of fork.
+/// The first lwp of a child begins on its way out of the call that made it.
 fn remember_child(past: &mut Past, call: Sysno, res: Res) -> Result<(), NoMemory>
     ensures { OnOk result (past_of past.new ≡ with_child_of call res (past_of past.old)) }
 {
-    match (call, res) {
-        (Sysno::Fork, Res::Value(child)) => past.leave_call(child, 1),
+    match res {
+        Res::Value(child) if call.is_fork_call() => past.leave_call(child, 1),
         _ => Ok(()),
     }
 }

@@ -4,7 +4,7 @@ use Rattle.pr_num.specs.Control.{fork_mode, has_flags}
 use Rattle.pr_num.specs.Programs.{Program}
 use Rattle.pr_parts.specs.FileCalls.{with_all_shared}
 use Rattle.pr_model.specs.Changes.{Change, files_are, space_is, signals, signals_itself, takes_shared, job_stops, disposition_is, held_is, resumes, forks, reaps, becomes, makes_lwp, suspends, Ending, ends_process, ends_lwp, all_changed, changed, ended, with_fds, with_space, with_shared_taken, with_job_stop, with_disposition_of}
-use Rattle.pr_model.specs.Lives.{forked, with_child, with_lwp_ended, with_new_lwp, with_program, without_lwp}
+use Rattle.pr_model.specs.Lives.{Birth, forked, with_child, with_lwp_ended, with_new_lwp, with_program, without_lwp}
 use Rattle.pr_model.specs.Machines.{child_control, exec_control, nothing_set, nothing_used, traced}
 use Rattle.pr_model.specs.Moves.{moved}
 use Rattle.pr_model.specs.Signals.{is_kill}
@@ -20,9 +20,9 @@ child-usage : (c : TracedControl) → (child_control c).usage ≡ nothing_used
 unfolding child_control nothing_set
 child-usage c = elim (cases_Bool (has_flags c.modes fork_mode)) [ inl on ↦ rw on refl | inr off ↦ rw off refl ]
 
-child-used : (n pid : ℕ) (p : TracedProcess) (l : TracedLwp) (args : List ℕ) (s : TracedSystem) → AllUsedAtMost n s → AllUsedAtMost n (with_child traced pid p l args s)
+child-used : (birth : Birth) (n pid : ℕ) (p : TracedProcess) (l : TracedLwp) (args : List ℕ) (s : TracedSystem) → AllUsedAtMost n s → AllUsedAtMost n (with_child traced birth pid p l args s)
 unfolding with_child forked traced
-child-used n pid p l args s h = AllUsedAtMost-made n _ (record s { files = with_all_shared s.files p.fds }) (child-usage p.control) (record { each = h.each })
+child-used birth n pid p l args s h = AllUsedAtMost-made n _ (record s { files = with_all_shared s.files p.fds }) (child-usage p.control) (record { each = h.each })
 
 new_lwp-usage : (id : ℕ) (regs : List ℕ) (held : ℕ) (p : TracedProcess) → (with_new_lwp traced id regs held p).control.usage ≡ p.control.usage
 unfolding with_new_lwp
@@ -53,7 +53,7 @@ module _ (n pid : ℕ) (p : TracedProcess) (id : ℕ) (l : TracedLwp) where
   changed-used (disposition_is g disposition) s h = AllUsedAtMost-with_process n pid (with_disposition_of g disposition) s (λ q. refl) h
   changed-used (held_is held) s h = AllUsedAtMost-with_process n pid _ s (λ q. lwp-usage id _ q) h
   changed-used (resumes frame frames) s h = AllUsedAtMost-with_process n pid _ s (λ q. lwp-usage id _ q) h
-  changed-used (forks args) s h = unless-used n (s.made == pid) s _ h (child-used n pid p l args s h)
+  changed-used (forks birth args) s h = unless-used n (s.made == pid) s _ h (child-used birth n pid p l args s h)
   changed-used (reaps child) s h = unless-used n (child == pid) s _ h (AllUsedAtMost-reaped n child s h)
   changed-used (becomes program) s h = AllUsedAtMost-with_process n pid _ s (λ q. program-usage id l program q) h
   changed-used (makes_lwp new regs held) s h = AllUsedAtMost-with_process n pid _ s (λ q. new_lwp-usage new regs held q) h

@@ -43,7 +43,7 @@ module _ (pid : ℕ) (p : TracedProcess) (id : ℕ) (l : TracedLwp) where
   changed-clock (disposition_is g disposition) s = refl
   changed-clock (held_is held) s = refl
   changed-clock (resumes frame frames) s = refl
-  changed-clock (forks args) s = either-clock (s.made == pid) _ _ s.clock refl refl
+  changed-clock (forks birth args) s = either-clock (s.made == pid) _ _ s.clock refl refl
   changed-clock (reaps child) s = either-clock (child == pid) _ _ s.clock refl refl
   changed-clock (becomes program) s = refl
   changed-clock (makes_lwp new regs held) s = refl

@@ -10,7 +10,7 @@ ghost use Rattle.pr_rec.specs.RecordWords.{list_entry_words_of, lwpstatus_words_
 
 use crate::statuses::lwpstatus_of;
 use pr_num::{Area, Bytes, Mapping, MappingKind, Name, NoMemory};
-use pr_proc::{Proc, Sys};
+use pr_proc::{Proc, Sys, seen};
 use pr_rec::{
     ListEntry, LwpStatus, MapEntry, WatchEntry, name_field, write_list, write_lstatus, write_map,
     write_watch,
@@ -65,22 +65,22 @@ fn map_entry_of(program: &Name, mapping: &Mapping) -> MapEntry
 
 /// The mappings of a process.
 #[tactic(auto, unfolding(pr_model::specs::Records::map_of))]
-fn map_of(alloc: Global, process: &Proc) -> Result<Vec<MapEntry>, NoMemory>
-    ensures { IfOk result (λ mappings. mappings.items ≡ map_of process.now) }
+fn map_of(alloc: Global, sys: &Sys, process: &Proc) -> Result<Vec<MapEntry>, NoMemory>
+    ensures { IfOk result (λ mappings. mappings.items ≡ map_of sys.now process.now) }
 {
     let mut entries = Vec::new(alloc);
-    for mapping in process.space.mappings() {
+    for mapping in seen(sys, process).mappings() {
         entries.push(map_entry_of(&process.program, mapping))?;
     }
     Ok(entries)
 }
 
 /// The bytes of the mappings of a process. They decode to these.
-pub fn map_bytes(alloc: Global, process: &Proc) -> Result<Bytes, NoMemory>
-    ensures bytes { IfOk result (λ bytes. bytes ≡ map_bytes (map_of process.now)) }
-    ensures decodes { IfOk result (λ bytes. HasEntries map_entry_ranges map_entry_words_of (map_of process.now) bytes) }
+pub fn map_bytes(alloc: Global, sys: &Sys, process: &Proc) -> Result<Bytes, NoMemory>
+    ensures bytes { IfOk result (λ bytes. bytes ≡ map_bytes (map_of sys.now process.now)) }
+    ensures decodes { IfOk result (λ bytes. HasEntries map_entry_ranges map_entry_words_of (map_of sys.now process.now) bytes) }
 {
-    let entries = map_of(alloc, process)?;
+    let entries = map_of(alloc, sys, process)?;
     write_map(alloc, &entries)
 }
 

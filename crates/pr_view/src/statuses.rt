@@ -12,7 +12,7 @@ use pr_model::{Current, Phase, Res, Shown, Stop};
 use pr_num::layout::HEAP_BASE;
 use pr_num::limits::SIGNAL_COUNT;
 use pr_num::{AGENT, Errno, Flt, Info, Mapping, MappingKind, Sig, StopReason, Sysno};
-use pr_proc::{Lwp, Proc, disposition_of, has_agent};
+use pr_proc::{Lwp, Proc, Sys, disposition_of, has_agent, seen};
 use pr_rec::{Disposition, LwpFlags, LwpMarks, LwpStatus, ProcessFlags, Status, What};
 use pr_stop::{representative, representative_lwp, shown};
 
@@ -273,10 +273,10 @@ fn agent_of(process: &Proc) -> u32
     if has_agent(process) { AGENT } else { 0 }
 }
 
-/// The status of the process of an id.
+/// The status of a process of a system, with its id.
 #[tactic(auto, unfolding(pr_model::specs::Statuses::status_of, pr_model::specs::Statuses::process_flags))]
-pub fn status_of(pid: u32, process: &Proc) -> Status
-    ensures { result ≡ status_of pid process.now }
+pub fn status_of(sys: &Sys, pid: u32, process: &Proc) -> Status
+    ensures { result ≡ status_of sys.now pid process.now }
 {
     Status {
         flags: ProcessFlags::of(process.control.modes, pid == 0),
@@ -289,7 +289,7 @@ pub fn status_of(pid: u32, process: &Proc) -> Status
         traced_entries: process.control.traced_entries,
         traced_exits: process.control.traced_exits,
         heap_base: HEAP_BASE,
-        heap_size: heap_size(&process.space),
+        heap_size: heap_size(seen(sys, process)),
         agent: agent_of(process),
         areas: process.control.areas.len() as u64,
         lwp: representative_status(process),

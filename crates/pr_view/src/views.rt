@@ -18,7 +18,7 @@ use crate::processes::{psinfo_bytes, usage_bytes};
 use crate::statuses::{lwpstatus_of, status_of};
 use pr_model::{File, Reply};
 use pr_num::{Bytes, Errno, NoMemory};
-use pr_proc::{Lwp, Proc, Sys, live};
+use pr_proc::{Lwp, Proc, Sys, live, seen};
 use pr_rec::{LwpStatus, encode_sigact};
 use std::alloc::Global;
 
@@ -33,13 +33,13 @@ fn part_of(alloc: Global, bytes: &[u8], at: u64, len: u64) -> Result<Reply, NoMe
     Ok(Reply::Bytes(Bytes::from_vec(Vec::from_slice(alloc, read)?)))
 }
 
-/// The bytes of a process's status, with its id. They decode to that status, where the information of the
+/// The bytes of the status of a process of a system, with its id. They decode to that status, where the information of the
 /// representative's current signal is one that a record can hold.
-pub fn status_bytes(pid: u32, process: &Proc) -> [u8; 368]
-    ensures bytes { result ≡ status_bytes (status_of pid process.now) }
-    ensures decodes { IsInfo (status_of pid process.now).lwp.info → BeginsWith status_ranges result (status_words_of (status_of pid process.now)) }
+pub fn status_bytes(sys: &Sys, pid: u32, process: &Proc) -> [u8; 368]
+    ensures bytes { result ≡ status_bytes (status_of sys.now pid process.now) }
+    ensures decodes { IsInfo (status_of sys.now pid process.now).lwp.info → BeginsWith status_ranges result (status_words_of (status_of sys.now pid process.now)) }
 {
-    status_of(pid, process).encode()
+    status_of(sys, pid, process).encode()
 }
 
 /// The bytes of the status of an lwp of a process, with its id. They decode to that status, where the information of its
@@ -77,12 +77,12 @@ fn read_file(
 {
     match file {
         File::Ctl | File::Lwpctl => Ok(Reply::Fail(Errno::Badf)),
-        File::Status => part_of(alloc, &status_bytes(pid, process), at, len),
+        File::Status => part_of(alloc, &status_bytes(sys, pid, process), at, len),
         File::Lstatus => part_of(alloc, lstatus_bytes(alloc, process)?.as_slice(), at, len),
-        File::Psinfo => part_of(alloc, &psinfo_bytes(pid, process), at, len),
-        File::Map => part_of(alloc, map_bytes(alloc, process)?.as_slice(), at, len),
+        File::Psinfo => part_of(alloc, &psinfo_bytes(sys, pid, process), at, len),
+        File::Map => part_of(alloc, map_bytes(alloc, sys, process)?.as_slice(), at, len),
         File::Usage => part_of(alloc, &usage_bytes(pid, process), at, len),
-        File::Mem => read_space(alloc, &process.space, at, len),
+        File::Mem => read_space(alloc, seen(sys, process), at, len),
         File::Sigact => part_of(alloc, &encode_sigact(&process.dispositions), at, len),
         File::Watch => part_of(alloc, watch_bytes(alloc, process)?.as_slice(), at, len),
         File::Fds => part_of(
