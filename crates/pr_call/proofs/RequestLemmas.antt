@@ -2,6 +2,7 @@ use Rattle.std.proofs.Common.{◌≡◌, ℕ, Option, Some, None, IsSome, refl, 
 use Rattle.std.specs.Option.{ForSome}
 use Rattle.std.proofs.lemmas.Option.{same_Some}
 use Rattle.pr_model.specs.State.{TracedLwp, TracedProcess, TracedSystem, live_process, lwp_of}
+use Rattle.pr_model.specs.Statuses.{arguments_in}
 use Rattle.pr_model.specs.declared.lwps.Phase.{Phase}
 use Rattle.pr_model.specs.declared.lwps.Phase.TheVariants.{Entered, Asleep}
 use Rattle.pr_call.specs.Effects.{after_effect, effect_of, outcome_of}
@@ -39,6 +40,18 @@ module _ (s : TracedSystem) (pid id : ℕ) (r : Request) where
   unfolding request_of
   own made = by_process (live_process s pid) refl made
 
+  -- with the arguments of the call in which the lwp is
+  given : (l : TracedLwp) (phase : Phase) → request_in s.clock pid id l phase ≡ Some r → arguments_in l.regs phase ≡ r.args
+  unfolding arguments_in
+  given l (Entered call) made = ap (λ (q : Request). q.args) (same_Some _ r made)
+  given l (Asleep call args since) made = ap (λ (q : Request). q.args) (same_Some _ r made)
+  given l _ made = absurd (cc)
+
+  pub asked-arguments : (p : TracedProcess) (l : TracedLwp) → request_of s pid id ≡ Some r → live_process s pid ≡ Some p → lwp_of p id ≡ Some l → arguments_in l.regs l.phase ≡ r.args
+  unfolding request_of
+  asked-arguments p l made found stands =
+      given l l.phase (sym (ap (request_at s.clock pid id) found ∙ ap (request_by s.clock pid id) stands) ∙ made)
+
   -- so it can be performed
   pub asked-live : request_of s pid id ≡ Some r → IsSome (live_process s r.pid)
   asked-live made = let o = own made in rw (o.pid_is, o.found) refl
@@ -66,5 +79,11 @@ module _ (s new : TracedSystem) (pid id : ℕ) (q r : Request) (asks : request_o
   asked-outcome outcome h p found l stands =
       let o = own s pid id q asks in
       h p (ap (live_process s) o.pid_is ∙ found) l (ap (lwp_of p) o.lwp_is ∙ stands) ∙ ap (λ x. outcome_of (effect_of s p l x)) same
+
+-- it is the one that the lwp of its ids makes
+pub asked-own : (s : TracedSystem) (pid id : ℕ) (r : Request) → request_of s pid id ≡ Some r → request_of s r.pid r.lwp ≡ Some r
+asked-own s pid id r made =
+    let o = own s pid id r made in
+    ap (λ n. request_of s n r.lwp) o.pid_is ∙ ap (request_of s pid) o.lwp_is ∙ made
 
 pub ruleset asking = (asked-live, asked-lwp)

@@ -1,18 +1,10 @@
 //! Which system call an lwp makes.
 ghost use Rattle.std.specs.Prelude.{◌≡◌};
 ghost use Rattle.pr_call.specs.Requests.{request_in, request_of};
-ghost use Rattle.pr_model.specs.Registers.{arguments};
 
 use crate::requests::Request;
 use pr_model::Phase;
-use pr_proc::{Lwp, Sys, live};
-
-/// The six arguments of a system call, as the registers have them at its entry.
-pub fn arguments_of(regs: &[u64; 11]) -> [u64; 6]
-    ensures { result ≡ arguments regs.now }
-{
-    [regs[1], regs[2], regs[3], regs[4], regs[5], regs[6]]
-}
+use pr_proc::{Lwp, Sys, arguments_of, live};
 
 /// The call of an lwp, with its id and that of its process: the one at whose entry it is, which begins now, or the one
 /// in which it sleeps.

@@ -22,7 +22,6 @@ mod stores;
 mod transfers;
 mod waits;
 
-pub use askings::arguments_of;
 pub use performing::perform;
 pub use requests::{Performed, Request};
 pub use sleeps::is_ready;

@@ -1,5 +1,5 @@
 //! A system call performed.
-ghost use Rattle.std.specs.Prelude.{◌≡◌, true, false, IsSome, IsOk, IfOk, OnErr};
+ghost use Rattle.std.specs.Prelude.{◌≡◌, true, false, Some, IsSome, IsOk, IfOk, OnErr};
 ghost use Rattle.std.specs.Option.{ForSome};
 ghost use Rattle.pr_call.specs.Effects.{after_effect, effect_meant, effect_of, is_plain, outcome_of, takes_memory};
 ghost use Rattle.pr_call.specs.Requests.{request_of};
@@ -53,6 +53,7 @@ fn perform_request(alloc: Global, sys: &mut Sys, request: &Request) -> Result<Pe
     requires lawful { IsLawfulSystem sys.old }
     requires live { IsSome (live_process sys.old request.now.pid) }
     requires lwp { ForSome (live_process sys.old request.now.pid) (λ p. IsSome (lwp_of p request.now.lwp)) }
+    requires asked { request_of sys.old request.now.pid request.now.lwp ≡ Some request.now }
     ensures system { IfOk result (λ outcome. ForSome (live_process sys.old request.now.pid) (λ p. ForSome (lwp_of p request.now.lwp) (λ l. sys.new ≡ after_effect request.now.pid p request.now.lwp l (effect_of sys.old p l request.now) sys.old))) }
     ensures outcome { IfOk result (λ outcome. ForSome (live_process sys.old request.now.pid) (λ p. ForSome (lwp_of p request.now.lwp) (λ l. outcome ≡ outcome_of (effect_of sys.old p l request.now)))) }
     ensures sure { takes_memory request.now.call ≡ false → IsOk result }
@@ -88,7 +89,7 @@ fn perform_request(alloc: Global, sys: &mut Sys, request: &Request) -> Result<Pe
         Sysno::Pipe => pipe(alloc, sys, request.pid, request.lwp, args[0]),
         Sysno::Brk => brk(alloc, sys, request.pid, args[0]),
         Sysno::Wait => Ok(wait(sys, request.pid, args[0])),
-        Sysno::Fork => fork_by(alloc, sys, request.pid, request.lwp, args),
+        Sysno::Fork => fork_by(alloc, sys, request),
         Sysno::Exec => exec_by(alloc, sys, request.pid, request.lwp, args[0]),
         Sysno::LwpCreate => lwp_create(sys, request.pid, request.lwp, args),
         Sysno::Read => Ok(read(sys, request.pid, request.lwp, args[0], args[1], args[2])),

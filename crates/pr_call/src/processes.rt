@@ -1,41 +1,40 @@
 //! fork(2) and exec(2).
-ghost use Rattle.std.specs.Prelude.{◌≡◌, ◌<◌, IfOk, IsSome, OnErr, length};
+ghost use Rattle.std.specs.Prelude.{◌≡◌, ◌<◌, Some, IfOk, IsSome, OnErr, length};
 ghost use Rattle.std.specs.Option.{ForSome};
 ghost use Rattle.pr_call.specs.Effects.{after_effect, outcome_of};
 ghost use Rattle.pr_call.specs.Processes.{target_effect};
+ghost use Rattle.pr_call.specs.Requests.{request_of};
 ghost use Rattle.pr_model.specs.Lawful.{IsLawfulSystem};
 ghost use Rattle.pr_model.specs.ProcessCalls.{exec_effect, fork_effect};
 ghost use Rattle.pr_model.specs.State.{live_process, lwp_of};
 
 use crate::paths::path_at;
-use crate::requests::Performed;
+use crate::requests::{Performed, Request};
 use pr_model::Res;
 use pr_num::limits::PATH_LIMIT;
 use pr_num::{AGENT, Errno, NoMemory};
 use pr_proc::{Sys, errno_of, exec, fork, live, program_named};
 use std::alloc::Global;
 
-/// fork(2) by an lwp of a live process gives the child's id. ENOTSUP: by the agent; EAGAIN: as many processes were made
-/// as can be; ENOMEM: too much would be mapped. Where memory runs out, the system stays as it is.
+/// fork(2) by an lwp of a live process, which makes this call, gives the child's id. ENOTSUP: by the agent; EAGAIN: as
+/// many processes were made as can be; ENOMEM: too much would be mapped. Where memory runs out, the system stays as it
+/// is.
 #[tactic(auto, using(crate::proofs::ForkLemmas::forking))]
-pub fn fork_by(
-    alloc: Global,
-    sys: &mut Sys,
-    pid: u32,
-    id: u32,
-    args: [u64; 6],
-) -> Result<Performed, NoMemory>
+pub fn fork_by(alloc: Global, sys: &mut Sys, request: &Request) -> Result<Performed, NoMemory>
     requires lawful { IsLawfulSystem sys.old }
-    requires live { IsSome (live_process sys.old pid) }
-    requires lwp { ForSome (live_process sys.old pid) (λ p. IsSome (lwp_of p id)) }
-    ensures system { IfOk result (λ outcome. ForSome (live_process sys.old pid) (λ p. ForSome (lwp_of p id) (λ l. sys.new ≡ after_effect pid p id l (fork_effect sys.old p id args) sys.old))) }
-    ensures outcome { IfOk result (λ outcome. ForSome (live_process sys.old pid) (λ p. outcome ≡ outcome_of (fork_effect sys.old p id args))) }
+    requires live { IsSome (live_process sys.old request.now.pid) }
+    requires lwp { ForSome (live_process sys.old request.now.pid) (λ p. IsSome (lwp_of p request.now.lwp)) }
+    requires asked { request_of sys.old request.now.pid request.now.lwp ≡ Some request.now }
+    ensures system { IfOk result (λ outcome. ForSome (live_process sys.old request.now.pid) (λ p. ForSome (lwp_of p request.now.lwp) (λ l. sys.new ≡ after_effect request.now.pid p request.now.lwp l (fork_effect sys.old p request.now.lwp request.now.args) sys.old))) }
+    ensures outcome { IfOk result (λ outcome. ForSome (live_process sys.old request.now.pid) (λ p. outcome ≡ outcome_of (fork_effect sys.old p request.now.lwp request.now.args))) }
     ensures err { OnErr result (sys.new ≡ sys.old) }
 {
+    let pid = request.pid;
+    let id = request.lwp;
     if id == AGENT {
         return Ok(Performed::Done(Res::Error(Errno::Notsup)));
     }
-    match fork(alloc, sys, pid, id, args) {
+    match fork(alloc, sys, pid, id) {
         Ok(child) => Ok(Performed::Done(Res::Value(u64::from(child)))),
         Err(reason) => {
             let error = errno_of(reason)?;
@@ -47,7 +46,7 @@ pub fn fork_by(
 /// The place of the program that the path at an address names, for exec(2) by an lwp of a live process. ENOTSUP: by the
 /// agent; EFAULT, EINVAL: the path; ENOENT: no such program.
 #[tactic(auto, using(crate::proofs::ProgramLemmas::naming))]
-fn target(sys: &Sys, pid: u32, id: u32, at: u64) -> Result<usize, Errno>
+fn target(sys: &Sys, pid: u32, id: u32, at: u64) -> Result<u32, Errno>
     requires { IsSome (live_process sys.now pid) }
     ensures effect { ForSome (live_process sys.now pid) (λ p. target_effect sys.now p result ≡ exec_effect sys.now p id at) }
     ensures within { IfOk result (λ place. place < length sys.now.programs) }

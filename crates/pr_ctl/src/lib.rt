@@ -17,6 +17,7 @@ mod targets;
 mod waits;
 mod watching;
 
+pub use agents::{AgentNo, add_agent};
 pub use handles::{is_control, is_of_lwp, own};
 pub use messages::control;
 pub use process_runs::{run, run_refused};

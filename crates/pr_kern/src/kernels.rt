@@ -7,7 +7,7 @@ ghost use Rattle.pr_kern.specs.Kernels.{after_call, after_tick, after_turn, last
 ghost use Rattle.pr_model.specs.LwpTurns.{can_move};
 ghost use Rattle.pr_kern.specs.Orders.{next_of};
 ghost use Rattle.pr_kern.specs.Starts.{stored};
-ghost use Rattle.pr_num.specs.Limits.{all_mappings_limit, process_limit, clock_limit, file_limit, file_size_limit, controller_limit};
+ghost use Rattle.pr_num.specs.Limits.{all_mappings_limit, process_limit, program_limit, clock_limit, file_limit, file_size_limit, controller_limit};
 ghost use Rattle.pr_parts.specs.FileTables.{names_differ};
 ghost use Rattle.pr_turn.specs.CallTurns.{may_take_memory};
 
@@ -46,7 +46,7 @@ impl Model for Kern {
 }
 
 impl Kern {
-    /// A kernel with these programs and files, in the state before the first step, with a process of each program that
+    /// A kernel with these programs, at most 256, and files, in the state before the first step, with a process of each program that
     /// is spawned, by its place among the programs: 4,095 at most, which together map 64 MiB at most. That state is
     /// lawful. It has places for so many entries.
     pub fn new(
@@ -56,6 +56,7 @@ impl Kern {
         spawns: &[u32],
         places: u32,
     ) -> Result<Kern, NoMemory>
+        requires programs { length programs.items ≤ program_limit }
         requires spawns { length spawns.now + 1 ≤ process_limit }
         requires mapped { sum_by (λ place. size_at_start (slice_get programs.items place)) spawns.now ≤ all_mappings_limit }
         requires few { length files.items ≤ file_limit }

@@ -16,7 +16,7 @@ use std::alloc::Global;
 /// Makes a process of the program at a place, under the next id, which is the reply; `held`: it is directed to stop
 /// before it runs. EAGAIN: as many processes were made as can be; ENOMEM: too much would be mapped.
 #[tactic(auto, using(crate::proofs::SpawnLemmas::spawning))]
-fn spawn_at(state: &mut Machine, alloc: Global, place: usize, held: bool) -> Result<Reply, NoMemory>
+fn spawn_at(state: &mut Machine, alloc: Global, place: u32, held: bool) -> Result<Reply, NoMemory>
     requires lawful { IsLawfulSystem state.old.system }
     requires program { place < length state.old.system.programs }
     ensures ok { IfOk result (λ reply. (record { state = state.new; reply = reply }) ≡ spawn_found state.old held (slice_get state.old.system.programs place)) }

@@ -1,6 +1,6 @@
 //! The state before the first step.
 ghost use Rattle.std.specs.Prelude.{◌≡◌, ◌≤◌, ◌+◌, All, length, true, IfOk};
-ghost use Rattle.pr_num.specs.Limits.{process_limit, file_limit, file_size_limit};
+ghost use Rattle.pr_num.specs.Limits.{process_limit, program_limit, file_limit, file_size_limit};
 ghost use Rattle.pr_parts.specs.FileTables.{names_differ};
 ghost use Rattle.pr_proc.specs.FirstFiles.{stored_alone};
 ghost use Rattle.pr_model.specs.FirstState.{first_state};
@@ -10,7 +10,7 @@ ghost use Rattle.pr_kern.specs.Starts.{stored};
 use crate::Machine;
 use pr_asm::Program;
 use pr_file::Files;
-use pr_num::{Bytes, Name, NoMemory, Table};
+use pr_num::{Bytes, Name, NoMemory};
 use pr_open::Opens;
 use pr_proc::first_system;
 use std::alloc::Global;
@@ -57,13 +57,13 @@ pub fn first_machine(
     files: Vec<(Name, Bytes)>,
     spawns: &[u32],
 ) -> Result<Machine, NoMemory>
+    requires programs { length programs.items ≤ program_limit }
     requires spawns { length spawns.now + 1 ≤ process_limit }
     requires few { length files.items ≤ file_limit }
     requires short { All (λ f. length f.1 ≤ file_size_limit) files.items }
     requires own_names { names_differ (stored files.items) ≡ true }
     ensures { IfOk result (λ state. state ≡ first_state programs.items (stored files.items) spawns.now) }
 {
-    let programs = Table::from_vec(programs);
     let files = stored(alloc, files)?;
     let system = first_system(alloc, programs, files, spawns)?;
     let opens = Opens::new(alloc)?;

@@ -1,16 +1,20 @@
 //! What no clause says: the calls that take memory do their work where there is enough, and the numbers with which a
 //! process begins.
+ghost use Rattle.std.specs.Prelude.{◌≡◌, IfOk, length};
+
 use pr_asm::{Program, read_program};
 use pr_file::Files;
-use pr_num::{Name, NoMemory, Table};
+use pr_num::{Name, NoMemory};
 use pr_proc::{Proc, first_system, live, spawn};
 use std::alloc::Global;
 use std::process::Abort;
 use std::test::Fail;
 
 /// The programs of a system with one program.
-fn programs_with(alloc: Global, program: Program) -> Result<Table<Program>, NoMemory> {
-    let mut programs = Table::new(alloc);
+fn programs_with(alloc: Global, program: Program) -> Result<Vec<Program>, NoMemory>
+    ensures { IfOk result (λ programs. length programs.items ≡ 1) }
+{
+    let mut programs = Vec::new(alloc);
     programs.push(program)?;
     Ok(programs)
 }

@@ -102,7 +102,7 @@ fn run_under(
 /// comes, unless memory ran out before, exactly where all processes together would then map more than 64 MiB. After an
 /// error the system is as it was.
 #[tactic(auto, using(pr_num::proofs::ByIdLaws::by_id_laws, crate::proofs::LifeLemmas::life_laws), unfolding(crate::specs::Refusals::exec_refusal, pr_model::specs::State::with_process))]
-pub fn exec(alloc: Global, sys: &mut Sys, pid: u32, lwp: u32, program: usize) -> Result<(), ProcNo>
+pub fn exec(alloc: Global, sys: &mut Sys, pid: u32, lwp: u32, program: u32) -> Result<(), ProcNo>
     requires live { IsSome (live_process sys.old pid) }
     requires lwp { IfSome (live_process sys.old pid) (λ p. IsSome (lwp_of p lwp)) }
     requires program { program < length sys.old.programs }

@@ -1,16 +1,17 @@
 //! The system before the first step.
 ghost use Rattle.std.specs.Prelude.{◌≡◌, ◌+◌, ◌<◌, ◌≤◌, ◌^◌, ◌∷◌, [], length, slice_get, None, IfOk, OnOk, OnErr};
+ghost use Rattle.pr_num.specs.Limits.{program_limit};
 ghost use Rattle.pr_model.specs.FirstState.{system_process, bare_system, spawned_at, first_system};
 ghost use Rattle.pr_model.specs.State.{process_of};
 ghost use Rattle.pr_proc.specs.Counts.{IsNumbered};
 ghost use Rattle.pr_proc.specs.FirstFiles.{stored_alone};
 
 use crate::spawns::{bare_process, spawn_unlimited};
-use crate::{Proc, Sys};
+use crate::{Proc, Programs, Sys};
 use pr_asm::Program;
 use pr_file::Files;
 use pr_model::System;
-use pr_num::{ById, Name, NoMemory, Table};
+use pr_num::{ById, Name, NoMemory};
 use std::alloc::Global;
 
 /// Process 0, the system process.
@@ -24,7 +25,7 @@ fn system_process(alloc: Global) -> Proc
 
 /// Nothing but process 0, these programs and these files.
 #[tactic(auto, using(crate::proofs::FirstLemmas::numbering), unfolding(pr_model::specs::FirstState::bare_system))]
-fn bare_system(alloc: Global, programs: Table<Program>, files: Files) -> Result<Sys, NoMemory>
+fn bare_system(alloc: Global, programs: Programs, files: Files) -> Result<Sys, NoMemory>
     requires { files ≡ stored_alone files.files }
     ensures value { IfOk result (λ s. s ≡ bare_system programs files.files) }
     ensures ids { IfOk result (λ s. IsNumbered s) }
@@ -49,7 +50,6 @@ fn spawn_at(alloc: Global, sys: &mut Sys, place: u32) -> Result<(), NoMemory>
     ensures made { OnOk result (sys.new.made ≤ sys.old.made + 1) }
     ensures ids { IsNumbered sys.new }
 {
-    let place = place as usize;
     if place < sys.programs.len() {
         spawn_unlimited(alloc, sys, place, false)?;
     }
@@ -61,17 +61,18 @@ fn spawn_at(alloc: Global, sys: &mut Sys, place: u32) -> Result<(), NoMemory>
 #[tactic(auto, using(crate::proofs::FirstLemmas::spawning_laws, crate::proofs::FirstLemmas::numbering))]
 pub fn first_system(
     alloc: Global,
-    programs: Table<Program>,
+    programs: Vec<Program>,
     files: Files,
     spawns: &[u32],
 ) -> Result<Sys, NoMemory>
+    requires programs { length programs.items ≤ program_limit }
     requires room { length spawns.now + 1 < 2 ^ 32 }
     requires files { files ≡ stored_alone files.files }
-    ensures value { IfOk result (λ s. s ≡ first_system programs files.files spawns.now) }
+    ensures value { IfOk result (λ s. s ≡ first_system programs.items files.files spawns.now) }
     // no process has the next id
     ensures free { IfOk result (λ s. process_of s s.made ≡ None) }
 {
-    let mut sys = bare_system(alloc, programs, files)?;
+    let mut sys = bare_system(alloc, Programs::from_vec(programs), files)?;
     for place in spawns {
         spawn_at(alloc, &mut sys, *place)?;
     }

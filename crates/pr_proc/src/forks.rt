@@ -10,13 +10,14 @@ ghost use Rattle.pr_model.specs.Lives.{by_fork, forked_lwp, with_child, with_mad
 ghost use Rattle.pr_model.specs.Machines.{birth_marks, birth_stop, child_control, traced};
 ghost use Rattle.pr_model.specs.Registers.{with_result};
 ghost use Rattle.pr_model.specs.State.{live_process, lwp_of, process_of, with_process};
+ghost use Rattle.pr_model.specs.Statuses.{arguments_in};
 ghost use Rattle.pr_model.specs.declared.events.Res.TheVariants.{Value};
 ghost use Rattle.pr_proc.specs.Forks.{bare_child, child_of};
 ghost use Rattle.pr_proc.specs.Refusals.{Says, fork_refusal};
 
 use crate::lwps::no_marks;
 use crate::spawns::{add_process, nothing_set, one_lwp};
-use crate::{Lwp, Proc, ProcNo, Sys, live, size_of, total_has_room};
+use crate::{Lwp, Proc, ProcNo, Sys, arguments_in, live, size_of, total_has_room};
 use pr_file::Fds;
 use pr_model::{Control, Frame, Frames, LwpControl, LwpOf, Phase, ProcessOf, Res, Stop, Usage};
 use pr_num::limits::PROCESS_LIMIT;
@@ -177,22 +178,24 @@ fn bare_child(
 
 /// A child of the live process of an id, forked by an lwp of it, before it stands in the system.
 #[tactic(auto, using(pr_num::proofs::ByIdLaws::by_id_laws, crate::proofs::LifeLemmas::life_laws))]
-fn made_child(
-    alloc: Global,
-    sys: &mut Sys,
-    pid: u32,
-    lwp: u32,
-    args: [u64; 6],
-) -> Result<Proc, NoMemory>
+fn made_child(alloc: Global, sys: &mut Sys, pid: u32, lwp: u32) -> Result<Proc, NoMemory>
     requires live { IsSome (live_process sys.old pid) }
     requires lwp { IfSome (live_process sys.old pid) (λ p. IsSome (lwp_of p lwp)) }
     ensures same { sys.new ≡ sys.old }
-    ensures child { IfOk result (λ child. ForSome (live_process sys.old pid) (λ p. ForSome (lwp_of p lwp) (λ l. child ≡ bare_child by_fork pid p l args sys.old.clock))) }
+    ensures child { IfOk result (λ child. ForSome (live_process sys.old pid) (λ p. ForSome (lwp_of p lwp) (λ l. child ≡ bare_child by_fork pid p l (arguments_in l.regs l.phase) sys.old.clock))) }
 {
     let frames = frames_of(sys.processes.get_mut(pid), lwp);
     let process = live(sys, pid).unwrap();
     let forking = process.lwps.get(lwp).unwrap();
-    bare_child(alloc, pid, process, forking, frames, args, sys.clock)
+    bare_child(
+        alloc,
+        pid,
+        process,
+        forking,
+        frames,
+        arguments_in(forking),
+        sys.clock,
+    )
 }
 
 #[tactic(auto, unfolding(pr_model::specs::Changes::with_fds))]
@@ -242,18 +245,18 @@ fn add_child(sys: &mut Sys, pid: u32, child: Proc) -> Result<(), NoMemory>
     Ok(())
 }
 
-/// Forks a live process by an lwp of it, whose call has these arguments, and answers the child's id. `Again`
+/// Forks a live process by an lwp of it, with the arguments of the call in which that is, and answers the child's id. `Again`
 /// comes exactly where 4,096 processes were made, then `NoSpace` exactly where all processes together would map more
 /// than 64 MiB, and memory runs out only where neither is so. After an error the system is as it was.
 #[tactic(auto, unfolding(crate::specs::Refusals::fork_refusal))]
-pub fn fork(alloc: Global, sys: &mut Sys, pid: u32, lwp: u32, args: [u64; 6]) -> Result<u32, ProcNo>
+pub fn fork(alloc: Global, sys: &mut Sys, pid: u32, lwp: u32) -> Result<u32, ProcNo>
     requires live { IsSome (live_process sys.old pid) }
     requires lwp { IfSome (live_process sys.old pid) (λ p. IsSome (lwp_of p lwp)) }
     // no process has the next id
     requires free { process_of sys.old sys.old.made ≡ None }
     // open files can count a child's descriptors too
     requires users { HasRoom sys.old.files descriptor_limit }
-    ensures ok { OnOk result (ForSome (live_process sys.old pid) (λ p. ForSome (lwp_of p lwp) (λ l. sys.new ≡ with_child traced by_fork pid p l args sys.old))) }
+    ensures ok { OnOk result (ForSome (live_process sys.old pid) (λ p. ForSome (lwp_of p lwp) (λ l. sys.new ≡ with_child traced by_fork pid p l (arguments_in l.regs l.phase) sys.old))) }
     ensures child { IfOk result (λ child. child ≡ sys.old.made) }
     ensures refused { ForSome (live_process sys.old pid) (λ p. Says result (fork_refusal sys.old p)) }
     ensures memory { result ≡ Err ProcNo.NoMemory → ForSome (live_process sys.old pid) (λ p. fork_refusal sys.old p ≡ None) }
@@ -267,7 +270,7 @@ pub fn fork(alloc: Global, sys: &mut Sys, pid: u32, lwp: u32, args: [u64; 6]) ->
     if !total_has_room(sys, size, 0) {
         return Err(ProcNo::NoSpace);
     }
-    let child = made_child(alloc, sys, pid, lwp, args)?;
+    let child = made_child(alloc, sys, pid, lwp)?;
     add_child(sys, pid, child)?;
     Ok(id)
 }

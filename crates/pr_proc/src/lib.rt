@@ -1,6 +1,7 @@
 //! Processes: the system as the kernel keeps it, and how processes begin and end.
 #![tactic(auto)]
 
+mod arguments;
 mod ends;
 mod execs;
 mod families;
@@ -20,6 +21,7 @@ mod stops;
 mod systems;
 mod zombies;
 
+pub use arguments::{arguments_in, arguments_of};
 pub use ends::end;
 pub use execs::exec;
 pub use families::Children;
@@ -28,7 +30,7 @@ pub use forks::fork;
 pub use ids::id_of;
 pub use lwps::{end_lwp, make_lwp, suspend};
 pub use order::{Question, is_after, next_asked, next_lwp};
-pub use programs::program_named;
+pub use programs::{Programs, program_named};
 pub use refusals::{ProcNo, errno_of};
 pub use releases::release;
 pub use sending::{Sending, sending_of};

@@ -138,7 +138,7 @@ pub(crate) fn add_process(sys: &mut Sys, process: Proc) -> Result<(), NoMemory>
 fn add_spawned(
     alloc: Global,
     sys: &mut Sys,
-    place: usize,
+    place: u32,
     space: Space,
     held: bool,
 ) -> Result<(), NoMemory>
@@ -161,7 +161,7 @@ fn add_spawned(
 pub(crate) fn spawn_unlimited(
     alloc: Global,
     sys: &mut Sys,
-    place: usize,
+    place: u32,
     held: bool,
 ) -> Result<(), NoMemory>
     requires program { place < length sys.old.programs }
@@ -180,7 +180,7 @@ pub(crate) fn spawn_unlimited(
 /// stop before it runs. `Again` comes exactly where 4,096 processes were made; then, unless memory ran out before,
 /// `NoSpace` exactly where all processes together would map more than 64 MiB. After an error the system is as it was.
 #[tactic(auto, unfolding(pr_model::specs::Spawning::spawn_refusal))]
-pub fn spawn(alloc: Global, sys: &mut Sys, place: usize, held: bool) -> Result<u32, ProcNo>
+pub fn spawn(alloc: Global, sys: &mut Sys, place: u32, held: bool) -> Result<u32, ProcNo>
     requires program { place < length sys.old.programs }
     // no process has the next id
     requires free { process_of sys.old sys.old.made ≡ None }

@@ -3,11 +3,11 @@ ghost use Rattle.std.specs.Option.{option_copied};
 ghost use Rattle.pr_model.specs.Readers.{space_seen};
 ghost use Rattle.pr_model.specs.State.{has_agent, live_process};
 
-use pr_asm::Program;
+use crate::Programs;
 use pr_file::{Fds, Files};
 use pr_mem::Space;
 use pr_model::{Control, ProcessOf, System};
-use pr_num::{AGENT, ById, Table};
+use pr_num::{AGENT, ById};
 use pr_sig::Pendings;
 use pr_watch::Areas;
 
@@ -18,7 +18,7 @@ pub type Lwp = pr_model::Lwp<Pendings>;
 pub type Proc = ProcessOf<Space, Fds, Pendings, ById<Lwp>, Control<Areas>>;
 
 /// The system with its files. Contracts see it as the traced system of the definitions.
-pub type Sys = System<Table<Program>, Files, ById<Proc>>;
+pub type Sys = System<Programs, Files, ById<Proc>>;
 
 /// The live process of an id: `None` for an id that no process has, and for a zombie's.
 #[tactic(auto, unfolding(pr_model::specs::State::live_process))]

@@ -9,10 +9,9 @@ ghost use Rattle.pr_model.specs.State.{TracedLwp, TracedProcess, TracedSystem};
 ghost use Rattle.pr_turn.specs.CallTurns.{Asks, phase_takes, turn_takes};
 ghost use Rattle.pr_turn.specs.NextRows.{unposted_fault, fits, row_of, row_of_turn, row_or, turn_fits};
 
-use pr_call::arguments_of;
 use pr_model::{Current, Did, Frames, How, Phase, Res};
 use pr_num::{AGENT, Errno, Flt, Sig, Sysno};
-use pr_proc::{Lwp, Proc, disposition_of};
+use pr_proc::{Lwp, Proc, arguments_of, disposition_of};
 use pr_sig::{Action, action, takeable};
 
 /// A row of the turn table, with what decides it.

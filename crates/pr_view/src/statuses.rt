@@ -3,7 +3,7 @@ ghost use Rattle.std.specs.Prelude.{◌≡◌, ◌<◌, ◌^◌, length, if◌th
 ghost use Rattle.pr_num.specs.Agents.{agent_id};
 ghost use Rattle.pr_model.specs.State.{has_agent};
 ghost use Rattle.pr_model.specs.Stops.{representative};
-ghost use Rattle.pr_model.specs.Statuses.{arguments_in, call_in, disposition_in, errno_in, error_of, fault_address_in, fault_in, info_in, lwp_flags, lwpstatus_of, reason_of_stop, reason_shown, result_in, signal_in, status_of, status_of_found, value_of, what_of_stop, what_shown};
+ghost use Rattle.pr_model.specs.Statuses.{call_in, disposition_in, errno_in, error_of, fault_address_in, fault_in, info_in, lwp_flags, lwpstatus_of, reason_of_stop, reason_shown, result_in, signal_in, status_of, status_of_found, value_of, what_of_stop, what_shown};
 ghost use Rattle.pr_num.specs.Spaces.{heap_size, is_heap};
 ghost use Rattle.pr_rec.specs.Fields.{flag_if};
 
@@ -12,7 +12,7 @@ use pr_model::{Current, Phase, Res, Shown, Stop};
 use pr_num::layout::HEAP_BASE;
 use pr_num::limits::SIGNAL_COUNT;
 use pr_num::{AGENT, Errno, Flt, Info, Mapping, MappingKind, Sig, StopReason, Sysno};
-use pr_proc::{Lwp, Proc, Sys, disposition_of, has_agent, seen};
+use pr_proc::{Lwp, Proc, Sys, arguments_in, disposition_of, has_agent, seen};
 use pr_rec::{Disposition, LwpFlags, LwpMarks, LwpStatus, ProcessFlags, Status, What};
 use pr_stop::{representative, representative_lwp, shown};
 
@@ -93,18 +93,6 @@ fn call_in(phase: Phase) -> Option<Sysno>
         Phase::Entered(call) | Phase::Asleep { call, .. } | Phase::Exiting { call, .. } => {
             Some(call)
         }
-    }
-}
-
-/// The arguments of the call in which an lwp is: before the call is made they are those that stand in r1 to r6.
-#[tactic(auto, using(crate::proofs::StatusLemmas::status_laws), unfolding(pr_model::specs::Statuses::arguments_in))]
-fn arguments_in(regs: &[u64; 11], phase: Phase) -> [u64; 6]
-    ensures { result ≡ arguments_in regs.now phase }
-{
-    match phase {
-        Phase::User | Phase::Faulted { .. } => [0; 6],
-        Phase::Entered(_) => [regs[1], regs[2], regs[3], regs[4], regs[5], regs[6]],
-        Phase::Asleep { args, .. } | Phase::Exiting { args, .. } => args,
     }
 }
 
@@ -204,7 +192,7 @@ pub fn lwpstatus_of(process: &Proc, id: u32, lwp: &Lwp) -> LwpStatus
 {
     let job = process.job_stop;
     let shows = shown(job, lwp);
-    let arguments = arguments_in(&lwp.regs, lwp.phase);
+    let arguments = arguments_in(lwp);
     let regs = lwp.regs;
     LwpStatus {
         flags: lwp_flags(job, id, lwp),

@@ -1,5 +1,5 @@
 use Rattle.std.proofs.Common.{sym, ◌∙◌}
-use Rattle.pr_call.proofs.RequestLemmas.{asked-live, asked-lwp, asked-outcome, asked-system}
+use Rattle.pr_call.proofs.RequestLemmas.{asked-live, asked-lwp, asked-outcome, asked-own, asked-system}
 use Rattle.pr_call.proofs.performing.perform.Goals as goal
 
 pub perform_request-requires-clause-live : goal.perform_request-requires-clause-live
@@ -7,6 +7,9 @@ perform_request-requires-clause-live c = asked-live c.args.sys.now c.args.pid c.
 
 pub perform_request-requires-clause-lwp : goal.perform_request-requires-clause-lwp
 perform_request-requires-clause-lwp c = asked-lwp c.args.sys.now c.args.pid c.args.lwp c.unwrap-request.result (sym c.request_of.ensures ∙ c.unwrap-request.ensures)
+
+pub perform_request-requires-clause-asked : goal.perform_request-requires-clause-asked
+perform_request-requires-clause-asked c = asked-own c.args.sys.now c.args.pid c.args.lwp c.unwrap-request.result (sym c.request_of.ensures ∙ c.unwrap-request.ensures)
 
 pub returns-clause-system : goal.returns-clause-system
 returns-clause-system c r made = asked-system c.args.sys.now c.perform_request.new.sys c.args.pid c.args.lwp c.unwrap-request.result r (sym c.request_of.ensures ∙ c.unwrap-request.ensures) made c.in_ok-outcome.ensures.system
