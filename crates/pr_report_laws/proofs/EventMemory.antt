@@ -28,8 +28,8 @@ use Rattle.pr_model.specs.declared.handles.Held.{Held}
 use Rattle.pr_num.specs.Limits.{read_limit}
 use Rattle.pr_num.specs.Spaces.{Space}
 use Rattle.pr_num.specs.declared.errnos.Errno.TheVariants.{Inval}
-use Rattle.pr_range_laws.specs.ByteHistories.{HasBytes}
-use Rattle.pr_range_laws.specs.InRange.{IsInRange}
+use Rattle.pr_reached.specs.ByteHistories.{HasBytes}
+use Rattle.pr_reached.specs.InRange.{IsInRange}
 use Rattle.pr_rec.specs.declared.lwps.LwpStatus.{LwpStatus}
 use Rattle.pr_truss.specs.Feeding.{fed, with_reply}
 use Rattle.pr_truss.specs.NextCalls.{next_call_of}
@@ -61,7 +61,7 @@ use Rattle.pr_report_laws.proofs.ShownGrows.{text-grown}
 use Rattle.pr_report_laws.proofs.StopsOver.{reported-own, shown-text}
 use Rattle.pr_report_laws.proofs.WatchHistories.{after-append, exchanges-both}
 use Rattle.pr_report_laws.specs.Births.{IsNeverFollowed, LeavesForks, NamesNoChild}
-use Rattle.pr_report_laws.specs.Fits.{IsFitSystem}
+use Rattle.pr_reached.specs.Fits.{IsFitSystem}
 use Rattle.pr_report_laws.specs.Memories.{AreOfTheirEvents, IsMemoryRead, IsOfItsEvent, IsTextOf, WasKilled, range_asked, read, unasked}
 use Rattle.pr_report_laws.specs.Shown.{LwpEvent, event_reported, event_told, selected}
 use Rattle.pr_report_laws.specs.Watching.{told_of, with_exchange}

@@ -20,10 +20,10 @@ use Rattle.pr_truss.specs.declared.stages.Stage.TheVariants.{Opening, OpeningChi
 use Rattle.pr_truss_laws.proofs.OwnLemmas.{first-owns}
 use Rattle.pr_truss_laws.specs.Exchanges.{Exchange, Makes, exchange_of, exchanges, truss_after}
 use Rattle.pr_truss_laws.specs.Handles.{HasNothingOpen}
-use Rattle.pr_range_laws.proofs.HistoryRanges.{history-range}
-use Rattle.pr_range_laws.proofs.RecordRanges.{lstatus-of-range, status-range}
-use Rattle.pr_range_laws.specs.ByteHistories.{HasBytes, IsEntryOfBytes}
-use Rattle.pr_range_laws.specs.InRange.{IsInRange}
+use Rattle.pr_reached.proofs.HistoryRanges.{history-range}
+use Rattle.pr_reached.proofs.RecordRanges.{lstatus-of-range, status-range}
+use Rattle.pr_reached.specs.ByteHistories.{HasBytes, IsEntryOfBytes}
+use Rattle.pr_reached.specs.InRange.{IsInRange}
 use Rattle.pr_lawful.proofs.EndLemmas.{found-live}
 use Rattle.std.proofs.lemmas.List.Elements.{All-cons, All-head, All-nil, All-tail}
 use Rattle.pr_report_laws.proofs.EntrySteps.{EndsByKill, Lost}
@@ -33,7 +33,7 @@ use Rattle.pr_report_laws.proofs.OtherSteps.{is-watched}
 use Rattle.pr_report_laws.proofs.OwnLooks.{ReadsBack}
 use Rattle.pr_report_laws.proofs.Standing.{Accounted, Position, Prepares, Standing, apart, goes, has_event, lives, old_stops, over, stop_read, unread}
 use Rattle.pr_report_laws.proofs.WatchHistories.{uninterrupted}
-use Rattle.pr_report_laws.specs.Fits.{IsFitSystem}
+use Rattle.pr_reached.specs.Fits.{IsFitSystem}
 use Rattle.pr_report_laws.proofs.Positions.{IsAtBirth}
 use Rattle.pr_report_laws.specs.Reported.{IsKilled}
 use Rattle.pr_report_laws.specs.Shown.{LwpEvent, event_selected, selected, shown}

@@ -11,8 +11,8 @@ use Rattle.pr_model.specs.State.{TracedState}
 use Rattle.pr_model.specs.declared.events.Entry.{Entry}
 use Rattle.pr_num.specs.Control.{rlc_mode}
 use Rattle.pr_num.specs.declared.messages.Message.TheVariants as message
-use Rattle.pr_range_laws.specs.ByteHistories.{HasBytes}
-use Rattle.pr_range_laws.specs.InRange.{IsInRange}
+use Rattle.pr_reached.specs.ByteHistories.{HasBytes}
+use Rattle.pr_reached.specs.InRange.{IsInRange}
 use Rattle.pr_model.specs.declared.calls.File.TheVariants as file
 use Rattle.pr_truss.specs.Children.{with_child_control}
 use Rattle.pr_truss.specs.Feeding.{fed}
@@ -46,7 +46,7 @@ use Rattle.pr_report_laws.proofs.OpeningRuns.{IsFollowing, OpensControl, born, b
 use Rattle.pr_report_laws.proofs.Standing.{apart}
 use Rattle.pr_report_laws.proofs.WatchHistories.{IsRun, after-append, makes-front, makes-rest, run-pushed}
 use Rattle.pr_report_laws.specs.Births.{LeavesForks, NamesNoChild}
-use Rattle.pr_report_laws.specs.Fits.{IsFitSystem}
+use Rattle.pr_reached.specs.Fits.{IsFitSystem}
 use Rattle.pr_report_laws.specs.Attachments.{HasFollowed, child_calls}
 use Rattle.pr_report_laws.specs.Newborn.{IsNoTurnOf, WasForked, WasSpawned}
 use Rattle.pr_report_laws.specs.Shown.{LwpEvent, selected, shown}

@@ -11,8 +11,8 @@ use Rattle.pr_model.specs.declared.calls.File.TheVariants.{Lstatus, Status}
 use Rattle.pr_model.specs.declared.events.Actor.{Actor}
 use Rattle.pr_model.specs.declared.events.Actor.TheVariants.{Lwp}
 use Rattle.pr_model.specs.declared.events.Entry.{Entry}
-use Rattle.pr_range_laws.specs.ByteHistories.{HasBytes}
-use Rattle.pr_range_laws.specs.InRange.{IsInRange}
+use Rattle.pr_reached.specs.ByteHistories.{HasBytes}
+use Rattle.pr_reached.specs.InRange.{IsInRange}
 use Rattle.pr_truss.specs.Trusses.{TrussState, first_truss, traced_at}
 use Rattle.pr_truss_laws.proofs.OwnLemmas.{Owns}
 use Rattle.pr_truss_laws.specs.Exchanges.{Exchange, Makes, exchange_in, exchange_of, exchanges, truss_after}
@@ -27,7 +27,7 @@ use Rattle.pr_report_laws.proofs.OtherSteps.{accounted-why, position-ends}
 use Rattle.pr_report_laws.proofs.ShownGrows.{told-grows}
 use Rattle.pr_report_laws.proofs.Standing.{Accounted, Standing, apart, lives, over}
 use Rattle.pr_report_laws.proofs.WatchHistories.{Reaches}
-use Rattle.pr_report_laws.specs.Fits.{IsFitSystem}
+use Rattle.pr_reached.specs.Fits.{IsFitSystem}
 use Rattle.pr_report_laws.specs.Attachments.{ReadsFile}
 use Rattle.pr_report_laws.specs.Reported.{IsReported, IsUnread}
 use Rattle.pr_report_laws.specs.Shown.{LwpEvent, selected, shown}

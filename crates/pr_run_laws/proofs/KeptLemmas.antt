@@ -13,8 +13,8 @@ use Rattle.pr_model.specs.declared.events.Entry.{Entry}
 use Rattle.pr_model.specs.declared.tools.ToolKind.{ToolKind}
 use Rattle.pr_model.specs.declared.tools.ToolKind.TheVariants.{Pstack}
 use Rattle.pr_lawful.proofs.StartLemmas.{first-lawful}
-use Rattle.pr_range_laws.proofs.HistoryRanges.{first-state-range}
-use Rattle.pr_report_laws.proofs.FitHistoryLemmas.{first-fits}
+use Rattle.pr_reached.proofs.HistoryRanges.{first-state-range}
+use Rattle.pr_reached.proofs.FitHistoryLemmas.{first-fits}
 use Rattle.pr_scen.specs.Scenarios.{Scenario, script_in, scripts_of}
 use Rattle.pr_scen.specs.declared.plans.Plan.{Plan}
 use Rattle.pr_scen.specs.declared.plans.Plan.TheVariants as plan

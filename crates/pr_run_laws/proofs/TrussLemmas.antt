@@ -19,8 +19,8 @@ use Rattle.pr_model.specs.declared.events.Actor.TheVariants.{Controller, Lwp, Cl
 use Rattle.pr_model.specs.declared.events.Entry.{Entry}
 use Rattle.pr_model.specs.declared.handles.Held.{Held}
 use Rattle.pr_model.specs.Lawful.{IsLawful}
-use Rattle.pr_range_laws.specs.ByteHistories.{HasBytes}
-use Rattle.pr_range_laws.specs.InRange.{IsInRange}
+use Rattle.pr_reached.specs.ByteHistories.{HasBytes}
+use Rattle.pr_reached.specs.InRange.{IsInRange}
 use Rattle.pr_report_laws.proofs.BeginLaws.{finished-watches-none, followed-watches, opened-watches}
 use Rattle.pr_report_laws.proofs.BeginsOnlyLaws.{watched-opened}
 use Rattle.pr_report_laws.proofs.Births.{births-report, unfollowed-report}
@@ -37,7 +37,7 @@ use Rattle.pr_report_laws.proofs.ReleaseLaws.{freed-set, set-stays, traced-set}
 use Rattle.pr_report_laws.proofs.ReleaseSteps.{truss-releases}
 use Rattle.pr_report_laws.proofs.WatchHistories.{IsRun, exchanges-both, makes-front, makes-rest, run-reaches}
 use Rattle.pr_tool_laws.proofs.WholeLemmas.{front-bytes, front-legal}
-use Rattle.pr_report_laws.specs.Fits.{IsFitSystem}
+use Rattle.pr_reached.specs.Fits.{IsFitSystem}
 use Rattle.pr_report_laws.specs.Births.{LeavesForks, NamesNoChild, granted}
 use Rattle.pr_report_laws.specs.Attachments.{HasFollowed, HasOpened, IsLetGo}
 use Rattle.pr_report_laws.specs.Releases.{modes_set, released}
