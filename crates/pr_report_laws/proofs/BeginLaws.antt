@@ -31,10 +31,11 @@ use Rattle.pr_truss_laws.proofs.ClosesLemmas.{after-fits, first-fits}
 use Rattle.pr_truss_laws.proofs.HeldLemmas.{Fits}
 use Rattle.pr_truss_laws.specs.Exchanges.{Exchange, IsGranted, Makes, calls_in, exchanges, truss_after, truss_at}
 use Rattle.pr_truss_laws.specs.Given.{IsWholeOpening, calls_with, last_calls, opening_calls, reply_at}
+use Rattle.pr_truss_laws.specs.Runs.{IsTrussRun}
 use Rattle.pr_report_laws.proofs.FileLaws.{HasFiles}
 use Rattle.pr_report_laws.proofs.OpeningRuns.{OpensControl, born, born-fed, born-following, child-over, child-runs, freed, freed-fed, given, given-fed, given-opening, granted-first, granted-rest, opening-runs, opens-control, steps_left}
 use Rattle.pr_report_laws.proofs.OptionLemmas.{fed-options}
-use Rattle.pr_report_laws.proofs.WatchHistories.{IsRun, after-append, makes-front, makes-rest, no-exchanges, run-reaches}
+use Rattle.pr_report_laws.proofs.WatchHistories.{after-append, makes-front, makes-rest, no-exchanges, run-reaches}
 use Rattle.pr_report_laws.proofs.WatchedPlaces.{IsWatched, not-watched, place-watched}
 use Rattle.pr_report_laws.specs.Attachments.{HasFollowed, HasOpened, child_calls}
 use Rattle.pr_report_laws.specs.Watching.{watches}
@@ -246,7 +247,7 @@ lives-not_gone r lives gone = lives (subst (IsAnswer r) gone (answer-is r))
 
 -- ---- along a history
 
-module _ (n k : ℕ) (o : Options) (pid : ℕ) (s : TracedState) (h : List Entry) (run : IsRun n k o s h) where
+module _ (n k : ℕ) (o : Options) (pid : ℕ) (s : TracedState) (h : List Entry) (run : IsTrussRun n k o s h) where
   -- the state of truss before the last exchanges, and after them
   split-at : (earlier later : List Exchange) → exchanges k h ≡ earlier ++ later → truss_at k o h ≡ truss_after (truss_after (first_truss o) earlier) later
   split-at earlier later is = ap (truss_after (first_truss o)) is ∙ after-append (first_truss o) earlier later

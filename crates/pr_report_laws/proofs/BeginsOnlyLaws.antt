@@ -30,13 +30,14 @@ use Rattle.pr_truss_laws.proofs.OwnLemmas.{Owns}
 use Rattle.pr_truss_laws.proofs.SequenceLemmas.{whole-calls}
 use Rattle.pr_truss_laws.specs.Exchanges.{Exchange, IsGranted, calls_in, exchange_of, exchanges, truss_at}
 use Rattle.pr_truss_laws.specs.Given.{IsWholeOpening}
+use Rattle.pr_truss_laws.specs.Runs.{IsTrussRun}
 use Rattle.pr_report_laws.proofs.FileLaws.{HasFiles}
 use Rattle.pr_report_laws.proofs.FileSteps.{MakesNext}
 use Rattle.pr_report_laws.proofs.FileUses.{standing}
 use Rattle.pr_report_laws.proofs.KeepLemmas.{can_wait}
 use Rattle.pr_report_laws.proofs.StageChanges.{Begins, How, IsAt, StaysAt, at, child_interrupted, followed, free, interrupted, less, opened}
 use Rattle.pr_report_laws.proofs.StandLemmas.{Stands, StandsOpening}
-use Rattle.pr_report_laws.proofs.WatchHistories.{IsAnswered, IsRun, Reaches, answered-calm, exchange-answered, run-front, run-last, run-next, run-pushed, run-reaches, truss_at-push}
+use Rattle.pr_report_laws.proofs.WatchHistories.{IsAnswered, Reaches, answered-calm, exchange-answered, run-front, run-last, run-next, run-pushed, run-reaches, truss_at-push}
 use Rattle.pr_report_laws.proofs.WatchMemory.{IsChildUnderWay, IsUnderWay, Recalls, Remembers, accepted-granted, child-called, child-calls, longer, reached-comes, run-recalls, step-called}
 use Rattle.pr_report_laws.proofs.WatchedPlaces.{IsWatched, place-watched, watched-place}
 use Rattle.pr_report_laws.specs.Attachments.{HasFollowed, HasOpened, child_calls}
@@ -119,7 +120,7 @@ gone-fail : (r : Reply) → r ≡ reply.Fail Noent → answer_of r ≡ Gone
 unfolding answer_of
 gone-fail r is = ap answer_of is
 
-module _ (n k : ℕ) (o : Options) (pid : ℕ) (s : TracedState) (before : List Entry) (e : Entry) (run : IsRun n k o s (before ++ e ∷ [])) (off : watches (truss_at k o before) pid ≡ false) (on : watches (truss_at k o (before ++ e ∷ [])) pid ≡ true) where
+module _ (n k : ℕ) (o : Options) (pid : ℕ) (s : TracedState) (before : List Entry) (e : Entry) (run : IsTrussRun n k o s (before ++ e ∷ [])) (off : watches (truss_at k o before) pid ≡ false) (on : watches (truss_at k o (before ++ e ∷ [])) pid ≡ true) where
   t : TrussState
   t = truss_at k o before
 

@@ -20,9 +20,10 @@ use Rattle.pr_model.specs.declared.events.Act.TheVariants as act
 use Rattle.pr_model.specs.declared.events.Actor.{Actor}
 use Rattle.pr_model.specs.declared.events.Actor.TheVariants.{Controller, Lwp, Clock}
 use Rattle.pr_model.specs.declared.events.Entry.{Entry}
-use Rattle.pr_range_laws.proofs.HistoryRanges.{history-range}
-use Rattle.pr_range_laws.specs.ByteHistories.{HasBytes, IsEntryOfBytes}
-use Rattle.pr_range_laws.specs.InRange.{IsInRange}
+use Rattle.pr_reached.proofs.HistoryRanges.{history-range}
+use Rattle.pr_reached.specs.ByteHistories.{HasBytes, IsEntryOfBytes}
+use Rattle.pr_reached.specs.InRange.{IsInRange}
+use Rattle.pr_reached.specs.Reached.{IsReached}
 use Rattle.pr_truss.specs.Feeding.{fed}
 use Rattle.pr_truss.specs.NextCalls.{call_of, next_call_of}
 use Rattle.pr_truss.specs.Trusses.{TrussState, first_of_program, first_truss, idle, opening_or, traced_at}
@@ -32,7 +33,7 @@ use Rattle.pr_truss.specs.declared.stages.Stage.TheVariants.{Spawning, OpeningCo
 use Rattle.pr_truss_laws.proofs.HeldLemmas.{Fits}
 use Rattle.pr_truss_laws.proofs.OwnLemmas.{first-owns}
 use Rattle.pr_truss_laws.specs.Exchanges.{Exchange, Makes, exchange_in, exchange_of, exchanges, truss_after}
-use Rattle.pr_truss_laws.specs.Handles.{HasNothingOpen}
+use Rattle.pr_truss_laws.specs.Runs.{IsTrussRun}
 use Rattle.pr_report_laws.proofs.Claims.{Claims, Follows, IsFree, IsSet, Names, claim_of, opened, stands, watched}
 use Rattle.pr_report_laws.proofs.Claims as claims
 use Rattle.pr_report_laws.proofs.ClaimCalls.{call-follows}
@@ -53,7 +54,6 @@ use Rattle.pr_report_laws.proofs.OwnLooks.{IsCall, ReadsBack}
 use Rattle.pr_report_laws.proofs.StandLemmas.{Leaves}
 use Rattle.pr_report_laws.proofs.Standing.{apart}
 use Rattle.pr_report_laws.specs.Births.{LeavesForks, NamesNoChild, granted, IsNeverFollowed}
-use Rattle.pr_report_laws.specs.Fits.{IsFitSystem}
 use Rattle.pr_report_laws.proofs.Positions.{IsAtBirth}
 use Rattle.pr_report_laws.specs.Reported.{IsReported}
 use Rattle.pr_report_laws.specs.Shown.{LwpEvent, shown}
@@ -323,8 +323,8 @@ first-follows k o t s h none = record {
 
 -- Where fork makes none of the processes that the options name, and no other controller opens a child of a fork for
 -- writing before truss does, truss opens each child at its birth.
-pub births : (n k : ℕ) (o : Options) (s : TracedState) (h : List Entry) → IsLawful s → IsFitSystem s.system → HasNothingOpen k s → IsLegal n s h → Makes (first_truss o) (exchanges k h) → IsInRange s.system → HasBytes h → NamesNoChild o h → LeavesForks k o h → (pid : ℕ) → OpensAtBirth k o pid s h
-births n k o s h lawful fit none legal makes range bytes named forks pid =
+pub births : (n k : ℕ) (o : Options) (s : TracedState) (h : List Entry) → IsReached s → IsTrussRun n k o s h → HasBytes h → NamesNoChild o h → LeavesForks k o h → (pid : ℕ) → OpensAtBirth k o pid s h
+births n k o s h reached run bytes named forks pid =
     let b = history-births n k o h (first_truss o) s
     (record {
       each = λ pid.
@@ -333,9 +333,9 @@ births n k o s h lawful fit none legal makes range bytes named forks pid =
             K = ⊥;
             so_far = [];
             holds = record {
-              lawful = lawful;
-              fit = fit;
-              owns = first-owns k o s none;
+              lawful = run.lawful;
+              fit = reached.fit;
+              owns = first-owns k o s run.nothing_open;
               files = first-files k o s;
               options = first.options;
               prepares = first-prepares o pid s (first_truss o) first;
@@ -344,19 +344,19 @@ births n k o s h lawful fit none legal makes range bytes named forks pid =
           };
       leaves = first-leaving o;
       children = λ stays. first-follows k o (first_truss o) s h (first-traced o);
-    }) legal makes range bytes (forks, named) pid in
+    }) run.legal run.makes reached.in_range bytes (forks, named) pid in
     record { child = λ before later e x handle parent p is own stage given live. b.child before later e x handle parent p is own stage given live }
 
 -- Then truss has shown of each process exactly the selected events that came while it watched the process.
-pub births-report : (n k : ℕ) (o : Options) (pid : ℕ) (s : TracedState) (h : List Entry) → IsLawful s → IsFitSystem s.system → HasNothingOpen k s → IsLegal n s h → Makes (first_truss o) (exchanges k h) → IsInRange s.system → HasBytes h → NamesNoChild o h → LeavesForks k o h → IsReported k o pid s h
-births-report n k o pid s h lawful fit none legal makes range bytes named forks = truss-reports n k o pid s h lawful fit none legal makes range bytes (births n k o s h lawful fit none legal makes range bytes named forks pid)
+pub births-report : (n k : ℕ) (o : Options) (pid : ℕ) (s : TracedState) (h : List Entry) → IsReached s → IsTrussRun n k o s h → HasBytes h → NamesNoChild o h → LeavesForks k o h → IsReported k o pid s h
+births-report n k o pid s h reached run bytes named forks = truss-reports n k o pid s h reached run bytes (births n k o s h reached run bytes named forks pid)
 
 -- A process of which truss never got hold as a child asks for nothing of the kind.
 pub unfollowed-births : (k : ℕ) (o : Options) (pid : ℕ) (s : TracedState) (h : List Entry) → IsNeverFollowed k o pid h → OpensAtBirth k o pid s h
 unfollowed-births k o pid s h unfollowed = record { child = λ before later e opening handle parent p is own stage given live. absurd (unfollowed.none before later e opening handle parent is own stage given) }
 
-pub unfollowed-report : (n k : ℕ) (o : Options) (pid : ℕ) (s : TracedState) (h : List Entry) → IsLawful s → IsFitSystem s.system → HasNothingOpen k s → IsLegal n s h → Makes (first_truss o) (exchanges k h) → IsInRange s.system → HasBytes h → IsNeverFollowed k o pid h → IsReported k o pid s h
-unfollowed-report n k o pid s h lawful fit none legal makes range bytes unfollowed =
-    truss-reports n k o pid s h lawful fit none legal makes range bytes (unfollowed-births k o pid s h unfollowed)
+pub unfollowed-report : (n k : ℕ) (o : Options) (pid : ℕ) (s : TracedState) (h : List Entry) → IsReached s → IsTrussRun n k o s h → HasBytes h → IsNeverFollowed k o pid h → IsReported k o pid s h
+unfollowed-report n k o pid s h reached run bytes unfollowed =
+    truss-reports n k o pid s h reached run bytes (unfollowed-births k o pid s h unfollowed)
 
 pub ruleset reports = (births-report, unfollowed-report)

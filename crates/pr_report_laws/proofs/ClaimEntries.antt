@@ -47,7 +47,7 @@ use Rattle.pr_report_laws.proofs.Standing as st
 use Rattle.pr_report_laws.proofs.Standing.{Position}
 use Rattle.pr_report_laws.proofs.TurnSettings.{turn-settings}
 use Rattle.pr_report_laws.specs.Births.{granted}
-use Rattle.pr_report_laws.specs.Fits.{IsFitSystem}
+use Rattle.pr_reached.specs.Fits.{IsFitSystem}
 use Rattle.pr_report_laws.proofs.Positions.{IsTracedBy}
 use Rattle.pr_report_laws.specs.Shown.{LwpEvent}
 

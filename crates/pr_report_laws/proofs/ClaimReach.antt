@@ -36,7 +36,7 @@ use Rattle.pr_report_laws.proofs.FileUses.{stage_place}
 use Rattle.pr_report_laws.proofs.ForkTurns.{HasForked}
 use Rattle.pr_report_laws.proofs.OwnChild.{child-names}
 use Rattle.pr_report_laws.proofs.StandLemmas.{Leaves}
-use Rattle.pr_report_laws.specs.Fits.{IsFitLwp}
+use Rattle.pr_reached.specs.Fits.{IsFitLwp}
 use Rattle.pr_report_laws.specs.Watching.{is_away}
 
 -- What the calls of truss reach, and what a status tells of a child.

@@ -32,13 +32,14 @@ use Rattle.pr_truss.specs.declared.stages.Stage.TheVariants.{ReadingStatus, Read
 use Rattle.pr_truss_laws.proofs.HeldLemmas.{Fits, at_place}
 use Rattle.pr_truss_laws.proofs.OwnLemmas.{Owns}
 use Rattle.pr_truss_laws.specs.Exchanges.{Exchange, exchange_of, exchanges, truss_at}
+use Rattle.pr_truss_laws.specs.Runs.{IsTrussRun}
 use Rattle.pr_report_laws.proofs.FileLaws.{HasFiles, IsFileOf}
 use Rattle.pr_report_laws.proofs.FileSteps.{MakesNext}
 use Rattle.pr_report_laws.proofs.FileUses.{lwps-read, memory-read, stage-control, stage_place, standing, status-read}
 use Rattle.pr_report_laws.proofs.GoneLaws.{GivesBytes, is_read, lwps-given, read-gone, run-gone, unfollow-gone}
 use Rattle.pr_report_laws.proofs.StageChanges.{Asks, Ends, How, IsAt, IsFree, StaysAt, at, away_before, free, gone, is_new, less, looked, runs, status, text, unfollows}
 use Rattle.pr_report_laws.proofs.StandLemmas.{Stands}
-use Rattle.pr_report_laws.proofs.WatchHistories.{IsAnswered, IsRun, Reaches, exchange-answered, run-front, run-last, run-next, run-reaches, truss_at-push}
+use Rattle.pr_report_laws.proofs.WatchHistories.{IsAnswered, Reaches, exchange-answered, run-front, run-last, run-next, run-reaches, truss_at-push}
 use Rattle.pr_report_laws.proofs.WatchMemory.{HasInterrupt, reached-comes, run-recalls}
 use Rattle.pr_report_laws.proofs.WatchedPlaces.{IsWatched, place-watched, watched-place}
 use Rattle.pr_report_laws.specs.Attachments.{IsLetGo, ended, left}
@@ -159,7 +160,7 @@ module _ (k : ℕ) (t : TrussState) (s : TracedState) (x : Exchange) (next : nex
 
 -- ---- along a history
 
-module _ (n k : ℕ) (o : Options) (pid : ℕ) (s : TracedState) (before : List Entry) (e : Entry) (run : IsRun n k o s (before ++ e ∷ [])) (on : watches (truss_at k o before) pid ≡ true) (off : watches (truss_at k o (before ++ e ∷ [])) pid ≡ false) where
+module _ (n k : ℕ) (o : Options) (pid : ℕ) (s : TracedState) (before : List Entry) (e : Entry) (run : IsTrussRun n k o s (before ++ e ∷ [])) (on : watches (truss_at k o before) pid ≡ true) (off : watches (truss_at k o (before ++ e ∷ [])) pid ≡ false) where
   t : TrussState
   t = truss_at k o before
 

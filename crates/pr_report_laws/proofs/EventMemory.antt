@@ -10,8 +10,7 @@ use Rattle.pr_line.specs.Events.{event_of}
 use Rattle.pr_line.specs.declared.events.Event.{Event}
 use Rattle.pr_line.specs.declared.options.Options.{Options}
 use Rattle.pr_model.specs.Handles.{handle_of}
-use Rattle.pr_model.specs.Lawful.{IsLawful}
-use Rattle.pr_model.specs.Legal.{IsLegal, after, state_after}
+use Rattle.pr_model.specs.Legal.{after, state_after}
 use Rattle.pr_model.specs.Readers.{space_seen}
 use Rattle.pr_model.specs.Reads.{file_read, file_reply, mapped_from, of_process, read_process, unless_none}
 use Rattle.pr_model.specs.Replies.{bytes_in}
@@ -28,8 +27,8 @@ use Rattle.pr_model.specs.declared.handles.Held.{Held}
 use Rattle.pr_num.specs.Limits.{read_limit}
 use Rattle.pr_num.specs.Spaces.{Space}
 use Rattle.pr_num.specs.declared.errnos.Errno.TheVariants.{Inval}
-use Rattle.pr_range_laws.specs.ByteHistories.{HasBytes}
-use Rattle.pr_range_laws.specs.InRange.{IsInRange}
+use Rattle.pr_reached.specs.ByteHistories.{HasBytes}
+use Rattle.pr_reached.specs.Reached.{IsReached}
 use Rattle.pr_rec.specs.declared.lwps.LwpStatus.{LwpStatus}
 use Rattle.pr_truss.specs.Feeding.{fed, with_reply}
 use Rattle.pr_truss.specs.NextCalls.{next_call_of}
@@ -43,8 +42,8 @@ use Rattle.pr_truss.specs.declared.stages.Stage.TheVariants.{ReadingText}
 use Rattle.pr_truss_laws.proofs.ClosesLemmas.{after-grown, first-fits}
 use Rattle.pr_truss_laws.proofs.HeldLemmas.{Fits, Grown, grown-all}
 use Rattle.pr_truss_laws.proofs.OwnLemmas.{Owns}
-use Rattle.pr_truss_laws.specs.Exchanges.{Exchange, Makes, exchange_of, exchanges, truss_after, truss_at}
-use Rattle.pr_truss_laws.specs.Handles.{HasNothingOpen}
+use Rattle.pr_truss_laws.specs.Exchanges.{Exchange, exchange_of, exchanges, truss_after, truss_at}
+use Rattle.pr_truss_laws.specs.Runs.{IsTrussRun}
 use Rattle.pr_report_laws.proofs.AnsweredReads as answered
 use Rattle.pr_report_laws.proofs.AnsweredReads.{Reads, next-reads}
 use Rattle.pr_report_laws.proofs.Births.{births, first-traced, unfollowed-births}
@@ -61,7 +60,6 @@ use Rattle.pr_report_laws.proofs.ShownGrows.{text-grown}
 use Rattle.pr_report_laws.proofs.StopsOver.{reported-own, shown-text}
 use Rattle.pr_report_laws.proofs.WatchHistories.{after-append, exchanges-both}
 use Rattle.pr_report_laws.specs.Births.{IsNeverFollowed, LeavesForks, NamesNoChild}
-use Rattle.pr_report_laws.specs.Fits.{IsFitSystem}
 use Rattle.pr_report_laws.specs.Memories.{AreOfTheirEvents, IsMemoryRead, IsOfItsEvent, IsTextOf, WasKilled, range_asked, read, unasked}
 use Rattle.pr_report_laws.specs.Shown.{LwpEvent, event_reported, event_told, selected}
 use Rattle.pr_report_laws.specs.Watching.{told_of, with_exchange}
@@ -212,10 +210,10 @@ told-event l event told = by (event_of l) refl told
     by None is it = absurd (none-some event it)
     by (Some e) is it = (e, (is, sym (same_Some _ event it)))
 
-module _ (n k : ℕ) (o : Options) (s : TracedState) (h : List Entry) (lawful : IsLawful s) (none : HasNothingOpen k s) (legal : IsLegal n s h) (makes : Makes (first_truss o) (exchanges k h)) (pid : ℕ) (g : Along ⊥ n k o pid (first_truss o) s [] h)
+module _ (n k : ℕ) (o : Options) (s : TracedState) (h : List Entry) (run : IsTrussRun n k o s h) (pid : ℕ) (g : Along ⊥ n k o pid (first_truss o) s [] h)
     (earlier later : List Report) (l : LwpStatus) (text : Came) (from len : ℕ) (reports : (truss_at k o h).reports ≡ earlier ++ Reported pid l text ∷ later) (asked : range_asked o l ≡ Some (from, len)) where
   memory-read-is : IsMemoryRead k o pid from len s h earlier text
-  memory-read-is = by (let w = read-texts n k o s h lawful none legal makes in w.each earlier later (Reported pid l text) reports)
+  memory-read-is = by (let w = read-texts n k o s h run in w.each earlier later (Reported pid l text) reports)
     where
       by : IsTextOf k o s h earlier pid l text → IsMemoryRead k o pid from len s h earlier text
       by (unasked nothing empty) = absurd (none-some (from, len) (sym nothing ∙ asked))
@@ -305,13 +303,13 @@ module _ (n k : ℕ) (o : Options) (s : TracedState) (h : List Entry) (lawful : 
   event-memory = of-event memory-read-is
 
 -- where truss opens the process at its birth, if it opens it as the child of a fork
-born-memories : (n k : ℕ) (o : Options) (pid : ℕ) (s : TracedState) (h : List Entry) → IsLawful s → IsFitSystem s.system → HasNothingOpen k s → IsLegal n s h → Makes (first_truss o) (exchanges k h) → IsInRange s.system → HasBytes h → OpensAtBirth k o pid s h → AreOfTheirEvents k o pid s h (truss_at k o h).reports
-born-memories n k o pid s h lawful fit none legal makes range bytes born = record { each = λ earlier later l text from len is asked. event-memory n k o s h lawful none legal makes pid (first-along n k o pid s h lawful fit none legal makes range bytes born) earlier later l text from len is asked }
+born-memories : (n k : ℕ) (o : Options) (pid : ℕ) (s : TracedState) (h : List Entry) → IsReached s → IsTrussRun n k o s h → HasBytes h → OpensAtBirth k o pid s h → AreOfTheirEvents k o pid s h (truss_at k o h).reports
+born-memories n k o pid s h reached run bytes born = record { each = λ earlier later l text from len is asked. event-memory n k o s h run pid (first-along n k o pid s h reached run bytes born) earlier later l text from len is asked }
 
-pub left-memories : (n k : ℕ) (o : Options) (pid : ℕ) (s : TracedState) (h : List Entry) → IsLawful s → IsFitSystem s.system → HasNothingOpen k s → IsLegal n s h → Makes (first_truss o) (exchanges k h) → IsInRange s.system → HasBytes h → NamesNoChild o h → LeavesForks k o h → AreOfTheirEvents k o pid s h (truss_at k o h).reports
-left-memories n k o pid s h lawful fit none legal makes range bytes named forks = born-memories n k o pid s h lawful fit none legal makes range bytes (births n k o s h lawful fit none legal makes range bytes named forks pid)
+pub left-memories : (n k : ℕ) (o : Options) (pid : ℕ) (s : TracedState) (h : List Entry) → IsReached s → IsTrussRun n k o s h → HasBytes h → NamesNoChild o h → LeavesForks k o h → AreOfTheirEvents k o pid s h (truss_at k o h).reports
+left-memories n k o pid s h reached run bytes named forks = born-memories n k o pid s h reached run bytes (births n k o s h reached run bytes named forks pid)
 
-pub unfollowed-memories : (n k : ℕ) (o : Options) (pid : ℕ) (s : TracedState) (h : List Entry) → IsLawful s → IsFitSystem s.system → HasNothingOpen k s → IsLegal n s h → Makes (first_truss o) (exchanges k h) → IsInRange s.system → HasBytes h → IsNeverFollowed k o pid h → AreOfTheirEvents k o pid s h (truss_at k o h).reports
-unfollowed-memories n k o pid s h lawful fit none legal makes range bytes unfollowed = born-memories n k o pid s h lawful fit none legal makes range bytes (unfollowed-births k o pid s h unfollowed)
+pub unfollowed-memories : (n k : ℕ) (o : Options) (pid : ℕ) (s : TracedState) (h : List Entry) → IsReached s → IsTrussRun n k o s h → HasBytes h → IsNeverFollowed k o pid h → AreOfTheirEvents k o pid s h (truss_at k o h).reports
+unfollowed-memories n k o pid s h reached run bytes unfollowed = born-memories n k o pid s h reached run bytes (unfollowed-births k o pid s h unfollowed)
 
 pub ruleset moments = (left-memories, unfollowed-memories)

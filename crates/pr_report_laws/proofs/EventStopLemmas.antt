@@ -30,7 +30,7 @@ use Rattle.pr_rec.specs.declared.lwps.LwpStatus.{LwpStatus}
 use Rattle.pr_truss.specs.Records.{is_on_event}
 use Rattle.pr_truss_laws.proofs.OneEventLemmas.{under-above, under-first, under-later}
 use Rattle.pr_truss_laws.specs.Stills.{IsQuiet}
-use Rattle.pr_report_laws.specs.Fits.{IsFitLwp, IsFitProcess}
+use Rattle.pr_reached.specs.Fits.{IsFitLwp, IsFitProcess}
 use Rattle.pr_report_laws.proofs.Positions.{HasEvent, has_met, is_met_if, met_in}
 
 -- Which lwps of a process stand on events by their statuses: those that stand on events that they met.

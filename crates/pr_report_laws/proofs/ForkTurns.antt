@@ -51,7 +51,7 @@ use Rattle.pr_report_laws.proofs.StayingLwps.{live-by}
 use Rattle.pr_report_laws.proofs.StoppedLaws.{count-cons}
 use Rattle.pr_report_laws.proofs.TracedPoints.{fit-row}
 use Rattle.pr_report_laws.specs.Births.{LeavesForks, NamesNoChild, child_made}
-use Rattle.pr_report_laws.specs.Fits.{IsFitSystem}
+use Rattle.pr_reached.specs.Fits.{IsFitSystem}
 use Rattle.pr_report_laws.specs.Shown.{LwpEvent}
 use Rattle.pr_report_laws.proofs.Positions.{HasEvent, IsTracedBy, has_met, is_met_if}
 

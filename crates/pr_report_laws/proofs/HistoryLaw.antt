@@ -19,11 +19,12 @@ use Rattle.pr_truss.specs.declared.stages.OpeningStep.TheVariants.{AwaitStop}
 use Rattle.pr_truss.specs.declared.stages.Stage.TheVariants.{Opening, OpeningChild, OpeningChildControl}
 use Rattle.pr_truss_laws.proofs.OwnLemmas.{first-owns}
 use Rattle.pr_truss_laws.specs.Exchanges.{Exchange, Makes, exchange_of, exchanges, truss_after}
-use Rattle.pr_truss_laws.specs.Handles.{HasNothingOpen}
-use Rattle.pr_range_laws.proofs.HistoryRanges.{history-range}
-use Rattle.pr_range_laws.proofs.RecordRanges.{lstatus-of-range, status-range}
-use Rattle.pr_range_laws.specs.ByteHistories.{HasBytes, IsEntryOfBytes}
-use Rattle.pr_range_laws.specs.InRange.{IsInRange}
+use Rattle.pr_truss_laws.specs.Runs.{IsTrussRun}
+use Rattle.pr_reached.proofs.HistoryRanges.{history-range}
+use Rattle.pr_reached.proofs.RecordRanges.{lstatus-of-range, status-range}
+use Rattle.pr_reached.specs.ByteHistories.{HasBytes, IsEntryOfBytes}
+use Rattle.pr_reached.specs.InRange.{IsInRange}
+use Rattle.pr_reached.specs.Reached.{IsReached}
 use Rattle.pr_lawful.proofs.EndLemmas.{found-live}
 use Rattle.std.proofs.lemmas.List.Elements.{All-cons, All-head, All-nil, All-tail}
 use Rattle.pr_report_laws.proofs.EntrySteps.{EndsByKill, Lost}
@@ -33,7 +34,6 @@ use Rattle.pr_report_laws.proofs.OtherSteps.{is-watched}
 use Rattle.pr_report_laws.proofs.OwnLooks.{ReadsBack}
 use Rattle.pr_report_laws.proofs.Standing.{Accounted, Position, Prepares, Standing, apart, goes, has_event, lives, old_stops, over, stop_read, unread}
 use Rattle.pr_report_laws.proofs.WatchHistories.{uninterrupted}
-use Rattle.pr_report_laws.specs.Fits.{IsFitSystem}
 use Rattle.pr_report_laws.proofs.Positions.{IsAtBirth}
 use Rattle.pr_report_laws.specs.Reported.{IsKilled}
 use Rattle.pr_report_laws.specs.Shown.{LwpEvent, event_selected, selected, shown}
@@ -225,22 +225,22 @@ first-prepares o pid s t first = record {
 }
 
 -- so it is along a whole history
-pub first-along : (n k : ℕ) (o : Options) (pid : ℕ) (s : TracedState) (h : List Entry) → IsLawful s → IsFitSystem s.system → HasNothingOpen k s → IsLegal n s h → Makes (first_truss o) (exchanges k h) → IsInRange s.system → HasBytes h → OpensAtBirth k o pid s h → Along ⊥ n k o pid (first_truss o) s [] h
-first-along n k o pid s h lawful fit none legal makes range bytes births =
+pub first-along : (n k : ℕ) (o : Options) (pid : ℕ) (s : TracedState) (h : List Entry) → IsReached s → IsTrussRun n k o s h → HasBytes h → OpensAtBirth k o pid s h → Along ⊥ n k o pid (first_truss o) s [] h
+first-along n k o pid s h reached run bytes births =
     let first = first-is o pid in
     record {
       holds = record {
-        lawful = lawful;
-        fit = fit;
-        owns = first-owns k o s none;
+        lawful = run.lawful;
+        fit = reached.fit;
+        owns = first-owns k o s run.nothing_open;
         files = first-files k o s;
         options = first.options;
         prepares = first-prepares o pid s (first_truss o) first;
         standing = apart first.nobody (record { missing = []; is = sym (append-nil (shown pid (first_truss o)) ∙ first.nothing); few = inl refl });
       };
-      legal = legal;
-      makes = makes;
-      range = range;
+      legal = run.legal;
+      makes = run.makes;
+      range = reached.in_range;
       bytes = bytes;
       births = record { child = λ before later e x handle parent p is own stage reply live. births.child before later e x handle parent p is own stage reply live };
     }

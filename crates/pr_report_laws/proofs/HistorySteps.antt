@@ -27,7 +27,7 @@ use Rattle.pr_report_laws.proofs.EntrySteps.{EndsByKill, Lost, others-prepares, 
 use Rattle.pr_report_laws.proofs.FileLaws.{HasFiles}
 use Rattle.pr_report_laws.proofs.FileSteps.{IsUninterrupted, MakesNext, entry-files, entry-lawful, entry-owns}
 use Rattle.pr_report_laws.proofs.OptionLemmas.{told-options}
-use Rattle.pr_report_laws.proofs.FitHistoryLemmas.{history-fits}
+use Rattle.pr_reached.proofs.FitHistoryLemmas.{history-fits}
 use Rattle.pr_report_laws.proofs.FrameLaws.{no-events}
 use Rattle.pr_truss_laws.proofs.OverLemmas.{stays-made, stays-over}
 use Rattle.pr_report_laws.proofs.OwnCallSteps.{call-goes}
@@ -35,7 +35,7 @@ use Rattle.pr_report_laws.proofs.OwnCalls.{Leaves}
 use Rattle.pr_report_laws.proofs.OwnLooks.{IsCall, ReadsBack}
 use Rattle.pr_report_laws.proofs.OwnSteps.{turned-prepares, turned-standing}
 use Rattle.pr_report_laws.proofs.Standing.{Prepares, Standing}
-use Rattle.pr_report_laws.specs.Fits.{IsFitSystem}
+use Rattle.pr_reached.specs.Fits.{IsFitSystem}
 use Rattle.pr_report_laws.proofs.Positions.{IsAtBirth}
 use Rattle.pr_report_laws.specs.Shown.{LwpEvent, selected}
 use Rattle.pr_report_laws.specs.Watching.{told_of, watches, with_exchange}

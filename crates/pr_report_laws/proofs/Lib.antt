@@ -31,14 +31,6 @@ pub mod FedFiles
 pub mod FileLaws
 pub mod FileSteps
 pub mod FileUses
-pub mod FitCallLemmas
-pub mod FitChangeLemmas
-pub mod FitHistoryLemmas
-pub mod FitLemmas
-pub mod FitMessageLemmas
-pub mod FitRowLemmas
-pub mod FitSignalLemmas
-pub mod FitTurnLemmas
 pub mod FollowCalm
 pub mod FollowForks
 pub mod FollowLaws

@@ -8,7 +8,6 @@ use Rattle.pr_line.specs.declared.options.Options.{Options}
 use Rattle.pr_model.proofs.HistoryLemmas.{state_after-push}
 use Rattle.pr_model.specs.Calls.{Answer, answer_to}
 use Rattle.pr_model.specs.Handles.{handle_of}
-use Rattle.pr_model.specs.Lawful.{IsLawful}
 use Rattle.pr_model.specs.Legal.{IsLegal, IsLegalEntry, after, state_after}
 use Rattle.pr_model.specs.Reads.{file_read}
 use Rattle.pr_model.specs.Replies.{bytes_in, number_of}
@@ -35,7 +34,7 @@ use Rattle.pr_truss.specs.declared.stages.Stage.TheVariants.{ReadingText}
 use Rattle.pr_truss_laws.proofs.OpensLemmas.{held_by}
 use Rattle.pr_truss_laws.proofs.OwnLemmas.{Owns}
 use Rattle.pr_truss_laws.specs.Exchanges.{Exchange, Makes, exchange_in, exchange_of, exchanges, truss_after, truss_at}
-use Rattle.pr_truss_laws.specs.Handles.{HasNothingOpen}
+use Rattle.pr_truss_laws.specs.Runs.{IsTrussRun}
 use Rattle.pr_report_laws.proofs.FileSteps.{MakesNext, makes-next}
 use Rattle.pr_report_laws.proofs.FileUses.{memory-read}
 use Rattle.pr_report_laws.proofs.OptionLemmas.{fed-options}
@@ -219,9 +218,9 @@ first-keeps k o s =
       asks = first.asks;
     }
 
-pub read-texts : (n k : ℕ) (o : Options) (s : TracedState) (h : List Entry) → IsLawful s → HasNothingOpen k s → IsLegal n s h → Makes (first_truss o) (exchanges k h) → HaveTheirTexts k o s h (truss_at k o h).reports
-read-texts n k o s h lawful none legal makes =
-    let w = later-keeps h n k o s [] (first_truss o) (first-reaches k o s lawful none) legal makes (first-keeps k o s) in
+pub read-texts : (n k : ℕ) (o : Options) (s : TracedState) (h : List Entry) → IsTrussRun n k o s h → HaveTheirTexts k o s h (truss_at k o h).reports
+read-texts n k o s h run =
+    let w = later-keeps h n k o s [] (first_truss o) (first-reaches k o s run.lawful run.nothing_open) run.legal run.makes (first-keeps k o s) in
     w.texts
 
 pub ruleset memories = (read-texts)

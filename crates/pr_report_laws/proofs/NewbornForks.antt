@@ -25,7 +25,7 @@ use Rattle.pr_report_laws.proofs.Positions.{IsTracedBy}
 use Rattle.pr_report_laws.proofs.Standing as st
 use Rattle.pr_report_laws.proofs.Standing.{Position}
 use Rattle.pr_report_laws.specs.Births.{child_made}
-use Rattle.pr_report_laws.specs.Fits.{IsFitSystem}
+use Rattle.pr_reached.specs.Fits.{IsFitSystem}
 use Rattle.pr_report_laws.specs.Newborn.{WasForked}
 use Rattle.pr_report_laws.specs.Shown.{LwpEvent}
 

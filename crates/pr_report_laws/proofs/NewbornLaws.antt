@@ -4,15 +4,14 @@ use Rattle.std.proofs.lemmas.List.Elements.{All-head, All-nil, All-push, All-tai
 use Rattle.std.specs.List.{All}
 use Rattle.pr_line.specs.declared.options.Options.{Options}
 use Rattle.pr_model.specs.Events.{events_from, events_of}
-use Rattle.pr_model.specs.Lawful.{IsLawful}
-use Rattle.pr_model.specs.Legal.{IsLegal, after, state_after}
+use Rattle.pr_model.specs.Legal.{after, state_after}
 use Rattle.pr_model.specs.Replies.{handle_in}
 use Rattle.pr_model.specs.State.{TracedState}
 use Rattle.pr_model.specs.declared.events.Entry.{Entry}
 use Rattle.pr_num.specs.Control.{rlc_mode}
 use Rattle.pr_num.specs.declared.messages.Message.TheVariants as message
-use Rattle.pr_range_laws.specs.ByteHistories.{HasBytes}
-use Rattle.pr_range_laws.specs.InRange.{IsInRange}
+use Rattle.pr_reached.specs.ByteHistories.{HasBytes}
+use Rattle.pr_reached.specs.Reached.{IsReached}
 use Rattle.pr_model.specs.declared.calls.File.TheVariants as file
 use Rattle.pr_truss.specs.Children.{with_child_control}
 use Rattle.pr_truss.specs.Feeding.{fed}
@@ -29,7 +28,7 @@ use Rattle.pr_truss.specs.declared.stages.Stage.TheVariants.{FreeingChild, Openi
 use Rattle.pr_truss_laws.proofs.OwnLemmas.{first-owns}
 use Rattle.pr_truss_laws.specs.Exchanges.{Exchange, IsGranted, Makes, calls_in, exchange_of, exchanges, truss_after, truss_at}
 use Rattle.pr_truss_laws.specs.Given.{reply_at}
-use Rattle.pr_truss_laws.specs.Handles.{HasNothingOpen}
+use Rattle.pr_truss_laws.specs.Runs.{IsTrussRun}
 use Rattle.pr_report_laws.proofs.BeginLaws.{BeginsChild, child-begins, followed-watches, freed-closes, freed-fed-again, given-opens, next-call}
 use Rattle.pr_report_laws.proofs.BeginsOnlyLaws.{stays-off}
 use Rattle.pr_report_laws.proofs.Births.{Going, first-follows, first-traced}
@@ -44,9 +43,8 @@ use Rattle.pr_report_laws.proofs.NewbornForks.{forked-before}
 use Rattle.pr_report_laws.proofs.NewbornTurns.{HasRested, Rests, call-turn, rests-after}
 use Rattle.pr_report_laws.proofs.OpeningRuns.{IsFollowing, OpensControl, born, born-fed, born-following, child-runs, freed, freed-fed, given, given-fed, granted-first, granted-rest, opens-control}
 use Rattle.pr_report_laws.proofs.Standing.{apart}
-use Rattle.pr_report_laws.proofs.WatchHistories.{IsRun, after-append, makes-front, makes-rest, run-pushed}
+use Rattle.pr_report_laws.proofs.WatchHistories.{after-append, makes-front, makes-rest, run-pushed}
 use Rattle.pr_report_laws.specs.Births.{LeavesForks, NamesNoChild}
-use Rattle.pr_report_laws.specs.Fits.{IsFitSystem}
 use Rattle.pr_report_laws.specs.Attachments.{HasFollowed, child_calls}
 use Rattle.pr_report_laws.specs.Newborn.{IsNoTurnOf, WasForked, WasSpawned}
 use Rattle.pr_report_laws.specs.Shown.{LwpEvent, selected, shown}
@@ -107,10 +105,7 @@ silent o pid (e ∷ h) s all =
 
 -- ---- the law
 
-module _ (n k : ℕ) (o : Options) (pid : ℕ) (s : TracedState) (before : List Entry) (e : Entry) (lawful : IsLawful s) (fit : IsFitSystem s.system) (none : HasNothingOpen k s) (legal : IsLegal n s (before ++ e ∷ [])) (makes : Makes (first_truss o) (exchanges k (before ++ e ∷ []))) (range : IsInRange s.system) (bytes : HasBytes (before ++ e ∷ [])) (named : NamesNoChild o (before ++ e ∷ [])) (forks : LeavesForks k o (before ++ e ∷ [])) where
-  run : IsRun n k o s (before ++ e ∷ [])
-  run = record { lawful = lawful; none = none; legal = legal; makes = makes }
-
+module _ (n k : ℕ) (o : Options) (pid : ℕ) (s : TracedState) (before : List Entry) (e : Entry) (reached : IsReached s) (run : IsTrussRun n k o s (before ++ e ∷ [])) (bytes : HasBytes (before ++ e ∷ [])) (named : NamesNoChild o (before ++ e ∷ [])) (forks : LeavesForks k o (before ++ e ∷ [])) where
   first-going : Going k o (first_truss o) s (before ++ e ∷ [])
   first-going = record {
     each = λ p.
@@ -119,9 +114,9 @@ module _ (n k : ℕ) (o : Options) (pid : ℕ) (s : TracedState) (before : List 
           K = ⊥;
           so_far = [];
           holds = record {
-            lawful = lawful;
-            fit = fit;
-            owns = first-owns k o s none;
+            lawful = run.lawful;
+            fit = reached.fit;
+            owns = first-owns k o s run.nothing_open;
             files = first-files k o s;
             options = first.options;
             prepares = first-prepares o p s (first_truss o) first;
@@ -148,14 +143,14 @@ module _ (n k : ℕ) (o : Options) (pid : ℕ) (s : TracedState) (before : List 
   }
 
   rests : Rests k o (truss_at k o before) (state_after s before) before (e ∷ [])
-  rests = rests-after before n k o (e ∷ []) [] (first_truss o) s first-going legal makes range bytes (forks, named) first-rests
+  rests = rests-after before n k o (e ∷ []) [] (first_truss o) s first-going run.legal run.makes reached.in_range bytes (forks, named) first-rests
 
   module _ (off : watches (truss_at k o before) pid ≡ false) (followed : HasFollowed k pid (before ++ e ∷ [])) where
     on : watches (truss_at k o (before ++ e ∷ [])) pid ≡ true
     on = followed-watches n k o pid s (before ++ e ∷ []) run followed
 
     earlier-makes : Makes (truss_after (first_truss o) followed.earlier) followed.opening
-    earlier-makes = makes-front (truss_after (first_truss o) followed.earlier) followed.opening (followed.last ∷ []) (makes-rest (first_truss o) followed.earlier (followed.opening ++ followed.last ∷ []) (subst (Makes (first_truss o)) followed.is makes))
+    earlier-makes = makes-front (truss_after (first_truss o) followed.earlier) followed.opening (followed.last ∷ []) (makes-rest (first_truss o) followed.earlier (followed.opening ++ followed.last ∷ []) (subst (Makes (first_truss o)) followed.is run.makes))
 
     placed : (x : Exchange) → exchange_of k e ≡ Some x → Placed pid (first_truss o) followed.last (truss_at k o before)
     placed x its =
@@ -181,7 +176,7 @@ module _ (n k : ℕ) (o : Options) (pid : ℕ) (s : TracedState) (before : List 
 
     -- and so by no controller
     pub followed-unstarted : (by : ℕ) → WasSpawned by pid (before ++ e ∷ []) → ⊥
-    followed-unstarted by spawned = not-both n pid s (before ++ e ∷ []) lawful legal by followed-forked spawned
+    followed-unstarted by spawned = not-both n pid s (before ++ e ∷ []) run.lawful run.legal by followed-forked spawned
 
     -- no lwp of it has had a turn
     pub followed-rests : All (IsNoTurnOf pid) (before ++ e ∷ [])

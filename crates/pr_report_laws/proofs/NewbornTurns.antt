@@ -23,9 +23,9 @@ use Rattle.pr_model.specs.declared.events.Act.TheVariants as act
 use Rattle.pr_model.specs.declared.events.Actor.{Actor}
 use Rattle.pr_model.specs.declared.events.Actor.TheVariants.{Controller, Lwp, Clock}
 use Rattle.pr_model.specs.declared.events.Entry.{Entry}
-use Rattle.pr_range_laws.proofs.HistoryRanges.{history-range}
-use Rattle.pr_range_laws.specs.ByteHistories.{HasBytes, IsEntryOfBytes}
-use Rattle.pr_range_laws.specs.InRange.{IsInRange}
+use Rattle.pr_reached.proofs.HistoryRanges.{history-range}
+use Rattle.pr_reached.specs.ByteHistories.{HasBytes, IsEntryOfBytes}
+use Rattle.pr_reached.specs.InRange.{IsInRange}
 use Rattle.pr_model.specs.Replies.{handle_in}
 use Rattle.pr_truss.specs.Children.{child_learnt, with_child_control}
 use Rattle.pr_truss.specs.Feeding.{fed}

@@ -35,7 +35,7 @@ use Rattle.pr_report_laws.proofs.KeepLemmas.{can_wait}
 use Rattle.pr_report_laws.proofs.PollLaws.{never-interrupted}
 use Rattle.pr_report_laws.proofs.Standing.{Accounted, Prepares, Standing}
 use Rattle.pr_report_laws.proofs.Unwatched.{apart-accounted}
-use Rattle.pr_report_laws.specs.Fits.{IsFitSystem}
+use Rattle.pr_reached.specs.Fits.{IsFitSystem}
 use Rattle.pr_report_laws.specs.Shown.{LwpEvent, shown}
 
 -- The call of a step of an opening, and what it leaves.

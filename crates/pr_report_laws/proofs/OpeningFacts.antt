@@ -42,7 +42,7 @@ use Rattle.pr_report_laws.proofs.RunLaws.{HasRun, run-accepted, run-agent-refuse
 use Rattle.pr_report_laws.proofs.SettingLaws.{cleared-plain, release-plain}
 use Rattle.pr_report_laws.proofs.Standing.{HasEntries, HasExits, HasFaults, HasSignals, IsAttached, IsCounted, IsSpared, Opened}
 use Rattle.pr_report_laws.proofs.StoppedLaws.{stopped-first, stopped-waits}
-use Rattle.pr_report_laws.specs.Fits.{IsFitProcess, IsFitSystem}
+use Rattle.pr_reached.specs.Fits.{IsFitProcess, IsFitSystem}
 use Rattle.pr_report_laws.proofs.Positions.{IsTracedBy, Waits, met_in}
 
 -- What the machine does at each step of an opening to the process that truss opens.

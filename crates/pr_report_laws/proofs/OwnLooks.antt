@@ -56,7 +56,7 @@ use Rattle.pr_report_laws.proofs.StatusSteps.{TellsStatus, status-prepares, stat
 use Rattle.pr_report_laws.proofs.StoppedLaws.{HasMetFirst, event-first, event-waits, live-rising, quiet-runs, waits-first, waits-stopped}
 use Rattle.pr_report_laws.proofs.TextSteps.{text-prepares, text-standing}
 use Rattle.pr_report_laws.proofs.TracedPoints.{fit-lwp, fit-process}
-use Rattle.pr_report_laws.specs.Fits.{IsFitProcess, IsFitSystem}
+use Rattle.pr_reached.specs.Fits.{IsFitProcess, IsFitSystem}
 use Rattle.pr_report_laws.proofs.Positions.{HasEvent}
 use Rattle.pr_report_laws.specs.Shown.{LwpEvent}
 

@@ -21,7 +21,7 @@ use Rattle.pr_report_laws.proofs.OwnTurnLaws as own
 use Rattle.pr_report_laws.proofs.OwnTurnLaws.{AfterTurn, event-selects, event-turn, halting-turn, quiet-turn}
 use Rattle.pr_report_laws.proofs.Standing.{Accounted, HasEntries, HasExits, HasFaults, HasSignals, has_read, is_named, IsAttached, IsCounted, IsSpared, Opened, Position, Prepares, Standing, apart, goes, has_event, lives, old_stops, over, stop_read, unread}
 use Rattle.pr_report_laws.proofs.TurnSettings.{turn-settings}
-use Rattle.pr_report_laws.specs.Fits.{IsFitSystem}
+use Rattle.pr_reached.specs.Fits.{IsFitSystem}
 use Rattle.pr_report_laws.proofs.Positions.{IsTracedBy}
 use Rattle.pr_report_laws.specs.Shown.{LwpEvent, selected, shown}
 use Rattle.pr_report_laws.specs.Watching.{is_away, place_of, watches}

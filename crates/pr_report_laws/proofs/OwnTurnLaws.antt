@@ -41,7 +41,7 @@ use Rattle.pr_truss_laws.specs.Stills.{HasSameSettings, IsHalting, IsQuiet, stop
 use Rattle.pr_truss_laws.specs.Told.{has_ended, told}
 use Rattle.pr_report_laws.proofs.StayingLwps.{changed-ids, keeps-meeting, live-by, row-leaves, settled-to, suits-row, turn-no-agent}
 use Rattle.pr_report_laws.proofs.TracedPoints.{fit-row, listed, lwp-found, picked, selected-is-traced, turn-selects}
-use Rattle.pr_report_laws.specs.Fits.{IsFitSystem}
+use Rattle.pr_reached.specs.Fits.{IsFitSystem}
 use Rattle.pr_report_laws.proofs.Positions.{HasEvent, IsHeld, IsTracedBy, is_met_if}
 use Rattle.pr_report_laws.specs.Shown.{LwpEvent, if_selected, selected}
 

@@ -5,7 +5,6 @@ use Rattle.pr_laws.specs.LastCloses.{IsReleased}
 use Rattle.pr_line.specs.declared.options.Options.{Options}
 use Rattle.pr_model.specs.Calls.{Answer, answer_to}
 use Rattle.pr_model.specs.Handles.{handle_of, is_control}
-use Rattle.pr_model.specs.Lawful.{IsLawful}
 use Rattle.pr_model.specs.Legal.{IsLegal, after, state_after}
 use Rattle.pr_model.specs.State.{TracedProcess, TracedState, live_process}
 use Rattle.pr_model.specs.declared.calls.Call.TheVariants as call
@@ -27,7 +26,7 @@ use Rattle.pr_truss.specs.declared.stages.Stage.{Stage}
 use Rattle.pr_truss.specs.declared.stages.Stage.TheVariants.{Opening, OpeningChild, FreeingChild}
 use Rattle.pr_truss_laws.proofs.OpensLemmas.{held_by}
 use Rattle.pr_truss_laws.specs.Exchanges.{Exchange, Makes, exchange_of, exchanges, truss_after, truss_at}
-use Rattle.pr_truss_laws.specs.Handles.{HasNothingOpen}
+use Rattle.pr_truss_laws.specs.Runs.{IsTrussRun}
 use Rattle.pr_report_laws.proofs.Births.{first-traced}
 use Rattle.pr_report_laws.proofs.FileSteps.{MakesNext, makes-next}
 use Rattle.pr_report_laws.proofs.HistoryLaw.{IsFirst, after-next, first-is, no-exchanges}
@@ -36,7 +35,7 @@ use Rattle.pr_report_laws.proofs.ReleaseFreed.{HasFreed, entry-freed}
 use Rattle.pr_report_laws.proofs.ReleaseMarks.{HasSet, fed-set}
 use Rattle.pr_report_laws.proofs.ReleaseStays.{released-stays}
 use Rattle.pr_report_laws.proofs.ReleaseSteps.{modes-later, modes-none, modes_told, truss-modes, truss-releases}
-use Rattle.pr_report_laws.proofs.WatchHistories.{exchange-answered, exchanges-push, run-front, run-last, run-next, run-reaches, IsRun, Reaches, entry-reaches, first-reaches, later-reaches}
+use Rattle.pr_report_laws.proofs.WatchHistories.{exchange-answered, exchanges-push, run-front, run-last, run-next, run-reaches, Reaches, entry-reaches, first-reaches}
 use Rattle.pr_report_laws.specs.Releases.{HasModes, Modes, has_set_at, is_child_past, is_opened_past, is_past, modes_after, modes_next, modes_set, released, spared}
 use Rattle.pr_report_laws.specs.Watching.{told_of, with_exchange}
 
@@ -48,9 +47,9 @@ modes-spare : (m : Modes) (p : TracedProcess) → HasModes m p → has_flags p.c
 modes-spare spared p has = has
 modes-spare released p has = has.1
 
-pub truss-spares : (n k : ℕ) (o : Options) (s : TracedState) (h : List Entry) → IsLawful s → HasNothingOpen k s → IsLegal n s h → Makes (first_truss o) (exchanges k h) → (number : ℕ) (held : Held) (p : TracedProcess)
+pub truss-spares : (n k : ℕ) (o : Options) (s : TracedState) (h : List Entry) → IsTrussRun n k o s h → (number : ℕ) (held : Held) (p : TracedProcess)
     → handle_of (state_after s h).opens k number ≡ Some held → is_control held.file ≡ true → live_process (state_after s h).system held.pid ≡ Some p → has_flags p.control.modes klc_mode ≡ false
-truss-spares n k o s h lawful none legal makes number held p there control live = modes-spare (modes_set k o held.pid h) p (truss-modes n k o s h lawful none legal makes number held p there control live)
+truss-spares n k o s h run number held p there control live = modes-spare (modes_set k o held.pid h) p (truss-modes n k o s h run number held p there control live)
 
 -- ---- truss has set the modes of what it traces
 
@@ -76,14 +75,14 @@ first-set o pid =
       followed = λ parent place step is of. absurd (first.follows parent place step is);
     }
 
-module _ (n k : ℕ) (o : Options) (s : TracedState) (h : List Entry) (lawful : IsLawful s) (none : HasNothingOpen k s) (legal : IsLegal n s h) (makes : Makes (first_truss o) (exchanges k h)) where
+module _ (n k : ℕ) (o : Options) (s : TracedState) (h : List Entry) (run : IsTrussRun n k o s h) where
   abbrev t : TrussState
   t = truss_at k o h
 
   module _ (place : ℕ) (within : place < length t.traced) where
     its-set : HasSet (traced_at t place).pid t (modes_set k o (traced_at t place).pid h)
     unfolding modes_set
-    its-set = history-set h n k (traced_at t place).pid (first_truss o) s spared (first-reaches k o s lawful none) (first-set o (traced_at t place).pid) legal makes
+    its-set = history-set h n k (traced_at t place).pid (first_truss o) s spared (first-reaches k o s run.lawful run.nothing_open) (first-set o (traced_at t place).pid) run.legal run.makes
 
     past-asked : (step : OpeningStep) → is_past step ≡ true → t.stage ≡ Opening place step → modes_set k o (traced_at t place).pid h ≡ released
     past-asked opening.OpenStatus past is = absurd (false≢true past)
@@ -122,7 +121,7 @@ module _ (n k : ℕ) (o : Options) (s : TracedState) (h : List Entry) (lawful : 
         by false off is = opened-past t.stage refl is
 
     reached : Reaches k t (state_after s h)
-    reached = later-reaches h n k (first_truss o) s (first-reaches k o s lawful none) legal makes
+    reached = run-reaches n k o s h run
 
     traced-modes : (p : TracedProcess) → has_set_at t place ≡ true → live_process (state_after s h).system (traced_at t place).pid ≡ Some p
         → (has_flags p.control.modes rlc_mode ≡ true) × (has_flags p.control.modes klc_mode ≡ false)
@@ -130,7 +129,7 @@ module _ (n k : ℕ) (o : Options) (s : TracedState) (h : List Entry) (lawful : 
         let r = reached in
         let files = r.files in
         let f = files.control place within in
-        subst (λ m. HasModes m p) (traced-set set) (truss-modes n k o s h lawful none legal makes (traced_at t place).control (held_by k (traced_at t place).pid 0 file.Ctl WriteExcl) p f.is refl live)
+        subst (λ m. HasModes m p) (traced-set set) (truss-modes n k o s h run (traced_at t place).control (held_by k (traced_at t place).pid 0 file.Ctl WriteExcl) p f.is refl live)
 
     pub traced-runs : (p : TracedProcess) → has_set_at t place ≡ true → live_process (state_after s h).system (traced_at t place).pid ≡ Some p → has_flags p.control.modes rlc_mode ≡ true
     traced-runs p set live = let w = traced-modes p set live in w.0
@@ -144,7 +143,7 @@ module _ (n k : ℕ) (o : Options) (s : TracedState) (h : List Entry) (lawful : 
         let r = reached in
         let files = r.files in
         let f = files.control place within in
-        truss-releases n k o s h lawful none legal makes (traced_at t place).control (held_by k (traced_at t place).pid 0 file.Ctl WriteExcl) p a f.is refl (traced-set set) live close
+        truss-releases n k o s h run (traced_at t place).control (held_by k (traced_at t place).pid 0 file.Ctl WriteExcl) p a f.is refl (traced-set set) live close
 
 -- ---- a child that truss sets free
 
@@ -179,11 +178,11 @@ first-freed o pid s =
     not-leaving : (o : Options) → IsLeaving (first_truss o) → (pid : ℕ) (step : FreeingStep) → (first_truss o).stage ≡ FreeingChild pid step → ⊥
     not-leaving o leaving pid step is = false≢true (sym (first-stays o) ∙ leaving.leaving (ap (λ x. leaves x) is))
 
-pub freed-set : (n k : ℕ) (o : Options) (s : TracedState) (h : List Entry) → IsLawful s → HasNothingOpen k s → IsLegal n s h → Makes (first_truss o) (exchanges k h) → (pid control : ℕ) (p : TracedProcess) → (truss_at k o h).stage ≡ FreeingChild pid (freeing.Close control) → pid ≢ 0
+pub freed-set : (n k : ℕ) (o : Options) (s : TracedState) (h : List Entry) → IsTrussRun n k o s h → (pid control : ℕ) (p : TracedProcess) → (truss_at k o h).stage ≡ FreeingChild pid (freeing.Close control) → pid ≢ 0
     → live_process (state_after s h).system pid ≡ Some p → modes_set k o pid h ≡ released
 unfolding modes_set
-freed-set n k o s h lawful none legal makes pid control p is some live =
-    let w = history-freed h n k pid (first_truss o) s spared some (first-reaches k o s lawful none) (first-freed o pid s) legal makes in
+freed-set n k o s h run pid control p is some live =
+    let w = history-freed h n k pid (first_truss o) s spared some (first-reaches k o s run.lawful run.nothing_open) (first-freed o pid s) run.legal run.makes in
     w.closing control p is live
 
 -- ---- what is set stays set
@@ -196,7 +195,7 @@ modes-one : (pid : ℕ) (t : TrussState) (m : Modes) (x : Option Exchange) → m
 modes-one pid t m None = refl
 modes-one pid t m (Some x) = refl
 
-module _ (n k : ℕ) (o : Options) (s : TracedState) (before : List Entry) (e : Entry) (run : IsRun n k o s (before ++ e ∷ [])) (pid : ℕ) where
+module _ (n k : ℕ) (o : Options) (s : TracedState) (before : List Entry) (e : Entry) (run : IsTrussRun n k o s (before ++ e ∷ [])) (pid : ℕ) where
   abbrev was : TrussState
   was = truss_at k o before
 
@@ -207,12 +206,12 @@ module _ (n k : ℕ) (o : Options) (s : TracedState) (before : List Entry) (e : 
       ∙ modes-append pid (first_truss o) spared (exchanges k before) (cons_option (exchange_of k e) [])
       ∙ modes-one pid was (modes_after pid (first_truss o) spared (exchanges k before)) (exchange_of k e)
 
-  front : IsRun n k o s before
+  front : IsTrussRun n k o s before
   front = run-front n k o s before e run
 
   was-set : HasSet pid was (modes_set k o pid before)
   unfolding modes_set
-  was-set = history-set before n k pid (first_truss o) s spared (first-reaches k o s front.lawful front.none) (first-set o pid) front.legal front.makes
+  was-set = history-set before n k pid (first_truss o) s spared (first-reaches k o s front.lawful front.nothing_open) (first-set o pid) front.legal front.makes
 
   stays-told : (number : ℕ) (held : Held) → handle_of (state_after s before).opens k number ≡ Some held → is_control held.file ≡ true → held.pid ≡ pid → modes_set k o pid before ≡ released → modes_set k o pid (before ++ e ∷ []) ≡ released
   stays-told number held there control of set = modes-push ∙ by (exchange_of k e) refl (run-next n k o s before e run)
@@ -226,8 +225,8 @@ module _ (n k : ℕ) (o : Options) (s : TracedState) (before : List Entry) (e : 
           ∙ released-stays k pid was (state_after s before) x.call a.answer (modes_set k o pid before) r.lawful next a.is was-set number held there control of set
 
 -- one entry more leaves what truss has set, where it has the control file open
-pub set-stays : (n k : ℕ) (o : Options) (s : TracedState) (before : List Entry) (e : Entry) → IsLawful s → HasNothingOpen k s → IsLegal n s (before ++ e ∷ []) → Makes (first_truss o) (exchanges k (before ++ e ∷ [])) → (number : ℕ) (held : Held)
+pub set-stays : (n k : ℕ) (o : Options) (s : TracedState) (before : List Entry) (e : Entry) → IsTrussRun n k o s (before ++ e ∷ []) → (number : ℕ) (held : Held)
     → handle_of (state_after s before).opens k number ≡ Some held → is_control held.file ≡ true → modes_set k o held.pid before ≡ released → modes_set k o held.pid (before ++ e ∷ []) ≡ released
-set-stays n k o s before e lawful none legal makes number held there control set = stays-told n k o s before e (record { lawful = lawful; none = none; legal = legal; makes = makes }) held.pid number held there control refl set
+set-stays n k o s before e run number held there control set = stays-told n k o s before e run held.pid number held there control refl set
 
 pub ruleset releasings = (truss-modes, truss-spares, truss-releases, traced-set, freed-set, set-stays, traced-runs, traced-spares, traced-released)

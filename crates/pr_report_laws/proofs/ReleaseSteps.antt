@@ -7,7 +7,6 @@ use Rattle.pr_lawful.proofs.HandleLemmas.{handle-at}
 use Rattle.pr_line.specs.declared.options.Options.{Options}
 use Rattle.pr_model.specs.Calls.{Answer, answer_to}
 use Rattle.pr_model.specs.Handles.{handle_of, is_control}
-use Rattle.pr_model.specs.Lawful.{IsLawful}
 use Rattle.pr_model.specs.Legal.{IsLegal, IsLegalEntry, after, after_call, after_turn, state_after}
 use Rattle.pr_model.specs.LwpTurns.{LwpTurn, turn_of}
 use Rattle.pr_model.specs.State.{TracedProcess, TracedState, live_process}
@@ -25,13 +24,13 @@ use Rattle.pr_truss.specs.Trusses.{TrussState, first_truss}
 use Rattle.pr_truss_laws.proofs.OpensLemmas.{foreign-call}
 use Rattle.pr_truss_laws.proofs.ReleaseLemmas.{truss-closes}
 use Rattle.pr_truss_laws.specs.Exchanges.{Exchange, Makes, exchange_in, exchange_of, exchanges}
-use Rattle.pr_truss_laws.specs.Handles.{HasNothingOpen}
 use Rattle.pr_report_laws.proofs.ClaimRuns.{call_entry}
 use Rattle.pr_report_laws.proofs.EntrySteps.{made-at}
 use Rattle.pr_report_laws.proofs.FileSteps.{MakesNext, makes-next, opens-turn}
 use Rattle.pr_truss_laws.proofs.ForeignLemmas.{exclusive-sole}
 use Rattle.pr_truss_laws.proofs.OutlastLemmas.{Outlasts, killed, lives, others-entry}
 use Rattle.pr_truss_laws.proofs.OverLemmas.{stays-over}
+use Rattle.pr_truss_laws.specs.Runs.{IsTrussRun}
 use Rattle.pr_report_laws.proofs.ReleaseCalls.{KeepsModes, call-modes}
 use Rattle.pr_report_laws.proofs.ReleaseModes.{HasSameFlags, alone-flags, flags-keep, settings-flags}
 use Rattle.pr_report_laws.proofs.TurnSettings.{turn-settings}
@@ -175,12 +174,12 @@ history-modes (e ∷ h) n k pid t s m r keeps legal makes =
     subst (λ x. KeepsModes k pid x (state_after (after s e) h)) (sym (modes-later k pid t m e h))
     (history-modes h n k pid (told_of k t e) (after s e) (modes_told pid t m (exchange_of k e)) (entry-reaches n k t s e r legal.0 first.0) (entry-modes n k pid t s m r keeps e legal.0 first.0) legal.1 first.1)
 
-module _ (n k : ℕ) (o : Options) (s : TracedState) (h : List Entry) (lawful : IsLawful s) (none : HasNothingOpen k s) (legal : IsLegal n s h) (makes : Makes (first_truss o) (exchanges k h)) where
+module _ (n k : ℕ) (o : Options) (s : TracedState) (h : List Entry) (run : IsTrussRun n k o s h) where
   -- the modes of a process are as truss has set them
   pub truss-modes : (number : ℕ) (held : Held) (p : TracedProcess) → handle_of (state_after s h).opens k number ≡ Some held → is_control held.file ≡ true → live_process (state_after s h).system held.pid ≡ Some p → HasModes (modes_set k o held.pid h) p
   unfolding modes_set
   truss-modes number held p there control live =
-      let keeps = history-modes h n k held.pid (first_truss o) s spared (first-reaches k o s lawful none) (record { modes = λ m g q at is of now. absurd (none-some g (sym (none.none m) ∙ at)) }) legal makes in
+      let keeps = history-modes h n k held.pid (first_truss o) s spared (first-reaches k o s run.lawful run.nothing_open) (record { modes = λ m g q at is of now. absurd (none-some g (sym (run.nothing_open.none m) ∙ at)) }) run.legal run.makes in
       keeps.modes number held p there control refl live
 
   -- and so it is released when truss closes its control file
@@ -188,5 +187,5 @@ module _ (n k : ℕ) (o : Options) (s : TracedState) (h : List Entry) (lawful : 
       → answer_to (state_after s h) k (call.Close number) ≡ Some a → (q : TracedProcess) × ((live_process a.state.system held.pid ≡ Some q) × IsReleased q)
   truss-releases number held p a there control set live close =
       let has : HasModes released p = subst (λ m. HasModes m p) set (truss-modes number held p there control live) in
-      let closes = truss-closes n k o s h lawful none legal makes in
+      let closes = truss-closes n k o s h run in
       closes.released number held a p there control close live has.0 has.1

@@ -59,7 +59,7 @@ use Rattle.pr_truss_laws.proofs.ToldLemmas.{is_result}
 use Rattle.pr_truss_laws.specs.Told.{has_ended, told}
 use Rattle.pr_report_laws.proofs.CallResults.{IsAnswered, call-answered}
 use Rattle.pr_report_laws.proofs.SettingLaws.{wrapped-has}
-use Rattle.pr_report_laws.specs.Fits.{IsFitLwp, IsFitProcess, IsFitSystem, SparesKill}
+use Rattle.pr_reached.specs.Fits.{IsFitLwp, IsFitProcess, IsFitSystem, SparesKill}
 use Rattle.pr_report_laws.proofs.Positions.{IsTracedBy}
 use Rattle.pr_report_laws.specs.Shown.{LwpEvent, event_selected, if_selected, selected}
 

@@ -3,20 +3,19 @@ use Rattle.std.proofs.lemmas.List.{append-nil, append_cancel_left, length-append
 use Rattle.std.proofs.lemmas.Option.{none-some}
 use Rattle.pr_line.specs.declared.options.Options.{Options}
 use Rattle.pr_model.specs.Events.{events_of}
-use Rattle.pr_model.specs.Lawful.{IsLawful}
-use Rattle.pr_model.specs.Legal.{IsLegal, IsLegalEntry, after, state_after}
+use Rattle.pr_model.specs.Legal.{IsLegalEntry, after, state_after}
 use Rattle.pr_model.specs.State.{TracedState}
 use Rattle.pr_model.specs.declared.calls.File.{File}
 use Rattle.pr_model.specs.declared.calls.File.TheVariants.{Lstatus, Status}
 use Rattle.pr_model.specs.declared.events.Actor.{Actor}
 use Rattle.pr_model.specs.declared.events.Actor.TheVariants.{Lwp}
 use Rattle.pr_model.specs.declared.events.Entry.{Entry}
-use Rattle.pr_range_laws.specs.ByteHistories.{HasBytes}
-use Rattle.pr_range_laws.specs.InRange.{IsInRange}
+use Rattle.pr_reached.specs.ByteHistories.{HasBytes}
+use Rattle.pr_reached.specs.Reached.{IsReached}
 use Rattle.pr_truss.specs.Trusses.{TrussState, first_truss, traced_at}
 use Rattle.pr_truss_laws.proofs.OwnLemmas.{Owns}
-use Rattle.pr_truss_laws.specs.Exchanges.{Exchange, Makes, exchange_in, exchange_of, exchanges, truss_after}
-use Rattle.pr_truss_laws.specs.Handles.{HasNothingOpen}
+use Rattle.pr_truss_laws.specs.Exchanges.{Exchange, exchange_in, exchange_of, exchanges, truss_after}
+use Rattle.pr_truss_laws.specs.Runs.{IsTrussRun}
 use Rattle.pr_report_laws.proofs.AnsweredReads.{read-whole, tells_event}
 use Rattle.pr_report_laws.proofs.EntrySteps.{EndsByKill, Lost}
 use Rattle.pr_report_laws.proofs.FileSteps.{MakesNext, makes-next}
@@ -27,7 +26,6 @@ use Rattle.pr_report_laws.proofs.OtherSteps.{accounted-why, position-ends}
 use Rattle.pr_report_laws.proofs.ShownGrows.{told-grows}
 use Rattle.pr_report_laws.proofs.Standing.{Accounted, Standing, apart, lives, over}
 use Rattle.pr_report_laws.proofs.WatchHistories.{Reaches}
-use Rattle.pr_report_laws.specs.Fits.{IsFitSystem}
 use Rattle.pr_report_laws.specs.Attachments.{ReadsFile}
 use Rattle.pr_report_laws.specs.Reported.{IsReported, IsUnread}
 use Rattle.pr_report_laws.specs.Shown.{LwpEvent, selected, shown}
@@ -244,9 +242,9 @@ history-unread n k o pid s h event g is = elim (history-before n k o pid event h
     nothing : [] ≡ event ∷ [] → ⊥
     nothing e = cc
 
-pub truss-reports : (n k : ℕ) (o : Options) (pid : ℕ) (s : TracedState) (h : List Entry) → IsLawful s → IsFitSystem s.system → HasNothingOpen k s → IsLegal n s h → Makes (first_truss o) (exchanges k h) → IsInRange s.system → HasBytes h → OpensAtBirth k o pid s h → IsReported k o pid s h
-truss-reports n k o pid s h lawful fit none legal makes range bytes births =
-    let g = first-along n k o pid s h lawful fit none legal makes range bytes births in
+pub truss-reports : (n k : ℕ) (o : Options) (pid : ℕ) (s : TracedState) (h : List Entry) → IsReached s → IsTrussRun n k o s h → HasBytes h → OpensAtBirth k o pid s h → IsReported k o pid s h
+truss-reports n k o pid s h reached run bytes births =
+    let g = first-along n k o pid s h reached run bytes births in
     let r = history-reports k o pid h ⊥ n (first_truss o) s [] g in
     record {
       missing = r.missing;

@@ -23,6 +23,7 @@ use Rattle.pr_truss.specs.declared.replies.Answer.TheVariants.{Interrupted}
 use Rattle.pr_truss_laws.proofs.OwnLemmas.{Owns, first-owns}
 use Rattle.pr_truss_laws.specs.Exchanges.{Exchange, Makes, exchange_in, exchange_of, exchanges, truss_after, truss_at}
 use Rattle.pr_truss_laws.specs.Handles.{HasNothingOpen}
+use Rattle.pr_truss_laws.specs.Runs.{IsTrussRun}
 use Rattle.pr_report_laws.proofs.FileLaws.{HasFiles}
 use Rattle.pr_report_laws.proofs.FileSteps.{IsUninterrupted, MakesNext, entry-files, entry-lawful, entry-owns, first-files, makes-next}
 use Rattle.pr_report_laws.proofs.KeepLemmas.{can_wait}
@@ -109,24 +110,16 @@ later-reaches (e ∷ h) n k t s r legal makes =
     subst (λ (u : TrussState). Reaches k u (state_after (after s e) h)) (sym (ap (truss_after t) (cons-exchanges k e h) ∙ after-cons t (exchange_of k e) (exchanges k h)))
     (later-reaches h n k (told_of k t e) (after s e) (entry-reaches n k t s e r legal.0 m.0) legal.1 m.1)
 
--- what a caller has: a lawful first state in which truss has nothing open, and a legal history in which it makes its
--- calls
-pub record IsRun (n k : ℕ) (o : Options) (s : TracedState) (h : List Entry) : Type 0 where
-  pub lawful : IsLawful s
-  pub none : HasNothingOpen k s
-  pub legal : IsLegal n s h
-  pub makes : Makes (first_truss o) (exchanges k h)
+pub run-reaches : (n k : ℕ) (o : Options) (s : TracedState) (h : List Entry) → IsTrussRun n k o s h → Reaches k (truss_at k o h) (state_after s h)
+run-reaches n k o s h r = later-reaches h n k (first_truss o) s (first-reaches k o s r.lawful r.nothing_open) r.legal r.makes
 
-pub run-reaches : (n k : ℕ) (o : Options) (s : TracedState) (h : List Entry) → IsRun n k o s h → Reaches k (truss_at k o h) (state_after s h)
-run-reaches n k o s h r = later-reaches h n k (first_truss o) s (first-reaches k o s r.lawful r.none) r.legal r.makes
-
-module _ (n k : ℕ) (o : Options) (s : TracedState) (before : List Entry) (e : Entry) (r : IsRun n k o s (before ++ e ∷ [])) where
+module _ (n k : ℕ) (o : Options) (s : TracedState) (before : List Entry) (e : Entry) (r : IsTrussRun n k o s (before ++ e ∷ [])) where
   run-makes : Makes (first_truss o) (exchanges k before ++ cons_option (exchange_of k e) [])
   run-makes = subst (Makes (first_truss o)) (exchanges-push k before e) r.makes
 
   -- a history without its last entry
-  pub run-front : IsRun n k o s before
-  run-front = record { lawful = r.lawful; none = r.none; legal = IsLegal-front n s before e r.legal; makes = makes-front (first_truss o) (exchanges k before) _ run-makes }
+  pub run-front : IsTrussRun n k o s before
+  run-front = record { lawful = r.lawful; nothing_open = r.nothing_open; legal = IsLegal-front n s before e r.legal; makes = makes-front (first_truss o) (exchanges k before) _ run-makes }
 
   pub run-last : IsLegalEntry n (state_after s before) e
   run-last = IsLegal-last n s before e r.legal

@@ -33,6 +33,7 @@ use Rattle.pr_truss_laws.proofs.HeldLemmas.{Fits, at_place, set-at}
 use Rattle.pr_truss_laws.proofs.OwnLemmas.{Owns}
 use Rattle.pr_truss_laws.proofs.SequenceLemmas.{GoesToEnd}
 use Rattle.pr_truss_laws.specs.Exchanges.{Exchange, IsGranted, Makes, calls_in, exchange_of, exchanges, truss_after, truss_at}
+use Rattle.pr_truss_laws.specs.Runs.{IsTrussRun}
 use Rattle.pr_report_laws.proofs.FileLaws.{HasFiles}
 use Rattle.pr_report_laws.proofs.FileSteps.{MakesNext, makes-next}
 use Rattle.pr_report_laws.proofs.NextStages.{opens}
@@ -42,7 +43,7 @@ use Rattle.pr_report_laws.proofs.OptionLemmas.{fed-options}
 use Rattle.pr_report_laws.proofs.StageChanges.{Comes, How, Opens, at, child_goes, child_starts, free, goes, less, no, starts}
 use Rattle.pr_report_laws.proofs.StageReplies.{fed-comes}
 use Rattle.pr_report_laws.proofs.StandLemmas.{Stands}
-use Rattle.pr_report_laws.proofs.WatchHistories.{IsRun, Reaches, after-cons, cons-exchanges, entry-reaches, first-reaches, no-exchanges}
+use Rattle.pr_report_laws.proofs.WatchHistories.{Reaches, after-cons, cons-exchanges, entry-reaches, first-reaches, no-exchanges}
 use Rattle.pr_report_laws.specs.Attachments.{child_calls}
 use Rattle.pr_report_laws.specs.Watching.{told_of, with_exchange}
 
@@ -320,5 +321,5 @@ later-recalls (e ∷ h) n k o t s past g m legal makes =
     rest
 
 -- What truss recalls of a history is the exchanges of that history.
-pub run-recalls : (n k : ℕ) (o : Options) (s : TracedState) (h : List Entry) → IsRun n k o s h → Recalls o (truss_at k o h) (exchanges k h)
-run-recalls n k o s h r = later-recalls h n k o (first_truss o) s [] (first-reaches k o s r.lawful r.none) (first-recalls o) r.legal r.makes
+pub run-recalls : (n k : ℕ) (o : Options) (s : TracedState) (h : List Entry) → IsTrussRun n k o s h → Recalls o (truss_at k o h) (exchanges k h)
+run-recalls n k o s h r = later-recalls h n k o (first_truss o) s [] (first-reaches k o s r.lawful r.nothing_open) (first-recalls o) r.legal r.makes

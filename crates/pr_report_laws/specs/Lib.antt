@@ -1,6 +1,5 @@
 pub mod Attachments
 pub mod Births
-pub mod Fits
 pub mod Follows
 pub mod Freed
 pub mod Memories

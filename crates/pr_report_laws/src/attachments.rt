@@ -1,13 +1,10 @@
 ghost use Rattle.std.specs.Prelude.{◌≡◌, ◌⊎◌, ◌++◌, ℕ, true, false, None, List, [], ◌∷◌};
 ghost use Rattle.pr_line.specs.declared.options.Options.{Options};
-ghost use Rattle.pr_model.specs.Lawful.{IsLawful};
-ghost use Rattle.pr_model.specs.Legal.{IsLegal};
 ghost use Rattle.pr_model.specs.State.{TracedState};
 ghost use Rattle.pr_model.specs.declared.events.Entry.{Entry};
 ghost use Rattle.pr_truss.specs.NextCalls.{next_call_of};
-ghost use Rattle.pr_truss.specs.Trusses.{first_truss};
-ghost use Rattle.pr_truss_laws.specs.Exchanges.{Makes, exchanges, truss_at};
-ghost use Rattle.pr_truss_laws.specs.Handles.{HasNothingOpen};
+ghost use Rattle.pr_truss_laws.specs.Exchanges.{truss_at};
+ghost use Rattle.pr_truss_laws.specs.Runs.{IsTrussRun};
 ghost use Rattle.pr_report_laws.specs.Attachments.{HasFollowed, HasOpened, IsLetGo};
 ghost use Rattle.pr_report_laws.specs.Watching.{watches};
 
@@ -24,21 +21,19 @@ pub fn no_process_is_watched_at_first_or_at_last()
 /// last of its calls, may be refused, but not because the child has ended.
 #[tactic(auto, using(crate::proofs::AttachmentLaws::attachments))]
 pub fn an_opened_process_is_watched()
-    ensures given { (n k : ℕ) (o : Options) (pid : ℕ) (s : TracedState) (h : List Entry) → IsLawful s
-        → HasNothingOpen k s → IsLegal n s h → Makes (first_truss o) (exchanges k h) → HasOpened k o pid h
-        → watches (truss_at k o h) pid ≡ true }
-    ensures born { (n k : ℕ) (o : Options) (pid : ℕ) (s : TracedState) (h : List Entry) → IsLawful s
-        → HasNothingOpen k s → IsLegal n s h → Makes (first_truss o) (exchanges k h) → HasFollowed k pid h
-        → watches (truss_at k o h) pid ≡ true }
+    ensures given { (n k : ℕ) (o : Options) (pid : ℕ) (s : TracedState) (h : List Entry) → IsTrussRun n k o s h
+        → HasOpened k o pid h → watches (truss_at k o h) pid ≡ true }
+    ensures born { (n k : ℕ) (o : Options) (pid : ℕ) (s : TracedState) (h : List Entry) → IsTrussRun n k o s h
+        → HasFollowed k pid h → watches (truss_at k o h) pid ≡ true }
 {}
 
 /// In such a history truss begins to watch a process in no other way: where the last entry makes it watch the process,
 /// its last calls are those of such an opening.
 #[tactic(auto, using(crate::proofs::AttachmentLaws::attachments))]
 pub fn only_an_opened_process_is_watched()
-    ensures { (n k : ℕ) (o : Options) (pid : ℕ) (s : TracedState) (before : List Entry) (e : Entry) → IsLawful s
-        → HasNothingOpen k s → IsLegal n s (before ++ e ∷ []) → Makes (first_truss o) (exchanges k (before ++ e ∷ []))
-        → watches (truss_at k o before) pid ≡ false → watches (truss_at k o (before ++ e ∷ [])) pid ≡ true
+    ensures { (n k : ℕ) (o : Options) (pid : ℕ) (s : TracedState) (before : List Entry) (e : Entry)
+        → IsTrussRun n k o s (before ++ e ∷ []) → watches (truss_at k o before) pid ≡ false
+        → watches (truss_at k o (before ++ e ∷ [])) pid ≡ true
         → HasOpened k o pid (before ++ e ∷ []) ⊎ HasFollowed k pid (before ++ e ∷ []) }
 {}
 
@@ -47,8 +42,7 @@ pub fn only_an_opened_process_is_watched()
 /// the process.
 #[tactic(auto, using(crate::proofs::AttachmentLaws::attachments))]
 pub fn a_watched_process_is_let_go_for_a_reason()
-    ensures { (n k : ℕ) (o : Options) (pid : ℕ) (s : TracedState) (before : List Entry) (e : Entry) → IsLawful s
-        → HasNothingOpen k s → IsLegal n s (before ++ e ∷ []) → Makes (first_truss o) (exchanges k (before ++ e ∷ []))
-        → watches (truss_at k o before) pid ≡ true → watches (truss_at k o (before ++ e ∷ [])) pid ≡ false
-        → IsLetGo k pid s before e }
+    ensures { (n k : ℕ) (o : Options) (pid : ℕ) (s : TracedState) (before : List Entry) (e : Entry)
+        → IsTrussRun n k o s (before ++ e ∷ []) → watches (truss_at k o before) pid ≡ true
+        → watches (truss_at k o (before ++ e ∷ [])) pid ≡ false → IsLetGo k pid s before e }
 {}

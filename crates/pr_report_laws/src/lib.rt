@@ -3,7 +3,6 @@
 #![tactic(auto)]
 
 mod attachments;
-mod fits;
 mod follows;
 mod memories;
 mod newborns;
@@ -14,7 +13,6 @@ pub use attachments::{
     a_watched_process_is_let_go_for_a_reason, an_opened_process_is_watched,
     no_process_is_watched_at_first_or_at_last, only_an_opened_process_is_watched,
 };
-pub use fits::reached_states_are_fit;
 pub use follows::{
     each_child_that_was_read_is_handled, each_child_that_was_read_while_leaving_is_set_free,
     no_freeing_of_a_child_is_interrupted, no_opening_of_a_child_is_interrupted,

@@ -1,17 +1,13 @@
 ghost use Rattle.std.specs.Prelude.{ℕ, List};
 ghost use Rattle.pr_line.specs.declared.options.Options.{Options};
-ghost use Rattle.pr_model.specs.Lawful.{IsLawful};
-ghost use Rattle.pr_model.specs.Legal.{IsLegal};
 ghost use Rattle.pr_model.specs.State.{TracedState};
 ghost use Rattle.pr_model.specs.declared.events.Entry.{Entry};
-ghost use Rattle.pr_range_laws.specs.ByteHistories.{HasBytes};
-ghost use Rattle.pr_range_laws.specs.InRange.{IsInRange};
+ghost use Rattle.pr_reached.specs.ByteHistories.{HasBytes};
+ghost use Rattle.pr_reached.specs.Reached.{IsReached};
 ghost use Rattle.pr_report_laws.specs.Births.{IsNeverFollowed, LeavesForks, NamesNoChild};
-ghost use Rattle.pr_report_laws.specs.Fits.{IsFitSystem};
 ghost use Rattle.pr_report_laws.specs.Memories.{AreOfTheirEvents, HaveTheirTexts};
-ghost use Rattle.pr_truss.specs.Trusses.{first_truss};
-ghost use Rattle.pr_truss_laws.specs.Exchanges.{Makes, exchanges, truss_at};
-ghost use Rattle.pr_truss_laws.specs.Handles.{HasNothingOpen};
+ghost use Rattle.pr_truss_laws.specs.Exchanges.{truss_at};
+ghost use Rattle.pr_truss_laws.specs.Runs.{IsTrussRun};
 
 /// The memory in a line is that of one state. In a legal history of a lawful state, in which a truss with nothing open
 /// makes its calls: the text that truss has reported with an event is what stood in the memory of the process, where
@@ -19,8 +15,8 @@ ghost use Rattle.pr_truss_laws.specs.Handles.{HasNothingOpen};
 /// this one. An event whose line asks for none has no text.
 #[tactic(auto, using(crate::proofs::MemoryReads::memories))]
 pub fn the_text_of_an_event_is_what_stood_in_memory()
-    ensures { (n k : ℕ) (o : Options) (s : TracedState) (h : List Entry) → IsLawful s → HasNothingOpen k s
-        → IsLegal n s h → Makes (first_truss o) (exchanges k h) → HaveTheirTexts k o s h (truss_at k o h).reports }
+    ensures { (n k : ℕ) (o : Options) (s : TracedState) (h : List Entry) → IsTrussRun n k o s h
+        → HaveTheirTexts k o s h (truss_at k o h).reports }
 {}
 
 /// Where truss shows the selected events of a process, that memory is the one right after the event. Each of its
@@ -30,12 +26,10 @@ pub fn the_text_of_an_event_is_what_stood_in_memory()
 /// controllers and other processes do does not matter.
 #[tactic(auto, using(crate::proofs::EventMemory::moments))]
 pub fn the_text_of_an_event_is_that_of_its_moment()
-    ensures forks_left { (n k : ℕ) (o : Options) (pid : ℕ) (s : TracedState) (h : List Entry) → IsLawful s
-        → IsFitSystem s.system → HasNothingOpen k s → IsLegal n s h → Makes (first_truss o) (exchanges k h)
-        → IsInRange s.system → HasBytes h → NamesNoChild o h → LeavesForks k o h
+    ensures forks_left { (n k : ℕ) (o : Options) (pid : ℕ) (s : TracedState) (h : List Entry) → IsReached s
+        → IsTrussRun n k o s h → HasBytes h → NamesNoChild o h → LeavesForks k o h
         → AreOfTheirEvents k o pid s h (truss_at k o h).reports }
-    ensures never_followed { (n k : ℕ) (o : Options) (pid : ℕ) (s : TracedState) (h : List Entry) → IsLawful s
-        → IsFitSystem s.system → HasNothingOpen k s → IsLegal n s h → Makes (first_truss o) (exchanges k h)
-        → IsInRange s.system → HasBytes h → IsNeverFollowed k o pid h
+    ensures never_followed { (n k : ℕ) (o : Options) (pid : ℕ) (s : TracedState) (h : List Entry) → IsReached s
+        → IsTrussRun n k o s h → HasBytes h → IsNeverFollowed k o pid h
         → AreOfTheirEvents k o pid s h (truss_at k o h).reports }
 {}

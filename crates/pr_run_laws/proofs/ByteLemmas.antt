@@ -21,7 +21,7 @@ use Rattle.pr_num.specs.Messages.{message_code, operands, spelling}
 use Rattle.pr_num.specs.Words.{IsByte, words_bytes}
 use Rattle.pr_num.specs.declared.messages.Message.{Message}
 use Rattle.pr_num.specs.declared.messages.Message.TheVariants as message
-use Rattle.pr_range_laws.specs.ByteHistories.{HasBytes, IsActOfBytes, IsEntryOfBytes, IsOfBytes}
+use Rattle.pr_reached.specs.ByteHistories.{HasBytes, IsActOfBytes, IsEntryOfBytes, IsOfBytes}
 use Rattle.pr_run_laws.specs.ScenarioRanges.{IsCoreOfBytes, IsLineOfBytes}
 use Rattle.pr_scen.specs.Bindings.{handle_of}
 use Rattle.pr_scen.specs.Scripts as scripts

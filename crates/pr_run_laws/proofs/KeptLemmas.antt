@@ -13,8 +13,8 @@ use Rattle.pr_model.specs.declared.events.Entry.{Entry}
 use Rattle.pr_model.specs.declared.tools.ToolKind.{ToolKind}
 use Rattle.pr_model.specs.declared.tools.ToolKind.TheVariants.{Pstack}
 use Rattle.pr_lawful.proofs.StartLemmas.{first-lawful}
-use Rattle.pr_range_laws.proofs.HistoryRanges.{first-state-range}
-use Rattle.pr_report_laws.proofs.FitHistoryLemmas.{first-fits}
+use Rattle.pr_reached.proofs.HistoryRanges.{first-state-range}
+use Rattle.pr_reached.proofs.ReachedLemmas.{first-reached}
 use Rattle.pr_scen.specs.Scenarios.{Scenario, script_in, scripts_of}
 use Rattle.pr_scen.specs.declared.plans.Plan.{Plan}
 use Rattle.pr_scen.specs.declared.plans.Plan.TheVariants as plan
@@ -75,8 +75,8 @@ truss-first s k o at = slice_get-map controller_of s.controllers k ∙ ap (optio
 
 trusses-kept : (s : Scenario) (h : List Entry) → IsScenarioInRange s → IsLegal (length (controllers_of s)) (first_state_of s) h → Follows (controllers_of s) (first_state_of s) h → (k : ℕ) (o : Options) → slice_get s.controllers k ≡ Some (plan.Truss o) → IsTrussKept (controllers_of s) (first_state_of s) h k o
 trusses-kept s h range legal follows k o at =
-    truss-kept (controllers_of s) (length (controllers_of s)) (first_state_of s) h k o (first-lawful s.programs (files_of s) s.spawns range.start) (first-fits s.programs (files_of s) s.spawns)
-    (first-state-range s.programs (files_of s) s.spawns range.range) (follows-bytes (controllers_of s) (length (controllers_of s)) (first_state_of s) h range.bytes legal follows) (truss-first s k o at) (first-held s k) legal follows
+    truss-kept (controllers_of s) (length (controllers_of s)) (first_state_of s) h k o (first-reached s.programs (files_of s) s.spawns range.start range.range)
+    (follows-bytes (controllers_of s) (length (controllers_of s)) (first_state_of s) h range.bytes legal follows) (truss-first s k o at) (first-held s k) legal follows
 
 -- ---- tools
 

@@ -28,7 +28,7 @@ use Rattle.pr_num.specs.Limits.{code_limit, data_limit}
 use Rattle.pr_num.specs.Programs.{Program}
 use Rattle.pr_num.specs.Words.{IsByte}
 use Rattle.pr_num.specs.declared.instructions.Instruction.{Instruction}
-use Rattle.pr_range_laws.specs.InRange.{IsShortName, IsProgramInRange}
+use Rattle.pr_reached.specs.InRange.{IsShortName, IsProgramInRange}
 use Rattle.pr_run_laws.proofs.WordRanges.{AreWordsOfBytes, quoted-bytes, readable-bytes, texts-bytes}
 use Rattle.pr_scen.proofs.StepLemmas.{if_ok, then_ok, of_ok, ok_some, of_some}
 use Rattle.pr_scen.specs.Blocks.{all_readable, first_of_both, program_read}

@@ -16,7 +16,7 @@ use Rattle.pr_model.specs.ToolNames.{process_tool_of_name}
 use Rattle.pr_num.specs.Limits.{all_mappings_limit, controller_limit, file_limit, file_size_limit, list_line_limit, schedule_limit, spawn_limit, turn_limit}
 use Rattle.pr_num.specs.Words.{IsByte}
 use Rattle.pr_num.specs.declared.files.StoredFile.{StoredFile}
-use Rattle.pr_range_laws.specs.InRange.{IsFileInRange, IsShortName, IsProgramInRange}
+use Rattle.pr_reached.specs.InRange.{IsFileInRange, IsShortName, IsProgramInRange}
 use Rattle.pr_run_laws.proofs.ProgramRanges.{IsWhole, program-range, second-bytes}
 use Rattle.pr_run_laws.proofs.WordRanges.{AreWordsOfBytes, name_of-range, quoted-bytes, readable-bytes, texts-bytes}
 use Rattle.pr_run_laws.proofs.WritingRanges.{messages-bytes}

@@ -18,9 +18,8 @@ use Rattle.pr_model.specs.declared.events.Actor.{Actor}
 use Rattle.pr_model.specs.declared.events.Actor.TheVariants.{Controller, Lwp, Clock}
 use Rattle.pr_model.specs.declared.events.Entry.{Entry}
 use Rattle.pr_model.specs.declared.handles.Held.{Held}
-use Rattle.pr_model.specs.Lawful.{IsLawful}
-use Rattle.pr_range_laws.specs.ByteHistories.{HasBytes}
-use Rattle.pr_range_laws.specs.InRange.{IsInRange}
+use Rattle.pr_reached.specs.ByteHistories.{HasBytes}
+use Rattle.pr_reached.specs.Reached.{IsReached}
 use Rattle.pr_report_laws.proofs.BeginLaws.{finished-watches-none, followed-watches, opened-watches}
 use Rattle.pr_report_laws.proofs.BeginsOnlyLaws.{watched-opened}
 use Rattle.pr_report_laws.proofs.Births.{births-report, unfollowed-report}
@@ -35,9 +34,8 @@ use Rattle.pr_report_laws.proofs.MemoryReads.{read-texts}
 use Rattle.pr_report_laws.proofs.NewbornLaws.{followed-forked, followed-rests, followed-silent, followed-unstarted}
 use Rattle.pr_report_laws.proofs.ReleaseLaws.{freed-set, set-stays, traced-set}
 use Rattle.pr_report_laws.proofs.ReleaseSteps.{truss-releases}
-use Rattle.pr_report_laws.proofs.WatchHistories.{IsRun, exchanges-both, makes-front, makes-rest, run-reaches}
+use Rattle.pr_report_laws.proofs.WatchHistories.{exchanges-both, makes-front, makes-rest, run-reaches}
 use Rattle.pr_tool_laws.proofs.WholeLemmas.{front-bytes, front-legal}
-use Rattle.pr_report_laws.specs.Fits.{IsFitSystem}
 use Rattle.pr_report_laws.specs.Births.{LeavesForks, NamesNoChild, granted}
 use Rattle.pr_report_laws.specs.Attachments.{HasFollowed, HasOpened, IsLetGo}
 use Rattle.pr_report_laws.specs.Releases.{modes_set, released}
@@ -52,6 +50,7 @@ use Rattle.pr_truss_laws.proofs.PolledLemmas.{polled-soon}
 use Rattle.pr_truss_laws.specs.Exchanges.{Ends, Exchange, Makes, exchange_in, exchange_of, exchanges, truss_after, truss_at}
 use Rattle.pr_truss_laws.specs.Handles.{HasNothingOpen}
 use Rattle.pr_truss_laws.specs.Polled.{IsNoEndOf, PollNames, calls_meanwhile}
+use Rattle.pr_truss_laws.specs.Runs.{IsTrussRun}
 use Rattle.pr_world.specs.Controllers.{after_reply, call_by, next_call, with_fed}
 use Rattle.pr_world.specs.Cores.{Core, Truss}
 use Rattle.pr_world.specs.Protocol.{Follows, FollowsAt, controllers_after, controllers_at}
@@ -141,16 +140,16 @@ forks-front k o before later forks = record {
       made writes own_writes;
 }
 
-module _ (n k : ℕ) (o : Options) (first : TracedState) (h : List Entry) (run : IsRun n k o first h) where
-  front-run : (before later : List Entry) → h ≡ before ++ later → IsRun n k o first before
+module _ (n k : ℕ) (o : Options) (first : TracedState) (h : List Entry) (run : IsTrussRun n k o first h) where
+  front-run : (before later : List Entry) → h ≡ before ++ later → IsTrussRun n k o first before
   front-run before later is = record {
     lawful = run.lawful;
-    none = run.none;
+    nothing_open = run.nothing_open;
     legal = front-legal n first before later (subst (IsLegal n first) is run.legal);
     makes = makes-front (first_truss o) (exchanges k before) (exchanges k later) (subst (Makes (first_truss o)) (ap (exchanges k) is ∙ exchanges-both k before later) run.makes);
   }
 
-  entry-run : (before later : List Entry) (e : Entry) → h ≡ before ++ e ∷ later → IsRun n k o first (before ++ e ∷ [])
+  entry-run : (before later : List Entry) (e : Entry) → h ≡ before ++ e ∷ later → IsTrussRun n k o first (before ++ e ∷ [])
   entry-run before later e is = front-run (before ++ e ∷ []) later (is ∙ sym (append_assoc before (e ∷ []) later))
 
   -- ---- the watch of a process ends for a reason
@@ -167,18 +166,18 @@ module _ (n k : ℕ) (o : Options) (first : TracedState) (h : List Entry) (run :
   begins : (before later : List Entry) (e : Entry) (pid : ℕ) → h ≡ before ++ e ∷ later → watches (truss_at k o before) pid ≡ false → watches (truss_at k o (before ++ e ∷ [])) pid ≡ true → HasOpened k o pid (before ++ e ∷ []) ⊎ HasFollowed k pid (before ++ e ∷ [])
   begins before later e pid is off on = watched-opened n k o pid first before e (entry-run before later e is) off on
 
-  newborn : IsFitSystem first.system → IsInRange first.system → HasBytes h → (before later : List Entry) (e : Entry) (pid : ℕ) → NamesNoChild o h → LeavesForks k o h → h ≡ before ++ e ∷ later → watches (truss_at k o before) pid ≡ false → HasFollowed k pid (before ++ e ∷ []) → IsNewborn o pid first (before ++ e ∷ [])
-  newborn fit range bytes before later e pid named forks is off followed =
+  newborn : IsReached first → HasBytes h → (before later : List Entry) (e : Entry) (pid : ℕ) → NamesNoChild o h → LeavesForks k o h → h ≡ before ++ e ∷ later → watches (truss_at k o before) pid ≡ false → HasFollowed k pid (before ++ e ∷ []) → IsNewborn o pid first (before ++ e ∷ [])
+  newborn reached bytes before later e pid named forks is off followed =
       let it = entry-run before later e is in
       let split : h ≡ (before ++ e ∷ []) ++ later = is ∙ sym (append_assoc before (e ∷ []) later) in
       let those : HasBytes (before ++ e ∷ []) = front-bytes (before ++ e ∷ []) later (subst HasBytes split bytes) in
       let none_named = named-front o (before ++ e ∷ []) later (subst (NamesNoChild o) split named) in
       let left = forks-front k o (before ++ e ∷ []) later (subst (LeavesForks k o) split forks) in
       record {
-        forked = followed-forked n k o pid first before e it.lawful fit it.none it.legal it.makes range those none_named left off followed;
-        unstarted = followed-unstarted n k o pid first before e it.lawful fit it.none it.legal it.makes range those none_named left off followed;
-        still = followed-rests n k o pid first before e it.lawful fit it.none it.legal it.makes range those none_named left off followed;
-        silent = followed-silent n k o pid first before e it.lawful fit it.none it.legal it.makes range those none_named left off followed;
+        forked = followed-forked n k o pid first before e reached it those none_named left off followed;
+        unstarted = followed-unstarted n k o pid first before e reached it those none_named left off followed;
+        still = followed-rests n k o pid first before e reached it those none_named left off followed;
+        silent = followed-silent n k o pid first before e reached it those none_named left off followed;
       }
 
   was-let : (pid : ℕ) → watches (truss_at k o h) pid ≡ false → (later before : List Entry) → h ≡ before ++ later → watches (truss_at k o before) pid ≡ true → WasLetGo k pid first before later
@@ -234,17 +233,17 @@ module _ (n k : ℕ) (o : Options) (first : TracedState) (h : List Entry) (run :
       let r = run-reaches n k o first h run in
       let files : HasFiles k (truss_at k o h) (state_after first h) = r.files in
       record {
-        each = truss-releases n k o first h run.lawful run.none run.legal run.makes;
-        traced = traced-set n k o first h run.lawful run.none run.legal run.makes;
+        each = truss-releases n k o first h run;
+        traced = traced-set n k o first h run;
         traced_control = λ place within. control-of (traced_at (truss_at k o h) place).pid (traced_at (truss_at k o h) place).control (state_after first h) (files.control place within);
-        freed = freed-set n k o first h run.lawful run.none run.legal run.makes;
+        freed = freed-set n k o first h run;
         freed_control = λ pid control is. control-of pid control (state_after first h) (freed-file k (truss_at k o h) (state_after first h) files pid control (Free control) is refl);
       }
 
   stays-set : (before later : List Entry) (e : Entry) (number : ℕ) (held : Held) → h ≡ before ++ e ∷ later → handle_of (state_after first before).opens k number ≡ Some held → is_control held.file ≡ true → modes_set k o held.pid before ≡ released → modes_set k o held.pid (before ++ e ∷ []) ≡ released
   stays-set before later e number held is =
       let it = entry-run before later e is in
-      set-stays n k o first before e it.lawful it.none it.legal it.makes number held
+      set-stays n k o first before e it number held
 
   -- ---- the end
 
@@ -253,29 +252,29 @@ module _ (n k : ℕ) (o : Options) (first : TracedState) (h : List Entry) (run :
       let ends : Ends (first_truss o) (exchanges k h) = record { makes = run.makes; finished = finished } in
       record {
         handled = given-handled o (exchanges k h) ends;
-        nothing_open = nothing-open n k o first h run.none run.legal ends;
+        nothing_open = nothing-open n k o first h run.nothing_open run.legal ends;
         watches_none = λ pid. finished-watches-none k o pid h finished;
         lets_go = λ before later pid is on. was-let pid (finished-watches-none k o pid h finished) later before is on;
       }
 
-pub truss-kept : (controllers : List Core) (n : ℕ) (first : TracedState) (h : List Entry) (k : ℕ) (o : Options) → IsLawful first → IsFitSystem first.system → IsInRange first.system → HasBytes h → slice_get controllers k ≡ Some (Truss (first_truss o)) → HasNothingOpen k first → IsLegal n first h → Follows controllers first h → IsTrussKept controllers first h k o
-truss-kept controllers n first h k o lawful fit range bytes at none legal follows =
+pub truss-kept : (controllers : List Core) (n : ℕ) (first : TracedState) (h : List Entry) (k : ℕ) (o : Options) → IsReached first → HasBytes h → slice_get controllers k ≡ Some (Truss (first_truss o)) → HasNothingOpen k first → IsLegal n first h → Follows controllers first h → IsTrussKept controllers first h k o
+truss-kept controllers n first h k o reached bytes at none legal follows =
     let stays = truss-stays h controllers first k (first_truss o) at follows in
-    let run : IsRun n k o first h = record { lawful = lawful; none = none; legal = legal; makes = stays.0 } in
+    let run : IsTrussRun n k o first h = record { lawful = reached.lawful; nothing_open = none; legal = legal; makes = stays.0 } in
     record {
       makes = stays.0;
       truss = stays.1;
-      shows = λ pid named forks. births-report n k o pid first h lawful fit none legal stays.0 range bytes named forks;
-      shows_unfollowed = λ pid unfollowed. unfollowed-report n k o pid first h lawful fit none legal stays.0 range bytes unfollowed;
-      texts = read-texts n k o first h lawful none legal stays.0;
-      moments = λ pid named forks. left-memories n k o pid first h lawful fit none legal stays.0 range bytes named forks;
-      moments_unfollowed = λ pid unfollowed. unfollowed-memories n k o pid first h lawful fit none legal stays.0 range bytes unfollowed;
+      shows = λ pid named forks. births-report n k o pid first h reached run bytes named forks;
+      shows_unfollowed = λ pid unfollowed. unfollowed-report n k o pid first h reached run bytes unfollowed;
+      texts = read-texts n k o first h run;
+      moments = λ pid named forks. left-memories n k o pid first h reached run bytes named forks;
+      moments_unfollowed = λ pid unfollowed. unfollowed-memories n k o pid first h reached run bytes unfollowed;
       handled = handled-so-far o (exchanges k h) stays.0;
       soon = soon n k o first h run;
       children = children n k o first h run;
       opens = opens n k o first h run;
       begins = begins n k o first h run;
-      newborn = newborn n k o first h run fit range bytes;
+      newborn = newborn n k o first h run reached bytes;
       lets_go = let-go n k o first h run;
       releases = λ before later is. releases n k o first before (front-run n k o first h run before later is);
       stays_set = stays-set n k o first h run;

@@ -9,7 +9,7 @@ use Rattle.std.proofs.lemmas.List.Sums.{AllPass-from_list_all}
 use borrow.Author.Tests.{ltb-true}
 use Rattle.pr_num.specs.Limits.{name_limit}
 use Rattle.pr_num.specs.Words.{IsByte}
-use Rattle.pr_range_laws.specs.InRange.{IsShortName}
+use Rattle.pr_reached.specs.InRange.{IsShortName}
 use Rattle.pr_scen.specs.Lines.{is_ascii, readable}
 use Rattle.pr_scen.specs.declared.refusals.ScenKind.TheVariants.{NotAscii, TooLong}
 use Rattle.pr_text.proofs.PlainLemmas.{by_cond}

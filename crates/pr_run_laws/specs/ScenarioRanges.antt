@@ -1,7 +1,7 @@
 use Rattle.std.specs.List.{All}
 use Rattle.pr_lawful.specs.Starts.{IsStart}
 use Rattle.pr_num.specs.Words.{IsByte}
-use Rattle.pr_range_laws.specs.InRange.{IsStartInRange}
+use Rattle.pr_reached.specs.InRange.{IsStartInRange}
 use Rattle.pr_scen.specs.Scenarios.{Scenario}
 use Rattle.pr_scen.specs.declared.script_lines.ScriptLine.{ScriptLine}
 use Rattle.pr_scen.specs.declared.script_lines.ScriptLine.TheVariants as line

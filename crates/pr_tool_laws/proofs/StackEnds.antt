@@ -13,9 +13,9 @@ use Rattle.pr_model.specs.declared.calls.Call.{Call}
 use Rattle.pr_model.specs.declared.events.Entry.{Entry}
 use Rattle.pr_model.specs.declared.tools.ToolKind.TheVariants.{Pflags, Pstack}
 use Rattle.pr_num.specs.Programs.{Program}
-use Rattle.pr_range_laws.proofs.HistoryRanges.{history-range}
-use Rattle.pr_range_laws.specs.ByteHistories.{HasBytes}
-use Rattle.pr_range_laws.specs.InRange.{IsInRange}
+use Rattle.pr_reached.proofs.HistoryRanges.{history-range}
+use Rattle.pr_reached.specs.ByteHistories.{HasBytes}
+use Rattle.pr_reached.specs.InRange.{IsInRange}
 use Rattle.pr_rec.specs.RecordBytes.{lstatus_bytes}
 use Rattle.pr_tools.specs.Pstack.{pstack_text}
 use Rattle.pr_tools.specs.Tools.{ToolState, has_ended, next_call_of, printed, text_of}

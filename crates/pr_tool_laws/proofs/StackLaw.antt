@@ -9,8 +9,8 @@ use Rattle.pr_model.specs.State.{TracedState}
 use Rattle.pr_model.specs.declared.events.Entry.{Entry}
 use Rattle.pr_model.specs.declared.tools.ToolKind.TheVariants.{Pstack}
 use Rattle.pr_num.specs.Programs.{Program}
-use Rattle.pr_range_laws.specs.ByteHistories.{HasBytes}
-use Rattle.pr_range_laws.specs.InRange.{IsInRange}
+use Rattle.pr_reached.specs.ByteHistories.{HasBytes}
+use Rattle.pr_reached.specs.InRange.{IsInRange}
 use Rattle.pr_tools.specs.Tools.{ToolState, fed, first_tool, has_ended, printed}
 use Rattle.pr_world.specs.Controllers.{after_reply, next_call}
 use Rattle.pr_world.specs.Cores.{Core, Script, Truss, Tool}

@@ -23,14 +23,14 @@ use Rattle.pr_num.specs.Limits.{list_limit, read_limit, spawn_limit}
 use Rattle.pr_num.specs.Programs.{Program}
 use Rattle.pr_num.specs.declared.files.OpenFile.{OpenFile}
 use Rattle.pr_parts.specs.FileTables.{at_place}
-use Rattle.pr_range_laws.proofs.EntryRanges.{records-range}
-use Rattle.pr_range_laws.proofs.HistoryRanges.{history-range}
-use Rattle.pr_range_laws.proofs.MappedLemmas.{few-mappings}
-use Rattle.pr_range_laws.proofs.ProcessRanges.{process-range}
-use Rattle.pr_range_laws.specs.AllRecords.{AreRecordsInRange, HasRecordsInRange}
-use Rattle.pr_range_laws.specs.ByteHistories.{HasBytes, IsEntryOfBytes}
-use Rattle.pr_range_laws.specs.InRange.{IsInRange}
-use Rattle.pr_range_laws.specs.Mapped.{HasFewMappings}
+use Rattle.pr_reached.proofs.EntryRanges.{records-range}
+use Rattle.pr_reached.proofs.HistoryRanges.{history-range}
+use Rattle.pr_reached.proofs.MappedLemmas.{few-mappings}
+use Rattle.pr_reached.proofs.ProcessRanges.{process-range}
+use Rattle.pr_reached.specs.AllRecords.{AreRecordsInRange, HasRecordsInRange}
+use Rattle.pr_reached.specs.ByteHistories.{HasBytes, IsEntryOfBytes}
+use Rattle.pr_reached.specs.InRange.{IsInRange}
+use Rattle.pr_reached.specs.Mapped.{HasFewMappings}
 use Rattle.pr_rec.proofs.EntryLemmas.{length-entries}
 use Rattle.pr_rec.specs.InRange.{IsPsinfo}
 use Rattle.pr_rec.specs.RecordBytes.{list_bytes, map_bytes}

@@ -10,7 +10,7 @@ use Rattle.pr_line.specs.declared.options.Options.{Options}
 use Rattle.pr_model.specs.Calls.{Answer, answer_to}
 use Rattle.pr_model.specs.Handles.{handle_of, has_writer, is_exclusive, is_exclusive_writer, is_writable, is_writer, was_last_writer, with_closed}
 use Rattle.pr_model.specs.Lawful.{AreExclusive, IsLawful}
-use Rattle.pr_model.specs.Legal.{IsLegal, state_after}
+use Rattle.pr_model.specs.Legal.{state_after}
 use Rattle.pr_model.specs.State.{Places, TracedProcess, TracedState, live_process}
 use Rattle.pr_model.specs.declared.calls.Call.TheVariants as call
 use Rattle.pr_model.specs.declared.calls.Mode.TheVariants.{WriteExcl}
@@ -19,8 +19,9 @@ use Rattle.pr_model.specs.declared.handles.Held.{Held}
 use Rattle.pr_truss.specs.Trusses.{TrussState, first_truss}
 use Rattle.pr_truss_laws.proofs.OpensLemmas.{close-closes}
 use Rattle.pr_truss_laws.proofs.OwnLemmas.{Owns, first-owns, history-owns, nothing-open}
-use Rattle.pr_truss_laws.specs.Exchanges.{Makes, exchanges, truss_after}
-use Rattle.pr_truss_laws.specs.Handles.{ClosesFreely, HasNothingOpen}
+use Rattle.pr_truss_laws.specs.Exchanges.{exchanges, truss_after}
+use Rattle.pr_truss_laws.specs.Handles.{ClosesFreely}
+use Rattle.pr_truss_laws.specs.Runs.{IsTrussRun}
 
 -- What truss leaves when it closes the control file of a process.
 
@@ -64,8 +65,8 @@ owned-closes k t s o lawful = record {
       subst (λ (x : TracedState). (q : TracedProcess) × ((live_process x.system h.pid ≡ Some q) × IsReleased q)) (sym (closed-state k s number h a at close)) (released-after s h number p (was-last s.opens number h (handle-at s.opens k number h at) mode lawful.exclusive) live runs kept);
 }
 
-pub truss-closes : (n k : ℕ) (o : Options) (s : TracedState) (h : List Entry) → IsLawful s → HasNothingOpen k s → IsLegal n s h → Makes (first_truss o) (exchanges k h) → ClosesFreely k (state_after s h)
-truss-closes n k o s h lawful none legal makes =
-    owned-closes k (truss_after (first_truss o) (exchanges k h)) (state_after s h) (history-owns h n k (first_truss o) s (first-owns k o s none) legal makes) (history-state n s h lawful legal)
+pub truss-closes : (n k : ℕ) (o : Options) (s : TracedState) (h : List Entry) → IsTrussRun n k o s h → ClosesFreely k (state_after s h)
+truss-closes n k o s h run =
+    owned-closes k (truss_after (first_truss o) (exchanges k h)) (state_after s h) (history-owns h n k (first_truss o) s (first-owns k o s run.nothing_open) run.legal run.makes) (history-state n s h run.lawful run.legal)
 
 pub ruleset releases = (nothing-open, truss-closes)

@@ -2,5 +2,6 @@ pub mod Exchanges
 pub mod Given
 pub mod Handles
 pub mod Polled
+pub mod Runs
 pub mod Stills
 pub mod Told

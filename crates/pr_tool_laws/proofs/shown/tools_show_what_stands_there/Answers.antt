@@ -1,6 +1,6 @@
 use Rattle.pr_lawful.proofs.StartLemmas.{first-lawful}
 use Rattle.pr_model.specs.FirstState.{first_state}
-use Rattle.pr_range_laws.proofs.HistoryRanges.{first-state-range}
+use Rattle.pr_reached.proofs.HistoryRanges.{first-state-range}
 use Rattle.pr_tool_laws.proofs.WholeLemmas.{tool-shows}
 use Rattle.pr_tool_laws.proofs.shown.tools_show_what_stands_there.Goals as goal
 

@@ -1,5 +1,0 @@
-use Rattle.pr_range_laws.proofs.MappedLemmas.{first-history-few, history-few}
-use Rattle.pr_range_laws.proofs.mapped.processes_have_few_mappings.Goals as goal
-
-pub returns : goal.returns
-returns c = record { later = history-few; first = first-history-few }

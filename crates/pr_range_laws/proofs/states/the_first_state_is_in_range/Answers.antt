@@ -1,5 +1,0 @@
-use Rattle.pr_range_laws.proofs.HistoryRanges.{first-state-range}
-use Rattle.pr_range_laws.proofs.states.the_first_state_is_in_range.Goals as goal
-
-pub returns : goal.returns
-returns c = first-state-range

@@ -1,5 +1,0 @@
-use Rattle.pr_range_laws.proofs.TurnRanges.{turn-range}
-use Rattle.pr_range_laws.proofs.states.turns_keep_states_in_range.Goals as goal
-
-pub returns : goal.returns
-returns c = turn-range

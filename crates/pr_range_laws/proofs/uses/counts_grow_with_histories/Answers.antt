@@ -1,5 +1,0 @@
-use Rattle.pr_range_laws.proofs.UsageHistories.{first-used, history-used}
-use Rattle.pr_range_laws.proofs.uses.counts_grow_with_histories.Goals as goal
-
-pub returns : goal.returns
-returns c = record { first = first-used; later = history-used }

@@ -1,5 +1,0 @@
-use Rattle.pr_range_laws.proofs.UsageHistories.{usage-range}
-use Rattle.pr_range_laws.proofs.uses.what_is_used_is_in_range.Goals as goal
-
-pub returns : goal.returns
-returns c = usage-range

@@ -1,0 +1,5 @@
+use Rattle.pr_reached.proofs.EntryRanges.{records-range}
+use Rattle.pr_reached.proofs.records.records_of_lawful_systems_are_in_range.Goals as goal
+
+pub returns : goal.returns
+returns c = records-range

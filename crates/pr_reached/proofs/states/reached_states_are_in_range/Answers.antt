@@ -1,0 +1,11 @@
+use Rattle.pr_lawful.proofs.StartLemmas.{first-lawful}
+use Rattle.pr_model.specs.FirstState.{first_state}
+use Rattle.pr_reached.proofs.HistoryRanges.{first-state-range, history-range}
+use Rattle.pr_reached.proofs.states.reached_states_are_in_range.Goals as goal
+
+pub returns : goal.returns
+returns c = record {
+  later = history-range;
+  first = λ n programs files spawns h start ranged bytes legal.
+      history-range n (first_state programs files spawns) h (first-lawful programs files spawns start) (first-state-range programs files spawns ranged) bytes legal;
+}

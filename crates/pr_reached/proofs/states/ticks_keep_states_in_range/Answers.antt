@@ -1,0 +1,5 @@
+use Rattle.pr_reached.proofs.HistoryRanges.{tick-range}
+use Rattle.pr_reached.proofs.states.ticks_keep_states_in_range.Goals as goal
+
+pub returns : goal.returns
+returns c = tick-range

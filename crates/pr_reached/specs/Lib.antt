@@ -1,0 +1,7 @@
+pub mod AllRecords
+pub mod ByteHistories
+pub mod Fits
+pub mod InRange
+pub mod Mapped
+pub mod Reached
+pub mod Used

@@ -1,0 +1,11 @@
+use Rattle.pr_model.specs.Lawful.{IsLawful}
+use Rattle.pr_model.specs.State.{TracedState}
+use Rattle.pr_reached.specs.Fits.{IsFitSystem}
+use Rattle.pr_reached.specs.InRange.{IsInRange}
+
+-- What is so of every state that the machine reaches, where controllers write bytes.
+
+pub record IsReached (s : TracedState) : Type 0 where
+  pub lawful : IsLawful s
+  pub fit : IsFitSystem s.system
+  pub in_range : IsInRange s.system

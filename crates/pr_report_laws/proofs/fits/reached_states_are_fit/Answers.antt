@@ -1,5 +1,0 @@
-use Rattle.pr_report_laws.proofs.FitHistoryLemmas.{first-fits, history-fits}
-use Rattle.pr_report_laws.proofs.fits.reached_states_are_fit.Goals as goal
-
-pub returns : goal.returns
-returns c = record { first = first-fits; later = history-fits }
