@@ -1,8 +1,6 @@
 //! What no clause says: that ends are read and written where there is memory, what errors say, and that errors of readers
 //! and writers of std are counted.
-use pr_io::{
-    Failed, MemSink, MemSource, ReadEnd, Sink, Source, StdSink, StdSource, read_all, write_all,
-};
+use pr_io::{Failed, MemSource, ReadEnd, Source, StdSink, StdSource, read_all, write_all};
 use pr_num::{Bytes, NoMemory};
 use std::alloc::Global;
 use std::io;
@@ -75,28 +73,6 @@ fn all_is_read_up_to_the_limit(rt: HostRuntime) -> Result<(), Fail> {
         let got = read_all(rt.alloc(), &mut source, limit);
         assert_eq!(rt; answer(&got), want, "{text} at {limit}");
         assert_eq!(rt; source.calls(), calls, "{text} at {limit}");
-    }
-    Ok(())
-}
-
-#[test]
-fn all_is_written_or_a_prefix(rt: HostRuntime) -> Result<(), Fail> {
-    for (part, room, fails, want, there, calls) in [
-        ("abc", 5, [].as_slice(), Ok(()), "abc", 1),
-        ("abc", 3, [].as_slice(), Ok(()), "abc", 1),
-        ("abc", 2, [].as_slice(), Err(Failed), "ab", 2),
-        ("abc", 0, [].as_slice(), Err(Failed), "", 1),
-        ("abc", 5, [0].as_slice(), Err(Failed), "", 1),
-        ("", 0, [0].as_slice(), Ok(()), "", 0),
-    ] {
-        let mut sink = MemSink::new(rt.alloc(), room, fails.to_vec(rt.alloc())?)?;
-        assert_eq!(rt;
-            write_all(&mut sink, part.as_bytes()),
-            want,
-            "{part} in {room}"
-        );
-        assert_eq!(rt; sink.bytes(), there.as_bytes(), "{part} in {room}");
-        assert_eq!(rt; sink.calls(), calls, "{part} in {room}");
     }
     Ok(())
 }

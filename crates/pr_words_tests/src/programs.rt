@@ -23,14 +23,6 @@ fn program(rt: &(impl Abort + Alloc<A = Global>), text: &[u8]) -> Program {
     }
 }
 
-fn fault(rt: &(impl Abort + Alloc<A = Global>), text: &[u8]) -> AsmFault {
-    match read(rt, text) {
-        Err(AsmRefusal::Fault(fault)) => fault,
-        Err(AsmRefusal::NoMemory) => panic!(rt; "out of memory"),
-        Ok(_) => panic!(rt; "read"),
-    }
-}
-
 // Two instructions, with a label after them.
 #[test]
 fn has_its_instructions_as_its_text(rt: HostRuntime) -> Result<(), Fail> {
@@ -129,29 +121,6 @@ fn full_text(alloc: Global) -> Result<Vec<u8>, AllocError> {
     }
     text.extend_from_slice(b"z:\n")?;
     Ok(text)
-}
-
-// For what the line below that program is refused, where others may stand below it.
-fn kind_below_full(
-    rt: &(impl Abort + Alloc<A = Global>),
-    lines: &[u8],
-) -> Result<AsmKind, AllocError> {
-    let mut text = full_text(rt.alloc())?;
-    text.extend_from_slice(lines)?;
-    let fault = fault(rt, &text);
-    assert_eq!(rt; fault.line, 4098);
-    Ok(fault.kind)
-}
-
-// One instruction past the limit: what else is wrong with its line is named first, and what stands below it is not.
-#[test]
-fn names_the_first_kind_past_a_limit(rt: HostRuntime) -> Result<(), Fail> {
-    assert_eq!(rt; kind_below_full(&rt, b"nop")?, AsmKind::TooBig);
-    assert_eq!(rt; kind_below_full(&rt, b"jmp nowhere")?, AsmKind::UnknownName);
-    assert_eq!(rt; kind_below_full(&rt, b"nop r1")?, AsmKind::BadOperand);
-    assert_eq!(rt; kind_below_full(&rt, b"nap")?, AsmKind::UnknownWord);
-    assert_eq!(rt; kind_below_full(&rt, b"nop\nz:")?, AsmKind::TooBig);
-    Ok(())
 }
 
 // The last label at or below an address; of two at one address the later one.
