@@ -86,6 +86,7 @@ impl TableKernel {
         })
     }
 
+    /// The history so far: an entry for each call, turn and tick.
     pub fn history(&self) -> &History
         ensures { result.now.entries ≡ self.now.history }
     {

@@ -11,6 +11,7 @@ use crate::statements::Statement;
 use pr_num::Instruction;
 use pr_text::Tokens;
 
+/// `set R, IMM`: a register, and a number or a name of the program. Else `BadOperand`.
 pub fn set(operands: Tokens) -> Result<Statement, AsmKind>
     ensures { result ≡ code_of Mnemonic.Set operands.entry }
 {
@@ -22,6 +23,7 @@ pub fn set(operands: Tokens) -> Result<Statement, AsmKind>
     })
 }
 
+/// `ld R, R, IMM`: the register that is loaded, the base, and the offset. Else `BadOperand`.
 pub fn ld(operands: Tokens) -> Result<Statement, AsmKind>
     ensures { result ≡ code_of Mnemonic.Ld operands.entry }
 {
@@ -33,6 +35,7 @@ pub fn ld(operands: Tokens) -> Result<Statement, AsmKind>
     })
 }
 
+/// `st R, R, IMM`: the register that is stored, the base, and the offset. Else `BadOperand`.
 pub fn st(operands: Tokens) -> Result<Statement, AsmKind>
     ensures { result ≡ code_of Mnemonic.St operands.entry }
 {
@@ -44,6 +47,7 @@ pub fn st(operands: Tokens) -> Result<Statement, AsmKind>
     })
 }
 
+/// `ldb R, R, IMM`: as `ld`, of a byte.
 pub fn ldb(operands: Tokens) -> Result<Statement, AsmKind>
     ensures { result ≡ code_of Mnemonic.Ldb operands.entry }
 {
@@ -55,6 +59,7 @@ pub fn ldb(operands: Tokens) -> Result<Statement, AsmKind>
     })
 }
 
+/// `stb R, R, IMM`: as `st`, of a byte.
 pub fn stb(operands: Tokens) -> Result<Statement, AsmKind>
     ensures { result ≡ code_of Mnemonic.Stb operands.entry }
 {
@@ -66,6 +71,7 @@ pub fn stb(operands: Tokens) -> Result<Statement, AsmKind>
     })
 }
 
+/// `jmp IMM`: where to go on. Else `BadOperand`.
 pub fn jmp(operands: Tokens) -> Result<Statement, AsmKind>
     ensures { result ≡ code_of Mnemonic.Jmp operands.entry }
 {
@@ -77,6 +83,7 @@ pub fn jmp(operands: Tokens) -> Result<Statement, AsmKind>
     })
 }
 
+/// `jz R, IMM`: the register that is tested, and where to go on if it is 0. Else `BadOperand`.
 pub fn jz(operands: Tokens) -> Result<Statement, AsmKind>
     ensures { result ≡ code_of Mnemonic.Jz operands.entry }
 {
@@ -88,6 +95,7 @@ pub fn jz(operands: Tokens) -> Result<Statement, AsmKind>
     })
 }
 
+/// `jnz R, IMM`: the register that is tested, and where to go on if it is not 0. Else `BadOperand`.
 pub fn jnz(operands: Tokens) -> Result<Statement, AsmKind>
     ensures { result ≡ code_of Mnemonic.Jnz operands.entry }
 {
@@ -99,6 +107,7 @@ pub fn jnz(operands: Tokens) -> Result<Statement, AsmKind>
     })
 }
 
+/// `jlt R, R, IMM`: where to go on if the first register is below the second. Else `BadOperand`.
 pub fn jlt(operands: Tokens) -> Result<Statement, AsmKind>
     ensures { result ≡ code_of Mnemonic.Jlt operands.entry }
 {
@@ -114,6 +123,7 @@ pub fn jlt(operands: Tokens) -> Result<Statement, AsmKind>
     })
 }
 
+/// `call IMM`: where the subroutine begins. Else `BadOperand`.
 pub fn call(operands: Tokens) -> Result<Statement, AsmKind>
     ensures { result ≡ code_of Mnemonic.Call operands.entry }
 {

@@ -30,6 +30,7 @@ impl Label {
         Label { name, place }
     }
 
+    /// The name of the label, 1 to 31 bytes.
     pub fn name(&self) -> &[u8]
         ensures { result.now ≡ self.now.name }
     {

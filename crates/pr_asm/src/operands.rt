@@ -48,6 +48,7 @@ fn call(word: &[u8]) -> Result<Sysno, AsmKind>
     Sysno::from_name(word).ok_or(AsmKind::UnknownName)
 }
 
+/// Two registers, `r0` to `r7`; `BadOperand` where the operands are others, more or fewer.
 #[tactic(auto, unfolding(crate::specs::Operands::two_registers))]
 pub fn two_registers(operands: Tokens) -> Result<(Reg, Reg), AsmKind>
     ensures { result ≡ two_registers operands.entry }
@@ -56,6 +57,7 @@ pub fn two_registers(operands: Tokens) -> Result<(Reg, Reg), AsmKind>
     Ok((register(a)?, register(b)?))
 }
 
+/// A register and an immediate; else `BadOperand`.
 #[tactic(auto, unfolding(crate::specs::Operands::register_and_immediate))]
 pub fn register_and_immediate(operands: Tokens) -> Result<(Reg, Immediate), AsmKind>
     ensures { result ≡ register_and_immediate operands.entry }
@@ -64,6 +66,7 @@ pub fn register_and_immediate(operands: Tokens) -> Result<(Reg, Immediate), AsmK
     Ok((register(a)?, immediate_of(b)?))
 }
 
+/// Two registers and an immediate; else `BadOperand`.
 #[tactic(auto, unfolding(crate::specs::Operands::registers_and_immediate))]
 pub fn registers_and_immediate(operands: Tokens) -> Result<(Reg, Reg, Immediate), AsmKind>
     ensures { result ≡ registers_and_immediate operands.entry }
@@ -72,6 +75,7 @@ pub fn registers_and_immediate(operands: Tokens) -> Result<(Reg, Reg, Immediate)
     Ok((register(a)?, register(b)?, immediate_of(c)?))
 }
 
+/// An immediate alone; else `BadOperand`.
 #[tactic(auto, unfolding(crate::specs::Operands::one_immediate))]
 pub fn one_immediate(operands: Tokens) -> Result<Immediate, AsmKind>
     ensures { result ≡ one_immediate operands.entry }
@@ -79,6 +83,8 @@ pub fn one_immediate(operands: Tokens) -> Result<Immediate, AsmKind>
     immediate_of(one(operands, AsmKind::BadOperand)?)
 }
 
+/// The name of a system call alone: `BadOperand` where it is no name or does not stand alone, `UnknownName` where no
+/// call has it.
 #[tactic(auto, unfolding(crate::specs::Operands::one_call))]
 pub fn one_call(operands: Tokens) -> Result<Sysno, AsmKind>
     ensures { result ≡ one_call operands.entry }

@@ -69,12 +69,14 @@ impl Program {
         Program::new(name, Vec::new(alloc), Vec::new(alloc), Vec::new(alloc))
     }
 
+    /// The name of the program.
     pub fn name(&self) -> Name
         ensures { result ≡ self.now.name }
     {
         self.name
     }
 
+    /// Its instructions, in the order of their addresses.
     pub fn code(&self) -> &[Instruction]
         ensures value { result.now ≡ self.now.code }
         ensures most { length result.now ≤ code_limit }
@@ -82,6 +84,7 @@ impl Program {
         &self.code
     }
 
+    /// The bytes of its data, from their first address on.
     pub fn data(&self) -> &[u8]
         ensures value { result.now ≡ self.now.bytes }
         ensures most { length result.now ≤ data_limit }

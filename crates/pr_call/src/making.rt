@@ -39,8 +39,8 @@ fn change_lwp(lwp: &mut Lwp, change: Change)
 fn change_lwp_under(lwps: &mut ById<Lwp>, id: u32, change: Change)
     ensures { lwps.new ≡ change_under id (lwp_changed change) lwps.old }
 {
-    if lwps.contains(id) {
-        change_lwp(lwps.get_mut(id), change);
+    if let Some(lwp) = lwps.find_mut(id) {
+        change_lwp(lwp, change);
     }
 }
 

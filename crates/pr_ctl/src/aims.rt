@@ -11,9 +11,8 @@ ghost use Rattle.pr_ctl.specs.Answers.{Answers};
 ghost use Rattle.pr_ctl.specs.Changes.{aimed_by, aimed_changed, aimed_of, lwp_changed, stopped_changed};
 
 use crate::lwp_changes::{LwpChange, change_lwp_of};
-use crate::settings::signals_of;
 use pr_model::Reply;
-use pr_num::{Errno, Sig};
+use pr_num::{Errno, Sig, SigSet};
 use pr_proc::{Lwp, Proc, Sys, live};
 use pr_stop::{representative, representative_lwp};
 
@@ -115,7 +114,13 @@ pub fn shold(sys: &mut Sys, pid: u32, lwp: Option<u32>, signals: u64, length: u6
     requires columns { bad_operand (message.Shold signals) ≡ None }
     ensures { (tail : List ℕ) → Answers sys.old pid lwp (message.Shold signals) tail length sys.new result }
 {
-    change_aimed(sys, pid, lwp, LwpChange::Hold(signals_of(signals)), length)
+    change_aimed(
+        sys,
+        pid,
+        lwp,
+        LwpChange::Hold(SigSet::of_word(signals)),
+        length,
+    )
 }
 
 /// PCSREG: sets the registers of an lwp that stands on an event of interest (EBUSY).

@@ -22,8 +22,8 @@ use pr_stop::direct;
 fn direct_target(sys: &mut Sys, pid: u32, lwp: Option<u32>)
     ensures { (p : TracedProcess) → sys.new ≡ with_aim_directed sys.old pid p (aim_at lwp) }
 {
-    if sys.processes.contains(pid) {
-        direct(sys.processes.get_mut(pid), lwp);
+    if let Some(process) = sys.processes.find_mut(pid) {
+        direct(process, lwp);
     }
 }
 
@@ -63,21 +63,13 @@ pub fn twstop(sys: &Sys, pid: u32, ms: u64) -> Reply
     Reply::Half(wait_end(sys.clock, ms))
 }
 
-/// The run flags of a word that has no other bits.
-fn run_flags(word: u64) -> RunFlags
-    requires { word < 32 }
-    ensures { result ≡ word }
-{
-    RunFlags::from_word(word).unwrap()
-}
-
 /// Runs the lwp of an id in the process of an id, or where none is named the process.
 #[tactic(auto, using(pr_num::proofs::ByIdLaws::by_id_laws), unfolding(pr_model::specs::State::with_process))]
 fn run_target(sys: &mut Sys, pid: u32, lwp: Option<u32>, flags: RunFlags)
     ensures { sys.new ≡ with_process pid (ran flags lwp) sys.old }
 {
-    if sys.processes.contains(pid) {
-        process_runs::run(sys.processes.get_mut(pid), lwp, flags);
+    if let Some(process) = sys.processes.find_mut(pid) {
+        process_runs::run(process, lwp, flags);
     }
 }
 
@@ -101,5 +93,5 @@ pub fn run(sys: &mut Sys, pid: u32, lwp: Option<u32>, flags: u64, length: u64) -
     requires columns { bad_operand (message.Run flags) ≡ None }
     ensures { (tail : List ℕ) → Answers sys.old pid lwp (message.Run flags) tail length sys.new result }
 {
-    run_with(sys, pid, lwp, run_flags(flags), length)
+    run_with(sys, pid, lwp, RunFlags::of_word(flags), length)
 }

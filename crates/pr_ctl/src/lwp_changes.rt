@@ -95,8 +95,8 @@ fn change_lwp(lwp: &mut Lwp, change: LwpChange)
 fn change_under(lwps: &mut ById<Lwp>, id: u32, change: LwpChange)
     ensures { lwps.new ≡ change_under id (lwp_changed change) lwps.old }
 {
-    if lwps.contains(id) {
-        change_lwp(lwps.get_mut(id), change);
+    if let Some(lwp) = lwps.find_mut(id) {
+        change_lwp(lwp, change);
     }
 }
 
@@ -112,7 +112,7 @@ fn change_in(process: &mut Proc, id: u32, change: LwpChange)
 pub fn change_lwp_of(sys: &mut Sys, pid: u32, id: u32, change: LwpChange)
     ensures { sys.new ≡ with_process pid (with_lwp id (lwp_changed change)) sys.old }
 {
-    if sys.processes.contains(pid) {
-        change_in(sys.processes.get_mut(pid), id, change);
+    if let Some(process) = sys.processes.find_mut(pid) {
+        change_in(process, id, change);
     }
 }

@@ -108,8 +108,8 @@ fn end_if_all_requested(job: Option<Sig>, lwps: &mut ById<Lwp>)
 fn flag_under(lwps: &mut ById<Lwp>, id: u32, flags: RunFlags)
     ensures { lwps.new ≡ change_under id (with_flags_on flags) lwps.old }
 {
-    if lwps.contains(id) {
-        flag_lwp(lwps.get_mut(id), flags);
+    if let Some(lwp) = lwps.find_mut(id) {
+        flag_lwp(lwp, flags);
     }
 }
 
@@ -117,8 +117,8 @@ fn flag_under(lwps: &mut ById<Lwp>, id: u32, flags: RunFlags)
 fn request_under(lwps: &mut ById<Lwp>, id: u32)
     ensures { lwps.new ≡ change_under id with_request lwps.old }
 {
-    if lwps.contains(id) {
-        request(lwps.get_mut(id));
+    if let Some(lwp) = lwps.find_mut(id) {
+        request(lwp);
     }
 }
 

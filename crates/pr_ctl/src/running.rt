@@ -120,8 +120,8 @@ fn run_lwp(lwp: &mut Lwp, flags: RunFlags)
 pub fn run_under(lwps: &mut ById<Lwp>, id: u32, flags: RunFlags)
     ensures { lwps.new ≡ change_under id (run_lwp flags) lwps.old }
 {
-    if lwps.contains(id) {
-        run_lwp(lwps.get_mut(id), flags);
+    if let Some(lwp) = lwps.find_mut(id) {
+        run_lwp(lwp, flags);
     }
 }
 

@@ -1,9 +1,8 @@
 //! What control messages set on a process: what is traced of it, and its modes (proc(4), "PCSTRACE" to "PCUNSET").
-ghost use Rattle.std.specs.Prelude.{◌≡◌, ◌<◌, ◌^◌, ℕ, List, Option, None};
-ghost use Rattle.pr_num.specs.Limits.{signal_count, fault_count, syscall_count};
+ghost use Rattle.std.specs.Prelude.{◌≡◌, ℕ, List, Option, None};
 ghost use Rattle.pr_num.specs.Messages.{bad_operand};
 ghost use Rattle.pr_num.specs.declared.messages.Message.TheVariants as message;
-ghost use Rattle.pr_model.specs.Messages.{tracing_entries, tracing_exits, tracing_faults, tracing_signals, with_control, with_modes, without_modes};
+ghost use Rattle.pr_model.specs.Messages.{with_control};
 ghost use Rattle.pr_model.specs.State.{with_process};
 ghost use Rattle.pr_ctl.specs.Answers.{Answers};
 ghost use Rattle.pr_ctl.specs.Changes.{set_by};
@@ -30,60 +29,18 @@ pub enum Setting {
     Unset(Modes),
 }
 
-/// Sets the traced signals. SIGKILL is never traced.
-#[tactic(auto, unfolding(pr_model::specs::Messages::tracing_signals))]
-fn trace_signals(control: &mut Control<Areas>, signals: SigSet)
-    ensures { control.new ≡ tracing_signals signals control.old }
-{
-    control.traced_signals = signals.without(Sig::Kill);
-}
-
-#[tactic(auto, unfolding(pr_model::specs::Messages::tracing_faults))]
-fn trace_faults(control: &mut Control<Areas>, faults: FltSet)
-    ensures { control.new ≡ tracing_faults faults control.old }
-{
-    control.traced_faults = faults;
-}
-
-#[tactic(auto, unfolding(pr_model::specs::Messages::tracing_entries))]
-fn trace_entries(control: &mut Control<Areas>, calls: SysSet)
-    ensures { control.new ≡ tracing_entries calls control.old }
-{
-    control.traced_entries = calls;
-}
-
-#[tactic(auto, unfolding(pr_model::specs::Messages::tracing_exits))]
-fn trace_exits(control: &mut Control<Areas>, calls: SysSet)
-    ensures { control.new ≡ tracing_exits calls control.old }
-{
-    control.traced_exits = calls;
-}
-
-#[tactic(auto, unfolding(pr_model::specs::Messages::with_modes))]
-fn set_modes(control: &mut Control<Areas>, modes: Modes)
-    ensures { control.new ≡ with_modes modes control.old }
-{
-    control.modes = control.modes.union(modes);
-}
-
-#[tactic(auto, unfolding(pr_model::specs::Messages::without_modes))]
-fn clear_modes(control: &mut Control<Areas>, modes: Modes)
-    ensures { control.new ≡ without_modes modes control.old }
-{
-    control.modes = control.modes.minus(modes);
-}
-
-#[tactic(auto, unfolding(crate::specs::Changes::set_by))]
+/// Sets what a message asks for. SIGKILL is never traced.
+#[tactic(auto, unfolding(crate::specs::Changes::set_by, pr_model::specs::Messages::tracing_signals, pr_model::specs::Messages::tracing_faults, pr_model::specs::Messages::tracing_entries, pr_model::specs::Messages::tracing_exits, pr_model::specs::Messages::with_modes, pr_model::specs::Messages::without_modes))]
 fn set_in(control: &mut Control<Areas>, setting: Setting)
     ensures { control.new ≡ set_by setting control.old }
 {
     match setting {
-        Setting::Signals(signals) => trace_signals(control, signals),
-        Setting::Faults(faults) => trace_faults(control, faults),
-        Setting::Entries(calls) => trace_entries(control, calls),
-        Setting::Exits(calls) => trace_exits(control, calls),
-        Setting::Set(modes) => set_modes(control, modes),
-        Setting::Unset(modes) => clear_modes(control, modes),
+        Setting::Signals(signals) => control.traced_signals = signals.without(Sig::Kill),
+        Setting::Faults(faults) => control.traced_faults = faults,
+        Setting::Entries(calls) => control.traced_entries = calls,
+        Setting::Exits(calls) => control.traced_exits = calls,
+        Setting::Set(modes) => control.modes = control.modes.union(modes),
+        Setting::Unset(modes) => control.modes = control.modes.minus(modes),
     }
 }
 
@@ -99,37 +56,9 @@ fn set_on(process: &mut Proc, setting: Setting)
 fn set(sys: &mut Sys, pid: u32, setting: Setting)
     ensures { sys.new ≡ with_process pid (with_control (set_by setting)) sys.old }
 {
-    if sys.processes.contains(pid) {
-        set_on(sys.processes.get_mut(pid), setting);
+    if let Some(process) = sys.processes.find_mut(pid) {
+        set_on(process, setting);
     }
-}
-
-pub fn signals_of(word: u64) -> SigSet
-    requires { word < 2 ^ signal_count }
-    ensures { result ≡ word }
-{
-    SigSet::from_word(word).unwrap()
-}
-
-fn faults_of(word: u64) -> FltSet
-    requires { word < 2 ^ fault_count }
-    ensures { result ≡ word }
-{
-    FltSet::from_word(word).unwrap()
-}
-
-fn calls_of(word: u64) -> SysSet
-    requires { word < 2 ^ syscall_count }
-    ensures { result ≡ word }
-{
-    SysSet::from_word(word).unwrap()
-}
-
-fn modes_of(word: u64) -> Modes
-    requires { word < 16 }
-    ensures { result ≡ word }
-{
-    Modes::from_word(word).unwrap()
 }
 
 /// PCSTRACE: these signals are traced, but for SIGKILL.
@@ -138,7 +67,7 @@ pub fn strace(sys: &mut Sys, pid: u32, signals: u64, length: u64) -> Reply
     requires { bad_operand (message.Strace signals) ≡ None }
     ensures { (tail : List ℕ) (lwp : Option ℕ) → Answers sys.old pid lwp (message.Strace signals) tail length sys.new result }
 {
-    set(sys, pid, Setting::Signals(signals_of(signals)));
+    set(sys, pid, Setting::Signals(SigSet::of_word(signals)));
     Reply::Used(length)
 }
 
@@ -148,7 +77,7 @@ pub fn sfault(sys: &mut Sys, pid: u32, faults: u64, length: u64) -> Reply
     requires { bad_operand (message.Sfault faults) ≡ None }
     ensures { (tail : List ℕ) (lwp : Option ℕ) → Answers sys.old pid lwp (message.Sfault faults) tail length sys.new result }
 {
-    set(sys, pid, Setting::Faults(faults_of(faults)));
+    set(sys, pid, Setting::Faults(FltSet::of_word(faults)));
     Reply::Used(length)
 }
 
@@ -158,7 +87,7 @@ pub fn sentry(sys: &mut Sys, pid: u32, calls: u64, length: u64) -> Reply
     requires { bad_operand (message.Sentry calls) ≡ None }
     ensures { (tail : List ℕ) (lwp : Option ℕ) → Answers sys.old pid lwp (message.Sentry calls) tail length sys.new result }
 {
-    set(sys, pid, Setting::Entries(calls_of(calls)));
+    set(sys, pid, Setting::Entries(SysSet::of_word(calls)));
     Reply::Used(length)
 }
 
@@ -168,7 +97,7 @@ pub fn sexit(sys: &mut Sys, pid: u32, calls: u64, length: u64) -> Reply
     requires { bad_operand (message.Sexit calls) ≡ None }
     ensures { (tail : List ℕ) (lwp : Option ℕ) → Answers sys.old pid lwp (message.Sexit calls) tail length sys.new result }
 {
-    set(sys, pid, Setting::Exits(calls_of(calls)));
+    set(sys, pid, Setting::Exits(SysSet::of_word(calls)));
     Reply::Used(length)
 }
 
@@ -178,7 +107,7 @@ pub fn set_mode(sys: &mut Sys, pid: u32, modes: u64, length: u64) -> Reply
     requires { bad_operand (message.Set modes) ≡ None }
     ensures { (tail : List ℕ) (lwp : Option ℕ) → Answers sys.old pid lwp (message.Set modes) tail length sys.new result }
 {
-    set(sys, pid, Setting::Set(modes_of(modes)));
+    set(sys, pid, Setting::Set(Modes::of_word(modes)));
     Reply::Used(length)
 }
 
@@ -188,6 +117,6 @@ pub fn unset_mode(sys: &mut Sys, pid: u32, modes: u64, length: u64) -> Reply
     requires { bad_operand (message.Unset modes) ≡ None }
     ensures { (tail : List ℕ) (lwp : Option ℕ) → Answers sys.old pid lwp (message.Unset modes) tail length sys.new result }
 {
-    set(sys, pid, Setting::Unset(modes_of(modes)));
+    set(sys, pid, Setting::Unset(Modes::of_word(modes)));
     Reply::Used(length)
 }

@@ -97,8 +97,8 @@ fn take_back(process: &mut Proc, signal: Sig)
 fn take_back_from(sys: &mut Sys, pid: u32, signal: Sig)
     ensures { (s : TracedSystem) (p : TracedProcess) → sys.new ≡ with_process pid (process_without_one s pid p signal) sys.old }
 {
-    if sys.processes.contains(pid) {
-        take_back(sys.processes.get_mut(pid), signal);
+    if let Some(process) = sys.processes.find_mut(pid) {
+        take_back(process, signal);
     }
 }
 

@@ -1,33 +1,22 @@
-use Rattle.std.proofs.Common.{◌≡◌, ◌==◌, ◌+◌, ◌-◌, ◌^◌, ◌&&◌, ◌||◌, ℕ, Bool, true, false, eqb, ltb, bit_and, IfSome, inl, inr, arith, is_none, Option, Some, None, Result, Ok, Err, List, [], cond, refl, sym, subst, ◌∙◌, ap}
-use Rattle.std.proofs.lemmas.Bool.{eqb-true, cases_Bool, not-true}
+use Rattle.std.proofs.Common.{◌≡◌, ◌==◌, ◌-◌, ◌∷◌, ◌^◌, ◌&&◌, ◌||◌, ℕ, Bool, true, false, eqb, bit_and, inl, inr, arith, Option, Some, None, List, [], cond, refl, sym, subst, ◌∙◌, ap}
+use Rattle.std.proofs.lemmas.Bool.{eqb-true, cases_Bool, not-true, false≢true}
 use Rattle.std.proofs.lemmas.Option.{same_Some}
 use Rattle.std.specs.List.{All, find, list_all}
 use Rattle.std.specs.Option.{option_map}
 use Rattle.pr_num.specs.ById.{change_under, map_each}
-use Rattle.pr_num.specs.Control.{has_flags, klc_mode, rlc_mode, stop_again}
+use Rattle.pr_num.specs.Control.{has_flags, klc_mode, stop_again}
 use Rattle.pr_num.specs.Infos.{killed_by}
-use Rattle.pr_num.specs.Limits.{controller_limit}
 use Rattle.pr_num.specs.Programs.{Program}
-use Rattle.pr_num.specs.declared.mappings.BadByte.{BadByte}
-use Rattle.pr_num.specs.Sets.{common_word, has_number, minus_word, union_word, with_number}
+use Rattle.pr_num.specs.Sets.{common_word, has_number, minus_word, union_word}
 use Rattle.pr_num.proofs.SetLemmas.{has_flags-one, has_number-common, has_number-union}
 use Rattle.pr_num.specs.Messages.{first_message}
 use Rattle.pr_num.specs.declared.messages.Message.{Message}
 use Rattle.pr_num.specs.declared.messages.Message.TheVariants as message
-use Rattle.pr_num.specs.declared.messages.MsgFault.{MsgFault}
-use Rattle.pr_num.specs.declared.signals.Sig.{Sig}
-use Rattle.pr_num.proofs.ByIdLaws.{All-under, All-change_under, All-map_each}
-use Rattle.std.specs.List.{position, slice_set}
-use Rattle.pr_num.specs.Signals.{signal_number}
+use Rattle.pr_num.proofs.ByIdLaws.{All-under}
 use Rattle.pr_num.specs.declared.errnos.Errno.{Errno}
-use Rattle.pr_num.specs.declared.errnos.Errno.TheVariants.{Badf, Busy, Inval, Intr}
-use Rattle.pr_num.specs.declared.signals.Sig.TheVariants.{Kill}
-use Rattle.pr_model.specs.declared.calls.Call as calls
 use Rattle.pr_model.specs.declared.calls.Call.TheVariants as call
 use Rattle.pr_model.specs.declared.calls.Reply.{Reply}
 use Rattle.pr_model.specs.declared.calls.Reply.TheVariants as reply
-use Rattle.pr_model.specs.declared.calls.Reply.TheVariants.{Used}
-use Rattle.pr_model.specs.Lives.{with_this_ended}
 use Rattle.pr_model.specs.Machines.{traced}
 use Rattle.pr_model.specs.UntracedSteps.{steps_of_call}
 use Rattle.pr_model.specs.Calls.{Answer, refused, opened, open_unless, open_answer, close_held, close_answer, controlled, interrupted_answer, is_interrupted, waited, ready_answer, is_polled_ready, poll_answer, until_answer, interrupt_answer, spawn_unless, spawn_found, spawn_answer, sent_reply, kill_answer, answer_to}
@@ -42,10 +31,9 @@ use Rattle.pr_model.specs.SignalCalls.{Sending, refuses, sends_nothing, sends, s
 use Rattle.pr_model.specs.Spawning.{spawn_refusal}
 use Rattle.pr_model.specs.UntracedMachine.{UntracedRun, ends_here, nothing, it}
 use Rattle.pr_laws.proofs.RefusalLemmas.{control-leaves, refused-system}
-use Rattle.pr_laws.proofs.RunLemmas.{no_flags}
 use Rattle.pr_erasure.proofs.OutsideLemmas.{Follows, follows-nothing, spawn-follows, kill-follows, refused_sent}
 use Rattle.pr_model.specs.Running.{let_go, run_lwp, lwp_run_refused, with_directive, with_one_run, with_cleared, with_aborted, with_flags_on, without_directive, with_request, without_request, was_requested, if_all_requested, shows_run, run_refused, with_representative_run, with_all_run, with_run}
-use Rattle.pr_model.specs.State.{Places, TracedControl, TracedLwp, TracedProcess, TracedSystem, TracedState, live_process, lwp_of, with_process, with_lwp, with_system}
+use Rattle.pr_model.specs.State.{Places, TracedControl, TracedLwp, TracedProcess, TracedSystem, TracedState, live_process, lwp_of, with_process, with_lwp, with_system, process_of}
 use Rattle.pr_model.specs.Stops.{has_event_stop, directed, with_all_directed, representative}
 use Rattle.pr_model.specs.declared.handles.Held.{Held}
 use Rattle.pr_model.specs.declared.stops.Stop.TheVariants.{Requested}
@@ -56,6 +44,21 @@ use Rattle.pr_erasure.proofs.StateLemmas.{map_each-hidden, map_each-all_hidden, 
 use Rattle.pr_erasure.proofs.UntouchedLemmas.{KeepsLwps, KeepsProcesses, directed-keeps, lwp-keeps, lwps-keep, process-keeps}
 use Rattle.pr_num.proofs.BoolLemmas.{either}
 use Rattle.pr_model.proofs.StateLemmas.{live_process-found}
+use Rattle.pr_keeps.specs.CallEdits as edit
+use Rattle.pr_keeps.specs.CallEdits.{CallEdit, CloseEdit}
+use Rattle.pr_keeps.specs.LwpEdits as lwp
+use Rattle.pr_keeps.specs.LwpEdits.{LwpEdit, LwpEdits, clears_current, clears_fault}
+use Rattle.pr_keeps.specs.MessageEdits as made
+use Rattle.pr_keeps.specs.MessageEdits.{MessageEdit}
+use Rattle.pr_keeps.specs.ProcessEdits as process
+use Rattle.pr_keeps.specs.ProcessEdits.{ControlEdit, ProcessEdit, ProcessEdits}
+use Rattle.pr_keeps.proofs.CallLemmas.{call-edit, close-edit}
+use Rattle.pr_keeps.proofs.KeepsLemmas.{all-replaced, lwp-edits-keep, process-edits-relate}
+use Rattle.pr_keeps.proofs.MessageLemmas.{run-edits}
+use Rattle.pr_model.specs.Calls.{answer_to, controlled}
+use Rattle.pr_model.specs.declared.calls.Call.{Call}
+use Rattle.pr_num.specs.Control.{clear_signal, clear_fault, single_step, abort_call}
+use Rattle.pr_num.specs.ById.{under}
 
 -- The calls of controllers in a passive history, as programs see them: nothing.
 
@@ -76,147 +79,61 @@ hides-nothing s u = record { same = refl; untouched = u }
 hides-process : (pid : ℕ) (f : TracedProcess → TracedProcess) → ((x : TracedProcess) → bare_process (f x) ≡ bare_process x) → KeepsProcesses f → (s : TracedSystem) → IsUntouched s → Hides s (with_process pid f s)
 hides-process pid f hides keeps s u = record { same = with_process-hidden s pid f hides; untouched = process-keeps pid f keeps s u }
 
--- ---- lwps that are directed to stop, run and released
+-- ---- lwps
 
-without_directive-hidden : (l : TracedLwp) → bare_lwp (without_directive l) ≡ bare_lwp l
-unfolding bare_lwp without_directive
-without_directive-hidden l = refl
+-- an lwp that looks the same, and is untouched still
+record HidesLwp (l k : TracedLwp) : Type 0 where
+  seen : bare_lwp k ≡ bare_lwp l
+  untouched : (id : ℕ) → IsUntouchedLwp (id, l) → IsUntouchedLwp (id, k)
 
-without_directive-keeps : KeepsLwps without_directive
-unfolding without_directive
-without_directive-keeps id x u = record { no_step = u.no_step; no_abort = u.no_abort; no_agent = u.no_agent }
+-- PCRUN of a passive history has no flag but PRSTOP
+no-flag : (flags flag : ℕ) → has_flags 0 flag ≡ false → has_flags stop_again flag ≡ false
+    → ((flags == 0) || (flags == stop_again)) ≡ true → has_flags flags flag ≡ true → ⊥
+no-flag flags flag none other passive is = elim (cases_Bool (eqb flags 0)) [
+  | inl zero ↦ false≢true (sym none ∙ ap (λ f. has_flags f flag) (sym (eqb-true flags 0 zero)) ∙ is)
+  | inr some ↦
+      let same : flags ≡ stop_again = eqb-true flags stop_again (rw some at passive) in
+      false≢true (sym other ∙ ap (λ f. has_flags f flag) (sym same) ∙ is)
+]
 
-with_request-hidden : (l : TracedLwp) → bare_lwp (with_request l) ≡ bare_lwp l
-unfolding bare_lwp with_request
-with_request-hidden l = elim (has_event_stop l) as (λ b. bare_lwp (cond b (record l { control = record l.control { stop = Some Requested } }) l) ≡ bare_lwp l) [ true ↦ refl | false ↦ refl ]
+-- a passive message clears no current signal, and no fault
+keeps-signal : (m : Message) → clears_current m ≡ true → is_passive_message m ≡ true → ⊥
+unfolding is_passive_message has_flags common_word
+keeps-signal (message.Run flags) is passive = no-flag flags clear_signal refl refl passive is
+keeps-signal _ is passive = cc
 
-with_request-keeps : KeepsLwps with_request
-unfolding with_request
-with_request-keeps id x u = elim (has_event_stop x) as (λ b. IsUntouchedLwp (id, cond b (record x { control = record x.control { stop = Some Requested } }) x)) [ true ↦ record { no_step = u.no_step; no_abort = u.no_abort; no_agent = u.no_agent } | false ↦ u ]
+keeps-fault : (m : Message) → clears_fault m ≡ true → is_passive_message m ≡ true → ⊥
+unfolding is_passive_message has_flags common_word
+keeps-fault (message.Run flags) is passive = no-flag flags clear_fault refl refl passive is
+keeps-fault _ is passive = cc
 
-without_request-hidden : (l : TracedLwp) → bare_lwp (without_request l) ≡ bare_lwp l
-unfolding bare_lwp without_request
-without_request-hidden l = elim (was_requested l.control.stop) as (λ b. bare_lwp (cond b (record l { control = record l.control { stop = None } }) l) ≡ bare_lwp l) [ true ↦ refl | false ↦ refl ]
-
-without_request-keeps : KeepsLwps without_request
-unfolding without_request
-without_request-keeps id x u = elim (was_requested x.control.stop) as (λ b. IsUntouchedLwp (id, cond b (record x { control = record x.control { stop = None } }) x)) [ true ↦ record { no_step = u.no_step; no_abort = u.no_abort; no_agent = u.no_agent } | false ↦ u ]
-
-released_lwp-hidden : (l : TracedLwp) → bare_lwp (released_lwp l) ≡ bare_lwp l
-unfolding bare_lwp released_lwp
-released_lwp-hidden l = refl
-
-released_lwp-keeps : KeepsLwps released_lwp
-unfolding released_lwp
-released_lwp-keeps id x u = record { no_step = refl; no_abort = u.no_abort; no_agent = u.no_agent }
-
--- ---- the lwps of a process that is run
-
--- lwps that look the same, and are untouched
-record SameLwps (old new : List (ℕ × TracedLwp)) : Type 0 where
-  seen : map_each bare_lwp new ≡ map_each bare_lwp old
-  untouched : All IsUntouchedLwp old → All IsUntouchedLwp new
-
-one : (id : ℕ) (f : TracedLwp → TracedLwp) → ((x : TracedLwp) → bare_lwp (f x) ≡ bare_lwp x) → KeepsLwps f → (ls : List (ℕ × TracedLwp)) → SameLwps ls (change_under id f ls)
-one id f hides keeps ls = record { seen = map_each-hidden bare_lwp id f ls hides; untouched = All-change_under IsUntouchedLwp id f ls (λ l found un. keeps id l un) }
-
-each : (f : TracedLwp → TracedLwp) → ((x : TracedLwp) → bare_lwp (f x) ≡ bare_lwp x) → KeepsLwps f → (ls : List (ℕ × TracedLwp)) → SameLwps ls (map_each f ls)
-each f hides keeps ls = record { seen = map_each-all_hidden bare_lwp f ls hides; untouched = All-map_each IsUntouchedLwp IsUntouchedLwp f (λ e un. keeps e.0 e.1 un) ls }
-
-next : {a b c : List (ℕ × TracedLwp)} → SameLwps a b → SameLwps b c → SameLwps a c
-next x y = record { seen = y.seen ∙ x.seen; untouched = λ u. y.untouched (x.untouched u) }
-
-flagged-hidden : (x : TracedLwp) → bare_lwp (with_flags_on 0 x) ≡ bare_lwp x
-flagged-hidden x = ap bare_lwp (no_flags x)
-
-flagged-keeps : KeepsLwps (with_flags_on 0)
-flagged-keeps id x u = subst (λ l. IsUntouchedLwp (id, l)) (sym (no_flags x)) u
-
-run-representative : (r : Option (ℕ × TracedLwp)) (ls : List (ℕ × TracedLwp)) → SameLwps ls (with_representative_run 0 r ls)
-run-representative None ls = each without_directive without_directive-hidden without_directive-keeps ls
-run-representative (Some r) ls =
-    next (one r.0 (with_flags_on 0) flagged-hidden flagged-keeps ls)
-    (next (each without_directive without_directive-hidden without_directive-keeps _)
-    (one r.0 with_request with_request-hidden with_request-keeps _))
-
-run-all : (job : Option Sig) (ls : List (ℕ × TracedLwp)) → SameLwps ls (if_all_requested job ls)
-unfolding if_all_requested
-run-all job ls = elim (list_all (shows_run job) ls) as (λ b. SameLwps ls (cond b (map_each without_request ls) ls)) [ true ↦ each without_request without_request-hidden without_request-keeps ls | false ↦ record { seen = refl; untouched = λ u. u } ]
-
-run-lwps : (p : TracedProcess) → SameLwps p.lwps (with_run 0 p).lwps
-unfolding with_run with_all_run has_flags common_word
-run-lwps p = next (run-representative (representative p) p.lwps) (run-all p.job_stop (with_representative_run 0 (representative p) p.lwps))
-
-run_is : (p : TracedProcess) → with_run 0 p ≡ record p { lwps = (with_run 0 p).lwps }
-unfolding with_run with_all_run has_flags common_word
-run_is p = refl
-
-with_lwps-hidden : (p : TracedProcess) (ls : List (ℕ × TracedLwp)) → SameLwps p.lwps ls → bare_process (record p { lwps = ls }) ≡ bare_process p
-unfolding bare_process
-with_lwps-hidden p ls same = ap (λ seen. record (bare_process p) { lwps = seen }) same.seen
-
-pub with_run-hidden : (p : TracedProcess) → bare_process (with_run 0 p) ≡ bare_process p
-with_run-hidden p = ap bare_process (run_is p) ∙ with_lwps-hidden p (with_run 0 p).lwps (run-lwps p)
-
-with_run-keeps : KeepsProcesses (with_run 0)
-with_run-keeps pid x u =
-    let ls = run-lwps x in
-    subst (λ y. IsUntouchedProcess (pid, y)) (sym (run_is x)) (record { no_kill = u.no_kill; unwatched = u.unwatched; lwps = ls.untouched u.lwps })
-
-pub released-hidden : (p : TracedProcess) → bare_process (released p) ≡ bare_process p
-unfolding bare_process released
-released-hidden p = ap (λ ls. record (bare_process p) { lwps = ls }) (map_each-all_hidden bare_lwp released_lwp p.lwps released_lwp-hidden)
-
-released-keeps : KeepsProcesses released
-unfolding released released_control
-released-keeps pid x u = record { no_kill = u.no_kill; unwatched = refl; lwps = lwps-keep released_lwp released_lwp-keeps x u.lwps }
-
-all_directed-keeps : KeepsProcesses with_all_directed
-unfolding with_all_directed
-all_directed-keeps pid x u = record { no_kill = u.no_kill; unwatched = u.unwatched; lwps = lwps-keep directed directed-keeps x u.lwps }
-
--- ---- an lwp that is run: without flags, or with PRSTOP alone
-
--- a change of lwps in what controllers set alone, that leaves them untouched
-record Quiet (f : TracedLwp → TracedLwp) : Type 0 where
-  hides : (l : TracedLwp) → bare_lwp (f l) ≡ bare_lwp l
-  keeps : KeepsLwps f
-
-record QuietProcess (f : TracedProcess → TracedProcess) : Type 0 where
-  hides : (p : TracedProcess) → bare_process (f p) ≡ bare_process p
-  keeps : KeepsProcesses f
-
-run-quiet : Quiet (run_lwp 0)
-unfolding bare_lwp run_lwp let_go with_aborted with_cleared has_flags common_word
-run-quiet = record { hides = λ l. refl; keeps = λ id x u. record { no_step = u.no_step; no_abort = u.no_abort; no_agent = u.no_agent } }
-
-stop_again-quiet : Quiet (run_lwp stop_again)
-unfolding bare_lwp run_lwp let_go with_aborted with_cleared with_directive has_flags common_word
-stop_again-quiet = record { hides = λ l. refl; keeps = λ id x u. record { no_step = u.no_step; no_abort = u.no_abort; no_agent = u.no_agent } }
-
-one-quiet : (id : ℕ) (f : TracedLwp → TracedLwp) → Quiet f → QuietProcess (with_lwp id f)
-one-quiet id f q = record { hides = λ p. with_lwp-hidden p id f q.hides; keeps = lwp-keeps id f q.keeps }
-
-run_all-quiet : QuietProcess (with_run 0)
-run_all-quiet = record { hides = with_run-hidden; keeps = with_run-keeps }
-
-one_run-is : (p : TracedProcess) → with_run stop_again p ≡ with_one_run stop_again (representative p) p
-unfolding with_run has_flags common_word
-one_run-is p = refl
-
-one_run-hides : (r : Option (ℕ × TracedLwp)) (p : TracedProcess) → bare_process (with_one_run stop_again r p) ≡ bare_process p
-one_run-hides None p = refl
-one_run-hides (Some r) p = let q = one-quiet r.0 (run_lwp stop_again) stop_again-quiet in q.hides p
-
-one_run-keeps : (r : Option (ℕ × TracedLwp)) (pid : ℕ) (p : TracedProcess) → IsUntouchedProcess (pid, p) → IsUntouchedProcess (pid, with_one_run stop_again r p)
-one_run-keeps None pid p u = u
-one_run-keeps (Some r) pid p u = let q = one-quiet r.0 (run_lwp stop_again) stop_again-quiet in q.keeps pid p u
-
-stop_again-all-quiet : QuietProcess (with_run stop_again)
-stop_again-all-quiet = record {
-  hides = λ p. ap bare_process (one_run-is p) ∙ one_run-hides (representative p) p;
-  keeps = λ pid x u. subst (λ y. IsUntouchedProcess (pid, y)) (sym (one_run-is x)) (one_run-keeps (representative x) pid x u);
+-- only where it stops and runs is changed
+alike : (l k : TracedLwp) → bare_lwp k ≡ bare_lwp l → k.control.step ≡ l.control.step
+    → k.control.abort ≡ l.control.abort → HidesLwp l k
+alike l k seen step abort = record {
+  seen = seen;
+  untouched = λ id u. record { no_step = step ∙ u.no_step; no_abort = abort ∙ u.no_abort; no_agent = u.no_agent };
 }
+
+edit-hides : (m : Message) (l k : TracedLwp) → LwpEdit m l k → is_passive_message m ≡ true → HidesLwp l k
+unfolding bare_lwp with_directive without_directive let_go is_passive_message has_flags common_word
+edit-hides m l k (lwp.drops_signal is) passive = absurd (keeps-signal m is passive)
+edit-hides m l k (lwp.drops_fault is) passive = absurd (keeps-fault m is passive)
+edit-hides m l k (lwp.directs_it is) passive = alike l k refl refl refl
+edit-hides m l k lwp.undirects passive = alike l k refl refl refl
+edit-hides m l k lwp.lets_go passive = alike l k refl refl refl
+edit-hides m l k (lwp.requests is) passive = alike l k refl refl refl
+edit-hides m l k (lwp.ends_request is) passive = alike l k refl refl refl
+edit-hides m l k (lwp.steps {flags = flags} is) passive = absurd (no-flag flags single_step refl refl passive is)
+edit-hides m l k (lwp.aborts {flags = flags} is) passive = absurd (no-flag flags abort_call refl refl passive is)
+edit-hides m l k _ passive = active passive
+
+edits-hide : (m : Message) → is_passive_message m ≡ true → (l k : TracedLwp) → LwpEdits m l k → HidesLwp l k
+edits-hide m passive l k edits =
+    lwp-edits-keep m (HidesLwp l) (λ j i e h.
+    let next = edit-hides m j i e passive in
+    record { seen = next.seen ∙ h.seen; untouched = λ id u. next.untouched id (h.untouched id u) }) l k edits
+    (record { seen = refl; untouched = λ id u. u })
 
 -- ---- modes
 
@@ -238,211 +155,181 @@ no_klc-minus a b none =
     let rest = 2 ^ 64 - 1 - b in
     klc-is (minus_word a b) ∙ common-is a rest ∙ has_number-common a rest 3 ∙ ap (λ x. x && has_number rest 3) (sym (klc-is a) ∙ none)
 
--- ---- control messages of a passive history
+-- ---- processes
 
-module _ (s : TracedSystem) (u : IsUntouched s) where
-  quiet-hides : (pid : ℕ) (f : TracedProcess → TracedProcess) → QuietProcess f → Hides s (with_process pid f s)
-  quiet-hides pid f q = hides-process pid f q.hides q.keeps s u
+record HidesProcess (x y : TracedProcess) : Type 0 where
+  seen : bare_process y ≡ bare_process x
+  untouched : (pid : ℕ) → IsUntouchedProcess (pid, x) → IsUntouchedProcess (pid, y)
 
-  answered : (b : Bool) (x y : Controlled) → Hides s x.system → Hides s y.system → Hides s (cond b x y).system
-  answered true x y one other = one
-  answered false x y one other = other
+-- what is traced and which modes are set
+record HidesControl (c d : TracedControl) : Type 0 where
+  areas : d.areas ≡ c.areas
+  no_kill : has_flags c.modes klc_mode ≡ false → has_flags d.modes klc_mode ≡ false
 
-  module _ (pid : ℕ) (p : TracedProcess) where
-    direct-hides : (aim : Aim) → Hides s (with_aim_directed s pid p aim)
-    unfolding with_aim_directed
-    direct-hides (at_lwp id) = hides-process pid (with_lwp id directed) (λ x. with_lwp-hidden x id directed directed-hidden) (lwp-keeps id directed directed-keeps) s u
-    direct-hides at_process = hides-process pid with_all_directed with_all_directed-hidden all_directed-keeps s u
+control-hides : (m : Message) (c d : TracedControl) → ControlEdit m c d → is_passive_message m ≡ true → HidesControl c d
+unfolding is_passive_message tracing_signals tracing_faults tracing_entries tracing_exits with_modes without_modes
+control-hides m c d process.signals passive = record { areas = refl; no_kill = λ none. none }
+control-hides m c d process.faults passive = record { areas = refl; no_kill = λ none. none }
+control-hides m c d process.entries passive = record { areas = refl; no_kill = λ none. none }
+control-hides m c d process.exits passive = record { areas = refl; no_kill = λ none. none }
+control-hides m c d (process.modes {set = set}) passive =
+    record { areas = refl; no_kill = λ none. no_klc-union c.modes set none (not-true (has_flags set klc_mode) passive) }
+control-hides m c d (process.fewer_modes {set = set}) passive =
+    record { areas = refl; no_kill = λ none. no_klc-minus c.modes set none }
+control-hides m c d _ passive = active passive
 
-    run_found-hides : (flags len id : ℕ) → Quiet (run_lwp flags) → (o : Option TracedLwp) → Hides s (run_found s pid p flags len (found_at s pid p id o)).system
-    run_found-hides flags len id q None = hides-nothing s u
-    run_found-hides flags len id q (Some l) =
-        answered (lwp_run_refused p id l) (message_refused s Busy) (record { system = with_process pid (with_lwp id (run_lwp flags)) s; reply = Used len })
-        (hides-nothing s u) (quiet-hides pid (with_lwp id (run_lwp flags)) (one-quiet id (run_lwp flags) q))
+process-hides : (m : Message) (tail : List ℕ) (x y : TracedProcess) → ProcessEdit m tail x y
+    → is_passive_message m ≡ true → HidesProcess x y
+unfolding bare_process is_passive_message
+process-hides m tail x y (process.one_lwp id f edits) passive = record {
+  seen = with_lwp-hidden x id f (λ l. let h = edits-hide m passive l (f l) (edits l) in h.seen);
+  untouched = λ pid u. lwp-keeps id f (λ i l. let h = edits-hide m passive l (f l) (edits l) in h.untouched i) pid x u;
+}
+process-hides m tail x y (process.each_lwp f edits) passive = record {
+  seen =
+      ap (λ ls. record (bare_process x) { lwps = ls })
+      (map_each-all_hidden bare_lwp f x.lwps (λ l. let h = edits-hide m passive l (f l) (edits l) in h.seen));
+  untouched = λ pid u. record {
+    no_kill = u.no_kill;
+    unwatched = u.unwatched;
+    lwps = lwps-keep f (λ i l. let h = edits-hide m passive l (f l) (edits l) in h.untouched i) x u.lwps;
+  };
+}
+process-hides m tail x y (process.control_is {c = c} e) passive =
+    let h = control-hides m x.control c e passive in
+    record {
+      seen = refl;
+      untouched = λ pid u. record { no_kill = h.no_kill u.no_kill; unwatched = h.areas ∙ u.unwatched; lwps = u.lwps };
+    }
+process-hides m tail x y _ passive = active passive
 
-    run-hides : (aim : Aim) (flags len : ℕ) → Quiet (run_lwp flags) → QuietProcess (with_run flags) → Hides s (run_answer s pid p aim flags len).system
-    unfolding run_answer
-    run-hides (at_lwp id) flags len q all = run_found-hides flags len id q (lwp_of p id)
-    run-hides at_process flags len q all =
-        answered (run_refused p) (message_refused s Busy) (record { system = with_process pid (with_run flags) s; reply = Used len })
-        (hides-nothing s u) (quiet-hides pid (with_run flags) all)
+processes-hide : (m : Message) (tail : List ℕ) → is_passive_message m ≡ true
+    → (x y : TracedProcess) → ProcessEdits m tail x y → HidesProcess x y
+processes-hide m tail passive =
+    process-edits-relate m tail HidesProcess (λ x. record { seen = refl; untouched = λ pid u. u })
+    (λ x y z one two. record {
+      seen = two.seen ∙ one.seen;
+      untouched = λ pid u. two.untouched pid
+          (one.untouched pid u);
+    })
+    (λ x y e. process-hides m tail x y e passive)
 
-    -- without flags, or with PRSTOP alone
-    passive_run-hides : (aim : Aim) (flags len : ℕ) → ((flags == 0) || (flags == stop_again)) ≡ true → Hides s (run_answer s pid p aim flags len).system
-    passive_run-hides aim flags len passive =
-        elim (cases_Bool (eqb flags 0)) [
-          | inl none ↦ let is : flags ≡ 0 = eqb-true flags 0 none in subst (λ f. Hides s (run_answer s pid p aim f len).system) (sym is) (run-hides aim 0 len run-quiet run_all-quiet)
-          | inr some ↦ let is : flags ≡ stop_again = eqb-true flags stop_again (rw some at passive) in subst (λ f. Hides s (run_answer s pid p aim f len).system) (sym is) (run-hides aim stop_again len stop_again-quiet stop_again-all-quiet)
-        ]
+pub with_run-hidden : (p : TracedProcess) → bare_process (with_run 0 p) ≡ bare_process p
+unfolding is_passive_message
+with_run-hidden p =
+    let h = processes-hide (message.Run 0) [] refl p (with_run 0 p) (run-edits 0 [] p) in
+    h.seen
 
-    -- what is traced and which modes are set
-    set-hides : (f : TracedControl → TracedControl) → ((c : TracedControl) → (f c).areas ≡ c.areas) → ((c : TracedControl) → has_flags c.modes klc_mode ≡ false → has_flags (f c).modes klc_mode ≡ false) → Hides s (with_process pid (with_control f) s)
-    unfolding with_control bare_process
-    set-hides f areas kept =
-        hides-process pid (with_control f) (λ x. refl)
-        (λ q x un. record { no_kill = kept x.control un.no_kill; unwatched = areas x.control ∙ un.unwatched; lwps = un.lwps }) s u
+-- ---- the system
 
-    read_of-hides : (r : Result (List ℕ) BadByte) → Hides s (read_of s pid p r).system
-    read_of-hides (Err bad) = hides-nothing s u
-    read_of-hides (Ok bytes) = hides-nothing s u
+-- the one that stands under an id is changed in a way that a view does not show
+map_each-found : {X Y : Type 0} (view : X → Y) (id : ℕ) (f : X → X) (x : X) (es : List (ℕ × X))
+    → under id es ≡ Some x → view (f x) ≡ view x → map_each view (change_under id f es) ≡ map_each view es
+map_each-found view id f x [] there same = refl
+map_each-found {X} view id f x (e ∷ es) there same =
+    elim (eqb e.0 id) as (λ b. cond b (Some e.1) (under id es) ≡ Some x
+    → map_each view (cond b ((e.0, f e.1) ∷ es) (e ∷ change_under id f es)) ≡ (e.0, view e.1) ∷ map_each view es) [
+      | true ↦ λ is.
+          ap (λ y. (e.0, y) ∷ map_each view es) (subst (λ (z : X). view (f z) ≡ view z) (sym (same_Some e.1 x is)) same)
+      | false ↦ λ is. ap (λ ds. (e.0, view e.1) ∷ ds) (map_each-found view id f x es is same)
+    ] there
 
-    read-hides : (at size : ℕ) → Hides s (read_answer s pid p at size).system
-    unfolding read_answer
-    read-hides at size = read_of-hides (mapped_bytes s pid p at size)
+message-hides : (s : TracedSystem) (pid : ℕ) (p : TracedProcess) (m : Message) (tail : List ℕ) (t : TracedSystem)
+    → MessageEdit s pid p m tail t → process_of s pid ≡ Some p → is_passive_message m ≡ true
+    → IsUntouched s → Hides s t
+unfolding bare_system with_process is_passive_message
+message-hides s pid p m tail t made.nothing found passive u = hides-nothing s u
+message-hides s pid p m tail t (made.a_process f edits) found passive u =
+    let h = processes-hide m tail passive p (f p) edits in
+    record {
+      same =
+          ap (λ ps. record (bare_system s) { processes = ps })
+          (map_each-found bare_process pid f p s.processes found h.seen);
+      untouched = record {
+        processes = all-replaced IsUntouchedProcess pid f p s.processes found (h.untouched pid) u.processes;
+      };
+    }
+message-hides s pid p m tail t _ found passive u = active passive
 
-    message-hides : (aim : Aim) (m : Message) (tail : List ℕ) (len : ℕ) → is_passive_message m ≡ true → Hides s (message_answer s pid p aim m tail len).system
-    unfolding message_answer is_passive_message tracing_signals tracing_faults tracing_entries tracing_exits with_modes without_modes
-    message-hides aim message.Stop tail len passive = direct-hides aim
-    message-hides aim message.Dstop tail len passive = direct-hides aim
-    message-hides aim message.Wstop tail len passive = hides-nothing s u
-    message-hides aim (message.Twstop ms) tail len passive = hides-nothing s u
-    message-hides aim (message.Run flags) tail len passive = passive_run-hides aim flags len passive
-    message-hides aim message.Csig tail len passive = active passive
-    message-hides aim message.Cfault tail len passive = active passive
-    message-hides aim (message.Ssig number) tail len passive = active passive
-    message-hides aim (message.Kill number) tail len passive = active passive
-    message-hides aim (message.Unkill number) tail len passive = active passive
-    message-hides aim (message.Shold set) tail len passive = active passive
-    message-hides aim (message.Strace set) tail len passive = set-hides (tracing_signals set) (λ c. refl) (λ c none. none)
-    message-hides aim (message.Sfault set) tail len passive = set-hides (tracing_faults set) (λ c. refl) (λ c none. none)
-    message-hides aim (message.Sentry set) tail len passive = set-hides (tracing_entries set) (λ c. refl) (λ c none. none)
-    message-hides aim (message.Sexit set) tail len passive = set-hides (tracing_exits set) (λ c. refl) (λ c none. none)
-    message-hides aim (message.Set modes) tail len passive = set-hides (with_modes modes) (λ c. refl) (λ c none. no_klc-union c.modes modes none (not-true (has_flags modes klc_mode) passive))
-    message-hides aim (message.Unset modes) tail len passive = set-hides (without_modes modes) (λ c. refl) (λ c none. no_klc-minus c.modes modes none)
-    message-hides aim (message.Sreg regs) tail len passive = active passive
-    message-hides aim (message.Svaddr pc) tail len passive = active passive
-    message-hides aim (message.Watch at size flags) tail len passive = active passive
-    message-hides aim (message.Agent regs) tail len passive = active passive
-    message-hides aim (message.Read at size) tail len passive = read-hides at size
-    message-hides aim (message.Write at size) tail len passive = active passive
+-- ---- the last close for writing
 
-  -- ---- writes of control messages
+released_lwp-hidden : (l : TracedLwp) → bare_lwp (released_lwp l) ≡ bare_lwp l
+unfolding bare_lwp released_lwp
+released_lwp-hidden l = refl
 
-  decoded-hides : (h : Held) (p : TracedProcess) (bytes : List ℕ) (r : Result (Message × ℕ) MsgFault) → is_passive_write r ≡ true → Hides s (decoded_answer s h p bytes r).system
-  decoded-hides h p bytes (Err fault) passive = hides-nothing s u
-  decoded-hides h p bytes (Ok m) passive =
-      answered (eqb h.pid 0) (message_refused s (system_refusal m.0)) (message_answer s h.pid p (aim_of h) m.0 (tail_of m.0 bytes) m.1)
-      (hides-nothing s u) (message-hides h.pid p (aim_of h) m.0 (tail_of m.0 bytes) m.1 passive)
+released_lwp-keeps : KeepsLwps released_lwp
+unfolding released_lwp
+released_lwp-keeps id x u = record { no_step = refl; no_abort = u.no_abort; no_agent = u.no_agent }
 
-  targeted-hides : (h : Held) (o : Option TracedProcess) (bytes : List ℕ) → is_passive_write (first_message bytes) ≡ true → Hides s (targeted_answer s h o bytes).system
-  targeted-hides h None bytes passive = hides-nothing s u
-  targeted-hides h (Some p) bytes passive = decoded-hides h p bytes (first_message bytes) passive
+pub released-hidden : (p : TracedProcess) → bare_process (released p) ≡ bare_process p
+unfolding bare_process released
+released-hidden p = ap (λ ls. record (bare_process p) { lwps = ls }) (map_each-all_hidden bare_lwp released_lwp p.lwps released_lwp-hidden)
 
-  held-hides : (o : Option Held) (bytes : List ℕ) → is_passive_write (first_message bytes) ≡ true → Hides s (held_answer s o bytes).system
-  held-hides None bytes passive = hides-nothing s u
-  held-hides (Some h) bytes passive = targeted-hides h (target_of s h) bytes passive
+released-keeps : KeepsProcesses released
+unfolding released released_control
+released-keeps pid x u =
+    record { no_kill = u.no_kill; unwatched = refl; lwps = lwps-keep released_lwp released_lwp-keeps x u.lwps }
 
-  granted-hides : (opens : Places) (by handle : ℕ) (bytes : List ℕ) → is_passive_write (first_message bytes) ≡ true → Hides s (control_answer s opens by handle bytes).system
-  unfolding control_answer
-  granted-hides opens by handle bytes passive = held-hides (control_handle (handle_of opens by handle)) bytes passive
-
-  -- one that was refused left the system, and one that was granted was passive
-  control-hides : (opens : Places) (by handle : ℕ) (bytes : List ℕ) → is_passive_call (call.Ctl handle bytes) (control_answer s opens by handle bytes).reply ≡ true → Hides s (control_answer s opens by handle bytes).system
-  control-hides opens by handle bytes passive = of (control_answer s opens by handle bytes).reply refl passive
-    where
-      granted : is_passive_write (first_message bytes) ≡ true → Hides s (control_answer s opens by handle bytes).system
-      granted passed = granted-hides opens by handle bytes passed
-
-      of : (r : Reply) → (control_answer s opens by handle bytes).reply ≡ r → is_passive_call (call.Ctl handle bytes) r ≡ true → Hides s (control_answer s opens by handle bytes).system
-      of (reply.Fail e) is passed = subst (Hides s) (sym (refused-system s (control_answer s opens by handle bytes) e (control-leaves s opens by handle bytes) is)) (hides-nothing s u)
-      of (reply.Handle n) is passed = granted passed
-      of reply.Done is passed = granted passed
-      of (reply.Used n) is passed = granted passed
-      of (reply.Half n) is passed = granted passed
-      of (reply.Bytes n) is passed = granted passed
-      of (reply.Pid n) is passed = granted passed
-      of (reply.Ready n) is passed = granted passed
-
-  -- ---- closes
-
-  last_close-hides : (pid : ℕ) (p : TracedProcess) → has_flags p.control.modes klc_mode ≡ false → Hides s (with_last_close pid p s)
-  unfolding with_last_close
-  last_close-hides pid p no_kill =
-      subst (λ b. Hides s (cond b (with_this_ended traced pid p (signal_number Kill) s) (cond (has_flags p.control.modes rlc_mode) (with_process pid released s) s))) (sym no_kill)
-      (either (Hides s) (has_flags p.control.modes rlc_mode) _ _ (hides-process pid released released-hidden released-keeps s u) (hides-nothing s u))
-
-  after_close-hides : (pid : ℕ) → Hides s (after_last_close pid (live_process s pid) s)
-  after_close-hides pid = by (live_process s pid) refl
-    where
-      by : (o : Option TracedProcess) → live_process s pid ≡ o → Hides s (after_last_close pid o s)
-      by None is = hides-nothing s u
-      by (Some p) is =
-          let it : IsUntouchedProcess (pid, p) = All-under IsUntouchedProcess pid p s.processes u.processes (live_process-found s pid p is) in
-          last_close-hides pid p it.no_kill
+close-hides : (s : TracedSystem) (pid : ℕ) (t : TracedSystem) → CloseEdit s pid t → IsUntouched s → Hides s t
+close-hides s pid t edit.nothing u = hides-nothing s u
+close-hides s pid t (edit.kills p live mode) u =
+    let it = All-under IsUntouchedProcess pid p s.processes u.processes (live_process-found s pid p live) in
+    absurd (false≢true (sym it.no_kill ∙ mode))
+close-hides s pid t (edit.releases p live spares mode) u =
+    hides-process pid released released-hidden released-keeps s u
 
 -- ---- calls
+
+-- whether nothing is seen of a call, whatever its reply: neither does anything come from outside, nor is a message
+-- written that is not passive
+abbrev IsHidden : Call → Type 0
+IsHidden (call.Ctl handle bytes) = is_passive_write (first_message bytes) ≡ true
+IsHidden (call.Spawn name held) = ⊥
+IsHidden (call.Kill pid number) = ⊥
+IsHidden _ = Unit {0}
+
+call-hides : (s : TracedState) (by : ℕ) (c : Call) (t : TracedState) → CallEdit s by c t → IsHidden c
+    → IsUntouched s.system → Hides s.system t.system
+unfolding with_opened
+call-hides s by c t edit.looks hidden u = hides-nothing s.system u
+call-hides s by c t (edit.opens free grants) hidden u = hides-nothing s.system u
+call-hides s by c t (edit.closes {handle = handle} {held = h} at) hidden u =
+    close-hides s.system h.pid (with_closed h handle s).system (close-edit s handle h) u
+call-hides s by c t (edit.controls {bytes = bytes} {held = h} {p = p} {m = m} {t = v} w e) hidden u =
+    let passive = subst (λ r. is_passive_write r ≡ true) w.read hidden in
+    message-hides s.system h.pid p m (tail_of m bytes) v e (live_process-found s.system h.pid p w.live) passive u
+call-hides s by c t edit.sees_interrupt hidden u = hides-nothing s.system u
+call-hides s by c t (edit.interrupts there) hidden u = hides-nothing s.system u
+call-hides s by c t (edit.spawns named grants) hidden u = absurd hidden
+call-hides s by c t (edit.sends is) hidden u = absurd hidden
 
 -- what an answer makes of the system is hidden
 HidesAnswer : TracedState → Answer → Type 0
 HidesAnswer s a = Hides s.system a.state.system
 
 module _ (s : TracedState) (u : IsUntouched s.system) where
-  open-hides : (h : Held) (refusal : Option Errno) → HidesAnswer s (open_unless s h refusal)
-  unfolding HidesAnswer with_opened
-  open-hides h (Some e) = hides-nothing s.system u
-  open-hides h None = by (position is_none s.opens)
-    where
-      by : (o : Option ℕ) → HidesAnswer s (opened s h o)
-      by None = hides-nothing s.system u
-      by (Some place) = hides-nothing s.system u
-
-  close-hides : (handle : ℕ) (o : Option Held) → HidesAnswer s (close_held s handle o)
-  unfolding HidesAnswer with_closed
-  close-hides handle None = hides-nothing s.system u
-  close-hides handle (Some h) = either (Hides s.system) (was_last_writer h (slice_set s.opens handle None)) _ _ (after_close-hides s.system u h.pid) (hides-nothing s.system u)
-
-  wait-hides : (by : ℕ) (r : Reply) → HidesAnswer s (waited s by r)
+  answer-hides : (by : ℕ) (c : Call) (a : Answer) → answer_to s by c ≡ Some a → IsHidden c → HidesAnswer s a
   unfolding HidesAnswer
-  wait-hides by (reply.Fail Intr) = hides-nothing s.system u
-  wait-hides by _ = hides-nothing s.system u
+  answer-hides by c a is hidden = call-hides s by c a.state (call-edit s by c a is) hidden u
 
-  -- answers that leave the system
-  LeavesSystem : Option Answer → Type 0
-  LeavesSystem o = IfSome o (λ a. a.state.system ≡ s.system)
-
-  left : (a : Answer) → a.state.system ≡ s.system → LeavesSystem (Some a)
-  unfolding LeavesSystem
-  left a same = same
-
-  not_ready : LeavesSystem None
-  unfolding LeavesSystem
-  not_ready = tt
-
-  choice : (b : Bool) (x y : Option Answer) → LeavesSystem x → LeavesSystem y → LeavesSystem (cond b x y)
-  choice true x y one other = one
-  choice false x y one other = other
-
-  ready-leaves : (o : Option ℕ) → LeavesSystem (ready_answer s o)
-  unfolding LeavesSystem
-  ready-leaves None = tt
-  ready-leaves (Some handle) = refl
-
-  poll-leaves : (by : ℕ) (handles : List ℕ) → LeavesSystem (poll_answer s by handles)
-  unfolding poll_answer
-  poll-leaves by handles =
-      choice _ _ _ (left (refused s Badf) refl) (choice _ _ _ (left (refused s Inval) refl) (choice _ _ _ (left (interrupted_answer s by) refl) (ready-leaves (find (is_polled_ready s by) handles))))
-
-  until-leaves : (by moment : ℕ) → LeavesSystem (until_answer s by moment)
-  unfolding until_answer
-  until-leaves by moment = choice _ _ _ (left (interrupted_answer s by) refl) (choice _ _ _ (left (record { state = s; reply = reply.Done }) refl) not_ready)
-
-  interrupt-leaves : (controller : ℕ) → (interrupt_answer s controller).state.system ≡ s.system
-  unfolding interrupt_answer
-  interrupt-leaves controller =
-      elim (ltb controller controller_limit) as (λ b. (cond b (record { state = record s { interrupted = with_number s.interrupted (controller + 1) }; reply = reply.Done }) (refused s Inval)).state.system ≡ s.system) [ true ↦ refl | false ↦ refl ]
-
-  same-hides : (a : Answer) → a.state.system ≡ s.system → HidesAnswer s a
-  unfolding HidesAnswer
-  same-hides a same = subst (Hides s.system) (sym same) (hides-nothing s.system u)
-
-  left-hides : (o : Option Answer) (a : Answer) → LeavesSystem o → o ≡ Some a → HidesAnswer s a
-  unfolding LeavesSystem
-  left-hides o a leaves is = same-hides a (subst (λ x. IfSome x (λ b. b.state.system ≡ s.system)) is leaves)
+  -- a message that was refused left the system, and one that was granted was passive
+  ctl-hides : (by handle : ℕ) (bytes : List ℕ) (r : Reply) → (control_answer s.system s.opens by handle bytes).reply ≡ r
+      → is_passive_call (call.Ctl handle bytes) r ≡ true
+      → HidesAnswer s (controlled s (control_answer s.system s.opens by handle bytes))
+  unfolding answer_to HidesAnswer
+  ctl-hides by handle bytes (reply.Fail e) is passive =
+      let c = control_answer s.system s.opens by handle bytes in
+      subst (Hides s.system) (sym (refused-system s.system c e (control-leaves s.system s.opens by handle bytes) is))
+      (hides-nothing s.system u)
+  ctl-hides by handle bytes _ is passive =
+      answer-hides by (call.Ctl handle bytes)
+      (controlled s (control_answer s.system s.opens by handle bytes)) refl passive
 
   -- ---- what calls are for the untraced machine
 
   -- a call that is hidden has no step
-  hidden : (c : calls.Call) (a : Answer) → steps_of_call c a.reply ≡ [] → HidesAnswer s a → Follows s.system (steps_of_call c a.reply) a.state.system
+  hidden : (c : Call) (a : Answer) → steps_of_call c a.reply ≡ [] → HidesAnswer s a
+      → Follows s.system (steps_of_call c a.reply) a.state.system
   unfolding HidesAnswer
   hidden c a none hides = subst (λ steps. Follows s.system steps a.state.system) (sym none) (record { run = subst (UntracedRun (erased_system s.system) []) (sym (same-system a.state.system s.system hides.same)) ends_here; untouched = hides.untouched })
 
@@ -460,25 +347,16 @@ module _ (s : TracedState) (u : IsUntouched s.system) where
   sent-follows pid number (sends g) is = kill-follows pid number (sends g) s.system u is it
 
   -- Every call of a passive history that has an answer is followed by its steps.
-  pub call-follows : (by : ℕ) (c : calls.Call) (a : Answer) → answer_to s by c ≡ Some a → is_passive_call c a.reply ≡ true → Follows s.system (steps_of_call c a.reply) a.state.system
-  unfolding answer_to open_answer close_answer spawn_answer kill_answer HidesAnswer
-  call-follows by (call.Open pid id file mode) a is passive = hidden (call.Open pid id file mode) a refl (subst (HidesAnswer s) (same_Some _ _ is) (open-hides _ (open_refusal s pid id file mode)))
-  call-follows by (call.Close handle) a is passive = hidden (call.Close handle) a refl (subst (HidesAnswer s) (same_Some _ _ is) (close-hides handle (handle_of s.opens by handle)))
+  pub call-follows : (by : ℕ) (c : Call) (a : Answer) → answer_to s by c ≡ Some a → is_passive_call c a.reply ≡ true
+      → Follows s.system (steps_of_call c a.reply) a.state.system
+  unfolding answer_to spawn_answer kill_answer HidesAnswer
   call-follows by (call.Ctl handle bytes) a is passive =
-      let answer : controlled s (control_answer s.system s.opens by handle bytes) ≡ a = same_Some _ _ is in
-      hidden (call.Ctl handle bytes) a refl (subst (HidesAnswer s) answer (control-hides s.system u s.opens by handle bytes (subst (λ (x : Answer). is_passive_call (call.Ctl handle bytes) x.reply ≡ true) (sym answer) passive)))
-  call-follows by (call.CtlWait handle until bytes) a is passive = hidden (call.CtlWait handle until bytes) a refl (over (wait_reply s.system s.opens by handle until (is_interrupted s by) bytes) is)
-    where
-      over : (o : Option Reply) → option_map (waited s by) o ≡ Some a → HidesAnswer s a
-      over None e = absurd (none e)
-        where
-          none : None ≡ Some a → ⊥
-          none e = cc
-      over (Some r) e = subst (HidesAnswer s) (same_Some _ _ e) (wait-hides by r)
-  call-follows by (call.Read handle from len) a is passive = hidden (call.Read handle from len) a refl (subst (HidesAnswer s) (same_Some _ _ is) (hides-nothing s.system u))
-  call-follows by (call.Poll handles) a is passive = hidden (call.Poll handles) a refl (left-hides (poll_answer s by handles) a (poll-leaves by handles) is)
-  call-follows by (call.Interrupt controller) a is passive =
-      hidden (call.Interrupt controller) a refl (subst (HidesAnswer s) (same_Some (interrupt_answer s controller) a is) (same-hides (interrupt_answer s controller) (interrupt-leaves controller)))
+      let c = control_answer s.system s.opens by handle bytes in
+      let answer : controlled s c ≡ a = same_Some _ _ is in
+      let passed =
+      subst (λ (x : Answer). is_passive_call (call.Ctl handle bytes) x.reply ≡ true) (sym answer) passive in
+      hidden (call.Ctl handle bytes) a refl
+      (subst (HidesAnswer s) answer (ctl-hides by handle bytes c.reply refl passed))
   call-follows by (call.Spawn name held) a is passive =
       subst (λ (x : Answer). Follows s.system (steps_of_call (call.Spawn name held) x.reply) x.state.system) (same_Some (spawn_found s held (program_named s.system.programs name)) a is)
       (spawn_found-follows name held (program_named s.system.programs name) refl)
@@ -486,5 +364,4 @@ module _ (s : TracedState) (u : IsUntouched s.system) where
       let x = sending pid number (life_of s.system pid) in
       subst (λ (y : Answer). Follows s.system (steps_of_call (call.Kill pid number) y.reply) y.state.system) (same_Some (record { state = with_system (with_sent traced pid (killed_by 0) x) s; reply = sent_reply x }) a is)
       (sent-follows pid number x refl)
-  call-follows by (call.Until moment) a is passive = hidden (call.Until moment) a refl (left-hides (until_answer s by moment) a (until-leaves by moment) is)
-  call-follows by call.List a is passive = hidden call.List a refl (subst (HidesAnswer s) (same_Some _ _ is) (hides-nothing s.system u))
+  call-follows by c a is passive = hidden c a refl (answer-hides by c a is tt)

@@ -43,7 +43,7 @@ pub close-edit : (s : TracedState) (handle : ℕ) (h : Held) → CloseEdit s.sys
 unfolding with_closed with_last_close
 close-edit s handle h =
     choice Closes (was_last_writer h (slice_set s.opens handle None)) _ _
-        (λ last. of (live_process s.system h.pid) refl) (λ others. edit.nothing)
+    (λ last. of (live_process s.system h.pid) refl) (λ others. edit.nothing)
   where
     Closes : TracedSystem → Type 0
     Closes t = CloseEdit s.system h.pid t
@@ -53,7 +53,7 @@ close-edit s handle h =
     of (Some p) is =
         choice Closes (has_flags p.control.modes klc_mode) _ _ (λ kills. edit.kills p is kills) (λ spares.
         choice Closes (has_flags p.control.modes rlc_mode) _ _ (λ releases. edit.releases p is spares releases)
-            (λ stays. edit.nothing))
+        (λ stays. edit.nothing))
 
 module _ (s : TracedState) (by : ℕ) where
   -- what comes of a call, if anything does, is an edit
@@ -121,8 +121,15 @@ module _ (s : TracedState) (by : ℕ) where
       read held p at writes target (Ok (m, len)) is =
           choice Does (eqb held.pid 0) _ _ (λ system. edit.looks) (λ user.
           edit.controls
-              (record { handle_is = at; controls = writes; target = target; live = target-found held p target;
-              user = eqb-false held.pid 0 user; length = len; read = is })
+          (record {
+            handle_is = at;
+            controls = writes;
+            target = target;
+            live = target-found held p target;
+            user = eqb-false held.pid 0 user;
+            length = len;
+            read = is;
+          })
           (message-edit s.system held.pid p (tail_of m bytes) len (aim_of held) m))
 
       to : (held : Held) → handle_of s.opens by handle ≡ Some held → is_control held.file ≡ true
@@ -163,9 +170,9 @@ module _ (s : TracedState) (by : ℕ) where
       let poll = call.Poll handles in
       choice (IsEdit poll) (not (list_all (is_open_by s.opens by) handles)) _ _ (λ closed. edit.looks) (λ open_all.
       choice (IsEdit poll) (eqb (length handles) 0 || ltb handle_limit (length handles)) _ _ (λ wrong. edit.looks)
-          (λ right.
+      (λ right.
       choice (IsEdit poll) (is_interrupted s by) _ _ (λ interrupted. edit.sees_interrupt)
-          (λ calm. ready-edit poll (find (is_polled_ready s by) handles))))
+      (λ calm. ready-edit poll (find (is_polled_ready s by) handles))))
 
   until-edit : (moment : ℕ) → IsEdit (call.Until moment) (until_answer s by moment)
   unfolding until_answer

@@ -13,7 +13,7 @@ use Rattle.pr_parts.specs.AddressSpaces.{with_bytes}
 use Rattle.pr_parts.specs.PendingSignals.{has_room}
 use Rattle.pr_parts.specs.WatchedAreas.{is_taken, with_area, without_area}
 use Rattle.pr_model.specs.Changes.{with_space}
-use Rattle.pr_model.specs.Messages.{Controlled, Aim, at_lwp, at_process, with_signal_set, lwp_without_one, with_held_set, with_registers, with_address, with_control, tracing_signals, tracing_faults, tracing_entries, tracing_exits, with_modes, without_modes, with_areas, lets_agent, with_agent, on_found, aimed_lwp, on_stopped_found, with_aim_directed, run_found, found_at, run_answer, killed, is_kill_of, ssig_answer, pending_at, pending_of_found, target_of_aim, kill_by, kill_answer, process_without_one, unkill_by, unkill_answer, watch_answer, agent_answer, read_of, read_answer, write_answer, message_answer}
+use Rattle.pr_model.specs.Messages.{Controlled, Aim, at_lwp, at_process, with_signal_set, lwp_without_one, with_held_set, with_registers, with_address, with_control, tracing_signals, tracing_faults, tracing_entries, tracing_exits, with_modes, without_modes, with_areas, lets_agent, with_agent, on_found, aimed_lwp, on_stopped_found, with_aim_directed, run_found, found_at, run_answer, killed, is_kill_of, ssig_answer, pending_at, pending_of_found, target_of_aim, kill_by, kill_answer, process_without_one, unkill_by, unkill_answer, watch_answer, agent_answer, read_of, mapped_bytes, read_answer, write_answer, message_answer}
 use Rattle.pr_model.specs.Running.{without_current, without_fault, with_step, with_abort, with_directive, without_directive, let_go, if_flag, is_entry_stop, is_asleep, with_cleared, with_aborted, run_lwp, lwp_run_refused, run_refused, shows_run, was_requested, with_request, without_request, if_all_requested, with_flags_on, with_representative_run, with_all_run, with_one_run, runs_one, with_run}
 use Rattle.pr_model.specs.State.{TracedControl, TracedLwp, TracedProcess, TracedSystem, has_agent, lwp_of, with_process, with_lwp}
 use Rattle.pr_model.specs.Stops.{directed, has_event_stop, representative, with_all_directed}
@@ -59,16 +59,16 @@ module _ (flags : ℕ) where
   unfolding with_cleared
   cleared-edits l k edits =
       edited-if (message.Run flags) (has_flags flags clear_fault) without_fault l
-          (if_flag flags clear_signal without_current k) (λ is. lwp.drops_fault is)
+      (if_flag flags clear_signal without_current k) (λ is. lwp.drops_fault is)
       (edited-if (message.Run flags) (has_flags flags clear_signal) without_current l k
-          (λ is. lwp.drops_signal is) edits)
+      (λ is. lwp.drops_signal is) edits)
 
   aborted-edits : (stop : Option Stop) (l k : TracedLwp) → Runs l k → Runs l (with_aborted flags stop k)
   unfolding with_aborted
   aborted-edits stop l k edits =
       choice (Runs l) (has_flags flags abort_call) _ _
       (λ is. edited-if (message.Run flags) (is_entry_stop stop || is_asleep k.phase) with_abort l k
-          (λ stands. lwp.aborts is) edits) (λ other. edits)
+      (λ stands. lwp.aborts is) edits) (λ other. edits)
 
   run_lwp-edits : Edits (message.Run flags) (run_lwp flags)
   unfolding Edits run_lwp
@@ -76,10 +76,10 @@ module _ (flags : ℕ) where
       let run = message.Run flags in
       let cleared = cleared-edits l (let_go l) (one-edit run l (let_go l) lwp.lets_go) in
       let marked =
-          edited-if run (has_flags flags single_step) with_step l (with_cleared flags (let_go l))
-          (λ is. lwp.steps is) cleared in
+      edited-if run (has_flags flags single_step) with_step l (with_cleared flags (let_go l))
+      (λ is. lwp.steps is) cleared in
       edited-if run (has_flags flags stop_again) with_directive l _ (λ is. lwp.directs_it refl)
-          (aborted-edits l.control.stop l _ marked)
+      (aborted-edits l.control.stop l _ marked)
 
   flags_on-edits : Edits (message.Run flags) (with_flags_on flags)
   unfolding Edits with_flags_on
@@ -133,7 +133,7 @@ module _ (flags : ℕ) (tail : List ℕ) (x : TracedProcess) where
   one_run-edits (Some r) =
       process.then_edit process.as_it_is (process.one_lwp r.0 (run_lwp flags) (run_lwp-edits flags))
 
-  run-edits : RunsTo (with_run flags x)
+  pub run-edits : ProcessEdits (message.Run flags) tail x (with_run flags x)
   unfolding with_run
   run-edits = choice RunsTo (runs_one flags) _ _ (λ one. one_run-edits (representative x)) (λ all. all_run-edits)
 
@@ -185,7 +185,7 @@ module _ (s : TracedSystem) (pid : ℕ) (p : TracedProcess) (tail : List ℕ) (l
   run-made flags (at_lwp id) = run_found-made flags (found_at s pid p id (lwp_of p id))
   run-made flags at_process =
       choice (Made (message.Run flags)) (run_refused p) _ _ (λ no_run. edit.nothing)
-          (λ run. edit.a_process (with_run flags) (run-edits flags tail p))
+      (λ run. edit.a_process (with_run flags) (run-edits flags tail p))
 
   signal_set-edits : (number : ℕ) → Edits (message.Ssig number) (with_signal_set (signal_of_number number))
   unfolding Edits with_signal_set
@@ -202,7 +202,7 @@ module _ (s : TracedSystem) (pid : ℕ) (p : TracedProcess) (tail : List ℕ) (l
   ssig-made number aim =
       choice (Made (message.Ssig number)) (is_kill_of s pid p (signal_of_number number)) _ _ (λ kill. edit.an_end)
       (λ other. on_lwp-made (message.Ssig number) (with_signal_set (signal_of_number number)) (signal_set-edits number)
-          (aimed_lwp s pid p aim))
+      (aimed_lwp s pid p aim))
 
   aimed-room : (aim : Aim) (g : Sig) → has_room g (pending_at s pid p aim) ≡ true
       → HasRoomIn p g (target_of_aim s pid p aim)
@@ -234,22 +234,22 @@ module _ (s : TracedSystem) (pid : ℕ) (p : TracedProcess) (tail : List ℕ) (l
       let watch = message.Watch at size flags in
       let areas = p.control.areas in
       choice (Made watch) (eqb flags 0) _ _
-          (λ clear. set-made watch (with_areas (without_area at areas)) process.unwatches) (λ some.
+      (λ clear. set-made watch (with_areas (without_area at areas)) process.unwatches) (λ some.
       choice (Made watch) (is_taken at size areas) _ _ (λ taken. edit.nothing) (λ free.
       choice (Made watch) (leb area_limit (length areas)) _ _ (λ full. edit.nothing)
       (λ room. set-made watch (with_areas (with_area (record { at = at; size = size; flags = flags }) areas))
-          (process.watches some free (leb-false area_limit (length areas) room)))))
+      (process.watches some free (leb-false area_limit (length areas) room)))))
 
   agent-made : (regs : List ℕ) → Made (message.Agent regs) (agent_answer s pid p regs len)
   unfolding agent_answer
   agent-made regs =
       let agent = message.Agent regs in
       choice (Made agent) (has_agent p || not (list_all (lets_agent p.job_stop) p.lwps)) _ _ (λ busy. edit.nothing)
-          (λ idle.
+      (λ idle.
       choice (Made agent) (leb lwp_limit (length p.lwps)) _ _ (λ full. edit.nothing)
       (λ room. one-process agent (with_agent regs)
-          (process.gets_agent (or_parts (has_agent p) (not (list_all (lets_agent p.job_stop) p.lwps)) idle).0
-          (leb-false lwp_limit (length p.lwps) room))))
+      (process.gets_agent (or_parts (has_agent p) (not (list_all (lets_agent p.job_stop) p.lwps)) idle).0
+      (leb-false lwp_limit (length p.lwps) room))))
 
   read-made : (m : Message) (r : Result (List ℕ) BadByte) → Made m (read_of s pid p r)
   read-made m (Err bad) = edit.nothing

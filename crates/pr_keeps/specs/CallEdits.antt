@@ -63,13 +63,13 @@ pub data CallEdit (s : TracedState) (by : ℕ) : Call → TracedState → Type 0
   opens : {pid id place : ℕ} {file : File} {mode : Mode} → position is_none s.opens ≡ Some place
       → open_refusal s pid id file mode ≡ None
       → CallEdit s by (Open pid id file mode)
-          (with_opened (record { controller = by; pid = pid; lwp = id; file = file; mode = mode }) place s)
+      (with_opened (record { controller = by; pid = pid; lwp = id; file = file; mode = mode }) place s)
   closes : {handle : ℕ} {held : Held} → handle_of s.opens by handle ≡ Some held
       → CallEdit s by (Close handle) (with_closed held handle s)
   controls : {handle : ℕ} {bytes : List ℕ} {held : Held} {p : TracedProcess} {m : Message} {t : TracedSystem}
       → IsMessageTo s by handle bytes held p m
       → MessageEdit s.system held.pid p m (tail_of m bytes) t → CallEdit s by (Ctl handle bytes)
-          (record s { system = t })
+      (record s { system = t })
   -- a wait shows that the controller was interrupted
   sees_interrupt : {c : Call} → CallEdit s by c (with_interrupt_seen by s)
   interrupts : {other : ℕ} → other < controller_limit

@@ -30,7 +30,7 @@ pub data ControlEdit : Message → TracedControl → TracedControl → Type 0 wh
   watches : {at size flags : ℕ} {c : TracedControl} → (flags == 0) ≡ false → is_taken at size c.areas ≡ false
       → length c.areas < area_limit
       → ControlEdit (Watch at size flags) c
-          (with_areas (with_area (record { at = at; size = size; flags = flags }) c.areas) c)
+      (with_areas (with_area (record { at = at; size = size; flags = flags }) c.areas) c)
 
 -- ---- the process
 

@@ -47,10 +47,10 @@ pub data RowKind (s : TracedSystem) (pid : ℕ) (p : TracedProcess) (id : ℕ) (
   -- call
   interrupts : {woken : Bool} {call : Sysno} {args : List ℕ} {since : ℕ} → IsInCall s l woken call args since
       → (l.control.abort ≡ true) ⊎ (is_caught p.dispositions l.current ≡ true) → RowKind s pid p id l
-          (interrupted_row woken call args)
+      (interrupted_row woken call args)
   performs : {woken : Bool} {call : Sysno} {args : List ℕ} {since : ℕ} → IsInCall s l woken call args since
       → l.control.abort ≡ false → l.current ≡ None → RowKind s pid p id l
-          (performed_row woken call args since (call_effect s pid p id l since call args))
+      (performed_row woken call args since (call_effect s pid p id l since call args))
   returns : {call : Sysno} {args : List ℕ} {result : Res} → l.phase ≡ Exiting call args result → l.current ≡ None
       → RowKind s pid p id l (returned_row p l call)
   -- it carries out an instruction

@@ -15,8 +15,8 @@ use pr_proc::{Sys, end, live, release};
 fn release_process(sys: &mut Sys, pid: u32)
     ensures { sys.new ≡ with_process pid released sys.old }
 {
-    if sys.processes.contains(pid) {
-        release(sys.processes.get_mut(pid));
+    if let Some(process) = sys.processes.find_mut(pid) {
+        release(process);
     }
 }
 

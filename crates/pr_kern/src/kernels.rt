@@ -201,6 +201,7 @@ impl Kern {
         self.places
     }
 
+    /// The history so far: an entry for each call, turn and tick that was made.
     pub fn history(&self) -> &History
         ensures { result.now.entries ≡ self.now.history }
     {

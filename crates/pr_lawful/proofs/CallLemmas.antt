@@ -28,7 +28,7 @@ use Rattle.pr_lawful.proofs.MadeLemmas.{generated-grows, handles-on, spawned-gro
 use Rattle.pr_lawful.proofs.ProgramLemmas.{named-lawful}
 use Rattle.pr_lawful.proofs.ReleasedLemmas.{generated-released, spawned-released}
 use Rattle.pr_lawful.proofs.SignalLemmas.{sent-reaches}
-use Rattle.pr_lawful.proofs.StateLemmas.{closed-state, made-state, opened-state, same-state, spawned-lawful, edit-state}
+use Rattle.pr_lawful.proofs.StateLemmas.{closed-state, edit-state, opened-state, same-state, spawned-lawful}
 use Rattle.pr_lawful.proofs.SystemLemmas.{parents-on}
 
 -- Every edit of a call of a controller leaves a state lawful: a line a kind of edit.
@@ -69,7 +69,7 @@ module _ (s : TracedState) (h : IsLawful s) where
   edited-state by c t (edit.controls {handle = handle} {bytes = bytes} {held = held} {p = p} {m = m} {t = u} it e) =
       let at = found-live s.system held.pid p it.live in
       let written =
-          handle-writer s.opens handle held h.fitting (handle-at s.opens by handle held it.handle_is) it.controls in
+      handle-writer s.opens handle held h.fitting (handle-at s.opens by handle held it.handle_is) it.controls in
       edit-state s held.pid p m (tail_of m bytes) u h it.user at.0 at.1 written e
   edited-state by c t edit.sees_interrupt = same-state s t refl refl h
   edited-state by c t (edit.interrupts there) = same-state s t refl refl h

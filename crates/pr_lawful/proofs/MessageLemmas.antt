@@ -43,7 +43,7 @@ use Rattle.pr_mem.proofs.HeapPlaceLemmas.{LeavesHeapPlace-with_bytes}
 use Rattle.pr_rec.specs.InRange.{IsInfo}
 use Rattle.pr_lawful.proofs.InfoLemmas.{no-infos, taken-infos}
 use Rattle.pr_lawful.proofs.LocalLemmas.{KeepsLwp, same_sets, keeps-if, live-empty, IsKept, Keeps, kept-same, kept-next, kept-if, same_rest, same_lwps, kept-parts, keeps-lwp, keeps-each}
-use Rattle.pr_lawful.proofs.SignalLemmas.{HasRoomIn, MayPend}
+use Rattle.pr_lawful.proofs.SignalLemmas.{MayPend}
 use Rattle.pr_lawful.proofs.SystemLemmas.{Replaces, replaced, kept-replaces}
 use Rattle.pr_lawful.proofs.TransitionLemmas.{directed-keeps, all_directed-keeps}
 
@@ -105,9 +105,11 @@ edits-keep m f edits next id l h =
 -- ---- what is set on a process
 
 -- SIGKILL is not traced
-signals-traced : (signals : ℕ) (c : TracedControl) → has_number (tracing_signals signals c).traced_signals (signal_number Kill) ≡ false
+signals-traced : (signals : ℕ) (c : TracedControl)
+    → has_number (tracing_signals signals c).traced_signals (signal_number Kill) ≡ false
 unfolding tracing_signals signal_number
-signals-traced signals c = has_number-without signals 9 9 (lit≤ tt) (lit≤ tt) (lit≤ tt) (lit≤ tt) ∙ and_false (has_number signals 9)
+signals-traced signals c =
+    has_number-without signals 9 9 (lit≤ tt) (lit≤ tt) (lit≤ tt) (lit≤ tt) ∙ and_false (has_number signals 9)
 
 edited-control : (m : Message) (c d : TracedControl) → ControlEdit m c d
     → has_number c.traced_signals (signal_number Kill) ≡ false
@@ -205,8 +207,8 @@ edits-kept : (pid : ℕ) (p : TracedProcess) → p.ended ≡ None → (m : Messa
     → ProcessEdits m tail p y → IsKept pid p y
 edits-kept pid p live m tail y edits =
     process-edits-keep m tail (λ x. IsKept pid p x)
-        (λ x z e kept. kept-next pid p x z kept (edited-process pid x (kept.ended ∙ live) m tail z e)) p y edits
-        (kept-same pid p)
+    (λ x z e kept. kept-next pid p x z kept (edited-process pid x (kept.ended ∙ live) m tail z e)) p y edits
+    (kept-same pid p)
 
 -- ---- the system
 

@@ -40,7 +40,7 @@ use Rattle.pr_lawful.proofs.InfoLemmas.{no-infos}
 use Rattle.pr_lawful.proofs.ProgramLemmas.{program-leaves, program-small}
 use Rattle.pr_lawful.proofs.LocalLemmas.{KeepsLwp, same_sets, live-empty, Keeps, mapped_lwps}
 use Rattle.pr_lawful.proofs.MadeLemmas.{Grows, closed-grows, either-grows, ended-grows, generated-grows, handles-on, process-grows, same-grows, settled-grows, edit-grows}
-use Rattle.pr_lawful.proofs.MessageLemmas.{Makes, nothing, a_process, an_end, a_signal, makes-lawful, edit-lawful}
+use Rattle.pr_lawful.proofs.MessageLemmas.{edit-lawful}
 use Rattle.pr_lawful.proofs.ReleasedLemmas.{buried-released, ended-released, generated-released, modeless-released, process-released, settled-released, writer-released, zombie-released}
 use Rattle.pr_lawful.proofs.SystemLemmas.{joined, kept}
 use Rattle.pr_lawful.proofs.TransitionLemmas.{change_under-same}
@@ -256,7 +256,7 @@ closed-state s number h lawful there = record {
   handles =
       All-set (IsOfMade (cond (was_last_writer h (slice_set s.opens number None)) (after_last_close h.pid (live_process s.system h.pid) s.system) s.system).made) s.opens number None tt
       (handles-on s.opens s.system (with_closed h number s).system
-          (closed-grows s.system h.pid (with_closed h number s).system (close-edit s number h)) lawful.handles);
+      (closed-grows s.system h.pid (with_closed h number s).system (close-edit s number h)) lawful.handles);
   exclusive = exclusive-left s.opens number h there lawful.exclusive;
   released =
       choice (λ (t : TracedSystem). All (IsReleased (slice_set s.opens number None)) t.processes) (was_last_writer h (slice_set s.opens number None)) _ _

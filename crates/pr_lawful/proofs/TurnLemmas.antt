@@ -150,12 +150,12 @@ module _ (s : TracedSystem) (pid : ℕ) (p : TracedProcess) (id : ℕ) (l : Trac
       move-suits (takes (current_of g l.pending) true) (current-info g l.pending (own-lwp s pid p id l a).pending) refl
   kind-suits row (kind.takes_shared {g = g} none own is) =
       change-suits (takes_shared g ∷ []) (takes (current_of g p.pending) false) (tt, tt)
-          (current-info g p.pending (own-process s pid p id l a).pending) refl
+      (current-info g p.pending (own-process s pid p id l a).pending) refl
   kind-suits row (kind.interrupts {call = call} {args = args} it why) =
       move-suits (leaves call args (Error Intr)) tt refl
   kind-suits row (kind.performs {woken = woken} {call = call} {args = args} {since = since} it goes none) =
       performed-suits woken call args since (call_effect s pid p id l since call args)
-          (call-suits s pid p id l a since call args)
+      (call-suits s pid p id l a since call args)
   kind-suits row (kind.returns {call = call} at none) = returned-suits call
   kind-suits row (kind.executes at none) = executed-suits (instruction_effect p.space p.control.areas l.regs)
 

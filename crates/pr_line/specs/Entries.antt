@@ -8,25 +8,31 @@ use Rattle.pr_num.specs.Syscalls.{syscalls, syscall_number, syscall_of_name, sys
 use Rattle.pr_text.specs.Lists.{parts_of}
 use Rattle.pr_text.specs.NumberWords.{number_of}
 
--- ---- the tables: the number of the entry of a name, and that of the entry of a number
+-- ---- the number of the entry of a name, and that of the entry of a number, in any table
+
+abbrev pub number_named : {T : Type 0} → (T → ℕ) → (List ℕ → Option T) → List ℕ → Option ℕ
+number_named number of_name name = option_map number (of_name name)
+
+abbrev pub number_numbered : {T : Type 0} → (T → ℕ) → (ℕ → Option T) → ℕ → Option ℕ
+number_numbered number of_number n = option_map number (of_number n)
 
 abbrev pub signal_named : List ℕ → Option ℕ
-signal_named name = option_map signal_number (signal_of_name name)
+signal_named = number_named signal_number signal_of_name
 
 abbrev pub signal_numbered : ℕ → Option ℕ
-signal_numbered n = option_map signal_number (signal_of_number n)
+signal_numbered = number_numbered signal_number signal_of_number
 
 abbrev pub fault_named : List ℕ → Option ℕ
-fault_named name = option_map fault_number (fault_of_name name)
+fault_named = number_named fault_number fault_of_name
 
 abbrev pub fault_numbered : ℕ → Option ℕ
-fault_numbered n = option_map fault_number (fault_of_number n)
+fault_numbered = number_numbered fault_number fault_of_number
 
 abbrev pub call_named : List ℕ → Option ℕ
-call_named name = option_map syscall_number (syscall_of_name name)
+call_named = number_named syscall_number syscall_of_name
 
 abbrev pub call_numbered : ℕ → Option ℕ
-call_numbered n = option_map syscall_number (syscall_of_number n)
+call_numbered = number_numbered syscall_number syscall_of_number
 
 -- ---- lists over any table
 

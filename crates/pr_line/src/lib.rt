@@ -10,10 +10,9 @@ mod options;
 mod pids;
 mod reading;
 mod selections;
-mod sets;
 mod text_ranges;
 
-pub use entries::{Entries, named_entries};
+pub use entries::named_entries;
 pub use event_lines::event_line;
 pub use events::{Event, event_of};
 pub use faults::{OptFault, WordFault};

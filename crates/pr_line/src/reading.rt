@@ -10,7 +10,7 @@ use crate::entries::list_of;
 use crate::faults::WordFault;
 use crate::pids::pids_of;
 use crate::{OptFault, Options};
-use pr_num::{Bytes, FltSet, Handles, NoMemory, SigSet, SysSet};
+use pr_num::{Bytes, Flt, FltSet, Handles, NoMemory, Sig, SigSet, SysSet, Sysno};
 use pr_text::{Refused, name_of};
 use std::alloc::Global;
 
@@ -80,7 +80,7 @@ impl Draft {
     ) -> Result<(), Refused<WordFault>>
         ensures { Gives (λ _. self.new) result (list_taken lenient number self.old word.now ListOption.Calls) }
     {
-        match list_of::<SysSet>(alloc, word)? {
+        match list_of::<Sysno>(alloc, word)? {
             Some(set) => self.options.calls = set,
             None => pass_over(lenient, number)?,
         }
@@ -98,7 +98,7 @@ impl Draft {
     ) -> Result<(), Refused<WordFault>>
         ensures { Gives (λ _. self.new) result (list_taken lenient number self.old word.now ListOption.Signals) }
     {
-        match list_of::<SigSet>(alloc, word)? {
+        match list_of::<Sig>(alloc, word)? {
             Some(set) => self.options.signals = set,
             None => pass_over(lenient, number)?,
         }
@@ -116,7 +116,7 @@ impl Draft {
     ) -> Result<(), Refused<WordFault>>
         ensures { Gives (λ _. self.new) result (list_taken lenient number self.old word.now ListOption.Faults) }
     {
-        match list_of::<FltSet>(alloc, word)? {
+        match list_of::<Flt>(alloc, word)? {
             Some(set) => self.options.faults = set,
             None => pass_over(lenient, number)?,
         }

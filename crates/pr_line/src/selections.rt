@@ -18,10 +18,7 @@ pub fn never_returns(call: Sysno) -> bool
 fn is_birth(call: Sysno, given: Result<u64, Errno>) -> bool
     ensures { result ≡ is_birth call given }
 {
-    match call {
-        Sysno::Fork => given == Ok(0),
-        _ => false,
-    }
+    call.is_fork_call() && given == Ok(0)
 }
 
 /// Whether an event has a line: a call as it ends, or as it is entered where it never returns; each signal and each

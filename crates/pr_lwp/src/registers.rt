@@ -14,6 +14,7 @@ pub const FP: usize = 9;
 /// How many bytes a call of a subroutine stores, the old fp and pc.
 pub const FRAME: u64 = 16;
 
+/// What a register that an instruction names has, of the eleven of an lwp.
 #[tactic(auto, using(crate::proofs::RegisterLemmas::registers))]
 pub fn value(regs: &[u64; 11], r: Reg) -> u64
     ensures { result ≡ in_register r regs.now }

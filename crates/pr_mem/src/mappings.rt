@@ -127,7 +127,7 @@ pub fn put(mappings: &mut Vec<Mapping>, place: usize, mapping: Mapping) -> Resul
     Ok(())
 }
 
-/// Lets a mapping allow something else.
+/// Lets a whole mapping allow this, in place of what it allowed (mprotect(2)). Takes no memory.
 #[tactic(auto, unfolding(pr_parts::specs::AddressSpaces::with_prot))]
 pub fn set_prot(mapping: &mut Mapping, prot: Prot)
     ensures { mapping.new ≡ with_prot prot mapping.old }

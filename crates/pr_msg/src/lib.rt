@@ -4,9 +4,7 @@
 mod decoding;
 mod encoding;
 mod paddings;
-mod run_flags;
 
 pub use decoding::{decode_one, tail_length};
 pub use encoding::encode;
-pub use pr_num::{Message, MsgFault};
-pub use run_flags::{RunFlags, words_of_run_flags};
+pub use pr_num::{Message, MsgFault, RunFlags};

@@ -88,18 +88,21 @@ impl<T> ById<T> {
         let _ = &self.items;
     }
 
+    /// How many ids stand.
     pub fn len(&self) -> usize
         ensures { result ≡ length self.now }
     {
         self.items.len()
     }
 
+    /// Whether no id stands.
     pub fn is_empty(&self) -> bool
         ensures { result ≡ (length self.now == 0) }
     {
         self.items.len() == 0
     }
 
+    /// The ids, each with its thing, by rising id.
     pub fn as_slice(&self) -> &[(u32, T)]
         ensures pairs { result.now ≡ self.now }
         ensures rising { IsRising self.now }
@@ -107,6 +110,7 @@ impl<T> ById<T> {
         &self.items
     }
 
+    /// Goes over the ids, each with its thing, by rising id.
     pub fn iter(&self) -> Iter<'_, (u32, T)>
         ensures rest { iter_rest result ≡ self.now }
         ensures len { length (iter_rest result) ≡ length self.now }
@@ -131,12 +135,14 @@ impl<T> ById<T> {
         Some(&entry.1)
     }
 
+    /// Whether an id stands.
     pub fn contains(&self, id: u32) -> bool
         ensures { result ≡ is_some (under id self.now) }
     {
         self.get(id).is_some()
     }
 
+    /// Whether the id of a whole word stands, as in `get_u64`.
     pub fn contains_u64(&self, id: u64) -> bool
         ensures { result ≡ is_some (under id self.now) }
     {

@@ -44,6 +44,7 @@ impl FdKind {
         }
     }
 
+    /// The number of the kind in a record of descriptors.
     pub fn number(self) -> u64
         ensures { result ≡ fd_kind_number self }
     {
@@ -60,6 +61,7 @@ pub enum Access {
 }
 
 impl Access {
+    /// The number of the access: 0 to read, 1 to write, 2 for both (open(2)).
     pub fn number(self) -> u64
         ensures { result ≡ access_number self }
     {

@@ -88,6 +88,7 @@ impl<B: FlagBits> KnownFlags<B> {
         }
     }
 
+    /// The word of the flags, below the lowest bit that is none.
     pub fn word(self) -> u64
         ensures value { result ≡ self }
         ensures range { result < 2 ^ B.width }
@@ -95,6 +96,7 @@ impl<B: FlagBits> KnownFlags<B> {
         self.word
     }
 
+    /// Whether no flag is set.
     pub fn is_empty(self) -> bool
         ensures { result ≡ (self == 0) }
     {

@@ -47,6 +47,7 @@ impl Name {
         })
     }
 
+    /// The bytes of the name, 1 to 31.
     pub fn as_slice(&self) -> &[u8]
         ensures bytes { result.now ≡ self.now }
         ensures length { (1 ≤ length result.now) × (length result.now ≤ name_limit) }

@@ -97,6 +97,7 @@ impl<T: Numbered> SetOf<T> {
         }
     }
 
+    /// The word of the set: bit n - 1 for the entry of number n.
     pub fn word(self) -> u64
         ensures value { result ≡ self }
         ensures range { result < 2 ^ T.COUNT }
@@ -104,12 +105,14 @@ impl<T: Numbered> SetOf<T> {
         self.word
     }
 
+    /// Whether no entry is in the set.
     pub fn is_empty(self) -> bool
         ensures { result ≡ (self == 0) }
     {
         self.word == 0
     }
 
+    /// Whether an entry is in the set.
     pub fn has(self, entry: T) -> bool
         ensures { result ≡ has_number self (T.number_of entry) }
     {
@@ -126,6 +129,7 @@ impl<T: Numbered> SetOf<T> {
         (self.word >> (n - 1)) & 1 == 1
     }
 
+    /// The set with an entry, which may be in it already.
     #[tactic(auto, unfolding(crate::specs::Sets::with_number))]
     pub fn with(self, entry: T) -> SetOf<T>
         ensures { result ≡ with_number self (T.number_of entry) }
@@ -133,6 +137,7 @@ impl<T: Numbered> SetOf<T> {
         self.union(SetOf::one(entry))
     }
 
+    /// The set without an entry, which need not be in it.
     #[tactic(auto, unfolding(crate::specs::Sets::without_number))]
     pub fn without(self, entry: T) -> SetOf<T>
         ensures { result ≡ without_number self (T.number_of entry) }

@@ -19,7 +19,8 @@ pub fn append(out: &mut Vec<u8>, bytes: &[u8]) -> Result<(), AllocError>
     out.extend_from_slice(bytes)
 }
 
-/// Writes a word.
+/// Adds a word to a line of which something stands: a blank, and its bytes. Where memory runs out, what was added stays
+/// (`kept`), and the line is of no use.
 #[tactic(auto, using(crate::proofs::BufferLemmas::kept), unfolding(pr_text::specs::SpacedWords::behind_blank))]
 pub fn write_word(out: &mut Vec<u8>, word: &[u8]) -> Result<(), AllocError>
     ensures all { OnOk result (out.new.items ≡ out.old.items ++ spaced (word.now ∷ [])) }

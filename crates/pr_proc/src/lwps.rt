@@ -85,8 +85,8 @@ fn set_suspended(lwp: &mut Lwp, suspended: bool)
 pub fn suspend(process: &mut Proc, id: u32, suspended: bool)
     ensures { process.new ≡ with_lwp id (with_suspended suspended) process.old }
 {
-    if process.lwps.contains(id) {
-        set_suspended(process.lwps.get_mut(id), suspended);
+    if let Some(lwp) = process.lwps.find_mut(id) {
+        set_suspended(lwp, suspended);
     }
 }
 

@@ -56,17 +56,23 @@ impl Programs {
     }
 
     /// The place of the first program of this name.
-    #[tactic(auto, using(crate::proofs::ProgramLemmas::naming))]
     fn place_named(&self, name: &[u8]) -> Option<u32>
         ensures place { result ≡ position (is_program_of name.now) self.now }
         ensures within { IfSome result (λ place. place < length self.now) }
     {
-        let place = self
-            .programs
-            .iter()
-            .position(|program| program.name().as_slice() == name)?;
+        let place = first_named(&self.programs, name)?;
         Some(place as u32)
     }
+}
+
+#[tactic(auto, using(crate::proofs::ProgramLemmas::naming))]
+fn first_named(programs: &[Program], name: &[u8]) -> Option<usize>
+    ensures place { result ≡ position (is_program_of name.now) programs.now }
+    ensures within { IfSome result (λ place. place < length programs.now) }
+{
+    programs
+        .iter()
+        .position(|program| program.name().as_slice() == name)
 }
 
 /// The place of the first program of this name.

@@ -83,8 +83,8 @@ fn add_under(lwps: &mut ById<Lwp>, id: u32, s: Sig, info: Info)
     requires { IsTrue (has_room_in id s lwps.old) }
     ensures { lwps.new ≡ change_under id (lwp_with_pending s info) lwps.old }
 {
-    if lwps.contains(id) {
-        add_to(lwps.get_mut(id), s, info);
+    if let Some(lwp) = lwps.find_mut(id) {
+        add_to(lwp, s, info);
     }
 }
 

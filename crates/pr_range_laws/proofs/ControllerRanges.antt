@@ -80,7 +80,7 @@ edited-range s by c t (edit.closes {handle = handle} {held = held} at) all h =
     closed-range s.system held.pid (with_closed held handle s).system (close-edit s handle held) h
 edited-range s by c t (edit.controls {bytes = bytes} {held = held} {p = p} {m = m} {t = u} it e) all h =
     edit-range s.system held.pid p m (tail_of m bytes) u e (found-live s.system held.pid p it.live).0
-        (read-message bytes m it.length all it.read) h
+    (read-message bytes m it.length all it.read) h
 edited-range s by c t edit.sees_interrupt all h = h
 edited-range s by c t (edit.interrupts there) all h = h
 edited-range s by c t (edit.spawns {name = name} {held = held} {program = program} named grants) all h =

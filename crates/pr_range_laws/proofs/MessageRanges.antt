@@ -33,6 +33,9 @@ use Rattle.pr_keeps.specs.ProcessEdits as process
 use Rattle.pr_keeps.specs.ProcessEdits.{ControlEdit, ProcessEdit}
 use Rattle.pr_keeps.proofs.KeepsLemmas.{lwp-edits-keep, process-edits-keep}
 use Rattle.pr_model.specs.Readers.{space_seen}
+use Rattle.pr_model.specs.Messages.{lwp_without_one, with_held_set, with_registers, with_address, tracing_signals, tracing_faults, tracing_entries, tracing_exits, with_modes, without_modes, with_areas, agent_lwp, with_agent}
+use Rattle.pr_model.specs.Running.{without_current, without_fault, with_step, with_abort, with_directive, without_directive, let_go}
+use Rattle.pr_model.specs.State.{TracedControl, TracedLwp, TracedProcess, TracedSystem, process_of}
 use Rattle.pr_model.specs.declared.lwps.Phase.{Phase}
 use Rattle.pr_model.specs.declared.lwps.Phase.TheVariants.{User, Entered, Asleep, Exiting, Faulted}
 use Rattle.pr_range_laws.proofs.CallRanges.{holdable-set}
@@ -166,8 +169,15 @@ unfolding tracing_signals tracing_faults tracing_entries tracing_exits with_mode
     operands bad_operand
 edited-control m tail c d (process.signals {set = set}) it h =
     let few = below-column set (2 ^ signal_count) 1 it.columns in
-    record { signals = let less = without_number-le set (signal_number Kill) in omega arith; faults = h.faults;
-        entries = h.entries; exits = h.exits; modes = h.modes; areas = h.areas; few_areas = h.few_areas }
+    record {
+      signals = let less = without_number-le set (signal_number Kill) in omega arith;
+      faults = h.faults;
+      entries = h.entries;
+      exits = h.exits;
+      modes = h.modes;
+      areas = h.areas;
+      few_areas = h.few_areas;
+    }
 edited-control m tail c d (process.faults {set = set}) it h = record {
   signals = h.signals;
   faults = below-column set (2 ^ fault_count) 1 it.columns;
@@ -221,8 +231,8 @@ edited-control m tail c d (process.watches {at = at} {size = size} {flags = flag
     let is_at = All-head IsWord at (size ∷ flags ∷ []) it.words in
     let is_size = All-head IsWord size (flags ∷ []) (All-tail IsWord at (size ∷ flags ∷ []) it.words) in
     areas-keep (with_area a c.areas) c
-        (All-placed IsAreaInRange area_address a c.areas
-        (record { at = is_at; size = is_size; flags = area-flags at size flags some it.columns }) h.areas)
+    (All-placed IsAreaInRange area_address a c.areas
+    (record { at = is_at; size = is_size; flags = area-flags at size flags some it.columns }) h.areas)
     (let more = length-placed area_address a c.areas in omega arith) h
 
 -- ---- processes
@@ -246,10 +256,10 @@ edited-process m tail x y (process.takes_back {g = g} is) it h =
     pending-kept x (without_one g x.pending) (taken-words g x.pending h.pending) h
 edited-process m tail x y (process.gets_agent {regs = regs} none room) it h =
     keeps-more agent_id (agent_lwp regs) x
-        (new_lwp-range regs _ _ (record { words = it.words; count = it.count })
-        (holdable-set all_signals (omega arith))) h
+    (new_lwp-range regs _ _ (record { words = it.words; count = it.count })
+    (holdable-set all_signals (omega arith))) h
 edited-process m tail x y (process.is_written {at = at} mapped) it h =
-    space-keeps (with_bytes at tail (space_seen x)) (with_bytes-range at tail it.tail_bytes x.space h.space) x h
+    space-keeps (with_bytes at tail x.space) (with_bytes-range at tail it.tail_bytes x.space h.space) x h
 
 -- ---- the system
 

@@ -214,8 +214,8 @@ module _ (s : TracedSystem) (pid : ℕ) (p : TracedProcess) (id : ℕ) (l : Trac
   unfolding disposition_of
   catcher-range c handler is =
       subst IsActionInRange is
-          (action-range c.signal _
-          (word_at p.dispositions (signal_number c.signal - 1) (acting-process s pid p id l a h).dispositions.words))
+      (action-range c.signal _
+      (word_at p.dispositions (signal_number c.signal - 1) (acting-process s pid p id l a h).dispositions.words))
 
   in_call-arguments : (woken : Bool) (call : Sysno) (args : List ℕ) (since : ℕ) → IsInCall s l woken call args since
       → AreArguments args
@@ -250,17 +250,17 @@ module _ (s : TracedSystem) (pid : ℕ) (p : TracedProcess) (id : ℕ) (l : Trac
       moves (move.takes (current_of g l.pending) true) (current-word g l.pending (acting-lwp s pid p id l a h).pending)
   kind-range row (kind.takes_shared {g = g} none own is) =
       changes (takes_shared g ∷ []) (move.takes (current_of g p.pending) false) (one (takes_shared g) tt)
-          (current-word g p.pending (acting-process s pid p id l a h).pending)
+      (current-word g p.pending (acting-process s pid p id l a h).pending)
   kind-range row (kind.interrupts {woken = woken} {call = call} {args = args} {since = since} it why) =
       moves (move.leaves call args (Error Intr)) (in_call-arguments woken call args since it, tt)
   kind-range row (kind.performs {woken = woken} {call = call} {args = args} {since = since} it goes none) =
       let given = in_call-arguments woken call args since it in
       performed-range woken call args since (call_effect s pid p id l since call args) given
-          (call-range s pid p id l a h since call args given)
+      (call-range s pid p id l a h since call args given)
   kind-range row (kind.returns {call = call} at none) = returned-range call
   kind-range row (kind.executes at none) =
       executed-range (instruction_effect p.space p.control.areas l.regs)
-          (instruction-range p.space p.control.areas (acting-process s pid p id l a h).space.mappings l.regs own-regs)
+      (instruction-range p.space p.control.areas (acting-process s pid p id l a h).space.mappings l.regs own-regs)
 
   pub row-range : IsTransitionInRange (row_for s pid p id l).transition
   row-range = kind-range (row_for s pid p id l) (row-kind s pid p id l)

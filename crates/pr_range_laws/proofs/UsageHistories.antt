@@ -37,7 +37,6 @@ use Rattle.pr_model.specs.declared.events.Did.TheVariants.{Made, Woke, Took, Fau
 use Rattle.pr_model.specs.declared.events.Entry.{Entry}
 use Rattle.pr_num.specs.declared.files.StoredFile.{StoredFile}
 use Rattle.pr_rec.specs.InRange.{IsUsage}
-use Rattle.pr_model.specs.SignalCalls.{sends}
 use Rattle.pr_model.specs.State.{TracedLwp, TracedProcess, TracedState, TracedSystem, process_of, with_lwp, with_lwp_of, with_process}
 use Rattle.pr_model.specs.declared.calls.Call.{Call}
 use Rattle.pr_range_laws.proofs.CallRanges.{process-id}

@@ -26,7 +26,9 @@ pub edit-used : (most : ℕ) (s : TracedSystem) (pid : ℕ) (p : TracedProcess) 
 unfolding with_process
 edit-used most s pid p m tail t nothing found h = h
 edit-used most s pid p m tail t (a_process f edits) found h =
-    record { processes = all-replaced (UsedWithin most) pid f p s.processes found
-        (λ it. subst (IsUsedWithin most) (sym (edits-usage m tail p (f p) edits)) it) h.processes }
+    record {
+      processes = all-replaced (UsedWithin most) pid f p s.processes found
+          (λ it. subst (IsUsedWithin most) (sym (edits-usage m tail p (f p) edits)) it) h.processes;
+    }
 edit-used most s pid p m tail t an_end found h = this_ended-used most s pid p (signal_number Kill) h
 edit-used most s pid p m tail t (a_signal target g is room) found h = generated-used most s pid target g by_controller h

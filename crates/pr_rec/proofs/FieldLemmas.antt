@@ -1,10 +1,10 @@
 -- A field of a record and its word are found by each other.
-use Rattle.std.proofs.Common.{◌+◌, ◌≡◌, ◌↔◌, ◌^◌, ◌<◌, ◌≤◌, ℕ, zero, suc, Bool, true, false, cond, eqb, leb, ◌||◌, inl, inr, List, [], ◌∷◌, Option, None, Some, IsSome, is_some, IsTrue, refl, sym, ap, ◌∙◌, arith}
-use Rattle.std.specs.List.{find, list_any, slice_get}
+use Rattle.std.proofs.Common.{length, ◌+◌, ◌≡◌, ◌↔◌, ◌^◌, ◌<◌, ◌≤◌, ℕ, zero, suc, Bool, true, false, eqb, leb, inl, inr, List, [], ◌∷◌, Option, None, Some, IsSome, is_some, IsTrue, refl, sym, ap, ◌∙◌, arith}
+use Rattle.std.specs.List.{list_any, slice_get}
 use Rattle.std.proofs.lemmas.Option.{same_Some}
 use Rattle.std.proofs.lemmas.Bool.{eqb-true, false≢true, or_cases, and_parts, leb-true}
 use Rattle.pr_num.specs.Limits.{signal_count, syscall_count, fault_count}
-use Rattle.pr_num.specs.Tables.{entry_at}
+use Rattle.pr_num.specs.Tables.{entry_at, counts_from}
 use Rattle.pr_num.specs.Records.{an_errno, a_mapping_kind}
 use Rattle.pr_num.specs.Spaces.{kind_number}
 use Rattle.pr_num.specs.declared.mappings.MappingKind.{MappingKind}
@@ -20,10 +20,11 @@ use Rattle.pr_num.specs.declared.syscalls.Sysno.{Sysno}
 use Rattle.pr_num.specs.declared.errnos.Errno.{Errno}
 use Rattle.pr_num.specs.declared.errnos.Errno.TheVariants.{Perm}
 use Rattle.pr_num.specs.declared.stop_reasons.StopReason.{StopReason}
-use Rattle.pr_num.proofs.EntryLemmas.{signal_of_number-number, signal_number-of_number, signal_numbers-range, fault_of_number-number, fault_number-of_number, fault_numbers-range, syscall_of_number-number, syscall_number-of_number, syscall_numbers-range, errno_of_number-number, errno_number-of_number, reason_of_number-number, reason_number-of_number, reason_numbers-range}
+use Rattle.pr_num.proofs.EntryLemmas.{signal_of_number-number, signal_numbers-range, fault_of_number-number, fault_numbers-range, syscall_of_number-number, syscall_numbers-range, errno_of_number-number, errno_number-of_number, reason_of_number-number, reason_number-of_number, reason_numbers-range}
 use Rattle.pr_rec.specs.Fields.{number_or_zero, truth_word, disposition_number, disposition_of}
 use Rattle.pr_rec.specs.declared.lwps.Disposition.{Disposition}
 use Rattle.pr_rec.specs.declared.lwps.Disposition.TheVariants.{Default, Ignored, Caught}
+use Rattle.pr_num.proofs.NumberedLemmas.{number-entry_at, IsSome-entry_at}
 use Rattle.pr_num.proofs.SearchLemmas.{list_any-find_none}
 
 -- ---- the entry of a number
@@ -37,14 +38,9 @@ none_where_zero : {T : Type 0} (o : Option T) (w most : ℕ) → (IsSome o ↔ (
 none_where_zero o zero most range small e = refl
 none_where_zero o (suc w) most range small e = absurd (false≢true (sym (ap is_some e) ∙ range.1 (omega arith, omega arith)))
 
-pub signal_back : (w : ℕ) → w < signal_count + 1 → number_or_zero signal_number (signal_of_number w) ≡ w
-signal_back w small = number-back signal_number (signal_of_number w) w (signal_number-of_number w) (none_where_zero _ w signal_count (signal_numbers-range w) small)
-
-pub fault_back : (w : ℕ) → w < fault_count + 1 → number_or_zero fault_number (fault_of_number w) ≡ w
-fault_back w small = number-back fault_number (fault_of_number w) w (fault_number-of_number w) (none_where_zero _ w fault_count (fault_numbers-range w) small)
-
-pub call_back : (w : ℕ) → w < syscall_count + 1 → number_or_zero syscall_number (syscall_of_number w) ≡ w
-call_back w small = number-back syscall_number (syscall_of_number w) w (syscall_number-of_number w) (none_where_zero _ w syscall_count (syscall_numbers-range w) small)
+pub entry_back : {T : Type 0} (number : T → ℕ) (xs : List T) (count : ℕ) → counts_from number 1 xs ≡ true → length xs ≡ count → (o : Option T) (w : ℕ) → o ≡ entry_at xs w → w < count + 1 → number_or_zero number o ≡ w
+entry_back number xs count counted whole o w is small =
+    number-back number o w (λ x e. number-entry_at number xs counted w x (sym is ∙ e)) (none_where_zero o w (length xs) (rw is (IsSome-entry_at xs w)) (omega arith))
 
 pub reason_back : (w : ℕ) → w < 8 → number_or_zero reason_number (entry_at stop_reasons w) ≡ w
 reason_back w small = number-back reason_number (entry_at stop_reasons w) w (reason_number-of_number w) (none_where_zero _ w 7 (reason_numbers-range w) small)
@@ -206,4 +202,4 @@ disposition_of-back (suc zero) small = refl
 disposition_of-back (suc (suc zero)) small = refl
 disposition_of-back (suc (suc (suc w))) small = absurd (omega arith)
 
-pub ruleset numbers_back = (signal_back, fault_back, call_back, reason_back, errno_back, disposition_of-back)
+pub ruleset numbers_back = (reason_back, errno_back, disposition_of-back)

@@ -1,7 +1,6 @@
 pub mod EncodingLemmas
 pub mod EntryLemmas
 pub mod FieldLemmas
-pub mod FlagBounds
 pub mod ListEntryLemmas
 pub mod LwpStatusLemmas
 pub mod MapEntryLemmas

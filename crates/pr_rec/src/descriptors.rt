@@ -48,6 +48,7 @@ impl Descriptor {
         }
     }
 
+    /// The number of the descriptor, as a program knows it.
     pub fn number(self) -> u32
         ensures value { result ≡ self }
         ensures range { result < descriptor_limit }

@@ -4,9 +4,6 @@ ghost use Rattle.std.specs.List.{All};
 ghost use Rattle.pr_num.specs.Limits.{signal_count, syscall_count, fault_count};
 ghost use Rattle.pr_num.specs.Words.{IsByte};
 ghost use Rattle.pr_num.specs.Records.{an_errno};
-ghost use Rattle.pr_num.specs.Signals.{signal_number};
-ghost use Rattle.pr_num.specs.Faults.{fault_number};
-ghost use Rattle.pr_num.specs.Syscalls.{syscall_number};
 ghost use Rattle.pr_num.specs.Errnos.{errno_number};
 ghost use Rattle.pr_num.specs.StopReasons.{reason_number};
 ghost use Rattle.pr_num.specs.Spaces.{kind_number};
@@ -14,68 +11,31 @@ ghost use Rattle.pr_rec.specs.InRange.{IsNameField};
 ghost use Rattle.pr_rec.specs.Fields.{number_or_zero, truth_word, front_words, disposition_number};
 
 use crate::columns::fill;
-use crate::{Disposition, LwpFlags, ProcessFlags, What};
+use crate::{Disposition, What};
 use pr_codec::put_words;
-use pr_num::{Errno, Flt, FltSet, MappingKind, Prot, Sig, SigSet, StopReason, SysSet, Sysno};
+use pr_num::{Errno, MappingKind, Numbered, StopReason};
 
-pub(crate) fn signal_word(signal: Option<Sig>) -> u64
-    ensures { result ≡ number_or_zero signal_number signal }
+/// The number of the entry of a table, 0 for none.
+pub(crate) fn word_of<T: Numbered>(entry: Option<T>) -> u64
+    ensures { result ≡ number_or_zero T.number_of entry }
 {
-    match signal {
-        None => 0,
-        Some(signal) => signal.number(),
-    }
+    entry.map_or(0, |entry| entry.number())
 }
 
-#[tactic(auto, using(crate::proofs::FieldLemmas::numbers_back))]
-pub(crate) fn signal_of(word: u64) -> Option<Sig>
-    requires { word < signal_count + 1 }
-    ensures { number_or_zero signal_number result ≡ word }
+/// The entry of a number, none for 0.
+pub(crate) fn entry_of<T: Numbered>(word: u64) -> Option<T>
+    requires { word < T.COUNT + 1 }
+    ensures { number_or_zero T.number_of result ≡ word }
 {
-    Sig::from_number(word)
-}
-
-pub(crate) fn fault_word(fault: Option<Flt>) -> u64
-    ensures { result ≡ number_or_zero fault_number fault }
-{
-    match fault {
-        None => 0,
-        Some(fault) => fault.number(),
-    }
-}
-
-#[tactic(auto, using(crate::proofs::FieldLemmas::numbers_back))]
-pub(crate) fn fault_of(word: u64) -> Option<Flt>
-    requires { word < fault_count + 1 }
-    ensures { number_or_zero fault_number result ≡ word }
-{
-    Flt::from_number(word)
-}
-
-pub(crate) fn call_word(call: Option<Sysno>) -> u64
-    ensures { result ≡ number_or_zero syscall_number call }
-{
-    match call {
-        None => 0,
-        Some(call) => call.number(),
-    }
-}
-
-#[tactic(auto, using(crate::proofs::FieldLemmas::numbers_back))]
-pub(crate) fn call_of(word: u64) -> Option<Sysno>
-    requires { word < syscall_count + 1 }
-    ensures { number_or_zero syscall_number result ≡ word }
-{
-    Sysno::from_number(word)
+    // the call tells that their numbers count up
+    let _ = T::entries();
+    T::from_number(word)
 }
 
 pub(crate) fn reason_word(reason: Option<StopReason>) -> u64
     ensures { result ≡ number_or_zero reason_number reason }
 {
-    match reason {
-        None => 0,
-        Some(reason) => reason.number(),
-    }
+    reason.map_or(0, StopReason::number)
 }
 
 #[tactic(auto, using(crate::proofs::FieldLemmas::numbers_back))]
@@ -89,10 +49,7 @@ pub(crate) fn reason_of(word: u64) -> Option<StopReason>
 pub(crate) fn errno_word(errno: Option<Errno>) -> u64
     ensures { result ≡ number_or_zero errno_number errno }
 {
-    match errno {
-        None => 0,
-        Some(errno) => errno.number(),
-    }
+    errno.map_or(0, Errno::number)
 }
 
 #[tactic(auto, using(crate::proofs::FieldLemmas::numbers_back))]
@@ -101,66 +58,6 @@ pub(crate) fn errno_of(word: u64) -> Option<Errno>
     ensures { number_or_zero errno_number result ≡ word }
 {
     Errno::from_number(word)
-}
-
-pub(crate) fn signals_of(word: u64) -> SigSet
-    requires { word < 2 ^ signal_count }
-    ensures { result ≡ word }
-{
-    let Some(signals) = SigSet::from_word(word) else {
-        unreachable!()
-    };
-    signals
-}
-
-pub(crate) fn faults_of(word: u64) -> FltSet
-    requires { word < 2 ^ fault_count }
-    ensures { result ≡ word }
-{
-    let Some(faults) = FltSet::from_word(word) else {
-        unreachable!()
-    };
-    faults
-}
-
-pub(crate) fn calls_of(word: u64) -> SysSet
-    requires { word < 2 ^ syscall_count }
-    ensures { result ≡ word }
-{
-    let Some(calls) = SysSet::from_word(word) else {
-        unreachable!()
-    };
-    calls
-}
-
-pub(crate) fn protection_of(word: u64) -> Prot
-    requires { word < 8 }
-    ensures { result ≡ word }
-{
-    let Some(protection) = Prot::from_word(word) else {
-        unreachable!()
-    };
-    protection
-}
-
-pub(crate) fn process_flags_of(word: u64) -> ProcessFlags
-    requires { word < 2 ^ 5 }
-    ensures { result ≡ word }
-{
-    let Some(flags) = ProcessFlags::from_word(word) else {
-        unreachable!()
-    };
-    flags
-}
-
-pub(crate) fn lwp_flags_of(word: u64) -> LwpFlags
-    requires { word < 2 ^ 6 }
-    ensures { result ≡ word }
-{
-    let Some(flags) = LwpFlags::from_word(word) else {
-        unreachable!()
-    };
-    flags
 }
 
 pub(crate) fn what_of(word: u64) -> What

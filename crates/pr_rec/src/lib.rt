@@ -29,11 +29,12 @@ pub use laws::{
 pub use lists::{
     SIGACT_SIZE, encode_sigact, write_fds, write_list, write_lstatus, write_map, write_watch,
 };
-pub use lwp_flags::{LwpFlags, LwpMarks, words_of_lwp_flags};
+pub use lwp_flags::LwpMarks;
 pub use lwps::{Disposition, LwpStatus};
 pub use mappings::MapEntry;
 pub use names::name_field;
-pub use process_flags::{ProcessFlags, words_of_process_flags};
+pub use pr_num::{LwpFlags, ProcessFlags};
+pub use process_flags::flags_of_process;
 pub use processes::Psinfo;
 pub use statuses::Status;
 pub use upgrades::upgrade;

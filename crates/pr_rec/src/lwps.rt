@@ -11,8 +11,8 @@ ghost use Rattle.pr_rec.specs.declared.lwps.LwpStatus.{LwpStatus as Decoded};
 
 use crate::columns::{Column, put_record, read_record};
 use crate::fields::{
-    call_of, call_word, disposition_of, disposition_word, errno_of, errno_word, fault_of,
-    fault_word, lwp_flags_of, reason_of, reason_word, signal_of, signal_word, signals_of, what_of,
+    disposition_of, disposition_word, entry_of, errno_of, errno_word, reason_of, reason_word,
+    what_of, word_of,
 };
 use crate::{LwpFlags, RecFault, What};
 use pr_codec::WORD;
@@ -199,10 +199,10 @@ impl LwpStatus {
             u64::from(self.id),
             reason_word(self.why),
             self.what.number(),
-            signal_word(self.signal),
-            fault_word(self.fault),
+            word_of(self.signal),
+            word_of(self.fault),
             self.fault_address,
-            call_word(self.call),
+            word_of(self.call),
             arguments[0],
             arguments[1],
             arguments[2],
@@ -237,21 +237,21 @@ impl LwpStatus {
         ensures sizes { HasArraySizes result }
     {
         LwpStatus {
-            flags: lwp_flags_of(words[0]),
+            flags: LwpFlags::of_word(words[0]),
             id: words[1] as u32,
             why: reason_of(words[2]),
             what: what_of(words[3]),
-            signal: signal_of(words[4]),
-            fault: fault_of(words[5]),
+            signal: entry_of(words[4]),
+            fault: entry_of(words[5]),
             fault_address: words[6],
-            call: call_of(words[7]),
+            call: entry_of(words[7]),
             arguments: [
                 words[8], words[9], words[10], words[11], words[12], words[13],
             ],
             result: words[14],
             errno: errno_of(words[15]),
-            held: signals_of(words[16]),
-            pending: signals_of(words[17]),
+            held: SigSet::of_word(words[16]),
+            pending: SigSet::of_word(words[17]),
             regs: [
                 words[18], words[19], words[20], words[21], words[22], words[23], words[24],
                 words[25], words[26], words[27], words[28],

@@ -8,7 +8,7 @@ ghost use Rattle.pr_rec.specs.declared.mappings.MapEntry.{MapEntry as Decoded};
 
 use crate::RecFault;
 use crate::columns::{Column, put_record, read_record};
-use crate::fields::{kind_of, name_of, name_words, protection_of};
+use crate::fields::{kind_of, name_of, name_words};
 use pr_num::{MappingKind, Prot};
 
 /// A mapping of an address space (proc(4), "map").
@@ -97,7 +97,7 @@ impl MapEntry {
         MapEntry {
             at: words[0],
             size: words[1],
-            prot: protection_of(words[2]),
+            prot: Prot::of_word(words[2]),
             kind: kind_of(words[3]),
             name: name_of(&[words[4], words[5], words[6], words[7]]),
         }

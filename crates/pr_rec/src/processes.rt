@@ -9,7 +9,7 @@ ghost use Rattle.pr_rec.specs.declared.processes.Psinfo.{Psinfo as Decoded};
 
 use crate::RecFault;
 use crate::columns::{Column, put_record, read_record};
-use crate::fields::{name_of, name_words, signal_of, signal_word, truth_of};
+use crate::fields::{entry_of, name_of, name_words, truth_of, word_of};
 use pr_num::Sig;
 
 /// What ps(1) shows of a process (proc(4), "psinfo").
@@ -98,7 +98,7 @@ impl Psinfo {
             self.wait_status,
             self.mapped,
             self.made_at,
-            signal_word(self.job_stop),
+            word_of(self.job_stop),
             program[0],
             program[1],
             program[2],
@@ -122,7 +122,7 @@ impl Psinfo {
             wait_status: words[4],
             mapped: words[5],
             made_at: words[6],
-            job_stop: signal_of(words[7]),
+            job_stop: entry_of(words[7]),
             program: name_of(&[words[8], words[9], words[10], words[11]]),
         }
     }

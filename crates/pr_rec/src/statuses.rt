@@ -9,7 +9,6 @@ ghost use Rattle.pr_rec.specs.RecordWords.{status_words_of, own_words_of};
 ghost use Rattle.pr_rec.specs.declared.statuses.Status.{Status as Decoded};
 
 use crate::columns::{Column, put_two, read_record};
-use crate::fields::{calls_of, faults_of, process_flags_of, signals_of};
 use crate::{LwpStatus, ProcessFlags, RecFault, lwps};
 use pr_num::{FltSet, SigSet, SysSet};
 
@@ -149,15 +148,15 @@ impl Status {
         ensures sizes { HasArraySizes result.lwp }
     {
         Status {
-            flags: process_flags_of(words[0]),
+            flags: ProcessFlags::of_word(words[0]),
             id: words[1] as u32,
             parent: words[2] as u32,
             lwps: words[3],
-            pending: signals_of(words[4]),
-            traced_signals: signals_of(words[5]),
-            traced_faults: faults_of(words[6]),
-            traced_entries: calls_of(words[7]),
-            traced_exits: calls_of(words[8]),
+            pending: SigSet::of_word(words[4]),
+            traced_signals: SigSet::of_word(words[5]),
+            traced_faults: FltSet::of_word(words[6]),
+            traced_entries: SysSet::of_word(words[7]),
+            traced_exits: SysSet::of_word(words[8]),
             heap_base: words[9],
             heap_size: words[10],
             agent: words[11] as u32,

@@ -76,6 +76,7 @@ impl What {
         }
     }
 
+    /// The number: of a signal, a fault or a system call, after the reason of the stop, or 0 for nothing.
     pub fn number(self) -> u64
         ensures value { result ≡ self }
         ensures range { result < signal_count + 1 }

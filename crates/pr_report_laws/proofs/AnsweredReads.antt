@@ -93,16 +93,12 @@ module _ (t : TrussState) (handle from len : ℕ) where
   child-reads : (u : Traced) (step : ChildStep) → Made (Some (child_call u step)) → Reads t handle
   unfolding child_call
   child-reads u child.SetRelease made = cc
-  child-reads u child.OpenStatus made = cc
-  child-reads u child.OpenLstatus made = cc
-  child-reads u child.OpenMemory made = cc
-  child-reads u child.Start made = cc
+  child-reads u _ made = cc
 
   freeing-reads : (pid : ℕ) (step : FreeingStep) → Made (Some (freeing_call pid step)) → Reads t handle
   unfolding freeing_call
   freeing-reads pid freeing.OpenControl made = cc
-  freeing-reads pid (freeing.SetRelease control) made = cc
-  freeing-reads pid (freeing.Close control) made = cc
+  freeing-reads pid _ made = cc
 
   stage-reads : (stage : Stage) → t.stage ≡ stage → Made (call_of t stage) → Reads t handle
   unfolding call_of

@@ -25,7 +25,7 @@ use Rattle.pr_truss.specs.declared.stages.ChildStep.TheVariants as child
 use Rattle.pr_truss.specs.declared.stages.FreeingStep.TheVariants as freeing
 use Rattle.pr_truss.specs.declared.stages.OpeningStep.TheVariants as opening
 use Rattle.pr_truss.specs.declared.stages.Stage.{Stage}
-use Rattle.pr_truss.specs.declared.stages.Stage.TheVariants.{Spawning, OpeningControl, Opening, Polling, ReadingStatus, ReadingText, OpeningChildControl, OpeningChild, Running, Closing, Unfollowing, ReadingLwps, FreeingChild, Finished}
+use Rattle.pr_truss.specs.declared.stages.Stage.TheVariants.{OpeningControl, OpeningChildControl, FreeingChild, Finished}
 use Rattle.pr_truss_laws.proofs.AnswerLemmas.{IsAnswer, answer-is}
 use Rattle.pr_truss_laws.proofs.ClosesLemmas.{after-fits, first-fits}
 use Rattle.pr_truss_laws.proofs.HeldLemmas.{Fits}
@@ -46,19 +46,7 @@ use Rattle.pr_report_laws.specs.Watching.{watches}
 none-finished : (t : TrussState) (stage : Stage) → call_of t stage ≡ None → stage ≡ Finished
 unfolding call_of
 none-finished t Finished none = refl
-none-finished t (Spawning program) none = cc
-none-finished t (OpeningControl pid) none = cc
-none-finished t (Opening place _) none = cc
-none-finished t Polling none = cc
-none-finished t (ReadingStatus place) none = cc
-none-finished t (ReadingText place l from len) none = cc
-none-finished t (OpeningChildControl parent pid) none = cc
-none-finished t (OpeningChild parent place step) none = cc
-none-finished t (Running place) none = cc
-none-finished t (Closing place next) none = cc
-none-finished t Unfollowing none = cc
-none-finished t ReadingLwps none = cc
-none-finished t (FreeingChild pid step) none = cc
+none-finished t _ none = cc
 
 is-finished : (t : TrussState) → next_call_of t ≡ None → t.stage ≡ Finished
 unfolding next_call_of

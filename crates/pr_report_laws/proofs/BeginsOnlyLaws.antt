@@ -106,27 +106,12 @@ module _ (t : TrussState) (r : Reply) (u : TrussState) (pid place : ℕ) (w : Is
 waits-free : (o : Options) (u : Traced) (step : OpeningStep) → StandsOpening u step → u.attached ≡ true → can_wait (opening_call o u step) ≡ false
 unfolding opening_call
 waits-free o u (opening.AwaitStop until) stands on = absurd (false≢true (sym stands.fresh.free ∙ on))
-waits-free o u opening.OpenStatus stands on = refl
-waits-free o u opening.OpenLstatus stands on = refl
-waits-free o u opening.OpenMemory stands on = refl
-waits-free o u opening.ClearModes stands on = refl
-waits-free o u opening.SetRelease stands on = refl
-waits-free o u opening.Stop stands on = refl
-waits-free o u opening.ReadLwps stands on = refl
-waits-free o u opening.TraceSignals stands on = refl
-waits-free o u opening.TraceFaults stands on = refl
-waits-free o u opening.TraceEntries stands on = refl
-waits-free o u opening.TraceExits stands on = refl
-waits-free o u opening.Follow stands on = refl
-waits-free o u opening.Start stands on = refl
+waits-free o u _ stands on = refl
 
 child-waits : (u : Traced) (step : ChildStep) → can_wait (child_call u step) ≡ false
 unfolding child_call
 child-waits u child.SetRelease = refl
-child-waits u child.OpenStatus = refl
-child-waits u child.OpenLstatus = refl
-child-waits u child.OpenMemory = refl
-child-waits u child.Start = refl
+child-waits u _ = refl
 
 -- ---- along a history
 

@@ -20,7 +20,7 @@ use Rattle.pr_parts.specs.AddressSpaces.{gap_in, has_range, with_break, with_map
 use Rattle.pr_parts.specs.FileCalls.{FileEffect, are_open_flags, closed, described, open_for_reading, open_for_writing, piped}
 use Rattle.pr_parts.specs.FileTransfers.{read_fd}
 use Rattle.pr_parts.specs.declared.files.FileNo.{FileNo}
-use Rattle.pr_parts.specs.declared.files.FileNo.TheVariants.{Sleep, NoReader}
+use Rattle.pr_parts.specs.declared.files.FileNo.TheVariants.{Sleep}
 use Rattle.pr_parts.specs.declared.files.Stat.{Stat}
 use Rattle.pr_model.specs.CallEffects.{call_effect}
 use Rattle.pr_model.specs.Changes.{Effect, does}
@@ -78,7 +78,6 @@ module _ (s : TracedSystem) (pid : ℕ) (p : TracedProcess) (id : ℕ) (l : Trac
 
   refusal-answered : (why : FileNo) → IsAnswered (refusal_effect why)
   refusal-answered Sleep = refl
-  refusal-answered NoReader = refl
   refusal-answered _ = refl
 
   file-answered : (e : FileEffect ℕ) → IsAnswered (file_effect e)

@@ -39,7 +39,7 @@ use Rattle.pr_truss.specs.declared.stages.ChildStep.TheVariants as child
 use Rattle.pr_truss.specs.declared.stages.OpeningStep.{OpeningStep}
 use Rattle.pr_truss.specs.declared.stages.OpeningStep.TheVariants as opening
 use Rattle.pr_truss.specs.declared.stages.Stage.{Stage}
-use Rattle.pr_truss.specs.declared.stages.Stage.TheVariants.{Spawning, OpeningControl, Opening, Polling, ReadingStatus, ReadingText, OpeningChildControl, OpeningChild, Running, Closing, Unfollowing, ReadingLwps, FreeingChild, Finished}
+use Rattle.pr_truss.specs.declared.stages.Stage.TheVariants.{OpeningControl, Opening, ReadingStatus, OpeningChildControl, OpeningChild, Running, FreeingChild}
 use Rattle.pr_truss_laws.proofs.ForeignLemmas.{names}
 use Rattle.pr_truss_laws.proofs.HeldLemmas.{Fits, at_place}
 use Rattle.pr_truss_laws.proofs.OpensLemmas.{held_by}
@@ -166,12 +166,13 @@ module _ (n k : ℕ) (o : Options) (t : TrussState) (s : TracedState) (c : Call)
         let back = mine.reads in
         let sees = reads.status-read s k (number_of (traced_at t place).status) (held_by k (traced_at t place).pid 0 file.Status Read) status-held a p live refl (back.status p live) status-answer in
         let w = stood n k o t s c a own place within on-status status-free.here p live in
-        by w.0 w.1 (same_Some told.lwp (status_of (traced_at t place).pid p).lwp (sym told.read ∙ sees.lwp))
+        by w.0 w.1 (same_Some told.lwp (status_of s.system (traced_at t place).pid p).lwp (sym told.read ∙ sees.lwp))
       where
         is_read : is_named t.stage place ≡ true
         is_read = ap (λ (x : Stage). is_named x place) told.stage ∙ eq-eqb place place refl
 
-        by : {b g : List LwpEvent} → IsTracedBy o p → Position o t.stage place (traced_at t place).old p b g → told.lwp ≡ (status_of (traced_at t place).pid p).lwp → (o.follow ≡ true) × HasForked p child
+        by : {b g : List LwpEvent} → IsTracedBy o p → Position o t.stage place (traced_at t place).old p b g
+            → told.lwp ≡ (status_of s.system (traced_at t place).pid p).lwp → (o.follow ≡ true) × HasForked p child
         by traced (st.stop_read read waits whole) same = absurd (false≢true (sym status-free.read ∙ read))
         by traced (st.old_stops m read counts waits whole) same = absurd (clash (sym counts ∙ told.none))
           where
@@ -182,7 +183,8 @@ module _ (n k : ℕ) (o : Options) (t : TrussState) (s : TracedState) (c : Call)
             let lawful = i.lawful in
             let rises = live-rising s.system (traced_at t place).pid p lawful.system live in
             let first = event-first p rises traced.no_agent id event one (waits-stopped p rises traced.no_agent 0 (waits is_read)) in
-            let is : told.lwp ≡ lwpstatus_of p id one.lwp = same ∙ reads.representative-told (traced_at t place).pid p (id, one.lwp) first in
+            let is : told.lwp ≡ lwpstatus_of p id one.lwp =
+            same ∙ reads.representative-told s.system (traced_at t place).pid p (id, one.lwp) first in
             followed-forked o p id one.lwp (fit-lwp p id one.lwp (fit-process s.system (traced_at t place).pid p i.fit live) one.there) one.there child
             (ap (λ (x : Options). followed_child x (lwpstatus_of p id one.lwp)) (sym i.options) ∙ ap (followed_child t.options) (sym is) ∙ told.child)
 
@@ -364,15 +366,7 @@ module _ (n k : ℕ) (o : Options) (t : TrussState) (s : TracedState) (c : Call)
       open-in (Opening place step) at goes is = opening-reads t.options (traced_at t place) step of lwp opened_file mode (same_Some _ _ is) writes
       open-in (OpeningChild parent place step) at goes is = child-reads (traced_at t place) step of lwp opened_file mode (same_Some _ _ is) writes
       open-in (FreeingChild other step) at goes is = false≢true (sym own.stays ∙ goes)
-      open-in (Spawning program) at goes is = cc
-      open-in Polling at goes is = cc
-      open-in (ReadingStatus place) at goes is = cc
-      open-in (ReadingText place l from len) at goes is = cc
-      open-in (Running place) at goes is = cc
-      open-in (Closing place next) at goes is = cc
-      open-in Unfollowing at goes is = cc
-      open-in ReadingLwps at goes is = cc
-      open-in Finished at goes is = cc
+      open-in _ at goes is = cc
 
     not-opened : (lwp handle : ℕ) (opened_file : File) (mode : Mode) → call_entry k c a ≡ granted k of lwp opened_file mode handle → is_writable mode ≡ true → ⊥
     unfolding next_call_of

@@ -1,3 +1,4 @@
+use Rattle.pr_model.specs.declared.handles.Held.{Held}
 use Rattle.std.proofs.Common.{◌≡◌, ◌≢◌, ◌==◌, ◌<◌, ℕ, suc, true, false, Some, List, ◌∷◌, length, refl, sym, subst, ap, ◌∙◌, arith, inl, inr}
 use Rattle.std.proofs.lemmas.Bool.{cases_Bool, cases_eq, eqb-false, eqb-true, false≢true}
 use Rattle.std.proofs.lemmas.Option.{same_Some}
@@ -22,7 +23,7 @@ use Rattle.pr_model.specs.declared.events.Actor.{Actor}
 use Rattle.pr_model.specs.declared.events.Actor.TheVariants.{Controller, Lwp, Clock}
 use Rattle.pr_model.specs.declared.events.Entry.{Entry}
 use Rattle.pr_model.specs.declared.stops.Stop.TheVariants.{SysExit}
-use Rattle.pr_num.specs.declared.syscalls.Sysno.TheVariants.{Fork}
+use Rattle.pr_num.specs.declared.syscalls.Sysno.{Sysno}
 use Rattle.pr_model.specs.Machines.{stopped_as_directed}
 use Rattle.pr_truss.specs.Trusses.{TrussState, traced_at}
 use Rattle.pr_truss_laws.proofs.BridgeLemmas.{mapped-some}
@@ -35,6 +36,7 @@ use Rattle.pr_report_laws.proofs.ClaimStands.{IsStanding, stood-at}
 use Rattle.pr_report_laws.proofs.EntrySteps.{made-at}
 use Rattle.pr_report_laws.proofs.FileLaws.{HasFiles}
 use Rattle.pr_report_laws.proofs.ForkTurns.{HasForked, alone-forked, LeavesChildren, forked-born, forked-next}
+use Rattle.pr_truss_laws.proofs.ForeignLemmas.{exclusive-sole}
 use Rattle.pr_truss_laws.proofs.OutlastLemmas.{others-entry}
 use Rattle.pr_report_laws.proofs.FrameLaws.{alone-control}
 use Rattle.pr_report_laws.proofs.NewBorn.{IsNewBorn, new-born-on}
@@ -55,17 +57,26 @@ use Rattle.pr_report_laws.specs.Shown.{LwpEvent}
 -- ---- a turn of a process with an unread event
 
 -- the lwp that stops as it was directed stands at the exit of no call
-not-requested : (x : TracedLwp) → (stopped_lwp x).control.stop ≡ Some (SysExit Fork) → ⊥
+not-requested : (x : TracedLwp) (call : Sysno) → (stopped_lwp x).control.stop ≡ Some (SysExit call) → ⊥
 unfolding stopped_as_directed
-not-requested x is = cc
+not-requested x call is = cc
 
 pub stopped-forked : (p : TracedProcess) (id c : ℕ) → HasForked (with_lwp_stopped id p) c → HasForked p c
 unfolding with_counted with_lwp
 stopped-forked p id c f = elim (cases_eq id f.id) [
   | inl same ↦
       let m = mapped-some stopped_lwp (under id p.lwps) f.lwp (sym (under-change_under id stopped_lwp p.lwps) ∙ ap (lwp_of (with_lwp_stopped id p)) same ∙ f.there) in
-      absurd (not-requested m.0 (ap (λ (x : TracedLwp). x.control.stop) m.1.1 ∙ f.stop))
-  | inr other ↦ record { id = f.id; lwp = f.lwp; there = sym (under-change_under_other id f.id stopped_lwp other p.lwps) ∙ f.there; stop = f.stop; args = f.args; phase = f.phase }
+      absurd (not-requested m.0 f.call (ap (λ (x : TracedLwp). x.control.stop) m.1.1 ∙ f.stop))
+  | inr other ↦ record {
+    id = f.id;
+    lwp = f.lwp;
+    there = sym (under-change_under_other id f.id stopped_lwp other p.lwps) ∙ f.there;
+    call = f.call;
+    makes = f.makes;
+    stop = f.stop;
+    args = f.args;
+    phase = f.phase;
+  }
 ]
 
 -- ---- the entry
@@ -91,7 +102,10 @@ module _ (n k : ℕ) (o : Options) (t : TrussState) (s : TracedState) (e : Entry
 
     left-alone : ((id : ℕ) → e.actor ≢ Lwp pid id) → (q : TracedProcess) → live_process (after s e).system pid ≡ Some q → Left pid s e q
     left-alone elsewhere q now =
-        let w = lives-later o pid t s (after s e) (λ p live. others-entry n s k (traced_at t place).control (held_by k pid 0 file.Ctl WriteExcl) e p lawful held refl legal elsewhere others live)
+        let mine : Held = held_by k pid 0 file.Ctl WriteExcl in
+        let sole = exclusive-sole s k (traced_at t place).control mine lawful held refl in
+        let w =
+        lives-later o pid t s (after s e) (λ p live. others-entry n s k pid e p lawful sole legal elsewhere others live)
         (λ none. stays-over n s e pid lawful legal was-made none) q now in
         alone w.0 w.1.0 w.1.1
 

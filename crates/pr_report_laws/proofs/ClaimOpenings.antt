@@ -64,10 +64,7 @@ start-after o r _ is = cc
 child-pid : (x : Traced) (r : Reply) (step : ChildStep) → (child_learnt x r step).pid ≡ x.pid
 unfolding child_learnt
 child-pid x r child.SetRelease = refl
-child-pid x r child.OpenStatus = refl
-child-pid x r child.OpenLstatus = refl
-child-pid x r child.OpenMemory = refl
-child-pid x r child.Start = refl
+child-pid x r _ = refl
 
 module _ (t : TrussState) (r : Reply) where
   abbrev Goes : TrussState → Type 0

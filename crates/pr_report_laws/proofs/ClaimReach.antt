@@ -17,7 +17,6 @@ use Rattle.pr_model.specs.declared.stops.Stop.TheVariants.{Requested, Signalled,
 use Rattle.pr_model.specs.declared.stops.Shown.TheVariants as shows
 use Rattle.pr_num.specs.declared.signals.Sig.{Sig}
 use Rattle.pr_num.specs.declared.syscalls.Sysno.{Sysno}
-use Rattle.pr_num.specs.declared.syscalls.Sysno.TheVariants.{Fork}
 use Rattle.pr_rec.specs.declared.lwps.LwpStatus.{LwpStatus}
 use Rattle.pr_truss.specs.NextCalls.{call_of, next_call_of, opening_call}
 use Rattle.pr_truss.specs.Processes.{last_handle}
@@ -42,7 +41,7 @@ use Rattle.pr_report_laws.specs.Watching.{is_away}
 
 -- What the calls of truss reach, and what a status tells of a child.
 
--- ---- the status of an lwp at the exit of a fork
+-- ---- the status of an lwp at the exit of a call that makes a child
 
 module _ (p : TracedProcess) (id : ℕ) (l : TracedLwp) where
   abbrev status : LwpStatus
@@ -73,10 +72,6 @@ module _ (p : TracedProcess) (id : ℕ) (l : TracedLwp) where
       by None is = absurd (shown-none is exits)
       by (Some stop) is = let e = shown-exit stop is exits in (e.0, is ∙ ap (λ x. Some x) e.1)
 
-  fork-is : (call : Sysno) → is_fork (Some call) ≡ true → call ≡ Fork
-  fork-is Fork is = refl
-  fork-is _ is = absurd (false≢true is)
-
   value-is : (r : Res) (c : ℕ) → is_none (error_of r) ≡ true → (value_of r == 0) ≡ false → value_of r ≡ c → r ≡ Value c
   value-is (Value v) c none some is = ap (λ n. Value n) is
   value-is (Error e) c none some is = absurd (false≢true none)
@@ -87,7 +82,6 @@ module _ (p : TracedProcess) (id : ℕ) (l : TracedLwp) where
   forked-lwp fit there c exits forks no_error some is =
       let e = exit-stop exits in
       let ph = fit.exit e.0 e.1 in
-      let call : e.0 ≡ Fork = fork-is e.0 (ap (λ (x : Phase). is_fork (call_in x)) (sym ph.1.1) ∙ forks) in
       let result : ph.1.0 ≡ Value c =
       value-is ph.1.0 c (ap (λ (x : Phase). is_none (errno_in x)) (sym ph.1.1) ∙ no_error)
       (ap (λ (x : Phase). result_in x == 0) (sym ph.1.1) ∙ some) (ap result_in (sym ph.1.1) ∙ is) in
@@ -95,12 +89,14 @@ module _ (p : TracedProcess) (id : ℕ) (l : TracedLwp) where
         id = id;
         lwp = l;
         there = there;
-        stop = e.1 ∙ ap (λ x. Some (SysExit x)) call;
+        call = e.0;
+        makes = ap (λ (x : Phase). is_fork (call_in x)) (sym ph.1.1) ∙ forks;
+        stop = e.1;
         args = ph.0;
-        phase = ph.1.1 ∙ ap (λ x. Exiting x ph.0 ph.1.0) call ∙ ap (λ r. Exiting Fork ph.0 r) result;
+        phase = ph.1.1 ∙ ap (λ r. Exiting e.0 ph.0 r) result;
       }
 
-  -- A status that tells a child is of an lwp that made it by fork.
+  -- A status that tells a child is of an lwp that made it.
   pub child-forked : IsFitLwp l → lwp_of p id ≡ Some l → (c : ℕ) → child_of status ≡ Some c → HasForked p c
   unfolding child_of has_ended_fork
   child-forked fit there c is = by (has_ended_fork status && not (status.result == 0) && nat_lt status.result (2 ^ 32)) refl is
@@ -135,15 +131,7 @@ opening-names o x opening.OpenLstatus m named = absurd (false≢true named)
 opening-names o x opening.OpenMemory m named = absurd (false≢true named)
 opening-names o x opening.ReadLwps m named = absurd (false≢true named)
 opening-names o x (opening.AwaitStop until) m named = absurd (false≢true named)
-opening-names o x opening.ClearModes m named = eqb-true x.control m named
-opening-names o x opening.SetRelease m named = eqb-true x.control m named
-opening-names o x opening.Stop m named = eqb-true x.control m named
-opening-names o x opening.TraceSignals m named = eqb-true x.control m named
-opening-names o x opening.TraceFaults m named = eqb-true x.control m named
-opening-names o x opening.TraceEntries m named = eqb-true x.control m named
-opening-names o x opening.TraceExits m named = eqb-true x.control m named
-opening-names o x opening.Follow m named = eqb-true x.control m named
-opening-names o x opening.Start m named = eqb-true x.control m named
+opening-names o x _ m named = eqb-true x.control m named
 
 -- the process of the handle that the call names: truss opens or closes it, or runs it
 pub record Reaches (t : TrussState) (g : Held) : Type 0 where

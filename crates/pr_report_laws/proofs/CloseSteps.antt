@@ -1,6 +1,5 @@
-use Rattle.std.proofs.Common.{◌≡◌, ◌≢◌, ◌<◌, ◌≤◌, ◌+◌, ◌-◌, ℕ, Bool, true, false, None, Some, Option, List, [], length, refl, sym, subst, ap, ◌∙◌, inl, inr, arith}
+use Rattle.std.proofs.Common.{◌≡◌, ◌≢◌, ◌<◌, ◌≤◌, ◌+◌, ◌-◌, ℕ, true, false, None, Some, Option, List, [], length, refl, sym, subst, ap, ◌∙◌, inl, inr, arith}
 use Rattle.std.proofs.lemmas.Bool.{cases_eq, cases_lt}
-use Rattle.std.proofs.lemmas.Option.{none-some, same_Some}
 use Rattle.pr_line.specs.declared.options.Options.{Options}
 use Rattle.pr_model.specs.Replies.{handle_in}
 use Rattle.pr_model.specs.State.{TracedState}
@@ -25,6 +24,7 @@ use Rattle.pr_truss.specs.declared.stages.FreeingStep.TheVariants as freeing
 use Rattle.pr_truss.specs.declared.stages.Stage.{Stage}
 use Rattle.pr_truss.specs.declared.stages.Stage.TheVariants.{Running, Closing, FreeingChild}
 use Rattle.pr_truss_laws.proofs.HeldLemmas.{Fits, IsLast}
+use Rattle.pr_truss_laws.proofs.ReplySteps.{lost-same}
 use Rattle.pr_report_laws.proofs.Moves.{passes-standing}
 use Rattle.pr_report_laws.proofs.NextStages.{ComesNext, comes-same, comes-shows, going_on-comes, next_opening-comes, opens, prepares-none}
 use Rattle.pr_report_laws.proofs.Orderly.{IsOrderly}
@@ -131,18 +131,6 @@ module _ (t : TrussState) (place : ℕ) where
 
 -- ---- the close of a file
 
--- a process without a file stays the process that it was
-without-fields : (pid control : ℕ) (status lstatus memory : Option ℕ) (attached : Bool) (old : ℕ) (seen : Bool) (y : Traced)
-    → without_last (record { pid = pid; control = control; status = status; lstatus = lstatus; memory = memory; attached = attached; old = old; seen = seen }) ≡ Some y → y.pid ≡ pid
-unfolding without_last
-without-fields pid control status lstatus (Some m) attached old seen y is = ap (λ (x : Traced). x.pid) (sym (same_Some _ y is))
-without-fields pid control status (Some l) None attached old seen y is = ap (λ (x : Traced). x.pid) (sym (same_Some _ y is))
-without-fields pid control (Some s) None None attached old seen y is = ap (λ (x : Traced). x.pid) (sym (same_Some _ y is))
-without-fields pid control None None None attached old seen y is = absurd (none-some y is)
-
-without-pid : (x y : Traced) → without_last x ≡ Some y → y.pid ≡ x.pid
-without-pid x y is = without-fields x.pid x.control x.status x.lstatus x.memory x.attached x.old x.seen y is
-
 module _ (Why : Type 0) (o : Options) (pid : ℕ) (t : TrussState) (s : TracedState) (base : List LwpEvent) (place : ℕ) (next : AfterClosing) (stage : t.stage ≡ Closing place next) (before : IsOrderly t) (standing : Standing Why o pid t s base) where
   -- the process holds one file less
   less-stands : (x : Traced) → x.pid ≡ (traced_at t place).pid → Stands Why o pid (with_traced t place x) s base
@@ -181,7 +169,9 @@ after-stands Why o pid t s base place (RunParent parent) stage before standing a
 closed-stands : (Why : Type 0) (o : Options) (pid : ℕ) (t : TrussState) (s : TracedState) (base : List LwpEvent) (place : ℕ) (next : AfterClosing) → t.stage ≡ Closing place next → IsOrderly t → Standing Why o pid t s base
     → (x : Option Traced) → without_last (traced_at t place) ≡ x → IsOrderly (closed_or_removed t place next x) → Stands Why o pid (closed_or_removed t place next x) s base
 closed-stands Why o pid t s base place next stage before standing None is after = after-stands Why o pid t s base place next stage before standing after
-closed-stands Why o pid t s base place next stage before standing (Some x) is after = less-stands Why o pid t s base place next stage before standing x (without-pid (traced_at t place) x is)
+closed-stands Why o pid t s base place next stage before standing (Some x) is after =
+    let same = lost-same (traced_at t place) x is in
+    less-stands Why o pid t s base place next stage before standing x same.pid
 
 -- The reply to the close of a file: the process holds one file less, or is not traced any more.
 pub closing-stands : (Why : Type 0) (o : Options) (pid : ℕ) (t : TrussState) (r : Reply) (s : TracedState) (base : List LwpEvent) (place : ℕ) (next : AfterClosing) → t.stage ≡ Closing place next

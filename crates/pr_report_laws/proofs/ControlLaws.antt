@@ -30,8 +30,9 @@ use Rattle.pr_num.specs.declared.errnos.Errno.TheVariants.{Busy, Intr, Inval, No
 use Rattle.pr_num.specs.declared.messages.Message.{Message}
 use Rattle.pr_num.specs.declared.messages.Message.TheVariants as message
 use Rattle.pr_num.specs.declared.signals.Sig.TheVariants.{Kill}
-use Rattle.pr_num.specs.declared.syscalls.Sysno.TheVariants.{Exit, Fork, LwpExit}
-use Rattle.pr_truss.specs.Messages.{all_modes, ending_calls, message_call, traced_entries, traced_exits}
+use Rattle.pr_num.specs.declared.syscalls.Sysno.TheVariants.{Exit, LwpExit}
+use Rattle.pr_truss.proofs.ForkLemmas.{with_forks-word}
+use Rattle.pr_truss.specs.Messages.{all_modes, ending_calls, message_call, traced_entries, traced_exits, traced_faults, traced_signals, with_forks}
 use Rattle.pr_truss.specs.Replies.{answer_of, refusal_of}
 use Rattle.pr_truss.specs.declared.replies.Answer.TheVariants.{Accepted, Gone}
 use Rattle.pr_truss_laws.proofs.OpensLemmas.{looking-stays}
@@ -133,11 +134,12 @@ unfolding traced_entries common_word
 entries-word o = let most = and_le_r o.calls ending_calls in let small = endings-word in omega arith
 
 exits-word : (o : Options) → IsWord (traced_exits o)
-unfolding traced_exits syscall_number
+unfolding traced_exits
 exits-word o =
-    let others = minus-word o.calls ending_calls in
-    elim o.follow as (λ b. IsWord (cond b (with_number (minus_word o.calls ending_calls) (syscall_number Fork)) (minus_word o.calls ending_calls)))
-    [ true ↦ with_number-lt 64 (minus_word o.calls ending_calls) (syscall_number Fork) others (omega arith) (omega arith) | false ↦ others ]
+    let others : ℕ = minus_word o.calls ending_calls in
+    let word = minus-word o.calls ending_calls in
+    elim o.follow as (λ b. IsWord (cond b (with_forks others) others))
+    [ true ↦ with_forks-word others word | false ↦ word ]
 
 same-signals : (w : ℕ) (c : TracedControl) → tracing_signals (w % 2 ^ 64) c ≡ tracing_signals w c
 unfolding tracing_signals without_number
@@ -176,7 +178,6 @@ refusal-not e is = not-accepted e is
   where
     not-accepted : (e : Errno) → refusal_of e ≡ Accepted → ⊥
     not-accepted Intr it = cc
-    not-accepted Noent it = cc
     not-accepted _ it = cc
 
 pub refused-not : (a : Answer) (t : TracedState) (e : Errno) → a ≡ record { state = t; reply = reply.Fail e } → answer_of a.reply ≡ Accepted → ⊥
@@ -252,21 +253,34 @@ module _ (s : TracedState) (k m : ℕ) (h : Held) (held : handle_of s.opens k m 
     unfolding message_answer
     follow-cleared a is accepted = let t = taken (spelling (message.Unset fork_mode) []) (message.Unset fork_mode) a unfollow-reads is accepted in set-live (without_modes fork_mode) t.len a t.is
 
-    pub signals-set : (o : Options) (a : Answer) → answer_to s k (message_call m (message.Strace o.signals)) ≡ Some a → answer_of a.reply ≡ Accepted → live_process a.state.system h.pid ≡ Some (with_control (tracing_signals o.signals) p)
+    pub signals-set : (o : Options) (a : Answer)
+        → answer_to s k (message_call m (message.Strace (traced_signals o))) ≡ Some a → answer_of a.reply ≡ Accepted
+        → live_process a.state.system h.pid ≡ Some (with_control (tracing_signals (traced_signals o)) p)
     unfolding message_answer with_control
     signals-set o a is accepted =
-        let t = taken (spelling (message.Strace o.signals) []) (message.Strace (o.signals % 2 ^ 64)) a (signals-read o.signals) is accepted in
-        set-live (tracing_signals (o.signals % 2 ^ 64)) t.len a t.is ∙ ap (λ (c : TracedControl). Some (record p { control = c })) (same-signals o.signals p.control)
+        let word : ℕ = traced_signals o in
+        let t =
+        taken (spelling (message.Strace word) []) (message.Strace (word % 2 ^ 64)) a (signals-read word) is accepted in
+        set-live (tracing_signals (word % 2 ^ 64)) t.len a t.is
+        ∙ ap (λ (c : TracedControl). Some (record p { control = c })) (same-signals word p.control)
 
     -- Of the faults that truss means those are traced that a word can have.
-    pub faults-set : (o : Options) (a : Answer) → answer_to s k (message_call m (message.Sfault o.faults)) ≡ Some a → answer_of a.reply ≡ Accepted → live_process a.state.system h.pid ≡ Some (with_control (tracing_faults (o.faults % 2 ^ 64)) p)
+    pub faults-set : (o : Options) (a : Answer)
+        → answer_to s k (message_call m (message.Sfault (traced_faults o))) ≡ Some a → answer_of a.reply ≡ Accepted
+        → live_process a.state.system h.pid ≡ Some (with_control (tracing_faults (traced_faults o % 2 ^ 64)) p)
     unfolding message_answer
     faults-set o a is accepted =
-        let t = taken (spelling (message.Sfault o.faults) []) (message.Sfault (o.faults % 2 ^ 64)) a (faults-read o.faults) is accepted in
-        set-live (tracing_faults (o.faults % 2 ^ 64)) t.len a t.is
+        let word : ℕ = traced_faults o in
+        let t =
+        taken (spelling (message.Sfault word) []) (message.Sfault (word % 2 ^ 64)) a (faults-read word) is accepted in
+        set-live (tracing_faults (word % 2 ^ 64)) t.len a t.is
 
-    pub all-faults-set : (o : Options) (a : Answer) → IsWord o.faults → answer_to s k (message_call m (message.Sfault o.faults)) ≡ Some a → answer_of a.reply ≡ Accepted → live_process a.state.system h.pid ≡ Some (with_control (tracing_faults o.faults) p)
-    all-faults-set o a word is accepted = faults-set o a is accepted ∙ ap (λ (w : ℕ). Some (with_control (tracing_faults w) p)) (wrapped o.faults word)
+    pub all-faults-set : (o : Options) (a : Answer) → IsWord (traced_faults o)
+        → answer_to s k (message_call m (message.Sfault (traced_faults o))) ≡ Some a → answer_of a.reply ≡ Accepted
+        → live_process a.state.system h.pid ≡ Some (with_control (tracing_faults (traced_faults o)) p)
+    all-faults-set o a word is accepted =
+        faults-set o a is accepted
+        ∙ ap (λ (w : ℕ). Some (with_control (tracing_faults w) p)) (wrapped (traced_faults o) word)
 
     pub entries-set : (o : Options) (a : Answer) → answer_to s k (message_call m (message.Sentry (traced_entries o))) ≡ Some a → answer_of a.reply ≡ Accepted → live_process a.state.system h.pid ≡ Some (with_control (tracing_entries (traced_entries o)) p)
     unfolding message_answer

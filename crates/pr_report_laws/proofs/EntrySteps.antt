@@ -22,6 +22,7 @@ use Rattle.pr_truss_laws.proofs.OpensLemmas.{held_by}
 use Rattle.pr_truss_laws.proofs.OwnLemmas.{Owns}
 use Rattle.pr_report_laws.proofs.FileLaws.{HasFiles}
 use Rattle.pr_report_laws.proofs.FileUses.{place-is}
+use Rattle.pr_truss_laws.proofs.ForeignLemmas.{exclusive-sole}
 use Rattle.pr_truss_laws.proofs.OutlastLemmas.{Outlasts, others-entry}
 use Rattle.pr_report_laws.proofs.OtherSteps.{accounted-why, prepares-on, standing-on}
 use Rattle.pr_truss_laws.proofs.OverLemmas.{stays-made, stays-over}
@@ -99,7 +100,9 @@ module _ (n k : ℕ) (o : Options) (pid : ℕ) (t : TrussState) (s : TracedState
     was-made = made-at s.opens (traced_at t place).control (held_by k pid 0 Ctl WriteExcl) (handle-at s.opens k (traced_at t place).control (held_by k pid 0 Ctl WriteExcl) held) lawful.handles
 
     outlasts : (p : TracedProcess) → live_process s.system pid ≡ Some p → Outlasts pid p (after s e).system
-    outlasts p live = others-entry n s k (traced_at t place).control (held_by k pid 0 Ctl WriteExcl) e p lawful held refl legal elsewhere others live
+    outlasts p live =
+        let sole = exclusive-sole s k (traced_at t place).control (held_by k pid 0 Ctl WriteExcl) lawful held refl in
+        others-entry n s k pid e p lawful sole legal elsewhere others live
 
   lost-on : (K : Type 0) → Lost K pid s → Lost (K ⊎ EndsByKill pid t s e) pid (after s e)
   lost-on K h = record { cause = inl h.cause; over = stays-over n s e pid lawful legal h.made h.over; made = stays-made n s e pid lawful legal h.made }

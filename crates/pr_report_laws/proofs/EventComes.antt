@@ -6,7 +6,6 @@ use Rattle.pr_model.proofs.HistoryLemmas.{state_after-push}
 use Rattle.pr_model.specs.Events.{events_of}
 use Rattle.pr_model.specs.Lawful.{IsLawful}
 use Rattle.pr_model.specs.Legal.{IsLegalEntry, after, state_after}
-use Rattle.pr_model.specs.Readers.{space_seen}
 use Rattle.pr_model.specs.State.{TracedProcess, TracedState, live_process, process_of}
 use Rattle.pr_model.specs.declared.events.Entry.{Entry}
 use Rattle.pr_rec.specs.declared.lwps.LwpStatus.{LwpStatus}
@@ -14,8 +13,9 @@ use Rattle.pr_truss.specs.Trusses.{TrussState, first_truss, traced_at}
 use Rattle.pr_truss.specs.declared.stages.Stage.TheVariants.{ReadingText}
 use Rattle.pr_truss_laws.proofs.OverLemmas.{stays-made, stays-over}
 use Rattle.pr_truss_laws.specs.Exchanges.{exchanges, truss_after, truss_at}
-use Rattle.pr_truss_laws.specs.Stills.{IsHalting}
+use Rattle.pr_truss_laws.specs.Stills.{IsHalting, KeepsMemory}
 use Rattle.pr_report_laws.proofs.EntrySteps.{Lost}
+use Rattle.pr_truss_laws.proofs.FrameLemmas.{memory-next}
 use Rattle.pr_truss_laws.proofs.HaltLemmas as halt
 use Rattle.pr_truss_laws.proofs.HaltLemmas.{HaltsOn}
 use Rattle.pr_report_laws.proofs.HistoryLaw.{after-next, no-exchanges, watched-next}
@@ -78,7 +78,8 @@ module _ (k : ℕ) (o : Options) (pid : ℕ) (first : TracedState) where
   -- A process that stood so then: each lwp of it stands still or will stop, and its memory is as it was; or SIGKILL
   -- ended it in these entries.
   pub data Stays (q : TracedProcess) (then : TracedState) (between : List Entry) (s : TracedState) : Type 0 where
-    halts : (p : TracedProcess) → live_process s.system pid ≡ Some p → IsHalting p → space_seen p ≡ space_seen q → Stays q then between s
+    halts : (p : TracedProcess) → live_process s.system pid ≡ Some p → IsHalting p → KeepsMemory q p
+        → Stays q then between s
     over : live_process s.system pid ≡ None → WasKilled pid then between → Stays q then between s
 
   -- The event came in an entry of the past, after these events, and the process stays since as it was then.
@@ -121,7 +122,7 @@ module _ (k : ℕ) (o : Options) (pid : ℕ) (first : TracedState) where
         later = ap (λ (u : TracedState). after u e) now ∙ sym (state_after-push then between e)
 
         by : HaltsOn pid p (after s e).system → Stays q then (between ++ e ∷ []) (after s e)
-        by (halt.goes_on r there still memory) = halts r there still (memory ∙ same)
+        by (halt.goes_on r there still memory) = halts r there still (memory-next q p r same memory)
         by (halt.killed z none left status) =
             over none
             (record {

@@ -40,7 +40,7 @@ use Rattle.pr_truss.specs.declared.processes.Traced.{Traced}
 use Rattle.pr_truss.specs.declared.reports.Report.{Report}
 use Rattle.pr_truss.specs.declared.reports.Report.TheVariants.{Event as Reported}
 use Rattle.pr_truss.specs.declared.stages.Stage.TheVariants.{ReadingText}
-use Rattle.pr_truss_laws.proofs.ClosesLemmas.{after-grown, fed-fits, first-fits}
+use Rattle.pr_truss_laws.proofs.ClosesLemmas.{after-grown, first-fits}
 use Rattle.pr_truss_laws.proofs.HeldLemmas.{Fits, Grown, grown-all}
 use Rattle.pr_truss_laws.proofs.OwnLemmas.{Owns}
 use Rattle.pr_truss_laws.specs.Exchanges.{Exchange, Makes, exchange_of, exchanges, truss_after, truss_at}
@@ -70,12 +70,15 @@ use Rattle.pr_report_laws.specs.Watching.{told_of, with_exchange}
 
 -- ---- a read of memory
 
-memory-is : (s : TracedSystem) (pid from len : ℕ) (p : TracedProcess) → live_process s pid ≡ Some p → of_process s pid 0 from len Mem (read_process s pid Mem) ≡ unless_none (mapped_from (space_seen p) from len)
+memory-is : (s : TracedSystem) (pid from len : ℕ) (p : TracedProcess) → live_process s pid ≡ Some p
+    → of_process s pid 0 from len Mem (read_process s pid Mem) ≡ unless_none (mapped_from (space_seen s p) from len)
 unfolding read_process file_reply
 memory-is s pid from len p live = ap (of_process s pid 0 from len Mem) live
 
 -- the same is read of live processes with the same memory
-same-read : (s u : TracedSystem) (pid from len : ℕ) (p q : TracedProcess) → live_process s pid ≡ Some p → live_process u pid ≡ Some q → space_seen p ≡ space_seen q → file_read s pid 0 from len Mem ≡ file_read u pid 0 from len Mem
+same-read : (s u : TracedSystem) (pid from len : ℕ) (p q : TracedProcess) → live_process s pid ≡ Some p
+    → live_process u pid ≡ Some q → space_seen s p ≡ space_seen u q
+    → file_read s pid 0 from len Mem ≡ file_read u pid 0 from len Mem
 unfolding file_read
 same-read s u pid from len p q live there same =
     ap (λ (r : Reply). cond ((len == 0) || nat_lt read_limit len) (Fail Inval) r)
@@ -137,8 +140,8 @@ module _ (k : ℕ) (o : Options) (past later : List Entry) (e : Entry) (r : Repl
   text-reported : Grown (t.reports ++ report ∷ []) (fed t r).reports
   unfolding fed with_reply with_text_answered with_event_shown
   text-reported =
-      let within : place < length t.traced = subst (Fits t.traced) stage fits in
-      subst (λ (u : TrussState). Grown (t.reports ++ report ∷ []) u.reports) (sym (ap (with_reply t r) stage)) (text-grown (with_report t report) place l (answer_of r) within)
+      subst (λ (u : TrussState). Grown (t.reports ++ report ∷ []) u.reports) (sym (ap (with_reply t r) stage))
+      (text-grown (with_report t report) place l (answer_of r))
 
   last-is : truss_at k o (past ++ e ∷ later) ≡ truss_after (fed t r) (exchanges k later)
   last-is =
@@ -150,7 +153,8 @@ module _ (k : ℕ) (o : Options) (past later : List Entry) (e : Entry) (r : Repl
   reported-then : Grown (t.reports ++ report ∷ []) (truss_at k o (past ++ e ∷ later)).reports
   reported-then =
       subst (λ (u : TrussState). Grown (t.reports ++ report ∷ []) u.reports) (sym last-is)
-      (grown-all (t.reports ++ report ∷ []) (fed t r).reports (truss_after (fed t r) (exchanges k later)).reports text-reported (after-grown (exchanges k later) (fed t r) (fed-fits t r fits)))
+      (grown-all (t.reports ++ report ∷ []) (fed t r).reports (truss_after (fed t r) (exchanges k later)).reports
+      text-reported (after-grown (exchanges k later) (fed t r)))
 
   -- so this report is of that status
   same-status : (base rest : List Report) (pid : ℕ) (m : LwpStatus) (text : Came) → t.reports ≡ base → (truss_at k o (past ++ e ∷ later)).reports ≡ base ++ Reported pid m text ∷ rest → l ≡ m
@@ -261,7 +265,9 @@ module _ (n k : ℕ) (o : Options) (s : TracedState) (h : List Entry) (lawful : 
     of-event = by text-read
       where
         by-memory : (q : TracedProcess) (then : TracedState) (between : List Entry) → live_process then.system pid ≡ Some q → Stays k o pid s q then between now → (text ≡ text_of len (bytes_in (file_read then.system pid 0 from len Mem))) ⊎ WasKilled pid then between
-        by-memory q then between lives (halts p live halting same) = inl (m.stood ∙ ap (λ (x : Reply). text_of len (bytes_in x)) (same-read now.system then.system pid from len p q live lives same))
+        by-memory q then between lives (halts p live halting memory) =
+            let same = same-read now.system then.system pid from len p q live lives memory.space in
+            inl (m.stood ∙ ap (λ (x : Reply). text_of len (bytes_in x)) same)
         by-memory q then between lives (over none killed) = inr killed
 
         by : ReadsText k reached now its.1.0 its.1.1.0 m.handle from len its.1.1.1 pid m.held m.there m.of m.file → IsOfItsEvent k o pid from len s h earlier l text

@@ -1,3 +1,4 @@
+use Rattle.pr_model.specs.declared.handles.Held.{Held}
 use Rattle.std.proofs.Common.{◌≡◌, ◌≢◌, ◌==◌, ◌⊎◌, ℕ, Bool, true, false, cond, Option, Some, None, List, [], ◌∷◌, ◌++◌, refl, sym, subst, ap, ◌∙◌, append_assoc, inl, inr}
 use Rattle.std.proofs.lemmas.Bool.{eq-eqb, false≢true}
 use Rattle.std.proofs.lemmas.List.{append-nil, append_cancel_left, append_cancel_right}
@@ -44,6 +45,8 @@ use Rattle.pr_report_laws.proofs.FileLaws.{HasFiles, IsFileOf}
 use Rattle.pr_report_laws.proofs.FileSteps.{MakesNext, entry-lawful}
 use Rattle.pr_report_laws.proofs.FileUses as uses
 use Rattle.pr_report_laws.proofs.FileUses.{place-is, stage_place}
+use Rattle.pr_truss_laws.proofs.ForeignLemmas.{exclusive-sole}
+use Rattle.pr_truss_laws.proofs.FrameLemmas.{memory-self}
 use Rattle.pr_truss_laws.proofs.HaltLemmas.{HaltsOn, goes_on, others-halt}
 use Rattle.pr_report_laws.proofs.HistorySteps.{Holds, selected_of}
 use Rattle.pr_report_laws.proofs.MemoryReads.{entry-is}
@@ -128,7 +131,9 @@ module _ (K : Type 0) (n k : ℕ) (o : Options) (pid : ℕ) (first : TracedState
         let files : HasFiles k t s = g.files in
         let f : IsFileOf k s (traced_at t place).pid (traced_at t place).control Ctl WriteExcl = files.control place own.0 in
         let held = f.is ∙ ap (λ of. Some (held_by k of 0 Ctl WriteExcl)) own.1 in
-        others-halt n s k (traced_at t place).control (held_by k pid 0 Ctl WriteExcl) g.lawful held refl p live halting e legal others
+        let mine : Held = held_by k pid 0 Ctl WriteExcl in
+        let sole = exclusive-sole s k (traced_at t place).control mine g.lawful held refl in
+        others-halt n s k pid g.lawful sole p live halting e legal others
 
     unread-halts : (event : LwpEvent) → base ≡ shown pid t ++ event ∷ [] → (p : TracedProcess) → live_process s.system pid ≡ Some p → IsHalting p → HaltsOn pid p (after s e).system
     unread-halts event missing p live halting =
@@ -159,7 +164,7 @@ module _ (K : Type 0) (n k : ℕ) (o : Options) (pid : ℕ) (first : TracedState
     own-unread : (event : LwpEvent) → base ++ selected_of o pid t s e ≡ shown pid (told_of k t e) ++ event ∷ [] → HasCome k o pid first (past ++ e ∷ []) (shown pid (told_of k t e)) event (after s e)
     own-unread event still =
         let owns : Owns k t s = g.owns in
-        let grown = told-grows pid t (exchange_of k e) owns.fits in
+        let grown = told-grows pid t (exchange_of k e) in
         let missing : base ≡ shown pid t ++ event ∷ [] = missing-before base (shown pid t) few event (shown pid (told_of k t e)) grown.more grown.is (same-base ∙ still) in
         let same : shown pid t ≡ shown pid (told_of k t e) = append_cancel_right (shown pid t) (shown pid (told_of k t e)) (event ∷ []) (sym missing ∙ same-base ∙ still) in
         let come : HasCome k o pid first past (shown pid t) event s = knows.unread event missing in
@@ -215,7 +220,10 @@ module _ (K : Type 0) (n k : ℕ) (o : Options) (pid : ℕ) (first : TracedState
           let w = asks in
           let looks : only_looks x.call ≡ true = reads-looks t t.stage x.call w.reads makes in
           let same : y.answer.state.system ≡ s.system = ap (λ (v : TracedState). v.system) (looking-stays s k x.call y.answer looks y.is) in
-          goes_on p (ap (λ (v : TracedState). live_process v.system pid) y.later ∙ ap (λ (v : TracedSystem). live_process v pid) same ∙ live) halting refl
+          let lives =
+          ap (λ (v : TracedState). live_process v.system pid) y.later
+          ∙ ap (λ (v : TracedSystem). live_process v pid) same ∙ live in
+          goes_on p lives halting (memory-self p)
 
       own-reading : ReadsIts k o pid first (past ++ e ∷ []) u l (after s e)
       own-reading = record {
@@ -264,7 +272,7 @@ module _ (K : Type 0) (n k : ℕ) (o : Options) (pid : ℕ) (first : TracedState
               lives = ap (λ (u : TracedState). live_process u.system pid) (sym here) ∙ q.1;
               now = here;
               made = was-made pid (after s e).system q.0 lawful.system (found-live (after s e).system pid q.0 q.1).0;
-              stays = halts q.0 q.1 v.halting refl;
+              stays = halts q.0 q.1 v.halting (memory-self q.0);
             }
 
     others-unread : (event : LwpEvent) → base ++ selected_of o pid t s e ≡ shown pid t ++ event ∷ [] → HasCome k o pid first (past ++ e ∷ []) (shown pid t) event (after s e)

@@ -69,10 +69,7 @@ module _ (s : LwpStatus) where
   nothing-on (Some reason.Requested) is nothing = rw is refl
   nothing-on (Some reason.JobControl) is nothing = rw is refl
   nothing-on (Some reason.Suspended) is nothing = rw is refl
-  nothing-on (Some reason.Signalled) is nothing = absurd nothing
-  nothing-on (Some reason.SysEntry) is nothing = absurd nothing
-  nothing-on (Some reason.SysExit) is nothing = absurd nothing
-  nothing-on (Some reason.Faulted) is nothing = absurd nothing
+  nothing-on _ is nothing = absurd nothing
 
   -- a status that has an event stands on one
   event-on : (e : Event) → event_of s ≡ Some e → is_on_event s ≡ true
@@ -122,10 +119,7 @@ module _ (p : TracedProcess) (id : ℕ) (l : TracedLwp) where
       by : (o : Option Stop) → l.control.stop ≡ o → is_met_if o ≡ false → is_on_event status ≡ false
       by None is unmet = none-off is
       by (Some Requested) is unmet = nothing-on status (Some reason.Requested) (stop-why Requested is) tt
-      by (Some (Signalled g)) is unmet = cc
-      by (Some (SysEntry c)) is unmet = cc
-      by (Some (SysExit c)) is unmet = cc
-      by (Some (Faulted f)) is unmet = cc
+      by _ is unmet = cc
 
   -- A status tells an event exactly where its lwp stands on one that it met. A stop at a call tells it where the lwp is
   -- in the call that the stop names.

@@ -25,7 +25,7 @@ use Rattle.pr_model.specs.declared.events.Actor.TheVariants.{Controller, Lwp, Cl
 use Rattle.pr_model.specs.declared.events.Entry.{Entry}
 use Rattle.pr_model.specs.declared.handles.Held.{Held}
 use Rattle.pr_num.specs.declared.errnos.Errno.{Errno}
-use Rattle.pr_num.specs.declared.errnos.Errno.TheVariants.{Intr, Noent}
+use Rattle.pr_num.specs.declared.errnos.Errno.TheVariants.{Intr}
 use Rattle.pr_truss.specs.Feeding.{fed}
 use Rattle.pr_truss.specs.NextCalls.{next_call_of}
 use Rattle.pr_truss.specs.Replies.{answer_of, refusal_of}
@@ -126,14 +126,10 @@ opens_none _ = true
 module _ (P : ℕ → File → Mode → ℕ → Type 0) where
   plain-grants : (a : Answered) (r : Reply) (c : Call) → opens_none c ≡ true → Grants P a r (Some c)
   plain-grants Accepted r (call.Open pid id f mode) none = absurd (false≢true none)
-  plain-grants Accepted r c none = tt
-  plain-grants Interrupted r c none = tt
-  plain-grants Gone r c none = tt
-  plain-grants (Refused errno) r c none = tt
+  plain-grants _ r c none = tt
 
   refusal-grants : (e : Errno) (r : Reply) (c : Call) → Grants P (refusal_of e) r (Some c)
   refusal-grants Intr r c = tt
-  refusal-grants Noent r c = tt
   refusal-grants _ r c = tt
 
   fail-grants : (e : Errno) (c : Call) → Grants P (answer_of (reply.Fail e)) (reply.Fail e) (Some c)

@@ -21,7 +21,7 @@ use Rattle.pr_truss.specs.declared.stages.FreeingStep.{FreeingStep}
 use Rattle.pr_truss.specs.declared.stages.FreeingStep.TheVariants as freeing
 use Rattle.pr_truss.specs.declared.stages.OpeningStep.TheVariants as opening
 use Rattle.pr_truss.specs.declared.stages.Stage.{Stage}
-use Rattle.pr_truss.specs.declared.stages.Stage.TheVariants.{Spawning, OpeningControl, Opening, Polling, ReadingStatus, ReadingText, OpeningChildControl, OpeningChild, Running, Closing, Unfollowing, ReadingLwps, FreeingChild, Finished}
+use Rattle.pr_truss.specs.declared.stages.Stage.TheVariants.{Opening, ReadingStatus, ReadingText, OpeningChildControl, OpeningChild, Running, Closing, Unfollowing, ReadingLwps, FreeingChild}
 use Rattle.pr_truss_laws.proofs.HeldLemmas.{Fits, at_place, of_stage}
 use Rattle.pr_truss_laws.proofs.OwnLemmas.{Owns}
 use Rattle.pr_report_laws.proofs.FileLaws.{FileOf, HasFiles, IsFileOf, free-apart, has-each, is_closing, only-position}
@@ -164,10 +164,7 @@ module _ (k : ℕ) (t : TrussState) (s : TracedState) (h : HasFiles k t s) where
     place-within ts Unfollowing place is f = subst (λ n. n < length ts) (same_Some 0 place is) f
     place-within ts ReadingLwps place is f = subst (λ n. n < length ts) (same_Some 0 place is) f
     place-within ts (FreeingChild pid next) place is f = subst (λ n. n < length ts) (same_Some 0 place is) f
-    place-within ts (Spawning program) place is f = absurd (none-some place is)
-    place-within ts (OpeningControl pid) place is f = absurd (none-some place is)
-    place-within ts Polling place is f = absurd (none-some place is)
-    place-within ts Finished place is f = absurd (none-some place is)
+    place-within ts _ place is f = absurd (none-some place is)
 
     -- It is there, with its control file. The calls of `Opening`, `OpeningChild`, `Running` and `Unfollowing` write to it.
     pub stage-control : (place : ℕ) → stage_place t.stage ≡ Some place → (place < length t.traced) × IsFileOf k s (traced_at t place).pid (traced_at t place).control file.Ctl WriteExcl

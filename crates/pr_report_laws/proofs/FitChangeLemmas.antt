@@ -4,11 +4,11 @@ use Rattle.pr_num.specs.Control.{has_flags, fork_mode}
 use Rattle.pr_num.specs.Programs.{Program}
 use Rattle.pr_num.specs.Sets.{has_number}
 use Rattle.pr_num.specs.Syscalls.{syscall_number}
-use Rattle.pr_num.specs.declared.syscalls.Sysno.TheVariants.{Fork}
+use Rattle.pr_num.specs.declared.syscalls.Sysno.{Sysno}
 use Rattle.pr_parts.specs.FileCalls.{with_all_shared}
 use Rattle.pr_lawful.proofs.FileLemmas.{choice}
 use Rattle.pr_model.specs.Changes.{Change, files_are, space_is, signals, signals_itself, takes_shared, job_stops, disposition_is, held_is, resumes, forks, reaps, becomes, makes_lwp, suspends, with_fds, with_space, with_shared_taken, with_job_stop, with_disposition_of, with_held, resumed, with_suspended, changed, all_changed}
-use Rattle.pr_model.specs.Lives.{bare_process, first_lwp, forked, forked_lwp, new_lwp, new_process, with_child, with_new_lwp, with_program, with_spawned, started}
+use Rattle.pr_model.specs.Lives.{Birth, bare_process, call_of, first_lwp, forked, forked_lwp, new_lwp, new_process, with_child, with_new_lwp, with_program, with_spawned, started}
 use Rattle.pr_model.specs.Machines.{birth_marks, birth_stop, no_marks, traced}
 use Rattle.pr_model.specs.Signals.{is_kill}
 use Rattle.pr_model.specs.State.{TracedControl, TracedLwp, TracedProcess, TracedSystem, lwp_of, with_lwp}
@@ -38,25 +38,33 @@ pub spawned-fits : (s : TracedSystem) (program : Program) (held : Bool) → IsFi
 unfolding with_spawned
 spawned-fits s program held h = made-fits s (new_process traced program s.clock held) (new_process-fits program s.clock held) h
 
--- a child is born at the exit from fork, or without a stop
-birth_stops : (c : TracedControl) → (birth_stop c ≡ None) ⊎ (birth_stop c ≡ Some (SysExit Fork))
+-- a child is born at the exit from the call that made it, or without a stop
+birth_stops : (call : Sysno) (c : TracedControl)
+    → (birth_stop call c ≡ None) ⊎ (birth_stop call c ≡ Some (SysExit call))
 unfolding birth_stop
-birth_stops c =
-    let Either : Option Stop → Type 0 = λ o. (o ≡ None) ⊎ (o ≡ Some (SysExit Fork)) in
+birth_stops call c =
+    let Either : Option Stop → Type 0 = λ o. (o ≡ None) ⊎ (o ≡ Some (SysExit call)) in
     choice Either (has_flags c.modes fork_mode) _ _
-    (λ forks. choice Either (has_number c.traced_exits (syscall_number Fork)) _ _ (λ is. inr refl) (λ other. inl refl)) (λ alone. inl refl)
+    (λ forks. choice Either (has_number c.traced_exits (syscall_number call)) _ _ (λ is. inr refl) (λ other. inl refl))
+    (λ alone. inl refl)
 
-forked_lwp-fits : (args : List ℕ) (c : TracedControl) (l : TracedLwp) → IsFitLwp (forked_lwp traced args c l)
+forked_lwp-fits : (birth : Birth) (args : List ℕ) (c : TracedControl) (l : TracedLwp)
+    → IsFitLwp (forked_lwp traced birth args c l)
 unfolding forked_lwp traced birth_marks
-forked_lwp-fits args c l =
-    let child = forked_lwp traced args c l in
-    elim (birth_stops c) [ inl none ↦ stopless-fits child none nothing-spares | inr exit ↦ exiting-fits child Fork args (Value 0) exit refl nothing-spares ]
+forked_lwp-fits birth args c l =
+    let child = forked_lwp traced birth args c l in
+    elim (birth_stops (call_of birth) c) [
+      | inl none ↦ stopless-fits child none nothing-spares
+      | inr exit ↦ exiting-fits child (call_of birth) args (Value 0) exit refl nothing-spares
+    ]
 
-child-fits : (s : TracedSystem) (pid : ℕ) (p : TracedProcess) (l : TracedLwp) (args : List ℕ) → IsFitSystem s → IsFitSystem (with_child traced pid p l args s)
+child-fits : (s : TracedSystem) (birth : Birth) (pid : ℕ) (p : TracedProcess) (l : TracedLwp) (args : List ℕ)
+    → IsFitSystem s → IsFitSystem (with_child traced birth pid p l args s)
 unfolding with_child forked
-child-fits s pid p l args h =
-    made-fits (record s { files = with_all_shared s.files p.fds }) (forked traced pid p l args s.clock) (record {
-      lwps = All-cons LwpFits (1, forked_lwp traced args p.control l) [] (forked_lwp-fits args p.control l) (All-nil LwpFits);
+child-fits s birth pid p l args h =
+    let child : TracedLwp = forked_lwp traced birth args p.control l in
+    made-fits (record s { files = with_all_shared s.files p.fds }) (forked traced birth pid p l args s.clock) (record {
+      lwps = All-cons LwpFits (1, child) [] (forked_lwp-fits birth args p.control l) (All-nil LwpFits);
       pending = nothing-spares;
     }) (record { processes = h.processes })
 
@@ -104,7 +112,8 @@ module _ (pid : ℕ) (p : TracedProcess) (id : ℕ) (l : TracedLwp) (own : IsFit
   changed-fits (disposition_is g d) s h = changed-one s pid (with_disposition_of g d) (λ x it. record { lwps = it.lwps; pending = it.pending }) h
   changed-fits (held_is held) s h = changed-one s pid (with_lwp id (with_held held)) (keeps-one id (with_held held) (held-keeps held)) h
   changed-fits (resumes frame frames) s h = changed-one s pid (with_lwp id (resumed frame frames)) (keeps-one id (resumed frame frames) (resumed-keeps frame frames)) h
-  changed-fits (forks args) s h = choice IsFitSystem (s.made == pid) _ _ (λ own_id. h) (λ apart. child-fits s pid p l args h)
+  changed-fits (forks birth args) s h =
+      choice IsFitSystem (s.made == pid) _ _ (λ own_id. h) (λ apart. child-fits s birth pid p l args h)
   changed-fits (reaps child) s h = choice IsFitSystem (child == pid) _ _ (λ itself. h) (λ apart. reaped-fits s child h)
   changed-fits (becomes program) s h = changed-one s pid (with_program traced id l program) (program-keeps id l program own) h
   changed-fits (makes_lwp new regs held) s h = changed-one s pid (with_new_lwp traced new regs held) (new-keeps new held regs) h

@@ -69,7 +69,9 @@ pub edit-fits : (s : TracedSystem) (pid : ℕ) (p : TracedProcess) (m : Message)
 unfolding with_process
 edit-fits s pid p m tail t nothing found h = h
 edit-fits s pid p m tail t (a_process f edits) found h =
-    record { processes = all-replaced ProcessFits pid f p s.processes found
-        (process-edits-keep m tail IsFitProcess (edited-process m tail) p (f p) edits) h.processes }
+    record {
+      processes = all-replaced ProcessFits pid f p s.processes found
+          (process-edits-keep m tail IsFitProcess (edited-process m tail) p (f p) edits) h.processes;
+    }
 edit-fits s pid p m tail t an_end found h = this_ended-fits s pid p (signal_number Kill) h
 edit-fits s pid p m tail t (a_signal target g is room) found h = generated-fits s pid target g by_controller h

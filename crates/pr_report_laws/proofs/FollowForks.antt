@@ -15,9 +15,9 @@ use Rattle.pr_model.specs.ShownBytes.{range_from}
 use Rattle.pr_model.specs.declared.calls.Reply.{Reply}
 use Rattle.pr_model.specs.declared.calls.Reply.TheVariants as reply
 use Rattle.pr_num.proofs.SearchLemmas.{All-at}
-use Rattle.pr_num.specs.Syscalls.{syscall_args, syscall_number}
+use Rattle.pr_num.specs.Syscalls.{is_fork_call, syscall_args, syscall_number}
 use Rattle.pr_num.specs.declared.stop_reasons.StopReason.{StopReason}
-use Rattle.pr_num.specs.declared.stop_reasons.StopReason.TheVariants.{Requested, Signalled, SysEntry, SysExit, JobControl, Faulted, Suspended}
+use Rattle.pr_num.specs.declared.stop_reasons.StopReason.TheVariants.{SysExit}
 use Rattle.pr_num.specs.declared.syscalls.Sysno.{Sysno}
 use Rattle.pr_num.specs.declared.syscalls.Sysno.TheVariants.{Fork}
 use Rattle.pr_rec.specs.declared.lwps.LwpStatus.{LwpStatus}
@@ -34,52 +34,62 @@ use Rattle.pr_truss.specs.declared.stages.Stage.TheVariants.{OpeningChildControl
 use Rattle.pr_report_laws.specs.Follows.{ReadsFork}
 use Rattle.pr_report_laws.specs.Freed.{ReadsLastFork}
 
--- What truss makes of the return of a fork that it has read: it comes to the control file of the child.
+-- What truss makes of the return of a call that made a child, and that it has read: it comes to the control file of the
+-- child.
 
--- ---- the event of a fork has no text
+-- ---- the event of such a call has no text
 
-fork-text : (arguments : List ℕ) (size : Option ℕ) → range_from arguments size (syscall_args Fork) 0 ≡ None
-unfolding range_from syscall_args
-fork-text arguments size = refl
+fork-text : (call : Sysno) (arguments : List ℕ) (size : Option ℕ) → is_fork_call call ≡ true
+    → range_from arguments size (syscall_args call) 0 ≡ None
+unfolding range_from syscall_args is_fork_call
+fork-text Fork arguments size makes = refl
+fork-text _ arguments size makes = absurd (false≢true makes)
 
--- a status that tells a child stands at the exit of a fork
-child-forked : (l : LwpStatus) (c : ℕ) → child_of l ≡ Some c → (l.why ≡ Some SysExit) × (l.call ≡ Some Fork)
+-- a status stands at the exit of a call that makes a child
+record LeavesFork (l : LwpStatus) : Type 0 where
+  call : Sysno
+  makes : is_fork_call call ≡ true
+  exits : l.why ≡ Some SysExit
+  named : l.call ≡ Some call
+
+-- one that tells a child does
+child-forked : (l : LwpStatus) (c : ℕ) → child_of l ≡ Some c → LeavesFork l
 unfolding child_of has_ended_fork
 child-forked l c is = by (has_ended_fork l && not (l.result == 0) && nat_lt l.result (2 ^ 32)) refl is
   where
     exits : (w : Option StopReason) → is_exit w ≡ true → w ≡ Some SysExit
     exits (Some SysExit) e = refl
-    exits None e = absurd (false≢true e)
-    exits (Some Requested) e = absurd (false≢true e)
-    exits (Some Signalled) e = absurd (false≢true e)
-    exits (Some SysEntry) e = absurd (false≢true e)
-    exits (Some JobControl) e = absurd (false≢true e)
-    exits (Some Faulted) e = absurd (false≢true e)
-    exits (Some Suspended) e = absurd (false≢true e)
+    exits _ e = absurd (false≢true e)
 
-    forks : (n : Option Sysno) → is_fork n ≡ true → n ≡ Some Fork
-    forks (Some Fork) e = refl
-    forks _ e = absurd (false≢true e)
+    forks : (n : Option Sysno) → l.call ≡ n → is_fork n ≡ true → l.why ≡ Some SysExit → LeavesFork l
+    forks (Some call) is makes left = record { call = call; makes = makes; exits = left; named = is }
+    forks None is makes left = absurd (false≢true makes)
 
-    by : (b : Bool) → (has_ended_fork l && not (l.result == 0) && nat_lt l.result (2 ^ 32)) ≡ b → cond b (Some l.result) None ≡ Some c → (l.why ≡ Some SysExit) × (l.call ≡ Some Fork)
+    by : (b : Bool) → (has_ended_fork l && not (l.result == 0) && nat_lt l.result (2 ^ 32)) ≡ b
+        → cond b (Some l.result) None ≡ Some c → LeavesFork l
     by false tests e = absurd (none-some c e)
     by true tests e =
         let all = and_parts (has_ended_fork l && not (l.result == 0)) (nat_lt l.result (2 ^ 32)) tests in
         let some = and_parts (has_ended_fork l) (not (l.result == 0)) all.0 in
         let fork = and_parts (is_exit l.why && is_fork l.call) (is_none l.errno) some.0 in
         let call = and_parts (is_exit l.why) (is_fork l.call) fork.0 in
-        (exits l.why call.0, forks l.call call.1)
+        forks l.call refl call.1 (exits l.why call.0)
 
-left-text : (l : LwpStatus) (named : Bool) (e : Event) → option_map (λ call. Left call l.arguments (result_of l.result l.errno)) (cond named (Some Fork) None) ≡ Some e → text_range e ≡ None
+left-text : (l : LwpStatus) (call : Sysno) → is_fork_call call ≡ true → (named : Bool) (e : Event)
+    → option_map (λ c. Left c l.arguments (result_of l.result l.errno)) (cond named (Some call) None) ≡ Some e
+    → text_range e ≡ None
 unfolding text_range
-left-text l true e is = ap text_range (sym (same_Some _ e is)) ∙ fork-text l.arguments _
-left-text l false e is = absurd (none-some e is)
+left-text l call makes true e is = ap text_range (sym (same_Some _ e is)) ∙ fork-text call l.arguments _ makes
+left-text l call makes false e is = absurd (none-some e is)
 
 event-text : (l : LwpStatus) (c : ℕ) (e : Event) → child_of l ≡ Some c → event_of l ≡ Some e → text_range e ≡ None
 unfolding event_of
 event-text l c e made is =
     let at = child-forked l c made in
-    left-text l (syscall_number Fork == l.what) e (sym (ap (λ w. option_and_then (event_for l) w) at.0 ∙ ap (λ n. option_map (λ call. Left call l.arguments (result_of l.result l.errno)) (option_and_then (named_call l.what) n)) at.1) ∙ is)
+    let event : Option Sysno → Option Event =
+    λ n. option_map (λ c. Left c l.arguments (result_of l.result l.errno)) (option_and_then (named_call l.what) n) in
+    left-text l at.call at.makes (syscall_number at.call == l.what) e
+    (sym (ap (λ w. option_and_then (event_for l) w) at.exits ∙ ap event at.named) ∙ is)
 
 -- ---- the reply
 

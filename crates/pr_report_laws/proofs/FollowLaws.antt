@@ -21,7 +21,8 @@ use Rattle.pr_truss.specs.declared.reports.Report.TheVariants.{CannotTrace}
 use Rattle.pr_truss.specs.declared.stages.ChildStep.TheVariants as child
 use Rattle.pr_truss.specs.declared.stages.Stage.TheVariants.{OpeningChildControl, Running}
 use Rattle.pr_truss_laws.proofs.AnswerLemmas.{IsAnswer, answer-is}
-use Rattle.pr_truss_laws.proofs.ClosesLemmas.{after-fits, after-grown, fed-fits, first-fits}
+use Rattle.pr_truss_laws.proofs.ClosesLemmas.{after-fits, after-grown, first-fits}
+use Rattle.pr_truss_laws.proofs.FitLemmas.{fed-fits}
 use Rattle.pr_truss_laws.proofs.HeldLemmas.{Fits, Grown}
 use Rattle.pr_truss_laws.specs.Exchanges.{Exchange, IsGranted, Makes, errno_in, truss_after}
 use Rattle.pr_report_laws.proofs.BeginLaws.{at-options}
@@ -72,7 +73,9 @@ module _ (f t : TrussState) (parent of control : ℕ) (stage : t.stage ≡ Openi
         let m : Makes (refused_state errno) xs = subst (λ v. Makes v xs) comes makes in
         let now : Fits (refused_state errno).traced (refused_state errno).stage = subst (λ (v : TrussState). Fits v.traced v.stage) comes (fed-fits t x.reply fits) in
         let ends : truss_after (refused_state errno) xs ≡ f = ap (λ v. truss_after v xs) (sym comes) ∙ last in
-        let g : Grown (refused_state errno).reports f.reports = subst (λ (v : TrussState). Grown (refused_state errno).reports v.reports) ends (after-grown xs (refused_state errno) now) in
+        let g : Grown (refused_state errno).reports f.reports =
+        subst (λ (v : TrussState). Grown (refused_state errno).reports v.reports) ends
+        (after-grown xs (refused_state errno)) in
         refused (record {
           errno = errno;
           opening = x ∷ [];

@@ -27,7 +27,8 @@ use Rattle.pr_truss.specs.declared.stages.ChildStep.{ChildStep}
 use Rattle.pr_truss.specs.declared.stages.ChildStep.TheVariants as child
 use Rattle.pr_truss.specs.declared.stages.Stage.TheVariants.{OpeningChild, Running, Closing}
 use Rattle.pr_truss_laws.proofs.AnswerLemmas.{IsAnswer, answer-is}
-use Rattle.pr_truss_laws.proofs.ClosesLemmas.{after-grown, fed-fits}
+use Rattle.pr_truss_laws.proofs.ClosesLemmas.{after-grown}
+use Rattle.pr_truss_laws.proofs.FitLemmas.{fed-fits}
 use Rattle.pr_truss_laws.proofs.HeldLemmas.{Fits, IsFreshChild, Grown, set-at}
 use Rattle.pr_truss_laws.specs.Exchanges.{Exchange, IsGranted, Makes, calls_in, truss_after}
 use Rattle.pr_report_laws.proofs.OpeningRuns.{child-fed, child-pid, child-started, child_left, next-left}
@@ -79,10 +80,7 @@ awaited-call n pid x0 (x1 ∷ x2 ∷ x3 ∷ x4 ∷ x5 ∷ xs) few is = absurd (o
 
 child-some : (step : ChildStep) → 0 < child_left step
 child-some child.SetRelease = omega arith
-child-some child.OpenStatus = omega arith
-child-some child.OpenLstatus = omega arith
-child-some child.OpenMemory = omega arith
-child-some child.Start = omega arith
+child-some _ = omega arith
 
 last-step : (step : ChildStep) → child_step_after step ≡ None → step ≡ child.Start
 unfolding child_step_after
@@ -330,9 +328,7 @@ module _ (f : TrussState) (control pid : ℕ) (base : List Report) where
 
       start-end : (a : Answer) → answer_of x.reply ≡ a → ChildEnd u child.Start (x ∷ xs)
       start-end Gone is = ends-there is
-      start-end Accepted is = lives-on (λ gone. cc)
-      start-end Interrupted is = lives-on (λ gone. cc)
-      start-end (Refused errno) is = lives-on (λ gone. cc)
+      start-end _ is = lives-on (λ gone. cc)
 
     -- a call before it
     module _ (step next : ChildStep) (after : child_step_after step ≡ Some next) (at : IsAt s u parent place step) (call : x.call ≡ child_call u step) (makes : Makes (fed s x.reply) xs) (last : truss_after (fed s x.reply) xs ≡ f) where
@@ -358,7 +354,9 @@ module _ (f : TrussState) (control pid : ℕ) (base : List Report) where
           let m : Makes (refused_state errno) xs = subst (λ v. Makes v xs) comes makes in
           let fits : Fits (refused_state errno).traced (refused_state errno).stage = subst (λ (v : TrussState). Fits v.traced v.stage) comes (fed-fits s x.reply at.fits) in
           let ends : truss_after (refused_state errno) xs ≡ f = ap (λ v. truss_after v xs) (sym comes) ∙ last in
-          let g : Grown (refused_state errno).reports f.reports = subst (λ (v : TrussState). Grown (refused_state errno).reports v.reports) ends (after-grown xs (refused_state errno) fits) in
+          let g : Grown (refused_state errno).reports f.reports =
+          subst (λ (v : TrussState). Grown (refused_state errno).reports v.reports) ends
+          (after-grown xs (refused_state errno)) in
           failed (record {
             errno = errno;
             broken = broken-here errno is;

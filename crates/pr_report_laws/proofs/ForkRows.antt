@@ -4,6 +4,7 @@ use Rattle.std.specs.Option.{option_and_then}
 use Rattle.pr_line.specs.declared.events.Event.TheVariants.{Left}
 use Rattle.pr_num.specs.Agents.{agent_id}
 use Rattle.pr_num.specs.Limits.{process_limit}
+use Rattle.pr_num.specs.Syscalls.{is_fork_call}
 use Rattle.pr_num.specs.declared.errnos.Errno.{Errno}
 use Rattle.pr_num.specs.declared.errnos.Errno.TheVariants.{Again, Intr, Nomem, Notsup}
 use Rattle.pr_num.specs.declared.faults.Flt.{Flt}
@@ -16,6 +17,7 @@ use Rattle.pr_model.specs.CallEffects.{call_effect}
 use Rattle.pr_model.specs.Changes.{Effect, does, ends, forks, gives, fails, sleeps}
 use Rattle.pr_model.specs.Events.{event_of}
 use Rattle.pr_model.specs.InstructionEffects.{InstructionEffect, calls, faults, instruction_effect, runs, runs_into_watch}
+use Rattle.pr_model.specs.Lives.{Birth, by_fork, call_of}
 use Rattle.pr_model.specs.ProcessCalls.{fork_effect}
 use Rattle.pr_model.specs.Readers.{size_of, total_has_room}
 use Rattle.pr_model.specs.Registers.{arguments}
@@ -32,46 +34,58 @@ use Rattle.pr_model.specs.declared.lwps.Phase.{Phase}
 use Rattle.pr_model.specs.declared.lwps.Phase.TheVariants as phase
 use Rattle.pr_truss_laws.specs.Told.{told}
 use Rattle.std.specs.Prelude.{nat_le}
-use Rattle.pr_report_laws.specs.Births.{child_made, is_fork_call}
+use Rattle.pr_report_laws.specs.Births.{child_made}
 
--- The turn that makes a child by fork.
+-- The turn that makes a child.
 
 -- ---- what a turn did, by the event that is told of it
 
-fork-by : (c d : Sysno) (v w : ℕ) → is_fork_call c ≡ true → d ≡ c → w ≡ v → cond (is_fork_call d) (Some w) None ≡ Some v
+fork-by : (c d : Sysno) (v w : ℕ) → is_fork_call c ≡ true → d ≡ c → w ≡ v
+    → cond (is_fork_call d) (Some w) None ≡ Some v
 fork-by c d v w fork same value = rw (same, fork) (ap (λ n. Some n) value)
 
-made-left : (c : Sysno) (v w : ℕ) (args own : List ℕ) → Some (Left c own (Ok w)) ≡ Some (Left call.Fork args (Ok v)) → cond (is_fork_call c) (Some w) None ≡ Some v
-made-left c v w args own is =
-    let same : c ≡ call.Fork = cc in
+made-left : (c maker : Sysno) (v w : ℕ) (args own : List ℕ) → is_fork_call maker ≡ true
+    → Some (Left c own (Ok w)) ≡ Some (Left maker args (Ok v)) → cond (is_fork_call c) (Some w) None ≡ Some v
+made-left c maker v w args own makes is =
+    let same : c ≡ maker = cc in
     let value : w ≡ v = cc in
-    fork-by call.Fork c v w refl same value
+    fork-by maker c v w makes same value
 
--- The exit of a fork is told of the turn that made its child.
-pub told-made : (p : TracedProcess) (l : TracedLwp) (new : Option TracedLwp) (d : Did) (args : List ℕ) (v : ℕ) → option_and_then told (event_of p l new d) ≡ Some (Left call.Fork args (Ok v)) → child_made d ≡ Some v
+-- The exit of a call that makes a child is told of the turn that made it.
+pub told-made : (p : TracedProcess) (l : TracedLwp) (new : Option TracedLwp) (d : Did) (maker : Sysno) (args : List ℕ)
+    (v : ℕ) → is_fork_call maker ≡ true → option_and_then told (event_of p l new d) ≡ Some (Left maker args (Ok v))
+    → child_made d ≡ Some v
 unfolding event_of told
-told-made p l new did.Stopped args v is = cc
-told-made p l new did.Ran args v is = cc
-told-made p l new (did.Entered c) args v is = cc
-told-made p l new (did.Made c (Value w)) args v is = made-left c v w args _ is
-told-made p l new (did.Made c (Error e)) args v is = cc
-told-made p l new (did.Made c Ended) args v is = cc
-told-made p l new (did.Slept c) args v is = cc
-told-made p l new (did.Woke c (Value w)) args v is = made-left c v w args _ is
-told-made p l new (did.Woke c (Error e)) args v is = cc
-told-made p l new (did.Woke c Ended) args v is = cc
-told-made p l new (did.Returned c) args v is = cc
-told-made p l new (did.Faulted f) args v is = cc
-told-made p l new (did.Posted f) args v is = cc
-told-made p l new (did.Took g) args v is = cc
-told-made p l new (did.Acted g how) args v is = cc
+told-made p l new (did.Made c (Value w)) maker args v makes is = made-left c maker v w args _ makes is
+told-made p l new (did.Made c (Error e)) maker args v makes is = cc
+told-made p l new (did.Made c Ended) maker args v makes is = cc
+told-made p l new (did.Woke c (Value w)) maker args v makes is = made-left c maker v w args _ makes is
+told-made p l new (did.Woke c (Error e)) maker args v makes is = cc
+told-made p l new (did.Woke c Ended) maker args v makes is = cc
+told-made p l new did.Stopped maker args v makes is = cc
+told-made p l new did.Ran maker args v makes is = cc
+told-made p l new (did.Entered c) maker args v makes is = cc
+told-made p l new (did.Slept c) maker args v makes is = cc
+told-made p l new _ maker args v makes is = cc
 
 -- ---- the row of the turn
+
+-- each way in which a child is made has its call
+pub birth-makes : (birth : Birth) → is_fork_call (call_of birth) ≡ true
+unfolding is_fork_call
+birth-makes by_fork = refl
+
+-- a row that makes a child, by a call with these arguments, and does no more
+pub record MakesOne (row : Row) : Type 0 where
+  pub birth : Birth
+  pub args : List ℕ
+  pub changes : row.transition.changes ≡ forks birth args ∷ []
+  pub ending : row.transition.ending ≡ None
 
 module _ (s : TracedSystem) (pid : ℕ) (p : TracedProcess) (id : ℕ) (l : TracedLwp) where
   -- where the turn made a child, that is the next process, and its row does that and no more
   pub record MakesChild (row : Row) : Type 0 where
-    pub child : (c : ℕ) → child_made row.did ≡ Some c → (c ≡ s.made) × ((args : List ℕ) × ((row.transition.changes ≡ forks args ∷ []) × (row.transition.ending ≡ None)))
+    pub child : (c : ℕ) → child_made row.did ≡ Some c → (c ≡ s.made) × MakesOne row
 
   none-makes : (row : Row) → child_made row.did ≡ None → MakesChild row
   none-makes row none = record { child = λ c is. absurd (none-some c (sym none ∙ is)) }
@@ -106,32 +120,44 @@ module _ (s : TracedSystem) (pid : ℕ) (p : TracedProcess) (id : ℕ) (l : Trac
   performed-none woken c args since sleeps other = none-makes (performed_row woken c args since sleeps) refl
   performed-none woken c args since (ends how) other = none-makes (performed_row woken c args since (ends how)) (ended-none woken c)
 
-  -- fork itself
-  fails-makes : (woken : Bool) (args : List ℕ) (since : ℕ) (e : Errno) → MakesChild (performed_row woken call.Fork args since (fails e))
-  unfolding performed_row
-  fails-makes woken args since e = none-makes (performed_row woken call.Fork args since (fails e)) (failed-none woken call.Fork e)
+  -- the calls that make a child
+  module _ (woken : Bool) (args : List ℕ) (since : ℕ) where
+    abbrev EffectMakes : Sysno → Effect → Type 0
+    EffectMakes c effect = MakesChild (performed_row woken c args since effect)
 
-  gave : (woken : Bool) (v : ℕ) → child_made (finished woken call.Fork (Value v)) ≡ Some v
-  gave true v = refl
-  gave false v = refl
+    fails-makes : (c : Sysno) (e : Errno) → EffectMakes c (fails e)
+    unfolding performed_row
+    fails-makes c e = none-makes (performed_row woken c args since (fails e)) (failed-none woken c e)
 
-  gives-makes : (woken : Bool) (args : List ℕ) (since : ℕ) → MakesChild (performed_row woken call.Fork args since (gives s.made (forks args ∷ [])))
-  unfolding performed_row performed
-  gives-makes woken args since = record { child = λ c is. (same_Some c s.made (sym is ∙ gave woken s.made), (args, (refl, refl))) }
+    gave : (w : Bool) (c : Sysno) (v : ℕ) → is_fork_call c ≡ true → child_made (finished w c (Value v)) ≡ Some v
+    gave true c v makes = rw makes refl
+    gave false c v makes = rw makes refl
 
-  either-effect : (woken : Bool) (args : List ℕ) (since : ℕ) (b : Bool) (x y : Effect) → MakesChild (performed_row woken call.Fork args since x) → MakesChild (performed_row woken call.Fork args since y) → MakesChild (performed_row woken call.Fork args since (cond b x y))
-  either-effect woken args since true x y one other = one
-  either-effect woken args since false x y one other = other
+    gives-makes : (birth : Birth) → EffectMakes (call_of birth) (gives s.made (forks birth args ∷ []))
+    unfolding performed_row performed
+    gives-makes birth = record {
+      child = λ c is. (
+        same_Some c s.made (sym is ∙ gave woken (call_of birth) s.made (birth-makes birth)),
+        record { birth = birth; args = args; changes = refl; ending = refl },
+      );
+    }
 
-  fork-makes : (woken : Bool) (args : List ℕ) (since : ℕ) → MakesChild (performed_row woken call.Fork args since (fork_effect s p id args))
-  unfolding fork_effect
-  fork-makes woken args since =
-      either-effect woken args since (id == agent_id) _ _ (fails-makes woken args since Notsup)
-      (either-effect woken args since (nat_le process_limit s.made) _ _ (fails-makes woken args since Again)
-      (either-effect woken args since (total_has_room s (size_of p) 0) _ _ (gives-makes woken args since) (fails-makes woken args since Nomem)))
+    either-effect : (c : Sysno) (b : Bool) (x y : Effect) → EffectMakes c x → EffectMakes c y
+        → EffectMakes c (cond b x y)
+    either-effect c true x y one other = one
+    either-effect c false x y one other = other
 
-  performed-makes : (woken : Bool) (c : Sysno) (args : List ℕ) (since : ℕ) → MakesChild (performed_row woken c args since (call_effect s pid p id l since c args))
-  unfolding call_effect
+    fork-makes : EffectMakes call.Fork (fork_effect s p id args)
+    unfolding fork_effect
+    fork-makes =
+        either-effect call.Fork (id == agent_id) _ _ (fails-makes call.Fork Notsup)
+        (either-effect call.Fork (nat_le process_limit s.made) _ _ (fails-makes call.Fork Again)
+        (either-effect call.Fork (total_has_room s (size_of p) 0) _ _ (gives-makes by_fork)
+        (fails-makes call.Fork Nomem)))
+
+  performed-makes : (woken : Bool) (c : Sysno) (args : List ℕ) (since : ℕ)
+      → MakesChild (performed_row woken c args since (call_effect s pid p id l since c args))
+  unfolding call_effect is_fork_call
   performed-makes woken call.Fork args since = fork-makes woken args since
   performed-makes woken c args since = performed-none woken c args since (call_effect s pid p id l since c args) refl
 
@@ -148,9 +174,7 @@ module _ (s : TracedSystem) (pid : ℕ) (p : TracedProcess) (id : ℕ) (l : Trac
   executed-makes : (e : InstructionEffect) → MakesChild (executed_row p l e)
   unfolding executed_row ran_row entered_row incurred_row watched_row
   executed-makes (runs regs store) = either-makes l.control.step _ _ (none-makes _ refl) (none-makes _ refl)
-  executed-makes (calls c regs) = none-makes _ refl
-  executed-makes (faults f address) = none-makes _ refl
-  executed-makes (runs_into_watch address regs store) = none-makes _ refl
+  executed-makes _ = none-makes _ refl
 
   posted-makes : (f : Flt) (address : ℕ) → MakesChild (posted_row f address)
   unfolding posted_row
@@ -164,9 +188,7 @@ module _ (s : TracedSystem) (pid : ℕ) (p : TracedProcess) (id : ℕ) (l : Trac
   unfolding caught_row
   caught-makes c handler (phase.Entered made) = interrupted-makes false made (arguments l.regs)
   caught-makes c handler (phase.Asleep made args since) = interrupted-makes true made args
-  caught-makes c handler phase.User = handler-makes c handler
-  caught-makes c handler (phase.Exiting made args result) = handler-makes c handler
-  caught-makes c handler (phase.Faulted f address) = handler-makes c handler
+  caught-makes c handler _ = handler-makes c handler
 
   acted-makes : (c : Current) → MakesChild (acted_row p l c)
   unfolding acted_row
@@ -208,10 +230,7 @@ module _ (s : TracedSystem) (pid : ℕ) (p : TracedProcess) (id : ℕ) (l : Trac
 
   first-makes : (ph : Phase) (otherwise : Row) → MakesChild otherwise → MakesChild (posted_row_or s pid p id l ph otherwise)
   first-makes (phase.Faulted f address) otherwise makes = posted-makes f address
-  first-makes phase.User otherwise makes = makes
-  first-makes (phase.Entered c) otherwise makes = makes
-  first-makes (phase.Asleep c args since) otherwise makes = makes
-  first-makes (phase.Exiting c args result) otherwise makes = makes
+  first-makes _ otherwise makes = makes
 
   requested-makes : MakesChild requested_row
   unfolding requested_row

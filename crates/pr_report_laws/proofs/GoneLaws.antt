@@ -66,16 +66,8 @@ live-there : (s : TracedSystem) (pid id from len : ℕ) (p : TracedProcess) (f :
 unfolding file_reply answer_of
 live-there s pid id from len p file.Status is gone = cc
 live-there s pid id from len p file.Lstatus is gone = cc
-live-there s pid id from len p file.Mem is gone = memory-there (mapped_from (space_seen p) from len) gone
-live-there s pid id from len p file.Ctl is gone = absurd (false≢true is)
-live-there s pid id from len p file.Lwpctl is gone = absurd (false≢true is)
-live-there s pid id from len p file.Psinfo is gone = absurd (false≢true is)
-live-there s pid id from len p file.Map is gone = absurd (false≢true is)
-live-there s pid id from len p file.Usage is gone = absurd (false≢true is)
-live-there s pid id from len p file.Sigact is gone = absurd (false≢true is)
-live-there s pid id from len p file.Watch is gone = absurd (false≢true is)
-live-there s pid id from len p file.Fds is gone = absurd (false≢true is)
-live-there s pid id from len p file.Lwpstatus is gone = absurd (false≢true is)
+live-there s pid id from len p file.Mem is gone = memory-there (mapped_from (space_seen s p) from len) gone
+live-there s pid id from len p _ is gone = absurd (false≢true is)
 
 refused-length : answer_of (reply.Fail Inval) ≢ Gone
 unfolding answer_of

@@ -147,9 +147,7 @@ module _ (t : TrussState) (r : Reply) (is : t.stage ≡ ReadingLwps) (orderly : 
   looked-elsewhere : (a : Answer) → IsElsewhere t (with_lwps_answered t r a) 0
   unfolding with_lwps_answered
   looked-elsewhere Accepted = over-others t looked 0 lwps-none ends
-  looked-elsewhere (Refused errno) = over-others t (with_closing t 0) 0 lwps-none (closing-over t 0)
-  looked-elsewhere Interrupted = over-others t (with_closing t 0) 0 lwps-none (closing-over t 0)
-  looked-elsewhere Gone = over-others t (with_closing t 0) 0 lwps-none (closing-over t 0)
+  looked-elsewhere _ = over-others t (with_closing t 0) 0 lwps-none (closing-over t 0)
 
   lwps-elsewhere : IsElsewhere t (fed t r) 0
   lwps-elsewhere = subst (λ (u : TrussState). IsElsewhere t u 0) (sym (lwps-fed t r is)) (looked-elsewhere (answer_of r))

@@ -11,7 +11,7 @@ use Rattle.pr_model.specs.Machines.{traced}
 use Rattle.pr_model.specs.ProcessCalls.{program_named}
 use Rattle.pr_model.specs.Rows.{row_for}
 use Rattle.pr_model.specs.Spawning.{spawn_refusal}
-use Rattle.pr_model.specs.State.{TracedState, process_of}
+use Rattle.pr_model.specs.State.{TracedState, process_of, TracedProcess}
 use Rattle.pr_num.specs.Programs.{Program}
 use Rattle.pr_num.specs.declared.errnos.Errno.{Errno}
 use Rattle.pr_model.specs.declared.calls.Call.TheVariants.{Spawn}
@@ -46,21 +46,25 @@ module _ (n pid : ℕ) where
 
   fork-makes : (parent id : ℕ) (turned : Turned) (s : TracedState) → child_made turned.did ≡ Some pid → IsLawful s → IsLegalEntry n s (turn_entry parent id turned) → Makes pid s (turn_entry parent id turned)
   unfolding IsLegalEntry settled
-  fork-makes parent id turned s child lawful legal =
+  fork-makes parent id turned s made lawful legal =
       let t : LwpTurn = record { system = legal.0; turned = turned } in
       let it = turn-taken s.system parent id t legal.1 in
       let row = row_for s.system parent it.process id it.lwp in
       let did : turned.did ≡ row.did = ap (λ (v : LwpTurn). v.turned.did) it.is in
       let m = row-makes s.system parent it.process id it.lwp in
-      let f = m.child pid (ap child_made (sym did) ∙ child) in
-      let stands : process_of t.system s.system.made ≡ Some (forked traced parent it.process it.lwp f.1.0 s.system.clock) =
-      ap (λ (v : LwpTurn). process_of v.system s.system.made) it.is ∙ child-found s.system parent it.process id it.lwp lawful.system it.live f.1.0 f.1.1.0 f.1.1.1 in
+      let f = m.child pid (ap child_made (sym did) ∙ made) in
+      let one = f.1 in
+      let child : TracedProcess = forked traced one.birth parent it.process it.lwp one.args s.system.clock in
+      let stands : process_of t.system s.system.made ≡ Some child =
+      ap (λ (v : LwpTurn). process_of v.system s.system.made) it.is
+      ∙ child-found s.system parent it.process id it.lwp lawful.system it.live one in
       let now : (after s (turn_entry parent id turned)).system ≡ t.system = ap (λ (x : TracedState). x.system) (state-after s parent id t legal.1) in
       let later : IsLawful (after s (turn_entry parent id turned)) = entry-lawful n s (turn_entry parent id turned) lawful legal in
       record {
         next = f.0;
         made = subst (λ m. m < (after s (turn_entry parent id turned)).system.made) (sym f.0)
-            (was-made s.system.made (after s (turn_entry parent id turned)).system (forked traced parent it.process it.lwp f.1.0 s.system.clock) later.system (ap (λ x. process_of x s.system.made) now ∙ stands));
+            (was-made s.system.made (after s (turn_entry parent id turned)).system child later.system
+            (ap (λ x. process_of x s.system.made) now ∙ stands));
       }
 
   -- ---- a controller

@@ -1,19 +1,21 @@
-use Rattle.std.proofs.Common.{◌≡◌, ◌==◌, ◌++◌, ℕ, zero, suc, Bool, true, false, cond, Option, Some, None, List, [], ◌∷◌, filter_map, refl, sym, ap, ◌∙◌}
+use Rattle.std.proofs.Common.{◌≡◌, ◌==◌, ◌++◌, ℕ, zero, suc, Bool, true, false, Some, List, [], ◌∷◌, filter_map, refl, sym, ap, ◌∙◌}
 use Rattle.std.proofs.lemmas.Bool.{false≢true}
 use Rattle.std.proofs.lemmas.Option.{none-some, same_Some}
 use Rattle.std.proofs.Math.Dec.{eqb-zero-suc}
 use Rattle.std.specs.List.{slice_get}
 use Rattle.pr_line.specs.declared.options.Options.{Options}
 use Rattle.pr_model.specs.State.{TracedState}
-use Rattle.pr_truss.specs.Closings.{left_or_finished, polls_or_finished, with_going_on, with_interrupt, with_next_left, with_next_opening}
+use Rattle.pr_truss.specs.Closings.{with_going_on, with_interrupt, with_next_opening}
 use Rattle.pr_truss.specs.Reports.{all_reports, pending_at}
-use Rattle.pr_truss.specs.Trusses.{TrussState, opening_or, traced_at, with_stage}
+use Rattle.pr_truss.specs.Trusses.{TrussState, traced_at}
 use Rattle.pr_truss.specs.declared.processes.Traced.{Traced}
 use Rattle.pr_truss.specs.declared.reports.Report.{Report}
-use Rattle.pr_truss.specs.declared.stages.AfterClosing.TheVariants.{GoOn}
 use Rattle.pr_truss.specs.declared.stages.Stage.{Stage}
-use Rattle.pr_truss.specs.declared.stages.Stage.TheVariants.{Opening, OpeningChild, Polling, Closing, Unfollowing, Finished}
+use Rattle.pr_truss.specs.declared.stages.Stage.TheVariants.{Opening, OpeningChild}
 use Rattle.pr_truss_laws.proofs.HeldLemmas.{at_place}
+use Rattle.pr_truss_laws.proofs.ReplySteps as step
+use Rattle.pr_truss_laws.proofs.ReplySteps.{GoesOn, leaving_now}
+use Rattle.pr_truss_laws.proofs.FedSteps.{goes-on, interrupt-on, opens-next}
 use Rattle.pr_report_laws.proofs.Standing.{Prepares, has_read, is_named}
 use Rattle.pr_report_laws.specs.Shown.{LwpEvent, event_reported, shown}
 use Rattle.pr_report_laws.specs.Watching.{is_away, place_of}
@@ -30,7 +32,8 @@ opens (OpeningChild parent place _) = true
 opens _ = false
 
 -- then nothing is asked of a process that truss opens
-pub prepares-none : (o : Options) (pid : ℕ) (t : TrussState) (s : TracedState) → opens t.stage ≡ false → Prepares o pid t s
+pub prepares-none : (o : Options) (pid : ℕ) (t : TrussState) (s : TracedState) → opens t.stage ≡ false
+    → Prepares o pid t s
 prepares-none o pid t s not = record {
   opened = λ place step p is own live. absurd (false≢true (sym not ∙ ap opens is));
   until = λ place until is. absurd (false≢true (sym not ∙ ap opens is));
@@ -67,7 +70,9 @@ pub record ComesNext (t u : TrussState) : Type 0 where
 -- no more is shown
 pub comes-shows : (pid : ℕ) (t u : TrussState) → pending_at t t.stage ≡ [] → ComesNext t u → shown pid u ≡ shown pid t
 comes-shows pid t u none c =
-    shown-all pid u ∙ ap (reported pid) (all-none u c.pending ∙ ap (λ (rs : List Report). rs ++ []) c.reports ∙ sym (all-none t none)) ∙ sym (shown-all pid t)
+    shown-all pid u
+    ∙ ap (reported pid) (all-none u c.pending ∙ ap (λ (rs : List Report). rs ++ []) c.reports
+    ∙ sym (all-none t none)) ∙ sym (shown-all pid t)
 
 -- the processes stand where they stood
 pub comes-places : (pid : ℕ) (t u : TrussState) → ComesNext t u → place_of u pid ≡ place_of t pid
@@ -78,63 +83,44 @@ comes-same place t u c = ap (λ (ts : List Traced). at_place ts place) c.traced
 
 -- ---- the steps
 
-finishes : (t : TrussState) → ComesNext t (with_stage t Finished)
-finishes t = record { traced = refl; reports = refl; options = refl; here = λ place on. refl; read = λ place. refl; named = λ place. refl; pending = refl; opens = refl }
-
-polls : (t : TrussState) → ComesNext t (with_stage t Polling)
-polls t = record { traced = refl; reports = refl; options = refl; here = λ place on. refl; read = λ place. refl; named = λ place. refl; pending = refl; opens = refl }
-
-unfollows : (t : TrussState) → ComesNext t (with_stage t Unfollowing)
-unfollows t = record { traced = refl; reports = refl; options = refl; here = λ place on. refl; read = λ place. refl; named = λ place. refl; pending = refl; opens = refl }
-
 -- the first process is closed alone where it is not attached
-not-first : (ts : List Traced) (x : Traced) (place : ℕ) → slice_get ts 0 ≡ Some x → x.attached ≡ false → (at_place ts place).attached ≡ true → (zero == place) ≡ false
+not-first : (ts : List Traced) (x : Traced) (place : ℕ) → slice_get ts 0 ≡ Some x → x.attached ≡ false
+    → (at_place ts place).attached ≡ true → (zero == place) ≡ false
 not-first ts x (suc n) first off on = eqb-zero-suc n
 not-first [] x zero first off on = absurd (none-some x first)
-not-first (y ∷ ts) x zero first off on = absurd (false≢true (sym off ∙ ap (λ (z : Traced). z.attached) (sym (same_Some y x first)) ∙ on))
+not-first (y ∷ ts) x zero first off on =
+    absurd (false≢true (sym off ∙ ap (λ (z : Traced). z.attached) (sym (same_Some y x first)) ∙ on))
 
-closes : (t : TrussState) (x : Traced) → slice_get t.traced 0 ≡ Some x → x.attached ≡ false → ComesNext t (with_stage t (Closing 0 GoOn))
-closes t x first off = record {
+pub on-comes : (u v : TrussState) (given : Bool) → GoesOn u given v → ComesNext u v
+on-comes u v given (step.closes_first {t = x} _ first off) = record {
   traced = refl;
   reports = refl;
   options = refl;
-  here = λ place on. not-first t.traced x place first off on;
+  here = λ place on. not-first u.traced x place first off on;
+  read = λ place. refl;
+  named = λ place. refl;
+  pending = refl;
+  opens = refl;
+}
+on-comes u v given _ = record {
+  traced = refl;
+  reports = refl;
+  options = refl;
+  here = λ place on. refl;
   read = λ place. refl;
   named = λ place. refl;
   pending = refl;
   opens = refl;
 }
 
-left-comes : (t : TrussState) (first : Option Traced) → slice_get t.traced 0 ≡ first → ComesNext t (left_or_finished t first)
-left-comes t None is = finishes t
-left-comes t (Some x) is = by x.attached refl
-  where
-    by : (b : Bool) → x.attached ≡ b → ComesNext t (with_stage t (cond b Unfollowing (Closing 0 GoOn)))
-    by true on = unfollows t
-    by false off = closes t x is off
-
-pub next_left-comes : (t : TrussState) → ComesNext t (with_next_left t)
-unfolding with_next_left
-next_left-comes t = left-comes t (slice_get t.traced 0) refl
-
-polls-comes : (t : TrussState) (first : Option Traced) → ComesNext t (polls_or_finished t first)
-polls-comes t None = finishes t
-polls-comes t (Some x) = polls t
-
 pub going_on-comes : (t : TrussState) → ComesNext t (with_going_on t)
-unfolding with_going_on
-going_on-comes t = elim t.leaving as (λ l. ComesNext t (cond l (with_next_left t) (polls_or_finished t (slice_get t.traced 0)))) [ true ↦ next_left-comes t | false ↦ polls-comes t (slice_get t.traced 0) ]
-
-opening-comes : (t : TrussState) (pid : ℕ) → ComesNext t (opening_or t (with_going_on t) (Some pid))
-opening-comes t pid = record { traced = refl; reports = refl; options = refl; here = λ place on. refl; read = λ place. refl; named = λ place. refl; pending = refl; opens = refl }
+going_on-comes t = on-comes t (with_going_on t) false (goes-on t false)
 
 pub next_opening-comes : (t : TrussState) → ComesNext t (with_next_opening t)
-unfolding with_next_opening
-next_opening-comes t = elim (slice_get t.options.pids t.begun) as (λ o. ComesNext t (opening_or t (with_going_on t) o)) [ None ↦ going_on-comes t | Some pid ↦ opening-comes t pid ]
+next_opening-comes t = on-comes t (with_next_opening t) true (opens-next t)
 
 pub interrupt-comes : (t : TrussState) → ComesNext t (with_interrupt t)
-unfolding with_interrupt
-interrupt-comes t = let c = next_left-comes (record t { leaving = true }) in record {
+interrupt-comes t = let c = on-comes (leaving_now t) (with_interrupt t) false (interrupt-on t) in record {
   traced = c.traced;
   reports = c.reports;
   options = c.options;

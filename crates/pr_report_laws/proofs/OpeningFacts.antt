@@ -23,7 +23,7 @@ use Rattle.pr_num.specs.Messages.{spelling}
 use Rattle.pr_num.specs.declared.messages.Message.{Message}
 use Rattle.pr_num.specs.declared.messages.Message.TheVariants as message
 use Rattle.pr_rec.specs.InRange.{IsLwpStatus}
-use Rattle.pr_truss.specs.Messages.{all_modes, message_call, traced_entries, traced_exits}
+use Rattle.pr_truss.specs.Messages.{all_modes, message_call, traced_entries, traced_exits, traced_faults, traced_signals}
 use Rattle.pr_truss.specs.NextCalls.{opening_call, read_record, run_call}
 use Rattle.pr_truss.specs.Openings.{learnt, step_after}
 use Rattle.pr_truss.specs.Records.{event_stops}
@@ -178,19 +178,24 @@ module _ (s : TracedState) (k : ℕ) (h : Held) (o : Options) (x : Traced) (held
 
   -- ---- what is traced
 
-  signals-done : answer_to s k (message_call x.control (message.Strace o.signals)) ≡ Some a → Done opening.TraceSignals
+  signals-done : answer_to s k (message_call x.control (message.Strace (traced_signals o))) ≡ Some a
+      → Done opening.TraceSignals
   unfolding Opened step_after learnt
   signals-done is = then-comes opening.TraceSignals opening.TraceFaults refl (λ q later asked.
-      let l = message-lived (message.Strace o.signals) is in
+      let l = message-lived (message.Strace (traced_signals o)) is in
       let now = signals-set s k x.control h held control l.0 l.1 o a is accepted in
-      later-is (λ (y : TracedProcess). HasSignals o y x.old) (with_control (tracing_signals o.signals) l.0) q now later (with-signals o l.0 x.old (asked l.0 l.1)))
+      later-is (λ (y : TracedProcess). HasSignals o y x.old) (with_control (tracing_signals (traced_signals o)) l.0) q
+      now later (with-signals o l.0 x.old (asked l.0 l.1)))
 
-  faults-done : answer_to s k (message_call x.control (message.Sfault o.faults)) ≡ Some a → Done opening.TraceFaults
+  faults-done : answer_to s k (message_call x.control (message.Sfault (traced_faults o))) ≡ Some a
+      → Done opening.TraceFaults
   unfolding Opened step_after learnt
   faults-done is = then-comes opening.TraceFaults opening.TraceEntries refl (λ q later asked.
-      let l = message-lived (message.Sfault o.faults) is in
+      let l = message-lived (message.Sfault (traced_faults o)) is in
       let now = faults-set s k x.control h held control l.0 l.1 o a is accepted in
-      later-is (λ (y : TracedProcess). HasFaults o y x.old) (with_control (tracing_faults (o.faults % 2 ^ 64)) l.0) q now later (with-faults o l.0 x.old (asked l.0 l.1)))
+      later-is (λ (y : TracedProcess). HasFaults o y x.old)
+      (with_control (tracing_faults (traced_faults o % 2 ^ 64)) l.0) q now later
+      (with-faults o l.0 x.old (asked l.0 l.1)))
 
   entries-done : answer_to s k (message_call x.control (message.Sentry (traced_entries o))) ≡ Some a → Done opening.TraceEntries
   unfolding Opened step_after learnt

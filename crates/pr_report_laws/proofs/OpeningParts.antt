@@ -122,19 +122,7 @@ last-start o r _ is = cc
 pub learnt-pid : (x : Traced) (r : Reply) (step : OpeningStep) → (learnt x r step).pid ≡ x.pid
 unfolding learnt
 learnt-pid x r opening.OpenStatus = refl
-learnt-pid x r opening.OpenLstatus = refl
-learnt-pid x r opening.OpenMemory = refl
-learnt-pid x r opening.ClearModes = refl
-learnt-pid x r opening.SetRelease = refl
-learnt-pid x r opening.Stop = refl
-learnt-pid x r (opening.AwaitStop until) = refl
-learnt-pid x r opening.ReadLwps = refl
-learnt-pid x r opening.TraceSignals = refl
-learnt-pid x r opening.TraceFaults = refl
-learnt-pid x r opening.TraceEntries = refl
-learnt-pid x r opening.TraceExits = refl
-learnt-pid x r opening.Follow = refl
-learnt-pid x r opening.Start = refl
+learnt-pid x r _ = refl
 
 pub learnt-start : (x : Traced) (r : Reply) (step : OpeningStep) → step ≡ opening.Start → learnt x r step ≡ x
 unfolding learnt

@@ -30,6 +30,7 @@ use Rattle.pr_truss.specs.declared.stages.Stage.TheVariants.{Spawning, OpeningCo
 use Rattle.pr_truss_laws.proofs.HeldLemmas.{at_place, set-at}
 use Rattle.pr_truss_laws.specs.Exchanges.{Exchange, IsGranted, errno_in, truss_after}
 use Rattle.pr_report_laws.proofs.NextStages.{next_opening-comes}
+use Rattle.pr_report_laws.proofs.OpeningParts.{learnt-pid}
 use Rattle.pr_report_laws.proofs.WatchedPlaces.{IsWatched}
 
 -- An opening of which no call is refused runs to its end, and the process is watched then.
@@ -113,11 +114,6 @@ step-left o r opening.TraceExits = elim o.follow as (λ b. 1 + cond b 2 1 ≡ su
 step-left o r opening.Follow = refl
 step-left o r opening.Start = refl
 
-pub learnt-pid : (u : Traced) (r : Reply) (step : OpeningStep) → (learnt u r step).pid ≡ u.pid
-unfolding learnt
-learnt-pid u r (opening.AwaitStop until) = refl
-learnt-pid u r _ = refl
-
 learnt-attached : (o : Options) (u : Traced) (r : Reply) (step : OpeningStep) → (has_stopped step ≡ true → u.attached ≡ true) → stopped_after (step_after o r step) ≡ true → (learnt u r step).attached ≡ true
 unfolding learnt step_after
 learnt-attached o u r opening.OpenStatus on after = absurd (false≢true after)
@@ -127,13 +123,7 @@ learnt-attached o u r opening.ClearModes on after = absurd (false≢true after)
 learnt-attached o u r opening.SetRelease on after = absurd (false≢true after)
 learnt-attached o u r opening.Stop on after = absurd (false≢true after)
 learnt-attached o u r (opening.AwaitStop until) on after = refl
-learnt-attached o u r opening.ReadLwps on after = on refl
-learnt-attached o u r opening.TraceSignals on after = on refl
-learnt-attached o u r opening.TraceFaults on after = on refl
-learnt-attached o u r opening.TraceEntries on after = on refl
-learnt-attached o u r opening.TraceExits on after = on refl
-learnt-attached o u r opening.Follow on after = on refl
-learnt-attached o u r opening.Start on after = on refl
+learnt-attached o u r _ on after = on refl
 
 -- Truss opens the process of an id, at a place, and has come to this step.
 pub record IsOpening (t : TrussState) (pid place : ℕ) (step : OpeningStep) : Type 0 where
@@ -270,10 +260,7 @@ next-left child.Start next is = absurd (none-some next is)
 
 one-left : (step : ChildStep) → child_left step ≡ 1 → step ≡ child.Start
 one-left child.Start one = refl
-one-left child.SetRelease one = absurd (omega arith)
-one-left child.OpenStatus one = absurd (omega arith)
-one-left child.OpenLstatus one = absurd (omega arith)
-one-left child.OpenMemory one = absurd (omega arith)
+one-left _ one = absurd (omega arith)
 
 more-left : (step : ChildStep) (n : ℕ) → child_left step ≡ suc (suc n) → (next : ChildStep) × (child_step_after step ≡ Some next)
 unfolding child_step_after
@@ -336,27 +323,12 @@ pid-opened a b is = cc
 no-control : (o : Options) (u : Traced) (pid : ℕ) (step : OpeningStep) → Some (opening_call o u step) ≡ Some (open_control pid) → ⊥
 unfolding opening_call
 no-control o u pid opening.OpenStatus is = cc
-no-control o u pid opening.OpenLstatus is = cc
-no-control o u pid opening.OpenMemory is = cc
-no-control o u pid opening.ClearModes is = cc
-no-control o u pid opening.SetRelease is = cc
-no-control o u pid opening.Stop is = cc
-no-control o u pid (opening.AwaitStop until) is = cc
-no-control o u pid opening.ReadLwps is = cc
-no-control o u pid opening.TraceSignals is = cc
-no-control o u pid opening.TraceFaults is = cc
-no-control o u pid opening.TraceEntries is = cc
-no-control o u pid opening.TraceExits is = cc
-no-control o u pid opening.Follow is = cc
-no-control o u pid opening.Start is = cc
+no-control o u pid _ is = cc
 
 no-child-control : (u : Traced) (pid : ℕ) (step : ChildStep) → Some (child_call u step) ≡ Some (open_control pid) → ⊥
 unfolding child_call
 no-child-control u pid child.SetRelease is = cc
-no-child-control u pid child.OpenStatus is = cc
-no-child-control u pid child.OpenLstatus is = cc
-no-child-control u pid child.OpenMemory is = cc
-no-child-control u pid child.Start is = cc
+no-child-control u pid _ is = cc
 
 freeing-control : (of pid : ℕ) (step : FreeingStep) → Some (freeing_call of step) ≡ Some (open_control pid) → OpensControl pid (FreeingChild of step)
 unfolding freeing_call

@@ -13,7 +13,7 @@ use Rattle.pr_num.proofs.ByIdLaws.{All-under}
 use Rattle.pr_num.specs.Agents.{agent_id}
 use Rattle.pr_num.specs.ById.{IsRising, under}
 use Rattle.pr_num.specs.Control.{fork_mode}
-use Rattle.pr_truss.specs.Messages.{traced_entries, traced_exits}
+use Rattle.pr_truss.specs.Messages.{traced_entries, traced_exits, traced_faults, traced_signals}
 use Rattle.pr_truss_laws.proofs.OneEventLemmas.{or-some, some-or}
 use Rattle.pr_truss_laws.specs.Stills.{IsFrozen}
 use Rattle.pr_report_laws.proofs.SettingLaws.{HasPlainModes, follow-plain, set-halting, set-waits}
@@ -42,10 +42,7 @@ found-under f id x (e ∷ es) there passes =
 -- the classes of those that stand on events of interest come before that of those that are suspended
 stop-most : (s : Stop) → class_of_stop s ≤ 4
 stop-most stop.Requested = omega arith
-stop-most (stop.Signalled g) = omega arith
-stop-most (stop.SysEntry c) = omega arith
-stop-most (stop.SysExit c) = omega arith
-stop-most (stop.Faulted f) = omega arith
+stop-most _ = omega arith
 
 module _ (p : TracedProcess) where
   own-class : (l : TracedLwp) (s : Stop) → l.control.stop ≡ Some s → class_of p.job_stop l ≡ class_of_stop s
@@ -70,10 +67,7 @@ module _ (p : TracedProcess) where
 
       by : (s : Stop) → is_some (first_in_class p.job_stop (class_of_stop s) p.lwps) ≡ true → is_some (representative p) ≡ true
       by stop.Requested some = or-some _ (first_in_class p.job_stop 5 p.lwps) (some-or _ (first_in_class p.job_stop 4 p.lwps) some)
-      by (stop.Signalled g) some = third some
-      by (stop.SysEntry c) some = third some
-      by (stop.SysExit c) some = third some
-      by (stop.Faulted f) some = third some
+      by _ some = third some
 
   module _ (rises : IsRising p.lwps) (no_agent : has_agent p ≡ false) (frozen : IsFrozen p) (h : HasStop p) where
     -- the representative comes before the lwp that stands on an event, so that it stands on one too
@@ -128,18 +122,28 @@ pub plain-of : (p : TracedProcess) → IsSpared p → HasPlainModes p.control
 plain-of p h = record { directs = h.directs; spares = h.spares }
 
 module _ (o : Options) (p : TracedProcess) (old : ℕ) where
-  pub with-signals : IsCounted p old → HasSignals o (with_control (tracing_signals o.signals) p) old
+  pub with-signals : IsCounted p old → HasSignals o (with_control (tracing_signals (traced_signals o)) p) old
   unfolding with_control tracing_signals
   with-signals h =
       let plain = plain-of p h.attached.spared in
-      record { counted = counted-kept (tracing_signals o.signals) p old (record { directs = plain.directs; spares = plain.spares }) h; signals = refl }
+      record {
+        counted =
+            counted-kept (tracing_signals (traced_signals o)) p old
+            (record { directs = plain.directs; spares = plain.spares }) h;
+        signals = refl;
+      }
 
-  pub with-faults : HasSignals o p old → HasFaults o (with_control (tracing_faults (o.faults % 2 ^ 64)) p) old
+  pub with-faults : HasSignals o p old → HasFaults o (with_control (tracing_faults (traced_faults o % 2 ^ 64)) p) old
   unfolding with_control tracing_faults
   with-faults h =
       let plain = plain-of p h.counted.attached.spared in
       record {
-        before = record { counted = counted-kept (tracing_faults (o.faults % 2 ^ 64)) p old (record { directs = plain.directs; spares = plain.spares }) h.counted; signals = h.signals };
+        before = record {
+          counted =
+              counted-kept (tracing_faults (traced_faults o % 2 ^ 64)) p old
+              (record { directs = plain.directs; spares = plain.spares }) h.counted;
+          signals = h.signals;
+        };
         faults = refl;
       }
 

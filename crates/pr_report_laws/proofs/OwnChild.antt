@@ -63,10 +63,7 @@ child-names x child.Start m named = eqb-true x.control m named
 child-calm : (x : Traced) (step : ChildStep) → can_wait (child_call x step) ≡ false
 unfolding child_call
 child-calm x child.SetRelease = refl
-child-calm x child.OpenStatus = refl
-child-calm x child.OpenLstatus = refl
-child-calm x child.OpenMemory = refl
-child-calm x child.Start = refl
+child-calm x _ = refl
 
 -- a child at its birth stands so also once PR_RLC is set
 birth-release : (o : Options) (p : TracedProcess) → IsAtBirth o p → IsAtBirth o (with_control (with_modes rlc_mode) p)

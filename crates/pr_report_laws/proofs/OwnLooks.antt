@@ -34,7 +34,7 @@ use Rattle.pr_truss.specs.declared.processes.Traced.{Traced}
 use Rattle.pr_truss.specs.declared.replies.Answer.TheVariants.{Accepted}
 use Rattle.pr_truss.specs.declared.stages.Stage.{Stage}
 use Rattle.pr_truss.specs.declared.stages.Stage.TheVariants.{Polling, ReadingStatus, ReadingText, ReadingLwps}
-use Rattle.pr_truss_laws.proofs.ClosesLemmas.{fed-fits}
+use Rattle.pr_truss_laws.proofs.FitLemmas.{fed-fits}
 use Rattle.pr_truss_laws.proofs.ForeignLemmas.{names}
 use Rattle.pr_truss_laws.proofs.HeldLemmas.{Fits}
 use Rattle.pr_truss_laws.proofs.OpensLemmas.{held_by, looking-stays, only_looks}
@@ -64,7 +64,7 @@ use Rattle.pr_report_laws.specs.Shown.{LwpEvent}
 
 -- the records of a process that truss reads have their fields in their ranges
 pub record ReadsBack (pid : ℕ) (s : TracedState) : Type 0 where
-  pub status : (p : TracedProcess) → live_process s.system pid ≡ Some p → IsStatus (status_of pid p)
+  pub status : (p : TracedProcess) → live_process s.system pid ≡ Some p → IsStatus (status_of s.system pid p)
   pub lwps : (p : TracedProcess) → live_process s.system pid ≡ Some p → All IsLwpStatus (lstatus_of p)
 
 -- a call of truss in a state, and what is known of both
@@ -89,13 +89,7 @@ pub record Comes (Why : Type 0) (o : Options) (pid : ℕ) (u : TrussState) (s : 
 pub ready-reply : (r : Reply) (handle : ℕ) → ready_in r ≡ Some handle → r ≡ reply.Ready handle
 unfolding ready_in
 ready-reply (reply.Ready m) handle is = ap (λ n. reply.Ready n) (same_Some m handle is)
-ready-reply (reply.Handle n) handle is = cc
-ready-reply reply.Done handle is = cc
-ready-reply (reply.Used n) handle is = cc
-ready-reply (reply.Half n) handle is = cc
-ready-reply (reply.Bytes bytes) handle is = cc
-ready-reply (reply.Pid pid) handle is = cc
-ready-reply (reply.Fail e) handle is = cc
+ready-reply _ handle is = cc
 
 -- the first of those that pass a test
 first-passes : {X : Type 0} (f : X → Bool) (xs : List X) (n : ℕ) → length (filter f xs) ≡ suc n → (x : X) × ((slice_get (filter f xs) 0 ≡ Some x) × (f x ≡ true))
@@ -120,10 +114,12 @@ lwps-tell p r rises fit accepted is = record {
 }
 
 -- where the representative stands on the event that is not read yet, the status of the process tells that event
-representative-tells : (pid : ℕ) (p : TracedProcess) (id : ℕ) (event : Event) (has : HasEvent p id event) → representative p ≡ Some (id, has.lwp) → (event_of (status_of pid p).lwp ≡ Some event) × ((status_of pid p).lwp.id ≡ id)
+representative-tells : (s : TracedSystem) (pid : ℕ) (p : TracedProcess) (id : ℕ) (event : Event)
+    (has : HasEvent p id event) → representative p ≡ Some (id, has.lwp)
+    → (event_of (status_of s pid p).lwp ≡ Some event) × ((status_of s pid p).lwp.id ≡ id)
 unfolding lwpstatus_of
-representative-tells pid p id event has first =
-    let is = reads.representative-told pid p (id, has.lwp) first in
+representative-tells s pid p id event has first =
+    let is = reads.representative-told s pid p (id, has.lwp) first in
     (ap event_of is ∙ has.tells, ap (λ (l : LwpStatus). l.id) is)
 
 module _ (k : ℕ) (o : Options) (pid : ℕ) (t : TrussState) (s : TracedState) (c : Call) (a : Answer) (i : IsCall k o pid t s c a) (K Ends : Type 0) (leaves : Leaves Ends pid t s a.state) (base : List LwpEvent) (standing : Standing (Lost K pid s) o pid t s base) where
@@ -234,17 +230,21 @@ module _ (k : ℕ) (o : Options) (pid : ℕ) (t : TrussState) (s : TracedState) 
           let rises = live-rising s.system pid p i.lawful.system live in
           record {
             accepted = sees.accepted;
-            lwp = (status_of pid p).lwp;
+            lwp = (status_of s.system pid p).lwp;
             read = sees.lwp;
             waits = λ no_agent n waits. met p live (waits-first p rises no_agent n waits);
-            tells = λ no_agent id event has waits. representative-tells pid p id event has (event-first p rises no_agent id event has (waits-stopped p rises no_agent 0 waits));
+            tells = λ no_agent id event has waits.
+                representative-tells s.system pid p id event has
+                (event-first p rises no_agent id event has (waits-stopped p rises no_agent 0 waits));
           }
         where
-          met : (p : TracedProcess) → live_process s.system pid ≡ Some p → HasMetFirst p → is_on_event (status_of pid p).lwp ≡ true
+          met : (p : TracedProcess) → live_process s.system pid ≡ Some p → HasMetFirst p
+              → is_on_event (status_of s.system pid p).lwp ≡ true
           met p live first =
               let rises = live-rising s.system pid p i.lawful.system live in
               let fit = fit-lwp p first.lwp.0 first.lwp.1 (fit-process s.system pid p i.fit live) (representative-stands p first.lwp rises first.is) in
-              ap is_on_event (reads.representative-told pid p first.lwp first.is) ∙ stops.on-where-met p first.lwp.0 first.lwp.1 fit ∙ first.met
+              ap is_on_event (reads.representative-told s.system pid p first.lwp first.is)
+              ∙ stops.on-where-met p first.lwp.0 first.lwp.1 fit ∙ first.met
 
   -- ---- the memory of an event
 

@@ -79,12 +79,7 @@ step-names o x opening.SetRelease m is = eqb-true x.control m is
 step-names o x opening.Stop m is = eqb-true x.control m is
 step-names o x (opening.AwaitStop until) m is = absurd (false≢true is)
 step-names o x opening.ReadLwps m is = absurd (false≢true is)
-step-names o x opening.TraceSignals m is = eqb-true x.control m is
-step-names o x opening.TraceFaults m is = eqb-true x.control m is
-step-names o x opening.TraceEntries m is = eqb-true x.control m is
-step-names o x opening.TraceExits m is = eqb-true x.control m is
-step-names o x opening.Follow m is = eqb-true x.control m is
-step-names o x opening.Start m is = eqb-true x.control m is
+step-names o x _ m is = eqb-true x.control m is
 
 module _ (k : ℕ) (o : Options) (pid : ℕ) (t : TrussState) (s : TracedState) (c : Call) (a : Answer) (i : IsCall k o pid t s c a) (K Ends : Type 0) (leaves : Leaves Ends pid t s a.state) (base : List LwpEvent) (standing : Standing (Lost K pid s) o pid t s base) where
   abbrev Why : Type 0

@@ -38,6 +38,7 @@ use Rattle.pr_report_laws.proofs.ControlLaws.{unfollow-reads}
 use Rattle.pr_report_laws.proofs.FileLaws.{HasFiles, IsFileOf}
 use Rattle.pr_report_laws.proofs.FileUses as uses
 use Rattle.pr_report_laws.proofs.FileUses.{freed_control, stage_place}
+use Rattle.pr_truss_laws.proofs.FrameLemmas.{memory-self}
 use Rattle.pr_truss_laws.proofs.HaltLemmas.{HaltsOn, goes_on, outlasts-halts}
 use Rattle.pr_report_laws.proofs.OwnCalls.{Misses}
 use Rattle.pr_report_laws.proofs.OwnChild.{child-names}
@@ -54,14 +55,14 @@ module _ (s : TracedState) (k m : ℕ) (h : Held) (held : handle_of s.opens k m 
   bytes = spelling (message.Unset fork_mode) []
 
   same-halts : live_process a.state.system h.pid ≡ live_process s.system h.pid → HaltsOn h.pid p a.state.system
-  same-halts same = goes_on p (same ∙ live) halting refl
+  same-halts same = goes_on p (same ∙ live) halting (memory-self p)
 
   set-halts : (len : ℕ) → a ≡ controlled s (message_answer s.system h.pid p (aim_of h) (message.Unset fork_mode) (tail_of (message.Unset fork_mode) bytes) len) → HaltsOn h.pid p a.state.system
   unfolding message_answer with_control
   set-halts len is =
       goes_on (with_control (without_modes fork_mode) p)
       (ap (λ (x : Answer). live_process x.state.system h.pid) is ∙ live-changed s.system h.pid (with_control (without_modes fork_mode)) p live refl)
-      (record { each = halting.each }) refl
+      (record { each = halting.each }) (record { space = refl })
 
   unfollow-halts : answer_to s k (message_call m (message.Unset fork_mode)) ≡ Some a → HaltsOn h.pid p a.state.system
   unfollow-halts is = by-read (first_message bytes) unfollow-reads (ctl-is s k m h held control bytes a is ∙ ap (λ o. controlled s (targeted_answer s.system h o bytes)) live)

@@ -87,11 +87,7 @@ logged-told p l k (did.Slept c) lives = refl
 logged-told p l k (did.Woke c (Value v)) lives = refl
 logged-told p l k (did.Woke c (Error e)) lives = refl
 logged-told p l k (did.Woke c Ended) lives = sym lives
-logged-told p l k (did.Returned c) lives = refl
-logged-told p l k (did.Faulted f) lives = refl
-logged-told p l k (did.Posted f) lives = refl
-logged-told p l k (did.Took g) lives = refl
-logged-told p l k (did.Acted g how) lives = refl
+logged-told p l k _ lives = refl
 
 told-is : (e : MachineEvent) → is_told e ≡ true → (ev : Event) × (told e ≡ Some ev)
 unfolding told

@@ -220,7 +220,9 @@ module _ (s : TracedSystem) (pid : ℕ) (p : TracedProcess) where
 
   write-calm : (at : ℕ) (bytes : List ℕ) (len : ℕ) → IsCalm (write_answer s pid p at bytes len)
   unfolding write_answer
-  write-calm at bytes len = either _ _ _ (calm (with_process pid (with_space (with_bytes at bytes (space_seen p))) s) (reply.Used len) refl) (calm s (reply.Fail Io) refl)
+  write-calm at bytes len =
+      either _ _ _ (calm (with_process pid (with_space (with_bytes at bytes p.space)) s) (reply.Used len) refl)
+      (calm s (reply.Fail Io) refl)
 
   message-calm : (aim : Aim) (m : Message) (tail : List ℕ) (len : ℕ) → IsCalm (message_answer s pid p aim m tail len)
   unfolding message_answer kill_message unkill_answer
@@ -252,7 +254,6 @@ module _ (s : TracedSystem) where
   system-calm : (m : Message) → IsCalm (message_refused s (system_refusal m))
   unfolding IsCalm
   system-calm (message.Set modes) = refl
-  system-calm (message.Unset modes) = refl
   system-calm _ = refl
 
   decoded-calm : (h : Held) (p : TracedProcess) (bytes : List ℕ) (r : Result (Message × ℕ) MsgFault) → IsCalm (decoded_answer s h p bytes r)
@@ -331,7 +332,7 @@ file-calm : (s : TracedSystem) (pid : ℕ) (p : TracedProcess) (id from len : �
 unfolding file_reply
 file-calm s pid p id from len file.Ctl = made (reply.Fail Badf) refl
 file-calm s pid p id from len file.Lwpctl = made (reply.Fail Badf) refl
-file-calm s pid p id from len file.Mem = bytes-calm (mapped_from (space_seen p) from len)
+file-calm s pid p id from len file.Mem = bytes-calm (mapped_from (space_seen s p) from len)
 file-calm s pid p id from len file.Lwpstatus = lwp-calm p id from len (lwp_of p id)
 file-calm s pid p id from len _ = made (reply.Bytes _) refl
 
@@ -400,9 +401,7 @@ call-calm s by (call.Interrupt controller) a waits is = subst (λ (x : Answer). 
 call-calm s by (call.Spawn program held) a waits is = subst (λ (x : Answer). Calm x.reply) (same_Some _ a is) (spawn-calm s held (program_named s.system.programs program))
 call-calm s by (call.Kill pid number) a waits is = subst (λ (x : Answer). Calm x.reply) (same_Some _ a is) (sending-calm pid number (life_of s.system pid))
 call-calm s by call.List a waits is = subst (λ (x : Answer). Calm x.reply) (same_Some _ a is) (made (reply.Bytes _) refl)
-call-calm s by (call.CtlWait handle until bytes) a waits is = cc
-call-calm s by (call.Poll handles) a waits is = cc
-call-calm s by (call.Until moment) a waits is = cc
+call-calm s by _ a waits is = cc
 
 pub never-interrupted : (s : TracedState) (by : ℕ) (c : Call) (a : Answer) → can_wait c ≡ false → answer_to s by c ≡ Some a → answer_of a.reply ≢ Interrupted
 unfolding IsAnswer Calm

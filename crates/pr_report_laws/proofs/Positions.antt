@@ -9,7 +9,7 @@ use Rattle.pr_num.specs.Control.{async_mode, has_flags, klc_mode}
 use Rattle.pr_num.specs.Sets.{without_number}
 use Rattle.pr_num.specs.Signals.{signal_number}
 use Rattle.pr_num.specs.declared.signals.Sig.TheVariants.{Kill}
-use Rattle.pr_truss.specs.Messages.{traced_entries, traced_exits}
+use Rattle.pr_truss.specs.Messages.{traced_entries, traced_exits, traced_faults, traced_signals}
 use Rattle.pr_truss_laws.specs.Stills.{IsFrozen, StandsOnEvent, is_met, will_stop}
 
 -- How a process stands that truss traces, as the machine has it.
@@ -17,8 +17,8 @@ use Rattle.pr_truss_laws.specs.Stills.{IsFrozen, StandsOnEvent, is_met, will_sto
 -- What truss has set on a process: the four traced sets of its options (SIGKILL is never traced, and the set of faults is
 -- what a word of the message can hold of it), neither PR_ASYNC nor PR_KLC; and no agent stands there.
 pub record IsTracedBy (o : Options) (p : TracedProcess) : Type 0 where
-  pub signals : p.control.traced_signals ≡ without_number o.signals (signal_number Kill)
-  pub faults : p.control.traced_faults ≡ o.faults % 2 ^ 64
+  pub signals : p.control.traced_signals ≡ without_number (traced_signals o) (signal_number Kill)
+  pub faults : p.control.traced_faults ≡ traced_faults o % 2 ^ 64
   pub entries : p.control.traced_entries ≡ traced_entries o
   pub exits : p.control.traced_exits ≡ traced_exits o
   pub directs : has_flags p.control.modes async_mode ≡ false

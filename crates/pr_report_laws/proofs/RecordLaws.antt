@@ -164,7 +164,7 @@ pub record SeesEnd (s : TracedState) (a : Answer) : Type 0 where
 pub record SeesStatus (s : TracedState) (pid : ℕ) (p : TracedProcess) (a : Answer) : Type 0 where
   pub state : a.state ≡ s
   pub accepted : answer_of a.reply ≡ Accepted
-  pub lwp : option_and_then status_lwp (bytes_in a.reply) ≡ Some (status_of pid p).lwp
+  pub lwp : option_and_then status_lwp (bytes_in a.reply) ≡ Some (status_of s.system pid p).lwp
 
 -- the lwps that stand on events, by their statuses
 pub record SeesLwps (s : TracedState) (p : TracedProcess) (a : Answer) : Type 0 where
@@ -180,9 +180,10 @@ pub record SeesMemory (s : TracedState) (a : Answer) : Type 0 where
   pub not_interrupted : answer_of a.reply ≢ Interrupted
 
 -- the status of a process tells that of its representative
-pub representative-told : (pid : ℕ) (p : TracedProcess) (e : ℕ × TracedLwp) → representative p ≡ Some e → (status_of pid p).lwp ≡ lwpstatus_of p e.0 e.1
+pub representative-told : (s : TracedSystem) (pid : ℕ) (p : TracedProcess) (e : ℕ × TracedLwp)
+    → representative p ≡ Some e → (status_of s pid p).lwp ≡ lwpstatus_of p e.0 e.1
 unfolding status_of
-representative-told pid p e is = ap (status_of_found p) is
+representative-told s pid p e is = ap (status_of_found p) is
 
 module _ (s : TracedState) (k m : ℕ) (h : Held) (opened : handle_of s.opens k m ≡ Some h) (a : Answer) where
   -- what a read of a file that ends with its process gives, within the limits of a read
@@ -215,10 +216,11 @@ module _ (s : TracedState) (k m : ℕ) (h : Held) (opened : handle_of s.opens k 
   -- ---- where it lives
 
   module _ (p : TracedProcess) (live : live_process s.system h.pid ≡ Some p) where
-    pub status-read : h.file ≡ file.Status → IsStatus (status_of h.pid p) → answer_to s k (read_record (Some m)) ≡ Some a → SeesStatus s h.pid p a
+    pub status-read : h.file ≡ file.Status → IsStatus (status_of s.system h.pid p)
+        → answer_to s k (read_record (Some m)) ≡ Some a → SeesStatus s h.pid p a
     unfolding file_reply answer_of bytes_in status_bytes
     status-read same fit answers =
-        let st : Status = status_of h.pid p in
+        let st : Status = status_of s.system h.pid p in
         let is = read-answer 0 read_limit file.Status (Some p) same refl refl (omega arith) (omega arith) live answers in
         let size : length (status_bytes st) ≡ 368 = length-words_bytes (status_words_of st) in
         let whole : part_read (status_bytes st) 0 read_limit ≡ status_bytes st = read-whole read_limit (status_bytes st) (omega arith) in
@@ -245,7 +247,8 @@ module _ (s : TracedState) (k m : ℕ) (h : Held) (opened : handle_of s.opens k 
     unfolding file_reply answer_of
     memory-read from len same least most answers =
         let is = read-answer from len file.Mem (Some p) same refl refl least most live answers in
-        by (mapped_from (space_seen p) from len) (ap (λ (x : Answer). x.state) is) (ap (λ (x : Answer). answer_of x.reply) is)
+        by (mapped_from (space_seen s.system p) from len) (ap (λ (x : Answer). x.state) is)
+        (ap (λ (x : Answer). answer_of x.reply) is)
       where
         by : (bytes : List ℕ) → a.state ≡ s → answer_of a.reply ≡ answer_of (unless_none bytes) → SeesMemory s a
         by [] state is = record { state = state; known = inr is; not_gone = λ gone. cc; not_interrupted = λ intr. cc }

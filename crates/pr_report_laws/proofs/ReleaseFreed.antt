@@ -74,15 +74,11 @@ lived-before n s e pid k number f mode t r legal held q now = by (live_process s
 opening-other : (o : Options) (x : Traced) (step : OpeningStep) (pid id : ℕ) → Some (opening_call o x step) ≡ Some (call.Open pid id file.Ctl WriteExcl) → ⊥
 unfolding opening_call
 opening-other o x opening.OpenStatus pid id is = cc
-opening-other o x opening.OpenLstatus pid id is = cc
-opening-other o x opening.OpenMemory pid id is = cc
 opening-other o x _ pid id is = cc
 
 child-other : (x : Traced) (step : ChildStep) (pid id : ℕ) → Some (child_call x step) ≡ Some (call.Open pid id file.Ctl WriteExcl) → ⊥
 unfolding child_call
 child-other x child.OpenStatus pid id is = cc
-child-other x child.OpenLstatus pid id is = cc
-child-other x child.OpenMemory pid id is = cc
 child-other x _ pid id is = cc
 
 -- ---- one reply

@@ -194,10 +194,7 @@ module _ (k pid : ℕ) (t : TrussState) (r : Reply) (m : Modes) (s v : TracedSta
     where
       by : (x : ChildStep) → ChildAsked m x → modes_next pid t r m (OpeningChild parent q x) ≡ released
       by child.SetRelease asked = ap (λ b. cond b (if_accepted (answer_of r) released m) m) (eq-eqb (traced_at t q).pid pid of) ∙ ap (λ x. if_accepted x released m) accepted
-      by child.OpenStatus asked = asked
-      by child.OpenLstatus asked = asked
-      by child.OpenMemory asked = asked
-      by child.Start asked = asked
+      by _ asked = asked
 
   child-later : (step next : ChildStep) → child_step_after step ≡ Some next → m_later ≡ released → ChildAsked m_later next
   unfolding child_step_after
@@ -223,13 +220,7 @@ module _ (k pid : ℕ) (t : TrussState) (r : Reply) (m : Modes) (s v : TracedSta
       by opening.SetRelease same attached = old attached
       by opening.Stop same attached = old attached
       by (opening.AwaitStop until) same attached = ap (modes_next pid t r m) same ∙ j.given q (opening.AwaitStop until) same was
-      by opening.ReadLwps same attached = old attached
-      by opening.TraceSignals same attached = old attached
-      by opening.TraceFaults same attached = old attached
-      by opening.TraceEntries same attached = old attached
-      by opening.TraceExits same attached = old attached
-      by opening.Follow same attached = old attached
-      by opening.Start same attached = old attached
+      by _ same attached = old attached
 
   -- ---- all processes
 
@@ -246,10 +237,7 @@ module _ (k pid : ℕ) (t : TrussState) (r : Reply) (m : Modes) (s v : TracedSta
   child-pid : (x : Traced) (step : ChildStep) → (child_learnt x r step).pid ≡ x.pid
   unfolding child_learnt
   child-pid x child.SetRelease = refl
-  child-pid x child.OpenStatus = refl
-  child-pid x child.OpenLstatus = refl
-  child-pid x child.OpenMemory = refl
-  child-pid x child.Start = refl
+  child-pid x _ = refl
 
   -- the process that is opened now
   new-at : (place : ℕ) (new : Traced) → u.traced ≡ t.traced ++ new ∷ [] → length t.traced ≡ place → at_place u.traced place ≡ new

@@ -17,7 +17,7 @@ use Rattle.pr_num.specs.declared.errnos.Errno.TheVariants.{Busy}
 use Rattle.pr_num.specs.declared.messages.Message.{Message}
 use Rattle.pr_num.specs.declared.messages.Message.TheVariants as message
 use Rattle.pr_num.specs.declared.messages.MsgFault.{MsgFault}
-use Rattle.pr_truss.specs.Messages.{all_modes, message_call, traced_entries, traced_exits}
+use Rattle.pr_truss.specs.Messages.{all_modes, message_call, traced_entries, traced_exits, traced_faults, traced_signals}
 use Rattle.pr_truss.specs.NextCalls.{run_call}
 use Rattle.pr_truss.specs.Replies.{answer_of}
 use Rattle.pr_truss.specs.declared.replies.Answer.TheVariants.{Accepted}
@@ -137,13 +137,23 @@ module _ (s : TracedState) (k m : ℕ) (h : Held) (held : handle_of s.opens k m 
   unfolding answer_of
   set-row change len = inl refl
 
-  pub signals-keep : (o : Options) → answer_to s k (message_call m (message.Strace o.signals)) ≡ Some a → HasSameFlags p q
+  pub signals-keep : (o : Options) → answer_to s k (message_call m (message.Strace (traced_signals o))) ≡ Some a
+      → HasSameFlags p q
   unfolding message_answer
-  signals-keep o is = flags-or (spelling (message.Strace o.signals) []) (message.Strace (o.signals % 2 ^ 64)) (signals-read o.signals) (λ tail len. set-row (tracing_signals (o.signals % 2 ^ 64)) len) is (λ accepted. (_, (signals-set s k m h held control p live o a is accepted, signals-flags o.signals p)))
+  signals-keep o is =
+      let word : ℕ = traced_signals o in
+      flags-or (spelling (message.Strace word) []) (message.Strace (word % 2 ^ 64)) (signals-read word)
+      (λ tail len. set-row (tracing_signals (word % 2 ^ 64)) len)
+      is (λ accepted. (_, (signals-set s k m h held control p live o a is accepted, signals-flags word p)))
 
-  pub faults-keep : (o : Options) → answer_to s k (message_call m (message.Sfault o.faults)) ≡ Some a → HasSameFlags p q
+  pub faults-keep : (o : Options) → answer_to s k (message_call m (message.Sfault (traced_faults o))) ≡ Some a
+      → HasSameFlags p q
   unfolding message_answer
-  faults-keep o is = flags-or (spelling (message.Sfault o.faults) []) (message.Sfault (o.faults % 2 ^ 64)) (faults-read o.faults) (λ tail len. set-row (tracing_faults (o.faults % 2 ^ 64)) len) is (λ accepted. (_, (faults-set s k m h held control p live o a is accepted, faults-flags (o.faults % 2 ^ 64) p)))
+  faults-keep o is =
+      let word : ℕ = traced_faults o in
+      flags-or (spelling (message.Sfault word) []) (message.Sfault (word % 2 ^ 64)) (faults-read word)
+      (λ tail len. set-row (tracing_faults (word % 2 ^ 64)) len)
+      is (λ accepted. (_, (faults-set s k m h held control p live o a is accepted, faults-flags (word % 2 ^ 64) p)))
 
   pub entries-keep : (o : Options) → answer_to s k (message_call m (message.Sentry (traced_entries o))) ≡ Some a → HasSameFlags p q
   unfolding message_answer

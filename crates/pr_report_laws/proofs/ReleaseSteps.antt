@@ -29,6 +29,7 @@ use Rattle.pr_truss_laws.specs.Handles.{HasNothingOpen}
 use Rattle.pr_report_laws.proofs.ClaimRuns.{call_entry}
 use Rattle.pr_report_laws.proofs.EntrySteps.{made-at}
 use Rattle.pr_report_laws.proofs.FileSteps.{MakesNext, makes-next, opens-turn}
+use Rattle.pr_truss_laws.proofs.ForeignLemmas.{exclusive-sole}
 use Rattle.pr_truss_laws.proofs.OutlastLemmas.{Outlasts, killed, lives, others-entry}
 use Rattle.pr_truss_laws.proofs.OverLemmas.{stays-over}
 use Rattle.pr_report_laws.proofs.ReleaseCalls.{KeepsModes, call-modes}
@@ -76,7 +77,9 @@ module _ (n k pid : ℕ) (t : TrussState) (s : TracedState) (m : Modes) (r : Rea
 
   module _ (e : Entry) (legal : IsLegalEntry n s e) (others : e.actor ≢ Controller k) (number : ℕ) (g : Held) (was : handle_of s.opens k number ≡ Some g) (mode : g.mode ≡ WriteExcl) (p q : TracedProcess) (live : live_process s.system g.pid ≡ Some p) where
     alone-stays : ((id : ℕ) → e.actor ≢ Lwp g.pid id) → live_process (after s e).system g.pid ≡ Some q → HasSameFlags p q
-    alone-stays elsewhere now = by (others-entry n s k number g e p r.lawful was mode legal elsewhere others live)
+    alone-stays elsewhere now =
+        let sole = exclusive-sole s k number g r.lawful was mode in
+        by (others-entry n s k g.pid e p r.lawful sole legal elsewhere others live)
       where
         by : Outlasts g.pid p (after s e).system → HasSameFlags p q
         by (lives x later alone) = subst (HasSameFlags p) (same_Some x q (sym later ∙ now)) (alone-flags p x alone)

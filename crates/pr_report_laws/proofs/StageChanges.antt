@@ -1,21 +1,14 @@
-use Rattle.std.proofs.Common.{◌≡◌, ◌≢◌, ◌⊎◌, ◌==◌, ◌&&◌, ◌<◌, ◌-◌, ℕ, Bool, true, false, cond, nat_lt, not, Option, Some, None, List, [], ◌∷◌, length, refl, sym, subst, ap, ◌∙◌, arith, inl, inr}
+use Rattle.std.proofs.Common.{◌≡◌, ◌≢◌, ◌⊎◌, ◌==◌, ◌&&◌, ◌<◌, ℕ, Bool, true, false, Option, Some, List, [], ◌∷◌, length, refl, sym, subst, ap, ◌∙◌, arith, inl, inr}
 use Rattle.std.proofs.lemmas.Bool.{cases_eq, eq-eqb, false≢true, ne_eqb}
 use Rattle.std.proofs.lemmas.List.{get_or-set_other, get_or_append_left, length-append, length-set}
-use Rattle.std.specs.List.{slice_get, slice_set, remove}
-use Rattle.pr_line.specs.ArgumentTexts.{Came}
-use Rattle.pr_line.specs.Events.{event_of}
-use Rattle.pr_line.specs.Selections.{is_selected}
-use Rattle.pr_line.specs.declared.events.Event.{Event}
+use Rattle.std.specs.List.{remove}
 use Rattle.pr_model.specs.Replies.{handle_in}
 use Rattle.pr_model.specs.declared.calls.Reply.{Reply}
 use Rattle.pr_rec.specs.declared.lwps.LwpStatus.{LwpStatus}
 use Rattle.pr_truss.specs.Children.{child_learnt, child_step_after, with_child_control}
-use Rattle.pr_truss.specs.Closings.{left_or_finished, polls_or_finished, with_closing, with_going_on, with_interrupt, with_next_left, with_next_opening}
-use Rattle.pr_truss.specs.Openings.{learnt, step_after, with_control, with_stop_seen}
-use Rattle.pr_truss.specs.Records.{is_on_event}
+use Rattle.pr_truss.specs.Openings.{learnt, step_after, with_control}
 use Rattle.pr_truss.specs.Replies.{answer_of}
-use Rattle.pr_truss.specs.Stops.{asked_range, followed_child, with_child_or, with_event, with_event_over, with_event_shown, with_old_stop_over, with_stop, with_stop_over, with_stop_read, with_text_or_shown}
-use Rattle.pr_truss.specs.Trusses.{TrussState, nobody, opening_or, traced_at, with_opened, with_report, with_stage, with_traced}
+use Rattle.pr_truss.specs.Trusses.{TrussState, nobody, traced_at, with_opened, with_stage, with_traced}
 use Rattle.pr_truss.specs.declared.processes.Traced.{Traced}
 use Rattle.pr_truss.specs.declared.replies.Answer.TheVariants.{Accepted, Interrupted, Gone}
 use Rattle.pr_truss.specs.declared.stages.AfterClosing.{AfterClosing}
@@ -28,7 +21,9 @@ use Rattle.pr_truss.specs.declared.stages.OpeningStep.TheVariants as opening
 use Rattle.pr_truss.specs.declared.stages.Stage.{Stage}
 use Rattle.pr_truss.specs.declared.stages.Stage.TheVariants.{OpeningControl, Opening, ReadingStatus, ReadingText, OpeningChildControl, OpeningChild, Running, Closing, Unfollowing, ReadingLwps, FreeingChild}
 use Rattle.pr_truss_laws.proofs.HeldLemmas.{at_place, set-at}
-use Rattle.pr_report_laws.proofs.NextStages.{ComesNext, going_on-comes, interrupt-comes, next_opening-comes, opens}
+use Rattle.pr_truss_laws.proofs.ReplySteps as step
+use Rattle.pr_truss_laws.proofs.ReplySteps.{GoesOn, StopOver, on-staged}
+use Rattle.pr_report_laws.proofs.NextStages.{on-comes, opens}
 use Rattle.pr_report_laws.specs.Watching.{is_away}
 
 -- What a reply makes of truss, for the processes that it traces: which ones stay as they are, and which one the next
@@ -62,7 +57,8 @@ both-stay t u v place p same =
     }
 
 -- another process changes
-pub set-other : (t : TrussState) (place : ℕ) (x : Traced) (other : ℕ) → other ≢ place → StaysAt t (with_traced t place x) other
+pub set-other : (t : TrussState) (place : ℕ) (x : Traced) (other : ℕ) → other ≢ place
+    → StaysAt t (with_traced t place x) other
 set-other t place x other apart =
     let same = get_or-set_other t.traced place other x nobody apart in
     record {
@@ -73,7 +69,8 @@ set-other t place x other apart =
     }
 
 -- this one changes, but neither its id nor whether it is attached
-pub set-stays : (t : TrussState) (place : ℕ) (x : Traced) → place < length t.traced → x.pid ≡ (traced_at t place).pid → x.attached ≡ (traced_at t place).attached → (other : ℕ) → StaysAt t (with_traced t place x) other
+pub set-stays : (t : TrussState) (place : ℕ) (x : Traced) → place < length t.traced → x.pid ≡ (traced_at t place).pid
+    → x.attached ≡ (traced_at t place).attached → (other : ℕ) → StaysAt t (with_traced t place x) other
 set-stays t place x within pid attached other = elim (cases_eq other place) [
   | inl same ↦ subst (λ n. StaysAt t (with_traced t place x) n) (sym same) here
   | inr apart ↦ set-other t place x other apart
@@ -110,31 +107,6 @@ pub data Asks (stage : Stage) (place : ℕ) : Type 0 where
   runs : stage ≡ Running place → Asks stage place
   unfollows : stage ≡ Unfollowing → place ≡ 0 → Asks stage place
 
--- what comes next leaves truss leaving or not, as it was
-pub next_left-leaving : (v : TrussState) → (with_next_left v).leaving ≡ v.leaving
-unfolding with_next_left
-next_left-leaving v = by (slice_get v.traced 0)
-  where
-    by : (first : Option Traced) → (left_or_finished v first).leaving ≡ v.leaving
-    by None = refl
-    by (Some x) = refl
-
-pub going_on-leaving : (v : TrussState) → (with_going_on v).leaving ≡ v.leaving
-unfolding with_going_on
-going_on-leaving v = elim v.leaving as (λ l. (cond l (with_next_left v) (polls_or_finished v (slice_get v.traced 0))).leaving ≡ v.leaving) [ true ↦ next_left-leaving v | false ↦ polls (slice_get v.traced 0) ]
-  where
-    polls : (first : Option Traced) → (polls_or_finished v first).leaving ≡ v.leaving
-    polls None = refl
-    polls (Some x) = refl
-
-pub next_opening-leaving : (v : TrussState) → (with_next_opening v).leaving ≡ v.leaving
-unfolding with_next_opening
-next_opening-leaving v = by (slice_get v.options.pids v.begun)
-  where
-    by : (p : Option ℕ) → (opening_or v (with_going_on v) p).leaving ≡ v.leaving
-    by None = going_on-leaving v
-    by (Some pid) = refl
-
 module _ (t : TrussState) (r : Reply) where
   -- why truss comes to leave or to close the process at a place, or opens it
   pub data Ends (place : ℕ) : Type 0 where
@@ -148,7 +120,8 @@ module _ (t : TrussState) (r : Reply) where
     opened : t.stage ≡ Opening place opening.Start → answer_of r ≡ Accepted → Begins place
     followed : (parent : ℕ) → t.stage ≡ OpeningChild parent place child.Start → answer_of r ≢ Gone → Begins place
     interrupted : (step : OpeningStep) → t.stage ≡ Opening place step → answer_of r ≡ Interrupted → Begins place
-    child_interrupted : (parent : ℕ) (step : ChildStep) → t.stage ≡ OpeningChild parent place step → answer_of r ≡ Interrupted → Begins place
+    child_interrupted : (parent : ℕ) (step : ChildStep) → t.stage ≡ OpeningChild parent place step
+        → answer_of r ≡ Interrupted → Begins place
 
   abbrev pub AllBegin : Type 0
   AllBegin = (place : ℕ) → (traced_at t place).attached ≡ true → is_away t.leaving t.stage place ≡ true → Begins place
@@ -156,12 +129,17 @@ module _ (t : TrussState) (r : Reply) where
   -- how the opening of the process at a place goes on
   pub data Opens (place : ℕ) (u : TrussState) : Type 0 where
     no : opens u.stage ≡ false → StaysAt t u place → Opens place u
-    starts : (pid : ℕ) → t.stage ≡ OpeningControl pid → answer_of r ≡ Accepted → u ≡ with_control t pid (handle_in r) → Opens place u
-    goes : (step next : OpeningStep) → t.stage ≡ Opening place step → answer_of r ≡ Accepted → step_after t.options r step ≡ Some next
+    starts : (pid : ℕ) → t.stage ≡ OpeningControl pid → answer_of r ≡ Accepted → u ≡ with_control t pid (handle_in r)
+        → Opens place u
+    goes : (step next : OpeningStep) → t.stage ≡ Opening place step → answer_of r ≡ Accepted
+        → step_after t.options r step ≡ Some next
         → u ≡ with_stage (with_traced t place (learnt (traced_at t place) r step)) (Opening place next) → Opens place u
-    child_starts : (parent pid : ℕ) → t.stage ≡ OpeningChildControl parent pid → answer_of r ≡ Accepted → u ≡ with_child_control t parent pid (handle_in r) → Opens place u
-    child_goes : (parent : ℕ) (step next : ChildStep) → t.stage ≡ OpeningChild parent place step → answer_of r ≡ Accepted → child_step_after step ≡ Some next
-        → u ≡ with_stage (with_traced t place (child_learnt (traced_at t place) r step)) (OpeningChild parent place next) → Opens place u
+    child_starts : (parent pid : ℕ) → t.stage ≡ OpeningChildControl parent pid → answer_of r ≡ Accepted
+        → u ≡ with_child_control t parent pid (handle_in r) → Opens place u
+    child_goes : (parent : ℕ) (step next : ChildStep) → t.stage ≡ OpeningChild parent place step
+        → answer_of r ≡ Accepted → child_step_after step ≡ Some next
+        → u ≡ with_stage (with_traced t place (child_learnt (traced_at t place) r step))
+        (OpeningChild parent place next) → Opens place u
 
   pub record IsAt (place : ℕ) (u : TrussState) : Type 0 where
     pub others : (other : ℕ) → other ≢ place → StaysAt t u other
@@ -177,7 +155,8 @@ module _ (t : TrussState) (r : Reply) where
     -- the process at this place
     at : (place : ℕ) → IsAt place u → How u
     -- no process, and the one at this place is closed
-    less : (place : ℕ) (next : AfterClosing) → t.stage ≡ Closing place next → u.traced ≡ remove t.traced place → IsFree u → How u
+    less : (place : ℕ) (next : AfterClosing) → t.stage ≡ Closing place next → u.traced ≡ remove t.traced place
+        → IsFree u → How u
 
   pub record Comes (u : TrussState) : Type 0 where
     pub leaves : u.leaving ≡ true → (t.leaving ≡ true) ⊎ (answer_of r ≡ Interrupted)
@@ -192,43 +171,57 @@ module _ (t : TrussState) (r : Reply) where
   pub idle-begins : Idle → AllBegin
   idle-begins idle place on away = absurd (false≢true (sym (idle place) ∙ away))
 
-  stays-leaving : (u : TrussState) → u.leaving ≡ t.leaving → u.leaving ≡ true → (t.leaving ≡ true) ⊎ (answer_of r ≡ Interrupted)
+  stays-leaving : (u : TrussState) → u.leaving ≡ t.leaving → u.leaving ≡ true
+      → (t.leaving ≡ true) ⊎ (answer_of r ≡ Interrupted)
   stays-leaving u same on = inl (sym same ∙ on)
 
   -- what comes next, from a state with the same processes
-  pub next-comes : (v u : TrussState) → ((place : ℕ) → StaysAt t v place) → ComesNext v u → (u.leaving ≡ true → (t.leaving ≡ true) ⊎ (answer_of r ≡ Interrupted)) → AllBegin → Comes u
-  next-comes v u places c left begins = record { leaves = left; how = free (λ place. both-stay t v u place (places place) c.traced) (record { here = c.here; opens = c.opens }) begins }
+  pub next-comes : (u v : TrussState) (given : Bool) → ((place : ℕ) → StaysAt t u place)
+      → (u.leaving ≡ true → (t.leaving ≡ true) ⊎ (answer_of r ≡ Interrupted)) → AllBegin → GoesOn u given v → Comes v
+  next-comes u v given places left begins on =
+      let c = on-comes u v given on in
+      let s = on-staged on in
+      record {
+        leaves = λ is. left (sym s.leaving ∙ is);
+        how =
+            free (λ place. both-stay t u v place (places place) c.traced)
+            (record { here = c.here; opens = c.opens }) begins;
+      }
 
   -- a step that is about no process
-  pub plain-comes : (v : TrussState) (stage : Stage) → v.traced ≡ t.traced → v.leaving ≡ t.leaving → ((place : ℕ) → is_away v.leaving stage place ≡ false) → opens stage ≡ false → AllBegin → Comes (with_stage v stage)
+  pub plain-comes : (v : TrussState) (stage : Stage) → v.traced ≡ t.traced → v.leaving ≡ t.leaving
+      → ((place : ℕ) → is_away v.leaving stage place ≡ false) → opens stage ≡ false → AllBegin
+      → Comes (with_stage v stage)
   plain-comes v stage same leaving none opens begins = record {
     leaves = λ on. stays-leaving v leaving on;
-    how = free (same-stays t (with_stage v stage) same) (record { here = λ place on. none place; opens = opens }) begins;
+    how =
+        free (same-stays t (with_stage v stage) same) (record { here = λ place on. none place; opens = opens }) begins;
   }
 
   -- the files of a process are closed
-  pub closing-comes : (v : TrussState) (place : ℕ) (next : AfterClosing) → v.leaving ≡ t.leaving → ((other : ℕ) → StaysAt t v other) → ((other : ℕ) → other ≢ place → is_away t.leaving t.stage other ≡ false) → Ends place → Comes (with_stage v (Closing place next))
+  pub closing-comes : (v : TrussState) (place : ℕ) (next : AfterClosing) → v.leaving ≡ t.leaving
+      → ((other : ℕ) → StaysAt t v other) → ((other : ℕ) → other ≢ place → is_away t.leaving t.stage other ≡ false)
+      → Ends place → Comes (with_stage v (Closing place next))
   closing-comes v place next leaving places before ends = record {
     leaves = λ on. stays-leaving v leaving on;
-    how = at place (record { others = λ other apart. both-stay t v (with_stage v (Closing place next)) other (places other) refl; away = eq-eqb place place refl; alone = λ other apart. ne_eqb place other (λ same. apart (sym same)); before = before; ends = ends; opens = no refl (both-stay t v (with_stage v (Closing place next)) place (places place) refl) });
+    how =
+        at place
+        (record {
+          others = λ other apart. both-stay t v (with_stage v (Closing place next)) other
+              (places other) refl;
+          away =
+              eq-eqb place place refl;
+          alone =
+              λ other apart. ne_eqb place other (λ same. apart (sym same));
+          before =
+              before;
+          ends =
+              ends;
+          opens =
+              no refl (both-stay t v (with_stage v (Closing place next)) place
+              (places place) refl);
+        });
   }
-
-  pub goes_on-comes : (v : TrussState) → ((place : ℕ) → StaysAt t v place) → v.leaving ≡ t.leaving → AllBegin → Comes (with_going_on v)
-  goes_on-comes v places leaving begins = next-comes v (with_going_on v) places (going_on-comes v) (λ on. inl (sym leaving ∙ sym (going_on-leaving v) ∙ on)) begins
-
-  pub opening_next-comes : (v : TrussState) → ((place : ℕ) → StaysAt t v place) → v.leaving ≡ t.leaving → AllBegin → Comes (with_next_opening v)
-  opening_next-comes v places leaving begins = next-comes v (with_next_opening v) places (next_opening-comes v) (λ on. inl (sym leaving ∙ sym (next_opening-leaving v) ∙ on)) begins
-
-  pub interrupted-comes : (v : TrussState) → ((place : ℕ) → StaysAt t v place) → answer_of r ≡ Interrupted → AllBegin → Comes (with_interrupt v)
-  interrupted-comes v places is begins = next-comes v (with_interrupt v) places (interrupt-comes v) (λ on. inr is) begins
-
-  -- the stop of a process is marked as looked at
-  pub seen-comes : (v : TrussState) (place : ℕ) → v.traced ≡ t.traced → place < length t.traced → answer_of r ≡ Interrupted → AllBegin → Comes (with_interrupt (with_stop_seen v place))
-  unfolding with_stop_seen
-  seen-comes v place same within is begins =
-      let x : Traced = record (traced_at v place) { seen = true } in
-      let old : (traced_at v place) ≡ (traced_at t place) = ap (λ (ts : List Traced). at_place ts place) same in
-      interrupted-comes (with_traced v place x) (λ other. both-stay t (with_traced t place x) (with_traced v place x) other (set-stays t place x within (ap (λ (y : Traced). y.pid) old) (ap (λ (y : Traced). y.attached) old) other) (ap (λ (ts : List Traced). slice_set ts place x) same)) is begins
 
   -- ---- stops
 
@@ -250,73 +243,58 @@ module _ (t : TrussState) (r : Reply) where
 
   module _ (place : ℕ) (l : IsLooking place) where
     -- a step about no process, where truss does not leave
-    on-comes : (v : TrussState) (stage : Stage) → IsBased v → t.leaving ≡ false → ((other : ℕ) → is_away v.leaving stage other ≡ false) → opens stage ≡ false → Comes (with_stage v stage)
-    on-comes v stage b stays none opens = record {
+    on-comes-to : (v : TrussState) (stage : Stage) → IsBased v → t.leaving ≡ false
+        → ((other : ℕ) → is_away v.leaving stage other ≡ false) → opens stage ≡ false → Comes (with_stage v stage)
+    on-comes-to v stage b stays none opens = record {
       leaves = λ on. stays-leaving v b.leaving on;
-      how = free (λ other. both-stay t v (with_stage v stage) other (b.places other) refl) (record { here = λ other on. none other; opens = opens }) (idle-begins (l.idle stays));
+      how =
+          free (λ other. both-stay t v (with_stage v stage) other (b.places other) refl)
+          (record { here = λ other on. none other; opens = opens }) (idle-begins (l.idle stays));
     }
 
     -- a step about this process, where truss leaves
-    left-comes : (v : TrussState) (stage : Stage) → IsBased v → t.leaving ≡ true → is_away v.leaving stage place ≡ true → ((other : ℕ) → other ≢ place → is_away v.leaving stage other ≡ false) → opens stage ≡ false → Comes (with_stage v stage)
+    left-comes : (v : TrussState) (stage : Stage) → IsBased v → t.leaving ≡ true → is_away v.leaving stage place ≡ true
+        → ((other : ℕ) → other ≢ place → is_away v.leaving stage other ≡ false) → opens stage ≡ false
+        → Comes (with_stage v stage)
     left-comes v stage b leaving away alone opens = record {
       leaves = λ on. stays-leaving v b.leaving on;
-      how = at place (record { others = λ other apart. both-stay t v (with_stage v stage) other (b.places other) refl; away = away; alone = alone; before = l.others; ends = l.ends leaving; opens = no opens (both-stay t v (with_stage v stage) place (b.places place) refl) });
+      how =
+          at place
+          (record {
+            others = λ other apart. both-stay t v (with_stage v stage) other
+                (b.places other) refl;
+            away =
+                away;
+            alone =
+                alone;
+            before =
+                l.others;
+            ends =
+                l.ends leaving;
+            opens =
+                no opens (both-stay t v (with_stage v stage) place (b.places place) refl);
+          });
     }
 
-    pub over-comes : (v : TrussState) → IsBased v → Comes (with_stop_over v place)
-    unfolding with_stop_over
-    over-comes v b = by v.leaving refl
+    pub over-comes : (u v : TrussState) (pid : Option ℕ) → IsBased u → StopOver u place pid v → Comes v
+    over-comes u v pid b (step.runs off) = on-comes-to u (Running place) b (sym b.leaving ∙ off) (λ other. refl) refl
+    over-comes u v pid b (step.leaves on) =
+        left-comes u (Closing place GoOn) b (sym b.leaving ∙ on) (eq-eqb place place refl)
+        (λ other apart. ne_eqb place other (λ same. apart (sym same))) refl
+    over-comes u v pid b (step.opens_child {pid = child} off) =
+        on-comes-to u (OpeningChildControl place child) b (sym b.leaving ∙ off) (λ other. refl) refl
+    over-comes u v pid b (step.frees_child {pid = child} on) =
+        let first : place ≡ 0 = l.first (sym b.leaving ∙ on) in
+        left-comes u (FreeingChild child freeing.OpenControl) b (sym b.leaving ∙ on) (eq-eqb place 0 first)
+        (λ other apart. ne_eqb other 0 (λ same. apart (same ∙ sym first))) refl
+
+    pub asks-comes : (lwp : LwpStatus) (from len : ℕ) → Comes (with_stage t (ReadingText place lwp from len))
+    asks-comes lwp from len = by t.leaving refl
       where
-        by : (c : Bool) → v.leaving ≡ c → Comes (cond c (with_closing v place) (with_stage v (Running place)))
-        by true is = left-comes v (Closing place GoOn) b (sym b.leaving ∙ is) (eq-eqb place place refl) (λ other apart. ne_eqb place other (λ same. apart (sym same))) refl
-        by false is = on-comes v (Running place) b (sym b.leaving ∙ is) (λ other. refl) refl
-
-    pub event_over-comes : (v : TrussState) (lwp : LwpStatus) → IsBased v → Comes (with_event_over v place lwp)
-    unfolding with_event_over
-    event_over-comes v lwp b = by (followed_child v.options lwp)
-      where
-        leaves : (c : ℕ) (leaving : Bool) → v.leaving ≡ leaving → Comes (with_stage v (cond leaving (FreeingChild c freeing.OpenControl) (OpeningChildControl place c)))
-        leaves c true is =
-            let zero_is : place ≡ 0 = l.first (sym b.leaving ∙ is) in
-            left-comes v (FreeingChild c freeing.OpenControl) b (sym b.leaving ∙ is) (eq-eqb place 0 zero_is) (λ other apart. ne_eqb other 0 (λ same. apart (same ∙ sym zero_is))) refl
-        leaves c false is = on-comes v (OpeningChildControl place c) b (sym b.leaving ∙ is) (λ other. refl) refl
-
-        by : (c : Option ℕ) → Comes (with_child_or v place c)
-        by None = over-comes v b
-        by (Some c) = leaves c v.leaving refl
-
-    pub shown-based : (v : TrussState) (lwp : LwpStatus) (came : Came) → IsBased v → IsBased (with_event_shown v place lwp came)
-    unfolding with_event_shown
-    shown-based v lwp came b = record { places = λ other. both-stay t v (with_report v _) other (b.places other) refl; leaving = b.leaving }
-
-    text_or-comes : (v : TrussState) (lwp : LwpStatus) → IsBased v → (range : Option (ℕ × ℕ)) → Comes (with_text_or_shown v place lwp range)
-    text_or-comes v lwp b None = event_over-comes (with_event_shown v place lwp None) lwp (shown-based v lwp None b)
-    text_or-comes v lwp b (Some range) = by v.leaving refl
-      where
-        by : (c : Bool) → v.leaving ≡ c → Comes (with_stage v (ReadingText place lwp range.0 range.1))
-        by true is = left-comes v (ReadingText place lwp range.0 range.1) b (sym b.leaving ∙ is) (ap (λ c. c && (place == place)) is ∙ eq-eqb place place refl) (λ other apart. ap (λ c. c && (place == other)) is ∙ ne_eqb place other (λ same. apart (sym same))) refl
-        by false is = on-comes v (ReadingText place lwp range.0 range.1) b (sym b.leaving ∙ is) (λ other. ap (λ c. c && (place == other)) is) refl
-
-    either : (c : Bool) (v u : TrussState) → Comes v → Comes u → Comes (cond c v u)
-    either true v u p q = p
-    either false v u p q = q
-
-    event-comes : (v : TrussState) (lwp : LwpStatus) → IsBased v → (e : Option Event) → Comes (with_event v place lwp e)
-    event-comes v lwp b None = over-comes v b
-    event-comes v lwp b (Some e) = either (is_selected v.options e) (with_text_or_shown v place lwp (asked_range v.options e)) (with_event_over v place lwp) (text_or-comes v lwp b (asked_range v.options e)) (event_over-comes v lwp b)
-
-    old_over-comes : Comes (with_old_stop_over t place)
-    unfolding with_old_stop_over
-    old_over-comes =
-        let x : Traced = record (traced_at t place) { old = (traced_at t place).old - 1 } in
-        over-comes (with_traced t place x) (record { places = set-stays t place x l.within refl refl; leaving = refl })
-
-    stop-comes : (lwp : LwpStatus) → Comes (with_stop t place lwp)
-    unfolding with_stop
-    stop-comes lwp =
-        let over : Comes (with_stop_over t place) = over-comes t based in
-        either (not (is_on_event lwp)) (with_stop_over t place) _ over (either (nat_lt 0 (traced_at t place).old) (with_old_stop_over t place) _ old_over-comes (either (traced_at t place).seen (with_stop_over t place) (with_event t place lwp (event_of lwp)) over (event-comes t lwp based (event_of lwp))))
-
-    pub stop_read-comes : (o : Option LwpStatus) → Comes (with_stop_read t place o)
-    stop_read-comes None = over-comes t based
-    stop_read-comes (Some lwp) = stop-comes lwp
+        by : (c : Bool) → t.leaving ≡ c → Comes (with_stage t (ReadingText place lwp from len))
+        by true is =
+            left-comes t (ReadingText place lwp from len) based is (ap (λ c. c && (place == place)) is
+            ∙ eq-eqb place place refl)
+            (λ other apart. ap (λ c. c && (place == other)) is ∙ ne_eqb place other (λ same. apart (sym same))) refl
+        by false is =
+            on-comes-to t (ReadingText place lwp from len) based is (λ other. ap (λ c. c && (place == other)) is) refl

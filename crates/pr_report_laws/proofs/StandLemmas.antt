@@ -216,13 +216,7 @@ opening-unseen u opening.ClearModes w is = w.fresh.unseen
 opening-unseen u opening.SetRelease w is = w.fresh.unseen
 opening-unseen u opening.Stop w is = w.fresh.unseen
 opening-unseen u (opening.AwaitStop until) w is = w.fresh.unseen
-opening-unseen u opening.ReadLwps w is = w.unseen
-opening-unseen u opening.TraceSignals w is = w.unseen
-opening-unseen u opening.TraceFaults w is = w.unseen
-opening-unseen u opening.TraceEntries w is = w.unseen
-opening-unseen u opening.TraceExits w is = w.unseen
-opening-unseen u opening.Follow w is = w.unseen
-opening-unseen u opening.Start w is = w.unseen
+opening-unseen u _ w is = w.unseen
 
 pub child-unseen : (u : Traced) (step : ChildStep) → StandsChild u step → IsUnseen u
 child-unseen u child.SetRelease w is = w.unseen
@@ -236,17 +230,7 @@ pub opening-opened : (u : Traced) (step : OpeningStep) → StandsOpening u step 
 opening-opened u opening.OpenStatus w is = absurd (false≢true (sym w.free ∙ is))
 opening-opened u opening.OpenLstatus w is = absurd (false≢true (sym w.fresh.free ∙ is))
 opening-opened u opening.OpenMemory w is = absurd (false≢true (sym w.fresh.free ∙ is))
-opening-opened u opening.ClearModes w is = w.opened
-opening-opened u opening.SetRelease w is = w.opened
-opening-opened u opening.Stop w is = w.opened
-opening-opened u (opening.AwaitStop until) w is = w.opened
-opening-opened u opening.ReadLwps w is = w.opened
-opening-opened u opening.TraceSignals w is = w.opened
-opening-opened u opening.TraceFaults w is = w.opened
-opening-opened u opening.TraceEntries w is = w.opened
-opening-opened u opening.TraceExits w is = w.opened
-opening-opened u opening.Follow w is = w.opened
-opening-opened u opening.Start w is = w.opened
+opening-opened u _ w is = w.opened
 
 pub child-opened : (u : Traced) (step : ChildStep) → StandsChild u step → u.attached ≡ true → AreOpen u
 child-opened u child.SetRelease w is = absurd (false≢true (sym w.free ∙ is))

@@ -8,7 +8,7 @@ use Rattle.pr_num.specs.Control.{async_mode, has_flags, klc_mode}
 use Rattle.pr_num.specs.Sets.{without_number}
 use Rattle.pr_num.specs.Signals.{signal_number}
 use Rattle.pr_num.specs.declared.signals.Sig.TheVariants.{Kill}
-use Rattle.pr_truss.specs.Messages.{traced_entries, traced_exits}
+use Rattle.pr_truss.specs.Messages.{traced_entries, traced_exits, traced_faults, traced_signals}
 use Rattle.pr_truss.specs.Trusses.{TrussState, traced_at}
 use Rattle.pr_truss.specs.declared.stages.AfterClosing.TheVariants.{RunParent}
 use Rattle.pr_truss.specs.declared.stages.ChildStep.{ChildStep}
@@ -82,11 +82,11 @@ pub record IsCounted (p : TracedProcess) (old : ℕ) : Type 0 where
 -- the traced sets, one after another
 pub record HasSignals (o : Options) (p : TracedProcess) (old : ℕ) : Type 0 where
   pub counted : IsCounted p old
-  pub signals : p.control.traced_signals ≡ without_number o.signals (signal_number Kill)
+  pub signals : p.control.traced_signals ≡ without_number (traced_signals o) (signal_number Kill)
 
 pub record HasFaults (o : Options) (p : TracedProcess) (old : ℕ) : Type 0 where
   pub before : HasSignals o p old
-  pub faults : p.control.traced_faults ≡ o.faults % 2 ^ 64
+  pub faults : p.control.traced_faults ≡ traced_faults o % 2 ^ 64
 
 pub record HasEntries (o : Options) (p : TracedProcess) (old : ℕ) : Type 0 where
   pub before : HasFaults o p old

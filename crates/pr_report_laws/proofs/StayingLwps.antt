@@ -23,7 +23,7 @@ use Rattle.pr_model.proofs.TurnLemmas.{turn-taken}
 use Rattle.pr_model.specs.Changes.{Change, changed, files_are, space_is, signals, signals_itself, takes_shared, job_stops, disposition_is, held_is, resumes, forks, reaps, becomes, makes_lwp, suspends, all_changed, ended, Ending, ends_process, ends_lwp, resumed, with_disposition_of, with_fds, with_held, with_job_stop, with_shared_taken, with_space, with_suspended}
 use Rattle.pr_model.specs.Generation.{ends_job_stop, lwp_with_pending, lwp_without_pending, told, with_deletions, with_pending, without_job_stop, without_pending}
 use Rattle.pr_model.specs.Lawful.{IsLawfulSystem}
-use Rattle.pr_model.specs.Lives.{bare_process, ended_if_live, forked, new_lwp, orphaned, started, with_child, with_ended, with_lwp_ended, with_made, with_new_lwp, with_parent_told, with_program, with_reaped, with_this_ended, without_lwp, zombie}
+use Rattle.pr_model.specs.Lives.{Birth, bare_process, ended_if_live, forked, new_lwp, orphaned, started, with_child, with_ended, with_lwp_ended, with_made, with_new_lwp, with_parent_told, with_program, with_reaped, with_this_ended, without_lwp, zombie}
 use Rattle.pr_model.specs.LwpTurns.{LwpTurn, settled, turn_of, with_counted}
 use Rattle.pr_model.specs.Machines.{no_marks, traced}
 use Rattle.pr_model.specs.Moves.{moved}
@@ -201,9 +201,13 @@ module _ (pid id : ℕ) where
     itself-stays : (g : Sig) (info : Info) (s : TracedSystem) → Stays s (cond (is_kill g) s (generated traced pid (Some id) g info s))
     itself-stays g info s = choice (Stays s) (is_kill g) s _ (λ own. stays-same s) (λ spared. generated-stays pid (Some id) g info s (ap (λ b. b && (pid == pid)) spared))
 
-    child-stays : (args : List ℕ) (s : TracedSystem) → Stays s (cond (s.made == pid) s (with_child traced pid p l args s))
+    child-stays : (birth : Birth) (args : List ℕ) (s : TracedSystem)
+        → Stays s (cond (s.made == pid) s (with_child traced birth pid p l args s))
     unfolding with_child with_made
-    child-stays args s = choice (Stays s) (s.made == pid) s _ (λ own. stays-same s) (λ apart. stays-there s _ (under-inserted_other s.made pid (forked traced pid p l args s.clock) (eqb-false s.made pid apart) s.processes))
+    child-stays birth args s =
+        let child : TracedProcess = forked traced birth pid p l args s.clock in
+        choice (Stays s) (s.made == pid) s _ (λ own. stays-same s)
+        (λ apart. stays-there s _ (under-inserted_other s.made pid child (eqb-false s.made pid apart) s.processes))
 
     reaped-stays : (child : ℕ) (s : TracedSystem) → Stays s (cond (child == pid) s (with_reaped child s))
     unfolding with_reaped
@@ -229,7 +233,7 @@ module _ (pid id : ℕ) where
     change-stays (disposition_is g d) s suits = own-stays (with_disposition_of g d) s (λ x at. keeps-ids id x (with_disposition_of g d x) refl (λ n. refl))
     change-stays (held_is held) s suits = own-stays (with_lwp id (with_held held)) s (λ x at. keeps-lwp id id (with_held held) x)
     change-stays (resumes frame frames) s suits = own-stays (with_lwp id (resumed frame frames)) s (λ x at. keeps-lwp id id (resumed frame frames) x)
-    change-stays (forks args) s suits = child-stays args s
+    change-stays (forks birth args) s suits = child-stays birth args s
     change-stays (reaps child) s suits = reaped-stays child s
     change-stays (becomes program) s suits = program-stays program s suits
     change-stays (makes_lwp fresh regs held) s suits = new-stays fresh held regs s suits

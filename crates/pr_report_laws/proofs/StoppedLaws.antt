@@ -94,38 +94,23 @@ count-mapped f g same (e ∷ es) =
 
 stop-class : (s : Stop) → 3 ≤ class_of_stop s
 stop-class stop.Requested = omega arith
-stop-class (stop.Signalled g) = omega arith
-stop-class (stop.SysEntry c) = omega arith
-stop-class (stop.SysExit c) = omega arith
-stop-class (stop.Faulted f) = omega arith
+stop-class _ = omega arith
 
 met-third : (s : Stop) → is_met s ≡ true → class_of_stop s ≡ 3
 met-third stop.Requested met = cc
-met-third (stop.Signalled g) met = refl
-met-third (stop.SysEntry c) met = refl
-met-third (stop.SysExit c) met = refl
-met-third (stop.Faulted f) met = refl
+met-third _ met = refl
 
 third-met : (s : Stop) → class_of_stop s ≡ 3 → is_met s ≡ true
 third-met stop.Requested third = absurd (omega arith)
-third-met (stop.Signalled g) third = refl
-third-met (stop.SysEntry c) third = refl
-third-met (stop.SysExit c) third = refl
-third-met (stop.Faulted f) third = refl
+third-met _ third = refl
 
 request-unmet : (s : Stop) → is_request s ≡ true → is_met s ≡ false
 request-unmet stop.Requested is = refl
-request-unmet (stop.Signalled g) is = cc
-request-unmet (stop.SysEntry c) is = cc
-request-unmet (stop.SysExit c) is = cc
-request-unmet (stop.Faulted f) is = cc
+request-unmet _ is = cc
 
 unmet-request : (s : Stop) → is_met s ≡ false → is_request s ≡ true
 unmet-request stop.Requested is = refl
-unmet-request (stop.Signalled g) is = cc
-unmet-request (stop.SysEntry c) is = cc
-unmet-request (stop.SysExit c) is = cc
-unmet-request (stop.Faulted f) is = cc
+unmet-request _ is = cc
 
 job-class : (job : Option Sig) → class_of_shown (shown_by_job job) ≤ 2
 job-class None = omega arith

@@ -1,41 +1,23 @@
-use Rattle.std.proofs.Common.{◌≡◌, ◌-◌, ◌++◌, ℕ, Bool, true, false, cond, nat_lt, not, Option, Some, None, List, [], ◌∷◌, refl, sym, subst, ap, ◌∙◌}
-use Rattle.std.specs.List.{position, slice_get}
+use Rattle.std.proofs.Common.{◌≡◌, ◌++◌, ℕ, Bool, true, false, Option, Some, None, List, [], ◌∷◌, refl, sym, subst, ap, ◌∙◌}
+use Rattle.std.specs.List.{slice_get}
 use Rattle.std.specs.Option.{option_and_then}
 use Rattle.pr_line.specs.ArgumentTexts.{Came}
-use Rattle.pr_line.specs.Events.{event_of}
-use Rattle.pr_line.specs.Selections.{is_selected}
 use Rattle.pr_line.specs.declared.events.Event.{Event}
 use Rattle.pr_line.specs.declared.options.Options.{Options}
-use Rattle.pr_model.specs.Replies.{bytes_in, handle_in}
+use Rattle.pr_model.specs.Replies.{bytes_in}
 use Rattle.pr_model.specs.declared.calls.Reply.{Reply}
-use Rattle.pr_num.specs.declared.errnos.Errno.{Errno}
-use Rattle.pr_num.specs.declared.errnos.Errno.TheVariants.{Noent}
 use Rattle.pr_rec.specs.declared.lwps.LwpStatus.{LwpStatus}
-use Rattle.pr_truss.specs.Children.{at_child_step, child_learnt, child_step_after, with_child_answered, with_child_control, with_child_control_answered, with_child_started, with_child_step_answered, with_child_step_done, with_freeing_answered, with_freeing_begun, with_refused_child, with_refused_child_step, with_refused_freeing}
-use Rattle.pr_truss.specs.Closings.{after_closing, closed_or_removed, with_closed, with_closing, with_going_on, with_interrupt, with_next_opening}
-use Rattle.pr_truss.specs.Feeding.{fed, with_reply}
-use Rattle.pr_truss.specs.Openings.{at_step, learnt, pid_in, step_after, with_control, with_control_answered, with_refused_control, with_refused_start, with_refused_step, with_start_answered, with_step_answered, with_step_done, with_stop_seen}
-use Rattle.pr_truss.specs.Processes.{newly_traced, without_last}
-use Rattle.pr_truss.specs.Records.{event_stops, is_on_event, status_lwp}
-use Rattle.pr_truss.specs.Replies.{answer_of, ready_in}
-use Rattle.pr_truss.specs.Reports.{pending_at}
-use Rattle.pr_truss.specs.Stops.{after_text, asked_range, followed_child, has_control, text_of, with_child_or, with_event, with_event_over, with_event_shown, with_lwps_answered, with_old_stop_over, with_poll_answered, with_polled, with_run_answered, with_status_answered, with_stop, with_stop_over, with_stop_read, with_text_answered, with_text_or_shown, with_unfollowed}
-use Rattle.pr_truss.specs.Trusses.{TrussState, first_of_program, first_truss, idle, opening_or, traced_at, with_opened, with_report, with_stage, with_traced, without_traced}
-use Rattle.pr_truss.specs.declared.processes.Traced.{Traced}
-use Rattle.pr_truss.specs.declared.replies.Answer.{Answer}
-use Rattle.pr_truss.specs.declared.replies.Answer.TheVariants.{Accepted, Interrupted, Gone, Refused}
+use Rattle.pr_truss.specs.Feeding.{fed}
+use Rattle.pr_truss.specs.Stops.{asked_range, text_of}
+use Rattle.pr_truss.specs.Trusses.{TrussState, first_of_program, first_truss, idle, opening_or, traced_at}
 use Rattle.pr_truss.specs.declared.reports.Report.{Report}
 use Rattle.pr_truss.specs.declared.reports.Report.TheVariants as report
 use Rattle.pr_truss.specs.declared.stages.AfterClosing.{AfterClosing}
-use Rattle.pr_truss.specs.declared.stages.AfterClosing.TheVariants.{OpenNext, GoOn, RunParent}
-use Rattle.pr_truss.specs.declared.stages.ChildStep.{ChildStep}
-use Rattle.pr_truss.specs.declared.stages.ChildStep.TheVariants as child
-use Rattle.pr_truss.specs.declared.stages.FreeingStep.{FreeingStep}
-use Rattle.pr_truss.specs.declared.stages.FreeingStep.TheVariants as freeing
-use Rattle.pr_truss.specs.declared.stages.OpeningStep.{OpeningStep}
 use Rattle.pr_truss.specs.declared.stages.Stage.{Stage}
-use Rattle.pr_truss.specs.declared.stages.Stage.TheVariants.{Spawning, OpeningControl, Opening, Polling, ReadingStatus, ReadingText, OpeningChildControl, OpeningChild, Running, Closing, Unfollowing, ReadingLwps, FreeingChild, Finished}
-use Rattle.pr_report_laws.proofs.NextStages.{ComesNext, going_on-comes, interrupt-comes, next_opening-comes}
+use Rattle.pr_truss.specs.declared.stages.Stage.TheVariants.{ReadingStatus, ReadingText, ReadingLwps}
+use Rattle.pr_truss_laws.proofs.ReplySteps as step
+use Rattle.pr_truss_laws.proofs.ReplySteps.{Closes, GoesOn, IsNew, Looks, Reads, ReplyStep, Settles, StopOver, on-staged, over-staged}
+use Rattle.pr_truss_laws.proofs.FedSteps.{fed-step}
 use Rattle.pr_report_laws.specs.Memories.{range_asked}
 
 -- What one reply adds to the reports of truss, and which memory truss asks for then.
@@ -82,7 +64,8 @@ abbrev pub Asks : Options → TrussState → List Report → Stage → Type 0
 Asks o t reports (ReadingText place l from len) = AsksNow o t reports l from len
 Asks o t reports _ = Unit {0}
 
-pub asks-range : (o : Options) (t : TrussState) (reports : List Report) (stage : Stage) → Asks o t reports stage → AsksItsRange o stage
+pub asks-range : (o : Options) (t : TrussState) (reports : List Report) (stage : Stage) → Asks o t reports stage
+    → AsksItsRange o stage
 asks-range o t reports (ReadingText place l from len) asks = asks.range
 asks-range o t reports _ asks = tt
 
@@ -111,257 +94,80 @@ first-silent o = by o.program
     by (Some program) = record { options = refl; reports = refl; asks = tt }
 
 module _ (o : Options) (t : TrussState) (r : Reply) (same : t.options ≡ o) where
-  -- ---- what comes next
+  -- the memory that the line of a new event asks for
+  new-range : (place : ℕ) (l : LwpStatus) (e : Event) → IsNew t r place l e → range_asked o l ≡ asked_range t.options e
+  new-range place l e new =
+      ap (option_and_then (asked_range o)) new.is ∙ ap (λ (p : Options). asked_range p e) (sym same)
 
-  -- one of two states
-  either : (c : Bool) (u v : TrussState) → Goes o t r u → Goes o t r v → Goes o t r (cond c u v)
-  either true u v p q = p
-  either false u v p q = q
+  on-asks : (rs : List Report) (u v : TrussState) (given : Bool) → GoesOn u given v → Asks o t rs v.stage
+  on-asks rs u v given (step.polls _) = tt
+  on-asks rs u v given _ = tt
 
-  base : Grows o t r t.reports
-  base = as_before refl
+  over-asks : (rs : List Report) (u v : TrussState) (place : ℕ) (pid : Option ℕ) → StopOver u place pid v
+      → Asks o t rs v.stage
+  over-asks rs u v place pid (step.runs _) = tt
+  over-asks rs u v place pid _ = tt
 
-  reported : (x : Report) → IsTold o t r x → Grows o t r (with_report t x).reports
-  reported x is = one_more x refl is
+  reads-reads : (stage : Stage) (place : ℕ) (l : Option LwpStatus) → t.stage ≡ stage → Reads t r stage place l
+      → reads_stop t.stage ≡ true
+  reads-reads stage place l at (step.reads_lwps _) = ap reads_stop at
+  reads-reads stage place l at _ = ap reads_stop at
 
-  to : (u : TrussState) (stage : Stage) → Grows o t r u.reports → Asks o t u.reports stage → Goes o t r (with_stage u stage)
-  to u stage g asks = record { reports = g; asks = asks }
+  settles-grows : (stage : Stage) (given : Bool) (u : TrussState) → t.stage ≡ stage → Settles t r stage given u
+      → Grows o t r u.reports
+  settles-grows stage given u at (step.refuses_start _ _) = one_more _ refl tt
+  settles-grows stage given u at (step.refuses_control _ _) = one_more _ refl tt
+  settles-grows stage given u at (step.interrupts_text {place = place} {from = from} {len = len} _ _) =
+      one_more _ refl (told place from len at refl refl)
+  settles-grows stage given u at _ = as_before refl
 
-  -- the step is the same
-  here : (u : TrussState) (stage : Stage) → u.stage ≡ stage → Asks o t u.reports stage → Grows o t r u.reports → Goes o t r u
-  here u stage is asks g = record { reports = g; asks = subst (Asks o t u.reports) (sym is) asks }
+  looks-grows : (stage : Stage) (place : ℕ) (pid : Option ℕ) (u : TrussState) → t.stage ≡ stage
+      → Looks t r stage place pid u → Grows o t r u.reports
+  looks-grows stage place pid u at (step.shows {l = l} {e = e} _ new _ none) =
+      one_more _ refl (silent (new-range place l e new ∙ none) refl)
+  looks-grows stage place pid u at (step.shows_text {from = from} {len = len}) =
+      one_more _ refl (told place from len at refl refl)
+  looks-grows stage place pid u at _ = as_before refl
 
-  asks-none : (u : TrussState) (stage : Stage) → pending_at u stage ≡ [] → Asks o t u.reports stage
-  asks-none u (ReadingText place l from len) none = cc
-  asks-none u _ none = tt
+  closes-grows : (stage : Stage) (place : ℕ) (next : AfterClosing) (u : TrussState) → t.stage ≡ stage
+      → Closes t r stage place next u → Grows o t r u.reports
+  closes-grows stage place next u at (step.text_ended {from = from} {len = len} _) =
+      one_more _ refl (told place from len at refl refl)
+  closes-grows stage place next u at (step.refuses_free _ _) = one_more _ refl tt
+  closes-grows stage place next u at (step.refuses_opening _ _) = one_more _ refl tt
+  closes-grows stage place next u at (step.refuses_child _ _) = one_more _ refl tt
+  closes-grows stage place next u at _ = as_before refl
 
-  next : (u v : TrussState) → ComesNext u v → Grows o t r u.reports → Goes o t r v
-  next u v c g = record { reports = subst (Grows o t r) (sym c.reports) g; asks = asks-none v v.stage c.pending }
-
-  goes-on : (u : TrussState) → Grows o t r u.reports → Goes o t r (with_going_on u)
-  goes-on u g = next u (with_going_on u) (going_on-comes u) g
-
-  opens-next : (u : TrussState) → Grows o t r u.reports → Goes o t r (with_next_opening u)
-  opens-next u g = next u (with_next_opening u) (next_opening-comes u) g
-
-  interrupted : (u : TrussState) → Grows o t r u.reports → Goes o t r (with_interrupt u)
-  interrupted u g = next u (with_interrupt u) (interrupt-comes u) g
-
-  seen : (u : TrussState) (place : ℕ) → Grows o t r u.reports → Goes o t r (with_interrupt (with_stop_seen u place))
-  unfolding with_stop_seen
-  seen u place g = interrupted (with_traced u place (record (traced_at u place) { seen = true })) g
-
-  -- ---- stops
-
-  over : (u : TrussState) (place : ℕ) → Grows o t r u.reports → Goes o t r (with_stop_over u place)
-  unfolding with_stop_over
-  over u place g = either u.leaving (with_closing u place) (with_stage u (Running place)) (to u (Closing place GoOn) g tt) (to u (Running place) g tt)
-
-  child_or : (u : TrussState) (place : ℕ) (of : Option ℕ) → Grows o t r u.reports → Goes o t r (with_child_or u place of)
-  child_or u place None g = over u place g
-  child_or u place (Some of) g = by u.leaving
-    where
-      by : (b : Bool) → Goes o t r (with_stage u (cond b (FreeingChild of freeing.OpenControl) (OpeningChildControl place of)))
-      by true = to u (FreeingChild of freeing.OpenControl) g tt
-      by false = to u (OpeningChildControl place of) g tt
-
-  event_over : (u : TrussState) (place : ℕ) (l : LwpStatus) → Grows o t r u.reports → Goes o t r (with_event_over u place l)
-  unfolding with_event_over
-  event_over u place l g = child_or u place (followed_child u.options l) g
-
-  module _ (reads : reads_stop t.stage ≡ true) where
-    text_or : (place : ℕ) (l : LwpStatus) (range : Option (ℕ × ℕ)) → range_asked o l ≡ range → Goes o t r (with_text_or_shown t place l range)
-    unfolding with_event_shown
-    text_or place l None none = let x : Report = report.Event (traced_at t place).pid l None in event_over (with_report t x) place l (reported x (silent none refl))
-    text_or place l (Some range) asked = to t (ReadingText place l range.0 range.1) base (record { range = asked; same = refl; reads = reads })
-
-    of-event : (place : ℕ) (l : LwpStatus) (e : Option Event) → event_of l ≡ e → Goes o t r (with_event t place l e)
-    of-event place l None none = over t place base
-    of-event place l (Some e) is =
-        let asked : range_asked o l ≡ asked_range t.options e = ap (option_and_then (asked_range o)) is ∙ ap (λ (p : Options). asked_range p e) (sym same) in
-        either (is_selected t.options e) (with_text_or_shown t place l (asked_range t.options e)) (with_event_over t place l) (text_or place l (asked_range t.options e) asked) (event_over t place l base)
-
-  old_over : (place : ℕ) → Goes o t r (with_old_stop_over t place)
-  unfolding with_old_stop_over
-  old_over place = over (with_traced t place (record (traced_at t place) { old = (traced_at t place).old - 1 })) place base
-
-  module _ (reads : reads_stop t.stage ≡ true) where
-    stop : (place : ℕ) (l : LwpStatus) → Goes o t r (with_stop t place l)
-    unfolding with_stop
-    stop place l =
-        either (not (is_on_event l)) (with_stop_over t place) _ (over t place base)
-        (either (nat_lt 0 (traced_at t place).old) (with_old_stop_over t place) _ (old_over place)
-        (either (traced_at t place).seen (with_stop_over t place) (with_event t place l (event_of l)) (over t place base) (of-event reads place l (event_of l) refl)))
-
-    stop_read : (place : ℕ) (l : Option LwpStatus) → Goes o t r (with_stop_read t place l)
-    stop_read place None = over t place base
-    stop_read place (Some l) = stop place l
-
-  -- ---- the replies
-
-  start-goes : (program : List ℕ) (a : Answer) → Goes o t r (with_start_answered t program r a)
-  unfolding with_start_answered with_refused_start
-  start-goes program Accepted = to t (OpeningControl (pid_in r)) base tt
-  start-goes program Interrupted = interrupted t base
-  start-goes program Gone = let x : Report = report.CannotStart program Noent in goes-on (with_report t x) (reported x tt)
-  start-goes program (Refused errno) = let x : Report = report.CannotStart program errno in goes-on (with_report t x) (reported x tt)
-
-  control-goes : (pid : ℕ) (a : Answer) → Goes o t r (with_control_answered t pid r a)
-  unfolding with_control_answered with_control with_refused_control
-  control-goes pid Accepted = to (with_opened t (newly_traced pid (handle_in r))) (Opening _ _) base tt
-  control-goes pid Interrupted = interrupted t base
-  control-goes pid Gone = let x : Report = report.CannotTrace pid Noent in opens-next (with_report t x) (reported x tt)
-  control-goes pid (Refused errno) = let x : Report = report.CannotTrace pid errno in opens-next (with_report t x) (reported x tt)
-
-  at_step-goes : (u : TrussState) (place : ℕ) (after : Option OpeningStep) → Grows o t r u.reports → Goes o t r (at_step u place after)
-  at_step-goes u place None g = opens-next u g
-  at_step-goes u place (Some step) g = to u (Opening place step) g tt
-
-  -- a refusal is reported, and files are closed
-  refused : (pid : ℕ) (errno : Errno) (place : ℕ) (after : AfterClosing) → Goes o t r (with_stage (with_report t (report.CannotTrace pid errno)) (Closing place after))
-  refused pid errno place after = let x : Report = report.CannotTrace pid errno in to (with_report t x) (Closing place after) (reported x tt) tt
-
-  step-goes : (place : ℕ) (now : OpeningStep) (a : Answer) → Goes o t r (with_step_answered t place now r a)
-  unfolding with_step_answered with_step_done with_refused_step
-  step-goes place now Accepted = at_step-goes (with_traced t place (learnt (traced_at t place) r now)) place (step_after t.options r now) base
-  step-goes place now Interrupted = seen t place base
-  step-goes place now Gone = refused (traced_at t place).pid Noent place OpenNext
-  step-goes place now (Refused errno) = refused (traced_at t place).pid errno place OpenNext
-
-  polls : t.stage ≡ Polling → Goes o t r t
-  polls is = here t Polling is tt base
-
-  polled-goes : t.stage ≡ Polling → (place : Option ℕ) → Goes o t r (with_polled t place)
-  polled-goes is None = polls is
-  polled-goes is (Some place) = to t (ReadingStatus place) base tt
-
-  poll-goes : t.stage ≡ Polling → (a : Answer) → Goes o t r (with_poll_answered t r a)
-  unfolding with_poll_answered
-  poll-goes is Accepted = polled-goes is (option_and_then (λ handle. position (has_control handle) t.traced) (ready_in r))
-  poll-goes is Interrupted = interrupted t base
-  poll-goes is Gone = polls is
-  poll-goes is (Refused errno) = polls is
-
-  status-goes : (place : ℕ) → reads_stop t.stage ≡ true → (a : Answer) → Goes o t r (with_status_answered t place r a)
-  unfolding with_status_answered
-  status-goes place reads Accepted = stop_read reads place (option_and_then status_lwp (bytes_in r))
-  status-goes place reads Interrupted = interrupted t base
-  status-goes place reads Gone = to t (Closing place GoOn) base tt
-  status-goes place reads (Refused errno) = over t place base
-
-  after-goes : (u : TrussState) (place : ℕ) (l : LwpStatus) → Grows o t r u.reports → (a : Answer) → Goes o t r (after_text u place l a)
-  unfolding after_text
-  after-goes u place l g Accepted = event_over u place l g
-  after-goes u place l g (Refused errno) = event_over u place l g
-  after-goes u place l g Gone = to u (Closing place GoOn) g tt
-  after-goes u place l g Interrupted = either u.leaving (with_event_over u place l) (with_interrupt (with_stop_seen u place)) (event_over u place l g) (seen u place g)
-
-  text-goes : (place : ℕ) (l : LwpStatus) (from len : ℕ) → t.stage ≡ ReadingText place l from len → Goes o t r (with_text_answered t place l len r)
-  unfolding with_text_answered with_event_shown
-  text-goes place l from len is =
-      let x : Report = report.Event (traced_at t place).pid l (text_of len (bytes_in r)) in
-      after-goes (with_report t x) place l (reported x (told place from len is refl refl)) (answer_of r)
-
-  run-goes : (place : ℕ) (a : Answer) → Goes o t r (with_run_answered t place a)
-  unfolding with_run_answered
-  run-goes place Accepted = goes-on t base
-  run-goes place Interrupted = seen t place base
-  run-goes place Gone = to t (Closing place GoOn) base tt
-  run-goes place (Refused errno) = goes-on t base
-
-  unfollowed-goes : (a : Answer) → Goes o t r (with_unfollowed t a)
-  unfolding with_unfollowed
-  unfollowed-goes Accepted = to t ReadingLwps base tt
-  unfollowed-goes Interrupted = to t ReadingLwps base tt
-  unfollowed-goes Gone = to t (Closing 0 GoOn) base tt
-  unfollowed-goes (Refused errno) = to t ReadingLwps base tt
-
-  lwps-goes : reads_stop t.stage ≡ true → (a : Answer) → Goes o t r (with_lwps_answered t r a)
-  unfolding with_lwps_answered
-  lwps-goes reads Accepted = stop_read reads 0 (slice_get (event_stops (bytes_in r)) 0)
-  lwps-goes reads Interrupted = to t (Closing 0 GoOn) base tt
-  lwps-goes reads Gone = to t (Closing 0 GoOn) base tt
-  lwps-goes reads (Refused errno) = to t (Closing 0 GoOn) base tt
-
-  -- ---- children
-
-  child_control-goes : (parent pid : ℕ) (a : Answer) → Goes o t r (with_child_control_answered t parent pid r a)
-  unfolding with_child_control_answered with_child_control with_refused_child
-  child_control-goes parent pid Accepted = to (with_opened t (newly_traced pid (handle_in r))) (OpeningChild parent _ _) base tt
-  child_control-goes parent pid Interrupted = seen t parent base
-  child_control-goes parent pid Gone = let x : Report = report.CannotTrace pid Noent in to (with_report t x) (Running parent) (reported x tt) tt
-  child_control-goes parent pid (Refused errno) = let x : Report = report.CannotTrace pid errno in to (with_report t x) (Running parent) (reported x tt) tt
-
-  at_child-goes : (u : TrussState) (parent place : ℕ) (after : Option ChildStep) → Grows o t r u.reports → Goes o t r (at_child_step u parent place after)
-  at_child-goes u parent place None g = to u (Running parent) g tt
-  at_child-goes u parent place (Some step) g = to u (OpeningChild parent place step) g tt
-
-  child_step-goes : (parent place : ℕ) (now : ChildStep) (a : Answer) → Goes o t r (with_child_step_answered t parent place now r a)
-  unfolding with_child_step_answered with_child_step_done with_refused_child_step
-  child_step-goes parent place now Accepted = at_child-goes (with_traced t place (child_learnt (traced_at t place) r now)) parent place (child_step_after now) base
-  child_step-goes parent place now Interrupted = seen t parent base
-  child_step-goes parent place now Gone = refused (traced_at t place).pid Noent place (RunParent parent)
-  child_step-goes parent place now (Refused errno) = refused (traced_at t place).pid errno place (RunParent parent)
-
-  started-goes : (parent place : ℕ) (a : Answer) → Goes o t r (with_child_started t parent place a)
-  unfolding with_child_started
-  started-goes parent place Accepted = to t (Running parent) base tt
-  started-goes parent place Interrupted = to t (Running parent) base tt
-  started-goes parent place Gone = to t (Closing place (RunParent parent)) base tt
-  started-goes parent place (Refused errno) = to t (Running parent) base tt
-
-  child-goes : (parent place : ℕ) (now : ChildStep) (a : Answer) → Goes o t r (with_child_answered t parent place now r a)
-  unfolding with_child_answered
-  child-goes parent place child.Start a = started-goes parent place a
-  child-goes parent place child.SetRelease a = child_step-goes parent place child.SetRelease a
-  child-goes parent place child.OpenStatus a = child_step-goes parent place child.OpenStatus a
-  child-goes parent place child.OpenLstatus a = child_step-goes parent place child.OpenLstatus a
-  child-goes parent place child.OpenMemory a = child_step-goes parent place child.OpenMemory a
-
-  begun-goes : (pid : ℕ) (a : Answer) → Goes o t r (with_freeing_begun t pid r a)
-  unfolding with_freeing_begun with_refused_freeing
-  begun-goes pid Accepted = to t (FreeingChild pid (freeing.SetRelease (handle_in r))) base tt
-  begun-goes pid Interrupted = to t (Closing 0 GoOn) base tt
-  begun-goes pid Gone = refused pid Noent 0 GoOn
-  begun-goes pid (Refused errno) = refused pid errno 0 GoOn
-
-  freeing-goes : (pid : ℕ) (now : FreeingStep) → Goes o t r (with_freeing_answered t pid now r)
-  unfolding with_freeing_answered
-  freeing-goes pid freeing.OpenControl = begun-goes pid (answer_of r)
-  freeing-goes pid (freeing.SetRelease control) = to t (FreeingChild pid (freeing.Close control)) base tt
-  freeing-goes pid (freeing.Close control) = to t (Closing 0 GoOn) base tt
-
-  -- ---- closing
-
-  after_closing-goes : (u : TrussState) (after : AfterClosing) → Grows o t r u.reports → Goes o t r (after_closing u after)
-  unfolding after_closing
-  after_closing-goes u OpenNext g = opens-next u g
-  after_closing-goes u GoOn g = goes-on u g
-  after_closing-goes u (RunParent parent) g = to u (Running parent) g tt
-
-  closed-goes : (place : ℕ) (after : AfterClosing) → t.stage ≡ Closing place after → (left : Option Traced) → Goes o t r (closed_or_removed t place after left)
-  closed-goes place after is None = after_closing-goes (without_traced t place) after base
-  closed-goes place after is (Some u) = here (with_traced t place u) (Closing place after) is tt base
-
-  -- ---- every stage
-
-  stage-goes : (stage : Stage) → t.stage ≡ stage → Goes o t r (with_reply t r stage)
-  unfolding with_reply with_closed
-  stage-goes (Spawning program) is = start-goes program (answer_of r)
-  stage-goes (OpeningControl pid) is = control-goes pid (answer_of r)
-  stage-goes (Opening place now) is = step-goes place now (answer_of r)
-  stage-goes Polling is = poll-goes is (answer_of r)
-  stage-goes (ReadingStatus place) is = status-goes place (ap reads_stop is) (answer_of r)
-  stage-goes (ReadingText place l from len) is = text-goes place l from len is
-  stage-goes (OpeningChildControl parent pid) is = child_control-goes parent pid (answer_of r)
-  stage-goes (OpeningChild parent place now) is = child-goes parent place now (answer_of r)
-  stage-goes (Running place) is = run-goes place (answer_of r)
-  stage-goes (Closing place after) is = closed-goes place after is (without_last (traced_at t place))
-  stage-goes Unfollowing is = unfollowed-goes (answer_of r)
-  stage-goes ReadingLwps is = lwps-goes (ap reads_stop is) (answer_of r)
-  stage-goes (FreeingChild pid now) is = freeing-goes pid now
-  stage-goes Finished is = here t Finished is tt base
+  step-goes : (stage : Stage) (v : TrussState) → t.stage ≡ stage → ReplyStep t r stage v → Goes o t r v
+  step-goes stage v at (step.settles w on) =
+      let s = on-staged on in
+      record {
+        reports = subst (Grows o t r) (sym s.reports)
+            (settles-grows stage _ _ at w);
+        asks = on-asks v.reports _ v _ on;
+      }
+  step-goes stage v at (step.looks w over) =
+      let s = over-staged over in
+      record {
+        reports = subst (Grows o t r) (sym s.reports)
+            (looks-grows stage _ _ _ at w);
+        asks = over-asks v.reports _ v _ _ over;
+      }
+  step-goes stage v at (step.asks {place = place} {l = l} {e = e} reads new _ some) = record {
+    reports = as_before refl;
+    asks = record { range = new-range place l e new ∙ some; same = refl; reads = reads-reads stage place _ at reads };
+  }
+  step-goes stage v at (step.closes w) = record { reports = closes-grows stage _ _ _ at w; asks = tt }
+  step-goes stage v at (step.opens _ step.new_given) = record { reports = as_before refl; asks = tt }
+  step-goes stage v at (step.opens _ step.new_child) = record { reports = as_before refl; asks = tt }
+  step-goes stage v at (step.learns _ (step.opening_goes _)) = record { reports = as_before refl; asks = tt }
+  step-goes stage v at (step.learns _ (step.child_goes _)) = record { reports = as_before refl; asks = tt }
+  step-goes stage v at (step.returns (step.refuses_child_control _ _)) =
+      record { reports = one_more _ refl tt; asks = tt }
+  step-goes stage v at (step.returns _) = record { reports = as_before refl; asks = tt }
+  step-goes stage v at (step.turns (step.is_named _)) = record { reports = as_before refl; asks = tt }
+  step-goes stage v at (step.turns _) = record { reports = as_before refl; asks = tt }
+  step-goes stage v at (step.loses _) = record { reports = as_before refl; asks = tt }
 
   pub fed-goes : Goes o t r (fed t r)
-  unfolding fed
-  fed-goes = stage-goes t.stage refl
+  fed-goes = step-goes t.stage (fed t r) refl (fed-step t r)

@@ -1,6 +1,6 @@
 use Rattle.std.proofs.Common.{◌≡◌, ◌≢◌, ◌==◌, ◌&&◌, ◌<◌, ◌≤◌, ◌-◌, ◌^◌, lit≤, ℕ, Bool, true, false, cond, not, is_some, None, Some, Option, List, [], ◌∷◌, Result, Ok, Err, refl, sym, subst, ap, ◌∙◌, arith, inl, inr}
 use Rattle.std.proofs.Math.Bool.{and_comm}
-use Rattle.std.proofs.lemmas.Bool.{false≢true, cases_Bool, eqb-true, eq-eqb, ne_eqb, or_parts, and_parts}
+use Rattle.std.proofs.lemmas.Bool.{false≢true, cases_Bool, eqb-true, eq-eqb, ne_eqb, and_parts}
 use Rattle.std.proofs.lemmas.Option.{same_Some, none-some}
 use Rattle.std.specs.List.{cons_option}
 use Rattle.std.specs.Option.{option_and_then, option_map}
@@ -9,14 +9,13 @@ use Rattle.pr_line.specs.declared.events.Event.{Event}
 use Rattle.pr_line.specs.declared.events.Event.TheVariants.{Entered, Left, Received, Incurred}
 use Rattle.pr_line.specs.declared.options.Options.{Options}
 use Rattle.pr_num.proofs.ByIdLaws.{All-under}
-use Rattle.pr_num.proofs.EntryLemmas.{fault_numbers-range, fault_of_number-number, syscall_numbers-range, syscall_of_number-number}
+use Rattle.pr_num.proofs.EntryLemmas.{fault_numbers-range, fault_of_number-number}
 use Rattle.pr_num.proofs.NumberedLemmas.{has_number-least_signal, signal_number-range}
-use Rattle.pr_num.proofs.SetLemmas.{has_number-common, has_number-minus, has_number-with, has_number-without}
+use Rattle.pr_num.proofs.SetLemmas.{has_number-common, has_number-minus, has_number-without}
 use Rattle.pr_num.specs.Faults.{fault_number}
-use Rattle.pr_num.specs.Limits.{syscall_count}
 use Rattle.pr_num.specs.Sets.{common_word, has_number, minus_word, union_word, with_number}
 use Rattle.pr_num.specs.Signals.{least_signal, signal_number}
-use Rattle.pr_num.specs.Syscalls.{syscall_number}
+use Rattle.pr_num.specs.Syscalls.{is_fork_call, syscall_number}
 use Rattle.pr_num.specs.declared.errnos.Errno.{Errno}
 use Rattle.pr_num.specs.declared.errnos.Errno.TheVariants.{Intr}
 use Rattle.pr_num.specs.declared.faults.Flt.{Flt}
@@ -27,10 +26,11 @@ use Rattle.pr_num.specs.declared.signals.Sig.TheVariants.{Kill}
 use Rattle.pr_num.specs.declared.syscalls.Sysno.{Sysno}
 use Rattle.pr_num.specs.declared.syscalls.Sysno.TheVariants as call
 use Rattle.pr_parts.specs.PendingSignals.{Pending, pending_set}
-use Rattle.pr_parts.specs.declared.actions.Action.{Action}
-use Rattle.pr_parts.specs.declared.actions.Action.TheVariants as act
 use Rattle.pr_rec.specs.declared.lwps.Disposition.{Disposition}
 use Rattle.pr_lawful.proofs.EndLemmas.{found-live}
+use Rattle.pr_keeps.specs.RowKinds as kind
+use Rattle.pr_keeps.specs.RowKinds.{RowKind}
+use Rattle.pr_keeps.proofs.RowLemmas.{row-kind}
 use Rattle.pr_model.proofs.TurnLemmas.{turn-taken}
 use Rattle.pr_model.specs.CallEffects.{call_effect}
 use Rattle.pr_model.specs.Changes.{Effect, does, sleeps, ends}
@@ -40,8 +40,8 @@ use Rattle.pr_model.specs.Legal.{after}
 use Rattle.pr_model.specs.LwpTurns.{LwpTurn, settled, turn_of}
 use Rattle.pr_model.specs.Points.{is_traced, meets}
 use Rattle.pr_model.specs.Registers.{arguments, pc_of}
-use Rattle.pr_model.specs.Rows.{Row, acted_row, call_row, caught_row, current_row_or, entered_row, executed_row, finished, handler_row, incurred_row, instruction_row, interrupted_row, own_taken_row, performed_row, point_row, posted_row, posted_row_or, quiet_row, ran_row, requested_row, returned_row, row_for, row_in, shared_taken_row, signal_row_or, taken_or, watched_row}
-use Rattle.pr_model.specs.Signals.{action_for, own_takeable, shared_takeable}
+use Rattle.pr_model.specs.Rows.{Row, entered_row, executed_row, finished, handler_row, incurred_row, instruction_row, interrupted_row, own_taken_row, performed_row, point_row, posted_row, quiet_row, ran_row, requested_row, returned_row, row_for, shared_taken_row, watched_row}
+use Rattle.pr_model.specs.Signals.{own_takeable, shared_takeable}
 use Rattle.pr_model.specs.State.{TracedLwp, TracedProcess, TracedState, TracedSystem, live_process, lwp_of}
 use Rattle.pr_model.specs.Transitions.{entered, incurred, interrupted, own_taken, performed, ran, returned, shared_taken, trapped}
 use Rattle.pr_model.specs.declared.events.Act.TheVariants.{Turn}
@@ -51,12 +51,10 @@ use Rattle.pr_model.specs.declared.events.Entry.{Entry}
 use Rattle.pr_model.specs.declared.events.Res.{Res}
 use Rattle.pr_model.specs.declared.events.Res.TheVariants.{Value, Error, Ended}
 use Rattle.pr_model.specs.declared.events.Turned.{Turned}
-use Rattle.pr_model.specs.declared.lwps.Current.{Current}
-use Rattle.pr_model.specs.declared.lwps.Phase.{Phase}
-use Rattle.pr_model.specs.declared.lwps.Phase.TheVariants as phase
 use Rattle.pr_model.specs.declared.stops.Point.{Point}
 use Rattle.pr_model.specs.declared.stops.Point.TheVariants as point
-use Rattle.pr_truss.specs.Messages.{ending_calls, traced_entries, traced_exits}
+use Rattle.pr_truss.proofs.ForkLemmas.{call_number-range, with_forks-has, with_forks-others}
+use Rattle.pr_truss.specs.Messages.{ending_calls, traced_entries, traced_exits, traced_faults, traced_signals, with_forks}
 use Rattle.pr_truss_laws.proofs.ToldLemmas.{is_result}
 use Rattle.pr_truss_laws.specs.Told.{has_ended, told}
 use Rattle.pr_report_laws.proofs.CallResults.{IsAnswered, call-answered}
@@ -134,9 +132,6 @@ ending_calls-small : ending_calls < 2 ^ 64
 unfolding ending_calls syscall_number with_number union_word
 ending_calls-small = lit≤ tt
 
-pub call_number-range : (c : Sysno) → (1 ≤ syscall_number c) × (syscall_number c ≤ syscall_count)
-call_number-range c = (syscall_numbers-range (syscall_number c)).0 (ap is_some (syscall_of_number-number c))
-
 unselected : (o : Options) (e : Event) → is_selected o e ≡ false → if_selected o e ≡ None
 unselected o e off = ap (λ b. cond b (Some e) None) off
 
@@ -160,8 +155,17 @@ module _ (o : Options) (p : TracedProcess) (traced_by : IsTracedBy o p) where
   unfolding traced_exits
   exit-lacks c = by o.follow
     where
-      by : (b : Bool) → has_number (cond b (with_number (minus_word o.calls ending_calls) (syscall_number call.Fork)) (minus_word o.calls ending_calls)) (syscall_number c) ≡ false → has_number (minus_word o.calls ending_calls) (syscall_number c) ≡ false
-      by true off = (or_parts _ _ (sym (has_number-with (minus_word o.calls ending_calls) (syscall_number call.Fork) (syscall_number c) (call_number-range call.Fork).0 (call_number-range c).0) ∙ off)).0
+      others : ℕ
+      others = minus_word o.calls ending_calls
+
+      added : (b : Bool) → is_fork_call c ≡ b → has_number (with_forks others) (syscall_number c) ≡ false
+          → has_number others (syscall_number c) ≡ false
+      added true makes off = absurd (false≢true (sym off ∙ with_forks-has others c makes))
+      added false other off = sym (with_forks-others others c other) ∙ off
+
+      by : (b : Bool) → has_number (cond b (with_forks others) others) (syscall_number c) ≡ false
+          → has_number others (syscall_number c) ≡ false
+      by true off = added (is_fork_call c) refl off
       by false off = off
 
   exit-unselected : (c : Sysno) (args : List ℕ) (r : Result ℕ Errno) → is_traced p.control (point.Exit c) ≡ false → if_selected o (Left c args r) ≡ None
@@ -173,21 +177,26 @@ module _ (o : Options) (p : TracedProcess) (traced_by : IsTracedBy o p) where
       unselected o (Left c args r) (no-line (never_returns c) (is_birth c r) (has_number o.calls (syscall_number c)) both)
 
   signal-unselected : (g : Sig) (d : Disposition) (info : Info) → (signal_number g == signal_number Kill) ≡ false → is_traced p.control (point.Signal g) ≡ false → if_selected o (Received g d info) ≡ None
-  unfolding is_traced is_selected has_line is_chosen
+  unfolding is_traced traced_signals is_selected has_line is_chosen
   signal-unselected g d info not_kill off =
       let range = signal_number-range g in
       let kill = signal_number-range Kill in
-      let has = sym (has_number-without o.signals (signal_number Kill) (signal_number g) (omega arith) (omega arith) (omega arith) (omega arith)) ∙ ap (λ w. has_number w (signal_number g)) (sym traced_by.signals) ∙ off in
+      let has =
+      sym (has_number-without (traced_signals o) (signal_number Kill) (signal_number g) (omega arith) (omega arith)
+      (omega arith) (omega arith))
+      ∙ ap (λ w. has_number w (signal_number g)) (sym traced_by.signals) ∙ off in
       unselected o (Received g d info) (without-not (has_number o.signals (signal_number g)) (signal_number g == signal_number Kill) not_kill has)
 
   fault_number-range : (f : Flt) → (1 ≤ fault_number f) × (fault_number f ≤ 8)
   fault_number-range f = (fault_numbers-range (fault_number f)).0 (ap is_some (fault_of_number-number f))
 
   fault-unselected : (f : Flt) (pc : ℕ) → is_traced p.control (point.Fault f) ≡ false → if_selected o (Incurred f pc) ≡ None
-  unfolding is_traced is_selected has_line is_chosen
+  unfolding is_traced traced_faults is_selected has_line is_chosen
   fault-unselected f pc off =
       let range = fault_number-range f in
-      let has = sym (wrapped-has o.faults (fault_number f) (omega arith) (omega arith)) ∙ ap (λ w. has_number w (fault_number f)) (sym traced_by.faults) ∙ off in
+      let has =
+      sym (wrapped-has (traced_faults o) (fault_number f) (omega arith) (omega arith))
+      ∙ ap (λ w. has_number w (fault_number f)) (sym traced_by.faults) ∙ off in
       unselected o (Incurred f pc) has
 
   -- ---- the row of a turn
@@ -295,81 +304,26 @@ module _ (o : Options) (p : TracedProcess) (traced_by : IsTracedBy o p) where
         let goes : Row = quiet_row (did.Returned c) returned in
         either-goes l.control.step traps goes (fault-goes Trace traps refl refl refl) (quiet-goes goes refl (λ new. refl))
 
-    -- ---- the current signal
-
-    handler-goes : (c : Current) (handler : ℕ) → GoesWithPoint (handler_row l c handler)
-    unfolding handler_row event_of
-    handler-goes c handler = quiet-goes (handler_row l c handler) refl (λ new. refl)
-
-    caught-goes : (c : Current) (handler : ℕ) (ph : Phase) → GoesWithPoint (caught_row l c handler ph)
-    unfolding caught_row
-    caught-goes c handler (phase.Entered made) = interrupted-goes false made (arguments l.regs)
-    caught-goes c handler (phase.Asleep made args since) = interrupted-goes true made args
-    caught-goes c handler phase.User = handler-goes c handler
-    caught-goes c handler (phase.Exiting made args result) = handler-goes c handler
-    caught-goes c handler (phase.Faulted f address) = handler-goes c handler
-
-    acted-goes : (c : Current) → GoesWithPoint (acted_row p l c)
-    unfolding acted_row event_of
-    acted-goes c = by (action_for p.dispositions c.signal) refl
-      where
-        by : (a : Action) → action_for p.dispositions c.signal ≡ a → GoesWithPoint (acted_row p l c)
-        by act.Ignore is = rw is (quiet-goes _ refl (λ new. refl))
-        by act.Stop is = rw is (quiet-goes _ refl (λ new. refl))
-        by act.Die is = rw is (quiet-goes _ refl (λ new. refl))
-        by (act.Catch handler) is = rw is (caught-goes c handler l.phase)
-
     -- ---- the table
 
     module _ (own_spares : SparesKill l.pending) (spares : SparesKill p.pending) (s : TracedSystem) (pid id : ℕ) where
-      call-goes : (woken : Bool) (c : Sysno) (args : List ℕ) (since : ℕ) → GoesWithPoint (call_row s pid p id l woken c args since)
-      unfolding call_row
-      call-goes woken c args since = either-goes l.control.abort _ _ (interrupted-goes woken c args) (performed-goes woken c args since (call_effect s pid p id l since c args) (call-answered s pid p id l since c args))
-
-      posted-goes : (f : Flt) (address : ℕ) → GoesWithPoint (posted_row f address)
-      unfolding posted_row event_of
-      posted-goes f address = quiet-goes (posted_row f address) refl (λ new. refl)
-
-      in-phase : (ph : Phase) → GoesWithPoint (row_in s pid p id l ph)
-      unfolding row_in
-      in-phase phase.User = executed-goes (instruction_effect p.space p.control.areas l.regs)
-      in-phase (phase.Entered c) = call-goes false c (arguments l.regs) s.clock
-      in-phase (phase.Asleep c args since) = call-goes true c args since
-      in-phase (phase.Exiting c args result) = returned-goes c
-      in-phase (phase.Faulted f address) = posted-goes f address
-
-      taken-goes : (own shared : Option Sig) (otherwise : Row) → own_takeable l ≡ own → shared_takeable p l ≡ shared → GoesWithPoint otherwise → GoesWithPoint (taken_or s pid p id l own shared otherwise)
-      unfolding own_taken_row shared_taken_row own_taken shared_taken own_takeable shared_takeable
-      taken-goes (Some g) shared otherwise mine ours goes = took-goes g (own_taken_row l g) refl refl refl (not-kill l.pending l.held g own_spares mine)
-      taken-goes None (Some g) otherwise mine ours goes = took-goes g (shared_taken_row p g) refl refl refl (not-kill p.pending l.held g spares ours)
-      taken-goes None None otherwise mine ours goes = goes
-
-      signal-goes : (ph : Phase) (otherwise : Row) → GoesWithPoint otherwise → GoesWithPoint (signal_row_or s pid p id l ph otherwise)
-      unfolding signal_row_or
-      signal-goes phase.User otherwise goes = taken-goes (own_takeable l) (shared_takeable p l) otherwise refl refl goes
-      signal-goes (phase.Entered c) otherwise goes = goes
-      signal-goes (phase.Asleep c args since) otherwise goes = taken-goes (own_takeable l) (shared_takeable p l) otherwise refl refl goes
-      signal-goes (phase.Exiting c args result) otherwise goes = taken-goes (own_takeable l) (shared_takeable p l) otherwise refl refl goes
-      signal-goes (phase.Faulted f address) otherwise goes = goes
-
-      current-goes : (c : Option Current) (otherwise : Row) → GoesWithPoint otherwise → GoesWithPoint (current_row_or s pid p id l c otherwise)
-      current-goes (Some c) otherwise goes = acted-goes c
-      current-goes None otherwise goes = goes
-
-      first-goes : (ph : Phase) (otherwise : Row) → GoesWithPoint otherwise → GoesWithPoint (posted_row_or s pid p id l ph otherwise)
-      first-goes (phase.Faulted f address) otherwise goes = posted-goes f address
-      first-goes phase.User otherwise goes = goes
-      first-goes (phase.Entered c) otherwise goes = goes
-      first-goes (phase.Asleep c args since) otherwise goes = goes
-      first-goes (phase.Exiting c args result) otherwise goes = goes
-
-      requested-goes : GoesWithPoint requested_row
-      unfolding requested_row event_of
-      requested-goes = quiet-goes requested_row refl (λ new. refl)
+      kind-goes : (row : Row) → RowKind s pid p id l row → GoesWithPoint row
+      unfolding requested_row posted_row handler_row own_taken_row shared_taken_row own_taken shared_taken own_takeable
+          shared_takeable event_of
+      kind-goes row (kind.takes_own {g = g} none mine) =
+          took-goes g (own_taken_row l g) refl refl refl (not-kill l.pending l.held g own_spares mine)
+      kind-goes row (kind.takes_shared {g = g} none own ours) =
+          took-goes g (shared_taken_row p g) refl refl refl (not-kill p.pending l.held g spares ours)
+      kind-goes row (kind.interrupts {woken = woken} {call = c} {args = args} it why) = interrupted-goes woken c args
+      kind-goes row (kind.performs {woken = woken} {call = c} {args = args} {since = since} it goes none) =
+          performed-goes woken c args since (call_effect s pid p id l since c args)
+          (call-answered s pid p id l since c args)
+      kind-goes row (kind.returns {call = c} at none) = returned-goes c
+      kind-goes row (kind.executes at none) = executed-goes (instruction_effect p.space p.control.areas l.regs)
+      kind-goes row _ = quiet-goes row refl (λ new. refl)
 
       pub row-goes : GoesWithPoint (row_for s pid p id l)
-      unfolding row_for
-      row-goes = either-goes l.control.directed requested_row _ requested-goes (first-goes l.phase _ (current-goes l.current _ (signal-goes l.phase _ (in-phase l.phase))))
+      row-goes = kind-goes (row_for s pid p id l) (row-kind s pid p id l)
 
 -- ---- the turn
 

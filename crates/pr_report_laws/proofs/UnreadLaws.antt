@@ -166,7 +166,7 @@ module _ (K : Type 0) (n k : ℕ) (o : Options) (pid : ℕ) (t : TrussState) (s 
   own-before : (x : Exchange) → exchange_of k e ≡ Some x → After → Before
   own-before x own l =
       let owns : Owns k t s = g.owns in
-      let grown = told-grows pid t (exchange_of k e) owns.fits in
+      let grown = told-grows pid t (exchange_of k e) in
       let same : base ≡ base ++ selected_of o pid t s e = sym (ap (λ (xs : List LwpEvent). base ++ xs) (own-selects k o pid t s e x own) ∙ append-nil base) in
       inl (record {
         is = missing-before base (shown pid t) few event (shown pid (told_of k t e)) grown.more grown.is (same ∙ l.is);

@@ -27,7 +27,7 @@ use Rattle.pr_truss.specs.declared.stages.ChildStep.TheVariants as child
 use Rattle.pr_truss.specs.declared.stages.OpeningStep.{OpeningStep}
 use Rattle.pr_truss.specs.declared.stages.OpeningStep.TheVariants as opening
 use Rattle.pr_truss.specs.declared.stages.Stage.{Stage}
-use Rattle.pr_truss.specs.declared.stages.Stage.TheVariants.{Spawning, OpeningControl, Opening, Polling, ReadingStatus, ReadingText, OpeningChildControl, OpeningChild, Running, Closing, Unfollowing, ReadingLwps, FreeingChild, Finished}
+use Rattle.pr_truss.specs.declared.stages.Stage.TheVariants.{OpeningControl, Opening, OpeningChildControl, OpeningChild}
 use Rattle.pr_truss_laws.proofs.AnswerLemmas.{IsAnswer, answer-is}
 use Rattle.pr_truss_laws.proofs.HeldLemmas.{Fits, at_place, set-at}
 use Rattle.pr_truss_laws.proofs.OwnLemmas.{Owns}
@@ -36,7 +36,8 @@ use Rattle.pr_truss_laws.specs.Exchanges.{Exchange, IsGranted, Makes, calls_in, 
 use Rattle.pr_report_laws.proofs.FileLaws.{HasFiles}
 use Rattle.pr_report_laws.proofs.FileSteps.{MakesNext, makes-next}
 use Rattle.pr_report_laws.proofs.NextStages.{opens}
-use Rattle.pr_report_laws.proofs.OpeningRuns.{child-pid, learnt-pid}
+use Rattle.pr_report_laws.proofs.OpeningParts.{learnt-pid}
+use Rattle.pr_report_laws.proofs.OpeningRuns.{child-pid}
 use Rattle.pr_report_laws.proofs.OptionLemmas.{fed-options}
 use Rattle.pr_report_laws.proofs.StageChanges.{Comes, How, Opens, at, child_goes, child_starts, free, goes, less, no, starts}
 use Rattle.pr_report_laws.proofs.StageReplies.{fed-comes}
@@ -106,18 +107,7 @@ Remembers o t xs _ = Unit {0}
 remembers-none : (o : Options) (t : TrussState) (xs : List Exchange) (stage : Stage) → opens stage ≡ false → Remembers o t xs stage
 remembers-none o t xs (Opening place _) none = absurd (false≢true (sym none))
 remembers-none o t xs (OpeningChild parent place step) none = absurd (false≢true (sym none))
-remembers-none o t xs (Spawning program) none = tt
-remembers-none o t xs (OpeningControl pid) none = tt
-remembers-none o t xs Polling none = tt
-remembers-none o t xs (ReadingStatus place) none = tt
-remembers-none o t xs (ReadingText place l from len) none = tt
-remembers-none o t xs (OpeningChildControl parent pid) none = tt
-remembers-none o t xs (Running place) none = tt
-remembers-none o t xs (Closing place next) none = tt
-remembers-none o t xs Unfollowing none = tt
-remembers-none o t xs ReadingLwps none = tt
-remembers-none o t xs (FreeingChild pid step) none = tt
-remembers-none o t xs Finished none = tt
+remembers-none o t xs _ none = tt
 
 pub accepted-granted : (x : Exchange) → answer_of x.reply ≡ Accepted → IsGranted x
 unfolding IsAnswer

@@ -1,4 +1,4 @@
-use Rattle.std.specs.Prelude.{◌≡◌, ℕ, Bool, true, false, List, ◌∷◌, ◌++◌, Option, Some, None, slice_get, if◌then◌else◌}
+use Rattle.std.specs.Prelude.{◌≡◌, ℕ, true, List, ◌∷◌, ◌++◌, Option, Some, None, slice_get, if◌then◌else◌}
 use Rattle.pr_api.specs.Entries.{call_entry, turn_entry}
 use Rattle.pr_line.specs.declared.options.Options.{Options}
 use Rattle.pr_model.specs.Handles.{is_writable}
@@ -11,19 +11,14 @@ use Rattle.pr_model.specs.declared.events.Did.TheVariants.{Made, Woke}
 use Rattle.pr_model.specs.declared.events.Entry.{Entry}
 use Rattle.pr_model.specs.declared.events.Res.TheVariants.{Value}
 use Rattle.pr_model.specs.declared.events.Turned.{Turned}
-use Rattle.pr_num.specs.declared.syscalls.Sysno.{Sysno}
-use Rattle.pr_num.specs.declared.syscalls.Sysno.TheVariants.{Fork}
+use Rattle.pr_num.specs.Syscalls.{is_fork_call}
 use Rattle.pr_truss.specs.declared.stages.Stage.TheVariants.{OpeningChildControl}
 use Rattle.pr_truss_laws.specs.Exchanges.{Exchange, exchange_of, truss_at}
 
 -- Which children of forks are left to one controller.
 
-abbrev pub is_fork_call : Sysno → Bool
-is_fork_call Fork = true
-is_fork_call _ = false
-
--- The child that a turn made by fork. In no reached state does an lwp sleep in fork; a lawful state may have one that
--- does, and it makes its child when it wakes.
+-- The child that a turn made. In no reached state does an lwp sleep in a call that makes one; a lawful state may have
+-- an lwp that does, and it makes its child when it wakes.
 abbrev pub child_made : Did → Option ℕ
 child_made (Made call (Value pid)) = if is_fork_call call then Some pid else None
 child_made (Woke call (Value pid)) = if is_fork_call call then Some pid else None

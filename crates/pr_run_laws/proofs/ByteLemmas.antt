@@ -32,7 +32,7 @@ use Rattle.pr_tools.specs.Handles.{last_open}
 use Rattle.pr_tools.specs.Tools as tools
 use Rattle.pr_tools.specs.declared.steps.Step.{Step}
 use Rattle.pr_tools.specs.declared.steps.Step.TheVariants as step
-use Rattle.pr_truss.specs.Messages.{all_modes, traced_entries, traced_exits}
+use Rattle.pr_truss.specs.Messages.{all_modes, traced_entries, traced_exits, traced_faults, traced_signals}
 use Rattle.pr_truss.specs.NextCalls as trusses
 use Rattle.pr_truss.specs.Trusses.{TrussState, traced_at}
 use Rattle.pr_truss.specs.declared.processes.Traced.{Traced}
@@ -70,8 +70,8 @@ opening-bytes s t opening.SetRelease = spelt-bytes (message.Set rlc_mode)
 opening-bytes s t opening.Stop = spelt-bytes message.Stop
 opening-bytes s t (opening.AwaitStop until) = tt
 opening-bytes s t opening.ReadLwps = tt
-opening-bytes s t opening.TraceSignals = spelt-bytes (message.Strace s.options.signals)
-opening-bytes s t opening.TraceFaults = spelt-bytes (message.Sfault s.options.faults)
+opening-bytes s t opening.TraceSignals = spelt-bytes (message.Strace (traced_signals s.options))
+opening-bytes s t opening.TraceFaults = spelt-bytes (message.Sfault (traced_faults s.options))
 opening-bytes s t opening.TraceEntries = spelt-bytes (message.Sentry (traced_entries s.options))
 opening-bytes s t opening.TraceExits = spelt-bytes (message.Sexit (traced_exits s.options))
 opening-bytes s t opening.Follow = spelt-bytes (message.Set fork_mode)

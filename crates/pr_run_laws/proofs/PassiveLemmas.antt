@@ -14,7 +14,7 @@ use Rattle.pr_tools.specs.Handles.{last_open}
 use Rattle.pr_tools.specs.Tools as tools
 use Rattle.pr_tools.specs.declared.steps.Step.{Step}
 use Rattle.pr_tools.specs.declared.steps.Step.TheVariants as step
-use Rattle.pr_truss.specs.Messages.{all_modes, traced_entries, traced_exits}
+use Rattle.pr_truss.specs.Messages.{all_modes, traced_entries, traced_exits, traced_faults, traced_signals}
 use Rattle.pr_truss.specs.NextCalls as trusses
 use Rattle.pr_truss.specs.Trusses.{TrussState, traced_at}
 use Rattle.pr_truss.specs.declared.processes.Traced.{Traced}
@@ -116,8 +116,8 @@ opening-passive s t opening.SetRelease = release-begins
 opening-passive s t opening.Stop = stop-begins
 opening-passive s t (opening.AwaitStop until) = stop-begins
 opening-passive s t opening.ReadLwps = tt
-opening-passive s t opening.TraceSignals = signals-begins s.options.signals
-opening-passive s t opening.TraceFaults = faults-begins s.options.faults
+opening-passive s t opening.TraceSignals = signals-begins (traced_signals s.options)
+opening-passive s t opening.TraceFaults = faults-begins (traced_faults s.options)
 opening-passive s t opening.TraceEntries = entries-begins (traced_entries s.options)
 opening-passive s t opening.TraceExits = exits-begins (traced_exits s.options)
 opening-passive s t opening.Follow = follow-begins

@@ -167,11 +167,8 @@ impl Draft {
         ensures value { Answers (λ item. item) result (numbered number (begun self.now first.now)) }
         ensures may { IfOk result (λ item. may_begin self.now item ≡ Ok tt) }
     {
-        match self.begin(alloc, first) {
-            Ok(item) => Ok(item),
-            Err(Refused::Kind(kind)) => Err(ScenRefusal::Fault(ScenFault { line: number, kind })),
-            Err(Refused::NoMemory(error)) => Err(ScenRefusal::from(error)),
-        }
+        let item = self.begin(alloc, first);
+        at_line(number, item)
     }
 
     /// Why a line is refused that begins a block without end: for that, or for a kind that comes before.

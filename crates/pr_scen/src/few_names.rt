@@ -35,6 +35,7 @@ impl FewNames {
         }
     }
 
+    /// How many names there are.
     pub fn len(&self) -> usize
         ensures value { result ≡ length self.now }
         ensures most { result ≤ program_limit }

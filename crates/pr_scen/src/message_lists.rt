@@ -1,14 +1,14 @@
 //! Operands of messages: sets, modes and run flags.
-ghost use Rattle.std.specs.Prelude.{◌≡◌, map, IfOk};
+ghost use Rattle.std.specs.Prelude.{◌≡◌, ◌-◌, ◌^◌, map, IfOk};
 ghost use Rattle.std.specs.List.{list_all};
-ghost use Rattle.std.specs.Result.{result_map_both};
 ghost use Rattle.pr_text.specs.Names.{is_name};
+ghost use Rattle.pr_line.specs.Entries.{number_named};
 ghost use Rattle.pr_scen.specs.MessageLists.{named_set, set_of, mode_word, with_modes, modes_of, flag_of};
 
 use crate::ScenKind;
-use pr_line::{Entries, named_entries};
+use pr_line::named_entries;
 use pr_msg::RunFlags;
-use pr_num::{Modes, NoMemory};
+use pr_num::{Modes, NoMemory, Numbered, SetOf};
 use pr_text::{name_of, parts_of};
 use std::alloc::Global;
 
@@ -26,8 +26,8 @@ fn are_names(words: &[&[u8]]) -> bool
 
 /// The set of names that are joined.
 #[tactic(auto, unfolding(crate::specs::MessageLists::named_set))]
-fn named_set<S: Entries>(names: &[&[u8]]) -> Result<S, ScenKind>
-    ensures { result_map_both S.word (λ kind. kind) result ≡ named_set S.named (map (λ name. name.now) names.now) }
+fn named_set<T: Numbered>(names: &[&[u8]]) -> Result<SetOf<T>, ScenKind>
+    ensures { result ≡ named_set (number_named T.number_of T.of_name) (map (λ name. name.now) names.now) }
 {
     if !are_names(names) {
         return Err(ScenKind::BadOperand);
@@ -37,14 +37,17 @@ fn named_set<S: Entries>(names: &[&[u8]]) -> Result<S, ScenKind>
 
 /// The set of a list: `none`, `all`, or names joined by `+`.
 #[tactic(auto, unfolding(crate::specs::MessageLists::set_of))]
-pub fn set_of<S: Entries>(alloc: Global, word: &[u8]) -> Result<Result<S, ScenKind>, NoMemory>
-    ensures { IfOk result (λ set. result_map_both S.word (λ kind. kind) set ≡ set_of S.named S.every word.now) }
+pub fn set_of<T: Numbered>(
+    alloc: Global,
+    word: &[u8],
+) -> Result<Result<SetOf<T>, ScenKind>, NoMemory>
+    ensures { IfOk result (λ set. set ≡ set_of (number_named T.number_of T.of_name) (2 ^ T.COUNT - 1) word.now) }
 {
     if word == b"none".as_slice() {
-        return Ok(Ok(S::nothing()));
+        return Ok(Ok(SetOf::empty()));
     }
     if word == b"all".as_slice() {
-        return Ok(Ok(S::everything()));
+        return Ok(Ok(SetOf::all()));
     }
     let names = parts_of(alloc, word)?;
     Ok(named_set(&names))

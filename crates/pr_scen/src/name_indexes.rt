@@ -46,6 +46,7 @@ impl Names {
         self.places.get(&Key { name }).copied()
     }
 
+    /// How many names there are.
     pub fn len(&self) -> usize
         ensures { result ≡ length self.now }
     {

@@ -1,6 +1,5 @@
 //! The messages of one write, a word after another.
 ghost use Rattle.std.specs.Prelude.{◌≡◌, ◌<◌, OnOk, slice_get};
-ghost use Rattle.std.specs.Result.{result_map_both};
 ghost use Rattle.pr_text.specs.Reads.{Gives};
 ghost use Rattle.pr_scen.specs.MessageLists.{flag_of};
 ghost use Rattle.pr_scen.specs.MessageWords.{operands_of};
@@ -9,9 +8,8 @@ ghost use Rattle.pr_scen.specs.Messages.{nothing_written, with_whole, if_whole, 
 use crate::ScenKind;
 use crate::message_lists::{flag_of, modes_of, set_of};
 use crate::message_words::{MessageWord, Operand, bytes_of, message_word_of, operands_of};
-use pr_line::Entries;
 use pr_msg::{Message, RunFlags, encode};
-use pr_num::{Bytes, FltSet, NoMemory, SigSet, SysSet};
+use pr_num::{Bytes, Flt, NoMemory, Numbered, SetOf, Sig, Sysno};
 use pr_text::{Refused, Tokens, bytes_of_digits, number_of};
 use std::alloc::Global;
 use std::marker::Model;
@@ -83,17 +81,17 @@ impl Writing {
     }
 
     /// Takes a set more; a name that is in no table is remembered.
-    fn take_set<S: Entries>(
+    fn take_set<T: Numbered>(
         &mut self,
         alloc: Global,
         word: MessageWord,
-        set: Result<S, ScenKind>,
+        set: Result<SetOf<T>, ScenKind>,
     ) -> Result<(), Refused<ScenKind>>
         requires { self.old.count < 11 }
-        ensures { Gives (λ _. self.new) result (with_set self.old word (result_map_both S.word (λ kind. kind) set)) }
+        ensures { Gives (λ _. self.new) result (with_set self.old word set) }
     {
         match set {
-            Ok(set) => Ok(self.take_number(alloc, word, set.bits())?),
+            Ok(set) => Ok(self.take_number(alloc, word, set.word())?),
             Err(ScenKind::UnknownName) => {
                 self.unknown = true;
                 Ok(self.take_number(alloc, word, 0)?)
@@ -124,15 +122,15 @@ impl Writing {
                 Ok(self.end_message(alloc, word, tail.as_slice())?)
             }
             Operand::Signals => {
-                let set = set_of::<SigSet>(alloc, text)?;
+                let set = set_of::<Sig>(alloc, text)?;
                 self.take_set(alloc, word, set)
             }
             Operand::Faults => {
-                let set = set_of::<FltSet>(alloc, text)?;
+                let set = set_of::<Flt>(alloc, text)?;
                 self.take_set(alloc, word, set)
             }
             Operand::Calls => {
-                let set = set_of::<SysSet>(alloc, text)?;
+                let set = set_of::<Sysno>(alloc, text)?;
                 self.take_set(alloc, word, set)
             }
             Operand::Modes => {

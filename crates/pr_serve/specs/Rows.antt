@@ -163,7 +163,7 @@ pub record IsJudged (s : Scenario) (entries : List Entry) (old new : Ends) (stat
   pub judges : Judges (length s.controllers) (first_state_of s) entries first
   pub given : IsGiven (judged (length entries) first) status history old.written new.written
 
--- The input is a scenario: its run is made in rounds, and the status says how that ended.
+-- An input that is a scenario: its run is made in rounds, and the status says how that ended.
 abbrev pub EndsRounds : Option (List ℕ) → Status → Type 0
 EndsRounds left status =
     IfSome left (λ input. IfOk (scenario_of_input (taken_of scenario_limit input)) (λ scenario. IsWhole status → EndsAs scenario.turns (run_of scenario) status))

@@ -32,8 +32,8 @@ fn direct_each(lwps: &mut ById<Lwp>)
 fn direct_under(lwps: &mut ById<Lwp>, id: u32)
     ensures { lwps.new ≡ change_under id directed lwps.old }
 {
-    if lwps.contains(id) {
-        direct_lwp(lwps.get_mut(id));
+    if let Some(lwp) = lwps.find_mut(id) {
+        direct_lwp(lwp);
     }
 }
 

@@ -58,6 +58,7 @@ impl Line {
         self.bytes.len()
     }
 
+    /// Whether the line has no byte.
     pub fn is_empty(&self) -> bool
         ensures { IsTrue result ↔ (self.now ≡ []) }
     {

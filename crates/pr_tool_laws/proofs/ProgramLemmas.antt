@@ -19,7 +19,7 @@ use Rattle.pr_model.specs.Generation.{told}
 use Rattle.pr_model.specs.Handles.{released, with_closed, with_opened}
 use Rattle.pr_model.specs.Lawful.{IsLawful}
 use Rattle.pr_model.specs.Legal.{IsLegal, IsLegalEntry, after, state_after}
-use Rattle.pr_model.specs.Lives.{ended_if_live, with_child, with_ended, with_lwp_ended, with_made, with_parent_told, with_reaped, with_spawned, with_this_ended, without_lwp}
+use Rattle.pr_model.specs.Lives.{ended_if_live, with_child, with_ended, with_lwp_ended, with_made, with_parent_told, with_reaped, with_spawned, with_this_ended, without_lwp, Birth}
 use Rattle.pr_model.specs.LwpTurns.{LwpTurn, settled, turn_of}
 use Rattle.pr_model.specs.Machines.{traced}
 use Rattle.pr_model.specs.Rows.{Row}
@@ -83,9 +83,10 @@ spawned-same : (s : TracedSystem) (program : Program) (held : Bool) → Same s (
 unfolding with_spawned with_made
 spawned-same s program held = refl
 
-child-same : (s : TracedSystem) (pid : ℕ) (p : TracedProcess) (l : TracedLwp) (args : List ℕ) → Same s (with_child traced pid p l args s)
+child-same : (s : TracedSystem) (birth : Birth) (pid : ℕ) (p : TracedProcess) (l : TracedLwp) (args : List ℕ)
+    → Same s (with_child traced birth pid p l args s)
 unfolding with_child with_made
-child-same s pid p l args = refl
+child-same s birth pid p l args = refl
 
 -- ---- turns: a line a kind of change
 
@@ -94,7 +95,7 @@ module _ (pid : ℕ) (p : TracedProcess) (id : ℕ) (l : TracedLwp) where
   unfolding changed with_process with_reaped
   changed-same (signals target g info) s = either-same (is_kill g && (target == pid)) s _ _ refl (generated-same s target None g info)
   changed-same (signals_itself g info) s = either-same (is_kill g) s _ _ refl (generated-same s pid (Some id) g info)
-  changed-same (forks args) s = either-same (s.made == pid) s _ _ refl (child-same s pid p l args)
+  changed-same (forks birth args) s = either-same (s.made == pid) s _ _ refl (child-same s birth pid p l args)
   changed-same (reaps child) s = either-same (child == pid) s _ _ refl refl
   changed-same _ s = refl
 

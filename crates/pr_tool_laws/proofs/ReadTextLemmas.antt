@@ -60,9 +60,10 @@ dispositions-shown pid p are =
     let size = length-words_bytes p.dispositions in
     (omega (arith, size, are.whole), psig-shown pid p.dispositions are.whole are.words)
 
-mappings-shown : (pid : ℕ) (p : TracedProcess) → AreMappingsRead p → IsShownAs Pmap pid (map_bytes (map_of p)) (mappings_text pid (map_of p))
+mappings-shown : (pid : ℕ) (s : TracedSystem) (p : TracedProcess) → AreMappingsRead s p
+    → IsShownAs Pmap pid (map_bytes (map_of s p)) (mappings_text pid (map_of s p))
 unfolding text_made text_of first_tool
-mappings-shown pid p are = (are.few, pmap-shown pid (map_of p) are.fields)
+mappings-shown pid s p are = (are.few, pmap-shown pid (map_of s p) are.fields)
 
 descriptors-shown : (pid : ℕ) (s : TracedSystem) (p : TracedProcess) → AreDescriptorsRead s p → IsShownAs Pfiles pid (fds_bytes (fds_of s.files p)) (descriptors_text pid (fds_of s.files p))
 unfolding text_made text_of first_tool fds_bytes
@@ -70,11 +71,12 @@ descriptors-shown pid s p are =
     let size = length-entries fd_entry_words_of 8 (λ _. refl) (fds_of s.files p) in
     (omega (arith, size, are.few), pfiles-shown pid (fds_of s.files p) are.fields)
 
-end-shown : (pid : ℕ) (p : TracedProcess) → IsPsinfo (psinfo_of pid p) → IsShownAs Pwait pid (psinfo_bytes (psinfo_of pid p)) (end_text (psinfo_of pid p))
+end-shown : (pid : ℕ) (s : TracedSystem) (p : TracedProcess) → IsPsinfo (psinfo_of s pid p)
+    → IsShownAs Pwait pid (psinfo_bytes (psinfo_of s pid p)) (end_text (psinfo_of s pid p))
 unfolding text_made text_of first_tool psinfo_bytes psinfo_of
-end-shown pid p is =
-    let size = length-words_bytes (psinfo_words_of (psinfo_of pid p)) in
-    (omega (arith, size), pwait-shown pid (psinfo_of pid p) is refl)
+end-shown pid s p is =
+    let size = length-words_bytes (psinfo_words_of (psinfo_of s pid p)) in
+    (omega (arith, size), pwait-shown pid (psinfo_of s pid p) is refl)
 
 -- ---- the ids of processes rise, also without process 0
 
@@ -130,14 +132,16 @@ read-back Psig pid s good =
     (live_process s pid) (IfSome_then (live_process s pid) good (dispositions-shown pid))
 read-back Pstack pid s good = absurd good
 read-back Pmap pid s good =
-    file-shown Pmap pid (λ p. mappings_text pid (map_of p)) (λ p. map_bytes (map_of p)) (λ o. bytes_in (of_process s pid 0 0 read_limit file.Map o)) (λ p. refl) refl refl
-    (live_process s pid) (IfSome_then (live_process s pid) good (mappings-shown pid))
+    file-shown Pmap pid (λ p. mappings_text pid (map_of s p)) (λ p. map_bytes (map_of s p))
+    (λ o. bytes_in (of_process s pid 0 0 read_limit file.Map o)) (λ p. refl) refl refl
+    (live_process s pid) (IfSome_then (live_process s pid) good (mappings-shown pid s))
 read-back Pfiles pid s good =
     file-shown Pfiles pid (λ p. descriptors_text pid (fds_of s.files p)) (λ p. fds_bytes (fds_of s.files p)) (λ o. bytes_in (of_process s pid 0 0 read_limit file.Fds o)) (λ p. refl) refl refl
     (live_process s pid) (IfSome_then (live_process s pid) good (descriptors-shown pid s))
 read-back Pstop pid s good = ap (λ text. Some text) (pstop-shown pid)
 read-back Prun pid s good = ap (λ text. Some text) (prun-shown pid)
 read-back Pwait pid s good =
-    file-shown Pwait pid (λ p. end_text (psinfo_of pid p)) (λ p. psinfo_bytes (psinfo_of pid p)) (λ o. bytes_in (of_process s pid 0 0 read_limit file.Psinfo o)) (λ p. refl) refl refl
-    (process_of s pid) (IfSome_then (process_of s pid) good (end-shown pid))
+    file-shown Pwait pid (λ p. end_text (psinfo_of s pid p)) (λ p. psinfo_bytes (psinfo_of s pid p))
+    (λ o. bytes_in (of_process s pid 0 0 read_limit file.Psinfo o)) (λ p. refl) refl refl
+    (process_of s pid) (IfSome_then (process_of s pid) good (end-shown pid s))
 read-back Ptree pid s good = tree-shown pid s good

@@ -64,7 +64,7 @@ lwp-read p id from len (Some l) = tt
 
 file-read : (s : TracedSystem) (pid : ℕ) (p : TracedProcess) (id from len : ℕ) (f : File) → IsRead (file_reply s pid p id from len f)
 unfolding file_reply
-file-read s pid p id from len file.Mem = none-read (mapped_from (space_seen p) from len)
+file-read s pid p id from len file.Mem = none-read (mapped_from (space_seen s p) from len)
 file-read s pid p id from len file.Lwpstatus = lwp-read p id from len (lwp_of p id)
 file-read s pid p id from len _ = tt
 

@@ -36,7 +36,7 @@ use Rattle.pr_tools.specs.declared.steps.Step.{Step}
 use Rattle.pr_tools.specs.declared.steps.Step.TheVariants as step
 use Rattle.pr_tool_laws.proofs.StackHalts.{HaltsWith}
 use Rattle.pr_tool_laws.proofs.StackReads.{control_of, memory-gone, memory-there, memory_of, new-stands, old-stands, read-answer, status-gone, status-there, status-whole, status_of, stop-halts}
-use Rattle.pr_tool_laws.proofs.StackStages.{HasFrames, HasReadAll, Holds, Reads, Seen, So, StackStage, Walks, at_first, goes, has_control, has_read, has_status, refused, seen-here, seen-still, still-read}
+use Rattle.pr_tool_laws.proofs.StackStages.{HasFrames, HasReadAll, Holds, Reads, Seen, memory_then, So, StackStage, Walks, at_first, goes, has_control, has_read, has_status, refused, seen-here, seen-still, still-read}
 use Rattle.pr_tool_laws.proofs.StackSteps as steps
 use Rattle.pr_tool_laws.proofs.StackSteps.{Ends, IsEnding, Notes, no_notes, pstack_at, unless-refused, wait-used, with_control, with_memory, with_status}
 use Rattle.pr_tool_laws.proofs.StackTexts.{first-shown}
@@ -54,6 +54,14 @@ module _ (n k pid : ℕ) (first : TracedState) (h : List Entry) (c : Call) (a : 
 
   abbrev longer : List Entry
   longer = h ++ call_entry k c a.reply ∷ []
+
+  -- the memory of the process in the state that is shown
+  abbrev memory_of_seen : {g : List Entry} → Seen n k pid first g → Space
+  memory_of_seen seen = memory_then n k pid first seen
+
+  -- what a read of it gives
+  abbrev seen_at : {g : List Entry} → Seen n k pid first g → ℕ → List ℕ
+  seen_at seen from = mapped_from (memory_of_seen seen) from short_read
 
   -- the stage after the call
   abbrev Next : ToolState → Type 0
@@ -227,7 +235,9 @@ module _ (n k pid : ℕ) (first : TracedState) (h : List Entry) (c : Call) (a : 
             going (fed (at step.ReadFile) a.reply) step.ReadText (record notes { bytes = take read_limit (part_read (lstatus_bytes (lstatus_of p)) 0 read_limit) }) still.0
             (ap (fed (at step.ReadFile)) whole ∙ steps.status-read pid notes (with_memory control status memory) (part_read (lstatus_bytes (lstatus_of p)) 0 read_limit)) (record {
               seen = seen-here n k pid first h c a.reply p reads stopped live own.0;
-              halts = halts-still (space_seen p) still.1 (subst (λ (x : Space). HaltsWith pid x s.system) (sym own.1) halts);
+              halts =
+                  halts-still (space_seen s.system p) still.1
+                  (subst (λ (x : Space). HaltsWith pid x s.system) (sym own.1) halts);
               status = λ are. status-whole p are;
               none = none;
             })
@@ -254,7 +264,8 @@ module _ (n k pid : ℕ) (first : TracedState) (h : List Entry) (c : Call) (a : 
 
     -- the next frame is read, or all were
     walking : (t : ToolState) (p : Step) (later : Notes) (next : Option Walk) → a.state.opens ≡ s.opens → t ≡ with_walk (pstack_at pid (with_memory control status memory) p later) next
-        → (seen : Seen n k pid first longer) → HaltsWith pid (space_seen seen.process) a.state.system → HasFrames n k pid first seen.process later next → Next t
+        → (seen : Seen n k pid first longer) → HaltsWith pid (memory_of_seen seen) a.state.system
+        → HasFrames n k pid first seen.process (memory_of_seen seen) later next → Next t
     unfolding So
     walking t p later None same is seen halts read =
         let ends = steps.walked pid later (with_memory control status memory) p in
@@ -265,7 +276,7 @@ module _ (n k pid : ℕ) (first : TracedState) (h : List Entry) (c : Call) (a : 
 
     text-stage : Reads n k pid first h s.system notes → next_call_of (at step.ReadText) ≡ Some c → Next (fed (at step.ReadText) a.reply)
     unfolding is_passed_over is_unmapped
-    text-stage reads next = of (memory-read (space_seen reads.seen.process) reads.halts step.ReadText text_base its refl)
+    text-stage reads next = of (memory-read (memory_of_seen reads.seen) reads.halts step.ReadText text_base its refl)
       where
         its : answer_to s k (call.Read memory text_base short_read) ≡ Some a
         its = its-answer (at step.ReadText) (call.Read memory text_base short_read) (steps.text-call pid control status memory notes) next
@@ -273,26 +284,37 @@ module _ (n k pid : ℕ) (first : TracedState) (h : List Entry) (c : Call) (a : 
         still : (a.state.opens ≡ s.opens) × (a.state.system ≡ s.system)
         still = looks-still (call.Read memory text_base short_read) refl its
 
-        of : IsSome (fed (at step.ReadText) a.reply).refusal ⊎ (a.reply ≡ unless_none (mapped_from (space_seen reads.seen.process) text_base short_read)) → Next (fed (at step.ReadText) a.reply)
+        of : IsSome (fed (at step.ReadText) a.reply).refusal ⊎ (a.reply ≡ unless_none (seen_at reads.seen text_base))
+            → Next (fed (at step.ReadText) a.reply)
         of (inl was) = refused was
         of (inr is) =
-            walking (fed (at step.ReadText) a.reply) step.ReadText (record notes { first = steps.first_of pid notes (mapped_from (space_seen reads.seen.process) text_base short_read) }) (walk_in notes.bytes 8) still.0
-            (ap (fed (at step.ReadText)) is ∙ steps.text-read pid notes (with_memory control status memory) (mapped_from (space_seen reads.seen.process) text_base short_read))
+            walking (fed (at step.ReadText) a.reply) step.ReadText
+            (record notes { first = steps.first_of pid notes (seen_at reads.seen text_base) }) (walk_in notes.bytes 8)
+            still.0
+            (ap (fed (at step.ReadText)) is
+            ∙ steps.text-read pid notes (with_memory control status memory) (seen_at reads.seen text_base))
             (seen-still n k pid first h (call_entry k c a.reply) reads.seen)
-            (halts-still (space_seen reads.seen.process) still.1 reads.halts)
+            (halts-still (memory_of_seen reads.seen) still.1 reads.halts)
             (record {
               status = reads.status;
-              instruction = first-shown (space_seen reads.seen.process) (memory-fits (space_seen reads.seen.process) reads.halts step.ReadText text_base its refl is);
+              instruction =
+                  first-shown (memory_of_seen reads.seen)
+                  (memory-fits (memory_of_seen reads.seen) reads.halts step.ReadText text_base its refl is);
               frames = λ are.
-                  let begun = walk-begins (lstatus_of reads.seen.process) are.few are.fields (space_seen reads.seen.process) in
+                  let lwps = lstatus_of reads.seen.process in
+                  let space : Space = memory_of_seen reads.seen in
+                  let begun = walk-begins lwps are.few are.fields space in
                   let none = reads.none in
-                  subst (λ (bytes : List ℕ). HasWalked (lstatus_of reads.seen.process) (space_seen reads.seen.process) notes.frames (walk_in bytes 8)) (sym (reads.status are))
-                  (subst (λ (fs : List CallFrame). HasWalked (lstatus_of reads.seen.process) (space_seen reads.seen.process) fs (walk_in (lstatus_bytes (lstatus_of reads.seen.process)) 8)) (sym none) begun);
+                  subst (λ (bytes : List ℕ). HasWalked lwps space notes.frames (walk_in bytes 8))
+                  (sym (reads.status are))
+                  (subst (λ (fs : List CallFrame). HasWalked lwps space fs (walk_in (lstatus_bytes lwps) 8)) (sym none)
+                  begun);
             })
 
     frame-stage : Walks n k pid first h s.system notes → next_call_of (at step.ReadFrame) ≡ Some c → Next (fed (at step.ReadFrame) a.reply)
     unfolding is_passed_over is_unmapped
-    frame-stage walks next = of (memory-read (space_seen walks.seen.process) walks.halts step.ReadFrame walks.next.frame its refl)
+    frame-stage walks next =
+        of (memory-read (memory_of_seen walks.seen) walks.halts step.ReadFrame walks.next.frame its refl)
       where
         its : answer_to s k (call.Read memory walks.next.frame short_read) ≡ Some a
         its = its-answer (at step.ReadFrame) (call.Read memory walks.next.frame short_read) (steps.frame-call pid control status memory notes walks.next walks.is) next
@@ -300,20 +322,30 @@ module _ (n k pid : ℕ) (first : TracedState) (h : List Entry) (c : Call) (a : 
         still : (a.state.opens ≡ s.opens) × (a.state.system ≡ s.system)
         still = looks-still (call.Read memory walks.next.frame short_read) refl its
 
-        of : IsSome (fed (at step.ReadFrame) a.reply).refusal ⊎ (a.reply ≡ unless_none (mapped_from (space_seen walks.seen.process) walks.next.frame short_read)) → Next (fed (at step.ReadFrame) a.reply)
+        of : IsSome (fed (at step.ReadFrame) a.reply).refusal
+            ⊎ (a.reply ≡ unless_none (seen_at walks.seen walks.next.frame))
+            → Next (fed (at step.ReadFrame) a.reply)
         of (inl was) = refused was
         of (inr is) =
-            walking (fed (at step.ReadFrame) a.reply) step.ReadFrame (record notes { frames = with_frame room notes.frames walks.next (mapped_from (space_seen walks.seen.process) walks.next.frame short_read) })
-            (walk_after notes.bytes walks.next (mapped_from (space_seen walks.seen.process) walks.next.frame short_read)) still.0
-            (ap (fed (at step.ReadFrame)) is ∙ steps.frame-read pid notes (with_memory control status memory) walks.next walks.is (mapped_from (space_seen walks.seen.process) walks.next.frame short_read))
+            walking (fed (at step.ReadFrame) a.reply) step.ReadFrame
+            (record notes { frames = with_frame room notes.frames walks.next (seen_at walks.seen walks.next.frame) })
+            (walk_after notes.bytes walks.next (seen_at walks.seen walks.next.frame)) still.0
+            (ap (fed (at step.ReadFrame)) is
+            ∙ steps.frame-read pid notes (with_memory control status memory) walks.next walks.is
+            (seen_at walks.seen walks.next.frame))
             (seen-still n k pid first h (call_entry k c a.reply) walks.seen)
-            (halts-still (space_seen walks.seen.process) still.1 walks.halts)
+            (halts-still (memory_of_seen walks.seen) still.1 walks.halts)
             (record {
               status = walks.read.status;
               instruction = walks.read.instruction;
               frames = λ are.
-                  let goes_on = walk-goes (lstatus_of walks.seen.process) are.few are.fields (space_seen walks.seen.process) walks.next notes.frames (walks.read.frames are) in
-                  subst (λ (bytes : List ℕ). HasWalked (lstatus_of walks.seen.process) (space_seen walks.seen.process) (with_frame room notes.frames walks.next (mapped_from (space_seen walks.seen.process) walks.next.frame short_read)) (walk_after bytes walks.next (mapped_from (space_seen walks.seen.process) walks.next.frame short_read))) (sym (walks.read.status are)) goes_on;
+                  let lwps = lstatus_of walks.seen.process in
+                  let space : Space = memory_of_seen walks.seen in
+                  let read : List ℕ = seen_at walks.seen walks.next.frame in
+                  let goes_on =
+                  walk-goes lwps are.few are.fields space walks.next notes.frames (walks.read.frames are) in
+                  subst (λ (bytes : List ℕ). HasWalked lwps space (with_frame room notes.frames walks.next read)
+                  (walk_after bytes walks.next read)) (sym (walks.read.status are)) goes_on;
             })
 
     -- ---- all of them

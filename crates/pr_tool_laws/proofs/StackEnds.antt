@@ -1,3 +1,4 @@
+use Rattle.pr_num.specs.Spaces.{Space}
 use Rattle.std.proofs.Common.{◌≡◌, ℕ, true, List, Option, Some, None, IfSome, is_some, option_map, refl, sym, subst, ap, ◌∙◌}
 use Rattle.std.proofs.lemmas.Bool.{false≢true}
 use Rattle.std.proofs.lemmas.Option.{same_Some}
@@ -87,13 +88,15 @@ module _ (n k pid : ℕ) (first : TracedState) where
       let range : IsInRange at = history-range n first seen.before lawful ranged bytes_before legal_before in
       let are : AreLwpsRead p = subst (λ (o : Option TracedProcess). IfSome o AreLwpsRead) seen.live (all-read pid at system range Pflags refl) in
       let rises = (live-lawful at pid p system seen.live).rising in
-      let frames = walked-all (lstatus_of p) (space_seen p) all.notes.frames (all.read.frames are) in
-      let text : printed t programs ≡ stacks_text pid programs p =
+      let space : Space = space_seen at p in
+      let frames = walked-all (lstatus_of p) space all.notes.frames (all.read.frames are) in
+      let text : printed t programs ≡ stacks_text pid programs at p =
       text-read h t programs ended accepted all are
       ∙ ap (λ (b : List ℕ). pstack_text pid b all.notes.first all.notes.frames programs) (all.read.status are)
       ∙ ap (λ (i : Option (List ℕ)). pstack_text pid (lstatus_bytes (lstatus_of p)) i all.notes.frames programs) all.read.instruction
-      ∙ ap (λ (fs : List CallFrame). pstack_text pid (lstatus_bytes (lstatus_of p)) (first_instruction (space_seen p)) fs programs) frames
-      ∙ stacks-shown pid p programs are rises in
+      ∙ ap (λ (fs : List CallFrame). pstack_text pid (lstatus_bytes (lstatus_of p)) (first_instruction space) fs
+      programs) frames
+      ∙ stacks-shown pid at p programs are rises in
       record {
         before = seen.before;
         call = seen.call;
@@ -103,5 +106,5 @@ module _ (n k pid : ℕ) (first : TracedState) where
         reads = seen.reads;
         stopped = seen.stopped;
         still = λ q there. subst IsHalting (same_Some p q (sym seen.live ∙ there)) seen.still;
-        shown = ap (option_map (stacks_text pid programs)) seen.live ∙ ap (λ (x : List ℕ). Some x) (sym text);
+        shown = ap (option_map (stacks_text pid programs at)) seen.live ∙ ap (λ (x : List ℕ). Some x) (sym text);
       }

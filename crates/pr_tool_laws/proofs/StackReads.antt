@@ -34,7 +34,7 @@ use Rattle.pr_tool_laws.specs.OneState.{AreLwpsRead}
 use Rattle.pr_truss_laws.proofs.OpensLemmas.{Opens, held_by, own-free, own-mine, own-other, own-set}
 use Rattle.pr_truss_laws.proofs.OwnTurnLemmas.{all-directed}
 use Rattle.pr_truss_laws.proofs.TakenLemmas.{ctl-is, stop-directs, stop-reads, taken-unless}
-use Rattle.pr_truss_laws.specs.Stills.{IsHalting}
+use Rattle.pr_truss_laws.specs.Stills.{IsHalting, KeepsMemory}
 
 -- What the machine answers to the calls of pstack: to its opens, to its request to stop, and to its reads.
 
@@ -63,9 +63,9 @@ module _ (s : TracedState) (k : ℕ) (held : Held) (own : held.controller ≡ k)
 
 -- ---- a request to stop
 
-directed-space : (p : TracedProcess) → space_seen (with_all_directed p) ≡ space_seen p
+directed-memory : (p : TracedProcess) → KeepsMemory p (with_all_directed p)
 unfolding with_all_directed
-directed-space p = refl
+directed-memory p = record { space = refl }
 
 -- Where it is not refused, the process does nothing but stop from then on, and the wait for it has no end of its own.
 pub stop-halts : (s : TracedState) (k c pid : ℕ) (a : Answer) → handle_of s.opens k c ≡ Some (control_of k pid) → answer_to s k (call.Ctl c stop_bytes) ≡ Some a → ((e : Errno) → a.reply ≢ reply.Fail e)
@@ -78,13 +78,14 @@ stop-halts s k c pid a stands given accepted = by (live_process s.system pid) re
         absurd (accepted Noent (ap (λ (x : Answer). x.reply) (ctl-is s k c (control_of k pid) stands refl stop_bytes a given) ∙ ap (λ (o : Option TracedProcess). (targeted_answer s.system (control_of k pid) o stop_bytes).reply) none))
     by (Some p) live =
         let later = stop-directs s k c (control_of k pid) stands refl p live a given accepted in
-        let halts : HaltsWith pid (space_seen p) a.state.system = record {
+        let kept = directed-memory p in
+        let halts : HaltsWith pid (space_seen s.system p) a.state.system = record {
           each = λ q there.
               let same : with_all_directed p ≡ q = same_Some (with_all_directed p) q (sym later ∙ there) in
-              (subst IsHalting same (all-directed p), ap (λ (x : TracedProcess). x.space) (sym same) ∙ directed-space p);
+              (subst IsHalting same (all-directed p), ap (λ (x : TracedProcess). x.space) (sym same) ∙ kept.space);
         } in
         let taken = taken-unless s k c (control_of k pid) stands refl p live stop_bytes message.Stop a stop-reads given accepted in
-        ((space_seen p, halts), ap (λ (x : Answer). until_in x.reply) taken.is)
+        ((space_seen s.system p, halts), ap (λ (x : Answer). until_in x.reply) taken.is)
 
 -- ---- a read
 
@@ -107,7 +108,8 @@ module _ (s : TracedSystem) (pid : ℕ) where
   unfolding file_read read_process
   memory-gone from none = ap (of_process s pid 0 from short_read file.Mem) none
 
-  pub memory-there : (from : ℕ) (p : TracedProcess) → live_process s pid ≡ Some p → file_read s pid 0 from short_read file.Mem ≡ unless_none (mapped_from (space_seen p) from short_read)
+  pub memory-there : (from : ℕ) (p : TracedProcess) → live_process s pid ≡ Some p
+      → file_read s pid 0 from short_read file.Mem ≡ unless_none (mapped_from (space_seen s p) from short_read)
   unfolding file_read read_process file_reply
   memory-there from p live = ap (of_process s pid 0 from short_read file.Mem) live
 

@@ -21,7 +21,7 @@ use Rattle.pr_tools.specs.declared.handles.Opened.{Opened}
 use Rattle.pr_tools.specs.declared.stacks.Walk.{Walk}
 use Rattle.pr_tools.specs.declared.steps.Step.{Step}
 use Rattle.pr_tools.specs.declared.steps.Step.TheVariants as step
-use Rattle.pr_tool_laws.proofs.StackHalts.{HaltsWith, others-halt}
+use Rattle.pr_tool_laws.proofs.StackHalts.{HaltsWith, others-halt, pid-made}
 use Rattle.pr_tool_laws.proofs.StackReads.{control_of, memory_of, status_of}
 use Rattle.pr_tool_laws.proofs.StackSteps.{IsEnding, Notes, no_notes, pstack_at, with_control, with_memory, with_status}
 use Rattle.pr_tool_laws.proofs.StackWalks.{HasWalked}
@@ -30,6 +30,7 @@ use Rattle.pr_tool_laws.proofs.ToolLemmas.{place-still}
 use Rattle.pr_tool_laws.specs.OneState.{AreLwpsRead}
 use Rattle.pr_tool_laws.specs.Reads.{IsToolRead}
 use Rattle.pr_tool_laws.specs.Stacks.{HasStopped, first_instruction}
+use Rattle.pr_truss_laws.proofs.ForeignLemmas.{exclusive-sole}
 use Rattle.pr_truss_laws.specs.Stills.{IsHalting}
 
 -- The stages of pstack, with what it read so far of the state that it shows, and what others leave of them.
@@ -89,29 +90,33 @@ module _ (n k pid : ℕ) (first : TracedState) where
     still = seen.still;
   }
 
+  -- the memory of the process in that state
+  abbrev pub memory_then : {h : List Entry} → Seen h → Space
+  memory_then seen = space_seen (state_after first seen.before).system seen.process
+
   -- the status of all lwps, where a read has all of it
   abbrev pub HasStatus : TracedProcess → Notes → Type 0
   HasStatus p notes = AreLwpsRead p → notes.bytes ≡ lstatus_bytes (lstatus_of p)
 
   -- the first instruction, and the frames so far, with the next one
-  pub record HasFrames (p : TracedProcess) (notes : Notes) (next : Option Walk) : Type 0 where
+  pub record HasFrames (p : TracedProcess) (space : Space) (notes : Notes) (next : Option Walk) : Type 0 where
     pub status : HasStatus p notes
-    pub instruction : notes.first ≡ first_instruction (space_seen p)
-    pub frames : AreLwpsRead p → HasWalked (lstatus_of p) (space_seen p) notes.frames next
+    pub instruction : notes.first ≡ first_instruction space
+    pub frames : AreLwpsRead p → HasWalked (lstatus_of p) space notes.frames next
 
   -- it read the status, and the process keeps its memory
   pub record Reads (h : List Entry) (s : TracedSystem) (notes : Notes) : Type 0 where
     pub seen : Seen h
-    pub halts : HaltsWith pid (space_seen seen.process) s
+    pub halts : HaltsWith pid (memory_then seen) s
     pub status : HasStatus seen.process notes
     pub none : notes.frames ≡ []
 
   pub record Walks (h : List Entry) (s : TracedSystem) (notes : Notes) : Type 0 where
     pub seen : Seen h
-    pub halts : HaltsWith pid (space_seen seen.process) s
+    pub halts : HaltsWith pid (memory_then seen) s
     pub next : Walk
     pub is : notes.walk ≡ Some next
-    pub read : HasFrames seen.process notes (Some next)
+    pub read : HasFrames seen.process (memory_then seen) notes (Some next)
 
   -- ---- the stages
 
@@ -143,7 +148,7 @@ module _ (n k pid : ℕ) (first : TracedState) where
     pub is : t ≡ pstack_at pid opened next notes
     pub ends : IsEnding next
     pub seen : Seen h
-    pub read : HasFrames seen.process notes None
+    pub read : HasFrames seen.process (memory_then seen) notes None
 
   pub still-read : (h : List Entry) (e : Entry) (t : ToolState) → HasReadAll h t → HasReadAll (h ++ e ∷ []) t
   still-read h e t all = record { opened = all.opened; next = all.next; notes = all.notes; is = all.is; ends = all.ends; seen = seen-still h e all.seen; read = all.read }
@@ -171,23 +176,32 @@ module _ (n k pid : ℕ) (first : TracedState) where
     still-stands : (number : ℕ) (held : Held) → held.controller ≡ k → Stands s.opens number held → Stands next_state.opens number held
     still-stands number held own stands = others-keep number held n s actor it legal (subst (λ (j : ℕ). IsOther j actor it) (sym own) other) stands
 
-    others-so : (control : ℕ) (notes : Notes) (next : Step) → Stands s.opens control (control_of k pid) → So h s.system notes next → So longer next_state.system notes next
+    -- the tool has the process open exclusively
+    others-kept : (control : ℕ) → Stands s.opens control (control_of k pid) → (space : Space)
+        → HaltsWith pid space s.system → HaltsWith pid space next_state.system
+    others-kept control stands space halts =
+        let mine : Held = control_of k pid in
+        let sole = exclusive-sole s k control mine lawful stands refl in
+        others-halt n s k pid lawful sole (pid-made s control mine lawful stands) actor it space legal other halts
+
+    others-so : (control : ℕ) (notes : Notes) (next : Step) → Stands s.opens control (control_of k pid)
+        → So h s.system notes next → So longer next_state.system notes next
     unfolding So
     others-so control notes step.ReadFirst stands so = so
     others-so control notes step.Stop stands so = so
     others-so control notes step.AwaitStop stands so =
-        (so.0, (so.1.0, others-halt n s control (control_of k pid) lawful stands refl so.1.0 actor it legal other so.1.1), so.2)
+        (so.0, (so.1.0, others-kept control stands so.1.0 so.1.1), so.2)
     others-so control notes step.ReadFile stands so =
-        (so.0, (so.1.0, others-halt n s control (control_of k pid) lawful stands refl so.1.0 actor it legal other so.1.1), stopped-still h entry so.2)
+        (so.0, (so.1.0, others-kept control stands so.1.0 so.1.1), stopped-still h entry so.2)
     others-so control notes step.ReadText stands so = record {
       seen = seen-still h entry so.seen;
-      halts = others-halt n s control (control_of k pid) lawful stands refl (space_seen so.seen.process) actor it legal other so.halts;
+      halts = others-kept control stands (memory_then so.seen) so.halts;
       status = so.status;
       none = so.none;
     }
     others-so control notes step.ReadFrame stands so = record {
       seen = seen-still h entry so.seen;
-      halts = others-halt n s control (control_of k pid) lawful stands refl (space_seen so.seen.process) actor it legal other so.halts;
+      halts = others-kept control stands (memory_then so.seen) so.halts;
       next = so.next;
       is = so.is;
       read = so.read;

@@ -7,7 +7,7 @@ use Rattle.pr_model.specs.Reads.{mapped_from}
 use Rattle.pr_model.specs.Readers.{space_seen}
 use Rattle.pr_model.specs.Records.{lstatus_of, statuses_of_lwps}
 use Rattle.pr_model.specs.Registers.{fp_of, pc_of}
-use Rattle.pr_model.specs.State.{TracedLwp, TracedProcess}
+use Rattle.pr_model.specs.State.{TracedLwp, TracedProcess, TracedSystem}
 use Rattle.pr_model.specs.Statuses.{lwpstatus_of}
 use Rattle.pr_num.proofs.ByIdLemmas.{rises_from-head, rises_from-tail}
 use Rattle.pr_num.specs.ById.{IsRising, rises_from}
@@ -99,15 +99,20 @@ module _ (program : Option Program) where
 -- ---- the text of a process
 
 -- What pstack prints of the status of all lwps of a process, of its first instruction, and of all frames.
-pub stacks-shown : (pid : ℕ) (p : TracedProcess) (programs : List Program) → AreLwpsRead p → IsRising p.lwps
-    → tool.pstack_text pid (lstatus_bytes (lstatus_of p)) (first_instruction (space_seen p)) (all_frames (space_seen p) (lstatus_of p)) programs ≡ stacks_text pid programs p
+pub stacks-shown : (pid : ℕ) (s : TracedSystem) (p : TracedProcess) (programs : List Program) → AreLwpsRead p
+    → IsRising p.lwps
+    → tool.pstack_text pid (lstatus_bytes (lstatus_of p)) (first_instruction (space_seen s p))
+    (all_frames (space_seen s p) (lstatus_of p)) programs ≡ stacks_text pid programs s p
 unfolding tool.pstack_text stacks_text lstatus_of
-stacks-shown pid p programs are rises =
+stacks-shown pid s p programs are rises =
+    let space : Space = space_seen s p in
     let lwps = statuses_of_lwps p p.lwps in
-    let program = program_of programs (first_instruction (space_seen p)) in
-    let frames = all_frames (space_seen p) lwps in
-    let texts = lwp-texts program p (space_seen p) p.lwps [] 0 (λ id above. refl) rises in
-    ap (λ (o : Option (List (List ℕ))). header pid ++ tool.stack_texts program frames o) (lwps-back pid lwps are.few are.fields) ∙ ap (λ (text : List ℕ). header pid ++ text) texts
+    let program = program_of programs (first_instruction space) in
+    let frames = all_frames space lwps in
+    let texts = lwp-texts program p space p.lwps [] 0 (λ id above. refl) rises in
+    ap (λ (o : Option (List (List ℕ))). header pid ++ tool.stack_texts program frames o)
+    (lwps-back pid lwps are.few are.fields)
+    ∙ ap (λ (text : List ℕ). header pid ++ text) texts
 
 -- ---- the first instruction
 

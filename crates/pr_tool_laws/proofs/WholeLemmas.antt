@@ -1,3 +1,4 @@
+use Rattle.pr_model.specs.Readers.{space_seen}
 use Rattle.std.proofs.Common.{◌≡◌, ◌+◌, ◌≤◌, ◌++◌, ◌∷◌, ℕ, suc, true, List, [], length, Option, Some, None, IfSome, slice_get, refl, ap, subst, arith}
 use Rattle.std.proofs.lemmas.Bool.{leb-true}
 use Rattle.std.proofs.lemmas.List.{length-map}
@@ -70,11 +71,11 @@ unfolding fds_of
 descriptors-within files p = entries-within files 0 p.fds
 
 -- 64 bytes for each mapping
-map-within : (p : TracedProcess) → HasFewMappings p → length (map_bytes (map_of p)) ≤ read_limit
+map-within : (s : TracedSystem) (p : TracedProcess) → HasFewMappings p → length (map_bytes (map_of s p)) ≤ read_limit
 unfolding map_bytes map_of
-map-within p h =
-    let bytes = length-entries map_entry_words_of 8 (λ _. refl) (map_of p) in
-    let many = length-map p.space (map_entry_of p.program) in
+map-within s p h =
+    let bytes = length-entries map_entry_words_of 8 (λ _. refl) (map_of s p) in
+    let many = length-map (space_seen s p) (map_entry_of p.program) in
     let few = h.few in
     omega (arith, bytes, many, few)
 
@@ -116,11 +117,11 @@ module _ (pid : ℕ) (s : TracedSystem) (lawful : IsLawfulSystem s) (ranged : Is
   dispositions-read =
       of-live AreDispositionsRead (λ p live own records. record { words = records.dispositions; whole = records.signals }) (live_process s pid) refl
 
-  mappings-read : IfSome (live_process s pid) AreMappingsRead
+  mappings-read : IfSome (live_process s pid) (AreMappingsRead s)
   mappings-read =
-      of-live AreMappingsRead (λ p live own records. record {
+      of-live (AreMappingsRead s) (λ p live own records. record {
         fields = records.mappings;
-        few = map-within p (few-mappings p (process-range s pid p ranged (found-live s pid p live).0));
+        few = map-within s p (few-mappings p (process-range s pid p ranged (found-live s pid p live).0));
       }) (live_process s pid) refl
 
   descriptors-read : IfSome (live_process s pid) (AreDescriptorsRead s)
@@ -130,8 +131,8 @@ module _ (pid : ℕ) (s : TracedSystem) (lawful : IsLawfulSystem s) (ranged : Is
         few = let within = descriptors-within s.files p in let places = own.descriptors in omega (arith, within, places);
       }) (live_process s pid) refl
 
-  psinfo-read : IfSome (process_of s pid) (λ p. IsPsinfo (psinfo_of pid p))
-  psinfo-read = of-process (λ p. IsPsinfo (psinfo_of pid p)) (λ p own records. records.psinfo) (process_of s pid) refl
+  psinfo-read : IfSome (process_of s pid) (λ p. IsPsinfo (psinfo_of s pid p))
+  psinfo-read = of-process (λ p. IsPsinfo (psinfo_of s pid p)) (λ p own records. records.psinfo) (process_of s pid) refl
 
   pub all-read : (kind : ToolKind) → reads_once kind ≡ true → IsReadBack kind pid s
   unfolding IsReadBack reads_once

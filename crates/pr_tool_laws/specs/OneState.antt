@@ -32,9 +32,9 @@ pub record AreDispositionsRead (p : TracedProcess) : Type 0 where
   pub whole : length p.dispositions ≡ signal_count
 
 -- one read has all mappings
-pub record AreMappingsRead (p : TracedProcess) : Type 0 where
-  pub fields : All IsMapEntry (map_of p)
-  pub few : length (map_bytes (map_of p)) ≤ read_limit
+pub record AreMappingsRead (s : TracedSystem) (p : TracedProcess) : Type 0 where
+  pub fields : All IsMapEntry (map_of s p)
+  pub few : length (map_bytes (map_of s p)) ≤ read_limit
 
 pub record AreDescriptorsRead (s : TracedSystem) (p : TracedProcess) : Type 0 where
   pub fields : All IsFdEntry (fds_of s.files p)
@@ -51,11 +51,11 @@ unfoldable pub IsReadBack : ToolKind → ℕ → TracedSystem → Type 0
 IsReadBack Pflags pid s = IfSome (live_process s pid) AreLwpsRead
 IsReadBack Psig pid s = IfSome (live_process s pid) AreDispositionsRead
 IsReadBack Pstack pid s = ⊥
-IsReadBack Pmap pid s = IfSome (live_process s pid) AreMappingsRead
+IsReadBack Pmap pid s = IfSome (live_process s pid) (AreMappingsRead s)
 IsReadBack Pfiles pid s = IfSome (live_process s pid) (AreDescriptorsRead s)
 IsReadBack Pstop pid s = Unit {0}
 IsReadBack Prun pid s = Unit {0}
-IsReadBack Pwait pid s = IfSome (process_of s pid) (λ p. IsPsinfo (psinfo_of pid p))
+IsReadBack Pwait pid s = IfSome (process_of s pid) (λ p. IsPsinfo (psinfo_of s pid p))
 IsReadBack Ptree pid s = AreProcessesRead s
 
 -- ---- the state that a tool shows

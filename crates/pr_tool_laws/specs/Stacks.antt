@@ -58,14 +58,14 @@ stack_text program space l =
     ++ flat_map (frame_line program) (returns_from space read_frames (fp_of l.regs))
 
 -- the stacks of the lwps of a process, with the labels of the first program that begins as its text does
-unfoldable pub stacks_text : ℕ → List Program → TracedProcess → List ℕ
-stacks_text pid programs p =
+unfoldable pub stacks_text : ℕ → List Program → TracedSystem → TracedProcess → List ℕ
+stacks_text pid programs s p =
     header pid
-    ++ flat_map (stack_text (program_of programs (first_instruction (space_seen p))) (space_seen p)) (lstatus_of p)
+    ++ flat_map (stack_text (program_of programs (first_instruction (space_seen s p))) (space_seen s p)) (lstatus_of p)
 
 -- none where the process does not live
 unfoldable pub stacks_in : ℕ → List Program → TracedSystem → Option (List ℕ)
-stacks_in pid programs s = option_map (stacks_text pid programs) (live_process s pid)
+stacks_in pid programs s = option_map (stacks_text pid programs s) (live_process s pid)
 
 -- ---- the state that it shows
 

@@ -25,9 +25,9 @@ unfoldable pub tool_text : ToolKind → ℕ → TracedSystem → Option (List �
 tool_text Pflags pid s = option_map (λ p. lwps_text pid (lstatus_of p)) (live_process s pid)
 tool_text Psig pid s = option_map (λ p. dispositions_text pid p.dispositions) (live_process s pid)
 tool_text Pstack pid s = None
-tool_text Pmap pid s = option_map (λ p. mappings_text pid (map_of p)) (live_process s pid)
+tool_text Pmap pid s = option_map (λ p. mappings_text pid (map_of s p)) (live_process s pid)
 tool_text Pfiles pid s = option_map (λ p. descriptors_text pid (fds_of s.files p)) (live_process s pid)
 tool_text Pstop pid s = Some []
 tool_text Prun pid s = Some []
-tool_text Pwait pid s = option_map (λ p. end_text (psinfo_of pid p)) (process_of s pid)
+tool_text Pwait pid s = option_map (λ p. end_text (psinfo_of s pid p)) (process_of s pid)
 tool_text Ptree pid s = Some (tree_text (list_of s))

@@ -17,7 +17,8 @@ fn push_end(text: &mut Text, pid: u32, status: u64) -> Result<(), NoMemory>
     text.end_line()
 }
 
-/// The text of a process that has ended, of what ps(1) shows of it.
+/// What pwait(1) prints of a process that has ended, of the bytes of its `psinfo` (proc(4)): a line with its id and its
+/// wait status, as eight hexadecimal digits; nothing where the bytes are no such record.
 #[tactic(auto, unfolding(crate::specs::Pwait::pwait_text))]
 pub fn push_pwait(text: &mut Text, pid: u32, bytes: &[u8]) -> Result<(), NoMemory>
     ensures { OnOk result (text.new ≡ text.old ++ pwait_text pid bytes.now) }

@@ -156,7 +156,8 @@ pub fn counts_lwps(bytes: &[u8]) -> bool
     }
 }
 
-/// The status of each lwp; `None` exactly where they are malformed.
+/// The status of each lwp, of the bytes of `lstatus` (proc(4)): their number, and as many records one after the other.
+/// `None` exactly where the bytes are not so many records, or one of them has a field out of its range.
 #[tactic(auto, unfolding(crate::specs::Entries::lwps_in))]
 pub fn lwps_in(alloc: Global, bytes: &[u8]) -> Result<Option<Vec<LwpStatus>>, NoMemory>
     ensures { IfOk result (λ read. option_map (λ lwps. map lwpstatus_words_of lwps.items) read ≡ lwps_in bytes.now) }

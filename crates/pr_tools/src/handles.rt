@@ -14,6 +14,7 @@ pub struct Opened {
 }
 
 impl Opened {
+    /// No file is open.
     #[tactic(auto, unfolding(crate::specs::Handles::nothing_open))]
     pub fn nothing() -> Opened
         ensures { result ≡ nothing_open }

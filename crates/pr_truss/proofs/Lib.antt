@@ -1,4 +1,5 @@
 pub mod CountLemmas
+pub mod ForkLemmas
 pub mod RecordLemmas
 pub mod StopLemmas
 pub mod TextLemmas

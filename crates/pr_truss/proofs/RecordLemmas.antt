@@ -1,10 +1,15 @@
 -- What truss reads in the records of processes.
-use Rattle.std.proofs.Common.{◌≡◌, ℕ, List, drop, Some, None, Ok, Err, option_map, ap, refl, ◌∙◌}
+use Rattle.std.proofs.Common.{◌≡◌, ◌<◌, ◌+◌, ℕ, List, drop, Some, None, Ok, Err, option_map, ap, refl, ◌∙◌}
 use Rattle.std.specs.Result.{result_ok}
+use Rattle.pr_num.specs.Faults.{faults, fault_number, fault_of_number}
+use Rattle.pr_num.specs.Limits.{fault_count, signal_count, syscall_count}
 use Rattle.pr_num.specs.Records.{lwpstatus_ranges, status_ranges}
-use Rattle.pr_rec.proofs.FieldLemmas.{reason_back, reason_small, signal_back, signal_small, fault_back, fault_small, call_back, call_small, errno_back, an_errno-field}
+use Rattle.pr_num.specs.Signals.{signals, signal_number, signal_of_number}
+use Rattle.pr_num.specs.Syscalls.{syscalls, syscall_number, syscall_of_number}
+use Rattle.pr_num.proofs.NumberedLemmas.{faults_counted, signals_counted, syscalls_counted}
+use Rattle.pr_rec.proofs.FieldLemmas.{entry_back, reason_back, reason_small, signal_small, fault_small, call_small, errno_back, an_errno-field}
 use Rattle.pr_rec.proofs.LwpStatusLemmas.{same_lwpstatus}
-use Rattle.pr_rec.specs.Fields.{disposition_number, disposition_of}
+use Rattle.pr_rec.specs.Fields.{disposition_number, disposition_of, number_or_zero}
 use Rattle.pr_rec.specs.InRange.{HasArraySizes}
 use Rattle.pr_rec.specs.Reading.{record_read}
 use Rattle.pr_rec.specs.RecordWords.{lwpstatus_words_of, status_words_of}
@@ -20,6 +25,19 @@ disposition_back : (d : Disposition) → disposition_number (disposition_of (dis
 disposition_back Default = refl
 disposition_back Ignored = refl
 disposition_back Caught = refl
+
+-- a signal, a fault and a call are what their numbers give
+signal_back : (w : ℕ) → w < signal_count + 1 → number_or_zero signal_number (signal_of_number w) ≡ w
+unfolding signal_of_number
+signal_back w small = entry_back signal_number signals signal_count signals_counted refl _ w refl small
+
+fault_back : (w : ℕ) → w < fault_count + 1 → number_or_zero fault_number (fault_of_number w) ≡ w
+unfolding fault_of_number
+fault_back w small = entry_back fault_number faults fault_count faults_counted refl _ w refl small
+
+call_back : (w : ℕ) → w < syscall_count + 1 → number_or_zero syscall_number (syscall_of_number w) ≡ w
+unfolding syscall_of_number
+call_back w small = entry_back syscall_number syscalls syscall_count syscalls_counted refl _ w refl small
 
 -- an lwp's status is what its words give
 pub lwp_back : (l : LwpStatus) → HasArraySizes l → lwp_of (lwpstatus_words_of l) ≡ l

@@ -17,6 +17,14 @@ message_call control message = call.Ctl control (spelling message [])
 abbrev pub all_modes : ℕ
 all_modes = fork_mode + rlc_mode + klc_mode + async_mode
 
+-- the signals that are traced: the selected ones
+unfoldable pub traced_signals : Options → ℕ
+traced_signals o = o.signals
+
+-- the faults that are traced: the selected ones
+unfoldable pub traced_faults : Options → ℕ
+traced_faults o = o.faults
+
 -- The calls that end their lwp have no exit: they are traced at their entry.
 unfoldable pub ending_calls : ℕ
 ending_calls = with_number (with_number 0 (syscall_number Exit)) (syscall_number LwpExit)
@@ -25,7 +33,12 @@ ending_calls = with_number (with_number 0 (syscall_number Exit)) (syscall_number
 unfoldable pub traced_entries : Options → ℕ
 traced_entries o = common_word o.calls ending_calls
 
--- the calls that are traced at their exit: the other selected ones, and fork too where children are followed
+-- a set of calls with those that make a child
+unfoldable pub with_forks : ℕ → ℕ
+with_forks calls = with_number calls (syscall_number Fork)
+
+-- The calls that are traced at their exit: the other selected ones, and where children are followed those too that make
+-- them.
 unfoldable pub traced_exits : Options → ℕ
 traced_exits o =
-    if o.follow then with_number (minus_word o.calls ending_calls) (syscall_number Fork) else minus_word o.calls ending_calls
+    if o.follow then with_forks (minus_word o.calls ending_calls) else minus_word o.calls ending_calls

@@ -10,7 +10,7 @@ use Rattle.pr_num.specs.Control.{fork_mode, rlc_mode}
 use Rattle.pr_num.specs.Limits.{read_limit}
 use Rattle.pr_num.specs.Messages.{spelling}
 use Rattle.pr_num.specs.declared.messages.Message.TheVariants as message
-use Rattle.pr_truss.specs.Messages.{message_call, all_modes, traced_entries, traced_exits}
+use Rattle.pr_truss.specs.Messages.{message_call, all_modes, traced_entries, traced_exits, traced_faults, traced_signals}
 use Rattle.pr_model.specs.Replies.{number_of}
 use Rattle.pr_truss.specs.Processes.{last_handle}
 use Rattle.pr_truss.specs.Trusses.{TrussState, traced_at}
@@ -51,8 +51,8 @@ opening_call o t opening.SetRelease = message_call t.control (message.Set rlc_mo
 opening_call o t opening.Stop = message_call t.control message.Stop
 opening_call o t (opening.AwaitStop until) = call.CtlWait t.control until (spelling message.Stop [])
 opening_call o t opening.ReadLwps = read_record t.lstatus
-opening_call o t opening.TraceSignals = message_call t.control (message.Strace o.signals)
-opening_call o t opening.TraceFaults = message_call t.control (message.Sfault o.faults)
+opening_call o t opening.TraceSignals = message_call t.control (message.Strace (traced_signals o))
+opening_call o t opening.TraceFaults = message_call t.control (message.Sfault (traced_faults o))
 opening_call o t opening.TraceEntries = message_call t.control (message.Sentry (traced_entries o))
 opening_call o t opening.TraceExits = message_call t.control (message.Sexit (traced_exits o))
 opening_call o t opening.Follow = message_call t.control (message.Set fork_mode)

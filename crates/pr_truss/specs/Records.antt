@@ -7,13 +7,12 @@ use Rattle.pr_num.specs.Faults.{fault_of_number}
 use Rattle.pr_num.specs.Records.{lwpstatus_ranges, status_ranges, lwpstatus_size}
 use Rattle.pr_num.specs.Signals.{signal_of_number}
 use Rattle.pr_num.specs.StopReasons.{stop_reasons}
-use Rattle.pr_num.specs.Syscalls.{syscall_of_number}
+use Rattle.pr_num.specs.Syscalls.{is_fork_call, syscall_of_number}
 use Rattle.pr_num.specs.Tables.{entry_at}
 use Rattle.pr_codec.specs.Words.{word_at}
 use Rattle.pr_num.specs.declared.stop_reasons.StopReason.{StopReason}
 use Rattle.pr_num.specs.declared.stop_reasons.StopReason.TheVariants.{SysExit}
 use Rattle.pr_num.specs.declared.syscalls.Sysno.{Sysno}
-use Rattle.pr_num.specs.declared.syscalls.Sysno.TheVariants.{Fork}
 use Rattle.pr_rec.specs.Fields.{disposition_of}
 use Rattle.pr_rec.specs.Reading.{record_read}
 use Rattle.pr_rec.specs.declared.lwps.LwpStatus.{LwpStatus}
@@ -80,20 +79,20 @@ Sees None (Some lwps) = ⊥
 Sees (Some stops) None = ⊥
 Sees (Some stops) (Some lwps) = (stops.count ≡ length (filter is_on_event lwps)) × (stops.first ≡ slice_get (filter is_on_event lwps) 0)
 
--- ---- the exit of fork
+-- ---- the exit of a call that makes a child
 
 abbrev pub is_exit : Option StopReason → Bool
 is_exit (Some SysExit) = true
 is_exit _ = false
 
 abbrev pub is_fork : Option Sysno → Bool
-is_fork (Some Fork) = true
-is_fork _ = false
+is_fork (Some call) = is_fork_call call
+is_fork None = false
 
--- whether an lwp stands at the exit of a fork that has a value
+-- whether an lwp stands at the exit of such a call that has a value
 unfoldable pub has_ended_fork : LwpStatus → Bool
 has_ended_fork l = is_exit l.why && is_fork l.call && is_none l.errno
 
--- The child that an lwp has just made by fork, where its value is a process id. In the child itself fork gives 0.
+-- The child that an lwp has just made, where its call's value is a process id. In the child itself the call gives 0.
 unfoldable pub child_of : LwpStatus → Option ℕ
 child_of l = if has_ended_fork l && not (l.result == 0) && nat_lt l.result (2 ^ 32) then Some l.result else None

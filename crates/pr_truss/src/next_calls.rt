@@ -6,7 +6,9 @@ ghost use Rattle.pr_truss.specs.Messages.{message_call};
 ghost use Rattle.pr_truss.specs.NextCalls.{open_control, open_file, read_record, run_call, opening_call, child_call, freeing_call, call_of, next_call_of};
 
 use crate::Truss;
-use crate::messages::{all_modes, message_call, traced_entries, traced_exits};
+use crate::messages::{
+    all_modes, message_call, traced_entries, traced_exits, traced_faults, traced_signals,
+};
 use crate::processes::Traced;
 use crate::stages::{ChildStep, FreeingStep, OpeningStep, Stage};
 use pr_line::Options;
@@ -102,10 +104,10 @@ fn opening_call(
         OpeningStep::ClearModes => Message::Unset { modes: all_modes() },
         OpeningStep::Stop => Message::Stop,
         OpeningStep::TraceSignals => Message::Strace {
-            signals: options.signals.word(),
+            signals: traced_signals(options).word(),
         },
         OpeningStep::TraceFaults => Message::Sfault {
-            faults: options.faults.word(),
+            faults: traced_faults(options).word(),
         },
         OpeningStep::TraceEntries => Message::Sentry {
             calls: traced_entries(options).word(),

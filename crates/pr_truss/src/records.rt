@@ -5,7 +5,7 @@ ghost use Rattle.pr_truss.specs.Records.{lwp_in, status_lwp, lstatus_lwps, Sees,
 
 use pr_codec::{WORD, word};
 use pr_line::event_of;
-use pr_num::{StopReason, Sysno};
+use pr_num::StopReason;
 use pr_rec::{LwpStatus, Status};
 
 /// How many lwps of a process stand on events, and the first of them.
@@ -98,17 +98,17 @@ pub(crate) fn event_stops(bytes: Option<&[u8]>) -> Stops
     }
 }
 
-/// Whether an lwp stands at the exit of a fork that has a value.
+/// Whether an lwp stands at the exit of a call that makes a child, and has a value.
 #[tactic(auto, unfolding(crate::specs::Records::has_ended_fork))]
 fn has_ended_fork(lwp: &LwpStatus) -> bool
     ensures { result ≡ has_ended_fork lwp.now }
 {
     matches!(lwp.why, Some(StopReason::SysExit))
-        && matches!(lwp.call, Some(Sysno::Fork))
+        && matches!(lwp.call, Some(call) if call.is_fork_call())
         && lwp.errno.is_none()
 }
 
-/// The child that an lwp has just made by fork.
+/// The child that an lwp has just made.
 #[tactic(auto, unfolding(crate::specs::Records::child_of))]
 pub(crate) fn child_of(lwp: &LwpStatus) -> Option<u32>
     ensures { result ≡ child_of lwp.now }

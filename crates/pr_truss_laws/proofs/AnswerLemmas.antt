@@ -19,16 +19,9 @@ IsAnswer r (Refused errno) = r ≡ reply.Fail errno
 refusal-is : (errno : Errno) → IsAnswer (reply.Fail errno) (refusal_of errno)
 unfolding IsAnswer
 refusal-is Intr = refl
-refusal-is Noent = refl
 refusal-is _ = refl
 
 pub answer-is : (r : Reply) → IsAnswer r (answer_of r)
 unfolding IsAnswer answer_of
 answer-is (reply.Fail errno) = refusal-is errno
-answer-is (reply.Handle h) = refl
-answer-is reply.Done = refl
-answer-is (reply.Used n) = refl
-answer-is (reply.Half n) = refl
-answer-is (reply.Bytes bytes) = refl
-answer-is (reply.Pid pid) = refl
-answer-is (reply.Ready h) = refl
+answer-is _ = refl

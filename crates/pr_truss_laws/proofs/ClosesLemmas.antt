@@ -16,8 +16,9 @@ use Rattle.pr_truss.specs.Replies.{answer_of}
 use Rattle.pr_truss.specs.Trusses.{TrussState, first_of_program, first_truss, idle, opening_or}
 use Rattle.pr_truss.specs.declared.processes.Traced.{Traced}
 use Rattle.pr_truss.specs.declared.stages.Stage.{Stage}
-use Rattle.pr_truss.specs.declared.stages.Stage.TheVariants.{Spawning, OpeningControl, Opening, Polling, ReadingStatus, ReadingText, OpeningChildControl, OpeningChild, Running, Closing, Unfollowing, ReadingLwps, FreeingChild, Finished}
-use Rattle.pr_truss_laws.proofs.FedLemmas.{Changes, Fed, fed-well, gives}
+use Rattle.pr_truss.specs.declared.stages.Stage.TheVariants.{Finished}
+use Rattle.pr_truss_laws.proofs.FedLemmas.{Changes, fed-changes, gives}
+use Rattle.pr_truss_laws.proofs.FitLemmas.{fed-fits, fed-grown}
 use Rattle.pr_truss_laws.proofs.HeldLemmas.{Fits, Grown, grown-all, grown-same, held, of_stage, of_traced, unit}
 use Rattle.pr_truss_laws.proofs.OpeningLemmas.{ends-later}
 use Rattle.pr_truss_laws.specs.Exchanges.{Closes, ClosesAll, Ends, Exchange, truss_after}
@@ -38,16 +39,14 @@ pub first-fits : (o : Options) → Fits (first_truss o).traced (first_truss o).s
 unfolding first_truss
 first-fits o = program-fits o o.program
 
-pub fed-fits : (s : TrussState) (r : Reply) → Fits s.traced s.stage → Fits (fed s r).traced (fed s r).stage
-fed-fits s r f = let w = fed-well 0 0 r s f in w.well.fits
-
 pub after-fits : (xs : List Exchange) (s : TrussState) → Fits s.traced s.stage → Fits (truss_after s xs).traced (truss_after s xs).stage
 after-fits [] s f = f
 after-fits (x ∷ xs) s f = after-fits xs (fed s x.reply) (fed-fits s x.reply f)
 
-pub after-grown : (xs : List Exchange) (s : TrussState) → Fits s.traced s.stage → Grown s.reports (truss_after s xs).reports
-after-grown [] s f = grown-same s.reports
-after-grown (x ∷ xs) s f = let w = fed-well 0 0 x.reply s f in grown-all s.reports (fed s x.reply).reports _ w.well.grown (after-grown xs (fed s x.reply) w.well.fits)
+pub after-grown : (xs : List Exchange) (s : TrussState) → Grown s.reports (truss_after s xs).reports
+after-grown [] s = grown-same s.reports
+after-grown (x ∷ xs) s =
+    grown-all s.reports (fed s x.reply).reports _ (fed-grown s x.reply) (after-grown xs (fed s x.reply))
 
 pub ends-after : (xs ys : List Exchange) (s : TrussState) → Ends s (xs ++ ys) → Ends (truss_after s xs) ys
 ends-after [] ys s e = e
@@ -61,19 +60,7 @@ none-is c e = none-some c (sym e)
 nothing-in : (pid h : ℕ) (ts : List Traced) (stage : Stage) (s : TrussState) → call_of s stage ≡ None → Fits ts stage → sum_by (of_traced pid h) ts + of_stage pid h stage ≡ 0
 unfolding call_of
 nothing-in pid h ts Finished s e f = let none : sum_by (of_traced pid h) ts ≡ 0 = ap (sum_by (of_traced pid h)) f in omega arith
-nothing-in pid h ts (Spawning program) s e f = absurd (none-is _ e)
-nothing-in pid h ts (OpeningControl of) s e f = absurd (none-is _ e)
-nothing-in pid h ts (Opening place step) s e f = absurd (none-is _ e)
-nothing-in pid h ts Polling s e f = absurd (none-is _ e)
-nothing-in pid h ts (ReadingStatus place) s e f = absurd (none-is _ e)
-nothing-in pid h ts (ReadingText place l from len) s e f = absurd (none-is _ e)
-nothing-in pid h ts (OpeningChildControl parent of) s e f = absurd (none-is _ e)
-nothing-in pid h ts (OpeningChild parent place step) s e f = absurd (none-is _ e)
-nothing-in pid h ts (Running place) s e f = absurd (none-is _ e)
-nothing-in pid h ts (Closing place next) s e f = absurd (none-is _ e)
-nothing-in pid h ts Unfollowing s e f = absurd (none-is _ e)
-nothing-in pid h ts ReadingLwps s e f = absurd (none-is _ e)
-nothing-in pid h ts (FreeingChild of step) s e f = absurd (none-is _ e)
+nothing-in pid h ts _ s e f = absurd (none-is _ e)
 
 pub nothing-held : (pid h : ℕ) (s : TrussState) → Fits s.traced s.stage → next_call_of s ≡ None → held pid h s ≡ 0
 unfolding held next_call_of
@@ -88,15 +75,7 @@ goes-on s pid h n m r (call.Close handle) ch one = elim (cases_Bool (handle == h
     no-unit : (b c : Bool) → c ≡ false → unit (b && c) ≡ 0
     no-unit true c is = ap unit is
     no-unit false c is = refl
-goes-on s pid h n m r (call.Ctl handle bytes) ch one = inr (omega arith)
-goes-on s pid h n m r (call.CtlWait handle until bytes) ch one = inr (omega arith)
-goes-on s pid h n m r (call.Read handle from len) ch one = inr (omega arith)
-goes-on s pid h n m r (call.Poll handles) ch one = inr (omega arith)
-goes-on s pid h n m r (call.Interrupt controller) ch one = inr (omega arith)
-goes-on s pid h n m r (call.Spawn program kept) ch one = inr (omega arith)
-goes-on s pid h n m r (call.Kill of sig) ch one = inr (omega arith)
-goes-on s pid h n m r (call.Until moment) ch one = inr (omega arith)
-goes-on s pid h n m r call.List ch one = inr (omega arith)
+goes-on s pid h n m r _ ch one = inr (omega arith)
 
 closes-more : (h : ℕ) (x : Exchange) (xs : List Exchange) → Closes h xs → Closes h (x ∷ xs)
 closes-more h x xs c = record { before = x ∷ c.before; reply = c.reply; after = c.after; is = ap (λ ys. x ∷ ys) c.is }
@@ -104,17 +83,16 @@ closes-more h x xs c = record { before = x ∷ c.before; reply = c.reply; after 
 closes-first : (h : ℕ) (x : Exchange) (xs : List Exchange) → x.call ≡ call.Close h → Closes h (x ∷ xs)
 closes-first h x xs is = record { before = []; reply = x.reply; after = xs; is = ap (λ c. record { call = c; reply = x.reply } ∷ xs) is }
 
-pub held-is : (s : TrussState) (pid h n : ℕ) (r : Reply) (c : Option Call) (u : TrussState) (w : Fed s pid h r c n u) → held pid h u ≡ w.count
-unfolding held
-held-is s pid h n r c u w = w.well.held
-
 pub closes-later : (xs : List Exchange) (s : TrussState) (pid h : ℕ) → Fits s.traced s.stage → 1 ≤ held pid h s → Ends s xs → Closes h xs
 closes-later [] s pid h f one e = absurd (omega (arith, nothing-held pid h s f e.finished, one))
 closes-later (x ∷ xs) s pid h f one e =
-    let w = fed-well pid h x.reply s f in
-    let ch = subst (λ c. Changes s pid h x.reply c (held pid h s) w.count) e.makes.0 w.changes in
-    let now = held-is s pid h (held pid h s) x.reply (next_call_of s) (fed s x.reply) w in
-    elim (goes-on s pid h (held pid h s) w.count x.reply x.call ch one) [ inl close ↦ closes-first h x xs close | inr more ↦ closes-more h x xs (closes-later xs (fed s x.reply) pid h w.well.fits (omega (arith, now, more)) (ends-later s x xs e)) ]
+    let u : TrussState = fed s x.reply in
+    let all = fed-changes pid h x.reply s f in
+    let ch = subst (λ c. Changes s pid h x.reply c (held pid h s) (held pid h u)) e.makes.0 all in
+    elim (goes-on s pid h (held pid h s) (held pid h u) x.reply x.call ch one) [
+      | inl close ↦ closes-first h x xs close
+      | inr more ↦ closes-more h x xs (closes-later xs u pid h (fed-fits s x.reply f) more (ends-later s x xs e))
+    ]
 
 given-one : (pid h : ℕ) → gives (answer_of (reply.Handle h)) pid (handle_in (reply.Handle h)) pid h ≡ 1
 unfolding answer_of opened_in
@@ -123,10 +101,11 @@ given-one pid h = ap unit (ap (λ b. b && (h == h)) (eq-eqb pid pid refl) ∙ eq
 -- what an open gave is closed later
 granted-closes : (s : TrussState) (pid id h : ℕ) (file : File) (mode : Mode) (xs : List Exchange) → Fits s.traced s.stage → Ends s (record { call = call.Open pid id file mode; reply = reply.Handle h } ∷ xs) → Closes h xs
 granted-closes s pid id h file mode xs f e =
-    let w = fed-well pid h (reply.Handle h) s f in
-    let ch = subst (λ c. Changes s pid h (reply.Handle h) c (held pid h s) w.count) e.makes.0 w.changes in
-    let now = held-is s pid h (held pid h s) (reply.Handle h) (next_call_of s) (fed s (reply.Handle h)) w in
-    closes-later xs (fed s (reply.Handle h)) pid h w.well.fits (omega (arith, now, ch, given-one pid h)) (ends-later s (record { call = call.Open pid id file mode; reply = reply.Handle h }) xs e)
+    let u : TrussState = fed s (reply.Handle h) in
+    let all = fed-changes pid h (reply.Handle h) s f in
+    let ch = subst (λ c. Changes s pid h (reply.Handle h) c (held pid h s) (held pid h u)) e.makes.0 all in
+    closes-later xs u pid h (fed-fits s (reply.Handle h) f) (omega (arith, ch, given-one pid h))
+    (ends-later s (record { call = call.Open pid id file mode; reply = reply.Handle h }) xs e)
 
 pub closes-all : (o : Options) (xs : List Exchange) → Ends (first_truss o) xs → ClosesAll xs
 closes-all o xs e = record {

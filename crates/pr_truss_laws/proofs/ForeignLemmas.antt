@@ -18,8 +18,10 @@ use Rattle.pr_model.specs.Lawful.{IsFitting, IsLawful}
 use Rattle.pr_model.specs.State.{TracedProcess, TracedState, TracedSystem, live_process, process_of}
 use Rattle.pr_model.specs.Lives.{new_process, with_spawned}
 use Rattle.pr_model.specs.Machines.{traced}
-use Rattle.pr_model.specs.SignalCalls.{sends}
 use Rattle.pr_num.specs.Programs.{Program}
+use Rattle.pr_num.specs.declared.errnos.Errno.{Errno}
+use Rattle.pr_num.specs.declared.infos.Info.{Info}
+use Rattle.pr_truss_laws.specs.Handles.{HasNoOtherWriter}
 use Rattle.pr_truss_laws.specs.Stills.{IsUndisturbed}
 use Rattle.pr_model.specs.declared.calls.Call.{Call}
 use Rattle.pr_model.specs.declared.calls.Call.TheVariants as call
@@ -95,10 +97,10 @@ module _ (s : TracedState) (by pid : ℕ) (lawful : IsLawful s) where
     edit-passes c t (edit.closes {handle = m} {held = g} at) apart = close-passes m g (apart m (eq-eqb m m refl)) at
     edit-passes c t (edit.controls {handle = handle} {bytes = bytes} {held = g} {p = q} {m = m} {t = u} it e) apart =
         let fits : IsFitting (Some g) =
-            All-at-place IsFitting s.opens handle (Some g)
-            (handle-at s.opens by handle g it.handle_is) lawful.fitting in
+        All-at-place IsFitting s.opens handle (Some g)
+        (handle-at s.opens by handle g it.handle_is) lawful.fitting in
         message-passes pid s.system g.pid q m (tail_of m bytes) u
-            (apart handle (eq-eqb handle handle refl) g it.handle_is (control-writes g fits it.controls)) e
+        (apart handle (eq-eqb handle handle refl) g it.handle_is (control-writes g fits it.controls)) e
     edit-passes c t edit.sees_interrupt apart = stays-same
     edit-passes c t (edit.interrupts there) apart = stays-same
     edit-passes c t (edit.spawns {held = held} {program = program} named grants) apart = new-passes program held
@@ -110,11 +112,12 @@ module _ (s : TracedState) (by pid : ℕ) (lawful : IsLawful s) where
 
 -- ---- other controllers
 
-module _ (s : TracedState) (k number : ℕ) (h : Held) (lawful : IsLawful s) (mine : handle_of s.opens k number ≡ Some h) (mode : h.mode ≡ WriteExcl) where
+-- a handle that is exclusive leaves no other controller one for writing
+module _ (s : TracedState) (k number : ℕ) (h : Held) (lawful : IsLawful s) (mine : handle_of s.opens k number ≡ Some h)
+    (mode : h.mode ≡ WriteExcl) where
   there : slice_get s.opens number ≡ Some (Some h)
   there = handle-at s.opens k number h mine
 
-  -- no handle of another controller is for writing this process
   writes-other : (by m : ℕ) (g : Held) → by ≢ k → handle_of s.opens by m ≡ Some g → is_writable g.mode ≡ true → g.pid ≢ h.pid
   writes-other by m g other held writes same = elim (cases_Bool (number == m)) [ inl place ↦ other (own-controller (eqb-true number m place)) | inr not_same ↦ false≢true (sym (none-left s.opens number h there mode lawful.exclusive) ∙ still (eqb-false number m not_same)) ]
     where
@@ -129,10 +132,21 @@ module _ (s : TracedState) (k number : ℕ) (h : Held) (lawful : IsLawful s) (mi
           let at : slice_get (slice_set s.opens number None) m ≡ Some (Some g) = slice_get-set_other s.opens number m None (λ same. apart (sym same)) ∙ handle-at s.opens by m g held in
           any-at (is_writer h.pid) (slice_set s.opens number None) m (Some g) at (ap (λ b. b && is_writable g.mode) (eq-eqb g.pid h.pid same) ∙ writes)
 
-  pub foreign-passes : (by : ℕ) (c : Call) (a : Answer) (p : TracedProcess) → by ≢ k → answer_to s by c ≡ Some a → live_process s.system h.pid ≡ Some p → Passes h.pid ByKill s.system a.state.system
-  foreign-passes by c a p other is before =
-      let was = found-live s.system h.pid p before in
-      call-passes s by h.pid lawful p was.0 c a (λ m named g held writes. writes-other by m g other held writes) is
+  pub exclusive-sole : HasNoOtherWriter k h.pid s.opens
+  exclusive-sole = record { none = writes-other }
 
-pub call-leaves : (s : TracedState) (k number by : ℕ) (h : Held) (c : Call) (a : Answer) (p q : TracedProcess) → IsLawful s → handle_of s.opens k number ≡ Some h → h.mode ≡ WriteExcl → by ≢ k → answer_to s by c ≡ Some a → live_process s.system h.pid ≡ Some p → live_process a.state.system h.pid ≡ Some q → IsUndisturbed p q
-call-leaves s k number by h c a p q lawful mine mode other is before after = passed-alone h.pid ByKill s.system a.state.system p q (foreign-passes s k number h lawful mine mode by c a p other is before) before after
+-- what a controller calls leaves a process that only another one may have open for writing
+pub foreign-passes : (s : TracedState) (k pid : ℕ) → IsLawful s → HasNoOtherWriter k pid s.opens
+    → (by : ℕ) (c : Call) (a : Answer) (p : TracedProcess) → by ≢ k → answer_to s by c ≡ Some a
+    → live_process s.system pid ≡ Some p → Passes pid ByKill s.system a.state.system
+foreign-passes s k pid lawful sole by c a p other is before =
+    let was = found-live s.system pid p before in
+    call-passes s by pid lawful p was.0 c a (λ m named g held writes. sole.none by m g other held writes) is
+
+pub call-leaves : (s : TracedState) (k number by : ℕ) (h : Held) (c : Call) (a : Answer) (p q : TracedProcess)
+    → IsLawful s → handle_of s.opens k number ≡ Some h → h.mode ≡ WriteExcl → by ≢ k → answer_to s by c ≡ Some a
+    → live_process s.system h.pid ≡ Some p → live_process a.state.system h.pid ≡ Some q → IsUndisturbed p q
+call-leaves s k number by h c a p q lawful mine mode other is before after =
+    let sole = exclusive-sole s k number h lawful mine mode in
+    passed-alone h.pid ByKill s.system a.state.system p q
+    (foreign-passes s k h.pid lawful sole by c a p other is before) before after

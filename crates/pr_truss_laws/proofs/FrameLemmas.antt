@@ -16,7 +16,7 @@ use Rattle.pr_lawful.proofs.TurnLemmas.{acting as acting_in, row-suits}
 use Rattle.pr_parts.specs.SignalRules.{deleted_by}
 use Rattle.pr_model.specs.Generation.{ends_job_stop, lwp_with_pending, lwp_without_pending, told, with_deletions, with_pending, without_job_stop, without_pending}
 use Rattle.pr_model.specs.Changes.{Change, changed, files_are, space_is, signals, signals_itself, takes_shared, job_stops, disposition_is, held_is, resumes, forks, reaps, becomes, makes_lwp, suspends, all_changed, ended, Ending, ends_process, ends_lwp, with_fds, with_space}
-use Rattle.pr_model.specs.Lives.{forked, with_child, with_lwp_ended, ended_if_live, orphaned, with_ended, with_made, with_parent_told, with_reaped, with_this_ended, zombie}
+use Rattle.pr_model.specs.Lives.{Birth, forked, with_child, with_lwp_ended, ended_if_live, orphaned, with_ended, with_made, with_parent_told, with_reaped, with_this_ended, zombie}
 use Rattle.pr_model.specs.Lawful.{IsLawfulSystem, IsNumberedBelow}
 use Rattle.pr_model.specs.LwpTurns.{LwpTurn, settled, turn_of, with_counted}
 use Rattle.pr_model.specs.Machines.{traced}
@@ -27,7 +27,7 @@ use Rattle.pr_model.specs.Transitions.{Transition, after_transition, ended_if}
 use Rattle.pr_model.specs.Signals.{generated, is_kill}
 use Rattle.pr_model.specs.State.{TracedLwp, TracedProcess, TracedSystem, live_process, process_of, with_lwp, with_lwp_of, with_process}
 use Rattle.pr_truss_laws.proofs.StoresLemmas.{row-stores, stores_after}
-use Rattle.pr_truss_laws.specs.Stills.{IsUndisturbed, unsignalled}
+use Rattle.pr_truss_laws.specs.Stills.{IsUndisturbed, KeepsMemory, unsignalled}
 use Rattle.pr_model.proofs.TurnLemmas.{turn-taken}
 
 -- What others do to a process: SIGKILL ends it, or signals pend for it and no more.
@@ -45,17 +45,30 @@ lwp-alike es ds same id k there = by (under id ds) refl
     by None is = absurd (none-some (unsignalled k) (ap (option_map unsignalled) (sym is) ∙ alike))
     by (Some l) is = (l, (is, ap (λ (x : TracedLwp). record x { pending = k.pending }) (sym (same_Some (unsignalled l) (unsignalled k) (ap (option_map unsignalled) (sym is) ∙ alike)))))
 
-undisturbed : (p q : TracedProcess) → q ≡ record p { parent = q.parent; pending = q.pending; job_stop = q.job_stop; lwps = q.lwps } → map_each unsignalled q.lwps ≡ map_each unsignalled p.lwps → IsUndisturbed p q
-undisturbed p q rest same = record { rest = rest; each = lwp-alike q.lwps p.lwps same; same = same }
+-- with what others may change of a process, and with its memory, as another process has them
+abbrev as_in : TracedProcess → TracedProcess → TracedProcess
+as_in p q = record p { parent = q.parent; space = q.space; pending = q.pending; job_stop = q.job_stop; lwps = q.lwps }
+
+undisturbed : (p q : TracedProcess) → q ≡ as_in p q → KeepsMemory p q
+    → map_each unsignalled q.lwps ≡ map_each unsignalled p.lwps → IsUndisturbed p q
+undisturbed p q rest memory same =
+    record { rest = rest; memory = memory; each = lwp-alike q.lwps p.lwps same; same = same }
+
+pub memory-self : (p : TracedProcess) → KeepsMemory p p
+memory-self p = record { space = refl }
+
+pub memory-next : (p q r : TracedProcess) → KeepsMemory p q → KeepsMemory q r → KeepsMemory p r
+memory-next p q r one two = record { space = two.space ∙ one.space }
 
 pub undisturbed-self : (p : TracedProcess) → IsUndisturbed p p
-undisturbed-self p = undisturbed p p refl refl
+undisturbed-self p = undisturbed p p refl (memory-self p) refl
 
-rest-next : (p q r : TracedProcess) → q ≡ record p { parent = q.parent; pending = q.pending; job_stop = q.job_stop; lwps = q.lwps } → r ≡ record q { parent = r.parent; pending = r.pending; job_stop = r.job_stop; lwps = r.lwps } → r ≡ record p { parent = r.parent; pending = r.pending; job_stop = r.job_stop; lwps = r.lwps }
-rest-next p q r one two = two ∙ ap (λ (x : TracedProcess). record x { parent = r.parent; pending = r.pending; job_stop = r.job_stop; lwps = r.lwps }) one
+rest-next : (p q r : TracedProcess) → q ≡ as_in p q → r ≡ as_in q r → r ≡ as_in p r
+rest-next p q r one two = two ∙ ap (λ (x : TracedProcess). as_in x r) one
 
 pub undisturbed-next : (p q r : TracedProcess) → IsUndisturbed p q → IsUndisturbed q r → IsUndisturbed p r
-undisturbed-next p q r one two = undisturbed p r (rest-next p q r one.rest two.rest) (two.same ∙ one.same)
+undisturbed-next p q r one two =
+    undisturbed p r (rest-next p q r one.rest two.rest) (memory-next p q r one.memory two.memory) (two.same ∙ one.same)
 
 pub ended-same : (p q : TracedProcess) → IsUndisturbed p q → q.ended ≡ p.ended
 ended-same p q u = ap (λ (x : TracedProcess). x.ended) u.rest
@@ -64,11 +77,17 @@ ended-same p q u = ap (λ (x : TracedProcess). x.ended) u.rest
 
 without-undisturbed : (set : ℕ) (p : TracedProcess) → IsUndisturbed p (without_pending set p)
 unfolding without_pending lwp_without_pending
-without-undisturbed set p = undisturbed p (without_pending set p) refl (map_each-map_each (lwp_without_pending set) unsignalled p.lwps)
+without-undisturbed set p =
+    undisturbed p (without_pending set p) refl (record { space = refl })
+    (map_each-map_each (lwp_without_pending set) unsignalled p.lwps)
 
 job-undisturbed : (g : Sig) (p : TracedProcess) → IsUndisturbed p (without_job_stop g p)
 unfolding without_job_stop
-job-undisturbed g p = elim (ends_job_stop g) as (λ b. IsUndisturbed p (cond b (record p { job_stop = None }) p)) [ true ↦ undisturbed p (record p { job_stop = None }) refl refl | false ↦ undisturbed-self p ]
+job-undisturbed g p =
+    elim (ends_job_stop g) as (λ b. IsUndisturbed p (cond b (record p { job_stop = None }) p)) [
+      | true ↦ undisturbed p (record p { job_stop = None }) refl (record { space = refl }) refl
+      | false ↦ undisturbed-self p
+    ]
 
 deletions-undisturbed : (g : Sig) (p : TracedProcess) → IsUndisturbed p (with_deletions g p)
 unfolding with_deletions
@@ -83,8 +102,10 @@ map_each-hidden view id f (e ∷ es) hides =
 
 pending-undisturbed : (target : Option ℕ) (g : Sig) (info : Info) (p : TracedProcess) → IsUndisturbed p (with_pending target g info p)
 unfolding with_pending lwp_with_pending
-pending-undisturbed None g info p = undisturbed p (with_pending None g info p) refl refl
-pending-undisturbed (Some own) g info p = undisturbed p (with_pending (Some own) g info p) refl (map_each-hidden unsignalled own (lwp_with_pending g info) p.lwps (λ l. refl))
+pending-undisturbed None g info p = undisturbed p (with_pending None g info p) refl (record { space = refl }) refl
+pending-undisturbed (Some own) g info p =
+    undisturbed p (with_pending (Some own) g info p) refl (record { space = refl })
+    (map_each-hidden unsignalled own (lwp_with_pending g info) p.lwps (λ l. refl))
 
 pub told-undisturbed : (target : Option ℕ) (g : Sig) (info : Info) (p : TracedProcess) → IsUndisturbed p (told target g info p)
 unfolding told
@@ -92,7 +113,9 @@ told-undisturbed target g info p = elim (is_none p.ended) as (λ b. IsUndisturbe
 
 pub orphaned-undisturbed : (gone : ℕ) (p : TracedProcess) → IsUndisturbed p (orphaned gone p)
 unfolding orphaned
-orphaned-undisturbed gone p = elim (p.parent == gone) as (λ b. IsUndisturbed p (cond b (record p { parent = 0 }) p)) [ true ↦ undisturbed p (record p { parent = 0 }) refl refl | false ↦ undisturbed-self p ]
+orphaned-undisturbed gone p =
+    elim (p.parent == gone) as (λ b. IsUndisturbed p (cond b (record p { parent = 0 }) p))
+    [ true ↦ undisturbed p (record p { parent = 0 }) refl (record { space = refl }) refl | false ↦ undisturbed-self p ]
 
 -- ---- what became of a process
 
@@ -261,11 +284,14 @@ module _ (pid acting : ℕ) (p : TracedProcess) (id : ℕ) (l : TracedLwp) (othe
   unless-pass : (b : Bool) (s u : TracedSystem) → Passes pid ByKill s u → Passes pid ByKill s (cond b s u)
   unless-pass b s u passes = either-passes pid ByKill b s s u (same-passes pid ByKill s) passes
 
-  child-passes : (args : List ℕ) (s : TracedSystem) → s.made ≢ pid → Passes pid ByKill s (with_child traced acting p l args s)
+  child-passes : (birth : Birth) (args : List ℕ) (s : TracedSystem) → s.made ≢ pid
+      → Passes pid ByKill s (with_child traced birth acting p l args s)
   unfolding with_child
-  child-passes args s new =
+  child-passes birth args s new =
       let shared : TracedSystem = record s { files = with_all_shared s.files p.fds } in
-      next-passes pid ByKill s shared (with_made (forked traced acting p l args s.clock) shared) (files-pass (with_all_shared s.files p.fds) s) (made-passes pid ByKill (forked traced acting p l args s.clock) shared new)
+      let child : TracedProcess = forked traced birth acting p l args s.clock in
+      next-passes pid ByKill s shared (with_made child shared) (files-pass (with_all_shared s.files p.fds) s)
+      (made-passes pid ByKill child shared new)
 
   module _ (s : TracedSystem) (x : TracedProcess) (there : process_of s pid ≡ Some x) (live : x.ended ≡ None) (new : s.made ≢ pid) where
     -- what is reaped is a zombie
@@ -283,11 +309,9 @@ module _ (pid acting : ℕ) (p : TracedProcess) (id : ℕ) (l : TracedLwp) (othe
     change-passes (disposition_is g disposition) suits = changed-pass _ s
     change-passes (held_is held) suits = changed-pass _ s
     change-passes (resumes frame frames) suits = changed-pass _ s
-    change-passes (forks args) suits = unless-pass (s.made == acting) s _ (child-passes args s new)
+    change-passes (forks birth args) suits = unless-pass (s.made == acting) s _ (child-passes birth args s new)
     change-passes (reaps child) suits = unless-pass (child == acting) s _ (zombie-passes child suits)
-    change-passes (becomes program) suits = changed-pass _ s
-    change-passes (makes_lwp fresh regs held) suits = changed-pass _ s
-    change-passes (suspends target suspended) suits = changed-pass _ s
+    change-passes _ suits = changed-pass _ s
 
     -- a first change, and what is stored after it
     changes-pass : (cs : List Change) → SuitChanges acting p id l s cs → stores_after cs ≡ true → Passes pid ByKill s (all_changed traced acting p id l cs s)

@@ -2,7 +2,7 @@ use Rattle.std.proofs.Common.{◌≡◌, ◌<◌, ◌≤◌, ◌+◌, ℕ, zero,
 use Rattle.std.proofs.lemmas.List.{append-nil, length-append}
 use Rattle.std.proofs.lemmas.List.Elements.{All-nil, All-cons}
 use Rattle.std.proofs.lemmas.Option.{same_Some, none-some}
-use Rattle.std.specs.List.{All, slice_get, slice_index_or, sum_by}
+use Rattle.std.specs.List.{All, slice_get, slice_index_or}
 use Rattle.pr_line.specs.declared.options.Options.{Options}
 use Rattle.pr_model.specs.Replies.{handle_in}
 use Rattle.pr_model.specs.declared.calls.Call.{Call}
@@ -27,10 +27,11 @@ use Rattle.pr_truss.specs.declared.stages.OpeningStep.TheVariants.{OpenStatus}
 use Rattle.pr_truss.specs.declared.stages.Stage.TheVariants.{Spawning, OpeningControl, Finished}
 use Rattle.pr_truss_laws.proofs.AnswerLemmas.{IsAnswer, answer-is}
 use Rattle.pr_truss_laws.proofs.ClosesLemmas.{after-grown}
-use Rattle.pr_truss_laws.proofs.HeldLemmas.{Grown, empty-list, grown-all, grown-same, of_traced}
+use Rattle.pr_truss_laws.proofs.HeldLemmas.{Grown, empty-list}
 use Rattle.pr_truss_laws.proofs.OpeningLemmas.{Done, Failed, Leads, OpeningEnd, SameBase, Stopped, closed, closing, closing-end, done, failed, going, leads-later, left, opening-end}
 use Rattle.pr_truss_laws.proofs.SequenceLemmas.{Goes, begun-calls, next-calls, whole-calls}
-use Rattle.pr_truss_laws.proofs.StepLemmas.{next_opening-well}
+use Rattle.pr_truss_laws.proofs.ReplySteps.{on-staged}
+use Rattle.pr_truss_laws.proofs.FedSteps.{opens-next}
 use Rattle.pr_truss_laws.specs.Exchanges.{Ends, Exchange, IsClose, IsGranted, Makes, errno_in, truss_after}
 use Rattle.pr_truss_laws.specs.Given.{AreHandled, IsBegunOpening, IsHandled, IsHandledSoFar, IsRefusedOpening, IsStarting, IsWholeOpening, LeftAtStart, NotStarted, Started, opening_calls}
 
@@ -118,7 +119,7 @@ module _ (f : TrussState) where
     at_control = with_stage s (OpeningControl pid)
 
     grown-at : (xs : List Exchange) → Leads f at_control xs → Grown s.reports f.reports
-    grown-at xs l = subst (λ (u : TrussState). Grown s.reports u.reports) l.last (after-grown xs at_control tt)
+    grown-at xs l = subst (λ (u : TrussState). Grown s.reports u.reports) l.last (after-grown xs at_control)
 
     -- no call of it was made
     control-due : Leads f at_control [] → Told s.reports s.options (pid ∷ pids_left s) []
@@ -235,8 +236,10 @@ module _ (f : TrussState) where
 
   next-grown : (xs : List Exchange) (s : TrussState) → Leads f (with_next_opening s) xs → Grown s.reports f.reports
   next-grown xs s l =
-      let w = next_opening-well s.reports 0 0 (sum_by (of_traced 0 0) s.traced) s (record { traced = refl; grown = grown-same s.reports }) in
-      subst (λ (u : TrussState). Grown s.reports u.reports) l.last (grown-all s.reports (with_next_opening s).reports _ w.grown (after-grown xs (with_next_opening s) w.fits))
+      let same = on-staged (opens-next s) in
+      subst (λ (u : TrussState). Grown s.reports u.reports) l.last
+      (subst (λ base. Grown base (truss_after (with_next_opening s) xs).reports) same.reports
+      (after-grown xs (with_next_opening s)))
 
   opened-or : (xs : List Exchange) (s : TrussState) → Leads f (with_next_opening s) xs → Leads f (opening_or s (with_going_on s) (slice_get s.options.pids s.begun)) xs
   unfolding with_next_opening

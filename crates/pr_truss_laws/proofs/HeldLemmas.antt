@@ -102,6 +102,9 @@ pub record Grown (base now : List Report) : Type 0 where
 pub grown-same : (base : List Report) → Grown base base
 grown-same base = record { more = []; is = sym (append-nil base) }
 
+pub grown-one : (base : List Report) (r : Report) → Grown base (base ++ r ∷ [])
+grown-one base r = record { more = r ∷ []; is = refl }
+
 pub grown-more : (base now : List Report) (r : Report) → Grown base now → Grown base (now ++ r ∷ [])
 grown-more base now r g = record { more = g.more ++ r ∷ []; is = ap (λ rs. rs ++ r ∷ []) g.is ∙ append_assoc base g.more (r ∷ []) }
 

@@ -282,9 +282,7 @@ module _ (p : Traced) where
     unfollowed-left : 10 * k + left_cost (traced_at s k).seen ≤ n → (a : Answer) → Next n (with_unfollowed s a)
     unfolding with_unfollowed
     unfollowed-left costs Gone = first-closed s (alike-self s) (omega (arith, cost-least (traced_at s k).seen)) (λ ahead. omega arith)
-    unfollowed-left costs Accepted = read-next costs
-    unfollowed-left costs Interrupted = read-next costs
-    unfollowed-left costs (Refused errno) = read-next costs
+    unfollowed-left costs _ = read-next costs
 
     -- the statuses of the lwps of the first process, which may be this one
     lwps-looked : (j : ℕ) (seen : Bool) → k ≡ j → (traced_at s k).seen ≡ seen → 10 * k + left_cost seen ≤ n + 1 → (l : Option LwpStatus) → Leaving left_then (with_stop_read s 0 l)
@@ -299,9 +297,8 @@ module _ (p : Traced) where
     lwps-left : 10 * k + left_cost (traced_at s k).seen ≤ n + 1 → (r : Reply) (a : Answer) → Next n (with_lwps_answered s r a)
     unfolding with_lwps_answered
     lwps-left costs r Accepted = then _ (omega (arith, cost-least (traced_at s k).seen)) (lwps-looked k (traced_at s k).seen refl refl costs (slice_get (event_stops (bytes_in r)) 0))
-    lwps-left costs r (Refused errno) = first-closed s (alike-self s) (omega (arith, cost-least (traced_at s k).seen)) (λ ahead. omega arith)
-    lwps-left costs r Interrupted = first-closed s (alike-self s) (omega (arith, cost-least (traced_at s k).seen)) (λ ahead. omega arith)
-    lwps-left costs r Gone = first-closed s (alike-self s) (omega (arith, cost-least (traced_at s k).seen)) (λ ahead. omega arith)
+    lwps-left costs r _ =
+        first-closed s (alike-self s) (omega (arith, cost-least (traced_at s k).seen)) (λ ahead. omega arith)
 
     -- a child is set free, and the first process is closed then
     freeing-begun : (child : ℕ) → Costs (traced_at s k).seen 3 k n → (r : Reply) (a : Answer) → Next n (with_freeing_begun s child r a)
@@ -362,16 +359,7 @@ module _ (p : Traced) where
     stage-left y ReadingLwps at l is other = lwps-left l y.reply (answer_of y.reply)
     stage-left y (FreeingChild child step) at l is other = freed-left child step l y.reply
     stage-left y (Closing place GoOn) at l is other = closed-left y place at l is other
-    stage-left y (Closing place OpenNext) at l is other = absurd l
-    stage-left y (Closing place (RunParent parent)) at l is other = absurd l
-    stage-left y (Spawning program) at l is other = absurd l
-    stage-left y (OpeningControl pid) at l is other = absurd l
-    stage-left y (Opening place opening) at l is other = absurd l
-    stage-left y Polling at l is other = absurd l
-    stage-left y (OpeningChildControl parent pid) at l is other = absurd l
-    stage-left y (OpeningChild parent place opening) at l is other = absurd l
-    stage-left y (Running place) at l is other = absurd l
-    stage-left y Finished at l is other = absurd l
+    stage-left y _ at l is other = absurd l
 
   fed-left : (y : Exchange) (s : TrussState) (n : ℕ) → Leaving n s → next_call_of s ≡ Some y.call → IsNoEndOf p y → Next n (fed s y.reply)
   unfolding next_call_of fed

@@ -3,6 +3,8 @@ pub mod AnswerLemmas
 pub mod BridgeLemmas
 pub mod ClosesLemmas
 pub mod FedLemmas
+pub mod FedSteps
+pub mod FitLemmas
 pub mod ForeignLemmas
 pub mod FrameLemmas
 pub mod GivenLemmas
@@ -19,8 +21,8 @@ pub mod OwnLemmas
 pub mod OwnTurnLemmas
 pub mod PolledLemmas
 pub mod ReleaseLemmas
+pub mod ReplySteps
 pub mod SequenceLemmas
-pub mod StepLemmas
 pub mod StillLemmas
 pub mod StoresLemmas
 pub mod TakenLemmas

@@ -68,20 +68,14 @@ event-class l job st = rw st.is (by st.stop st.met)
   where
     by : (s : Stop) → is_met s ≡ true → class_of_stop s ≡ 3
     by stop.Requested m = cc
-    by (stop.Signalled g) m = refl
-    by (stop.SysEntry c) m = refl
-    by (stop.SysExit c) m = refl
-    by (stop.Faulted f) m = refl
+    by _ m = refl
 
 run-class : (o : Option Shown) → lets_run o ≡ true → 4 ≤ class_of_shown o
 run-class None is = cc
 run-class (Some (JobControl g)) is = cc
 run-class (Some Suspended) is = omega arith
 run-class (Some (Event stop.Requested)) is = omega arith
-run-class (Some (Event (stop.Signalled g))) is = cc
-run-class (Some (Event (stop.SysEntry c))) is = cc
-run-class (Some (Event (stop.SysExit c))) is = cc
-run-class (Some (Event (stop.Faulted f))) is = cc
+run-class _ is = cc
 
 pub some-or : {X : Type 0} (a b : Option X) → is_some b ≡ true → is_some (option_or a b) ≡ true
 some-or None b is = is

@@ -1,10 +1,13 @@
-use Rattle.std.proofs.Common.{◌≡◌, ◌≢◌, ◌==◌, ◌+◌, ℕ, Bool, true, false, cond, nat_lt, nat_le, not, ◌||◌, None, Some, Option, List, length, refl, sym, subst, ap, ◌∙◌, inl, inr, ◌⊎◌}
+use Rattle.std.proofs.Common.{◌≡◌, ◌≢◌, ◌==◌, ℕ, Bool, true, false, cond, not, None, Some, Option, refl, sym, subst, ap, ◌∙◌, inl, inr, ◌⊎◌}
 use Rattle.std.proofs.lemmas.Bool.{cases_Bool, eqb-true, eqb-false, eq-eqb, ne_eqb}
 use Rattle.std.proofs.lemmas.Option.{same_Some, none-some}
-use Rattle.std.specs.List.{find, list_all, slice_get, slice_set, position}
-use Rattle.std.specs.Option.{is_none, option_map}
+use Rattle.std.specs.List.{slice_get, slice_set, position}
+use Rattle.std.specs.Option.{is_none}
 use Rattle.pr_lawful.proofs.HandleLemmas.{free-at, handle-at}
-use Rattle.pr_model.specs.Calls.{Answer, answer_to, answered, interrupted_answer, is_interrupted, is_open_by, is_polled_ready, close_answer, close_held, interrupt_answer, kill_answer, open_answer, open_unless, opened, poll_answer, ready_answer, refused, spawn_answer, spawn_found, spawn_unless, until_answer, waited}
+use Rattle.pr_keeps.specs.CallEdits as edit
+use Rattle.pr_keeps.specs.CallEdits.{CallEdit}
+use Rattle.pr_keeps.proofs.CallLemmas.{call-edit}
+use Rattle.pr_model.specs.Calls.{Answer, answer_to, close_answer, close_held, open_answer, open_unless, opened, refused}
 use Rattle.pr_model.specs.Handles.{handle_of, open_refusal, own, with_closed, with_opened}
 use Rattle.pr_model.specs.State.{Places, TracedState}
 use Rattle.pr_model.specs.declared.calls.Call.{Call}
@@ -14,12 +17,7 @@ use Rattle.pr_model.specs.declared.calls.Mode.{Mode}
 use Rattle.pr_model.specs.declared.calls.Reply.{Reply}
 use Rattle.pr_model.specs.declared.calls.Reply.TheVariants as reply
 use Rattle.pr_model.specs.declared.handles.Held.{Held}
-use Rattle.pr_model.specs.Spawning.{spawn_refusal}
-use Rattle.pr_num.specs.Limits.{controller_limit, handle_limit}
-use Rattle.pr_num.specs.Programs.{Program}
-use Rattle.pr_num.specs.Sets.{with_number}
 use Rattle.pr_num.specs.declared.errnos.Errno.{Errno}
-use Rattle.pr_num.specs.declared.errnos.Errno.TheVariants.{Badf, Inval, Intr}
 use Rattle.pr_file.proofs.PlaceLemmas.{slice_get-set_other, slice_get-set_same}
 
 -- What a call does to the open handles.
@@ -113,11 +111,6 @@ close-closes s by number a is = close-does s by number (handle_of s.opens by num
 
 -- ---- every other call leaves the handles
 
--- a state in which a controller may have seen that it was interrupted, or be interrupted, and else as it was
-Stays : TracedState → Option Answer → Type 0
-Stays s None = Unit {0}
-Stays s (Some a) = a.state ≡ record s { interrupted = a.state.interrupted }
-
 -- whether a call opens or closes; and whether it only waits, reads or interrupts
 abbrev pub keeps_handles : Call → Bool
 keeps_handles (call.Open pid id file mode) = false
@@ -133,101 +126,31 @@ only_looks (call.Until moment) = true
 only_looks call.List = true
 only_looks _ = false
 
-stays-some : (s : TracedState) (a : Answer) → a.state ≡ record s { interrupted = a.state.interrupted } → Stays s (Some a)
-unfolding Stays
-stays-some s a is = is
+-- a state in which a controller may have seen that it was interrupted, or be interrupted, and else as it was
+edit-stays : (s : TracedState) (by : ℕ) (c : Call) (t : TracedState) → CallEdit s by c t → only_looks c ≡ true
+    → t ≡ record s { interrupted = t.interrupted }
+edit-stays s by c t edit.looks looks = refl
+edit-stays s by c t edit.sees_interrupt looks = refl
+edit-stays s by c t (edit.interrupts there) looks = refl
+edit-stays s by c t (edit.opens free grants) looks = cc
+edit-stays s by c t (edit.closes at) looks = cc
+edit-stays s by c t (edit.controls it e) looks = cc
+edit-stays s by c t (edit.spawns named grants) looks = cc
+edit-stays s by c t (edit.sends is) looks = cc
 
-stays-none : (s : TracedState) → Stays s None
-unfolding Stays
-stays-none s = tt
+pub looking-stays : (s : TracedState) (by : ℕ) (c : Call) (a : Answer) → only_looks c ≡ true
+    → answer_to s by c ≡ Some a → a.state ≡ record s { interrupted = a.state.interrupted }
+looking-stays s by c a looks is = edit-stays s by c a.state (call-edit s by c a is) looks
 
-stays-waited : (s : TracedState) (by : ℕ) (r : Reply) → Stays s (Some (waited s by r))
-unfolding Stays
-stays-waited s by (reply.Fail errno) = refused-wait errno
-  where
-    refused-wait : (e : Errno) → (waited s by (reply.Fail e)).state ≡ record s { interrupted = (waited s by (reply.Fail e)).state.interrupted }
-    refused-wait Intr = refl
-    refused-wait _ = refl
-stays-waited s by (reply.Handle h) = refl
-stays-waited s by reply.Done = refl
-stays-waited s by (reply.Used n) = refl
-stays-waited s by (reply.Half n) = refl
-stays-waited s by (reply.Bytes bytes) = refl
-stays-waited s by (reply.Pid pid) = refl
-stays-waited s by (reply.Ready h) = refl
+edit-leaves : (s : TracedState) (by : ℕ) (c : Call) (t : TracedState) → CallEdit s by c t → keeps_handles c ≡ true
+    → t.opens ≡ s.opens
+edit-leaves s by c t (edit.opens free grants) keeps = cc
+edit-leaves s by c t (edit.closes at) keeps = cc
+edit-leaves s by c t _ keeps = refl
 
-stays-wait : (s : TracedState) (by : ℕ) (r : Option Reply) → Stays s (option_map (waited s by) r)
-stays-wait s by None = stays-none s
-stays-wait s by (Some r) = stays-waited s by r
-
-stays-if : (s : TracedState) (b : Bool) (x y : Option Answer) → Stays s x → Stays s y → Stays s (cond b x y)
-stays-if s true x y p q = p
-stays-if s false x y p q = q
-
-stays-ready : (s : TracedState) (h : Option ℕ) → Stays s (ready_answer s h)
-stays-ready s None = stays-none s
-stays-ready s (Some h) = stays-some s _ refl
-
-stays-poll : (s : TracedState) (by : ℕ) (handles : List ℕ) → Stays s (poll_answer s by handles)
-unfolding poll_answer
-stays-poll s by handles =
-    let ready : Option Answer = ready_answer s (find (is_polled_ready s by) handles) in
-    let interrupted : Answer = interrupted_answer s by in
-    let third : Option Answer = cond (is_interrupted s by) (Some interrupted) ready in
-    let second : Option Answer = cond ((length handles == 0) || nat_lt handle_limit (length handles)) (Some (refused s Inval)) third in
-    stays-if s (not (list_all (is_open_by s.opens by) handles)) (Some (refused s Badf)) second (stays-some s (refused s Badf) refl) (stays-if s ((length handles == 0) || nat_lt handle_limit (length handles)) (Some (refused s Inval)) third (stays-some s (refused s Inval) refl) (stays-if s (is_interrupted s by) (Some interrupted) ready (stays-some s interrupted refl) (stays-ready s (find (is_polled_ready s by) handles))))
-
-stays-until : (s : TracedState) (by moment : ℕ) → Stays s (until_answer s by moment)
-unfolding until_answer
-stays-until s by moment =
-    let done : Answer = answered s reply.Done in
-    let interrupted : Answer = interrupted_answer s by in
-    let waited_for : Option Answer = cond (nat_le moment s.system.clock) (Some done) None in
-    stays-if s (is_interrupted s by) (Some interrupted) waited_for (stays-some s interrupted refl) (stays-if s (nat_le moment s.system.clock) (Some done) None (stays-some s done refl) (stays-none s))
-
-stays-interrupt : (s : TracedState) (controller : ℕ) → Stays s (Some (interrupt_answer s controller))
-unfolding interrupt_answer
-stays-interrupt s controller = elim (nat_lt controller controller_limit) as (λ b. Stays s (Some (cond b (record { state = record s { interrupted = with_number s.interrupted (controller + 1) }; reply = reply.Done }) (refused s Inval)))) [ true ↦ stays-some s _ refl | false ↦ stays-some s _ refl ]
-
-call-stays : (s : TracedState) (by : ℕ) (c : Call) → only_looks c ≡ true → Stays s (answer_to s by c)
-unfolding answer_to
-call-stays s by (call.CtlWait handle until bytes) looks = stays-wait s by _
-call-stays s by (call.Read handle from len) looks = stays-some s _ refl
-call-stays s by (call.Poll handles) looks = stays-poll s by handles
-call-stays s by (call.Interrupt controller) looks = stays-interrupt s controller
-call-stays s by (call.Until moment) looks = stays-until s by moment
-call-stays s by call.List looks = stays-some s _ refl
-call-stays s by (call.Open pid id file mode) looks = cc
-call-stays s by (call.Close number) looks = cc
-call-stays s by (call.Ctl handle bytes) looks = cc
-call-stays s by (call.Spawn program held) looks = cc
-call-stays s by (call.Kill pid sig) looks = cc
-
-pub looking-stays : (s : TracedState) (by : ℕ) (c : Call) (a : Answer) → only_looks c ≡ true → answer_to s by c ≡ Some a → a.state ≡ record s { interrupted = a.state.interrupted }
-unfolding Stays
-looking-stays s by c a looks is = subst (Stays s) is (call-stays s by c looks)
-
-spawn-leaves : (s : TracedState) (held : Bool) (program : Option Program) → (spawn_found s held program).state.opens ≡ s.opens
-spawn-leaves s held None = refl
-spawn-leaves s held (Some program) = by (spawn_refusal s.system program)
-  where
-    by : (o : Option Errno) → (spawn_unless s program held o).state.opens ≡ s.opens
-    by None = refl
-    by (Some e) = refl
-
-pub plain-leaves : (s : TracedState) (by : ℕ) (c : Call) (a : Answer) → keeps_handles c ≡ true → answer_to s by c ≡ Some a → a.state.opens ≡ s.opens
-unfolding answer_to spawn_answer kill_answer
-plain-leaves s by (call.Open pid id file mode) a keeps is = cc
-plain-leaves s by (call.Close number) a keeps is = cc
-plain-leaves s by (call.Ctl handle bytes) a keeps is = ap (λ (x : Answer). x.state.opens) (sym (same_Some _ a is))
-plain-leaves s by (call.Spawn program held) a keeps is = ap (λ (x : Answer). x.state.opens) (sym (same_Some _ a is)) ∙ spawn-leaves s held _
-plain-leaves s by (call.Kill pid sig) a keeps is = ap (λ (x : Answer). x.state.opens) (sym (same_Some _ a is))
-plain-leaves s by (call.CtlWait handle until bytes) a keeps is = ap (λ (x : TracedState). x.opens) (looking-stays s by (call.CtlWait handle until bytes) a refl is)
-plain-leaves s by (call.Read handle from len) a keeps is = ap (λ (x : TracedState). x.opens) (looking-stays s by (call.Read handle from len) a refl is)
-plain-leaves s by (call.Poll handles) a keeps is = ap (λ (x : TracedState). x.opens) (looking-stays s by (call.Poll handles) a refl is)
-plain-leaves s by (call.Interrupt controller) a keeps is = ap (λ (x : TracedState). x.opens) (looking-stays s by (call.Interrupt controller) a refl is)
-plain-leaves s by (call.Until moment) a keeps is = ap (λ (x : TracedState). x.opens) (looking-stays s by (call.Until moment) a refl is)
-plain-leaves s by call.List a keeps is = ap (λ (x : TracedState). x.opens) (looking-stays s by call.List a refl is)
+pub plain-leaves : (s : TracedState) (by : ℕ) (c : Call) (a : Answer) → keeps_handles c ≡ true
+    → answer_to s by c ≡ Some a → a.state.opens ≡ s.opens
+plain-leaves s by c a keeps is = edit-leaves s by c a.state (call-edit s by c a is) keeps
 
 -- ---- the handles of another controller stay
 
@@ -263,12 +186,4 @@ foreign-call s by k (call.Open pid id file mode) a other is number =
     elim (open-opens s by pid id file mode a is) [ inl refused ↦ ap (λ p. handle_of p k number) refused.is | inr opened ↦ foreign-open s by k (held_by by pid id file mode) a.reply a.state.opens other refl opened number ]
 foreign-call s by k (call.Close m) a other is number =
     elim (close-closes s by m a is) [ inl refused ↦ ap (λ p. handle_of p k number) refused.is | inr closed ↦ foreign-close s by k m closed.0 a other closed.1 number ]
-foreign-call s by k (call.Ctl handle bytes) a other is number = ap (λ p. handle_of p k number) (plain-leaves s by (call.Ctl handle bytes) a refl is)
-foreign-call s by k (call.CtlWait handle until bytes) a other is number = ap (λ p. handle_of p k number) (plain-leaves s by (call.CtlWait handle until bytes) a refl is)
-foreign-call s by k (call.Read handle from len) a other is number = ap (λ p. handle_of p k number) (plain-leaves s by (call.Read handle from len) a refl is)
-foreign-call s by k (call.Poll handles) a other is number = ap (λ p. handle_of p k number) (plain-leaves s by (call.Poll handles) a refl is)
-foreign-call s by k (call.Interrupt controller) a other is number = ap (λ p. handle_of p k number) (plain-leaves s by (call.Interrupt controller) a refl is)
-foreign-call s by k (call.Spawn program held) a other is number = ap (λ p. handle_of p k number) (plain-leaves s by (call.Spawn program held) a refl is)
-foreign-call s by k (call.Kill pid sig) a other is number = ap (λ p. handle_of p k number) (plain-leaves s by (call.Kill pid sig) a refl is)
-foreign-call s by k (call.Until moment) a other is number = ap (λ p. handle_of p k number) (plain-leaves s by (call.Until moment) a refl is)
-foreign-call s by k call.List a other is number = ap (λ p. handle_of p k number) (plain-leaves s by call.List a refl is)
+foreign-call s by k c a other is number = ap (λ p. handle_of p k number) (plain-leaves s by c a refl is)

@@ -11,7 +11,6 @@ use Rattle.pr_model.specs.Legal.{IsLegalEntry, after, ticked}
 use Rattle.pr_model.specs.LwpTurns.{LwpTurn, turn_of}
 use Rattle.pr_model.specs.State.{TracedProcess, TracedState, TracedSystem, if_live, live_process, process_of, with_system}
 use Rattle.pr_model.specs.declared.calls.Call.{Call}
-use Rattle.pr_model.specs.declared.calls.Mode.TheVariants.{WriteExcl}
 use Rattle.pr_model.specs.declared.events.Act.{Act}
 use Rattle.pr_model.specs.declared.events.Act.TheVariants as act
 use Rattle.pr_model.specs.declared.events.Actor.{Actor}
@@ -20,6 +19,7 @@ use Rattle.pr_model.specs.declared.events.Entry.{Entry}
 use Rattle.pr_model.specs.declared.handles.Held.{Held}
 use Rattle.pr_truss_laws.proofs.ForeignLemmas.{call-passes, foreign-passes, names}
 use Rattle.pr_truss_laws.proofs.FrameLemmas.{Became, ByKill, Passes, ended-same, has_ended, left_alone, nobody, turn-passes, undisturbed-self}
+use Rattle.pr_truss_laws.specs.Handles.{HasNoOtherWriter}
 use Rattle.pr_truss_laws.specs.Stills.{IsUndisturbed}
 
 -- What the entries of a history that are no turns of a process itself do to it.
@@ -59,9 +59,12 @@ outlasts s u pid p before passes = by passes
 pub others-turn : (s : TracedSystem) (pid other id : ℕ) (t : LwpTurn) (p : TracedProcess) → IsLawfulSystem s → live_process s pid ≡ Some p → other ≢ pid → turn_of s other id ≡ Some t → Outlasts pid p t.system
 others-turn s pid other id t p lawful before differs turn = outlasts s t.system pid p before (turn-passes s pid other id t p lawful before differs turn)
 
--- a call of another controller, where one has the process open exclusively
-pub others-call : (s : TracedState) (k number by : ℕ) (h : Held) (c : Call) (a : Answer) (p : TracedProcess) → IsLawful s → handle_of s.opens k number ≡ Some h → h.mode ≡ WriteExcl → by ≢ k → answer_to s by c ≡ Some a → live_process s.system h.pid ≡ Some p → Outlasts h.pid p a.state.system
-others-call s k number by h c a p lawful mine mode other is before = outlasts s.system a.state.system h.pid p before (foreign-passes s k number h lawful mine mode by c a p other is before)
+-- a call of another controller, where at most one has the process open for writing
+pub others-call : (s : TracedState) (k pid by : ℕ) (c : Call) (a : Answer) (p : TracedProcess) → IsLawful s
+    → HasNoOtherWriter k pid s.opens → by ≢ k → answer_to s by c ≡ Some a → live_process s.system pid ≡ Some p
+    → Outlasts pid p a.state.system
+others-call s k pid by c a p lawful sole other is before =
+    outlasts s.system a.state.system pid p before (foreign-passes s k pid lawful sole by c a p other is before)
 
 -- a call that writes to no handle of the process and closes none
 pub own-call-elsewhere : (s : TracedState) (k pid : ℕ) (c : Call) (a : Answer) (p : TracedProcess) → IsLawful s → ((m : ℕ) (g : Held) → names c m ≡ true → handle_of s.opens k m ≡ Some g → g.pid ≢ pid) → answer_to s k c ≡ Some a → live_process s.system pid ≡ Some p → Outlasts pid p a.state.system
@@ -81,18 +84,26 @@ unfolding live_process
 ticked-live s pid = refl
 
 -- an entry of another controller, of another process, or of the clock
-others-in : (n : ℕ) (s : TracedState) (k number : ℕ) (h : Held) (actor : Actor) (it : Act) (p : TracedProcess) → IsLawful s → handle_of s.opens k number ≡ Some h → h.mode ≡ WriteExcl → IsLegalEntry n s (record { actor = actor; act = it }) → ((id : ℕ) → actor ≢ Lwp h.pid id) → actor ≢ Controller k → live_process s.system h.pid ≡ Some p → Outlasts h.pid p (after s (record { actor = actor; act = it })).system
+others-in : (n : ℕ) (s : TracedState) (k pid : ℕ) (actor : Actor) (it : Act) (p : TracedProcess) → IsLawful s
+    → HasNoOtherWriter k pid s.opens → IsLegalEntry n s (record { actor = actor; act = it })
+    → ((id : ℕ) → actor ≢ Lwp pid id) → actor ≢ Controller k → live_process s.system pid ≡ Some p
+    → Outlasts pid p (after s (record { actor = actor; act = it })).system
 unfolding IsLegalEntry after
-others-in n s k number h (Controller by) (act.Call c r) p lawful mine mode legal elsewhere other before =
+others-in n s k pid (Controller by) (act.Call c r) p lawful sole legal elsewhere other before =
     let a : Answer = record { state = legal.1.0; reply = r } in
     let answer : answer_to s by c ≡ Some a = legal.1.1 in
-    rw answer (others-call s k number by h c a p lawful mine mode (λ same. other (ap (λ m. Controller m) same)) answer before)
-others-in n s k number h (Lwp pid id) (act.Turn turned) p lawful mine mode legal elsewhere other before =
+    rw answer (others-call s k pid by c a p lawful sole (λ same. other (ap (λ m. Controller m) same)) answer before)
+others-in n s k pid (Lwp acting id) (act.Turn turned) p lawful sole legal elsewhere other before =
     let t : LwpTurn = record { system = legal.0; turned = turned } in
-    let taken : turn_of s.system pid id ≡ Some t = legal.1 in
-    rw taken (others-turn s.system h.pid pid id t p lawful.system before (λ same. elsewhere id (ap (λ m. Lwp m id) same)) taken)
-others-in n s k number h Clock (act.Tick moment) p lawful mine mode legal elsewhere other before = lives p (ticked-live s h.pid ∙ before) (undisturbed-self p)
-others-in n s k number h _ _ p lawful mine mode legal elsewhere other before = absurd legal
+    let taken : turn_of s.system acting id ≡ Some t = legal.1 in
+    let apart : acting ≢ pid = λ same. elsewhere id (ap (λ m. Lwp m id) same) in
+    rw taken (others-turn s.system pid acting id t p lawful.system before apart taken)
+others-in n s k pid Clock (act.Tick moment) p lawful sole legal elsewhere other before =
+    lives p (ticked-live s pid ∙ before) (undisturbed-self p)
+others-in n s k pid _ _ p lawful sole legal elsewhere other before = absurd legal
 
-pub others-entry : (n : ℕ) (s : TracedState) (k number : ℕ) (h : Held) (e : Entry) (p : TracedProcess) → IsLawful s → handle_of s.opens k number ≡ Some h → h.mode ≡ WriteExcl → IsLegalEntry n s e → ((id : ℕ) → e.actor ≢ Lwp h.pid id) → e.actor ≢ Controller k → live_process s.system h.pid ≡ Some p → Outlasts h.pid p (after s e).system
-others-entry n s k number h e p lawful mine mode legal elsewhere other before = others-in n s k number h e.actor e.act p lawful mine mode legal elsewhere other before
+pub others-entry : (n : ℕ) (s : TracedState) (k pid : ℕ) (e : Entry) (p : TracedProcess) → IsLawful s
+    → HasNoOtherWriter k pid s.opens → IsLegalEntry n s e → ((id : ℕ) → e.actor ≢ Lwp pid id)
+    → e.actor ≢ Controller k → live_process s.system pid ≡ Some p → Outlasts pid p (after s e).system
+others-entry n s k pid e p lawful sole legal elsewhere other before =
+    others-in n s k pid e.actor e.act p lawful sole legal elsewhere other before

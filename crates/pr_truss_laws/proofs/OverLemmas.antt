@@ -25,20 +25,19 @@ use Rattle.pr_keeps.specs.MessageEdits as message
 use Rattle.pr_keeps.specs.MessageEdits.{MessageEdit}
 use Rattle.pr_keeps.proofs.CallLemmas.{call-edit, close-edit}
 use Rattle.pr_model.proofs.TurnLemmas.{turn-taken}
-use Rattle.pr_model.specs.Calls.{Answer, answer_to}
+use Rattle.pr_model.specs.Calls.{Answer, answer_to, close_answer, close_held, kill_answer, open_answer, open_unless, opened, spawn_answer, spawn_found, spawn_unless}
 use Rattle.pr_model.specs.Changes.{Change, files_are, space_is, signals, signals_itself, takes_shared, job_stops, disposition_is, held_is, resumes, forks, reaps, becomes, makes_lwp, suspends, Ending, ends_process, ends_lwp, all_changed, changed, ended, with_fds}
-use Rattle.pr_model.specs.ControlMessages.{tail_of}
+use Rattle.pr_model.specs.ControlMessages.{tail_of, aim_of, control_answer, control_handle, decoded_answer, held_answer, still_there, target_of, targeted_answer}
 use Rattle.pr_model.specs.Generation.{told}
 use Rattle.pr_model.specs.Handles.{released, with_closed, with_opened}
 use Rattle.pr_model.specs.Lawful.{IsLawful, IsLawfulSystem}
 use Rattle.pr_model.specs.Legal.{IsLegalEntry, after}
-use Rattle.pr_model.specs.Lives.{ended_if_live, forked, new_process, orphaned, with_child, with_ended, with_lwp_ended, with_made, with_parent_told, with_reaped, with_spawned, with_this_ended, zombie}
+use Rattle.pr_model.specs.Lives.{Birth, ended_if_live, forked, new_process, orphaned, with_child, with_ended, with_lwp_ended, with_made, with_parent_told, with_reaped, with_spawned, with_this_ended, zombie}
 use Rattle.pr_model.specs.LwpTurns.{LwpTurn, settled, turn_of, with_counted}
 use Rattle.pr_model.specs.Machines.{traced}
 use Rattle.pr_model.specs.Moves.{moved}
 use Rattle.pr_model.specs.Points.{after_meeting}
 use Rattle.pr_model.specs.Rows.{Row, row_for}
-use Rattle.pr_model.specs.SignalCalls.{sends}
 use Rattle.pr_model.specs.Signals.{generated, is_kill}
 use Rattle.pr_model.specs.State.{TracedLwp, TracedProcess, TracedState, TracedSystem, if_live, live_process, process_of, with_lwp, with_lwp_of, with_process}
 use Rattle.pr_model.specs.Transitions.{Transition, after_transition, ended_if}
@@ -198,11 +197,12 @@ module _ (pid : ℕ) where
     unless-over : (b : Bool) (s t : TracedSystem) → IsOver pid s → IsOver pid t → IsOver pid (cond b s t)
     unless-over b s t o done = choice (IsOver pid) b s t (λ is. o) (λ is. done)
 
-    child-over : (args : List ℕ) (s : TracedSystem) → IsOver pid s → IsOver pid (with_child traced acting p l args s)
+    child-over : (birth : Birth) (args : List ℕ) (s : TracedSystem) → IsOver pid s
+        → IsOver pid (with_child traced birth acting p l args s)
     unfolding with_child
-    child-over args s o =
+    child-over birth args s o =
         let shared : TracedSystem = record s { files = with_all_shared s.files p.fds } in
-        made-over (forked traced acting p l args s.clock) shared (files-over s shared refl refl o)
+        made-over (forked traced birth acting p l args s.clock) shared (files-over s shared refl refl o)
 
     changed-over : (c : Change) (s : TracedSystem) → IsOver pid s → IsOver pid (changed traced acting p id l c s)
     unfolding changed
@@ -215,11 +215,9 @@ module _ (pid : ℕ) where
     changed-over (disposition_is g disposition) s o = acting-over _ s o
     changed-over (held_is held) s o = acting-over _ s o
     changed-over (resumes frame frames) s o = acting-over _ s o
-    changed-over (forks args) s o = unless-over (s.made == acting) s _ o (child-over args s o)
+    changed-over (forks birth args) s o = unless-over (s.made == acting) s _ o (child-over birth args s o)
     changed-over (reaps child) s o = unless-over (child == acting) s _ o (reaped-over child s o)
-    changed-over (becomes program) s o = acting-over _ s o
-    changed-over (makes_lwp fresh regs held) s o = acting-over _ s o
-    changed-over (suspends target suspended) s o = acting-over _ s o
+    changed-over _ s o = acting-over _ s o
 
     all_changed-over : (cs : List Change) (s : TracedSystem) → IsOver pid s → IsOver pid (all_changed traced acting p id l cs s)
     unfolding all_changed

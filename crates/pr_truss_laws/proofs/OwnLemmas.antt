@@ -24,7 +24,7 @@ use Rattle.pr_model.specs.declared.events.Actor.TheVariants.{Controller, Lwp, Cl
 use Rattle.pr_model.specs.declared.events.Entry.{Entry}
 use Rattle.pr_model.specs.declared.handles.Held.{Held}
 use Rattle.pr_num.specs.declared.errnos.Errno.{Errno}
-use Rattle.pr_num.specs.declared.errnos.Errno.TheVariants.{Intr, Noent}
+use Rattle.pr_num.specs.declared.errnos.Errno.TheVariants.{Intr}
 use Rattle.pr_truss.specs.Feeding.{fed}
 use Rattle.pr_truss.specs.NextCalls.{call_of, child_call, freeing_call, next_call_of, opening_call}
 use Rattle.pr_truss.specs.Replies.{answer_of, refusal_of}
@@ -38,8 +38,9 @@ use Rattle.pr_truss.specs.declared.stages.OpeningStep.{OpeningStep}
 use Rattle.pr_truss.specs.declared.stages.OpeningStep.TheVariants as opening
 use Rattle.pr_truss.specs.declared.stages.Stage.{Stage}
 use Rattle.pr_truss.specs.declared.stages.Stage.TheVariants.{Spawning, OpeningControl, Opening, Polling, ReadingStatus, ReadingText, OpeningChildControl, OpeningChild, Running, Closing, Unfollowing, ReadingLwps, FreeingChild, Finished}
-use Rattle.pr_truss_laws.proofs.ClosesLemmas.{first-fits, held-is, nothing-held}
-use Rattle.pr_truss_laws.proofs.FedLemmas.{Changes, Gives, fed-well, gives}
+use Rattle.pr_truss_laws.proofs.ClosesLemmas.{first-fits, nothing-held}
+use Rattle.pr_truss_laws.proofs.FedLemmas.{Changes, Gives, fed-changes, gives}
+use Rattle.pr_truss_laws.proofs.FitLemmas.{fed-fits}
 use Rattle.pr_truss_laws.proofs.HeldLemmas.{Fits, held, unit}
 use Rattle.pr_truss_laws.proofs.OpensLemmas.{ClosesOne, NotOpen, Opens, Refuses, close-closes, foreign-call, held_by, keeps_handles, open-opens, own-free, own-mine, own-other, own-set, plain-leaves}
 use Rattle.pr_truss_laws.specs.Exchanges.{Ends, Exchange, Makes, exchange_in, exchange_of, exchanges, truss_after}
@@ -61,17 +62,7 @@ unfolding opening_call
 opening-excl o t opening.OpenStatus = λ is. cc
 opening-excl o t opening.OpenLstatus = λ is. cc
 opening-excl o t opening.OpenMemory = λ is. cc
-opening-excl o t opening.ClearModes = tt
-opening-excl o t opening.SetRelease = tt
-opening-excl o t opening.Stop = tt
-opening-excl o t (opening.AwaitStop until) = tt
-opening-excl o t opening.ReadLwps = tt
-opening-excl o t opening.TraceSignals = tt
-opening-excl o t opening.TraceFaults = tt
-opening-excl o t opening.TraceEntries = tt
-opening-excl o t opening.TraceExits = tt
-opening-excl o t opening.Follow = tt
-opening-excl o t opening.Start = tt
+opening-excl o t _ = tt
 
 child-excl : (t : Traced) (step : ChildStep) → OpensExclusively (Some (child_call t step))
 unfolding child_call
@@ -134,15 +125,14 @@ module _ (k : ℕ) (t : TrussState) (s : TracedState) (o : Owns k t s) where
   -- what is remembered after the reply
   changed : (pid h : ℕ) (r : Reply) (c : Call) → next_call_of t ≡ Some c → (n : ℕ) × ((held pid h (fed t r) ≡ n) × Changes t pid h r (Some c) (held pid h t) n)
   changed pid h r c is =
-      let w = fed-well pid h r t o.fits in
-      (w.count, (held-is t pid h (held pid h t) r (next_call_of t) (fed t r) w, subst (λ x. Changes t pid h r x (held pid h t) w.count) is w.changes))
+      let all = fed-changes pid h r t o.fits in
+      (held pid h (fed t r), (refl, subst (λ x. Changes t pid h r x (held pid h t) (held pid h (fed t r))) is all))
 
   fits-on : (r : Reply) → Fits (fed t r).traced (fed t r).stage
-  fits-on r = let w = fed-well 0 0 r t o.fits in w.well.fits
+  fits-on r = fed-fits t r o.fits
 
   no-gift : (e : Errno) (of handle pid h : ℕ) → gives (refusal_of e) of handle pid h ≡ 0
   no-gift Intr of handle pid h = refl
-  no-gift Noent of handle pid h = refl
   no-gift _ of handle pid h = refl
 
   fail-gives : (e : Errno) (of handle pid h : ℕ) → gives (answer_of (reply.Fail e)) of handle pid h ≡ 0

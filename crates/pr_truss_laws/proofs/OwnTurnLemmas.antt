@@ -13,11 +13,11 @@ use Rattle.pr_lawful.proofs.SuitingLemmas.{SuitChanges, SuitsChange, SuitsProgra
 use Rattle.pr_lawful.proofs.TransitionLemmas.{stayed}
 use Rattle.pr_lawful.proofs.TurnLemmas.{acting, row-suits}
 use Rattle.pr_model.specs.Changes.{Change, changed, files_are, space_is, signals, signals_itself, takes_shared, job_stops, disposition_is, held_is, resumes, forks, reaps, becomes, makes_lwp, suspends, all_changed, ended, Ending, ends_process, ends_lwp, resumed, with_disposition_of, with_fds, with_held, with_job_stop, with_shared_taken, with_space, with_suspended}
-use Rattle.pr_model.specs.Lives.{forked, new_lwp, started, with_child, with_lwp_ended, with_made, with_reaped, with_new_lwp, with_program, without_lwp}
+use Rattle.pr_model.specs.Lives.{Birth, forked, new_lwp, started, with_child, with_lwp_ended, with_made, with_reaped, with_new_lwp, with_program, without_lwp}
 use Rattle.pr_model.specs.Lawful.{IsLawfulProcess, IsLawfulSystem}
 use Rattle.pr_model.specs.LwpTurns.{LwpTurn, settled, turn_of, with_counted}
 use Rattle.pr_model.specs.Machines.{call_over, exec_control, fault_incurred, fault_posted, no_marks, step_taken, traced}
-use Rattle.pr_model.specs.Moves.{Move, moved, stays, stops, posts, returns, runs, enters, incurs, traps, leaves, sleeps, takes, drops, catches}
+use Rattle.pr_model.specs.Moves.{Move, moved, stops}
 use Rattle.pr_model.specs.Points.{after_meeting, is_traced, meets, stop_at, stopped_at, with_others_directed, with_stop_at}
 use Rattle.pr_model.specs.Rows.{Row, row_for}
 use Rattle.pr_model.specs.Signals.{is_kill}
@@ -176,15 +176,22 @@ module _ (pid : ℕ) where
         let stands : lwp_of x id ≡ Some l = subst (λ (y : TracedProcess). lwp_of y id ≡ Some l) same suits.there in
         goes_on-program id l program x (λ k at. let is : k ≡ l = same_Some k l (sym at ∙ stands) in (ap (λ (y : TracedLwp). y.control.stop) is, ap (λ (y : TracedLwp). y.control.directed) is)) (ap (λ o. is_some o) stands))
 
-    child-carried : (args : List ℕ) (s : TracedSystem) → Carried s (cond (s.made == pid) s (with_child traced pid p l args s))
+    child-carried : (birth : Birth) (args : List ℕ) (s : TracedSystem)
+        → Carried s (cond (s.made == pid) s (with_child traced birth pid p l args s))
     unfolding with_child
-    child-carried args s = by (s.made == pid) refl
+    child-carried birth args s = by (s.made == pid) refl
       where
-        by : (b : Bool) → (s.made == pid) ≡ b → Carried s (cond b s (with_made (forked traced pid p l args s.clock) (record s { files = with_all_shared s.files p.fds })))
+        shared : TracedSystem
+        shared = record s { files = with_all_shared s.files p.fds }
+
+        child : TracedProcess
+        child = forked traced birth pid p l args s.clock
+
+        by : (b : Bool) → (s.made == pid) ≡ b → Carried s (cond b s (with_made child shared))
         by true is = carried-same s
         by false is =
-            let shared : TracedSystem = record s { files = with_all_shared s.files p.fds } in
-            carried-next s shared _ (files-carried (with_all_shared s.files p.fds) s) (carried-spared shared _ (made-spares pid (forked traced pid p l args s.clock) shared (eqb-false s.made pid is)))
+            carried-next s shared _ (files-carried (with_all_shared s.files p.fds) s)
+            (carried-spared shared _ (made-spares pid child shared (eqb-false s.made pid is)))
 
     reaped-carried : (child : ℕ) (s : TracedSystem) → Carried s (cond (child == pid) s (with_reaped child s))
     reaped-carried child s = by (child == pid) refl
@@ -204,7 +211,7 @@ module _ (pid : ℕ) where
     change-carries (disposition_is g d) s suits = own-carried (with_disposition_of g d) s (λ x at. goes_on-same x (with_disposition_of g d x) refl refl refl)
     change-carries (held_is held) s suits = own-carried (with_lwp id (with_held held)) s (λ x at. goes_on-lwp id (with_held held) (λ k. refl) (λ k. refl) x)
     change-carries (resumes frame frames) s suits = own-carried (with_lwp id (resumed frame frames)) s (λ x at. goes_on-lwp id (resumed frame frames) (λ k. refl) (λ k. refl) x)
-    change-carries (forks args) s suits = child-carried args s
+    change-carries (forks birth args) s suits = child-carried birth args s
     change-carries (reaps child) s suits = reaped-carried child s
     change-carries (becomes program) s suits = program-carried program s suits
     change-carries (makes_lwp fresh regs held) s suits = own-carried (with_new_lwp traced fresh regs held) s (λ x at. goes_on-new fresh held regs x)
@@ -222,18 +229,7 @@ module _ (pid : ℕ) where
     moved-stop : (m : Move) (k : TracedLwp) → is_stop m ≡ false → ((moved traced m k).control.stop ≡ k.control.stop) × ((moved traced m k).control.directed ≡ k.control.directed)
     unfolding moved traced fault_posted fault_incurred step_taken call_over
     moved-stop stops k not_stop = cc
-    moved-stop stays k not_stop = (refl, refl)
-    moved-stop (posts f address) k not_stop = (refl, refl)
-    moved-stop returns k not_stop = (refl, refl)
-    moved-stop (runs regs) k not_stop = (refl, refl)
-    moved-stop (enters call regs) k not_stop = (refl, refl)
-    moved-stop (incurs f address) k not_stop = (refl, refl)
-    moved-stop (traps f address regs) k not_stop = (refl, refl)
-    moved-stop (leaves call args result) k not_stop = (refl, refl)
-    moved-stop (sleeps call args since) k not_stop = (refl, refl)
-    moved-stop (takes c own) k not_stop = (refl, refl)
-    moved-stop drops k not_stop = (refl, refl)
-    moved-stop (catches frames regs held) k not_stop = (refl, refl)
+    moved-stop _ k not_stop = (refl, refl)
 
     -- where ids rise an lwp that ends is gone
     goes_on-without : (x : TracedProcess) → IsRising x.lwps → GoesOn x (without_lwp id x)

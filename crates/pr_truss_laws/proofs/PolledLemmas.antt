@@ -231,15 +231,7 @@ module _ (p : Traced) (k : ℕ) where
         subst (λ j. After n (with_closed s place (RunParent j))) (sym l.0) (closing-answered place own l.1 l.2)
     stage-near y (Running place) at l is other = absurd (run-ends p s k y here (subst (λ j. Some (run_call (traced_at s j).control) ≡ Some y.call) l is) other)
     stage-near y (Closing place GoOn) at l is other = absurd (close-ends p s k y here (subst (λ j. Some (call.Close (last_handle (traced_at s j))) ≡ Some y.call) l is) other)
-    stage-near y (Closing place OpenNext) at l is other = absurd l
-    stage-near y (Spawning program) at l is other = absurd l
-    stage-near y (OpeningControl of) at l is other = absurd l
-    stage-near y (Opening place opening) at l is other = absurd l
-    stage-near y Polling at l is other = absurd l
-    stage-near y Unfollowing at l is other = absurd l
-    stage-near y ReadingLwps at l is other = absurd l
-    stage-near y (FreeingChild of freeing) at l is other = absurd l
-    stage-near y Finished at l is other = absurd l
+    stage-near y _ at l is other = absurd l
 
   fed-near : (y : Exchange) (s : TrussState) (n : ℕ) → Near n s → next_call_of s ≡ Some y.call → IsNoEndOf p y → After n (fed s y.reply)
   unfolding next_call_of fed

@@ -21,7 +21,7 @@ use Rattle.pr_parts.specs.AddressSpaces.{gap_in, has_range, with_break, with_map
 use Rattle.pr_parts.specs.FileCalls.{FileEffect, are_open_flags, closed, described, open_for_reading, open_for_writing, piped}
 use Rattle.pr_parts.specs.FileTransfers.{read_fd}
 use Rattle.pr_parts.specs.declared.files.FileNo.{FileNo}
-use Rattle.pr_parts.specs.declared.files.FileNo.TheVariants.{Sleep, NoReader}
+use Rattle.pr_parts.specs.declared.files.FileNo.TheVariants.{Sleep}
 use Rattle.pr_parts.specs.declared.files.Stat.{Stat}
 use Rattle.pr_lawful.proofs.FileLemmas.{choice}
 use Rattle.pr_keeps.specs.RowKinds as kind
@@ -69,7 +69,6 @@ either false x y one other = other
 
 refusal-stores : (why : FileNo) → Stores (refusal_effect why)
 refusal-stores Sleep = refl
-refusal-stores NoReader = refl
 refusal-stores _ = refl
 
 file-stores : (e : FileEffect ℕ) → Stores (file_effect e)
@@ -261,4 +260,3 @@ module _ (s : TracedSystem) (pid : ℕ) (p : TracedProcess) (id : ℕ) (l : Trac
 
   pub row-stores : stores_after (row_for s pid p id l).transition.changes ≡ true
   row-stores = kind-stores (row_for s pid p id l) (row-kind s pid p id l)
-

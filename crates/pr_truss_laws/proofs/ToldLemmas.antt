@@ -146,7 +146,9 @@ module _ (q : TracedProcess) (id : ℕ) (k : TracedLwp) where
   unfolding event_shown lwpstatus_of shown reason_shown what_shown call_in arguments_in
   entry-told call stops at = rw (stops, at) (ap (option_map (λ c. Entered c (arguments k.regs))) (named call))
 
-  exit-told : (call : Sysno) (args : List ℕ) (result : Res) → k.control.stop ≡ Some (stop.SysExit call) → k.phase ≡ phase.Exiting call args result → is_result result ≡ true → event_shown (lwpstatus_of q id k) ≡ option_map (Left call args) (result_told result)
+  pub exit-told : (call : Sysno) (args : List ℕ) (result : Res) → k.control.stop ≡ Some (stop.SysExit call)
+      → k.phase ≡ phase.Exiting call args result → is_result result ≡ true
+      → event_shown (lwpstatus_of q id k) ≡ option_map (Left call args) (result_told result)
   unfolding event_shown lwpstatus_of shown reason_shown what_shown call_in arguments_in result_in errno_in
   exit-told call args (Value v) stops at is = rw (stops, at) (ap (option_map (λ c. Left c args (Ok v))) (named call))
   exit-told call args (Error e) stops at is = rw (stops, at) (ap (option_map (λ c. Left c args (Err e))) (named call))
@@ -320,7 +322,7 @@ module _ (p : TracedProcess) (l : TracedLwp) where
         interrupted-tells woken call args (in_call-arguments woken call args since it)
     kind-tells row (kind.performs {woken = woken} {call = call} {args = args} {since = since} it goes none) =
         performed-tells woken call args since (call_effect s pid p id l since call args)
-            (in_call-arguments woken call args since it)
+        (in_call-arguments woken call args since it)
     kind-tells row (kind.returns {call = call} at none) = returned-tells call
     kind-tells row (kind.executes at none) =
         executed-tells (instruction_effect p.space p.control.areas l.regs) (effect-on l.regs p.space p.control.areas)

@@ -13,7 +13,7 @@ use Rattle.pr_num.specs.Messages.{spelling}
 use Rattle.pr_num.specs.declared.errnos.Errno.{Errno}
 use Rattle.pr_num.specs.declared.errnos.Errno.TheVariants.{Intr}
 use Rattle.pr_num.specs.declared.messages.Message.TheVariants as message
-use Rattle.pr_truss.specs.Messages.{message_call, all_modes, traced_entries, traced_exits}
+use Rattle.pr_truss.specs.Messages.{message_call, all_modes, traced_entries, traced_exits, traced_faults, traced_signals}
 use Rattle.pr_truss.specs.declared.reports.Report.{Report}
 use Rattle.pr_truss.specs.declared.reports.Report.TheVariants.{CannotStart, CannotTrace}
 use Rattle.pr_truss.specs.Openings.{pid_in}
@@ -42,7 +42,8 @@ calls_with o pid control lstatus until =
     ∷ call.Open pid 0 file.Mem Read ∷ message_call control (message.Unset all_modes)
     ∷ message_call control (message.Set rlc_mode) ∷ message_call control message.Stop
     ∷ call.CtlWait control until (spelling message.Stop []) ∷ call.Read lstatus 0 read_limit
-    ∷ message_call control (message.Strace o.signals) ∷ message_call control (message.Sfault o.faults)
+    ∷ message_call control (message.Strace (traced_signals o))
+    ∷ message_call control (message.Sfault (traced_faults o))
     ∷ message_call control (message.Sentry (traced_entries o)) ∷ message_call control (message.Sexit (traced_exits o))
     ∷ last_calls o control
 

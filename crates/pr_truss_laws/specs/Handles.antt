@@ -1,8 +1,8 @@
-use Rattle.std.specs.Prelude.{◌≡◌, ℕ, true, false, None, Some}
+use Rattle.std.specs.Prelude.{◌≡◌, ◌≢◌, ℕ, true, false, None, Some}
 use Rattle.pr_laws.specs.LastCloses.{IsReleased}
 use Rattle.pr_model.specs.Calls.{Answer, answer_to}
-use Rattle.pr_model.specs.Handles.{handle_of, has_writer, is_control}
-use Rattle.pr_model.specs.State.{TracedProcess, TracedState, live_process}
+use Rattle.pr_model.specs.Handles.{handle_of, has_writer, is_control, is_writable}
+use Rattle.pr_model.specs.State.{Places, TracedProcess, TracedState, live_process}
 use Rattle.pr_model.specs.declared.calls.Call.TheVariants.{Close}
 use Rattle.pr_model.specs.declared.handles.Held.{Held}
 use Rattle.pr_num.specs.Control.{has_flags, klc_mode, rlc_mode}
@@ -12,6 +12,11 @@ use Rattle.pr_num.specs.Control.{has_flags, klc_mode, rlc_mode}
 -- no handle is its own
 pub record HasNothingOpen (k : ℕ) (s : TracedState) : Type 0 where
   pub none : (number : ℕ) → handle_of s.opens k number ≡ None
+
+-- no controller but this one has a process open for writing
+pub record HasNoOtherWriter (k pid : ℕ) (opens : Places) : Type 0 where
+  pub none : (by number : ℕ) (h : Held) → by ≢ k → handle_of opens by number ≡ Some h → is_writable h.mode ≡ true
+      → h.pid ≢ pid
 
 -- What it leaves when it closes a control file in this state: nobody has the process open for writing then; and where the
 -- process lives and has PR_RLC without PR_KLC, nothing is traced or watched in it, and no lwp of it stands on an event,

@@ -50,8 +50,8 @@ fn move_after(lwp: &mut Lwp, request: &Request, outcome: Performed)
 fn move_in(process: &mut Proc, request: &Request, outcome: Performed)
     ensures { process.new ≡ with_lwp request.now.lwp (call_moved request.now outcome) process.old }
 {
-    if process.lwps.contains(request.lwp) {
-        move_after(process.lwps.get_mut(request.lwp), request, outcome);
+    if let Some(lwp) = process.lwps.find_mut(request.lwp) {
+        move_after(lwp, request, outcome);
     }
 }
 
@@ -60,8 +60,8 @@ fn move_in(process: &mut Proc, request: &Request, outcome: Performed)
 fn move_under(sys: &mut Sys, request: &Request, outcome: Performed)
     ensures { sys.new ≡ with_lwp_of request.now.pid request.now.lwp (call_moved request.now outcome) sys.old }
 {
-    if sys.processes.contains(request.pid) {
-        move_in(sys.processes.get_mut(request.pid), request, outcome);
+    if let Some(process) = sys.processes.find_mut(request.pid) {
+        move_in(process, request, outcome);
     }
 }
 

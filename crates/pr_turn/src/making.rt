@@ -30,7 +30,7 @@ pub struct Made {
     pub begun: bool,
 }
 
-/// A turn that met nothing, and one that met a point.
+/// A turn that met nothing.
 pub fn quiet(did: Did) -> Made
     ensures { result ≡ record { did = did; point = None; begun = false } }
 {
@@ -41,6 +41,7 @@ pub fn quiet(did: Did) -> Made
     }
 }
 
+/// A turn that met a point, at which its lwp may stop.
 pub fn at_point(did: Did, point: Point) -> Made
     ensures { result ≡ record { did = did; point = Some point; begun = false } }
 {

@@ -57,8 +57,8 @@ fn stop_lwp(lwp: &mut Lwp, point: Point)
 fn stop_under(lwps: &mut ById<Lwp>, id: u32, point: Point)
     ensures { lwps.new ≡ change_under id (stopped_at point) lwps.old }
 {
-    if lwps.contains(id) {
-        stop_lwp(lwps.get_mut(id), point);
+    if let Some(lwp) = lwps.find_mut(id) {
+        stop_lwp(lwp, point);
     }
 }
 
@@ -225,8 +225,8 @@ fn count_under(sys: &mut Sys, pid: u32, did: Did, begun: bool)
     requires { AllUsedAtMost (2 ^ 64 - 2) sys.old }
     ensures { sys.new ≡ with_process pid (with_counted did begun) sys.old }
 {
-    if sys.processes.contains(pid) {
-        count_in(sys.processes.get_mut(pid), did, begun);
+    if let Some(process) = sys.processes.find_mut(pid) {
+        count_in(process, did, begun);
     }
 }
 
@@ -235,8 +235,8 @@ fn count_under(sys: &mut Sys, pid: u32, did: Did, begun: bool)
 fn meet_under(sys: &mut Sys, pid: u32, id: u32, point: Option<Point>)
     ensures { sys.new ≡ with_process pid (after_meeting point id) sys.old }
 {
-    if sys.processes.contains(pid) {
-        meet(sys.processes.get_mut(pid), id, point);
+    if let Some(process) = sys.processes.find_mut(pid) {
+        meet(process, id, point);
     }
 }
 

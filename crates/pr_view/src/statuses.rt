@@ -13,7 +13,7 @@ use pr_num::layout::HEAP_BASE;
 use pr_num::limits::SIGNAL_COUNT;
 use pr_num::{AGENT, Errno, Flt, Info, Mapping, MappingKind, Sig, StopReason, Sysno};
 use pr_proc::{Lwp, Proc, Sys, arguments_in, disposition_of, has_agent, seen};
-use pr_rec::{Disposition, LwpFlags, LwpMarks, LwpStatus, ProcessFlags, Status, What};
+use pr_rec::{Disposition, LwpFlags, LwpMarks, LwpStatus, Status, What, flags_of_process};
 use pr_stop::{representative, representative_lwp, shown};
 
 fn reason_of_stop(stop: Stop) -> StopReason
@@ -175,14 +175,15 @@ fn disposition_in(dispositions: &[u64; SIGNAL_COUNT], current: Option<Current>) 
 fn lwp_flags(job: Option<Sig>, id: u32, lwp: &Lwp) -> LwpFlags
     ensures { result ≡ lwp_flags job id lwp.now }
 {
-    LwpFlags::of(LwpMarks {
+    LwpMarks {
         stopped: shown(job, lwp).is_some(),
         on_event: lwp.control.stop.is_some(),
         directed: lwp.control.directed,
         step: lwp.control.step,
         asleep: matches!(lwp.phase, Phase::Asleep { .. }),
         agent: id == AGENT,
-    })
+    }
+    .flags()
 }
 
 /// The status of an lwp of a process, with its id.
@@ -267,7 +268,7 @@ pub fn status_of(sys: &Sys, pid: u32, process: &Proc) -> Status
     ensures { result ≡ status_of sys.now pid process.now }
 {
     Status {
-        flags: ProcessFlags::of(process.control.modes, pid == 0),
+        flags: flags_of_process(process.control.modes, pid == 0),
         id: pid,
         parent: process.parent,
         lwps: process.lwps.len() as u64,

@@ -78,6 +78,7 @@ impl Areas {
         self.as_slice().len()
     }
 
+    /// Whether nothing is watched.
     pub fn is_empty(&self) -> bool
         ensures { result ≡ (length self.now == 0) }
     {

@@ -128,14 +128,15 @@ fn bytes_of(alloc: Global, words: &[u64]) -> Result<Vec<u8>, AllocError> {
 
 fn lwp() -> LwpStatus {
     LwpStatus {
-        flags: LwpFlags::of(LwpMarks {
+        flags: LwpMarks {
             stopped: true,
             on_event: true,
             directed: false,
             step: false,
             asleep: false,
             agent: false,
-        }),
+        }
+        .flags(),
         id: 4_294_967_295,
         why: Some(StopReason::SysEntry),
         what: What::of_call(Sysno::Write),
@@ -160,7 +161,7 @@ fn lwp() -> LwpStatus {
 
 fn status() -> Status {
     Status {
-        flags: ProcessFlags::of(Modes::FORK.union(Modes::ASYNC), false),
+        flags: flags_of_process(Modes::FORK.union(Modes::ASYNC), false),
         id: 7,
         parent: 1,
         lwps: 2,

@@ -48,6 +48,7 @@ fn wait_end_of(call: &Call) -> u64
 }
 
 impl Caller {
+    /// A controller that has made no call yet.
     pub fn new(controller: Controller) -> Caller
         ensures { result ≡ record { core = core_of controller; made = false } }
     {
@@ -154,6 +155,7 @@ impl Caller {
         self.controller.print(alloc, programs)
     }
 
+    /// The controller as it stands, with the replies that it was fed.
     pub fn controller(&self) -> &Controller
         ensures { core_of result.now ≡ self.now.core }
     {

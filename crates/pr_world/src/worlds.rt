@@ -86,6 +86,7 @@ impl<Q> World<Q> {
         self.callers.len() as u32
     }
 
+    /// The kernel that answers the calls.
     pub fn kernel(&self) -> &Q
         ensures { result.now ≡ self.now.kernel }
     {
@@ -99,6 +100,7 @@ impl<Q> World<Q> {
         self.kern
     }
 
+    /// The controller of a number, counted from 0.
     #[tactic(auto, using(crate::proofs::CallerLemmas::cores))]
     pub fn controller(&self, number: u32) -> &Controller
         requires { number < length self.now.controllers }

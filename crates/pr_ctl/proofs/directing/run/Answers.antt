@@ -9,5 +9,5 @@ pub returns : goal.returns
 unfolding message_answer
 returns c tail x found =
     c.run_with.ensures x found
-    ∙ run_answer-by_id c.args.sys.now c.args.pid x c.args.lwp c.run_flags.result c.args.length
-    ∙ ap (λ f. run_answer c.args.sys.now c.args.pid x (aim_at c.args.lwp) f c.args.length) c.run_flags.ensures
+    ∙ run_answer-by_id c.args.sys.now c.args.pid x c.args.lwp c.of_word.result c.args.length
+    ∙ ap (λ f. run_answer c.args.sys.now c.args.pid x (aim_at c.args.lwp) f c.args.length) c.of_word.ensures
