@@ -1,13 +1,10 @@
-//! Tests of histories, handles, processes, steps, runs and scenarios. They stand apart from what they test, which is so
-//! proved once.
+//! Tests of handles, lines, steps, runs and scenarios. They stand apart from what they test, which is so proved once.
 #![tactic(auto)]
 
 #[cfg(test)]
 mod handles;
 #[cfg(test)]
-mod histories;
-#[cfg(test)]
-mod processes;
+mod lines;
 #[cfg(test)]
 mod runs;
 #[cfg(test)]

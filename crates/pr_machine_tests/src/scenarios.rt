@@ -1,5 +1,5 @@
 use pr_model::{Call, Reply};
-use pr_num::{Bytes, Errno, Instruction, Reg, Sysno};
+use pr_num::{Bytes, Errno};
 use pr_scen::*;
 use std::alloc::Global;
 use std::process::Abort;
@@ -23,91 +23,6 @@ fn fault(rt: &(impl Abort + Alloc<A = Global>), text: &[u8]) -> ScenFault {
         Err(ScenRefusal::Fault(fault)) => fault,
         Err(ScenRefusal::NoMemory) => panic!(rt; "out of memory"),
         Ok(_) => panic!(rt; "read"),
-    }
-}
-
-const WORKED: &[u8] =
-    b"turns 100\nprogram p\nsys getpid\nset r1, 0\nsys exit\nend\nspawn p\nscript\nopen a 1 ctl w\nwrite a dstop\nwrite a wstop\nopen s 1 status r\nread s 104 32\nwrite a run\nclose a\nend\n";
-
-// The worked scenario: its parts, one by one.
-#[test]
-fn reads_the_worked_scenario(rt: HostRuntime) {
-    let scenario = scenario(&rt, WORKED);
-    assert_eq!(rt; scenario.turns, 100);
-    assert_eq!(rt; scenario.programs.len(), 1);
-    assert_eq!(rt; scenario.programs[0].name().as_slice(), b"p".as_slice());
-    let want = [
-        Instruction::Sys {
-            call: Sysno::Getpid,
-        },
-        Instruction::Set {
-            to: Reg::R1,
-            imm: 0,
-        },
-        Instruction::Sys { call: Sysno::Exit },
-    ];
-    assert_eq!(rt; scenario.programs[0].code(), want.as_slice());
-    assert_eq!(rt; scenario.spawns.as_slice(), [0].as_slice());
-    assert_eq!(rt; scenario.controllers.len(), 1);
-    assert_eq!(rt; scenario.schedule.len(), 0);
-}
-
-// Several programs, files, processes and scripts, and who moves first, between comments and in other spellings.
-#[test]
-fn reads_every_line(rt: HostRuntime) {
-    let scenario = scenario(
-        &rt,
-        b"# a comment\n\n \t,\nfile motd \"hi\\n\"\nscript\n # in a block\n\nopen\tx 1/1,lwpctl wx\nend\n,turns 0xFF\nprogram end\n#\nnop\nend\nprogram q\na:\njmp a\ntext t \"x\"\nend\nspawn q\nspawn end\nschedule c0*2 1/1 clock*0x3\nscript\nend",
-    );
-    assert_eq!(rt; scenario.turns, 255);
-    assert_eq!(rt; scenario.programs.len(), 2);
-    assert_eq!(rt; scenario.files.len(), 1);
-    assert_eq!(rt; scenario.files[0].1.as_slice(), b"hi\n".as_slice());
-    assert_eq!(rt; scenario.spawns.as_slice(), [1, 0].as_slice());
-    assert_eq!(rt; scenario.controllers.len(), 2);
-    assert_eq!(rt; scenario.schedule.len(), 6);
-}
-
-// A text, the line at which it is refused, and why: each kind, and kinds that meet.
-#[test]
-fn refuses_the_first_line(rt: HostRuntime) {
-    let rows: [(&[u8], u32, ScenKind); 19] = [
-        (b"#\n# caf\xc3\xa9", 2, ScenKind::NotAscii),
-        (b"turns 5\nspwan p", 2, ScenKind::UnknownWord),
-        (b"end", 1, ScenKind::UnknownWord),
-        (b"turns 0", 1, ScenKind::BadOperand),
-        (b"script\nwrite a frob\nend", 2, ScenKind::BadOperand),
-        (b"script\nend x", 2, ScenKind::BadOperand),
-        (b"spawn p\nprogram p\nnop\nend", 1, ScenKind::UnknownName),
-        (b"program p\nsys getpit\nend", 2, ScenKind::UnknownName),
-        (
-            b"script\nwrite a strace NO run x\nend",
-            2,
-            ScenKind::BadOperand,
-        ),
-        (b"program p\nend\nprogram p\nbad\nend", 3, ScenKind::Double),
-        (
-            b"program p\njmp a\nend\nturns 1\nturns 2",
-            2,
-            ScenKind::UnknownName,
-        ),
-        (b"turns 1\nturns 100001", 2, ScenKind::Double),
-        (b"turns 100001", 1, ScenKind::TooMany),
-        (b"schedule clock*100000 c0", 1, ScenKind::TooMany),
-        (
-            b"program p\nspace a 65536\nspace b 1\nend",
-            3,
-            ScenKind::TooBig,
-        ),
-        (b"turns 5\nscript\nbad\n", 2, ScenKind::NoEnd),
-        (b"tool ptree\nturns 0", 2, ScenKind::BadOperand),
-        (b"truss -t frob -z", 1, ScenKind::BadOperand),
-        (b"truss -t frob p", 1, ScenKind::UnknownName),
-    ];
-    for (text, line, kind) in rows {
-        let got = fault(&rt, text);
-        assert_eq!(rt; got.line, line, "at {text:?}");
-        assert_eq!(rt; got.kind, kind, "at {text:?}");
     }
 }
 
@@ -208,24 +123,6 @@ fn follow(
     }
     assert_eq!(rt; script.print(rt.alloc(), &[])?.as_slice().len(), 0);
     Ok(())
-}
-
-// The calls of the worked history.
-#[test]
-fn makes_the_worked_calls(rt: HostRuntime) -> Result<(), Fail> {
-    let rows = [
-        ([1, 1, 0, 0, 0], 1, 0),
-        ([3, 0, 0, 8, 2], 3, 8),
-        ([3, 0, 0, 8, 3], 4, 7),
-        ([4, 0, 7, 8, 3], 3, 8),
-        ([1, 1, 0, 0, 0], 1, 1),
-        ([5, 1, 104, 32, 0], 2, 0),
-        ([3, 0, 0, 16, 5], 3, 16),
-        ([2, 0, 0, 0, 0], 2, 0),
-        ([0; 5], 2, 0),
-        ([0; 5], 2, 0),
-    ];
-    follow(&rt, WORKED, &rows)
 }
 
 // A write of three messages of 8, 8 and 16 bytes goes on with its rest, and a refusal drops it; a name that is bound to

@@ -1,7 +1,5 @@
 //! What no clause says: that several workers make a run with `-j`, each at the gate that `serve` was given.
-use crate::calls::{
-    ALONE, ALONE_HISTORY, CUT, CUT_HISTORY, MUCH, STUCK, call, is_made_of, source, text_of,
-};
+use crate::calls::{MUCH, call, is_made_of, source, text_of};
 use pr_io::{Gate, MemSink, OpenGate};
 use pr_model::{Actor, History};
 use pr_num::NoMemory;
@@ -99,11 +97,6 @@ status 0
 
 /// How many controllers it has.
 const CONTROLLERS: u32 = 3;
-
-/// A process that goes round for good, and a script that waits for it to stop, as in
-/// `cases/programs/turns-cut-with-a-script.in`.
-const ENDLESS: &str =
-    "turns 11\nprogram p\nm:\njmp m\nend\nspawn p\nscript\nopen a 1 ctl w\nwrite a wstop\nend\n";
 
 // How often a worker looks whether the others have come.
 const LOOKS: u32 = 10_000_000;
@@ -230,66 +223,6 @@ fn all_workers_meet_at_the_gate(rt: HostRuntime) -> Result<(), Fail> {
         let passes = gate.passes_of_first(processors);
         assert!(rt; 0 < entries && entries <= passes);
         assert!(rt; is_legal(&rt, alloc, BUSY, &outcome.history)?);
-    }
-    Ok(())
-}
-
-// In any order of moves these runs end so, with as many entries. Where one lwp alone moves there is one order.
-#[test]
-fn threads_end_as_their_scenario_does(rt: HostRuntime) -> Result<(), Fail> {
-    let alloc = rt.alloc();
-    for (words, input, status, first, second, entries) in [
-        (
-            ["run", "-j", "1"].as_slice(),
-            ALONE,
-            0,
-            ALONE_HISTORY,
-            "status 0\n",
-            3,
-        ),
-        (
-            ["run", "-j", "16"].as_slice(),
-            CUT,
-            3,
-            CUT_HISTORY,
-            "status 3\n",
-            3,
-        ),
-        (
-            ["run", "-j", "2", "-q"].as_slice(),
-            ENDLESS,
-            3,
-            "",
-            "status 3\n",
-            11,
-        ),
-        (
-            ["run", "-q", "-j", "2"].as_slice(),
-            STUCK,
-            4,
-            "",
-            "status 4\n",
-            4,
-        ),
-        (
-            ["run", "-j", "2"].as_slice(),
-            "turns 5\nfrob\n",
-            2,
-            "line 2: ",
-            "UnknownWord\n",
-            0,
-        ),
-    ] {
-        let mut source = source(alloc, input.as_bytes(), &[])?;
-        let mut sink = MemSink::new(alloc, MUCH, Vec::new(alloc))?;
-        let outcome = call(&rt, alloc, words, &mut source, &mut sink, &OpenGate)?;
-        assert_eq!(rt; outcome.status, status, "{input}");
-        assert!(rt; is_made_of(sink.bytes(), first, second), "{input}");
-        assert_eq!(rt; outcome.history.len(), entries, "{input}");
-        assert!(rt;
-            status == 2 || is_legal(&rt, alloc, input, &outcome.history)?,
-            "{input}"
-        );
     }
     Ok(())
 }

@@ -1,9 +1,6 @@
 //! What no clause says: that ends are read and written where there is memory, what errors say, and that errors of readers
 //! and writers of std are counted.
-use pr_io::{
-    Failed, Gate, MemSink, MemSource, OpenGate, ReadEnd, Sink, Source, StdSink, StdSource,
-    read_all, write_all,
-};
+use pr_io::{Failed, MemSource, ReadEnd, Source, StdSink, StdSource, read_all, write_all};
 use pr_num::{Bytes, NoMemory};
 use std::alloc::Global;
 use std::io;
@@ -60,51 +57,6 @@ impl<W: Write> Write for Flaky<W> {
 }
 
 #[test]
-fn a_source_in_memory_gives_its_bytes_and_fails_where_listed(rt: HostRuntime) -> Result<(), Fail> {
-    let mut source = source(rt.alloc(), "abcde", &[1, 4])?;
-    let mut buf = [0; 2];
-    for (want, there) in [
-        (Ok(2), "ab"),
-        (Err(Failed), "ab"),
-        (Ok(2), "cd"),
-        (Ok(1), "ed"),
-        (Err(Failed), "ed"),
-        (Ok(0), "ed"),
-        (Ok(0), "ed"),
-    ] {
-        assert_eq!(rt; source.read(&mut buf), want);
-        assert_eq!(rt; buf.as_slice(), there.as_bytes());
-    }
-    assert_eq!(rt; source.left().len(), 0);
-    assert_eq!(rt; source.calls(), 7);
-    assert_eq!(rt; source.faults(), 2);
-    Ok(())
-}
-
-#[test]
-fn a_sink_in_memory_takes_what_it_has_room_for_and_fails_where_listed(
-    rt: HostRuntime,
-) -> Result<(), Fail> {
-    let mut sink = MemSink::new(rt.alloc(), 5, [1].to_vec(rt.alloc())?)?;
-    for (part, want) in [
-        ("abc", Ok(3)),
-        ("def", Err(Failed)),
-        ("def", Ok(2)),
-        ("f", Err(Failed)),
-    ] {
-        assert_eq!(rt; sink.write(part.as_bytes()), want);
-    }
-    assert_eq!(rt; sink.bytes(), b"abcde".as_slice());
-    assert_eq!(rt; sink.calls(), 4);
-    assert_eq!(rt; sink.faults(), 2);
-
-    let mut full = MemSink::new(rt.alloc(), 0, Vec::new(rt.alloc()))?;
-    assert_eq!(rt; full.write(b"a"), Err(Failed));
-    assert_eq!(rt; full.bytes().len(), 0);
-    Ok(())
-}
-
-#[test]
 fn all_is_read_up_to_the_limit(rt: HostRuntime) -> Result<(), Fail> {
     for (text, limit, fails, want, calls) in [
         ("", 0, [].as_slice(), Ok("".as_bytes()), 1),
@@ -121,28 +73,6 @@ fn all_is_read_up_to_the_limit(rt: HostRuntime) -> Result<(), Fail> {
         let got = read_all(rt.alloc(), &mut source, limit);
         assert_eq!(rt; answer(&got), want, "{text} at {limit}");
         assert_eq!(rt; source.calls(), calls, "{text} at {limit}");
-    }
-    Ok(())
-}
-
-#[test]
-fn all_is_written_or_a_prefix(rt: HostRuntime) -> Result<(), Fail> {
-    for (part, room, fails, want, there, calls) in [
-        ("abc", 5, [].as_slice(), Ok(()), "abc", 1),
-        ("abc", 3, [].as_slice(), Ok(()), "abc", 1),
-        ("abc", 2, [].as_slice(), Err(Failed), "ab", 2),
-        ("abc", 0, [].as_slice(), Err(Failed), "", 1),
-        ("abc", 5, [0].as_slice(), Err(Failed), "", 1),
-        ("", 0, [0].as_slice(), Ok(()), "", 0),
-    ] {
-        let mut sink = MemSink::new(rt.alloc(), room, fails.to_vec(rt.alloc())?)?;
-        assert_eq!(rt;
-            write_all(&mut sink, part.as_bytes()),
-            want,
-            "{part} in {room}"
-        );
-        assert_eq!(rt; sink.bytes(), there.as_bytes(), "{part} in {room}");
-        assert_eq!(rt; sink.calls(), calls, "{part} in {room}");
     }
     Ok(())
 }
@@ -193,25 +123,6 @@ fn a_writer_of_std_is_written_and_its_errors_are_counted(rt: HostRuntime) -> Res
     assert_eq!(rt; write_all(&mut full, b"abc"), Err(Failed));
     assert_eq!(rt; full.faults, 1);
     Ok(())
-}
-
-#[test]
-fn the_standard_streams_are_ends(rt: HostRuntime) {
-    let source = StdSource::new(rt.stdin());
-    assert_eq!(rt; source.faults, 0);
-    let mut sink = StdSink::new(rt.stdout());
-    assert_eq!(rt; write_all(&mut sink, b""), Ok(()));
-    assert_eq!(rt; sink.faults, 0);
-}
-
-fn pass_twice<G: Gate + Sync>(gate: &G) {
-    gate.pass(0, 0);
-    gate.pass(1, u64::MAX);
-}
-
-#[test]
-fn an_open_gate_is_shared_and_passed() {
-    pass_twice(&OpenGate);
 }
 
 #[test]

@@ -1,4 +1,4 @@
-//! Tests of words in bytes, tables, records, messages, programs and lines as text, of sources and sinks, and of the lock.
+//! Tests of words in bytes, tables, records, messages, programs and lines as text, and of sources and sinks.
 //! They stand apart from what they test, which is so proved once.
 #![tactic(auto)]
 

@@ -1,4 +1,5 @@
-//! What no clause says: each message as bytes written by hand, both ways, and bytes that are no message.
+//! What no clause says: messages as bytes written by hand, both ways, and bytes that are no message. Those that stand in
+//! a case are not here.
 use hex::FromHexError;
 use pr_msg::*;
 use std::alloc::{AllocError, Global};
@@ -8,10 +9,7 @@ use std::test::Fail;
 const REGS: [u64; 11] = [1, 2, 3, 4, 5, 6, 7, 8, 9, 10, u64::MAX];
 
 /// A message, the bytes after its operands, and its encoding, a word a text.
-const ENCODINGS: [(Message, &[u8], &[&str]); 24] = [
-    (Message::Stop, b"", &["0100000000000000"]),
-    (Message::Dstop, b"", &["0200000000000000"]),
-    (Message::Wstop, b"", &["0300000000000000"]),
+const ENCODINGS: [(Message, &[u8], &[&str]); 13] = [
     (
         Message::Twstop { ms: 1_000_000_000 },
         b"",
@@ -21,18 +19,6 @@ const ENCODINGS: [(Message, &[u8], &[&str]); 24] = [
         Message::Run { flags: 31 },
         b"",
         &["0500000000000000", "1f00000000000000"],
-    ),
-    (Message::Csig, b"", &["0600000000000000"]),
-    (Message::Cfault, b"", &["0700000000000000"]),
-    (
-        Message::Ssig { signal: 0 },
-        b"",
-        &["0800000000000000", "0000000000000000"],
-    ),
-    (
-        Message::Kill { signal: 9 },
-        b"",
-        &["0900000000000000", "0900000000000000"],
     ),
     (
         Message::Unkill { signal: 39 },
@@ -47,16 +33,6 @@ const ENCODINGS: [(Message, &[u8], &[&str]); 24] = [
         &["0b00000000000000", "ffffffff7f000000"],
     ),
     (
-        Message::Strace { signals: 1 },
-        b"",
-        &["0c00000000000000", "0100000000000000"],
-    ),
-    (
-        Message::Sfault { faults: 0xff },
-        b"",
-        &["0d00000000000000", "ff00000000000000"],
-    ),
-    (
         Message::Sentry { calls: 0x3fff_ffff },
         b"",
         &["0e00000000000000", "ffffff3f00000000"],
@@ -65,16 +41,6 @@ const ENCODINGS: [(Message, &[u8], &[&str]); 24] = [
         Message::Sexit { calls: 2 },
         b"",
         &["0f00000000000000", "0200000000000000"],
-    ),
-    (
-        Message::Set { modes: 15 },
-        b"",
-        &["1000000000000000", "0f00000000000000"],
-    ),
-    (
-        Message::Unset { modes: 2 },
-        b"",
-        &["1100000000000000", "0200000000000000"],
     ),
     (
         Message::Sreg { regs: REGS },
@@ -168,61 +134,9 @@ const ENCODINGS: [(Message, &[u8], &[&str]); 24] = [
 ];
 
 /// Bytes that are no message, in parts, and why.
-const FAULTS: [(&[&str], MsgFault); 24] = [
+const FAULTS: [(&[&str], MsgFault); 5] = [
     (&[], MsgFault::Short),
-    (&["00000000000000"], MsgFault::Short),
-    (&["0000000000000000"], MsgFault::UnknownOp),
-    (&["1800000000000000"], MsgFault::UnknownOp),
-    (&["0200000000000001"], MsgFault::UnknownOp),
-    (&["0500000000000000"], MsgFault::Short),
-    // PCRUN 32, PCSET 16, PCTWSTOP 1,000,000,001, PCSSIG 40, PCKILL 0, PCUNKILL 9, PCSTRACE with bit 39
-    (
-        &["0500000000000000", "2000000000000000"],
-        MsgFault::BadOperand { word: 1 },
-    ),
-    (
-        &["1000000000000000", "1000000000000000"],
-        MsgFault::BadOperand { word: 1 },
-    ),
-    (
-        &["0400000000000000", "01ca9a3b00000000"],
-        MsgFault::BadOperand { word: 1 },
-    ),
-    (
-        &["0800000000000000", "2800000000000000"],
-        MsgFault::BadOperand { word: 1 },
-    ),
-    (
-        &["0900000000000000", "0000000000000000"],
-        MsgFault::BadOperand { word: 1 },
-    ),
-    (
-        &["0a00000000000000", "0900000000000000"],
-        MsgFault::BadOperand { word: 1 },
-    ),
-    (
-        &["0c00000000000000", "0000000080000000"],
-        MsgFault::BadOperand { word: 1 },
-    ),
-    // PCWATCH of size 0 with flags 1, beyond 2^64, of size 0 with flags 16, with flags 8, with flags 16
-    (
-        &[
-            "1400000000000000",
-            "0000000000000000",
-            "0000000000000000",
-            "0100000000000000",
-        ],
-        MsgFault::BadOperand { word: 2 },
-    ),
-    (
-        &[
-            "1400000000000000",
-            "f8ffffffffffffff",
-            "1000000000000000",
-            "0100000000000000",
-        ],
-        MsgFault::BadOperand { word: 2 },
-    ),
+    // PCWATCH of size 0 with flags 16
     (
         &[
             "1400000000000000",
@@ -232,37 +146,7 @@ const FAULTS: [(&[&str], MsgFault); 24] = [
         ],
         MsgFault::BadOperand { word: 2 },
     ),
-    (
-        &[
-            "1400000000000000",
-            "0000000000000000",
-            "0100000000000000",
-            "0800000000000000",
-        ],
-        MsgFault::BadOperand { word: 3 },
-    ),
-    (
-        &[
-            "1400000000000000",
-            "0000000000000000",
-            "0100000000000000",
-            "1000000000000000",
-        ],
-        MsgFault::BadOperand { word: 3 },
-    ),
-    // PCREAD of no byte and of 4,097, PCWRITE of no byte, without its byte, without its padding, with other padding
-    (
-        &["1600000000000000", "0000000000000000", "0000000000000000"],
-        MsgFault::BadOperand { word: 2 },
-    ),
-    (
-        &["1600000000000000", "0000000000000000", "0110000000000000"],
-        MsgFault::BadOperand { word: 2 },
-    ),
-    (
-        &["1700000000000000", "0000000000000000", "0000000000000000"],
-        MsgFault::BadOperand { word: 2 },
-    ),
+    // PCWRITE without its byte, without its padding, with other padding
     (
         &["1700000000000000", "0000000000000000", "0100000000000000"],
         MsgFault::Short,
@@ -297,7 +181,7 @@ fn bytes_of(alloc: Global, texts: &[&str]) -> Result<Vec<u8>, FromHexError> {
 }
 
 #[test]
-fn encodes_and_reads_each_message(rt: HostRuntime) -> Result<(), Fail> {
+fn encodes_and_reads_messages(rt: HostRuntime) -> Result<(), Fail> {
     for (message, tail, texts) in ENCODINGS {
         let mut bytes = bytes_of(rt.alloc(), texts)?;
         assert!(rt; tail.len() as u64 == tail_length(&message));
@@ -306,7 +190,6 @@ fn encodes_and_reads_each_message(rt: HostRuntime) -> Result<(), Fail> {
             bytes.as_slice()
         );
         let len = bytes.len();
-        assert_eq!(rt; decode_one(&bytes), Ok((message, len)));
         bytes.push(0xff)?;
         assert_eq!(rt; decode_one(&bytes), Ok((message, len)));
     }
@@ -320,14 +203,4 @@ fn refuses_what_is_no_message(rt: HostRuntime) -> Result<(), Fail> {
         assert_eq!(rt; decode_one(&bytes), Err(fault));
     }
     Ok(())
-}
-
-#[test]
-fn names_the_run_flags(rt: HostRuntime) {
-    assert_eq!(rt; RunFlags::from_word(31).map(RunFlags::word), Some(31));
-    assert_eq!(rt; RunFlags::from_word(32), None);
-    let both = RunFlags::STEP.union(RunFlags::CSIG);
-    assert_eq!(rt; both.word(), 5);
-    assert!(rt; both.has(RunFlags::STEP) && !both.has(RunFlags::STOP));
-    assert_eq!(rt; both.minus(RunFlags::CSIG), RunFlags::STEP);
 }

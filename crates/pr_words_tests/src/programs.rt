@@ -23,17 +23,9 @@ fn program(rt: &(impl Abort + Alloc<A = Global>), text: &[u8]) -> Program {
     }
 }
 
-fn fault(rt: &(impl Abort + Alloc<A = Global>), text: &[u8]) -> AsmFault {
-    match read(rt, text) {
-        Err(AsmRefusal::Fault(fault)) => fault,
-        Err(AsmRefusal::NoMemory) => panic!(rt; "out of memory"),
-        Ok(_) => panic!(rt; "read"),
-    }
-}
-
 // Two instructions, with a label after them.
 #[test]
-fn shows_its_parts(rt: HostRuntime) -> Result<(), Fail> {
+fn has_its_instructions_as_its_text(rt: HostRuntime) -> Result<(), Fail> {
     let code = vec![in rt.alloc();
         Instruction::Set {
             to: Reg::R3,
@@ -44,15 +36,6 @@ fn shows_its_parts(rt: HostRuntime) -> Result<(), Fail> {
     let data = vec![in rt.alloc(); 7u8]?;
     let labels = vec![in rt.alloc(); Label::new(name(&rt, b"end"), 2)]?;
     let program = Program::new(name(&rt, b"p"), code, data, labels);
-    assert_eq!(rt; program.name().as_slice(), b"p".as_slice());
-    assert_eq!(rt; program.code().len(), 2);
-    assert_eq!(rt; program.data(), [7].as_slice());
-    assert_eq!(rt; program.labels()[0].name(), b"end".as_slice());
-    assert_eq!(rt; program.labels()[0].place(), 2);
-    assert_eq!(rt;
-        program.encode(1),
-        [19, 0, 0, 0, 0, 0, 0, 0, 2, 0, 0, 0, 0, 0, 0, 0]
-    );
     let text = program.text(rt.alloc())?;
     let mut want = [0; 32];
     want[..16].copy_from_slice(&[3, 3, 0, 0, 0, 0, 0, 0, 2, 1, 0, 0, 0, 0, 0, 0]);
@@ -116,74 +99,6 @@ fn places_names(rt: HostRuntime) {
     assert_eq!(rt; program.labels().len(), 2);
 }
 
-#[test]
-fn names_the_first_fault(rt: HostRuntime) {
-    let rows: [(&[u8], u32, AsmKind); 42] = [
-        (b"nap", 1, AsmKind::UnknownWord),
-        (b"9a:", 1, AsmKind::UnknownWord),
-        (b":", 1, AsmKind::UnknownWord),
-        (b"a", 1, AsmKind::UnknownWord),
-        (b"Nop", 1, AsmKind::UnknownWord),
-        (b"\"nop\"", 1, AsmKind::UnknownWord),
-        (b"nop\r", 1, AsmKind::UnknownWord),
-        (b"a: nop", 1, AsmKind::BadOperand),
-        (b"nop r1", 1, AsmKind::BadOperand),
-        (b"mov r1", 1, AsmKind::BadOperand),
-        (b"mov r1, r2, r3", 1, AsmKind::BadOperand),
-        (b"mov r1, r8", 1, AsmKind::BadOperand),
-        (b"mov r1, a\na:", 1, AsmKind::BadOperand),
-        (b"set a, 1\na:", 1, AsmKind::BadOperand),
-        (b"set r1, 18446744073709551616", 1, AsmKind::BadOperand),
-        (b"set r1, 0x10000000000000000", 1, AsmKind::BadOperand),
-        (b"set r1, 01", 1, AsmKind::BadOperand),
-        (b"set r1, -1", 1, AsmKind::BadOperand),
-        (b"set r1, 0x", 1, AsmKind::BadOperand),
-        (b"set r1, 0xg", 1, AsmKind::BadOperand),
-        (b"set r1, 9a", 1, AsmKind::BadOperand),
-        (b"set r1, \"a\"", 1, AsmKind::BadOperand),
-        (b"sys 2", 1, AsmKind::BadOperand),
-        (b"sys", 1, AsmKind::BadOperand),
-        (b"sys getpit", 1, AsmKind::UnknownName),
-        (b"sys sigqueue\nsys 30", 2, AsmKind::BadOperand),
-        (b"nop\nsys fork fork", 2, AsmKind::BadOperand),
-        (b"jmp a\na: nop", 1, AsmKind::UnknownName),
-        (b"jmp a\nb:\nb:", 1, AsmKind::UnknownName),
-        (b"jmp a\na:\na:\nnap", 3, AsmKind::Double),
-        (b"a:\nspace a 1", 2, AsmKind::Double),
-        (b"text a \"\"\ntext a \"x", 2, AsmKind::BadOperand),
-        (b"text a x", 1, AsmKind::BadOperand),
-        (b"text a \"x", 1, AsmKind::BadOperand),
-        (b"text a \"x\\\"", 1, AsmKind::BadOperand),
-        (b"text a \"\\t\"", 1, AsmKind::BadOperand),
-        (b"text a \"\\x4\"", 1, AsmKind::BadOperand),
-        (b"text a \"x\"y", 1, AsmKind::BadOperand),
-        (b"text 9 \"x\"", 1, AsmKind::BadOperand),
-        (b"space a 0", 1, AsmKind::BadOperand),
-        (b"space a 65537", 1, AsmKind::BadOperand),
-        (b"space a 65529\nspace b 1", 2, AsmKind::TooBig),
-    ];
-    for (text, line, kind) in rows {
-        assert_eq!(rt; fault(&rt, text), AsmFault { line, kind });
-    }
-}
-
-// Where several kinds meet on one line, the first in the order of their table is named.
-#[test]
-fn names_the_first_kind(rt: HostRuntime) {
-    let rows: [(&[u8], u32, AsmKind); 7] = [
-        (b"nap r9", 1, AsmKind::UnknownWord),
-        (b"jmp nowhere, r1", 1, AsmKind::BadOperand),
-        (b"sys getpit fork", 1, AsmKind::BadOperand),
-        (b"a:\na: nop", 2, AsmKind::BadOperand),
-        (b"a:\nspace a 0", 2, AsmKind::BadOperand),
-        (b"space a 65536\nspace a 1", 2, AsmKind::Double),
-        (b"space a 65536\ntext a \"\"", 2, AsmKind::Double),
-    ];
-    for (text, line, kind) in rows {
-        assert_eq!(rt; fault(&rt, text), AsmFault { line, kind });
-    }
-}
-
 // The limits: 65,536 bytes of data, where data begins at a multiple of 8, and 4,096 instructions.
 #[test]
 fn keeps_to_its_limits(rt: HostRuntime) -> Result<(), Fail> {
@@ -191,13 +106,6 @@ fn keeps_to_its_limits(rt: HostRuntime) -> Result<(), Fail> {
     assert_eq!(rt;
         program(&rt, b"space a 65528\nspace b 8").data().len(),
         65_536
-    );
-    assert_eq!(rt;
-        fault(&rt, b"space a 65536\ntext b \"\""),
-        AsmFault {
-            line: 2,
-            kind: AsmKind::TooBig
-        }
     );
     let full = program(&rt, &full_text(rt.alloc())?);
     assert_eq!(rt; full.code().len(), 4096);
@@ -213,29 +121,6 @@ fn full_text(alloc: Global) -> Result<Vec<u8>, AllocError> {
     }
     text.extend_from_slice(b"z:\n")?;
     Ok(text)
-}
-
-// For what the line below that program is refused, where others may stand below it.
-fn kind_below_full(
-    rt: &(impl Abort + Alloc<A = Global>),
-    lines: &[u8],
-) -> Result<AsmKind, AllocError> {
-    let mut text = full_text(rt.alloc())?;
-    text.extend_from_slice(lines)?;
-    let fault = fault(rt, &text);
-    assert_eq!(rt; fault.line, 4098);
-    Ok(fault.kind)
-}
-
-// One instruction past the limit: what else is wrong with its line is named first, and what stands below it is not.
-#[test]
-fn names_the_first_kind_past_a_limit(rt: HostRuntime) -> Result<(), Fail> {
-    assert_eq!(rt; kind_below_full(&rt, b"nop")?, AsmKind::TooBig);
-    assert_eq!(rt; kind_below_full(&rt, b"jmp nowhere")?, AsmKind::UnknownName);
-    assert_eq!(rt; kind_below_full(&rt, b"nop r1")?, AsmKind::BadOperand);
-    assert_eq!(rt; kind_below_full(&rt, b"nap")?, AsmKind::UnknownWord);
-    assert_eq!(rt; kind_below_full(&rt, b"nop\nz:")?, AsmKind::TooBig);
-    Ok(())
 }
 
 // The last label at or below an address; of two at one address the later one.

@@ -183,11 +183,6 @@ fn a_status_is_its_words(rt: HostRuntime) -> Result<(), Fail> {
     let bytes = bytes_of(rt.alloc(), &STATUS)?;
     assert_eq!(rt; status().encode().as_slice(), bytes.as_slice());
     assert_eq!(rt; Status::decode(&bytes), Ok(status()));
-    assert_eq!(rt; bytes.len(), 368);
-    assert_eq!(rt; Status::decode(&[0; 367]), Err(RecFault::Short));
-    assert_eq!(rt; LwpStatus::decode(&bytes[104..]), Ok(lwp()));
-    assert_eq!(rt; LwpStatus::decode(&[0; 263]), Err(RecFault::Short));
-    assert_eq!(rt; lwp().encode().as_slice(), &bytes[104..]);
     Ok(())
 }
 
@@ -270,7 +265,6 @@ fn an_old_status_is_upgraded(rt: HostRuntime) -> Result<(), Fail> {
         assert_eq!(rt; upgraded.map(|_| ()), want, "word {place}");
         if let Ok(new) = upgraded {
             assert_eq!(rt; new, today);
-            assert!(rt; LwpStatus::decode(&new).is_ok());
         }
     }
     Ok(())
@@ -285,12 +279,11 @@ fn a_list_of_lwps_begins_with_their_number(rt: HostRuntime) -> Result<(), Fail> 
     two.extend_from_slice(&[0; 264])?;
     let written = write_lstatus(alloc, &[lwp(), LwpStatus::none()])?;
     assert_eq!(rt; written.as_slice(), two.as_slice());
-    assert!(rt; written.as_slice().starts_with(&[2, 0, 0, 0, 0, 0, 0, 0, 3]));
     Ok(())
 }
 
 #[test]
-fn mappings_and_areas_stand_one_after_the_other(rt: HostRuntime) -> Result<(), Fail> {
+fn mappings_and_areas_are_their_bytes(rt: HostRuntime) -> Result<(), Fail> {
     let alloc = rt.alloc();
     assert_eq!(rt;
         write_map(alloc, &[mapping()])?.as_slice(),
@@ -302,20 +295,12 @@ fn mappings_and_areas_stand_one_after_the_other(rt: HostRuntime) -> Result<(), F
         flags: WatchFlags::WRITE.union(WatchFlags::TRAPAFTER),
     };
     assert_eq!(rt; write_watch(alloc, &[area])?.as_slice(), AREA.as_slice());
-    let mut two = AREA.to_vec(alloc)?;
-    two.extend_from_slice(&AREA)?;
-    assert_eq!(rt;
-        write_watch(alloc, &[area, area])?.as_slice(),
-        two.as_slice()
-    );
     Ok(())
 }
 
 #[test]
 fn descriptors_and_processes_are_their_bytes(rt: HostRuntime) -> Result<(), Fail> {
     let alloc = rt.alloc();
-    assert_eq!(rt; Descriptor::from_number(64), None);
-    assert_eq!(rt; What::from_number(40), None);
     let descriptor = FdEntry {
         descriptor: Descriptor::at(63),
         kind: FdKind::of(Target::PipeWriter(2)),

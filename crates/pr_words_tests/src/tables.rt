@@ -1,9 +1,7 @@
 use pr_num::{
-    ArgKind, ById, Bytes, DefAct, Errno, Flt, FltSet, Handles, Modes, Name, NoMemory, Prot, Sig,
-    SigSet, StopReason, SysSet, Sysno, Table, WatchFlags,
+    ArgKind, DefAct, Errno, Flt, FltSet, Modes, Name, Prot, Sig, SigSet, StopReason, SysSet, Sysno,
+    WatchFlags,
 };
-use std::alloc::Global;
-use std::test::Fail;
 
 // Some of Solaris 10, signal.h(3HEAD), and the first and last of the signals that queue.
 static SIGNALS: [(u64, &str, DefAct); 9] = [
@@ -92,66 +90,4 @@ fn names_of_1_to_31_bytes(rt: HostRuntime) {
     assert!(rt; Name::from_slice(&long[1..]).is_some());
     let name = Name::from_slice(b"sched").expect(&rt, "a name");
     assert!(rt; name.as_slice() == b"sched".as_slice());
-}
-
-#[test]
-fn byte_strings_and_lists_of_handles(rt: HostRuntime) -> Result<(), Fail> {
-    let bytes = Bytes::from_vec([7u8, 8].to_vec(rt.alloc())?);
-    assert!(rt; bytes.copy(rt.alloc())?.as_slice() == [7, 8].as_slice());
-    assert!(rt; bytes.into_vec().as_slice() == [7, 8].as_slice());
-    let handles = Handles::from_vec([1u32, 4_294_967_295].to_vec(rt.alloc())?);
-    assert!(rt; handles.copy(rt.alloc())?.as_slice() == [1, 4_294_967_295].as_slice());
-    Ok(())
-}
-
-/// Things under the ids 3, 5 and 4, which were added in this order.
-fn things(alloc: Global) -> Result<ById<u64>, NoMemory> {
-    let mut things = ById::new(alloc);
-    for id in [3, 5, 4] {
-        if !things.contains(id) {
-            things.insert(id, id as u64 * 10)?;
-        }
-    }
-    Ok(things)
-}
-
-#[test]
-fn things_stand_by_rising_ids(rt: HostRuntime) -> Result<(), Fail> {
-    let mut things = things(rt.alloc())?;
-    assert!(rt; things.as_slice() == [(3, 30), (4, 40), (5, 50)].as_slice());
-    assert!(rt; things.place_after(Some(3)) == 1 && things.place_after(Some(5)) == things.len());
-    assert!(rt; things.get_u64(4).copied() == Some(40) && things.get_u64((1 << 32) + 4).is_none());
-    assert!(rt; things.contains(4));
-    *things.get_mut(4) = 40;
-    if let Some(thing) = things.find_mut(4) {
-        *thing = 41;
-    }
-    assert!(rt; things.find_mut(6).is_none());
-    assert!(rt; things.contains(3));
-    assert!(rt; things.remove(3) == 30);
-    assert!(rt; things.as_slice() == [(4, 41), (5, 50)].as_slice());
-    things.clear();
-    assert!(rt; things.is_empty());
-    Ok(())
-}
-
-#[test]
-fn a_table_grows_at_its_end(rt: HostRuntime) -> Result<(), Fail> {
-    let mut table = Table::new(rt.alloc());
-    assert!(rt; table.is_empty());
-    for number in [3u32, 5, 4] {
-        table.push(number)?;
-    }
-    assert!(rt; table.len() == 3);
-    assert!(rt; *table.at(1) == 5);
-    assert!(rt; table.iter().max() == Some(&5));
-    Ok(())
-}
-
-#[test]
-fn a_table_of_a_vector(rt: HostRuntime) -> Result<(), Fail> {
-    let table = Table::from_vec([7u8, 8].to_vec(rt.alloc())?);
-    assert!(rt; table.as_slice() == [7, 8].as_slice());
-    assert!(rt; table.into_vec().as_slice() == [7, 8].as_slice());
-    Ok(())
 }

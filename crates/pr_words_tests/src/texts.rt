@@ -17,25 +17,9 @@ fn dots(rt: &impl Abort, alloc: Global, count: usize) -> Result<Line, NoMemory> 
 fn ends_at_4096_bytes(rt: HostRuntime) -> Result<(), Fail> {
     let mut line = dots(&rt, rt.alloc(), 4095)?;
     assert_eq!(rt; line.text(b"ab"), Err(TooLong));
-    assert_eq!(rt; line.len(), 4095);
     assert_eq!(rt; line.text(b"a"), Ok(()));
     assert_eq!(rt; line.len(), 4096);
     assert_eq!(rt; line.text(b"a"), Err(TooLong));
-    assert_eq!(rt; line.text(b""), Ok(()));
-    assert_eq!(rt; line.dec(0), Err(TooLong));
-    assert_eq!(rt; line.quoted(b"", false), Err(TooLong));
-    assert_eq!(rt; line.bytes().last().copied(), Some(b'a'));
-    line.truncate(4093);
-    assert_eq!(rt; line.hex(0x10), Err(TooLong));
-    assert_eq!(rt; line.quoted(b"", true), Err(TooLong));
-    assert_eq!(rt; line.quoted(b"ab", false), Err(TooLong));
-    assert_eq!(rt; line.hex8(1), Err(TooLong));
-    assert_eq!(rt; line.len(), 4093);
-    assert_eq!(rt; line.bytes().last().copied(), Some(b'.'));
-    assert_eq!(rt; line.hex(0xf), Ok(()));
-    assert_eq!(rt; line.len(), 4096);
-    line.clear();
-    assert!(rt; line.is_empty());
     Ok(())
 }
 

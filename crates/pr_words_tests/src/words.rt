@@ -1,31 +1,8 @@
-use pr_codec::{Short, push_word, put, put_words, read_words, word};
+use pr_codec::{Short, push_word, put_words, read_words};
 use std::test::Fail;
 
 // 0x0807060504030201 and then 0xff, least byte first.
 const BYTES: [u8; 16] = [1, 2, 3, 4, 5, 6, 7, 8, 0xff, 0, 0, 0, 0, 0, 0, 0];
-
-#[test]
-fn reads_the_least_byte_first(rt: HostRuntime) {
-    for (at, want) in [
-        (0, Ok(0x0807_0605_0403_0201)),
-        (1, Ok(0xff08_0706_0504_0302)),
-        (8, Ok(0xff)),
-        (9, Err(Short { at: 9 })),
-        (16, Err(Short { at: 16 })),
-        (17, Err(Short { at: 17 })),
-        (usize::MAX, Err(Short { at: usize::MAX })),
-    ] {
-        assert_eq!(rt; word(&BYTES, at), want, "at {at}");
-    }
-    assert_eq!(rt; word(&BYTES[..7], 0), Err(Short { at: 0 }));
-}
-
-#[test]
-fn writes_eight_bytes_alone(rt: HostRuntime) {
-    let mut bytes = [9; 10];
-    put(&mut bytes, 1, 0x0102_0304_0506_0708);
-    assert_eq!(rt; bytes, [9, 8, 7, 6, 5, 4, 3, 2, 1, 9]);
-}
 
 #[test]
 fn adds_a_word_behind_others(rt: HostRuntime) -> Result<(), Fail> {
