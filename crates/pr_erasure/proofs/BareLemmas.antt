@@ -1,7 +1,7 @@
 use Rattle.std.proofs.Common.{◌≡◌, ℕ, List, [], ◌∷◌, refl, sym, ◌∙◌, ap}
 use Rattle.pr_num.specs.ById.{map_each}
 use Rattle.pr_num.proofs.ByIdLaws.{map_each-map_each}
-use Rattle.pr_model.specs.Erasure.{BareLwp, BareProcess, BareSystem, bare_lwp, bare_process, bare_system, erased_lwp, erased_pending, erased_phase, erased_process, erased_system}
+use Rattle.pr_model.specs.Erasure.{UncontrolledLwp, UncontrolledProcess, UncontrolledSystem, uncontrolled_lwp, uncontrolled_process, uncontrolled_system, erased_lwp, erased_pending, erased_phase, erased_process, erased_system}
 use Rattle.pr_model.specs.Machines.{UntracedLwp, UntracedProcess, UntracedSystem}
 use Rattle.pr_model.specs.State.{TracedProcess, TracedSystem}
 
@@ -9,7 +9,7 @@ use Rattle.pr_model.specs.State.{TracedProcess, TracedSystem}
 -- is the same to programs.
 
 -- what programs see of an lwp, of a process and of a system on which nothing is set
-seen_lwp : BareLwp → UntracedLwp
+seen_lwp : UncontrolledLwp → UntracedLwp
 seen_lwp l = record {
   regs = l.regs;
   held = l.held;
@@ -21,7 +21,7 @@ seen_lwp l = record {
   control = tt;
 }
 
-seen_process : BareProcess → UntracedProcess
+seen_process : UncontrolledProcess → UntracedProcess
 seen_process p = record {
   parent = p.parent;
   program = p.program;
@@ -37,7 +37,7 @@ seen_process p = record {
   control = tt;
 }
 
-seen_system : BareSystem → UntracedSystem
+seen_system : UncontrolledSystem → UntracedSystem
 seen_system s = record {
   programs = s.programs;
   clock = s.clock;
@@ -46,20 +46,20 @@ seen_system s = record {
   processes = map_each seen_process s.processes;
 }
 
-seen_process-bare : (p : TracedProcess) → seen_process (bare_process p) ≡ erased_process p
-unfolding seen_process seen_lwp bare_process bare_lwp erased_process erased_lwp
-seen_process-bare p = ap (λ ls. record (erased_process p) { lwps = ls }) (map_each-map_each bare_lwp seen_lwp p.lwps)
+seen_process-bare : (p : TracedProcess) → seen_process (uncontrolled_process p) ≡ erased_process p
+unfolding seen_process seen_lwp uncontrolled_process uncontrolled_lwp erased_process erased_lwp
+seen_process-bare p = ap (λ ls. record (erased_process p) { lwps = ls }) (map_each-map_each uncontrolled_lwp seen_lwp p.lwps)
 
-seen_system-bare : (s : TracedSystem) → seen_system (bare_system s) ≡ erased_system s
-unfolding seen_system bare_system erased_system
-seen_system-bare s = ap (λ ps. record (erased_system s) { processes = ps }) (map_each-map_each bare_process seen_process s.processes ∙ each s.processes)
+seen_system-bare : (s : TracedSystem) → seen_system (uncontrolled_system s) ≡ erased_system s
+unfolding seen_system uncontrolled_system erased_system
+seen_system-bare s = ap (λ ps. record (erased_system s) { processes = ps }) (map_each-map_each uncontrolled_process seen_process s.processes ∙ each s.processes)
   where
-    each : (es : List (ℕ × TracedProcess)) → map_each (λ p. seen_process (bare_process p)) es ≡ map_each erased_process es
+    each : (es : List (ℕ × TracedProcess)) → map_each (λ p. seen_process (uncontrolled_process p)) es ≡ map_each erased_process es
     each [] = refl
     each (e ∷ es) = rw (seen_process-bare e.1) (ap (λ ds. (e.0, erased_process e.1) ∷ ds) (each es))
 
-pub same-process : (p q : TracedProcess) → bare_process p ≡ bare_process q → erased_process p ≡ erased_process q
+pub same-process : (p q : TracedProcess) → uncontrolled_process p ≡ uncontrolled_process q → erased_process p ≡ erased_process q
 same-process p q same = sym (seen_process-bare p) ∙ ap seen_process same ∙ seen_process-bare q
 
-pub same-system : (s t : TracedSystem) → bare_system s ≡ bare_system t → erased_system s ≡ erased_system t
+pub same-system : (s t : TracedSystem) → uncontrolled_system s ≡ uncontrolled_system t → erased_system s ≡ erased_system t
 same-system s t same = sym (seen_system-bare s) ∙ ap seen_system same ∙ seen_system-bare t

@@ -21,7 +21,7 @@ use Rattle.pr_model.specs.Machines.{traced}
 use Rattle.pr_model.specs.UntracedSteps.{steps_of_call}
 use Rattle.pr_model.specs.Calls.{Answer, refused, opened, open_unless, open_answer, close_held, close_answer, controlled, interrupted_answer, is_interrupted, waited, ready_answer, is_polled_ready, poll_answer, until_answer, interrupt_answer, spawn_unless, spawn_found, spawn_answer, sent_reply, kill_answer, answer_to}
 use Rattle.pr_model.specs.ControlMessages.{aim_of, system_refusal, tail_of, target_of, control_handle, decoded_answer, targeted_answer, held_answer, control_answer, wait_reply}
-use Rattle.pr_model.specs.Erasure.{bare_lwp, bare_process, bare_system, erased_system}
+use Rattle.pr_model.specs.Erasure.{uncontrolled_lwp, uncontrolled_process, uncontrolled_system, erased_system}
 use Rattle.pr_model.specs.Handles.{handle_of, open_refusal, with_opened, was_last_writer, released_lwp, released_control, released, with_last_close, after_last_close, with_closed}
 use Rattle.pr_model.specs.Messages.{Controlled, Aim, at_lwp, at_process, found_at, run_found, with_aim_directed, run_answer, with_control, tracing_signals, tracing_faults, tracing_entries, tracing_exits, with_modes, without_modes, read_of, mapped_bytes, read_answer, message_answer, refused as message_refused}
 use Rattle.pr_model.specs.Passive.{is_passive_message, is_passive_write, is_passive_call}
@@ -31,7 +31,7 @@ use Rattle.pr_model.specs.SignalCalls.{Sending, refuses, sends_nothing, sends, s
 use Rattle.pr_model.specs.Spawning.{spawn_refusal}
 use Rattle.pr_model.specs.UntracedMachine.{UntracedRun, ends_here, nothing, it}
 use Rattle.pr_laws.proofs.RefusalLemmas.{control-leaves, refused-system}
-use Rattle.pr_erasure.proofs.OutsideLemmas.{Follows, follows-nothing, spawn-follows, kill-follows, refused_sent}
+use Rattle.pr_erasure.proofs.OutsideLemmas.{StepsFollow, follows-nothing, spawn-follows, kill-follows, refused_sent}
 use Rattle.pr_model.specs.Running.{let_go, run_lwp, lwp_run_refused, with_directive, with_one_run, with_cleared, with_aborted, with_flags_on, without_directive, with_request, without_request, was_requested, if_all_requested, shows_run, run_refused, with_representative_run, with_all_run, with_run}
 use Rattle.pr_model.specs.State.{Places, TracedControl, TracedLwp, TracedProcess, TracedSystem, TracedState, live_process, lwp_of, with_process, with_lwp, with_system, process_of}
 use Rattle.pr_model.specs.Stops.{has_event_stop, directed, with_all_directed, representative}
@@ -70,20 +70,20 @@ active e = absurd (clash e)
 
 -- a change of the system in what controllers set alone, that leaves it untouched
 pub record Hides (s t : TracedSystem) : Type 0 where
-  pub same : bare_system t ≡ bare_system s
+  pub same : uncontrolled_system t ≡ uncontrolled_system s
   pub untouched : IsUntouched t
 
 pub hides-nothing : (s : TracedSystem) → IsUntouched s → Hides s s
 hides-nothing s u = record { same = refl; untouched = u }
 
-hides-process : (pid : ℕ) (f : TracedProcess → TracedProcess) → ((x : TracedProcess) → bare_process (f x) ≡ bare_process x) → KeepsProcesses f → (s : TracedSystem) → IsUntouched s → Hides s (with_process pid f s)
+hides-process : (pid : ℕ) (f : TracedProcess → TracedProcess) → ((x : TracedProcess) → uncontrolled_process (f x) ≡ uncontrolled_process x) → KeepsProcesses f → (s : TracedSystem) → IsUntouched s → Hides s (with_process pid f s)
 hides-process pid f hides keeps s u = record { same = with_process-hidden s pid f hides; untouched = process-keeps pid f keeps s u }
 
 -- ---- lwps
 
 -- an lwp that looks the same, and is untouched still
 record HidesLwp (l k : TracedLwp) : Type 0 where
-  seen : bare_lwp k ≡ bare_lwp l
+  seen : uncontrolled_lwp k ≡ uncontrolled_lwp l
   untouched : (id : ℕ) → IsUntouchedLwp (id, l) → IsUntouchedLwp (id, k)
 
 -- PCRUN of a passive history has no flag but PRSTOP
@@ -108,7 +108,7 @@ keeps-fault (message.Run flags) is passive = no-flag flags clear_fault refl refl
 keeps-fault _ is passive = cc
 
 -- only where it stops and runs is changed
-alike : (l k : TracedLwp) → bare_lwp k ≡ bare_lwp l → k.control.step ≡ l.control.step
+alike : (l k : TracedLwp) → uncontrolled_lwp k ≡ uncontrolled_lwp l → k.control.step ≡ l.control.step
     → k.control.abort ≡ l.control.abort → HidesLwp l k
 alike l k seen step abort = record {
   seen = seen;
@@ -116,7 +116,7 @@ alike l k seen step abort = record {
 }
 
 edit-hides : (m : Message) (l k : TracedLwp) → LwpEdit m l k → is_passive_message m ≡ true → HidesLwp l k
-unfolding bare_lwp with_directive without_directive let_go is_passive_message has_flags common_word
+unfolding uncontrolled_lwp with_directive without_directive let_go is_passive_message has_flags common_word
 edit-hides m l k (lwp.drops_signal is) passive = absurd (keeps-signal m is passive)
 edit-hides m l k (lwp.drops_fault is) passive = absurd (keeps-fault m is passive)
 edit-hides m l k (lwp.directs_it is) passive = alike l k refl refl refl
@@ -158,7 +158,7 @@ no_klc-minus a b none =
 -- ---- processes
 
 record HidesProcess (x y : TracedProcess) : Type 0 where
-  seen : bare_process y ≡ bare_process x
+  seen : uncontrolled_process y ≡ uncontrolled_process x
   untouched : (pid : ℕ) → IsUntouchedProcess (pid, x) → IsUntouchedProcess (pid, y)
 
 -- what is traced and which modes are set
@@ -180,15 +180,15 @@ control-hides m c d _ passive = active passive
 
 process-hides : (m : Message) (tail : List ℕ) (x y : TracedProcess) → ProcessEdit m tail x y
     → is_passive_message m ≡ true → HidesProcess x y
-unfolding bare_process is_passive_message
+unfolding uncontrolled_process is_passive_message
 process-hides m tail x y (process.one_lwp id f edits) passive = record {
   seen = with_lwp-hidden x id f (λ l. let h = edits-hide m passive l (f l) (edits l) in h.seen);
   untouched = λ pid u. lwp-keeps id f (λ i l. let h = edits-hide m passive l (f l) (edits l) in h.untouched i) pid x u;
 }
 process-hides m tail x y (process.each_lwp f edits) passive = record {
   seen =
-      ap (λ ls. record (bare_process x) { lwps = ls })
-      (map_each-all_hidden bare_lwp f x.lwps (λ l. let h = edits-hide m passive l (f l) (edits l) in h.seen));
+      ap (λ ls. record (uncontrolled_process x) { lwps = ls })
+      (map_each-all_hidden uncontrolled_lwp f x.lwps (λ l. let h = edits-hide m passive l (f l) (edits l) in h.seen));
   untouched = λ pid u. record {
     no_kill = u.no_kill;
     unwatched = u.unwatched;
@@ -214,7 +214,7 @@ processes-hide m tail passive =
     })
     (λ x y e. process-hides m tail x y e passive)
 
-pub with_run-hidden : (p : TracedProcess) → bare_process (with_run 0 p) ≡ bare_process p
+pub with_run-hidden : (p : TracedProcess) → uncontrolled_process (with_run 0 p) ≡ uncontrolled_process p
 unfolding is_passive_message
 with_run-hidden p =
     let h = processes-hide (message.Run 0) [] refl p (with_run 0 p) (run-edits 0 [] p) in
@@ -237,14 +237,14 @@ map_each-found {X} view id f x (e ∷ es) there same =
 message-hides : (s : TracedSystem) (pid : ℕ) (p : TracedProcess) (m : Message) (tail : List ℕ) (t : TracedSystem)
     → MessageEdit s pid p m tail t → process_of s pid ≡ Some p → is_passive_message m ≡ true
     → IsUntouched s → Hides s t
-unfolding bare_system with_process is_passive_message
+unfolding uncontrolled_system with_process is_passive_message
 message-hides s pid p m tail t made.nothing found passive u = hides-nothing s u
 message-hides s pid p m tail t (made.a_process f edits) found passive u =
     let h = processes-hide m tail passive p (f p) edits in
     record {
       same =
-          ap (λ ps. record (bare_system s) { processes = ps })
-          (map_each-found bare_process pid f p s.processes found h.seen);
+          ap (λ ps. record (uncontrolled_system s) { processes = ps })
+          (map_each-found uncontrolled_process pid f p s.processes found h.seen);
       untouched = record {
         processes = all-replaced IsUntouchedProcess pid f p s.processes found (h.untouched pid) u.processes;
       };
@@ -253,17 +253,17 @@ message-hides s pid p m tail t _ found passive u = active passive
 
 -- ---- the last close for writing
 
-released_lwp-hidden : (l : TracedLwp) → bare_lwp (released_lwp l) ≡ bare_lwp l
-unfolding bare_lwp released_lwp
+released_lwp-hidden : (l : TracedLwp) → uncontrolled_lwp (released_lwp l) ≡ uncontrolled_lwp l
+unfolding uncontrolled_lwp released_lwp
 released_lwp-hidden l = refl
 
 released_lwp-keeps : KeepsLwps released_lwp
 unfolding released_lwp
 released_lwp-keeps id x u = record { no_step = refl; no_abort = u.no_abort; no_agent = u.no_agent }
 
-pub released-hidden : (p : TracedProcess) → bare_process (released p) ≡ bare_process p
-unfolding bare_process released
-released-hidden p = ap (λ ls. record (bare_process p) { lwps = ls }) (map_each-all_hidden bare_lwp released_lwp p.lwps released_lwp-hidden)
+pub released-hidden : (p : TracedProcess) → uncontrolled_process (released p) ≡ uncontrolled_process p
+unfolding uncontrolled_process released
+released-hidden p = ap (λ ls. record (uncontrolled_process p) { lwps = ls }) (map_each-all_hidden uncontrolled_lwp released_lwp p.lwps released_lwp-hidden)
 
 released-keeps : KeepsProcesses released
 unfolding released released_control
@@ -329,26 +329,26 @@ module _ (s : TracedState) (u : IsUntouched s.system) where
 
   -- a call that is hidden has no step
   hidden : (c : Call) (a : Answer) → steps_of_call c a.reply ≡ [] → HidesAnswer s a
-      → Follows s.system (steps_of_call c a.reply) a.state.system
+      → StepsFollow s.system (steps_of_call c a.reply) a.state.system
   unfolding HidesAnswer
-  hidden c a none hides = subst (λ steps. Follows s.system steps a.state.system) (sym none) (record { run = subst (UntracedRun (erased_system s.system) []) (sym (same-system a.state.system s.system hides.same)) ends_here; untouched = hides.untouched })
+  hidden c a none hides = subst (λ steps. StepsFollow s.system steps a.state.system) (sym none) (record { run = subst (UntracedRun (erased_system s.system) []) (sym (same-system a.state.system s.system hides.same)) ends_here; untouched = hides.untouched })
 
-  spawn_unless-follows : (name : List ℕ) (program : Program) (held : Bool) → program_named s.system.programs name ≡ Some program → (o : Option Errno) → spawn_refusal s.system program ≡ o → Follows s.system (steps_of_call (call.Spawn name held) (spawn_unless s program held o).reply) (spawn_unless s program held o).state.system
+  spawn_unless-follows : (name : List ℕ) (program : Program) (held : Bool) → program_named s.system.programs name ≡ Some program → (o : Option Errno) → spawn_refusal s.system program ≡ o → StepsFollow s.system (steps_of_call (call.Spawn name held) (spawn_unless s program held o).reply) (spawn_unless s program held o).state.system
   spawn_unless-follows name program held named (Some e) refusal = follows-nothing s.system u
   spawn_unless-follows name program held named None refusal = spawn-follows name program held s.system u named refusal
 
-  spawn_found-follows : (name : List ℕ) (held : Bool) (o : Option Program) → program_named s.system.programs name ≡ o → Follows s.system (steps_of_call (call.Spawn name held) (spawn_found s held o).reply) (spawn_found s held o).state.system
+  spawn_found-follows : (name : List ℕ) (held : Bool) (o : Option Program) → program_named s.system.programs name ≡ o → StepsFollow s.system (steps_of_call (call.Spawn name held) (spawn_found s held o).reply) (spawn_found s held o).state.system
   spawn_found-follows name held None named = follows-nothing s.system u
   spawn_found-follows name held (Some program) named = spawn_unless-follows name program held named (spawn_refusal s.system program) refl
 
-  sent-follows : (pid number : ℕ) (x : Sending) → sending pid number (life_of s.system pid) ≡ x → Follows s.system (steps_of_call (call.Kill pid number) (sent_reply x)) (with_sent traced pid (killed_by 0) x s.system)
-  sent-follows pid number (refuses e) is = subst (λ t. Follows s.system [] t) (sym (refused_sent pid e s.system)) (follows-nothing s.system u)
+  sent-follows : (pid number : ℕ) (x : Sending) → sending pid number (life_of s.system pid) ≡ x → StepsFollow s.system (steps_of_call (call.Kill pid number) (sent_reply x)) (with_sent traced pid (killed_by 0) x s.system)
+  sent-follows pid number (refuses e) is = subst (λ t. StepsFollow s.system [] t) (sym (refused_sent pid e s.system)) (follows-nothing s.system u)
   sent-follows pid number sends_nothing is = kill-follows pid number sends_nothing s.system u is nothing
   sent-follows pid number (sends g) is = kill-follows pid number (sends g) s.system u is it
 
   -- Every call of a passive history that has an answer is followed by its steps.
   pub call-follows : (by : ℕ) (c : Call) (a : Answer) → answer_to s by c ≡ Some a → is_passive_call c a.reply ≡ true
-      → Follows s.system (steps_of_call c a.reply) a.state.system
+      → StepsFollow s.system (steps_of_call c a.reply) a.state.system
   unfolding answer_to spawn_answer kill_answer HidesAnswer
   call-follows by (call.Ctl handle bytes) a is passive =
       let c = control_answer s.system s.opens by handle bytes in
@@ -358,10 +358,10 @@ module _ (s : TracedState) (u : IsUntouched s.system) where
       hidden (call.Ctl handle bytes) a refl
       (subst (HidesAnswer s) answer (ctl-hides by handle bytes c.reply refl passed))
   call-follows by (call.Spawn name held) a is passive =
-      subst (λ (x : Answer). Follows s.system (steps_of_call (call.Spawn name held) x.reply) x.state.system) (same_Some (spawn_found s held (program_named s.system.programs name)) a is)
+      subst (λ (x : Answer). StepsFollow s.system (steps_of_call (call.Spawn name held) x.reply) x.state.system) (same_Some (spawn_found s held (program_named s.system.programs name)) a is)
       (spawn_found-follows name held (program_named s.system.programs name) refl)
   call-follows by (call.Kill pid number) a is passive =
       let x = sending pid number (life_of s.system pid) in
-      subst (λ (y : Answer). Follows s.system (steps_of_call (call.Kill pid number) y.reply) y.state.system) (same_Some (record { state = with_system (with_sent traced pid (killed_by 0) x) s; reply = sent_reply x }) a is)
+      subst (λ (y : Answer). StepsFollow s.system (steps_of_call (call.Kill pid number) y.reply) y.state.system) (same_Some (record { state = with_system (with_sent traced pid (killed_by 0) x) s; reply = sent_reply x }) a is)
       (sent-follows pid number x refl)
   call-follows by c a is passive = hidden c a refl (answer-hides by c a is tt)

@@ -4,14 +4,14 @@ use Rattle.pr_num.specs.declared.infos.Info.{Info}
 use Rattle.pr_num.specs.declared.signals.Sig.{Sig}
 use Rattle.pr_model.specs.Changes.{Change, files_are, space_is, signals, signals_itself, takes_shared, job_stops, disposition_is, held_is, resumes, forks, reaps, becomes, makes_lwp, suspends, Ending, ends_process, ends_lwp, with_fds, with_space, with_shared_taken, with_job_stop, with_disposition_of, with_held, resumed, with_suspended, changed, all_changed, ended}
 use Rattle.pr_model.specs.Erasure.{erased_lwp, erased_process, erased_system}
-use Rattle.pr_model.specs.Generation.{told}
+use Rattle.pr_model.specs.Generation.{signalled}
 use Rattle.pr_model.specs.Lives.{with_ended, with_program, with_new_lwp}
 use Rattle.pr_model.specs.Machines.{traced, untraced}
 use Rattle.pr_model.specs.Signals.{is_kill, generated}
 use Rattle.pr_model.specs.State.{TracedLwp, TracedProcess, TracedSystem, with_process, with_lwp}
 use Rattle.pr_erasure.proofs.LifeLemmas.{with_this_ended-erased, with_ended-erased, with_child-erased, with_reaped-erased, with_program-erased, with_new_lwp-erased, with_lwp_ended-erased}
 use Rattle.pr_erasure.specs.Suiting.{IsSent, IsProper, AreProper}
-use Rattle.pr_erasure.proofs.SignalLemmas.{told-erased}
+use Rattle.pr_erasure.proofs.SignalLemmas.{signalled-erased}
 use Rattle.pr_erasure.proofs.StateLemmas.{with_process-erased, with_lwp-erased}
 
 -- What a turn changes of the system, as programs see it: a line a kind of change.
@@ -20,8 +20,8 @@ use Rattle.pr_erasure.proofs.StateLemmas.{with_process-erased, with_lwp-erased}
 pub generated-erased : (pid : ℕ) (target : Option ℕ) (g : Sig) (info : Info) → IsSent info → (s : TracedSystem) → erased_system (generated traced pid target g info s) ≡ generated untraced pid target g info (erased_system s)
 unfolding generated
 generated-erased pid target g info sent s =
-    elim (is_kill g) as (λ b. erased_system (cond b (with_ended traced pid (signal_number g) s) (with_process pid (told target g info) s)) ≡ cond b (with_ended untraced pid (signal_number g) (erased_system s)) (with_process pid (told target g info) (erased_system s)))
-    [ true ↦ with_ended-erased pid (signal_number g) s | false ↦ with_process-erased s pid (told target g info) (told target g info) (λ x found. told-erased target g info sent x) ]
+    elim (is_kill g) as (λ b. erased_system (cond b (with_ended traced pid (signal_number g) s) (with_process pid (signalled target g info) s)) ≡ cond b (with_ended untraced pid (signal_number g) (erased_system s)) (with_process pid (signalled target g info) (erased_system s)))
+    [ true ↦ with_ended-erased pid (signal_number g) s | false ↦ with_process-erased s pid (signalled target g info) (signalled target g info) (λ x found. signalled-erased target g info sent x) ]
 
 module _ (pid : ℕ) (p : TracedProcess) (id : ℕ) (l : TracedLwp) where
   unless : (b : Bool) (s old : TracedSystem) {new : _} → erased_system old ≡ new → erased_system (cond b s old) ≡ cond b (erased_system s) new

@@ -7,7 +7,7 @@ use Rattle.pr_keeps.proofs.RowLemmas.{row-kind}
 use Rattle.pr_model.specs.CallEffects.{call_effect}
 use Rattle.pr_model.specs.Changes.{Effect}
 use Rattle.pr_model.specs.Changes as change
-use Rattle.pr_model.specs.Erasure.{bare_system, erased_process, erased_system}
+use Rattle.pr_model.specs.Erasure.{uncontrolled_system, erased_process, erased_system}
 use Rattle.pr_model.specs.Handles.{released}
 use Rattle.pr_model.specs.InstructionEffects.{InstructionEffect, Store, instruction_effect}
 use Rattle.pr_model.specs.InstructionEffects as instruction
@@ -112,14 +112,14 @@ module _ (s : TracedSystem) (pid : ℕ) (p : TracedProcess) (id : ℕ) (l : Trac
   ]
 
 -- and that row changes what controllers set alone
-stop-bare : (s : TracedSystem) (pid id : ℕ) (t : LwpTurn) → turn_of s pid id ≡ Some t → t.turned.did ≡ Stopped → bare_system t.system ≡ bare_system s
+stop-bare : (s : TracedSystem) (pid id : ℕ) (t : LwpTurn) → turn_of s pid id ≡ Some t → t.turned.did ≡ Stopped → uncontrolled_system t.system ≡ uncontrolled_system s
 unfolding settled
 stop-bare s pid id t turn did =
     let taken = turn-taken s pid id t turn in
     let p = taken.process in
     let l = taken.lwp in
     let was : (row_for s pid p id l).did ≡ Stopped = sym (ap (λ (x : LwpTurn). x.turned.did) taken.is) ∙ did in
-    ap (λ (x : LwpTurn). bare_system x.system) (taken.is ∙ ap (settled s pid p id l) (only_requested s pid p id l was))
+    ap (λ (x : LwpTurn). uncontrolled_system x.system) (taken.is ∙ ap (settled s pid p id l) (only_requested s pid p id l was))
     ∙ requested-bare s pid p id l
 
 pub stop-hidden : (s : TracedSystem) (pid id : ℕ) (t : LwpTurn) → turn_of s pid id ≡ Some t → t.turned.did ≡ Stopped → erased_system t.system ≡ erased_system s

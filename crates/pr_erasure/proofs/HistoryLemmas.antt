@@ -30,7 +30,7 @@ use Rattle.pr_erasure.specs.Transparency.{IsTransparent}
 use Rattle.pr_erasure.specs.Untouched.{IsUntouchedLwp, IsUntouchedProcess, IsUntouched}
 use Rattle.pr_laws.proofs.RunLemmas.{UntracedRun-append}
 use Rattle.pr_erasure.proofs.CallLemmas.{call-follows}
-use Rattle.pr_erasure.proofs.OutsideLemmas.{Follows, with_spawned-untouched}
+use Rattle.pr_erasure.proofs.OutsideLemmas.{StepsFollow, with_spawned-untouched}
 use Rattle.pr_erasure.proofs.ProperLemmas.{row-proper}
 use Rattle.pr_erasure.proofs.RowLemmas.{HasTurn}
 use Rattle.pr_erasure.proofs.TurnLemmas.{row-runs}
@@ -40,11 +40,11 @@ use Rattle.pr_model.proofs.StateLemmas.{live_process-found}
 
 -- ---- entries
 
-tick-follows : (s : TracedSystem) → IsUntouched s → Follows s (Tick ∷ []) (ticked s)
+tick-follows : (s : TracedSystem) → IsUntouched s → StepsFollow s (Tick ∷ []) (ticked s)
 unfolding erased_system
 tick-follows s u = record { run = step_by ticks ends_here; untouched = record { processes = u.processes } }
 
-turn-follows : (s : TracedSystem) (pid id : ℕ) (t : LwpTurn) (m : Memory) → turn_of s pid id ≡ Some t → IsUntouched s → Follows s (steps_of m (record { actor = Lwp pid id; act = act.Turn t.turned })) t.system
+turn-follows : (s : TracedSystem) (pid id : ℕ) (t : LwpTurn) (m : Memory) → turn_of s pid id ≡ Some t → IsUntouched s → StepsFollow s (steps_of m (record { actor = Lwp pid id; act = act.Turn t.turned })) t.system
 unfolding steps_of settled
 turn-follows s pid id t m turn u =
     let taken = turn-taken s pid id t turn in
@@ -54,13 +54,13 @@ turn-follows s pid id t m turn u =
     let pu : IsUntouchedProcess (pid, p) = All-under IsUntouchedProcess pid p s.processes u.processes (live_process-found s pid p taken.live) in
     let lu : IsUntouchedLwp (id, l) = All-under IsUntouchedLwp id l p.lwps pu.lwps taken.there in
     let has : l.control.directed ≡ false → HasTurn s pid p id l = λ directed. record { live = taken.live; there = taken.there; free = taken.free; not_directed = directed; no_agent = lu.no_agent; no_step = lu.no_step; no_abort = lu.no_abort; unwatched = pu.unwatched } in
-    subst (λ (v : LwpTurn). Follows s (steps_of_turn (m.returning pid id) pid id v.turned.did) v.system) (sym taken.is) (record {
+    subst (λ (v : LwpTurn). StepsFollow s (steps_of_turn (m.returning pid id) pid id v.turned.did) v.system) (sym taken.is) (record {
       run = row-runs s pid p id l has taken.goes (m.returning pid id);
       untouched = settled-keeps pid p id l lu s u row (row-proper s pid p id l);
     })
 
 -- Each entry of a legal and passive history.
-entry-follows : (n : ℕ) (s : TracedState) (m : Memory) (actor : Actor) (it : Act) → IsUntouched s.system → IsTrue (is_passive_act it) → IsLegalEntry n s (record { actor = actor; act = it }) → Follows s.system (steps_of m (record { actor = actor; act = it })) (after s (record { actor = actor; act = it })).system
+entry-follows : (n : ℕ) (s : TracedState) (m : Memory) (actor : Actor) (it : Act) → IsUntouched s.system → IsTrue (is_passive_act it) → IsLegalEntry n s (record { actor = actor; act = it }) → StepsFollow s.system (steps_of m (record { actor = actor; act = it })) (after s (record { actor = actor; act = it })).system
 unfolding IsLegalEntry steps_of after
 entry-follows n s m (Controller k) (act.Call c r) u passive legal =
     let a : Answer = record { state = legal.1.0; reply = r } in
@@ -74,7 +74,7 @@ entry-follows n s m Clock (act.Tick moment) u passive legal = tick-follows s.sys
 entry-follows n s m _ _ u passive legal = absurd legal
 
 -- Histories, entry by entry.
-history-follows : (n : ℕ) (s : TracedState) (m : Memory) (h : List Entry) → IsUntouched s.system → IsPassive h → IsLegal n s h → Follows s.system (steps_from m h) (state_after s h).system
+history-follows : (n : ℕ) (s : TracedState) (m : Memory) (h : List Entry) → IsUntouched s.system → IsPassive h → IsLegal n s h → StepsFollow s.system (steps_from m h) (state_after s h).system
 history-follows n s m [] u passive legal = record { run = ends_here; untouched = u }
 history-follows n s m (e ∷ h) u passive legal =
     let first = entry-follows n s m e.actor e.act u (All-head (λ (x : Entry). IsTrue (is_passive_act x.act)) e h passive) legal.0 in

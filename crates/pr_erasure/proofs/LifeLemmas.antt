@@ -9,11 +9,11 @@ use Rattle.pr_parts.specs.FileCalls.{with_all_shared}
 use Rattle.pr_num.specs.Files.{Descriptors, with_all_closed}
 use Rattle.pr_model.specs.Erasure.{erased_lwp, erased_pending, erased_phase, erased_process, erased_system}
 use Rattle.pr_num.specs.Spaces.{first_space}
-use Rattle.pr_model.specs.Generation.{told}
-use Rattle.pr_model.specs.Lives.{Birth, with_made, orphaned, with_parent_told, without_lwp, with_reaped, new_lwp, first_lwp, bare_process, new_process, with_spawned, forked_lwp, forked, with_child, started, with_program, with_new_lwp, uncaught, zombie, with_this_ended, ended_if_live, with_ended, with_lwp_ended}
+use Rattle.pr_model.specs.Generation.{signalled}
+use Rattle.pr_model.specs.Lives.{Birth, with_made, orphaned, with_parent_signalled, without_lwp, with_reaped, new_lwp, first_lwp, bare_process, new_process, with_spawned, forked_lwp, forked, with_child, started, with_program, with_new_lwp, uncaught, zombie, with_this_ended, ended_if_live, with_ended, with_lwp_ended}
 use Rattle.pr_model.specs.Machines.{no_marks, traced, untraced}
 use Rattle.pr_model.specs.State.{TracedLwp, TracedProcess, TracedSystem, live_process, lwp_of, with_process}
-use Rattle.pr_erasure.proofs.SignalLemmas.{told-erased}
+use Rattle.pr_erasure.proofs.SignalLemmas.{signalled-erased}
 use Rattle.pr_erasure.proofs.StateLemmas.{map_each-all, live-erased, lwp-erased, with_process-erased}
 
 -- How processes and lwps begin and end, as programs see it.
@@ -28,11 +28,11 @@ zombie-erased : (status : ℕ) (p : TracedProcess) → erased_process (zombie tr
 unfolding erased_process zombie bare_process traced untraced
 zombie-erased status p = refl
 
-with_parent_told-erased : (parent pid status : ℕ) (s : TracedSystem) → erased_system (with_parent_told parent pid status s) ≡ with_parent_told parent pid status (erased_system s)
-unfolding with_parent_told
-with_parent_told-erased parent pid status s =
-    elim (eqb parent 0) as (λ b. erased_system (cond b s (with_process parent (told None Cld (of_child pid status)) s)) ≡ cond b (erased_system s) (with_process parent (told None Cld (of_child pid status)) (erased_system s)))
-    [ true ↦ refl | false ↦ with_process-erased s parent (told None Cld (of_child pid status)) (told None Cld (of_child pid status)) (λ x found. told-erased None Cld (of_child pid status) (record { no_fault = refl }) x) ]
+with_parent_signalled-erased : (parent pid status : ℕ) (s : TracedSystem) → erased_system (with_parent_signalled parent pid status s) ≡ with_parent_signalled parent pid status (erased_system s)
+unfolding with_parent_signalled
+with_parent_signalled-erased parent pid status s =
+    elim (eqb parent 0) as (λ b. erased_system (cond b s (with_process parent (signalled None Cld (of_child pid status)) s)) ≡ cond b (erased_system s) (with_process parent (signalled None Cld (of_child pid status)) (erased_system s)))
+    [ true ↦ refl | false ↦ with_process-erased s parent (signalled None Cld (of_child pid status)) (signalled None Cld (of_child pid status)) (λ x found. signalled-erased None Cld (of_child pid status) (record { no_fault = refl }) x) ]
 
 buried : (pid : ℕ) (fds : Descriptors) (status : ℕ) (s : TracedSystem) → erased_system (record s { files = with_all_closed s.files fds; processes = map_each (orphaned pid) (change_under pid (zombie traced status) s.processes) }) ≡ record (erased_system s) { files = with_all_closed (erased_system s).files fds; processes = map_each (orphaned pid) (change_under pid (zombie untraced status) (erased_system s).processes) }
 unfolding erased_system
@@ -44,8 +44,8 @@ buried pid fds status s =
 pub with_this_ended-erased : (pid : ℕ) (p : TracedProcess) (status : ℕ) (s : TracedSystem) → erased_system (with_this_ended traced pid p status s) ≡ with_this_ended untraced pid (erased_process p) status (erased_system s)
 unfolding with_this_ended erased_process
 with_this_ended-erased pid p status s =
-    with_parent_told-erased p.parent pid status (record s { files = with_all_closed s.files p.fds; processes = map_each (orphaned pid) (change_under pid (zombie traced status) s.processes) })
-    ∙ ap (with_parent_told p.parent pid status) (buried pid p.fds status s)
+    with_parent_signalled-erased p.parent pid status (record s { files = with_all_closed s.files p.fds; processes = map_each (orphaned pid) (change_under pid (zombie traced status) s.processes) })
+    ∙ ap (with_parent_signalled p.parent pid status) (buried pid p.fds status s)
 
 pub with_ended-erased : (pid status : ℕ) (s : TracedSystem) → erased_system (with_ended traced pid status s) ≡ with_ended untraced pid status (erased_system s)
 unfolding with_ended

@@ -24,11 +24,11 @@ use Rattle.pr_erasure.proofs.LifeLemmas.{with_spawned-erased}
 use Rattle.pr_erasure.proofs.UntouchedLemmas.{generated-keeps, made-keeps}
 
 -- What one entry of a history makes of the system, the untraced machine follows by its steps; and nothing is touched.
-pub record Follows (s : TracedSystem) (steps : List Step) (t : TracedSystem) : Type 0 where
+pub record StepsFollow (s : TracedSystem) (steps : List Step) (t : TracedSystem) : Type 0 where
   pub run : UntracedRun (erased_system s) steps (erased_system t)
   pub untouched : IsUntouched t
 
-pub follows-nothing : (s : TracedSystem) → IsUntouched s → Follows s [] s
+pub follows-nothing : (s : TracedSystem) → IsUntouched s → StepsFollow s [] s
 follows-nothing s u = record { run = ends_here; untouched = u }
 
 -- ---- processes that are made from outside
@@ -45,7 +45,7 @@ refusal-erased : (s : TracedSystem) (program : Program) → spawn_refusal (erase
 unfolding spawn_refusal
 refusal-erased s program = rw (room-erased s (mapped_size (first_space program)) 0, made-erased s) refl
 
-pub spawn-follows : (name : List ℕ) (program : Program) (held : Bool) (s : TracedSystem) → IsUntouched s → program_named s.programs name ≡ Some program → spawn_refusal s program ≡ None → Follows s (Spawn name ∷ []) (with_spawned traced program held s)
+pub spawn-follows : (name : List ℕ) (program : Program) (held : Bool) (s : TracedSystem) → IsUntouched s → program_named s.programs name ≡ Some program → spawn_refusal s program ≡ None → StepsFollow s (Spawn name ∷ []) (with_spawned traced program held s)
 spawn-follows name program held s u named refusal = record {
   run = step_by (spawns (record {
     program = program;
@@ -74,7 +74,7 @@ sent-keeps pid (refuses e) s u = u
 sent-keeps pid sends_nothing s u = u
 sent-keeps pid (sends g) s u = generated-keeps pid None g (killed_by 0) s u
 
-pub kill-follows : (pid number : ℕ) (x : Sending) (s : TracedSystem) → IsUntouched s → sending pid number (life_of s pid) ≡ x → IsGranted x → Follows s (Kill pid number ∷ []) (with_sent traced pid (killed_by 0) x s)
+pub kill-follows : (pid number : ℕ) (x : Sending) (s : TracedSystem) → IsUntouched s → sending pid number (life_of s pid) ≡ x → IsGranted x → StepsFollow s (Kill pid number ∷ []) (with_sent traced pid (killed_by 0) x s)
 kill-follows pid number x s u is granted =
     let same : sending pid number (life_of (erased_system s) pid) ≡ x = ap (sending pid number) (life-erased s pid) ∙ is in
     record {

@@ -30,7 +30,7 @@ use Rattle.pr_parts.specs.SignalRules.{takeable_signal}
 use Rattle.pr_parts.specs.PendingSignals.{pending_set}
 use Rattle.pr_model.specs.State.{TracedLwp, TracedProcess, TracedSystem, live_process, lwp_of, with_lwp_of}
 use Rattle.pr_model.specs.Transitions.{performed, interrupted, handled, dropped, job_stopped, died, ending, moving, stored_in, after_transition, posted, returned, ran, entered, incurred, own_taken, shared_taken}
-use Rattle.pr_model.specs.UntracedMachine.{MayStep, Makes, IsUnsignalled, RunsProgram, takes_in, takes_own, takes_shared, wakes, is_caught, is_caught_by, at_it, asleep_in_it, Acting, ignores, stops, kills, handles, acts_on, interrupts_call, interrupts_sleep, makes_call, falls_asleep, executes, incurs, UntracedRun, ends_here, by_call_entry, step_by}
+use Rattle.pr_model.specs.UntracedMachine.{MayStep, MakesStep, IsUnsignalled, RunsProgram, takes_in, takes_own, takes_shared, wakes, is_caught, is_caught_by, at_it, asleep_in_it, Acting, ignores, stops, kills, handles, acts_on, interrupts_call, interrupts_sleep, makes_call, falls_asleep, executes, incurs, UntracedRun, ends_here, by_call_entry, step_by}
 use Rattle.pr_model.specs.UntracedSteps.{steps_of_turn, steps_of_fault}
 use Rattle.pr_model.specs.declared.events.Did.TheVariants as did
 use Rattle.pr_model.specs.declared.lwps.Phase.{Phase}
@@ -101,7 +101,7 @@ module _ (s : TracedSystem) (pid : ℕ) (p : TracedProcess) (id : ℕ) (l : Trac
       }
 
   -- a row makes its transition for both machines
-  pub makes : (row : Row) → Suits row.transition l.phase → Makes (erased_system s) pid id (erased_process p) (erased_lwp l) row.transition (erased_system (settled s pid p id l row).system)
+  pub makes : (row : Row) → Suits row.transition l.phase → MakesStep (erased_system s) pid id (erased_process p) (erased_lwp l) row.transition (erased_system (settled s pid p id l row).system)
   makes row suits = record { may_step = may_step; state = settled-erased s pid p id l (is_there s pid p id l h) row suits }
 
   -- ---- rows that are hidden
@@ -225,7 +225,7 @@ module _ (s : TracedSystem) (pid : ℕ) (p : TracedProcess) (id : ℕ) (l : Trac
         lwp = erased_lwp l;
         may_take = record { place = place; no_current = no_current };
         its_own = own-erased no_fault ∙ own;
-        makes = subst (λ t. Makes (erased_system s) pid id (erased_process p) (erased_lwp l) t (erased_system (settled s pid p id l (own_taken_row l g)).system)) (sym (own_taken-erased g no_fault)) (makes (own_taken_row l g) (record { fits = no_fault; sent = tt }));
+        makes = subst (λ t. MakesStep (erased_system s) pid id (erased_process p) (erased_lwp l) t (erased_system (settled s pid p id l (own_taken_row l g)).system)) (sym (own_taken-erased g no_fault)) (makes (own_taken_row l g) (record { fits = no_fault; sent = tt }));
       })) ends_here
 
   pub shared_taken-runs : (g : Sig) → HasNoFault l.phase → takes_in (erased_phase l.phase) ≡ true → l.current ≡ None → own_takeable l ≡ None → shared_takeable p l ≡ Some g → RowRuns s pid p id l (shared_taken_row p g)

@@ -10,7 +10,7 @@ use Rattle.pr_num.specs.declared.signals.Sig.{Sig}
 use Rattle.pr_num.proofs.ByIdLaws.{map_each-change_under}
 use Rattle.pr_parts.specs.SignalRules.{deleted_by}
 use Rattle.pr_model.specs.Erasure.{erased_lwp, erased_pending, erased_process}
-use Rattle.pr_model.specs.Generation.{ends_job_stop, lwp_without_pending, lwp_with_pending, without_pending, without_job_stop, with_deletions, with_pending, told}
+use Rattle.pr_model.specs.Generation.{ends_job_stop, lwp_without_pending, lwp_with_pending, without_pending, without_job_stop, with_deletions, with_pending, signalled}
 use Rattle.pr_parts.specs.PendingSignals.{Pending, is_standard, kept_info, with_standard, with_queued, added, without_signals}
 use Rattle.pr_parts.proofs.PendingLemmas.{added-standard, added-queued, early_signal-stays}
 use Rattle.pr_num.specs.Infos.{of_fault}
@@ -108,14 +108,14 @@ with_pending-erased None s info sent p = refl
 with_pending-erased (Some id) s info sent p =
     ap (λ ls. record (erased_process p) { lwps = ls }) (map_each-change_under erased_lwp id (lwp_with_pending s info) (lwp_with_pending s info) p.lwps (λ x found. lwp_with_pending-erased s info sent x))
 
-told-ended : (p : TracedProcess) → (erased_process p).ended ≡ p.ended
+signalled-ended : (p : TracedProcess) → (erased_process p).ended ≡ p.ended
 unfolding erased_process
-told-ended p = refl
+signalled-ended p = refl
 
 -- a signal is sent to a process, or to an lwp of it
-pub told-erased : (target : Option ℕ) (s : Sig) (info : Info) → IsSent info → (p : TracedProcess) → erased_process (told target s info p) ≡ told target s info (erased_process p)
-unfolding told
-told-erased target s info sent p =
+pub signalled-erased : (target : Option ℕ) (s : Sig) (info : Info) → IsSent info → (p : TracedProcess) → erased_process (signalled target s info p) ≡ signalled target s info (erased_process p)
+unfolding signalled
+signalled-erased target s info sent p =
     elim (is_none p.ended) as (λ b. erased_process (cond b (with_pending target s info (with_deletions s p)) p) ≡ cond b (with_pending target s info (with_deletions s (erased_process p))) (erased_process p))
     [ true ↦ with_pending-erased target s info sent (with_deletions s p) ∙ ap (with_pending target s info) (with_deletions-erased s p) | false ↦ refl ]
-    ∙ ap (λ o. cond (is_none o) (with_pending target s info (with_deletions s (erased_process p))) (erased_process p)) (sym (told-ended p))
+    ∙ ap (λ o. cond (is_none o) (with_pending target s info (with_deletions s (erased_process p))) (erased_process p)) (sym (signalled-ended p))

@@ -10,8 +10,8 @@ use Rattle.pr_num.specs.ById.{under, change_under, map_each, inserted}
 use Rattle.pr_num.proofs.ByIdLaws.{under-change_under, under-change_under_other, under-map_each, under-inserted_other, under-without_id_other}
 use Rattle.pr_parts.specs.SignalRules.{deleted_by}
 use Rattle.pr_model.specs.Changes.{Change, files_are, space_is, signals, signals_itself, takes_shared, job_stops, disposition_is, held_is, resumes, forks, reaps, becomes, makes_lwp, suspends, with_fds, with_space, with_shared_taken, with_job_stop, with_disposition_of, with_held, resumed, with_suspended, changed, all_changed}
-use Rattle.pr_model.specs.Generation.{ends_job_stop, lwp_without_pending, lwp_with_pending, without_pending, without_job_stop, with_deletions, with_pending, told}
-use Rattle.pr_model.specs.Lives.{with_made, orphaned, with_parent_told, with_reaped, new_lwp, with_child, started, with_program, with_new_lwp, zombie, with_this_ended, ended_if_live, with_ended}
+use Rattle.pr_model.specs.Generation.{ends_job_stop, lwp_without_pending, lwp_with_pending, without_pending, without_job_stop, with_deletions, with_pending, signalled}
+use Rattle.pr_model.specs.Lives.{with_made, orphaned, with_parent_signalled, with_reaped, new_lwp, with_child, started, with_program, with_new_lwp, zombie, with_this_ended, ended_if_live, with_ended}
 use Rattle.pr_model.specs.Machines.{traced}
 use Rattle.pr_model.specs.Signals.{is_kill, generated}
 use Rattle.pr_model.specs.State.{TracedLwp, TracedProcess, TracedSystem, process_of, live_process, lwp_of, with_process, with_lwp}
@@ -76,9 +76,9 @@ module _ (id : ℕ) (phase : Phase) where
   unfolding with_deletions
   keeps-deletions g p k = elim (eqb (deleted_by g) 0) as (λ b. Keeps id phase (cond b p (without_job_stop g (without_pending (deleted_by g) p)))) [ true ↦ k | false ↦ keeps-job g (without_pending (deleted_by g) p) (keeps-without (deleted_by g) p k) ]
 
-  keeps-told : (target : Option ℕ) (g : Sig) (info : Info) (p : TracedProcess) → Keeps id phase p → Keeps id phase (told target g info p)
-  unfolding told
-  keeps-told target g info p k = elim (is_none p.ended) as (λ b. Keeps id phase (cond b (with_pending target g info (with_deletions g p)) p)) [ true ↦ keeps-pending target g info (with_deletions g p) (keeps-deletions g p k) | false ↦ k ]
+  keeps-signalled : (target : Option ℕ) (g : Sig) (info : Info) (p : TracedProcess) → Keeps id phase p → Keeps id phase (signalled target g info p)
+  unfolding signalled
+  keeps-signalled target g info p k = elim (is_none p.ended) as (λ b. Keeps id phase (cond b (with_pending target g info (with_deletions g p)) p)) [ true ↦ keeps-pending target g info (with_deletions g p) (keeps-deletions g p k) | false ↦ k ]
 
   keeps-orphaned : (pid : ℕ) (p : TracedProcess) → Keeps id phase p → Keeps id phase (orphaned pid p)
   unfolding orphaned
@@ -121,17 +121,17 @@ module _ (pid id : ℕ) (phase : Phase) where
       under-map_each pid (orphaned other) (change_under other (zombie traced status) ps)
       ∙ ap (option_map (orphaned other)) (under-change_under_other other pid (zombie traced status) (λ is. not_both _ (eq-eqb other pid is) apart) ps ∙ found)
 
-  stands-told : (parent other status : ℕ) (s : TracedSystem) → Stands pid id phase s → Stands pid id phase (with_parent_told parent other status s)
-  unfolding with_parent_told
-  stands-told parent other status s st =
-      elim (eqb parent 0) as (λ b. Stands pid id phase (cond b s (with_process parent (told None Cld (of_child other status)) s)))
-      [ true ↦ st | false ↦ stands-process parent (told None Cld (of_child other status)) (keeps-told id phase None Cld (of_child other status)) s st ]
+  stands-signalled : (parent other status : ℕ) (s : TracedSystem) → Stands pid id phase s → Stands pid id phase (with_parent_signalled parent other status s)
+  unfolding with_parent_signalled
+  stands-signalled parent other status s st =
+      elim (eqb parent 0) as (λ b. Stands pid id phase (cond b s (with_process parent (signalled None Cld (of_child other status)) s)))
+      [ true ↦ st | false ↦ stands-process parent (signalled None Cld (of_child other status)) (keeps-signalled id phase None Cld (of_child other status)) s st ]
 
   stands-ended : (other : ℕ) (p : TracedProcess) (status : ℕ) → eqb other pid ≡ false → (s : TracedSystem) → Stands pid id phase s → Stands pid id phase (with_this_ended traced other p status s)
   unfolding with_this_ended
   stands-ended other p status apart s st =
       let k = keeps-orphaned id phase other st.process (record { lwp = st.lwp; there = st.there; same = st.same }) in
-      stands-told p.parent other status _ (record { process = orphaned other st.process; lwp = k.lwp; found = stands-buried other status apart s.processes st.process st.found; there = k.there; same = k.same })
+      stands-signalled p.parent other status _ (record { process = orphaned other st.process; lwp = k.lwp; found = stands-buried other status apart s.processes st.process st.found; there = k.there; same = k.same })
 
   stands-with_ended : (other status : ℕ) → eqb other pid ≡ false → (s : TracedSystem) → Stands pid id phase s → Stands pid id phase (with_ended traced other status s)
   unfolding with_ended
@@ -146,9 +146,9 @@ module _ (pid id : ℕ) (phase : Phase) where
   unfolding generated
   stands-generated other target g info s kept st = by (is_kill g) kept
     where
-      by : (b : Bool) → (b && eqb other pid) ≡ false → Stands pid id phase (cond b (with_ended traced other (signal_number g) s) (with_process other (told target g info) s))
+      by : (b : Bool) → (b && eqb other pid) ≡ false → Stands pid id phase (cond b (with_ended traced other (signal_number g) s) (with_process other (signalled target g info) s))
       by true apart = stands-with_ended other (signal_number g) apart s st
-      by false apart = stands-process other (told target g info) (keeps-told id phase target g info) s st
+      by false apart = stands-process other (signalled target g info) (keeps-signalled id phase target g info) s st
 
   stands-made : (p : TracedProcess) (s : TracedSystem) → eqb s.made pid ≡ false → Stands pid id phase s → Stands pid id phase (with_made p s)
   unfolding with_made

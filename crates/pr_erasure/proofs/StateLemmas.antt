@@ -2,7 +2,7 @@ use Rattle.std.proofs.Common.{◌≡◌, ℕ, true, false, is_none, eqb, Option,
 use Rattle.std.specs.Option.{option_map, option_and_then}
 use Rattle.pr_num.specs.ById.{under, change_under, put_under, map_each}
 use Rattle.pr_num.proofs.ByIdLaws.{under-map_each, map_each-change_under, put_under-found, put_under-same}
-use Rattle.pr_model.specs.Erasure.{bare_lwp, bare_process, bare_system, erased_lwp, erased_process, erased_system}
+use Rattle.pr_model.specs.Erasure.{uncontrolled_lwp, uncontrolled_process, uncontrolled_system, erased_lwp, erased_process, erased_system}
 use Rattle.pr_model.specs.Machines.{UntracedLwp, UntracedProcess}
 use Rattle.pr_model.specs.State.{TracedLwp, TracedProcess, TracedSystem, process_of, if_live, live_process, lwp_of, with_process, with_lwp, with_lwp_of}
 
@@ -55,18 +55,18 @@ map_each-all view f g [] agree = refl
 map_each-all view f g (e ∷ es) agree = rw (agree e.1) (ap (λ ds. (e.0, g (view e.1)) ∷ ds) (map_each-all view f g es agree))
 
 -- a process is changed in what controllers set alone
-pub with_process-hidden : (s : TracedSystem) (pid : ℕ) (f : TracedProcess → TracedProcess) → ((x : TracedProcess) → bare_process (f x) ≡ bare_process x) → bare_system (with_process pid f s) ≡ bare_system s
-unfolding bare_system with_process
-with_process-hidden s pid f hides = ap (λ ps. record (bare_system s) { processes = ps }) (map_each-hidden bare_process pid f s.processes hides)
+pub with_process-hidden : (s : TracedSystem) (pid : ℕ) (f : TracedProcess → TracedProcess) → ((x : TracedProcess) → uncontrolled_process (f x) ≡ uncontrolled_process x) → uncontrolled_system (with_process pid f s) ≡ uncontrolled_system s
+unfolding uncontrolled_system with_process
+with_process-hidden s pid f hides = ap (λ ps. record (uncontrolled_system s) { processes = ps }) (map_each-hidden uncontrolled_process pid f s.processes hides)
 
 -- an lwp is changed for both machines, and in what controllers set alone
 pub with_lwp-erased : (p : TracedProcess) (id : ℕ) (f : TracedLwp → TracedLwp) (g : UntracedLwp → UntracedLwp) → ((x : TracedLwp) → lwp_of p id ≡ Some x → erased_lwp (f x) ≡ g (erased_lwp x)) → erased_process (with_lwp id f p) ≡ with_lwp id g (erased_process p)
 unfolding erased_process with_lwp
 with_lwp-erased p id f g agree = ap (λ ls. record (erased_process p) { lwps = ls }) (map_each-change_under erased_lwp id f g p.lwps agree)
 
-pub with_lwp-hidden : (p : TracedProcess) (id : ℕ) (f : TracedLwp → TracedLwp) → ((x : TracedLwp) → bare_lwp (f x) ≡ bare_lwp x) → bare_process (with_lwp id f p) ≡ bare_process p
-unfolding bare_process with_lwp
-with_lwp-hidden p id f hides = ap (λ ls. record (bare_process p) { lwps = ls }) (map_each-hidden bare_lwp id f p.lwps hides)
+pub with_lwp-hidden : (p : TracedProcess) (id : ℕ) (f : TracedLwp → TracedLwp) → ((x : TracedLwp) → uncontrolled_lwp (f x) ≡ uncontrolled_lwp x) → uncontrolled_process (with_lwp id f p) ≡ uncontrolled_process p
+unfolding uncontrolled_process with_lwp
+with_lwp-hidden p id f hides = ap (λ ls. record (uncontrolled_process p) { lwps = ls }) (map_each-hidden uncontrolled_lwp id f p.lwps hides)
 
 -- ---- what is not changed
 

@@ -1,7 +1,7 @@
 use Rattle.std.proofs.Common.{◌≡◌, ℕ, Option, Some, None, refl, sym, subst, ◌∙◌, ap}
 use Rattle.std.proofs.lemmas.Option.{same_Some}
 use Rattle.pr_model.specs.Changes.{Ending, all_changed}
-use Rattle.pr_model.specs.Erasure.{bare_lwp, bare_system, erased_lwp, erased_process, erased_system}
+use Rattle.pr_model.specs.Erasure.{uncontrolled_lwp, uncontrolled_system, erased_lwp, erased_process, erased_system}
 use Rattle.pr_model.specs.LwpTurns.{with_counted, settled}
 use Rattle.pr_model.specs.Machines.{traced, untraced}
 use Rattle.pr_model.specs.Moves.{Move, moved, stops}
@@ -46,7 +46,7 @@ transition-erased s pid p id l here t suits =
 -- ---- a turn
 
 -- counts and stops are hidden
-settled-bare : (s : TracedSystem) (pid : ℕ) (p : TracedProcess) (id : ℕ) (l : TracedLwp) (row : Row) → bare_system (settled s pid p id l row).system ≡ bare_system (after_transition traced pid p id l row.transition s)
+settled-bare : (s : TracedSystem) (pid : ℕ) (p : TracedProcess) (id : ℕ) (l : TracedLwp) (row : Row) → uncontrolled_system (settled s pid p id l row).system ≡ uncontrolled_system (after_transition traced pid p id l row.transition s)
 unfolding settled
 settled-bare s pid p id l row =
     with_process-hidden (with_process pid (with_counted row.did row.begun) (after_transition traced pid p id l row.transition s)) pid (after_meeting row.point id) (after_meeting-hidden row.point id)
@@ -59,8 +59,8 @@ settled-erased s pid p id l here row suits =
     ∙ transition-erased s pid p id l here row.transition suits
 
 -- an lwp that stops as directed, whatever else it might do
-pub requested-bare : (s : TracedSystem) (pid : ℕ) (p : TracedProcess) (id : ℕ) (l : TracedLwp) → bare_system (settled s pid p id l requested_row).system ≡ bare_system s
-unfolding bare_lwp requested_row requested after_transition with_lwp_of all_changed moved
+pub requested-bare : (s : TracedSystem) (pid : ℕ) (p : TracedProcess) (id : ℕ) (l : TracedLwp) → uncontrolled_system (settled s pid p id l requested_row).system ≡ uncontrolled_system s
+unfolding uncontrolled_lwp requested_row requested after_transition with_lwp_of all_changed moved
 requested-bare s pid p id l =
     settled-bare s pid p id l requested_row
     ∙ with_process-hidden s pid (with_lwp id (moved traced stops)) (λ x. with_lwp-hidden x id (moved traced stops) (λ k. refl))

@@ -15,8 +15,8 @@ use Rattle.pr_num.proofs.ByIdLaws.{All-change_under, All-map_each, All-inserted,
 use Rattle.pr_parts.specs.FileCalls.{with_all_shared}
 use Rattle.pr_parts.specs.SignalRules.{deleted_by}
 use Rattle.pr_model.specs.Changes.{Change, files_are, space_is, signals, signals_itself, takes_shared, job_stops, disposition_is, held_is, resumes, forks, reaps, becomes, makes_lwp, suspends, Ending, ends_process, ends_lwp, with_fds, with_space, with_shared_taken, with_job_stop, with_disposition_of, with_held, resumed, with_suspended, changed, all_changed, ended}
-use Rattle.pr_model.specs.Generation.{lwp_without_pending, lwp_with_pending, without_pending, without_job_stop, with_deletions, with_pending, told}
-use Rattle.pr_model.specs.Lives.{Birth, with_made, orphaned, with_parent_told, without_lwp, with_reaped, new_lwp, bare_process, forked_lwp, forked, with_child, started, with_program, with_new_lwp, zombie, with_this_ended, ended_if_live, with_ended, with_lwp_ended}
+use Rattle.pr_model.specs.Generation.{lwp_without_pending, lwp_with_pending, without_pending, without_job_stop, with_deletions, with_pending, signalled}
+use Rattle.pr_model.specs.Lives.{Birth, with_made, orphaned, with_parent_signalled, without_lwp, with_reaped, new_lwp, bare_process, forked_lwp, forked, with_child, started, with_program, with_new_lwp, zombie, with_this_ended, ended_if_live, with_ended, with_lwp_ended}
 use Rattle.pr_model.specs.LwpTurns.{with_counted, settled}
 use Rattle.pr_model.specs.Machines.{nothing_set, no_marks, nothing_used, zombie_control, exec_control, child_control, birth_marks, call_over, stopped_as_directed, step_taken, fault_incurred, fault_posted, traced}
 use Rattle.pr_model.specs.Moves.{Move, moved}
@@ -99,9 +99,9 @@ deletions-keep g pid x u =
     either (λ y. IsUntouchedProcess (pid, y)) _ x _ u
     (either (λ y. IsUntouchedProcess (pid, y)) _ (record (without_pending (deleted_by g) x) { job_stop = None }) (without_pending (deleted_by g) x) (record { no_kill = gone.no_kill; unwatched = gone.unwatched; lwps = gone.lwps }) gone)
 
-told-keeps : (target : Option ℕ) (g : Sig) (info : Info) → KeepsProcesses (told target g info)
-unfolding told
-told-keeps target g info pid x u = either (λ y. IsUntouchedProcess (pid, y)) _ _ x (pending-keeps target g info pid (with_deletions g x) (deletions-keep g pid x u)) u
+signalled-keeps : (target : Option ℕ) (g : Sig) (info : Info) → KeepsProcesses (signalled target g info)
+unfolding signalled
+signalled-keeps target g info pid x u = either (λ y. IsUntouchedProcess (pid, y)) _ _ x (pending-keeps target g info pid (with_deletions g x) (deletions-keep g pid x u)) u
 
 orphaned-keeps : (parent : ℕ) → KeepsProcesses (orphaned parent)
 unfolding orphaned
@@ -118,13 +118,13 @@ unfolding with_process
 process-keeps pid f keeps s u = record { processes = All-change_under IsUntouchedProcess pid f s.processes (λ x found un. keeps pid x un) u.processes }
 
 pub with_this_ended-keeps : (pid : ℕ) (p : TracedProcess) (status : ℕ) (s : TracedSystem) → IsUntouched s → IsUntouched (with_this_ended traced pid p status s)
-unfolding with_this_ended with_parent_told
+unfolding with_this_ended with_parent_signalled
 with_this_ended-keeps pid p status s u =
     let buried = All-change_under IsUntouchedProcess pid (zombie traced status) s.processes (λ x found un. zombie-keeps status pid x un) u.processes in
     let left = All-map_each IsUntouchedProcess IsUntouchedProcess (orphaned pid) (λ e un. orphaned-keeps pid e.0 e.1 un) _ buried in
     let to : TracedSystem = record s { files = with_all_closed s.files p.fds; processes = map_each (orphaned pid) (change_under pid (zombie traced status) s.processes) } in
     let it : IsUntouched to = record { processes = left } in
-    either IsUntouched (eqb p.parent 0) to (with_process p.parent (told None Cld (of_child pid status)) to) it (process-keeps p.parent (told None Cld (of_child pid status)) (told-keeps None Cld (of_child pid status)) to it)
+    either IsUntouched (eqb p.parent 0) to (with_process p.parent (signalled None Cld (of_child pid status)) to) it (process-keeps p.parent (signalled None Cld (of_child pid status)) (signalled-keeps None Cld (of_child pid status)) to it)
 
 with_ended-keeps : (pid status : ℕ) (s : TracedSystem) → IsUntouched s → IsUntouched (with_ended traced pid status s)
 unfolding with_ended
@@ -136,7 +136,7 @@ with_ended-keeps pid status s u = by (live_process s pid)
 
 pub generated-keeps : (pid : ℕ) (target : Option ℕ) (g : Sig) (info : Info) (s : TracedSystem) → IsUntouched s → IsUntouched (generated traced pid target g info s)
 unfolding generated
-generated-keeps pid target g info s u = either IsUntouched _ _ _ (with_ended-keeps pid _ s u) (process-keeps pid (told target g info) (told-keeps target g info) s u)
+generated-keeps pid target g info s u = either IsUntouched _ _ _ (with_ended-keeps pid _ s u) (process-keeps pid (signalled target g info) (signalled-keeps target g info) s u)
 
 pub made-keeps : (p : TracedProcess) (s : TracedSystem) → ((pid : ℕ) → IsUntouchedProcess (pid, p)) → IsUntouched s → IsUntouched (with_made p s)
 unfolding with_made

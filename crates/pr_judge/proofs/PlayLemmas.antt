@@ -22,9 +22,9 @@ use Rattle.pr_world.proofs.ToldLemmas.{turns-move}
 use Rattle.pr_judge.specs.Judgements.{IsIllegalEntry, IsPlayed, Plays, fits}
 
 -- what holds of a machine that may be told
-told : {X : Type 0} (o : Option X) (P : X → Type 0) → ((x : X) → o ≡ Some x → P x) → IfSome o P
-told None P f = tt
-told (Some x) P f = f x refl
+if_found : {X : Type 0} (o : Option X) (P : X → Type 0) → ((x : X) → o ≡ Some x → P x) → IfSome o P
+if_found None P f = tt
+if_found (Some x) P f = f x refl
 
 -- the same where something is known of it
 pub told-more : {X : Type 0} (o : Option X) (A P : X → Type 0) → IfSome o A → ((x : X) → o ≡ Some x → A x → P x) → IfSome o P
@@ -55,21 +55,21 @@ module _ (k : KernelView) (s : TracedState) (is : k ≡ kernel_of s k.history k.
 module _ (n : ℕ) (old new : KernelView) where
   pub no-controller : (by : ℕ) (c : Call) (r : Reply) → n ≤ by → Plays n (call_entry by c r) old new false
   unfolding IsLegalEntry
-  no-controller by c r h = told old.machine (λ s. IsIllegalEntry n s (call_entry by c r)) (λ s is legal. omega (arith, h, legal.0))
+  no-controller by c r h = if_found old.machine (λ s. IsIllegalEntry n s (call_entry by c r)) (λ s is legal. omega (arith, h, legal.0))
 
   pub not-ready : IsLawful old → (by : ℕ) (c : Call) (r : Reply) → old.is_ready by c ≡ false → Plays n (call_entry by c r) old new false
   unfolding IsLegalEntry
-  not-ready lawful by c r h = told old.machine (λ s. IsIllegalEntry n s (call_entry by c r)) (λ s is legal.
+  not-ready lawful by c r h = if_found old.machine (λ s. IsIllegalEntry n s (call_entry by c r)) (λ s is legal.
       some≢none (answer_to s by c) (record { state = legal.1.0; reply = r }) legal.1.1 (sym (ready-is old s (lawful.told s is) by c) ∙ h))
 
   pub not-movable : IsLawful old → (pid id : ℕ) (t : Turned) → old.can_turn pid id ≡ false → Plays n (turn_entry pid id t) old new false
   unfolding IsLegalEntry
-  not-movable lawful pid id t h = told old.machine (λ s. IsIllegalEntry n s (turn_entry pid id t)) (λ s is legal.
+  not-movable lawful pid id t h = if_found old.machine (λ s. IsIllegalEntry n s (turn_entry pid id t)) (λ s is legal.
       some≢none (turn_of s.system pid id) (record { system = legal.0; turned = t }) legal.1 (turns-move s.system pid id ∙ sym (turn-is old s (lawful.told s is) pid id) ∙ h))
 
   pub clock-ended : IsLawful old → (m : ℕ) → clock_limit ≤ old.clock → Plays n (tick_entry m) old new false
   unfolding IsLegalEntry
-  clock-ended lawful m h = told old.machine (λ s. IsIllegalEntry n s (tick_entry m)) (λ s is legal.
+  clock-ended lawful m h = if_found old.machine (λ s. IsIllegalEntry n s (tick_entry m)) (λ s is legal.
       omega (arith, h, legal.0, clock-is old s (lawful.told s is)))
 
 -- an entry whose actor does no such thing is not legal
@@ -81,7 +81,7 @@ misfit n s Clock (Tick m) h = cc
 misfit n s _ _ h = λ legal. legal
 
 pub unfitting : (n : ℕ) (o : Option TracedState) (actor : Actor) (it : Act) → fits actor it ≡ false → IfSome o (λ s. IsIllegalEntry n s (record { actor = actor; act = it }))
-unfitting n o actor it h = told o (λ s. IsIllegalEntry n s (record { actor = actor; act = it })) (λ s is. misfit n s actor it h)
+unfitting n o actor it h = if_found o (λ s. IsIllegalEntry n s (record { actor = actor; act = it })) (λ s is. misfit n s actor it h)
 
 pub ruleset unfit = (unfitting)
 
@@ -147,7 +147,7 @@ module _ (n : ℕ) (old new : KernelView) (lawful : IsLawful old) (below : old.c
     where
       of : (b : Bool) → (new.clock == m) ≡ b → Plays n (tick_entry m) old new b
       of true e = came-to (eqb-true _ _ e)
-      of false e = told old.machine (λ s. IsIllegalEntry n s (tick_entry m)) (λ s is legal.
+      of false e = if_found old.machine (λ s. IsIllegalEntry n s (tick_entry m)) (λ s is legal.
           let here = clock-is old s (lawful.told s is) in
           let same : new.clock ≡ m = it.clock ∙ ap (λ (x : ℕ). x + 1) here ∙ sym legal.1 in
           search rules)

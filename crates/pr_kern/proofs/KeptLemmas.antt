@@ -1,12 +1,12 @@
 use Rattle.std.proofs.Common.{◌≡◌, ℕ, ◌+◌, ◌<◌, ◌≤◌, ◌^◌, List, [], ◌∷◌, ◌++◌, length, sym, ◌∙◌, ap, subst, arith, length-append}
-use Rattle.pr_model.specs.Kept.{Kept}
+use Rattle.pr_model.specs.HistoryViews.{HistoryView}
 use Rattle.pr_model.specs.Lawful.{IsLawful}
 use Rattle.pr_model.specs.Legal.{ticked}
 use Rattle.pr_model.specs.State.{TracedState, TracedSystem}
 use Rattle.pr_model.specs.declared.events.Entry.{Entry}
 use Rattle.pr_proc.proofs.CountLemmas.{AllUsedAtMost-more}
 use Rattle.pr_proc.specs.Counts.{AllUsedAtMost}
-use Rattle.pr_kern.specs.Soundness.{IsSound, HasRoom, IsKept}
+use Rattle.pr_kern.specs.Soundness.{IsSound, HasRoom, IsSoundKernel}
 
 -- What the kernel keeps while its history grows.
 
@@ -14,7 +14,7 @@ longer : (h h' : List Entry) (e : Entry) → h' ≡ h ++ e ∷ [] → length h' 
 longer h h' e grown = ap length grown ∙ length-append h (e ∷ [])
 
 -- a history that had a place has one entry more, and its room is one less
-pub kept-push : (s : TracedState) (h h' : Kept) (places : ℕ) (e : Entry) → h'.entries ≡ h.entries ++ e ∷ [] → h'.room + 1 ≡ h.room → length h.entries < places → HasRoom h places → IsSound (length h.entries + 1) s.system → IsLawful s → IsKept s h' places
+pub kept-push : (s : TracedState) (h h' : HistoryView) (places : ℕ) (e : Entry) → h'.entries ≡ h.entries ++ e ∷ [] → h'.room + 1 ≡ h.room → length h.entries < places → HasRoom h places → IsSound (length h.entries + 1) s.system → IsLawful s → IsSoundKernel s h' places
 kept-push s h h' places e grown used place room sound lawful =
     let n : length h'.entries ≡ length h.entries + 1 = longer h.entries h'.entries e grown in
     record {
@@ -28,7 +28,7 @@ kept-push s h h' places e grown used place room sound lawful =
     }
 
 -- a history that begins, with its places reserved
-pub kept-start : (s : TracedState) (h : Kept) (places : ℕ) → h.entries ≡ [] → places ≤ h.room → places < 2 ^ 32 → IsSound 0 s.system → IsLawful s → IsKept s h places
+pub kept-start : (s : TracedState) (h : HistoryView) (places : ℕ) → h.entries ≡ [] → places ≤ h.room → places < 2 ^ 32 → IsSound 0 s.system → IsLawful s → IsSoundKernel s h places
 kept-start s h places none reserved fits sound lawful =
     let n : length h.entries ≡ 0 = ap length none in
     record {

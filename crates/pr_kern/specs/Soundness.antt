@@ -1,7 +1,7 @@
 pub use Rattle.pr_api.specs.Rooms.{HasRoom}
 use Rattle.std.specs.Prelude.{◌≤◌, ℕ, length}
 use Rattle.pr_proc.specs.Counts.{AllUsedAtMost}
-use Rattle.pr_model.specs.Kept.{Kept}
+use Rattle.pr_model.specs.HistoryViews.{HistoryView}
 use Rattle.pr_model.specs.Lawful.{IsLawful}
 use Rattle.pr_model.specs.State.{TracedState, TracedSystem}
 
@@ -14,7 +14,7 @@ pub record IsSound (n : ℕ) (s : TracedSystem) : Type 0 where
   pub counts : AllUsedAtMost n s
 
 -- The system is as sound as the history is long, the state is lawful, and the history has its room.
-pub record IsKept (s : TracedState) (history : Kept) (places : ℕ) : Type 0 where
+pub record IsSoundKernel (s : TracedState) (history : HistoryView) (places : ℕ) : Type 0 where
   pub sound : IsSound (length history.entries) s.system
   pub lawful : IsLawful s
   pub room : HasRoom history places

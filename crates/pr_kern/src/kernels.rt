@@ -36,13 +36,13 @@ pub struct Kern {
 
 impl Model for Kern {
     ghost use Rattle.pr_kern.specs.Kernels.{Kernel};
-    ghost use Rattle.pr_kern.specs.Soundness.{IsKept};
+    ghost use Rattle.pr_kern.specs.Soundness.{IsSoundKernel};
 
     ghost Value = { Kernel };
 
     ghost view = { λ a. record { state = a.state; history = a.history.entries; places = a.places } };
 
-    ghost invariant = { λ a. IsKept a.state a.history a.places };
+    ghost invariant = { λ a. IsSoundKernel a.state a.history a.places };
 }
 
 impl Kern {

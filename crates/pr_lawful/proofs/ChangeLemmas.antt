@@ -27,7 +27,7 @@ use Rattle.pr_model.specs.State.{TracedControl, TracedLwp, TracedProcess, Traced
 use Rattle.pr_model.specs.declared.frames.Frame.{Frame}
 use Rattle.pr_lawful.proofs.EndLemmas.{generated-lawful}
 use Rattle.pr_lawful.proofs.InfoLemmas.{no-infos, taken-infos}
-use Rattle.pr_lawful.proofs.LocalLemmas.{KeepsLwp, same_sets, live-empty, IsKept, Keeps, kept-same, kept-parts, same_rest, same_lwps, keeps-lwp}
+use Rattle.pr_lawful.proofs.LocalLemmas.{KeepsLwp, same_sets, live-empty, StaysLawful, Keeps, kept-same, kept-parts, same_rest, same_lwps, keeps-lwp}
 use Rattle.pr_lawful.proofs.SuitingLemmas.{SuitsFiles, SuitsSpace, SuitsFrames, SuitsChild, SuitsProgram, SuitsLwp, SuitsChange, SuitChanges}
 use Rattle.pr_lawful.proofs.SystemLemmas.{replaced, kept, joined, reaped, lives, lives-live, descriptors-open}
 
@@ -158,14 +158,14 @@ new_lwp-lawful regs held next id marks holdable low = record { id = inl low; hel
 more-ids : (next : ℕ) (e : ℕ × TracedLwp) → IsLawfulLwp next e → IsLawfulLwp (next + 1) e
 more-ids next e it = record { id = elim it.id [ inl low ↦ inl (omega arith) | inr agent ↦ inr agent ]; held = it.held; frames = it.frames; few_frames = it.few_frames; pending = it.pending; current = it.current }
 
-one_more-kept : (pid new held : ℕ) (regs : List ℕ) (x : TracedProcess) → x.ended ≡ None → new ≡ x.next_lwp → x.next_lwp ≤ last_lwp → length x.lwps < lwp_limit → IsHoldable held → IsKept pid x (with_new_lwp traced new regs held x)
+one_more-kept : (pid new held : ℕ) (regs : List ℕ) (x : TracedProcess) → x.ended ≡ None → new ≡ x.next_lwp → x.next_lwp ≤ last_lwp → length x.lwps < lwp_limit → IsHoldable held → StaysLawful pid x (with_new_lwp traced new regs held x)
 unfolding with_new_lwp traced
 one_more-kept pid new held regs x live next last few holdable = by (is_some (lwp_of x new)) refl
   where
     made : TracedProcess
     made = record x { next_lwp = new + 1; lwps = inserted new (new_lwp traced regs held (no_marks false)) x.lwps }
 
-    by : (b : Bool) → is_some (lwp_of x new) ≡ b → IsKept pid x (cond b x made)
+    by : (b : Bool) → is_some (lwp_of x new) ≡ b → StaysLawful pid x (cond b x made)
     by true stood = kept-same pid x
     by false free = record {
       lawful = λ it.
@@ -196,7 +196,7 @@ new-lawful : (s : TracedSystem) (pid new held : ℕ) (regs : List ℕ) → pid �
 new-lawful s pid new held regs user h suits =
     kept s pid (with_new_lwp traced new regs held) user (λ x is.
     let same = same_Some suits.process x (sym suits.found ∙ is) in
-    subst (λ y. IsKept pid y (with_new_lwp traced new regs held y)) same (one_more-kept pid new held regs suits.process suits.live suits.next suits.last suits.few suits.holdable)) h
+    subst (λ y. StaysLawful pid y (with_new_lwp traced new regs held y)) same (one_more-kept pid new held regs suits.process suits.live suits.next suits.last suits.few suits.holdable)) h
 
 -- ---- processes
 

@@ -17,9 +17,9 @@ use Rattle.pr_file.proofs.CountLemmas.{users-all_closed}
 use Rattle.pr_file.proofs.EndLemmas.{ends-all_closed}
 use Rattle.pr_file.proofs.UserLemmas.{IsFileTable-all_closed}
 use Rattle.pr_model.specs.FirstState.{system_process}
-use Rattle.pr_model.specs.Generation.{told}
+use Rattle.pr_model.specs.Generation.{signalled}
 use Rattle.pr_model.specs.Lawful.{IsLawfulLwp, IsLawfulProcess, IsNumberedBelow, HasParent, IsLawfulSystem}
-use Rattle.pr_model.specs.Lives.{bare_process, orphaned, with_parent_told, without_lwp, zombie, with_this_ended, ended_if_live, with_ended, with_lwp_ended}
+use Rattle.pr_model.specs.Lives.{bare_process, orphaned, with_parent_signalled, without_lwp, zombie, with_this_ended, ended_if_live, with_ended, with_lwp_ended}
 use Rattle.pr_model.specs.Machines.{nothing_set, zombie_control, traced}
 use Rattle.pr_model.specs.Readers.{size_of, total_size}
 use Rattle.pr_model.specs.Signals.{is_kill, generated, disposition_of}
@@ -27,8 +27,8 @@ use Rattle.pr_model.specs.State.{TracedProcess, TracedSystem, process_of, live_p
 use Rattle.pr_parts.specs.AddressSpaces.{LeavesHeapPlace}
 use Rattle.pr_rec.specs.InRange.{IsInfo}
 use Rattle.pr_lawful.proofs.InfoLemmas.{no-infos}
-use Rattle.pr_lawful.proofs.LocalLemmas.{live-empty, IsKept, same_rest, same_lwps, lawful-lwps}
-use Rattle.pr_lawful.proofs.SignalLemmas.{MayReach, standard-pends, told-keeps}
+use Rattle.pr_lawful.proofs.LocalLemmas.{live-empty, StaysLawful, same_rest, same_lwps, lawful-lwps}
+use Rattle.pr_lawful.proofs.SignalLemmas.{MayReach, standard-pends, signalled-keeps}
 use Rattle.pr_lawful.proofs.SumLemmas.{sum-change_under, sum-map_each, count_in, all_users-sum, sizes-sum}
 use Rattle.pr_lawful.proofs.SystemLemmas.{lives, lives-live, parent-same, kept, descriptors-open}
 use Rattle.pr_model.proofs.StateLemmas.{live_process-found, live_process-live}
@@ -166,12 +166,12 @@ buried-lawful s pid p status h user found =
       };
     }
 
-told-lawful : (parent pid status : ℕ) (s : TracedSystem) → IsInfo (of_child pid status) → IsLawfulSystem s → IsLawfulSystem (with_parent_told parent pid status s)
-unfolding with_parent_told signal_number
-told-lawful parent pid status s new h =
-    elim (eqb parent 0) as (λ b. eqb parent 0 ≡ b → IsLawfulSystem (cond b s (with_process parent (told None Cld (of_child pid status)) s))) [
+signalled-lawful : (parent pid status : ℕ) (s : TracedSystem) → IsInfo (of_child pid status) → IsLawfulSystem s → IsLawfulSystem (with_parent_signalled parent pid status s)
+unfolding with_parent_signalled signal_number
+signalled-lawful parent pid status s new h =
+    elim (eqb parent 0) as (λ b. eqb parent 0 ≡ b → IsLawfulSystem (cond b s (with_process parent (signalled None Cld (of_child pid status)) s))) [
       | true ↦ λ is. h
-      | false ↦ λ apart. kept s parent (told None Cld (of_child pid status)) (eqb-false parent 0 apart) (λ x found. told-keeps None Cld (of_child pid status) parent x (standard-pends x None Cld (of_child pid status) new refl)) h
+      | false ↦ λ apart. kept s parent (signalled None Cld (of_child pid status)) (eqb-false parent 0 apart) (λ x found. signalled-keeps None Cld (of_child pid status) parent x (standard-pends x None Cld (of_child pid status) new refl)) h
     ] refl
 
 -- a process's id is small, and so is one that comes with a signal
@@ -189,7 +189,7 @@ child-info s pid p status h found = record { code = omega arith; pid = own-id s 
 pub ended-lawful : (s : TracedSystem) (pid : ℕ) (p : TracedProcess) (status : ℕ) → IsLawfulSystem s → pid ≢ 0 → process_of s pid ≡ Some p → IsLawfulSystem (with_this_ended traced pid p status s)
 unfolding with_this_ended
 ended-lawful s pid p status h user found =
-    told-lawful p.parent pid status (buried pid p status s) (child-info s pid p status h found) (buried-lawful s pid p status h user found)
+    signalled-lawful p.parent pid status (buried pid p status s) (child-info s pid p status h found) (buried-lawful s pid p status h user found)
 
 -- what a live process is, if there is one
 pub found-live : (s : TracedSystem) (pid : ℕ) (p : TracedProcess) → live_process s pid ≡ Some p → (process_of s pid ≡ Some p) × (p.ended ≡ None)
@@ -211,8 +211,8 @@ with_ended-lawful s pid status h user = by (live_process s pid) refl
 pub generated-lawful : (s : TracedSystem) (pid : ℕ) (target : Option ℕ) (g : Sig) (info : Info) → MayReach s pid target g info → IsLawfulSystem s → pid ≢ 0 → IsLawfulSystem (generated traced pid target g info s)
 unfolding generated
 generated-lawful s pid target g info new h user =
-    elim (is_kill g) as (λ b. IsLawfulSystem (cond b (with_ended traced pid (signal_number g) s) (with_process pid (told target g info) s)))
-    [ true ↦ with_ended-lawful s pid (signal_number g) h user | false ↦ kept s pid (told target g info) user (λ x found. told-keeps target g info pid x (new.found x found)) h ]
+    elim (is_kill g) as (λ b. IsLawfulSystem (cond b (with_ended traced pid (signal_number g) s) (with_process pid (signalled target g info) s)))
+    [ true ↦ with_ended-lawful s pid (signal_number g) h user | false ↦ kept s pid (signalled target g info) user (λ x found. signalled-keeps target g info pid x (new.found x found)) h ]
 
 -- ---- an lwp ends
 
@@ -226,7 +226,7 @@ length-without_id id (e ∷ es) =
     [ true ↦ (omega arith, omega arith) | false ↦ (omega arith, omega arith) ]
 
 -- a live process that has another lwp keeps one
-without_lwp-kept : (pid id : ℕ) (x : TracedProcess) → x.ended ≡ None → (length x.lwps ≡ 1 → ⊥) → IsKept pid x (without_lwp id x)
+without_lwp-kept : (pid id : ℕ) (x : TracedProcess) → x.ended ≡ None → (length x.lwps ≡ 1 → ⊥) → StaysLawful pid x (without_lwp id x)
 unfolding without_lwp
 without_lwp-kept pid id x live more = record {
   lawful = λ h. record {
@@ -257,5 +257,5 @@ unfolding with_lwp_ended
 lwp_ended-lawful s pid p id h user found live =
     elim (eqb (length p.lwps) 1) as (λ b. eqb (length p.lwps) 1 ≡ b → IsLawfulSystem (cond b (with_this_ended traced pid p 0 s) (with_process pid (without_lwp id) s))) [
       | true ↦ λ last. ended-lawful s pid p 0 h user found
-      | false ↦ λ more. kept s pid (without_lwp id) user (λ x is. let same = same_Some p x (sym found ∙ is) in subst (λ y. IsKept pid y (without_lwp id y)) same (without_lwp-kept pid id p live (eqb-false (length p.lwps) 1 more))) h
+      | false ↦ λ more. kept s pid (without_lwp id) user (λ x is. let same = same_Some p x (sym found ∙ is) in subst (λ y. StaysLawful pid y (without_lwp id y)) same (without_lwp-kept pid id p live (eqb-false (length p.lwps) 1 more))) h
     ] refl

@@ -47,7 +47,7 @@ live-empty x live = record {
 
 -- What a process that is changed in its place keeps: it stays lawful, with the same parent, end and descriptors, and as
 -- much memory.
-pub record IsKept (pid : ℕ) (x y : TracedProcess) : Type 0 where
+pub record StaysLawful (pid : ℕ) (x y : TracedProcess) : Type 0 where
   pub lawful : IsLawfulProcess (pid, x) → IsLawfulProcess (pid, y)
   pub parent : y.parent ≡ x.parent
   pub ended : y.ended ≡ x.ended
@@ -55,12 +55,12 @@ pub record IsKept (pid : ℕ) (x y : TracedProcess) : Type 0 where
   pub fds : y.fds ≡ x.fds
 
 abbrev pub Keeps : (TracedProcess → TracedProcess) → Type 0
-Keeps f = (pid : ℕ) (x : TracedProcess) → IsKept pid x (f x)
+Keeps f = (pid : ℕ) (x : TracedProcess) → StaysLawful pid x (f x)
 
-pub kept-same : (pid : ℕ) (x : TracedProcess) → IsKept pid x x
+pub kept-same : (pid : ℕ) (x : TracedProcess) → StaysLawful pid x x
 kept-same pid x = record { lawful = λ h. h; parent = refl; ended = refl; size = refl; fds = refl }
 
-pub kept-next : (pid : ℕ) (x y z : TracedProcess) → IsKept pid x y → IsKept pid y z → IsKept pid x z
+pub kept-next : (pid : ℕ) (x y z : TracedProcess) → StaysLawful pid x y → StaysLawful pid y z → StaysLawful pid x z
 kept-next pid x y z first next = record {
   lawful = λ h. next.lawful (first.lawful h);
   parent = next.parent ∙ first.parent;
@@ -69,7 +69,7 @@ kept-next pid x y z first next = record {
   fds = next.fds ∙ first.fds;
 }
 
-pub kept-if : (pid : ℕ) (b : Bool) (x y z : TracedProcess) → IsKept pid x y → IsKept pid x z → IsKept pid x (cond b y z)
+pub kept-if : (pid : ℕ) (b : Bool) (x y z : TracedProcess) → StaysLawful pid x y → StaysLawful pid x z → StaysLawful pid x (cond b y z)
 kept-if pid true x y z one other = one
 kept-if pid false x y z one other = other
 
@@ -138,7 +138,7 @@ mapped_lwps x f keeps = record {
 pub same_rest : (x y : TracedProcess) → y.ended ≡ x.ended → y.next_lwp ≡ x.next_lwp → y.control.traced_signals ≡ x.control.traced_signals → y.dispositions ≡ x.dispositions → (IsLawfulPending x.pending → IsLawfulPending y.pending) → SameRest x y
 same_rest x y ended next traced dispositions pending = record { ended = ended; next_lwp = next; traced = traced; dispositions = dispositions; pending = pending }
 
-pub kept-parts : (pid : ℕ) (x y : TracedProcess) → y.parent ≡ x.parent → SameRest x y → SameLwps x y → y.space ≡ x.space → y.fds ≡ x.fds → IsKept pid x y
+pub kept-parts : (pid : ℕ) (x y : TracedProcess) → y.parent ≡ x.parent → SameRest x y → SameLwps x y → y.space ≡ x.space → y.fds ≡ x.fds → StaysLawful pid x y
 kept-parts pid x y parent rest lwps space fds = record {
   lawful = lawful-lwps pid x y rest lwps space fds;
   parent = parent;

@@ -13,10 +13,10 @@ use Rattle.pr_keeps.specs.MessageEdits.{MessageEdit}
 use Rattle.pr_num.specs.Infos.{by_controller}
 use Rattle.pr_num.specs.declared.messages.Message.{Message}
 use Rattle.pr_model.specs.Changes.{Change, files_are, space_is, signals, signals_itself, takes_shared, job_stops, disposition_is, held_is, resumes, forks, reaps, becomes, makes_lwp, suspends, Ending, ends_process, ends_lwp, changed, all_changed, ended}
-use Rattle.pr_model.specs.Generation.{told}
+use Rattle.pr_model.specs.Generation.{signalled}
 use Rattle.pr_model.specs.Handles.{released}
 use Rattle.pr_model.specs.Lawful.{IsOfMade}
-use Rattle.pr_model.specs.Lives.{Birth, with_made, with_parent_told, without_lwp, with_reaped, with_spawned, with_child, with_this_ended, ended_if_live, with_ended, with_lwp_ended}
+use Rattle.pr_model.specs.Lives.{Birth, with_made, with_parent_signalled, without_lwp, with_reaped, with_spawned, with_child, with_this_ended, ended_if_live, with_ended, with_lwp_ended}
 use Rattle.pr_model.specs.LwpTurns.{settled}
 use Rattle.pr_model.specs.Machines.{traced}
 use Rattle.pr_model.specs.Rows.{Row}
@@ -47,7 +47,7 @@ process-grows s pid f = omega arith
 -- ---- ends
 
 pub ended-grows : (s : TracedSystem) (pid : ℕ) (p : TracedProcess) (status : ℕ) → Grows s (with_this_ended traced pid p status s)
-unfolding with_this_ended with_parent_told with_process
+unfolding with_this_ended with_parent_signalled with_process
 ended-grows s pid p status = either-grows (eqb p.parent 0) s _ _ (omega arith) (omega arith)
 
 with_ended-grows : (s : TracedSystem) (pid status : ℕ) → Grows s (with_ended traced pid status s)
@@ -60,7 +60,7 @@ with_ended-grows s pid status = by (live_process s pid)
 
 pub generated-grows : (s : TracedSystem) (pid : ℕ) (target : Option ℕ) (g : Sig) (info : Info) → Grows s (generated traced pid target g info s)
 unfolding generated
-generated-grows s pid target g info = either-grows (is_kill g) s _ _ (with_ended-grows s pid (signal_number g)) (process-grows s pid (told target g info))
+generated-grows s pid target g info = either-grows (is_kill g) s _ _ (with_ended-grows s pid (signal_number g)) (process-grows s pid (signalled target g info))
 
 lwp_ended-grows : (s : TracedSystem) (pid : ℕ) (p : TracedProcess) (id : ℕ) → Grows s (with_lwp_ended traced pid p id s)
 unfolding with_lwp_ended

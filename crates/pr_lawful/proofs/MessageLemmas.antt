@@ -42,7 +42,7 @@ use Rattle.pr_lawful.proofs.HoldableLemmas.{holdable-holdable}
 use Rattle.pr_mem.proofs.HeapPlaceLemmas.{LeavesHeapPlace-with_bytes}
 use Rattle.pr_rec.specs.InRange.{IsInfo}
 use Rattle.pr_lawful.proofs.InfoLemmas.{no-infos, taken-infos}
-use Rattle.pr_lawful.proofs.LocalLemmas.{KeepsLwp, same_sets, keeps-if, live-empty, IsKept, Keeps, kept-same, kept-next, kept-if, same_rest, same_lwps, kept-parts, keeps-lwp, keeps-each}
+use Rattle.pr_lawful.proofs.LocalLemmas.{KeepsLwp, same_sets, keeps-if, live-empty, StaysLawful, Keeps, kept-same, kept-next, kept-if, same_rest, same_lwps, kept-parts, keeps-lwp, keeps-each}
 use Rattle.pr_lawful.proofs.SignalLemmas.{MayPend}
 use Rattle.pr_lawful.proofs.SystemLemmas.{Replaces, replaced, kept-replaces}
 use Rattle.pr_lawful.proofs.TransitionLemmas.{directed-keeps, all_directed-keeps}
@@ -122,7 +122,7 @@ edited-control m c d _ untraced = untraced
 
 control-kept : (pid : ℕ) (x : TracedProcess) (c : TracedControl)
     → (has_number x.control.traced_signals (signal_number Kill) ≡ false
-    → has_number c.traced_signals (signal_number Kill) ≡ false) → IsKept pid x (record x { control = c })
+    → has_number c.traced_signals (signal_number Kill) ≡ false) → StaysLawful pid x (record x { control = c })
 control-kept pid x c traced_too = record {
   lawful = λ it. record {
     has_lwps = record { some = it.has_lwps.some };
@@ -145,7 +145,7 @@ control-kept pid x c traced_too = record {
 }
 
 module _ (pid : ℕ) (p : TracedProcess) (live : p.ended ≡ None) where
-  agent-kept : (regs : List ℕ) → has_agent p ≡ false → length p.lwps < lwp_limit → IsKept pid p (with_agent regs p)
+  agent-kept : (regs : List ℕ) → has_agent p ≡ false → length p.lwps < lwp_limit → StaysLawful pid p (with_agent regs p)
   unfolding with_agent agent_lwp new_lwp
   agent-kept regs none room =
       let count = length-inserted agent_id (agent_lwp regs) p.lwps in
@@ -170,7 +170,7 @@ module _ (pid : ℕ) (p : TracedProcess) (live : p.ended ≡ None) where
         fds = refl;
       }
 
-  written-kept : (at : ℕ) (bytes : List ℕ) → IsKept pid p (with_space (with_bytes at bytes p.space) p)
+  written-kept : (at : ℕ) (bytes : List ℕ) → StaysLawful pid p (with_space (with_bytes at bytes p.space) p)
   unfolding with_space
   written-kept at bytes = record {
     lawful = λ it. record {
@@ -193,7 +193,7 @@ module _ (pid : ℕ) (p : TracedProcess) (live : p.ended ≡ None) where
     fds = refl;
   }
 
-  edited-process : (m : Message) (tail : List ℕ) (y : TracedProcess) → ProcessEdit m tail p y → IsKept pid p y
+  edited-process : (m : Message) (tail : List ℕ) (y : TracedProcess) → ProcessEdit m tail p y → StaysLawful pid p y
   edited-process m tail y (process.one_lwp id f edits) = keeps-lwp id f (edits-keep m f edits) pid p
   edited-process m tail y (process.each_lwp f edits) = keeps-each f (edits-keep m f edits) pid p
   edited-process m tail y (process.control_is {c = c} e) = control-kept pid p c (edited-control m p.control c e)
@@ -204,9 +204,9 @@ module _ (pid : ℕ) (p : TracedProcess) (live : p.ended ≡ None) where
   edited-process m tail y (process.is_written {at = at} mapped) = written-kept at tail
 
 edits-kept : (pid : ℕ) (p : TracedProcess) → p.ended ≡ None → (m : Message) (tail : List ℕ) (y : TracedProcess)
-    → ProcessEdits m tail p y → IsKept pid p y
+    → ProcessEdits m tail p y → StaysLawful pid p y
 edits-kept pid p live m tail y edits =
-    process-edits-keep m tail (λ x. IsKept pid p x)
+    process-edits-keep m tail (λ x. StaysLawful pid p x)
     (λ x z e kept. kept-next pid p x z kept (edited-process pid x (kept.ended ∙ live) m tail z e)) p y edits
     (kept-same pid p)
 

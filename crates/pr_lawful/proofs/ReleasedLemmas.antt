@@ -18,10 +18,10 @@ use Rattle.pr_num.proofs.ByIdLaws.{All-under, All-change_under, All-map_each, Al
 use Rattle.pr_num.proofs.SetLemmas.{has_number-zero}
 use Rattle.pr_parts.specs.SignalRules.{deleted_by}
 use Rattle.pr_model.specs.Changes.{Change, files_are, space_is, signals, signals_itself, takes_shared, job_stops, disposition_is, held_is, resumes, forks, reaps, becomes, makes_lwp, suspends, Ending, ends_process, ends_lwp, with_fds, with_space, with_shared_taken, with_job_stop, with_disposition_of, with_held, resumed, with_suspended, changed, all_changed, ended}
-use Rattle.pr_model.specs.Generation.{ends_job_stop, lwp_without_pending, lwp_with_pending, without_pending, without_job_stop, with_deletions, with_pending, told}
+use Rattle.pr_model.specs.Generation.{ends_job_stop, lwp_without_pending, lwp_with_pending, without_pending, without_job_stop, with_deletions, with_pending, signalled}
 use Rattle.pr_model.specs.Handles.{has_writer}
 use Rattle.pr_model.specs.Lawful.{IsReleasedLwp, IsUntraced, IsReleased}
-use Rattle.pr_model.specs.Lives.{Birth, bare_process, with_made, orphaned, with_parent_told, without_lwp, with_reaped, new_lwp, new_process, with_spawned, forked, with_child, started, with_program, with_new_lwp, zombie, with_this_ended, ended_if_live, with_ended, with_lwp_ended}
+use Rattle.pr_model.specs.Lives.{Birth, bare_process, with_made, orphaned, with_parent_signalled, without_lwp, with_reaped, new_lwp, new_process, with_spawned, forked, with_child, started, with_program, with_new_lwp, zombie, with_this_ended, ended_if_live, with_ended, with_lwp_ended}
 use Rattle.pr_model.specs.LwpTurns.{with_counted, settled}
 use Rattle.pr_model.specs.Machines.{nothing_set, no_marks, child_control, exec_control, call_over, step_taken, fault_incurred, fault_posted, traced}
 use Rattle.pr_model.specs.Moves as move
@@ -135,9 +135,9 @@ deletions-calm g x =
     calm-if (eqb (deleted_by g) 0) x x (without_job_stop g (without_pending (deleted_by g) x)) (calm-same x)
     (calm-next x (without_pending (deleted_by g) x) (without_job_stop g (without_pending (deleted_by g) x)) (without_pending-calm (deleted_by g) x) (job-calm g (without_pending (deleted_by g) x)))
 
-told-calm : (target : Option ℕ) (g : Sig) (info : Info) → Calms (told target g info)
-unfolding told
-told-calm target g info x =
+signalled-calm : (target : Option ℕ) (g : Sig) (info : Info) → Calms (signalled target g info)
+unfolding signalled
+signalled-calm target g info x =
     calm-if (is_none x.ended) x (with_pending target g info (with_deletions g x)) x
     (calm-next x (with_deletions g x) (with_pending target g info (with_deletions g x)) (deletions-calm g x) (pending-calm target g info (with_deletions g x))) (calm-same x)
 
@@ -207,11 +207,11 @@ module _ (opens : Places) where
 
   -- a process ends whose zombie is buried among the others
   pub buried-released : (s : TracedSystem) (pid : ℕ) (p : TracedProcess) (status : ℕ) → All (IsReleased opens) (change_under pid (zombie traced status) s.processes) → AllReleased (with_this_ended traced pid p status s)
-  unfolding with_this_ended with_parent_told
+  unfolding with_this_ended with_parent_signalled
   buried-released s pid p status buried =
       let left : List (ℕ × TracedProcess) = change_under pid (zombie traced status) s.processes in
       let orphans = All-map_each (IsReleased opens) (IsReleased opens) (orphaned pid) (λ e it. calm-released e.0 e.1 (orphaned pid e.1) (orphaned-calm pid e.1) it) left buried in
-      either (eqb p.parent 0) _ _ orphans (calms _ p.parent (told None Cld (of_child pid status)) (told-calm None Cld (of_child pid status)) orphans)
+      either (eqb p.parent 0) _ _ orphans (calms _ p.parent (signalled None Cld (of_child pid status)) (signalled-calm None Cld (of_child pid status)) orphans)
 
   pub ended-released : (s : TracedSystem) (pid : ℕ) (p : TracedProcess) (status : ℕ) → AllReleased s → AllReleased (with_this_ended traced pid p status s)
   ended-released s pid p status all =
@@ -227,7 +227,7 @@ module _ (opens : Places) where
 
   pub generated-released : (s : TracedSystem) (pid : ℕ) (target : Option ℕ) (g : Sig) (info : Info) → AllReleased s → AllReleased (generated traced pid target g info s)
   unfolding generated
-  generated-released s pid target g info all = either (is_kill g) _ _ (with_ended-released s pid (signal_number g) all) (calms s pid (told target g info) (told-calm target g info) all)
+  generated-released s pid target g info all = either (is_kill g) _ _ (with_ended-released s pid (signal_number g) all) (calms s pid (signalled target g info) (signalled-calm target g info) all)
 
   without_lwp-calm : (id : ℕ) → Calms (without_lwp id)
   unfolding without_lwp

@@ -7,7 +7,7 @@ use Rattle.pr_num.specs.declared.signals.Sig.{Sig}
 use Rattle.pr_num.specs.declared.signals.Sig.TheVariants.{Cont, Stop, Tstp, Ttin, Ttou}
 use Rattle.pr_parts.specs.PendingSignals.{Pending, has_room, is_standard}
 use Rattle.pr_parts.specs.SignalRules.{deleted_by}
-use Rattle.pr_model.specs.Generation.{ends_job_stop, lwp_without_pending, lwp_with_pending, without_pending, without_job_stop, with_deletions, with_pending, told}
+use Rattle.pr_model.specs.Generation.{ends_job_stop, lwp_without_pending, lwp_with_pending, without_pending, without_job_stop, with_deletions, with_pending, signalled}
 use Rattle.pr_model.specs.Lawful.{IsLawfulLwp}
 use Rattle.pr_model.specs.Readers.{life_of}
 use Rattle.pr_model.specs.SignalCalls.{refuses, sends_nothing, sends, sending}
@@ -15,7 +15,7 @@ use Rattle.pr_keeps.specs.MessageEdits.{HasRoomIn}
 use Rattle.pr_model.specs.State.{TracedLwp, TracedProcess, TracedSystem, lwp_of, process_of}
 use Rattle.pr_rec.specs.InRange.{IsInfo}
 use Rattle.pr_lawful.proofs.InfoLemmas.{added-infos, deleted-infos}
-use Rattle.pr_lawful.proofs.LocalLemmas.{KeepsLwp, IsKept, Keeps, kept-same, kept-next, kept-if, same_rest, same_lwps, changed_one, mapped_lwps, kept-parts}
+use Rattle.pr_lawful.proofs.LocalLemmas.{KeepsLwp, StaysLawful, Keeps, kept-same, kept-next, kept-if, same_rest, same_lwps, changed_one, mapped_lwps, kept-parts}
 
 -- A signal that is sent to a process, and has room where it is to pend, leaves it lawful.
 
@@ -93,7 +93,7 @@ deleted-keeps : (signals : ℕ) → KeepsLwp (lwp_without_pending signals)
 unfolding lwp_without_pending
 deleted-keeps signals next id l it = record { id = it.id; held = it.held; frames = it.frames; few_frames = it.few_frames; pending = deleted-infos signals l.pending it.pending; current = it.current }
 
-pending-keeps : (target : Option ℕ) (g : Sig) (info : Info) (pid : ℕ) (x : TracedProcess) → MayPend x target g info → IsKept pid x (with_pending target g info x)
+pending-keeps : (target : Option ℕ) (g : Sig) (info : Info) (pid : ℕ) (x : TracedProcess) → MayPend x target g info → StaysLawful pid x (with_pending target g info x)
 unfolding with_pending
 pending-keeps None g info pid x new =
     kept-parts pid x (with_pending None g info x) refl (same_rest x _ refl refl refl refl (added-infos g info x.pending new.fits new.room)) (same_lwps x _ refl refl) refl refl
@@ -117,8 +117,8 @@ deletions-keep g pid x =
     kept-if pid (eqb (deleted_by g) 0) x x (without_job_stop g (without_pending (deleted_by g) x)) (kept-same pid x)
     (kept-next pid x (without_pending (deleted_by g) x) (without_job_stop g (without_pending (deleted_by g) x)) (without_pending-keeps (deleted_by g) pid x) (without_job_stop-keeps g pid (without_pending (deleted_by g) x)))
 
-pub told-keeps : (target : Option ℕ) (g : Sig) (info : Info) (pid : ℕ) (x : TracedProcess) → MayPend x target g info → IsKept pid x (told target g info x)
-unfolding told
-told-keeps target g info pid x new =
+pub signalled-keeps : (target : Option ℕ) (g : Sig) (info : Info) (pid : ℕ) (x : TracedProcess) → MayPend x target g info → StaysLawful pid x (signalled target g info x)
+unfolding signalled
+signalled-keeps target g info pid x new =
     kept-if pid (is_none x.ended) x (with_pending target g info (with_deletions g x)) x
     (kept-next pid x (with_deletions g x) (with_pending target g info (with_deletions g x)) (deletions-keep g pid x) (pending-keeps target g info pid (with_deletions g x) (record { fits = new.fits; room = deletions-room x target g new.room }))) (kept-same pid x)

@@ -15,7 +15,7 @@ use Rattle.pr_model.specs.Lawful.{IsLawfulProcess, IsNumberedBelow, HasParent, I
 use Rattle.pr_model.specs.Lives.{bare_process, with_made, with_reaped}
 use Rattle.pr_model.specs.Readers.{size_of, total_size}
 use Rattle.pr_model.specs.State.{TracedProcess, TracedSystem, process_of, if_live, live_process, with_process}
-use Rattle.pr_lawful.proofs.LocalLemmas.{IsKept}
+use Rattle.pr_lawful.proofs.LocalLemmas.{StaysLawful}
 use Rattle.pr_lawful.proofs.SumLemmas.{sum-change_under, sum-inserted, sum-without_id, sum-part, count_in, all_users-sum, sizes-sum}
 
 -- Changes of the system that leave it lawful: a process is replaced in its place, made, or reaped.
@@ -107,7 +107,7 @@ replaced s files pid f x h user found r =
     }
 
 -- a process that is kept in its place
-pub kept-replaces : (s : TracedSystem) (pid : ℕ) (x y : TracedProcess) → IsLawfulSystem s → IsKept pid x y → Replaces s s.files pid x y
+pub kept-replaces : (s : TracedSystem) (pid : ℕ) (x y : TracedProcess) → IsLawfulSystem s → StaysLawful pid x y → Replaces s s.files pid x y
 unfolding total_size size_of
 kept-replaces s pid x y h kept = record {
   lawful = kept.lawful;
@@ -124,7 +124,7 @@ unfound : (s : TracedSystem) (pid : ℕ) (f : TracedProcess → TracedProcess) �
 unfolding with_process
 unfound s pid f none = ap (λ ps. record s { processes = ps }) (change_under-none pid f s.processes none)
 
-pub kept : (s : TracedSystem) (pid : ℕ) (f : TracedProcess → TracedProcess) → pid ≢ 0 → ((x : TracedProcess) → process_of s pid ≡ Some x → IsKept pid x (f x)) → IsLawfulSystem s → IsLawfulSystem (with_process pid f s)
+pub kept : (s : TracedSystem) (pid : ℕ) (f : TracedProcess → TracedProcess) → pid ≢ 0 → ((x : TracedProcess) → process_of s pid ≡ Some x → StaysLawful pid x (f x)) → IsLawfulSystem s → IsLawfulSystem (with_process pid f s)
 kept s pid f user keeps h = by (process_of s pid) refl
   where
     by : (o : Option TracedProcess) → process_of s pid ≡ o → IsLawfulSystem (with_process pid f s)

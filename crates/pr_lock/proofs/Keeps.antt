@@ -12,7 +12,7 @@ use Rattle.atomic_table.proofs.Lists.{at_set, at_snoc, at_longer, set_again, set
 use Rattle.pr_lock.specs.declared.views.Origin.{Origin}
 use Rattle.pr_lock.specs.declared.views.View.{View}
 use Rattle.pr_lock.specs.History.{StartsWith, StandIn, AreAll, added, times_at}
-use Rattle.pr_lock.specs.Rule.{one_if, newcomer, Fits, IsKept}
+use Rattle.pr_lock.specs.Rule.{one_if, newcomer, Fits, KeepsRule}
 use Rattle.pr_lock.specs.Steps.{shares_in, begun, holding, departed, lessened, offspring, joined, spent, Begins, HasTaken, Tries, Leaves, carried_entries}
 use Rattle.pr_lock.proofs.Sums.{set_at, sum_by-at, sum_by-same_at, one_of_sum, two_of_sum, sum_by-only}
 use Rattle.pr_lock.proofs.Histories.{StartsWith-itself, StartsWith-longer, StartsWith-longer_of, StartsWith-whole, StandIn-longer, StandIn-added, IsInOrder-added, times_at-added, longer-whole}
@@ -24,7 +24,7 @@ zero_or_one (suc n) small = inr (omega arith)
 module _ {V I : Type 0} (entries : V → List I) (comes : V → V → Type 0) (made : Origin V) where
   -- a lock opens with the first seat, which has no share yet
   pub opens : (value : V) (slots : List (Option V)) → slots ≡ Some value ∷ [] → made.first.value ≡ value → entries value ≡ [] → comes value value
-      → IsKept entries comes made (opening (0 ∷ 0 ∷ []) slots (newcomer {V = V} {I = I} made))
+      → KeepsRule entries comes made (opening (0 ∷ 0 ∷ []) slots (newcomer {V = V} {I = I} made))
   opens value slots one first empty source = record {
     log = [];
     held = 0;
@@ -71,12 +71,12 @@ module _ {V I : Type 0} (entries : V → List I) (comes : V → V → Type 0) (m
   source_of None value is source = tt
   source_of (Some x) value is source = subst (λ (y : Origin V). comes value y.first.value) (sym is) source
 
-  found_held : (s : State (Option V) (View V I)) (kept : IsKept entries comes made s) → slice_index s.words 0 ≡ kept.held
+  found_held : (s : State (Option V) (View V I)) (kept : KeepsRule entries comes made s) → slice_index s.words 0 ≡ kept.held
   found_held s kept = ap (λ ws. slice_index ws 0) kept.words
 
   -- the first seat gets its shares
   pub begins : (slots id : ℕ) (m : Me (Option V) (View V I)) → m ≡ (newcomer made, [])
-      → Allows (IsKept entries comes made) slots id m 1 (λ _. 1) (Begins m)
+      → Allows (KeepsRule entries comes made) slots id m 1 (λ _. 1) (Begins m)
   begins slots id m is s kept long at small =
       let v = m.0 in
       let new : v ≡ newcomer made = ap (λ p. p.0) is in
@@ -116,9 +116,9 @@ module _ {V I : Type 0} (entries : V → List I) (comes : V → V → Type 0) (m
       )
 
   -- a seat finds the lock free, and takes the value
-  holds_after : (s : State (Option V) (View V I)) (kept : IsKept entries comes made s) (id : ℕ) (v : View V I) → get_elem? s.views id ≡ some v
+  holds_after : (s : State (Option V) (View V I)) (kept : KeepsRule entries comes made s) (id : ℕ) (v : View V I) → get_elem? s.views id ≡ some v
       → v.entered ≡ None → 0 < v.shares → kept.held ≡ 0 → (log : List I) → log ≡ kept.log
-      → IsKept entries comes made (record { words = slice_set s.words 0 1; homes = slice_set s.homes 0 none; views = slice_set s.views id (holding v log) })
+      → KeepsRule entries comes made (record { words = slice_set s.words 0 1; homes = slice_set s.homes 0 none; views = slice_set s.views id (holding v log) })
   holds_after s kept id v at idle some_share free log same =
       let f = kept.fits id v at in
       let out : one_if (is_some v.entered) ≡ 0 = ap (λ (o : Option (List I)). one_if (is_some o)) idle in
@@ -142,15 +142,15 @@ module _ {V I : Type 0} (entries : V → List I) (comes : V → V → Type 0) (m
       }
 
   -- a seat finds the lock taken, and nothing changes
-  same_after : (s : State (Option V) (View V I)) (kept : IsKept entries comes made s) (id : ℕ) (v : View V I) → get_elem? s.views id ≡ some v
-      → kept.held ≡ 1 → IsKept entries comes made (record { words = slice_set s.words 0 1; homes = s.homes; views = slice_set s.views id v })
+  same_after : (s : State (Option V) (View V I)) (kept : KeepsRule entries comes made s) (id : ℕ) (v : View V I) → get_elem? s.views id ≡ some v
+      → kept.held ≡ 1 → KeepsRule entries comes made (record { words = slice_set s.words 0 1; homes = s.homes; views = slice_set s.views id v })
   same_after s kept id v at busy =
       let words : s.words ≡ slice_set s.words 0 1 = kept.words ∙ (ap (λ held. held ∷ kept.begun ∷ []) busy ∙ sym (ap (λ ws. slice_set ws 0 1) kept.words)) in
       let views : s.views ≡ slice_set s.views id v = sym (set_again s.views id v at) in
-      subst (IsKept entries comes made) (λ i. record { words = words i; homes = s.homes; views = views i }) kept
+      subst (KeepsRule entries comes made) (λ i. record { words = words i; homes = s.homes; views = views i }) kept
 
   pub tries : (slots id : ℕ) (m : Me (Option V) (View V I)) → m.0.entered ≡ None → 0 < m.0.shares
-      → Allows (IsKept entries comes made) slots id m 0 (λ _. 1) (Tries entries comes m)
+      → Allows (KeepsRule entries comes made) slots id m 0 (λ _. 1) (Tries entries comes m)
   tries slots id m idle some_share s kept long at small =
       let v = m.0 in
       let f = kept.fits id v at in
@@ -187,7 +187,7 @@ module _ {V I : Type 0} (entries : V → List I) (comes : V → V → Type 0) (m
   entered_is log old entered inside is = subst (λ (o : Option (List I)). IfSome o (λ l. l ≡ log)) is inside
 
   -- one seat at most is inside
-  outside : (s : State (Option V) (View V I)) (kept : IsKept entries comes made s) (id seat : ℕ) (v u : View V I) → get_elem? s.views id ≡ some v
+  outside : (s : State (Option V) (View V I)) (kept : KeepsRule entries comes made s) (id seat : ℕ) (v u : View V I) → get_elem? s.views id ≡ some v
       → get_elem? s.views seat ≡ some u → seat ≢ id → one_if (is_some v.entered) ≡ 1 → u.entered ≡ None
   outside s kept id seat v u at there apart inside =
       none_where u.entered (omega (arith, two_of_sum (λ (x : View V I). one_if (is_some x.entered)) s.views id seat v u at there apart, inside, kept.inside, kept.bit))
@@ -197,10 +197,10 @@ module _ {V I : Type 0} (entries : V → List I) (comes : V → V → Type 0) (m
       none_where (Some l) e = absurd (omega (arith, e))
 
   -- a seat gives the value back, with a longer history
-  home_after : (s : State (Option V) (View V I)) (kept : IsKept entries comes made s) (id : ℕ) (v : View V I) (homes : List (logic.Option (Option V))) (old : List I) (value : V)
+  home_after : (s : State (Option V) (View V I)) (kept : KeepsRule entries comes made s) (id : ℕ) (v : View V I) (homes : List (logic.Option (Option V))) (old : List I) (value : V)
       → get_elem? s.views id ≡ some v → v.entered ≡ Some old → 0 < v.shares → StartsWith (entries value) old → comes value made.first.value
       → homes ≡ slice_set s.homes 0 (some (Some value))
-      → IsKept entries comes made (record { words = slice_set s.words 0 0; homes = homes; views = slice_set s.views id (departed v (entries value)) })
+      → KeepsRule entries comes made (record { words = slice_set s.words 0 0; homes = homes; views = slice_set s.views id (departed v (entries value)) })
   home_after s kept id v homes old value at entered some_share grown source put =
       let log = entries value in
       let w = departed v log in
@@ -248,7 +248,7 @@ module _ {V I : Type 0} (entries : V → List I) (comes : V → V → Type 0) (m
 
   pub leaves : (slots id : ℕ) (m before : Me (Option V) (View V I)) (old : List I) (value : V)
       → m ≡ (before.0, (0, Some value) ∷ rest before.1) → before.0.entered ≡ Some old → 0 < before.0.shares → StartsWith (entries value) old → comes value made.first.value
-      → Allows (IsKept entries comes made) slots id m 0 (λ _. 0) (Leaves entries m)
+      → Allows (KeepsRule entries comes made) slots id m 0 (λ _. 0) (Leaves entries m)
   leaves slots id m before old value now entered some_share grown source s kept long at small =
       let f = kept.fits id m.0 at in
       let view : m.0 ≡ before.0 = ap (λ x. x.0) now in
@@ -268,7 +268,7 @@ module _ {V I : Type 0} (entries : V → List I) (comes : V → V → Type 0) (m
       )
 
   -- a seat gives a share to a new seat
-  pub splits : (id : ℕ) (v : View V I) → 2 ≤ v.shares → Splits (IsKept entries comes made) id v (lessened v) (offspring v)
+  pub splits : (id : ℕ) (v : View V I) → 2 ≤ v.shares → Splits (KeepsRule entries comes made) id v (lessened v) (offspring v)
   splits id v two s kept at =
       let w = lessened v in
       let n = offspring v in
@@ -300,7 +300,7 @@ module _ {V I : Type 0} (entries : V → List I) (comes : V → V → Type 0) (m
 
   -- a seat takes in another
   pub joins : (id : ℕ) (v : View V I) (other : ℕ) (w : View V I) → 0 < v.shares → w.entered ≡ None → w.fresh ≡ false
-      → Joins (IsKept entries comes made) id v other w (joined v w) spent
+      → Joins (KeepsRule entries comes made) id v other w (joined v w) spent
   joins id v other w some_share idle old s kept at apart there =
       let both = joined v w in
       let none : View V I = spent in
@@ -359,7 +359,7 @@ module _ {V I : Type 0} (entries : V → List I) (comes : V → V → Type 0) (m
     pub source : comes value made.first.value
 
   pub ends : (id : ℕ) (v : View V I) (words : List ℕ) (slots : List (Option V)) (last : Option V) → v.entered ≡ None → v.shares ≡ made.seats → 0 < v.shares
-      → Final (Seen (IsKept entries comes made) id v) words slots → get_elem? slots 0 ≡ some last → IsSomeAnd last (Ends v)
+      → Final (Seen (KeepsRule entries comes made) id v) words slots → get_elem? slots 0 ≡ some last → IsSomeAnd last (Ends v)
   ends id v words slots last idle all some_share (s, (kept, at), _, _, values) there =
       let shares = one_of_sum (λ (u : View V I). u.shares) s.views id v at in
       let begun : kept.begun ≡ 1 =

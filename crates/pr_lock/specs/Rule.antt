@@ -39,7 +39,7 @@ module _ {V I : Type 0} where
       pub source : comes value made.first.value
 
     -- what is true of the table between any two steps
-    pub record IsKept (s : State (Option V) (View V I)) : Type 0 where
+    pub record KeepsRule (s : State (Option V) (View V I)) : Type 0 where
       pub log : List I
       pub held : ℕ
       pub begun : ℕ

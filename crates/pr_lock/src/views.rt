@@ -32,9 +32,9 @@ pub struct View<V, I> {
 pub struct OneHistory;
 
 impl<V: Logged> TableRule<Option<V>, View<V, V::Item>, Origin<V>> for OneHistory {
-    ghost use Rattle.pr_lock.specs.Rule.{IsKept, newcomer};
+    ghost use Rattle.pr_lock.specs.Rule.{KeepsRule, newcomer};
 
-    ghost holds = { IsKept V.entries V.comes };
+    ghost holds = { KeepsRule V.entries V.comes };
 
     ghost first = { newcomer };
 }

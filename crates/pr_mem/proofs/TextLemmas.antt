@@ -82,12 +82,12 @@ text_at-fails space a (suc n) bad fails some = rw fails refl
 -- ---- the bytes of a text that was read
 
 -- a text that is not over begins with its byte
-record Follows (b : ℕ) (behind : Result (Option (List ℕ)) BadByte) (text : List ℕ) : Type 0 where
+record TextFollows (b : ℕ) (behind : Result (Option (List ℕ)) BadByte) (text : List ℕ) : Type 0 where
   pub more : List ℕ
   pub behind_is : behind ≡ Ok (Some more)
   pub text_is : text ≡ b ∷ more
 
-follows : (b : ℕ) (behind : Result (Option (List ℕ)) BadByte) (text : List ℕ) → text_behind b behind ≡ Ok (Some text) → Follows b behind text
+follows : (b : ℕ) (behind : Result (Option (List ℕ)) BadByte) (text : List ℕ) → text_behind b behind ≡ Ok (Some text) → TextFollows b behind text
 follows b (Err bad) text e = absurd (cc)
 follows b (Ok None) text e = absurd (cc)
 follows b (Ok (Some more)) text e = record { more = more; behind_is = refl; text_is = (cc) }

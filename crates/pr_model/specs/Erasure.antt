@@ -72,17 +72,17 @@ erased s = erased_system s.system
 
 -- The traced state without what controllers have set, in which an lwp is where the kernel has it: what is the same in
 -- two states but for that is the same in their erasures.
-abbrev pub BareLwp : Type 0
-BareLwp = LwpOf Phase Nothing
+abbrev pub UncontrolledLwp : Type 0
+UncontrolledLwp = LwpOf Phase Nothing
 
-abbrev pub BareProcess : Type 0
-BareProcess = ProcessOf Nothing Phase Nothing
+abbrev pub UncontrolledProcess : Type 0
+UncontrolledProcess = ProcessOf Nothing Phase Nothing
 
-abbrev pub BareSystem : Type 0
-BareSystem = SystemOf Nothing Phase Nothing
+abbrev pub UncontrolledSystem : Type 0
+UncontrolledSystem = SystemOf Nothing Phase Nothing
 
-unfoldable pub bare_lwp : TracedLwp → BareLwp
-bare_lwp l = record {
+unfoldable pub uncontrolled_lwp : TracedLwp → UncontrolledLwp
+uncontrolled_lwp l = record {
   regs = l.regs;
   held = l.held;
   pending = l.pending;
@@ -93,8 +93,8 @@ bare_lwp l = record {
   control = tt;
 }
 
-unfoldable pub bare_process : TracedProcess → BareProcess
-bare_process p = record {
+unfoldable pub uncontrolled_process : TracedProcess → UncontrolledProcess
+uncontrolled_process p = record {
   parent = p.parent;
   program = p.program;
   made_at = p.made_at;
@@ -105,15 +105,15 @@ bare_process p = record {
   pending = p.pending;
   job_stop = p.job_stop;
   next_lwp = p.next_lwp;
-  lwps = map_each bare_lwp p.lwps;
+  lwps = map_each uncontrolled_lwp p.lwps;
   control = tt;
 }
 
-unfoldable pub bare_system : TracedSystem → BareSystem
-bare_system s = record {
+unfoldable pub uncontrolled_system : TracedSystem → UncontrolledSystem
+uncontrolled_system s = record {
   programs = s.programs;
   clock = s.clock;
   made = s.made;
   files = s.files;
-  processes = map_each bare_process s.processes;
+  processes = map_each uncontrolled_process s.processes;
 }

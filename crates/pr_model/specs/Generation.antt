@@ -44,5 +44,5 @@ module _ {C H K : Type 0} where
 
   -- A signal is sent to a process, or to the lwp of an id in it: first it deletes, and then it pends, also where it is
   -- ignored. A zombie is sent nothing.
-  unfoldable pub told : Option ℕ → Sig → Info → ProcessOf C H K → ProcessOf C H K
-  told target s info p = if is_none p.ended then with_pending target s info (with_deletions s p) else p
+  unfoldable pub signalled : Option ℕ → Sig → Info → ProcessOf C H K → ProcessOf C H K
+  signalled target s info p = if is_none p.ended then with_pending target s info (with_deletions s p) else p

@@ -10,7 +10,7 @@ pub mod FirstState
 pub mod Generation
 pub mod Handles
 pub mod InstructionEffects
-pub mod Kept
+pub mod HistoryViews
 pub mod Lawful
 pub mod Legal
 pub mod Lives

@@ -7,7 +7,7 @@ use Rattle.pr_num.specs.declared.syscalls.Sysno.{Sysno}
 use Rattle.pr_num.specs.declared.syscalls.Sysno.TheVariants.{Fork}
 use Rattle.pr_parts.specs.FileCalls.{with_all_shared}
 use Rattle.pr_num.specs.ById.{change_under, inserted, map_each, without_id}
-use Rattle.pr_model.specs.Generation.{told}
+use Rattle.pr_model.specs.Generation.{signalled}
 use Rattle.pr_model.specs.Machines.{Machine}
 use Rattle.pr_parts.specs.PendingSignals.{nothing_pending}
 use Rattle.pr_model.specs.Registers.{with_result}
@@ -44,9 +44,9 @@ module _ {C H K : Type 0} where
   orphaned pid p = if p.parent == pid then record p { parent = 0 } else p
 
   -- the parent of a process that ended gets SIGCLD, unless that is process 0
-  unfoldable pub with_parent_told : ℕ → ℕ → ℕ → SystemOf C H K → SystemOf C H K
-  with_parent_told parent pid status s =
-      if parent == 0 then s else with_process parent (told None Cld (of_child pid status)) s
+  unfoldable pub with_parent_signalled : ℕ → ℕ → ℕ → SystemOf C H K → SystemOf C H K
+  with_parent_signalled parent pid status s =
+      if parent == 0 then s else with_process parent (signalled None Cld (of_child pid status)) s
 
   unfoldable pub without_lwp : ℕ → ProcessOf C H K → ProcessOf C H K
   without_lwp id p = record p { lwps = without_id id p.lwps }
@@ -168,7 +168,7 @@ module _ {C H K : Type 0} (m : Machine C H K) where
   -- 0 as their parent, and its own parent gets SIGCLD.
   unfoldable pub with_this_ended : ℕ → ProcessOf C H K → ℕ → SystemOf C H K → SystemOf C H K
   with_this_ended pid p status s =
-      with_parent_told p.parent pid status (record s {
+      with_parent_signalled p.parent pid status (record s {
         files = with_all_closed s.files p.fds;
         processes = map_each (orphaned pid) (change_under pid (zombie status) s.processes);
       })

@@ -5,7 +5,7 @@ use Rattle.pr_num.specs.declared.signals.Sig.{Sig}
 use Rattle.pr_num.specs.declared.signals.Sig.TheVariants.{Kill}
 use Rattle.pr_parts.specs.SignalRules.{takeable_signal, action_of}
 use Rattle.pr_parts.specs.declared.actions.Action.{Action}
-use Rattle.pr_model.specs.Generation.{told}
+use Rattle.pr_model.specs.Generation.{signalled}
 use Rattle.pr_model.specs.Lives.{with_ended}
 use Rattle.pr_model.specs.Machines.{Machine}
 use Rattle.pr_parts.specs.PendingSignals.{Pending, pending_set, info_of}
@@ -32,7 +32,7 @@ is_kill _ = false
 module _ {C H K : Type 0} (m : Machine C H K) where
   unfoldable pub generated : ℕ → Option ℕ → Sig → Info → SystemOf C H K → SystemOf C H K
   generated pid target s info system =
-      if is_kill s then with_ended m pid (signal_number s) system else with_process pid (told target s info) system
+      if is_kill s then with_ended m pid (signal_number s) system else with_process pid (signalled target s info) system
 
 -- ---- taking
 

@@ -37,7 +37,7 @@ pub record MayStep (u : UntracedSystem) (pid id : ℕ) (p : UntracedProcess) (l 
   pub not_suspended : l.suspended ≡ false
 
 -- a step of the lwp of an id, which makes this transition
-pub record Makes (u : UntracedSystem) (pid id : ℕ) (p : UntracedProcess) (l : UntracedLwp) (t : Transition) (new : UntracedSystem) : Type 0 where
+pub record MakesStep (u : UntracedSystem) (pid id : ℕ) (p : UntracedProcess) (l : UntracedLwp) (t : Transition) (new : UntracedSystem) : Type 0 where
   pub may_step : MayStep u pid id p l
   pub state : new ≡ after_transition untraced pid p id l t u
 
@@ -72,7 +72,7 @@ pub record Executes (u : UntracedSystem) (pid id : ℕ) (new : UntracedSystem) :
   pub regs : List ℕ
   pub store : Option Store
   pub effect : instruction_effect process.space [] lwp.regs ≡ runs regs store
-  pub makes : Makes u pid id process lwp (ran process.space regs store) new
+  pub makes : MakesStep u pid id process lwp (ran process.space regs store) new
 
 -- an instruction incurred a fault, whose signal becomes pending for the lwp
 pub record Incurs (u : UntracedSystem) (pid id : ℕ) (f : Flt) (new : UntracedSystem) : Type 0 where
@@ -81,7 +81,7 @@ pub record Incurs (u : UntracedSystem) (pid id : ℕ) (f : Flt) (new : UntracedS
   pub runs_program : RunsProgram process lwp
   pub address : ℕ
   pub effect : instruction_effect process.space [] lwp.regs ≡ faults f address
-  pub makes : Makes u pid id process lwp (incurred f address) new
+  pub makes : MakesStep u pid id process lwp (incurred f address) new
 
 -- Call entry, a silent move: an lwp comes to a system call.
 pub record ComesToCall (u : UntracedSystem) (new : UntracedSystem) : Type 0 where
@@ -93,7 +93,7 @@ pub record ComesToCall (u : UntracedSystem) (new : UntracedSystem) : Type 0 wher
   pub call : Sysno
   pub regs : List ℕ
   pub effect : instruction_effect process.space [] lwp.regs ≡ calls call regs
-  pub makes : Makes u pid id process lwp (entered call regs) new
+  pub makes : MakesStep u pid id process lwp (entered call regs) new
 
 -- ---- system calls
 
@@ -109,7 +109,7 @@ pub record Performs (u : UntracedSystem) (pid id : ℕ) (process : UntracedProce
   pub does_it : call_effect u pid process id lwp since call args ≡ effect
   pub over : is_over effect ≡ true
   pub gives : result ≡ result_of_effect effect
-  pub makes : Makes u pid id process lwp (performed call args since effect) new
+  pub makes : MakesStep u pid id process lwp (performed call args since effect) new
 
 -- a call was made
 pub record MakesCall (u : UntracedSystem) (pid id : ℕ) (call : Sysno) (result : Res) (new : UntracedSystem) : Type 0 where
@@ -125,7 +125,7 @@ pub record FallsAsleep (u : UntracedSystem) (pid id : ℕ) (call : Sysno) (new :
   pub lwp : UntracedLwp
   pub at : lwp.phase ≡ at_call call
   pub does_it : call_effect u pid process id lwp u.clock call (arguments lwp.regs) ≡ sleeps
-  pub makes : Makes u pid id process lwp (performed call (arguments lwp.regs) u.clock sleeps) new
+  pub makes : MakesStep u pid id process lwp (performed call (arguments lwp.regs) u.clock sleeps) new
 
 -- a call in which an lwp slept is ready, and performed anew
 pub record Wakes (u : UntracedSystem) (pid id : ℕ) (call : Sysno) (result : Res) (new : UntracedSystem) : Type 0 where
@@ -149,7 +149,7 @@ pub record IsInterrupted (u : UntracedSystem) (pid id : ℕ) (call : Sysno) (asl
   pub args : List ℕ
   pub in_call : IsIn lwp call args asleep
   pub caught : is_caught process.dispositions lwp.current ≡ true
-  pub makes : Makes u pid id process lwp (interrupted call args) new
+  pub makes : MakesStep u pid id process lwp (interrupted call args) new
 
 -- ---- signals
 
@@ -169,7 +169,7 @@ pub record TakesOwn (u : UntracedSystem) (pid id : ℕ) (s : Sig) (new : Untrace
   pub lwp : UntracedLwp
   pub may_take : MayTake lwp
   pub its_own : own_takeable lwp ≡ Some s
-  pub makes : Makes u pid id process lwp (own_taken lwp s) new
+  pub makes : MakesStep u pid id process lwp (own_taken lwp s) new
 
 pub record TakesShared (u : UntracedSystem) (pid id : ℕ) (s : Sig) (new : UntracedSystem) : Type 0 where
   pub process : UntracedProcess
@@ -177,7 +177,7 @@ pub record TakesShared (u : UntracedSystem) (pid id : ℕ) (s : Sig) (new : Untr
   pub may_take : MayTake lwp
   pub none_own : own_takeable lwp ≡ None
   pub shared : shared_takeable process lwp ≡ Some s
-  pub makes : Makes u pid id process lwp (shared_taken process s) new
+  pub makes : MakesStep u pid id process lwp (shared_taken process s) new
 
 -- what is done with the current signal: a handler runs only in a program
 pub data Acting (p : UntracedProcess) (l : UntracedLwp) (c : Current) : Transition → Type 0 where
@@ -194,7 +194,7 @@ pub record ActsOn (u : UntracedSystem) (pid id : ℕ) (s : Sig) (new : UntracedS
   pub of_signal : current.signal ≡ s
   pub transition : Transition
   pub acting : Acting process lwp current transition
-  pub makes : Makes u pid id process lwp transition new
+  pub makes : MakesStep u pid id process lwp transition new
 
 -- ---- from outside
 

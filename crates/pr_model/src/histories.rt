@@ -14,9 +14,9 @@ pub struct History {
 
 impl Model for History {
     ghost use Rattle.std.specs.Prelude.{vec_capacity, vec_len, ◌-◌};
-    ghost use Rattle.pr_model.specs.Kept.{Kept};
+    ghost use Rattle.pr_model.specs.HistoryViews.{HistoryView};
 
-    ghost Value = { Kept };
+    ghost Value = { HistoryView };
 
     ghost view = { λ a. record { entries = a.entries.items; room = vec_capacity a.entries - vec_len a.entries } };
 }

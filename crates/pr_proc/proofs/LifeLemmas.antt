@@ -4,7 +4,7 @@ use Rattle.std.proofs.lemmas.Bool.{cases_Bool}
 use Rattle.std.proofs.lemmas.Option.{same_Some}
 use Rattle.pr_num.specs.ById.{change_under, map_each, under}
 use Rattle.pr_num.specs.Files.{with_all_closed}
-use Rattle.pr_model.specs.Lives.{orphaned, with_ended, with_lwp_ended, with_parent_told, with_this_ended, zombie}
+use Rattle.pr_model.specs.Lives.{orphaned, with_ended, with_lwp_ended, with_parent_signalled, with_this_ended, zombie}
 use Rattle.pr_model.specs.Machines.{traced}
 use Rattle.pr_model.specs.State.{TracedSystem, TracedProcess, if_live, live_process, process_of}
 use Rattle.pr_model.proofs.StateLemmas.{live_process-found, live_process-live}
@@ -25,7 +25,7 @@ pub live_process-under : (s : TracedSystem) (pid : ℕ) → IsSome (live_process
 live_process-under s pid some = live-some s pid (live_process s pid) refl some
 
 -- the end of a live process
-pub with_ended-live : (s : TracedSystem) (pid status : ℕ) (p : TracedProcess) → live_process s pid ≡ Some p → with_parent_told p.parent pid status (record s { files = with_all_closed s.files p.fds; processes = map_each (orphaned pid) (change_under pid (zombie traced status) s.processes) }) ≡ with_ended traced pid status s
+pub with_ended-live : (s : TracedSystem) (pid status : ℕ) (p : TracedProcess) → live_process s pid ≡ Some p → with_parent_signalled p.parent pid status (record s { files = with_all_closed s.files p.fds; processes = map_each (orphaned pid) (change_under pid (zombie traced status) s.processes) }) ≡ with_ended traced pid status s
 unfolding with_ended with_this_ended
 with_ended-live s pid status p e = rw e refl
 

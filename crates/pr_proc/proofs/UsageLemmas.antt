@@ -6,8 +6,8 @@ use Rattle.pr_num.specs.Signals.{signal_number}
 use Rattle.pr_num.specs.declared.infos.Info.{Info}
 use Rattle.pr_num.specs.declared.signals.Sig.{Sig}
 use Rattle.pr_parts.specs.SignalRules.{deleted_by}
-use Rattle.pr_model.specs.Generation.{ends_job_stop, told, with_deletions, with_pending, without_job_stop, without_pending}
-use Rattle.pr_model.specs.Lives.{bare_process, ended_if_live, orphaned, with_made, with_ended, with_parent_told, with_reaped, with_this_ended, zombie}
+use Rattle.pr_model.specs.Generation.{ends_job_stop, signalled, with_deletions, with_pending, without_job_stop, without_pending}
+use Rattle.pr_model.specs.Lives.{bare_process, ended_if_live, orphaned, with_made, with_ended, with_parent_signalled, with_reaped, with_this_ended, zombie}
 use Rattle.pr_model.specs.Machines.{nothing_set, nothing_used, traced, zombie_control}
 use Rattle.pr_model.specs.Signals.{generated, is_kill}
 use Rattle.pr_model.specs.State.{TracedProcess, TracedSystem, live_process, with_process}
@@ -50,15 +50,15 @@ unfolding with_pending
 pending-usage None g info p = refl
 pending-usage (Some id) g info p = refl
 
-pub told-usage : (target : Option ℕ) (g : Sig) (info : Info) (p : TracedProcess) → (told target g info p).control.usage ≡ p.control.usage
-unfolding told
-told-usage target g info p =
+pub signalled-usage : (target : Option ℕ) (g : Sig) (info : Info) (p : TracedProcess) → (signalled target g info p).control.usage ≡ p.control.usage
+unfolding signalled
+signalled-usage target g info p =
     elim (cases_Bool (is_none p.ended)) [ inl e ↦ rw e (pending-usage target g info (with_deletions g p) ∙ deletions-usage g p) | inr e ↦ rw e refl ]
 
-AllUsedAtMost-told : (n parent pid status : ℕ) (s : TracedSystem) → AllUsedAtMost n s → AllUsedAtMost n (with_parent_told parent pid status s)
-unfolding with_parent_told
-AllUsedAtMost-told n parent pid status s h =
-    elim (cases_Bool (eqb parent 0)) [ inl none ↦ rw none h | inr some ↦ rw some (AllUsedAtMost-with_process n parent _ s (λ p. told-usage _ _ _ p) h) ]
+AllUsedAtMost-signalled : (n parent pid status : ℕ) (s : TracedSystem) → AllUsedAtMost n s → AllUsedAtMost n (with_parent_signalled parent pid status s)
+unfolding with_parent_signalled
+AllUsedAtMost-signalled n parent pid status s h =
+    elim (cases_Bool (eqb parent 0)) [ inl none ↦ rw none h | inr some ↦ rw some (AllUsedAtMost-with_process n parent _ s (λ p. signalled-usage _ _ _ p) h) ]
 
 pub AllUsedAtMost-ended : (n pid : ℕ) (p : TracedProcess) (status : ℕ) (s : TracedSystem) → AllUsedAtMost n s → AllUsedAtMost n (with_this_ended traced pid p status s)
 unfolding with_this_ended
@@ -66,7 +66,7 @@ AllUsedAtMost-ended n pid p status s h =
     let buried : AllUsedAtMost n (record s { processes = change_under pid (zombie traced status) s.processes }) = record {
       each = All-change_under (HasUsedAtMost n) pid (zombie traced status) s.processes (λ q at within. subst (UsedAtMost n) (sym (zombie-usage status q)) within) h.each;
     } in
-    AllUsedAtMost-told n p.parent pid status _ (record { each = (AllUsedAtMost-each n (orphaned pid) _ s (orphaned-usage pid) buried).each })
+    AllUsedAtMost-signalled n p.parent pid status _ (record { each = (AllUsedAtMost-each n (orphaned pid) _ s (orphaned-usage pid) buried).each })
 
 -- what bounds all counts bounds those of a process
 pub AllUsedAtMost-under : (n pid : ℕ) (s : TracedSystem) (p : TracedProcess) → under pid s.processes ≡ Some p → AllUsedAtMost n s → UsedAtMost n p.control.usage
@@ -79,7 +79,7 @@ AllUsedAtMost-if_live n pid status s (Some p) h = AllUsedAtMost-ended n pid p st
 pub AllUsedAtMost-generated : (n pid : ℕ) (target : Option ℕ) (g : Sig) (info : Info) (s : TracedSystem) → AllUsedAtMost n s → AllUsedAtMost n (generated traced pid target g info s)
 unfolding generated with_ended
 AllUsedAtMost-generated n pid target g info s h =
-    elim (cases_Bool (is_kill g)) [ inl kills ↦ rw kills (AllUsedAtMost-if_live n pid (signal_number g) s (live_process s pid) h) | inr other ↦ rw other (AllUsedAtMost-with_process n pid (told target g info) s (told-usage target g info) h) ]
+    elim (cases_Bool (is_kill g)) [ inl kills ↦ rw kills (AllUsedAtMost-if_live n pid (signal_number g) s (live_process s pid) h) | inr other ↦ rw other (AllUsedAtMost-with_process n pid (signalled target g info) s (signalled-usage target g info) h) ]
 
 -- ---- a process more, and one less
 

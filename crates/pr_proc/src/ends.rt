@@ -4,8 +4,8 @@ ghost use Rattle.std.specs.Option.{ForSome};
 ghost use Rattle.pr_num.specs.ById.{map_each, under};
 ghost use Rattle.pr_num.specs.Infos.{of_child};
 ghost use Rattle.pr_num.specs.declared.signals.Sig.TheVariants.{Cld};
-ghost use Rattle.pr_model.specs.Generation.{told};
-ghost use Rattle.pr_model.specs.Lives.{orphaned, with_ended, with_parent_told, zombie};
+ghost use Rattle.pr_model.specs.Generation.{signalled};
+ghost use Rattle.pr_model.specs.Lives.{orphaned, with_ended, with_parent_signalled, zombie};
 ghost use Rattle.pr_model.specs.Machines.{traced, zombie_control};
 ghost use Rattle.pr_model.specs.State.{live_process, with_process};
 
@@ -73,15 +73,15 @@ fn orphan_each(processes: &mut ById<Proc>, parent: u32)
 /// Tells a process that a child of it ended.
 #[tactic(auto, using(crate::proofs::SignalLemmas::rooms))]
 fn tell_of_child(process: &mut Proc, pid: u32, status: u64)
-    ensures { process.new ≡ told None Cld (of_child pid status) process.old }
+    ensures { process.new ≡ signalled None Cld (of_child pid status) process.old }
 {
     tell(process, None, Sig::Cld, Info::of_child(pid, status));
 }
 
 /// Tells the parent of a process that ended, unless that is process 0 or there is none.
-#[tactic(auto, using(pr_num::proofs::ByIdLaws::by_id_laws), unfolding(pr_model::specs::Lives::with_parent_told, pr_model::specs::State::with_process))]
+#[tactic(auto, using(pr_num::proofs::ByIdLaws::by_id_laws), unfolding(pr_model::specs::Lives::with_parent_signalled, pr_model::specs::State::with_process))]
 fn tell_parent(sys: &mut Sys, parent: u32, pid: u32, status: u64)
-    ensures { sys.new ≡ with_parent_told parent pid status sys.old }
+    ensures { sys.new ≡ with_parent_signalled parent pid status sys.old }
 {
     if parent == 0 || !sys.processes.contains(parent) {
         return;

@@ -1,7 +1,7 @@
 //! How signals are generated (signal.h(3HEAD)).
 ghost use Rattle.std.specs.Prelude.{◌≡◌, IsSome, IfSome, IsTrue};
 ghost use Rattle.pr_num.specs.ById.{change_under, map_each};
-ghost use Rattle.pr_model.specs.Generation.{lwp_with_pending, lwp_without_pending, told, with_deletions, with_pending, without_job_stop, without_pending};
+ghost use Rattle.pr_model.specs.Generation.{lwp_with_pending, lwp_without_pending, signalled, with_deletions, with_pending, without_job_stop, without_pending};
 ghost use Rattle.pr_model.specs.Machines.{traced};
 ghost use Rattle.pr_model.specs.Signals.{disposition_of, generated};
 ghost use Rattle.pr_model.specs.State.{live_process, with_process};
@@ -101,10 +101,10 @@ fn add(process: &mut Proc, lwp: Option<u32>, s: Sig, info: Info)
 }
 
 /// A signal is sent to a process, or to the lwp of an id in it; a zombie is sent nothing.
-#[tactic(auto, unfolding(pr_model::specs::Generation::told))]
+#[tactic(auto, unfolding(pr_model::specs::Generation::signalled))]
 pub(crate) fn tell(process: &mut Proc, lwp: Option<u32>, s: Sig, info: Info)
     requires { IsTrue (has_room_for lwp s (with_deletions s process.old)) }
-    ensures { process.new ≡ told lwp s info process.old }
+    ensures { process.new ≡ signalled lwp s info process.old }
 {
     if process.ended.is_none() {
         delete_by(process, s);

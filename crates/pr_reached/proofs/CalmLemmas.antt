@@ -12,8 +12,8 @@ use Rattle.pr_num.specs.declared.signals.Sig.TheVariants.{Cld}
 use Rattle.pr_parts.specs.SignalRules.{deleted_by}
 use Rattle.pr_lawful.proofs.FileLemmas.{choice}
 use Rattle.pr_model.specs.Changes.{Change, files_are, space_is, signals, signals_itself, takes_shared, job_stops, disposition_is, held_is, resumes, forks, reaps, becomes, makes_lwp, suspends, with_fds, with_space, with_shared_taken, with_job_stop, with_disposition_of, with_held, resumed, with_suspended, changed, all_changed}
-use Rattle.pr_model.specs.Generation.{ends_job_stop, lwp_with_pending, lwp_without_pending, told, with_deletions, with_pending, without_job_stop, without_pending}
-use Rattle.pr_model.specs.Lives.{bare_process, ended_if_live, new_lwp, orphaned, started, with_child, with_ended, with_made, with_new_lwp, with_parent_told, with_program, with_reaped, with_this_ended, zombie}
+use Rattle.pr_model.specs.Generation.{ends_job_stop, lwp_with_pending, lwp_without_pending, signalled, with_deletions, with_pending, without_job_stop, without_pending}
+use Rattle.pr_model.specs.Lives.{bare_process, ended_if_live, new_lwp, orphaned, started, with_child, with_ended, with_made, with_new_lwp, with_parent_signalled, with_program, with_reaped, with_this_ended, zombie}
 use Rattle.pr_model.specs.Machines.{no_marks, traced}
 use Rattle.pr_model.specs.Signals.{generated, is_kill}
 use Rattle.pr_model.specs.State.{TracedLwp, TracedProcess, TracedSystem, live_process, lwp_of, process_of, with_lwp, with_process}
@@ -77,9 +77,9 @@ module _ (id : ℕ) where
       let lwps = each-there IsStopless id (lwp_without_pending (deleted_by g)) x.lwps (λ l none. none) h.lwp in
       choice IsCalm (deleted_by g == 0) _ _ (λ nothing. h) (λ some. choice IsCalm (ends_job_stop g) _ _ (λ ends. record { lwp = lwps }) (λ stays. record { lwp = lwps }))
 
-  told-calm : (target : Option ℕ) (g : Sig) (info : Info) → KeepsCalm (told target g info)
-  unfolding told
-  told-calm target g info x h =
+  signalled-calm : (target : Option ℕ) (g : Sig) (info : Info) → KeepsCalm (signalled target g info)
+  unfolding signalled
+  signalled-calm target g info x h =
       choice IsCalm (is_none x.ended) _ _ (λ live. pending-calm target g info (with_deletions g x) (deletions-calm g x h)) (λ over. h)
 
   zombie-calm : (status : ℕ) → KeepsCalm (zombie traced status)
@@ -108,11 +108,11 @@ module _ (id : ℕ) where
     changed-calm other f s keeps h = record { process = changed-there IsCalm pid other f s.processes keeps h.process }
 
     ended-calm : (gone : ℕ) (p : TracedProcess) (status : ℕ) (s : TracedSystem) → AreCalm s → AreCalm (with_this_ended traced gone p status s)
-    unfolding with_this_ended with_parent_told
+    unfolding with_this_ended with_parent_signalled
     ended-calm gone p status s h =
         let dies = changed-there IsCalm pid gone (zombie traced status) s.processes (zombie-calm status) h.process in
         let gone_on = each-there IsCalm pid (orphaned gone) (change_under gone (zombie traced status) s.processes) (orphaned-calm gone) dies in
-        choice AreCalm (p.parent == 0) _ _ (λ first. record { process = gone_on }) (λ other. changed-calm p.parent (told None Cld (of_child gone status)) _ (told-calm None Cld (of_child gone status)) (record { process = gone_on }))
+        choice AreCalm (p.parent == 0) _ _ (λ first. record { process = gone_on }) (λ other. changed-calm p.parent (signalled None Cld (of_child gone status)) _ (signalled-calm None Cld (of_child gone status)) (record { process = gone_on }))
 
     ended_if_live-calm : (gone status : ℕ) (s : TracedSystem) (o : Option TracedProcess) → AreCalm s → AreCalm (ended_if_live traced gone status s o)
     ended_if_live-calm gone status s None h = h
@@ -122,7 +122,7 @@ module _ (id : ℕ) where
     unfolding generated with_ended
     generated-calm other target g info s h =
         choice AreCalm (is_kill g) _ _ (λ kill. ended_if_live-calm other (signal_number g) s (live_process s other) h)
-        (λ goes. changed-calm other (told target g info) s (told-calm target g info) h)
+        (λ goes. changed-calm other (signalled target g info) s (signalled-calm target g info) h)
 
     module _ (p : TracedProcess) (l : TracedLwp) (none : IsStopless l) where
       change-calm : (c : Change) (s : TracedSystem) → AreCalm s → AreCalm (changed traced pid p id l c s)

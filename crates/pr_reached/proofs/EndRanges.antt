@@ -14,8 +14,8 @@ use Rattle.pr_parts.specs.PendingSignals.{Pending, added, without_signals}
 use Rattle.pr_parts.specs.SignalRules.{deleted_by}
 use Rattle.pr_lawful.proofs.FileLemmas.{choice}
 use Rattle.pr_model.specs.Changes.{Ending, ends_lwp, ends_process, ended}
-use Rattle.pr_model.specs.Generation.{ends_job_stop, lwp_with_pending, lwp_without_pending, told, with_deletions, with_pending, without_job_stop, without_pending}
-use Rattle.pr_model.specs.Lives.{bare_process, default_dispositions, ended_if_live, orphaned, with_ended, with_lwp_ended, with_parent_told, with_this_ended, without_lwp, zombie}
+use Rattle.pr_model.specs.Generation.{ends_job_stop, lwp_with_pending, lwp_without_pending, signalled, with_deletions, with_pending, without_job_stop, without_pending}
+use Rattle.pr_model.specs.Lives.{bare_process, default_dispositions, ended_if_live, orphaned, with_ended, with_lwp_ended, with_parent_signalled, with_this_ended, without_lwp, zombie}
 use Rattle.pr_model.specs.Machines.{nothing_set, traced, zombie_control}
 use Rattle.pr_model.specs.Signals.{generated, is_kill}
 use Rattle.pr_model.specs.State.{TracedProcess, TracedSystem, live_process, with_lwp}
@@ -69,9 +69,9 @@ deletions-keep g x h =
     choice IsProcessInRange (deleted_by g == 0) _ _ (λ none. h)
     (λ some. choice IsProcessInRange (ends_job_stop g) _ _ (λ ends. job-kept (without_pending (deleted_by g) x) None deleted) (λ stays. deleted))
 
-pub told-keeps : (target : Option ℕ) (g : Sig) (info : Info) → HasWord info → KeepsProcess (told target g info)
-unfolding told
-told-keeps target g info new x h =
+pub signalled-keeps : (target : Option ℕ) (g : Sig) (info : Info) → HasWord info → KeepsProcess (signalled target g info)
+unfolding signalled
+signalled-keeps target g info new x h =
     choice IsProcessInRange (is_none x.ended) _ _ (λ live. pending-keeps target g info new (with_deletions g x) (deletions-keep g x h)) (λ over. h)
 
 -- ---- what nothing is set on
@@ -134,10 +134,10 @@ orphaned-keeps gone x h =
     choice IsProcessInRange (x.parent == gone) _ _
     (λ is. record { program = h.program; made_at = h.made_at; ended = h.ended; space = h.space; dispositions = h.dispositions; pending = h.pending; lwps = h.lwps; control = h.control }) (λ apart. h)
 
-parent_told-range : (parent pid status : ℕ) (s : TracedSystem) → IsWord status → IsInRange s → IsInRange (with_parent_told parent pid status s)
-unfolding with_parent_told
+parent_told-range : (parent pid status : ℕ) (s : TracedSystem) → IsWord status → IsInRange s → IsInRange (with_parent_signalled parent pid status s)
+unfolding with_parent_signalled
 parent_told-range parent pid status s fits h =
-    choice IsInRange (parent == 0) _ _ (λ first. h) (λ other. changed-one s parent (told None Cld (of_child pid status)) (told-keeps None Cld (of_child pid status) fits) h)
+    choice IsInRange (parent == 0) _ _ (λ first. h) (λ other. changed-one s parent (signalled None Cld (of_child pid status)) (signalled-keeps None Cld (of_child pid status) fits) h)
 
 pub this_ended-range : (s : TracedSystem) (pid : ℕ) (p : TracedProcess) (status : ℕ) → IsWord status → IsInRange s → IsInRange (with_this_ended traced pid p status s)
 unfolding with_this_ended
@@ -161,7 +161,7 @@ pub generated-range : (s : TracedSystem) (pid : ℕ) (target : Option ℕ) (g : 
 unfolding generated with_ended
 generated-range s pid target g info new h =
     choice IsInRange (is_kill g) _ _ (λ kill. ended_if_live-range pid (signal_number g) s (live_process s pid) (signal-word g) h)
-    (λ other. changed-one s pid (told target g info) (told-keeps target g info new) h)
+    (λ other. changed-one s pid (signalled target g info) (signalled-keeps target g info new) h)
 
 without_lwp-keeps : (id : ℕ) → KeepsProcess (without_lwp id)
 unfolding without_lwp

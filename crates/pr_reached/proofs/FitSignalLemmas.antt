@@ -9,8 +9,8 @@ use Rattle.pr_num.specs.declared.signals.Sig.TheVariants.{Cld}
 use Rattle.pr_parts.specs.SignalRules.{deleted_by}
 use Rattle.pr_lawful.proofs.FileLemmas.{choice}
 use Rattle.pr_model.specs.Changes.{Ending, ends_process, ends_lwp, ended}
-use Rattle.pr_model.specs.Generation.{ends_job_stop, lwp_without_pending, lwp_with_pending, without_pending, without_job_stop, with_deletions, with_pending, told}
-use Rattle.pr_model.specs.Lives.{bare_process, orphaned, with_ended, ended_if_live, with_lwp_ended, with_parent_told, with_this_ended, without_lwp, zombie}
+use Rattle.pr_model.specs.Generation.{ends_job_stop, lwp_without_pending, lwp_with_pending, without_pending, without_job_stop, with_deletions, with_pending, signalled}
+use Rattle.pr_model.specs.Lives.{bare_process, orphaned, with_ended, ended_if_live, with_lwp_ended, with_parent_signalled, with_this_ended, without_lwp, zombie}
 use Rattle.pr_model.specs.Machines.{traced}
 use Rattle.pr_model.specs.Signals.{generated, is_kill}
 use Rattle.pr_model.specs.State.{TracedProcess, TracedSystem, live_process, with_lwp}
@@ -48,9 +48,9 @@ deletions-keep g x h =
     choice IsFitProcess (deleted_by g == 0) _ _ (λ none. h)
     (λ some. choice IsFitProcess (ends_job_stop g) _ _ (λ ends. record { lwps = deleted.lwps; pending = deleted.pending }) (λ stays. deleted))
 
-pub told-keeps : (target : Option ℕ) (g : Sig) (info : Info) → is_kill g ≡ false → KeepsProcess (told target g info)
-unfolding told
-told-keeps target g info other x h =
+pub signalled-keeps : (target : Option ℕ) (g : Sig) (info : Info) → is_kill g ≡ false → KeepsProcess (signalled target g info)
+unfolding signalled
+signalled-keeps target g info other x h =
     choice IsFitProcess (is_none x.ended) _ _ (λ live. pending-keeps target g info other (with_deletions g x) (deletions-keep g x h)) (λ over. h)
 
 -- ---- ends
@@ -63,10 +63,10 @@ orphaned-keeps : (gone : ℕ) → KeepsProcess (orphaned gone)
 unfolding orphaned
 orphaned-keeps gone x h = choice IsFitProcess (x.parent == gone) _ _ (λ is. record { lwps = h.lwps; pending = h.pending }) (λ apart. h)
 
-parent_told-fits : (parent pid status : ℕ) (s : TracedSystem) → IsFitSystem s → IsFitSystem (with_parent_told parent pid status s)
-unfolding with_parent_told
+parent_told-fits : (parent pid status : ℕ) (s : TracedSystem) → IsFitSystem s → IsFitSystem (with_parent_signalled parent pid status s)
+unfolding with_parent_signalled
 parent_told-fits parent pid status s h =
-    choice IsFitSystem (parent == 0) _ _ (λ first. h) (λ other. changed-one s parent (told None Cld (of_child pid status)) (told-keeps None Cld (of_child pid status) refl) h)
+    choice IsFitSystem (parent == 0) _ _ (λ first. h) (λ other. changed-one s parent (signalled None Cld (of_child pid status)) (signalled-keeps None Cld (of_child pid status) refl) h)
 
 pub this_ended-fits : (s : TracedSystem) (pid : ℕ) (p : TracedProcess) (status : ℕ) → IsFitSystem s → IsFitSystem (with_this_ended traced pid p status s)
 unfolding with_this_ended
@@ -84,7 +84,7 @@ pub generated-fits : (s : TracedSystem) (pid : ℕ) (target : Option ℕ) (g : S
 unfolding generated with_ended
 generated-fits s pid target g info h =
     choice IsFitSystem (is_kill g) _ _ (λ kill. ended_if_live-fits pid (signal_number g) s (live_process s pid) h)
-    (λ other. changed-one s pid (told target g info) (told-keeps target g info other) h)
+    (λ other. changed-one s pid (signalled target g info) (signalled-keeps target g info other) h)
 
 without_lwp-keeps : (id : ℕ) → KeepsProcess (without_lwp id)
 unfolding without_lwp

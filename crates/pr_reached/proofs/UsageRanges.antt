@@ -13,8 +13,8 @@ use Rattle.pr_parts.specs.FileCalls.{with_all_shared}
 use Rattle.pr_parts.specs.SignalRules.{deleted_by}
 use Rattle.pr_lawful.proofs.FileLemmas.{choice}
 use Rattle.pr_model.specs.Changes.{Change, files_are, space_is, signals, signals_itself, takes_shared, job_stops, disposition_is, held_is, resumes, forks, reaps, becomes, makes_lwp, suspends, Ending, ends_lwp, ends_process, all_changed, changed, ended, with_disposition_of, with_fds, with_job_stop, with_shared_taken, with_space}
-use Rattle.pr_model.specs.Generation.{ends_job_stop, told, with_deletions, with_pending, without_job_stop, without_pending}
-use Rattle.pr_model.specs.Lives.{Birth, bare_process, ended_if_live, forked, new_process, orphaned, with_child, with_ended, with_lwp_ended, with_made, with_new_lwp, with_parent_told, with_program, with_reaped, with_spawned, with_this_ended, without_lwp, zombie}
+use Rattle.pr_model.specs.Generation.{ends_job_stop, signalled, with_deletions, with_pending, without_job_stop, without_pending}
+use Rattle.pr_model.specs.Lives.{Birth, bare_process, ended_if_live, forked, new_process, orphaned, with_child, with_ended, with_lwp_ended, with_made, with_new_lwp, with_parent_signalled, with_program, with_reaped, with_spawned, with_this_ended, without_lwp, zombie}
 use Rattle.pr_model.specs.Machines.{child_control, exec_control, nothing_set, nothing_used, traced, zombie_control}
 use Rattle.pr_model.specs.Points.{after_meeting, is_traced, with_others_directed, with_stop_at}
 use Rattle.pr_model.specs.Signals.{generated, is_kill}
@@ -56,9 +56,9 @@ module _ (most : ℕ) where
   unfolding with_all_directed
   directed-keeps x h = h
 
-  told-keeps : (target : Option ℕ) (g : Sig) (info : Info) → Keeps (told target g info)
-  unfolding told with_pending with_deletions without_job_stop without_pending
-  told-keeps target g info x h = choice IsUsed (is_none x.ended) _ _ (λ live. pends target (deletes h)) (λ over. h)
+  signalled-keeps : (target : Option ℕ) (g : Sig) (info : Info) → Keeps (signalled target g info)
+  unfolding signalled with_pending with_deletions without_job_stop without_pending
+  signalled-keeps target g info x h = choice IsUsed (is_none x.ended) _ _ (λ live. pends target (deletes h)) (λ over. h)
     where
       deletes : IsUsed x → IsUsed (with_deletions g x)
       deletes it = choice IsUsed (deleted_by g == 0) _ _ (λ none. it) (λ some. choice IsUsed (ends_job_stop g) _ _ (λ ends. it) (λ stays. it))
@@ -91,12 +91,12 @@ module _ (most : ℕ) where
   orphaned-keeps gone x h = choice IsUsed (x.parent == gone) _ _ (λ own. h) (λ other. h)
 
   pub this_ended-used : (s : TracedSystem) (pid : ℕ) (p : TracedProcess) (status : ℕ) → HaveUsed most s → HaveUsed most (with_this_ended traced pid p status s)
-  unfolding with_this_ended with_parent_told
+  unfolding with_this_ended with_parent_signalled
   this_ended-used s pid p status h =
       let over : All UsedWithin (change_under pid (zombie traced status) s.processes) = All-change_under UsedWithin pid (zombie traced status) s.processes (λ x there it. zombie-keeps status x it) h.processes in
       let left = All-map_each UsedWithin UsedWithin (orphaned pid) (λ e it. orphaned-keeps pid e.1 it) _ over in
       choice (HaveUsed most) (p.parent == 0) _ _ (λ first. record { processes = left })
-      (λ other. used-one _ p.parent (told None Cld (of_child pid status)) (told-keeps None Cld (of_child pid status)) (record { processes = left }))
+      (λ other. used-one _ p.parent (signalled None Cld (of_child pid status)) (signalled-keeps None Cld (of_child pid status)) (record { processes = left }))
 
   ended_if-used : (pid status : ℕ) (s : TracedSystem) (o : Option TracedProcess) → HaveUsed most s → HaveUsed most (ended_if_live traced pid status s o)
   ended_if-used pid status s None h = h
@@ -106,7 +106,7 @@ module _ (most : ℕ) where
   unfolding generated with_ended
   generated-used s pid target g info h =
       choice (HaveUsed most) (is_kill g) _ _ (λ kill. ended_if-used pid (signal_number g) s (live_process s pid) h)
-      (λ other. used-one s pid (told target g info) (told-keeps target g info) h)
+      (λ other. used-one s pid (signalled target g info) (signalled-keeps target g info) h)
 
   without_lwp-keeps : (id : ℕ) → Keeps (without_lwp id)
   unfolding without_lwp

@@ -34,7 +34,7 @@ use Rattle.pr_truss_laws.proofs.HeldLemmas.{Fits}
 use Rattle.pr_truss_laws.proofs.OwnLemmas.{first-owns}
 use Rattle.pr_truss_laws.specs.Exchanges.{Exchange, Makes, exchange_in, exchange_of, exchanges, truss_after}
 use Rattle.pr_truss_laws.specs.Runs.{IsTrussRun}
-use Rattle.pr_report_laws.proofs.Claims.{Claims, Follows, IsFree, IsSet, Names, claim_of, opened, stands, watched}
+use Rattle.pr_report_laws.proofs.Claims.{Claims, KeepsChildren, IsFree, IsSet, Names, claim_of, opened, stands, watched}
 use Rattle.pr_report_laws.proofs.Claims as claims
 use Rattle.pr_report_laws.proofs.ClaimCalls.{call-follows}
 use Rattle.pr_report_laws.proofs.ClaimEntries.{entry-follows}
@@ -73,7 +73,7 @@ pub record Holding (k : ℕ) (o : Options) (pid : ℕ) (t : TrussState) (s : Tra
 pub record Going (k : ℕ) (o : Options) (t : TrussState) (s : TracedState) (h : List Entry) : Type 1 where
   pub each : (pid : ℕ) → Holding k o pid t s
   pub leaves : IsLeaving t
-  pub children : t.leaving ≡ false → Follows k o t s h
+  pub children : t.leaving ≡ false → KeepsChildren k o t s h
 
 -- where truss leaves its processes it opens none by its id
 names-leaving : (o : Options) (ts : List Traced) (leaving : Bool) (stage : Stage) → Leaves leaving stage → leaving ≡ true → Names o ts stage
@@ -199,14 +199,14 @@ module _ (n k : ℕ) (o : Options) (t : TrussState) (s : TracedState) (h : List 
         let comes = fed-comes t a.reply g.leaves owns.fits own-names on in
         comes.stays
 
-    own-follows : (fed t a.reply).leaving ≡ false → Follows k o (fed t a.reply) (after s (call_entry k c a)) h
+    own-follows : (fed t a.reply).leaving ≡ false → KeepsChildren k o (fed t a.reply) (after s (call_entry k c a)) h
     own-follows on =
         let stays = own-stays on in
-        subst (λ (v : TracedState). Follows k o (fed t a.reply) v h) (sym own-after)
+        subst (λ (v : TracedState). KeepsChildren k o (fed t a.reply) v h) (sym own-after)
         (call-follows n k o t s c a (record { call = is-call; stands = stand (call_entry k c a) g; legal = legal; later = own-after; stays = stays }) g.leaves h (g.children stays) on)
 
   -- an entry that is no call of truss
-  others-follow : (e : Entry) (g : Going k o t s (e ∷ h)) → LeavesChildren k o (e ∷ h) → IsLegalEntry n s e → e.actor ≢ Controller k → t.leaving ≡ false → Follows k o t (after s e) h
+  others-follow : (e : Entry) (g : Going k o t s (e ∷ h)) → LeavesChildren k o (e ∷ h) → IsLegalEntry n s e → e.actor ≢ Controller k → t.leaving ≡ false → KeepsChildren k o t (after s e) h
   others-follow e g leaves legal others stays =
       let x = g.each 0 in
       let holds = x.holds in
@@ -217,18 +217,18 @@ module _ (n k : ℕ) (o : Options) (t : TrussState) (s : TracedState) (h : List 
   module _ (reads : (pid : ℕ) → ReadsBack pid s) where
     call-follow : (by : ℕ) (c : Call) (r : Reply) (mine : Bool) → (by == k) ≡ mine → Going k o t s (record { actor = Controller by; act = act.Call c r } ∷ h) → LeavesChildren k o (record { actor = Controller by; act = act.Call c r } ∷ h)
         → IsLegalEntry n s (record { actor = Controller by; act = act.Call c r }) → MakesNext t (cond mine (Some (record { call = c; reply = r })) None) → (with_exchange t (cond mine (Some (record { call = c; reply = r })) None)).leaving ≡ false
-        → Follows k o (with_exchange t (cond mine (Some (record { call = c; reply = r })) None)) (after s (record { actor = Controller by; act = act.Call c r })) h
+        → KeepsChildren k o (with_exchange t (cond mine (Some (record { call = c; reply = r })) None)) (after s (record { actor = Controller by; act = act.Call c r })) h
     unfolding IsLegalEntry
     call-follow by c r false is g forks legal next on = others-follow (record { actor = Controller by; act = act.Call c r }) g forks legal (λ same. eqb-false by k is (of-controller by k same)) on
       where
         of-controller : (x y : ℕ) → Controller x ≡ Controller y → x ≡ y
         of-controller x y same = cc
     call-follow by c r true is g forks legal next on =
-        subst (λ b. Going k o t s (record { actor = Controller b; act = act.Call c r } ∷ h) → IsLegalEntry n s (record { actor = Controller b; act = act.Call c r }) → answer_to s b c ≡ Some (record { state = legal.1.0; reply = r }) → Follows k o (fed t r) (after s (record { actor = Controller b; act = act.Call c r })) h)
+        subst (λ b. Going k o t s (record { actor = Controller b; act = act.Call c r } ∷ h) → IsLegalEntry n s (record { actor = Controller b; act = act.Call c r }) → answer_to s b c ≡ Some (record { state = legal.1.0; reply = r }) → KeepsChildren k o (fed t r) (after s (record { actor = Controller b; act = act.Call c r })) h)
         (sym (eqb-true by k is)) (λ g' l answer. own-follows c (record { state = legal.1.0; reply = r }) g' reads l next answer on) g legal legal.1.1
 
     actor-follow : (actor : Actor) (it : Act) → Going k o t s (record { actor = actor; act = it } ∷ h) → LeavesChildren k o (record { actor = actor; act = it } ∷ h) → IsLegalEntry n s (record { actor = actor; act = it }) → MakesNext t (exchange_in k actor it)
-        → (with_exchange t (exchange_in k actor it)).leaving ≡ false → Follows k o (with_exchange t (exchange_in k actor it)) (after s (record { actor = actor; act = it })) h
+        → (with_exchange t (exchange_in k actor it)).leaving ≡ false → KeepsChildren k o (with_exchange t (exchange_in k actor it)) (after s (record { actor = actor; act = it })) h
     unfolding IsLegalEntry
     actor-follow (Controller by) (act.Call c r) g forks legal next on = call-follow by c r (by == k) refl g forks legal next on
     actor-follow (Lwp pid id) it g forks legal next on = others-follow (record { actor = Lwp pid id; act = it }) g forks legal (λ same. cc) on
@@ -302,7 +302,7 @@ none-names o ts (OpeningControl pid) none = inr none
 none-names o ts _ none = tt
 
 -- truss that traces no process yet
-pub first-follows : (k : ℕ) (o : Options) (t : TrussState) (s : TracedState) (h : List Entry) → t.traced ≡ [] → Follows k o t s h
+pub first-follows : (k : ℕ) (o : Options) (t : TrussState) (s : TracedState) (h : List Entry) → t.traced ≡ [] → KeepsChildren k o t s h
 first-follows k o t s h none = record {
   flags = λ follow place x p live. nowhere place (set-there place x);
   born = λ pid c claim. unclaimed pid c claim;

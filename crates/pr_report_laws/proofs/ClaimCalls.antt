@@ -43,7 +43,7 @@ use Rattle.pr_truss.specs.declared.stages.Stage.TheVariants.{OpeningControl, Ope
 use Rattle.pr_truss_laws.proofs.ForeignLemmas.{names}
 use Rattle.pr_truss_laws.proofs.HeldLemmas.{Fits, at_place}
 use Rattle.pr_truss_laws.proofs.OpensLemmas.{held_by}
-use Rattle.pr_report_laws.proofs.Claims.{Claims, Comes, Follows, IsDone, IsFree, IsSet, IsTold, Names, WasClaimed, WasFree, WasSet, claim_of, is_child, not_followed, opened, runs, set_now, sets, stands, was_claimed, was_free, was_run, was_set, was_told, watched}
+use Rattle.pr_report_laws.proofs.Claims.{Claims, Comes, KeepsChildren, IsDone, IsFree, IsSet, IsTold, Names, WasClaimed, WasFree, WasSet, claim_of, is_child, not_followed, opened, runs, set_now, sets, stands, was_claimed, was_free, was_run, was_set, was_told, watched}
 use Rattle.pr_report_laws.proofs.Claims as claims
 use Rattle.pr_report_laws.proofs.ClaimFed.{fed-comes}
 use Rattle.pr_report_laws.proofs.ClaimReach.{followed-forked}
@@ -117,7 +117,7 @@ child-reads x child.OpenMemory pid lwp f mode is writes = reads-only mode (cc) w
 child-reads x child.SetRelease pid lwp f mode is writes = cc
 child-reads x child.Start pid lwp f mode is writes = cc
 
-module _ (n k : ℕ) (o : Options) (t : TrussState) (s : TracedState) (c : Call) (a : Answer) (own : IsOwn n k o t s c a) (leaves : IsLeaving t) (h : List Entry) (f : Follows k o t s (call_entry k c a ∷ h)) (on : (fed t a.reply).leaving ≡ false) where
+module _ (n k : ℕ) (o : Options) (t : TrussState) (s : TracedState) (c : Call) (a : Answer) (own : IsOwn n k o t s c a) (leaves : IsLeaving t) (h : List Entry) (f : KeepsChildren k o t s (call_entry k c a ∷ h)) (on : (fed t a.reply).leaving ≡ false) where
   i : IsCall k o 0 t s c a
   i = own.call 0
 
@@ -385,7 +385,7 @@ module _ (n k : ℕ) (o : Options) (t : TrussState) (s : TracedState) (c : Call)
 
   -- ---- all
 
-  pub call-follows : Follows k o u a.state h
+  pub call-follows : KeepsChildren k o u a.state h
   call-follows = record {
     flags = flags-later;
     born = λ pid of claim. born-later pid of claim;

@@ -30,7 +30,7 @@ use Rattle.pr_truss_laws.proofs.BridgeLemmas.{mapped-some}
 use Rattle.pr_truss_laws.proofs.OpensLemmas.{held_by}
 use Rattle.pr_truss_laws.proofs.StillLemmas.{halting-leaves}
 use Rattle.pr_truss_laws.specs.Stills.{HasSameSettings, IsUndisturbed, stopped_lwp, with_lwp_stopped}
-use Rattle.pr_report_laws.proofs.Claims.{Claims, Follows, IsFree, IsSet, opened, stands, watched}
+use Rattle.pr_report_laws.proofs.Claims.{Claims, KeepsChildren, IsFree, IsSet, opened, stands, watched}
 use Rattle.pr_report_laws.proofs.Claims as claims
 use Rattle.pr_report_laws.proofs.ClaimStands.{IsStanding, stood-at}
 use Rattle.pr_report_laws.proofs.EntrySteps.{made-at}
@@ -140,7 +140,7 @@ module _ (n k : ℕ) (o : Options) (t : TrussState) (s : TracedState) (e : Entry
 
   -- ---- the children
 
-  module _ (forks : LeavesChildren k o (e ∷ h)) (f : Follows k o t s (e ∷ h)) where
+  module _ (forks : LeavesChildren k o (e ∷ h)) (f : KeepsChildren k o t s (e ∷ h)) where
     -- a child that is to be opened was to be opened before, or is made now
     pub data WasClaimed (pid c : ℕ) : Type 0 where
       claimed : Claims o t.traced t.stage s.system pid c → WasClaimed pid c
@@ -223,7 +223,7 @@ module _ (n k : ℕ) (o : Options) (t : TrussState) (s : TracedState) (e : Entry
             let same : HasSameSettings p q = turn-settings s.system (traced_at t place).pid p id d lawful.system live taken q there in
             ap (λ (y : TracedControl). has_flags y.modes fork_mode) same.control ∙ f.flags follow place x p live
 
-    pub entry-follows : Follows k o t (after s e) h
+    pub entry-follows : KeepsChildren k o t (after s e) h
     entry-follows = record {
       flags = flags-later;
       born = λ pid c claim. born-later pid c (claims-were pid c claim);

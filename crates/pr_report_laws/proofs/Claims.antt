@@ -75,7 +75,7 @@ pub data Claims (o : Options) (ts : List Traced) (stage : Stage) (s : TracedSyst
   stands : (place : ℕ) → IsFree ts stage place → (at_place ts place).pid ≡ pid → o.follow ≡ true → (p : TracedProcess) → live_process s pid ≡ Some p → HasForked p c → Claims o ts stage s pid c
 
 -- Each of them stands at its birth, if it lives; or truss never opens it. No two processes made the same child.
-pub record Follows (k : ℕ) (o : Options) (t : TrussState) (s : TracedState) (h : List Entry) : Type 0 where
+pub record KeepsChildren (k : ℕ) (o : Options) (t : TrussState) (s : TracedState) (h : List Entry) : Type 0 where
   pub flags : o.follow ≡ true → (place : ℕ) → IsSet t.traced t.stage place → (p : TracedProcess) → live_process s.system (at_place t.traced place).pid ≡ Some p → has_flags p.control.modes fork_mode ≡ true
   pub born : (pid c : ℕ) → Claims o t.traced t.stage s.system pid c → IsNewBorn k o s h c
   pub one : (pid other c : ℕ) → Claims o t.traced t.stage s.system pid c → Claims o t.traced t.stage s.system other c → pid ≡ other

@@ -40,7 +40,7 @@ use Rattle.pr_report_laws.specs.Watching.{is_away, place_of, watches}
 -- ---- a process is removed
 
 -- The stage that comes when the process at a place was removed.
-pub record Follows (t u : TrussState) (place : ℕ) : Type 0 where
+pub record ClosesNext (t u : TrussState) (place : ℕ) : Type 0 where
   pub same : (q : ℕ) → traced_at u q ≡ traced_at (without_traced t place) q
   pub count : length u.traced ≡ length (without_traced t place).traced
   pub here : (q : ℕ) → (traced_at u q).attached ≡ true → is_away u.leaving u.stage q ≡ false
@@ -52,7 +52,7 @@ module _ (t : TrussState) (place : ℕ) (next : AfterClosing) (stage : t.stage �
   closing-within : place < length t.traced
   closing-within = (subst (Fits t.traced) stage before.fits).0
 
-  module _ (u : TrussState) (f : Follows t u place) where
+  module _ (u : TrussState) (f : ClosesNext t u place) where
     -- each process that is left stood at another place
     stood : (n : ℕ) → n < length u.traced → (m : ℕ) × (m < length t.traced) × (m ≢ place) × (traced_at u n ≡ traced_at t m)
     stood n within =
@@ -108,7 +108,7 @@ module _ (t : TrussState) (place : ℕ) (next : AfterClosing) (stage : t.stage �
 
 module _ (t : TrussState) (place : ℕ) where
   -- a stage that is about no process that is attached
-  comes-follows : (next : AfterClosing) (u : TrussState) → t.stage ≡ Closing place next → ((q : ℕ) → has_read (Closing place next) q ≡ false) → ComesNext (without_traced t place) u → Follows t u place
+  comes-follows : (next : AfterClosing) (u : TrussState) → t.stage ≡ Closing place next → ((q : ℕ) → has_read (Closing place next) q ≡ false) → ComesNext (without_traced t place) u → ClosesNext t u place
   comes-follows next u stage none c = record {
     same = λ q. comes-same q (without_traced t place) u c;
     count = ap length c.traced;
@@ -119,7 +119,7 @@ module _ (t : TrussState) (place : ℕ) where
   }
 
   -- the parent of a child, which stood last, is run
-  parent-follows : (parent : ℕ) → t.stage ≡ Closing place (RunParent parent) → IsLast t.traced parent place → Follows t (with_stage (without_traced t place) (Running parent)) place
+  parent-follows : (parent : ℕ) → t.stage ≡ Closing place (RunParent parent) → IsLast t.traced parent place → ClosesNext t (with_stage (without_traced t place) (Running parent)) place
   parent-follows parent stage last = record {
     same = λ q. refl;
     count = refl;
@@ -144,7 +144,7 @@ module _ (Why : Type 0) (o : Options) (pid : ℕ) (t : TrussState) (s : TracedSt
       )
 
   -- it held none any more
-  removed-stands : (u : TrussState) → Follows t u place → IsOrderly u → shown pid u ≡ shown pid t → opens u.stage ≡ false → Stands Why o pid u s base
+  removed-stands : (u : TrussState) → ClosesNext t u place → IsOrderly u → shown pid u ≡ shown pid t → opens u.stage ≡ false → Stands Why o pid u s base
   removed-stands u f after shows none = (removed-standing t place next stage before u f Why o pid s base after shows standing, prepares-none o pid u s none)
 
   comes-stands : (u : TrussState) → ComesNext (without_traced t place) u → IsOrderly u → ((q : ℕ) → has_read (Closing place next) q ≡ false) → Stands Why o pid u s base

@@ -33,18 +33,18 @@ use Rattle.pr_report_laws.specs.Newborn.{WasForked, WasSpawned}
 -- ---- what makes a process
 
 -- The process is the next one of the state, and was made after the entry.
-record Makes (pid : ℕ) (s : TracedState) (e : Entry) : Type 0 where
+record MakesProcess (pid : ℕ) (s : TracedState) (e : Entry) : Type 0 where
   next : pid ≡ s.system.made
   made : pid < (after s e).system.made
 
 -- an entry that makes the process wherever it is legal
 record IsMaker (n pid : ℕ) (e : Entry) : Type 0 where
-  makes : (s : TracedState) → IsLawful s → IsLegalEntry n s e → Makes pid s e
+  makes : (s : TracedState) → IsLawful s → IsLegalEntry n s e → MakesProcess pid s e
 
 module _ (n pid : ℕ) where
   -- ---- a fork
 
-  fork-makes : (parent id : ℕ) (turned : Turned) (s : TracedState) → child_made turned.did ≡ Some pid → IsLawful s → IsLegalEntry n s (turn_entry parent id turned) → Makes pid s (turn_entry parent id turned)
+  fork-makes : (parent id : ℕ) (turned : Turned) (s : TracedState) → child_made turned.did ≡ Some pid → IsLawful s → IsLegalEntry n s (turn_entry parent id turned) → MakesProcess pid s (turn_entry parent id turned)
   unfolding IsLegalEntry settled
   fork-makes parent id turned s made lawful legal =
       let t : LwpTurn = record { system = legal.0; turned = turned } in
@@ -85,7 +85,7 @@ module _ (n pid : ℕ) where
       by None = record { each = λ is. cc }
       by (Some program) = unless program (spawn_refusal s.system program)
 
-  spawn-makes : (controller : ℕ) (name : List ℕ) (held : Bool) (s : TracedState) → IsLegalEntry n s (call_entry controller (Spawn name held) (Pid pid)) → Makes pid s (call_entry controller (Spawn name held) (Pid pid))
+  spawn-makes : (controller : ℕ) (name : List ℕ) (held : Bool) (s : TracedState) → IsLegalEntry n s (call_entry controller (Spawn name held) (Pid pid)) → MakesProcess pid s (call_entry controller (Spawn name held) (Pid pid))
   unfolding IsLegalEntry answer_to after
   spawn-makes controller name held s legal =
       let a : Answer = record { state = legal.1.0; reply = Pid pid } in

@@ -190,14 +190,14 @@ module _ (n k : ℕ) (o : Options) (s : TracedState) (h : List Entry) (e : Entry
   still-at : truss_at k o (h ++ e ∷ []) ≡ told_of k t e
   still-at = truss_at-push k o h e ∙ ap (λ (u : TrussState). told_of k u e) w.at
 
-  told-keeps : (x : Option Exchange) → exchange_of k e ≡ x → MakesNext t x → truss_at k o (h ++ e ∷ []) ≡ with_exchange t x → KeepsTexts k o s (h ++ e ∷ []) (with_exchange t x)
-  told-keeps None its next at = record { at = at; options = w.options; texts = kept; asks = w.asks }
-  told-keeps (Some x) its next at =
+  signalled-keeps : (x : Option Exchange) → exchange_of k e ≡ x → MakesNext t x → truss_at k o (h ++ e ∷ []) ≡ with_exchange t x → KeepsTexts k o s (h ++ e ∷ []) (with_exchange t x)
+  signalled-keeps None its next at = record { at = at; options = w.options; texts = kept; asks = w.asks }
+  signalled-keeps (Some x) its next at =
       let c = fed-goes o t x.reply w.options in
       record { at = at; options = fed-options t x.reply ∙ w.options; texts = grown-has x its next (fed t x.reply).reports c.reports; asks = asks-range o t (fed t x.reply).reports (fed t x.reply).stage c.asks }
 
   entry-keeps : MakesNext t (exchange_of k e) → KeepsTexts k o s (h ++ e ∷ []) (told_of k t e)
-  entry-keeps next = told-keeps (exchange_of k e) refl next still-at
+  entry-keeps next = signalled-keeps (exchange_of k e) refl next still-at
 
 later-keeps : (h : List Entry) (n k : ℕ) (o : Options) (s : TracedState) (past : List Entry) (t : TrussState) → Reaches k t (state_after s past) → IsLegal n (state_after s past) h → Makes t (exchanges k h) → KeepsTexts k o s past t → KeepsTexts k o s (past ++ h) (truss_after t (exchanges k h))
 later-keeps [] n k o s past t g legal makes w = same-keeps k o s past _ t _ (sym (append-nil past)) (sym (ap (truss_after t) (no-exchanges k))) w

@@ -21,9 +21,9 @@ use Rattle.pr_lawful.proofs.TransitionLemmas.{stayed}
 use Rattle.pr_lawful.proofs.TurnLemmas.{acting, row-suits}
 use Rattle.pr_model.proofs.TurnLemmas.{turn-taken}
 use Rattle.pr_model.specs.Changes.{Change, changed, files_are, space_is, signals, signals_itself, takes_shared, job_stops, disposition_is, held_is, resumes, forks, reaps, becomes, makes_lwp, suspends, all_changed, ended, Ending, ends_process, ends_lwp, resumed, with_disposition_of, with_fds, with_held, with_job_stop, with_shared_taken, with_space, with_suspended}
-use Rattle.pr_model.specs.Generation.{ends_job_stop, lwp_with_pending, lwp_without_pending, told, with_deletions, with_pending, without_job_stop, without_pending}
+use Rattle.pr_model.specs.Generation.{ends_job_stop, lwp_with_pending, lwp_without_pending, signalled, with_deletions, with_pending, without_job_stop, without_pending}
 use Rattle.pr_model.specs.Lawful.{IsLawfulSystem}
-use Rattle.pr_model.specs.Lives.{Birth, bare_process, ended_if_live, forked, new_lwp, orphaned, started, with_child, with_ended, with_lwp_ended, with_made, with_new_lwp, with_parent_told, with_program, with_reaped, with_this_ended, without_lwp, zombie}
+use Rattle.pr_model.specs.Lives.{Birth, bare_process, ended_if_live, forked, new_lwp, orphaned, started, with_child, with_ended, with_lwp_ended, with_made, with_new_lwp, with_parent_signalled, with_program, with_reaped, with_this_ended, without_lwp, zombie}
 use Rattle.pr_model.specs.LwpTurns.{LwpTurn, settled, turn_of, with_counted}
 use Rattle.pr_model.specs.Machines.{no_marks, traced}
 use Rattle.pr_model.specs.Moves.{moved}
@@ -87,9 +87,9 @@ module _ (id : ℕ) where
   keeps-pending (Some own) g info p = keeps-ids p _ refl (changed-ids own (lwp_with_pending g info) p.lwps)
 
   -- a signal that is sent
-  keeps-told : (target : Option ℕ) (g : Sig) (info : Info) (p : TracedProcess) → KeepsOwn id p (told target g info p)
-  unfolding told with_deletions without_job_stop without_pending
-  keeps-told target g info p =
+  keeps-signalled : (target : Option ℕ) (g : Sig) (info : Info) (p : TracedProcess) → KeepsOwn id p (signalled target g info p)
+  unfolding signalled with_deletions without_job_stop without_pending
+  keeps-signalled target g info p =
       keeps-if (is_none p.ended) p _ p
       (keeps-next p (with_deletions g p) _
       (keeps-if (deleted_by g == 0) p p _ (keeps-self p)
@@ -166,9 +166,9 @@ module _ (pid id : ℕ) where
   any-stays : (other : ℕ) (f : TracedProcess → TracedProcess) (s : TracedSystem) → ((x : TracedProcess) → KeepsOwn id x (f x)) → Stays s (with_process other f s)
   any-stays other f s keeps = elim (cases_Bool (other == pid)) [ inl same ↦ subst (λ n. Stays s (with_process n f s)) (sym (eqb-true other pid same)) (own-stays f s (λ x there. keeps x)) | inr apart ↦ other-stays other f s (eqb-false other pid apart) ]
 
-  parent-stays : (parent gone status : ℕ) (s : TracedSystem) → Stays s (with_parent_told parent gone status s)
-  unfolding with_parent_told
-  parent-stays parent gone status s = stays-if (parent == 0) s s _ (stays-same s) (any-stays parent (told None Cld (of_child gone status)) s (keeps-told id None Cld (of_child gone status)))
+  parent-stays : (parent gone status : ℕ) (s : TracedSystem) → Stays s (with_parent_signalled parent gone status s)
+  unfolding with_parent_signalled
+  parent-stays parent gone status s = stays-if (parent == 0) s s _ (stays-same s) (any-stays parent (signalled None Cld (of_child gone status)) s (keeps-signalled id None Cld (of_child gone status)))
 
   -- another process ends
   abbrev buried : ℕ → TracedProcess → ℕ → TracedSystem → TracedSystem
@@ -186,7 +186,7 @@ module _ (pid id : ℕ) where
   generated-stays target own g info s spared =
       choice (Stays s) (is_kill g) _ _
       (λ kills. by (eqb-false target pid (subst (λ b. (b && (target == pid)) ≡ false) kills spared)) (live_process s target))
-      (λ pends. any-stays target (told own g info) s (keeps-told id own g info))
+      (λ pends. any-stays target (signalled own g info) s (keeps-signalled id own g info))
     where
       by : target ≢ pid → (o : Option TracedProcess) → Stays s (ended_if_live traced target (signal_number g) s o)
       by apart None = stays-same s

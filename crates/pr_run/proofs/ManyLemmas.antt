@@ -21,14 +21,14 @@ use Rattle.pr_world.proofs.RunLemmas.{came-on}
 use Rattle.pr_num.proofs.ListLemmas.{take-next}
 use Rattle.pr_num.specs.declared.memory.NoMemory.{NoMemory}
 use Rattle.pr_world.specs.Controllers.{call_by, has_finished, next_call}
-use Rattle.pr_world.specs.Cores.{Core}
+use Rattle.pr_world.specs.ControllerStates.{ControllerState}
 use Rattle.pr_world.specs.Moves.{entry_of}
 use Rattle.pr_world.specs.Runs.{CameFrom}
 use Rattle.pr_world.specs.Worlds.{WorldState, as_lwp, can_act, clock_if_awaited, end_of, ended_as, first_lwp, from_lwp}
 use Rattle.pr_world.specs.declared.ends.End.{End}
 use Rattle.pr_run.proofs.OneLemmas.{full-ends}
 use Rattle.pr_run.proofs.LogLemmas.{all-entries, each-stands, entries-append, entries-of_each, order-entries, order-log, stands-apart, log-at, log-next}
-use Rattle.pr_run.specs.ManyRuns.{AtPlaces, GoesOn, HasLeft, HasMade, HasWorked, IsMadeBy, IsMovedBy, IsNextOf, IsReady, IsTurnOf, IsWorkOf, Makes, MovesNext, Rests, is_done, is_finished, last_lwp, lwp_of, next_for, next_of_controller, next_on_processor}
+use Rattle.pr_run.specs.ManyRuns.{AtPlaces, GoesOn, HasLeft, HasMade, HasWorked, IsMadeBy, IsMovedBy, IsNextOf, IsReady, IsTurnOf, IsWorkOf, MakesTurn, MovesNext, Rests, is_done, is_finished, last_lwp, lwp_of, next_for, next_of_controller, next_on_processor}
 use Rattle.pr_run.specs.Logs.{behind, entries_of, log_of}
 use Rattle.pr_run.specs.declared.shared_worlds.LoggedEntry.{LoggedEntry}
 use Rattle.pr_run.specs.declared.workers.Progress.{Progress}
@@ -94,16 +94,16 @@ unfolding is_finished
 processor-moves_on w processors worker h =
     sym (ap (λ (b : Bool). b && is_none (call_by w.controllers (worker - processors))) (not_within processors worker h))
 
-within-some : (cs : List Core) (k : ℕ) → k < length cs → slice_get cs k ≡ None → ⊥
+within-some : (cs : List ControllerState) (k : ℕ) → k < length cs → slice_get cs k ≡ None → ⊥
 within-some [] k h e = absurd (omega arith)
 within-some (c ∷ cs) zero h e = absurd (none-some c (sym e))
 within-some (c ∷ cs) (suc k) h e = within-some cs k (omega arith) e
 
-at-finished : (cs : List Core) (k : ℕ) (b : Bool) → k < length cs → ForSome (slice_get cs k) (λ core. b ≡ has_finished core) → b ≡ is_none (call_by cs k)
+at-finished : (cs : List ControllerState) (k : ℕ) (b : Bool) → k < length cs → ForSome (slice_get cs k) (λ core. b ≡ has_finished core) → b ≡ is_none (call_by cs k)
 unfolding call_by has_finished
 at-finished cs k b h told = of (slice_get cs k) refl told
   where
-    of : (o : Option Core) → slice_get cs k ≡ o → ForSome o (λ core. b ≡ is_none (next_call core)) → b ≡ is_none (option_and_then next_call o)
+    of : (o : Option ControllerState) → slice_get cs k ≡ o → ForSome o (λ core. b ≡ is_none (next_call core)) → b ≡ is_none (option_and_then next_call o)
     of None e f = absurd (within-some cs k h e)
     of (Some core) e f = f core refl
 
@@ -133,7 +133,7 @@ full-done w processors worker full =
 
 -- ---- one turn
 
-pub made-turn : (processors worker : ℕ) (old new : Option (ℕ × ℕ)) (w v : WorldState) (p : Progress) → Makes processors worker old new w v p → IsTurnOf processors worker old new w v
+pub made-turn : (processors worker : ℕ) (old new : Option (ℕ × ℕ)) (w v : WorldState) (p : Progress) → MakesTurn processors worker old new w v p → IsTurnOf processors worker old new w v
 made-turn processors worker old new w v Moved m = inr m
 made-turn processors worker old new w v Idle m = inl m.0
 made-turn processors worker old new w v Done m = inl m.0
@@ -213,7 +213,7 @@ module _ (processors worker : ℕ) (old new : Option (ℕ × ℕ)) (w v : WorldS
 
 -- a worker that has nothing more to do, left in that world
 pub done-left : {V : Type 0} (first : WorldState) (processors worker : ℕ) (old new : Option (ℕ × ℕ)) (w v : WorldState) (r : Result Progress NoMemory) (seat : Seat V LoggedEntry)
-    → IfOk r (λ progress. Makes processors worker old new w v progress) → IsLawful w.kernel → CameFrom first w → seen_of seat ≡ log_of v.kernel.history → IfOk r (λ progress. progress ≡ Done → HasLeft first processors worker seat)
+    → IfOk r (λ progress. MakesTurn processors worker old new w v progress) → IsLawful w.kernel → CameFrom first w → seen_of seat ≡ log_of v.kernel.history → IfOk r (λ progress. progress ≡ Done → HasLeft first processors worker seat)
 done-left first processors worker old new w v (Err x) seat made lawful came seen = tt
 done-left first processors worker old new w v (Ok Moved) seat made lawful came seen = λ e. cc
 done-left first processors worker old new w v (Ok Idle) seat made lawful came seen = λ e. cc

@@ -70,11 +70,11 @@ pub record Rests (old new : Option (ℕ × ℕ)) (w v : WorldState) : Type 0 whe
   pub last : new ≡ old
 
 -- What a worker makes in a turn of a world, and of the lwp that it moved last, by what came of it.
-abbrev pub Makes : ℕ → ℕ → Option (ℕ × ℕ) → Option (ℕ × ℕ) → WorldState → WorldState → Progress → Type 0
-Makes processors worker old new w v Moved = MovesNext processors worker old new w v
-Makes processors worker old new w v Idle =
+abbrev pub MakesTurn : ℕ → ℕ → Option (ℕ × ℕ) → Option (ℕ × ℕ) → WorldState → WorldState → Progress → Type 0
+MakesTurn processors worker old new w v Moved = MovesNext processors worker old new w v
+MakesTurn processors worker old new w v Idle =
     Rests old new w v × (is_done processors worker w ≡ false) × (next_for processors worker old w ≡ None)
-Makes processors worker old new w v Done = Rests old new w v × (is_done processors worker w ≡ true)
+MakesTurn processors worker old new w v Done = Rests old new w v × (is_done processors worker w ≡ true)
 
 -- whatever came of a turn: at most one move, of the actor that comes next
 abbrev pub IsTurnOf : ℕ → ℕ → Option (ℕ × ℕ) → Option (ℕ × ℕ) → WorldState → WorldState → Type 0

@@ -1,7 +1,7 @@
 //! What lies under the lock of a run on several threads.
 ghost use Rattle.std.specs.Prelude.{◌≡◌, ◌+◌, ◌<◌, None, IsSome, IfOk, OnOk, OnErr, length};
 ghost use Rattle.pr_api.specs.Views.{IsLawful};
-ghost use Rattle.pr_run.specs.ManyRuns.{IsTurnOf, Makes};
+ghost use Rattle.pr_run.specs.ManyRuns.{IsTurnOf, MakesTurn};
 ghost use Rattle.pr_world.specs.Runs.{CameFrom};
 ghost use Rattle.pr_world.specs.Worlds.{WorldState, seen};
 
@@ -57,7 +57,7 @@ impl<Q: Kernel> SharedWorld<Q> {
             (seen Q.view self.old.world) (seen Q.view self.new.world) }
         ensures came { (first : WorldState) → CameFrom first (seen Q.view self.old.world)
             → CameFrom first (seen Q.view self.new.world) }
-        ensures made { IfOk result (λ progress. Makes worker.processors worker.number last.old last.new
+        ensures made { IfOk result (λ progress. MakesTurn worker.processors worker.number last.old last.new
             (seen Q.view self.old.world) (seen Q.view self.new.world) progress) }
         ensures unmarked { OnOk result (self.new.refusal ≡ None) }
         ensures refused { OnErr result

@@ -1,6 +1,6 @@
 //! What the workers of a run on several threads do in a world.
 ghost use Rattle.std.specs.Prelude.{◌≡◌, ◌+◌, ◌<◌, ◌≤◌, length, IfOk, OnErr};
-ghost use Rattle.pr_run.specs.ManyRuns.{Makes, is_done, is_finished, lwp_of, next_for, next_of_controller, next_on_processor};
+ghost use Rattle.pr_run.specs.ManyRuns.{MakesTurn, is_done, is_finished, lwp_of, next_for, next_of_controller, next_on_processor};
 ghost use Rattle.pr_world.specs.Worlds.{seen};
 
 use pr_api::Kernel;
@@ -121,7 +121,7 @@ impl Worker {
         last: &mut Option<(u32, u32)>,
     ) -> Result<Progress, NoMemory>
         requires { self.number < self.processors + length world.old.controllers }
-        ensures ok { IfOk result (λ progress. Makes self.processors self.number last.old last.new
+        ensures ok { IfOk result (λ progress. MakesTurn self.processors self.number last.old last.new
             (seen Q.view world.old) (seen Q.view world.new) progress) }
         ensures err { OnErr result (world.new ≡ world.old) }
         ensures kept { OnErr result (last.new ≡ last.old) }

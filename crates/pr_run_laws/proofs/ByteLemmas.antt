@@ -45,7 +45,7 @@ use Rattle.pr_truss.specs.declared.stages.OpeningStep.TheVariants as opening
 use Rattle.pr_truss.specs.declared.stages.Stage.{Stage}
 use Rattle.pr_truss.specs.declared.stages.Stage.TheVariants as stage
 use Rattle.pr_world.specs.Controllers.{after_reply, call_by, feed_at, next_call, with_fed}
-use Rattle.pr_world.specs.Cores.{Core, Script, Truss, Tool}
+use Rattle.pr_world.specs.ControllerStates.{ControllerState, Script, Truss, Tool}
 use Rattle.pr_world.specs.Protocol.{Follows, FollowsAt, controllers_after}
 
 -- What the controllers of a run write is bytes.
@@ -228,31 +228,31 @@ fed-lines s r = answer-lines s r (slice_get s.lines s.place)
 
 -- ---- a controller whose lines write bytes writes bytes, and goes on so after a reply
 
-core-bytes : (c : Core) → IsCoreOfBytes c → IfSome (next_call c) IsOfBytes
+core-bytes : (c : ControllerState) → IsCoreOfBytes c → IfSome (next_call c) IsOfBytes
 unfolding next_call IsCoreOfBytes
 core-bytes (Script s) bytes = script-bytes s bytes
 core-bytes (Truss t) bytes = truss-bytes t
 core-bytes (Tool t) bytes = tool-bytes t
 
-reply-bytes : (c : Core) (r : Reply) → IsCoreOfBytes c → IsCoreOfBytes (after_reply c r)
+reply-bytes : (c : ControllerState) (r : Reply) → IsCoreOfBytes c → IsCoreOfBytes (after_reply c r)
 unfolding after_reply IsCoreOfBytes
 reply-bytes (Script s) r bytes = subst (All IsLineOfBytes) (sym (fed-lines s r)) bytes
 reply-bytes (Truss t) r bytes = tt
 reply-bytes (Tool t) r bytes = tt
 
 -- the call of a controller
-call-bytes : (controllers : List Core) (k : ℕ) (c : Call) → All IsCoreOfBytes controllers → call_by controllers k ≡ Some c → IsOfBytes c
+call-bytes : (controllers : List ControllerState) (k : ℕ) (c : Call) → All IsCoreOfBytes controllers → call_by controllers k ≡ Some c → IsOfBytes c
 unfolding call_by
 call-bytes controllers k c all is = of (slice_get controllers k) refl is
   where
-    of : (o : Option Core) → slice_get controllers k ≡ o → option_and_then next_call o ≡ Some c → IsOfBytes c
+    of : (o : Option ControllerState) → slice_get controllers k ≡ o → option_and_then next_call o ≡ Some c → IsOfBytes c
     of None found is = absurd (cc)
     of (Some core) found is = subst (λ next. IfSome next IsOfBytes) is (core-bytes core (All-at IsCoreOfBytes controllers k core found all))
 
 -- ---- a history
 
 -- Each entry. A legal one is no call of an lwp or of the clock.
-entry-bytes : (controllers : List Core) (n : ℕ) (s : TracedState) (actor : Actor) (it : Act) → All IsCoreOfBytes controllers → IsLegalEntry n s (record { actor = actor; act = it }) → FollowsAt controllers s (record { actor = actor; act = it }) → IsActOfBytes it
+entry-bytes : (controllers : List ControllerState) (n : ℕ) (s : TracedState) (actor : Actor) (it : Act) → All IsCoreOfBytes controllers → IsLegalEntry n s (record { actor = actor; act = it }) → FollowsAt controllers s (record { actor = actor; act = it }) → IsActOfBytes it
 unfolding IsLegalEntry FollowsAt
 entry-bytes controllers n s (Controller k) (act.Call c r) all legal follows = call-bytes controllers k c all follows
 entry-bytes controllers n s actor (act.Turn t) all legal follows = tt
@@ -261,15 +261,15 @@ entry-bytes controllers n s (Lwp p l) (act.Call c r) all legal follows = absurd 
 entry-bytes controllers n s Clock (act.Call c r) all legal follows = absurd legal
 
 -- the controllers after it write bytes too
-fed-bytes : (controllers : List Core) (k : ℕ) (r : Reply) → All IsCoreOfBytes controllers → All IsCoreOfBytes (with_fed k r controllers)
+fed-bytes : (controllers : List ControllerState) (k : ℕ) (r : Reply) → All IsCoreOfBytes controllers → All IsCoreOfBytes (with_fed k r controllers)
 unfolding with_fed
 fed-bytes controllers k r all = of (slice_get controllers k) refl
   where
-    of : (o : Option Core) → slice_get controllers k ≡ o → All IsCoreOfBytes (feed_at k r controllers o)
+    of : (o : Option ControllerState) → slice_get controllers k ≡ o → All IsCoreOfBytes (feed_at k r controllers o)
     of None found = all
     of (Some c) found = All-set IsCoreOfBytes controllers k (after_reply c r) (reply-bytes c r (All-at IsCoreOfBytes controllers k c found all)) all
 
-after-bytes : (controllers : List Core) (actor : Actor) (it : Act) → All IsCoreOfBytes controllers → All IsCoreOfBytes (controllers_after controllers (record { actor = actor; act = it }))
+after-bytes : (controllers : List ControllerState) (actor : Actor) (it : Act) → All IsCoreOfBytes controllers → All IsCoreOfBytes (controllers_after controllers (record { actor = actor; act = it }))
 unfolding controllers_after
 after-bytes controllers (Controller k) (act.Call c r) all = fed-bytes controllers k r all
 after-bytes controllers (Controller k) (act.Turn t) all = all
@@ -277,7 +277,7 @@ after-bytes controllers (Controller k) (act.Tick moment) all = all
 after-bytes controllers (Lwp p l) it all = all
 after-bytes controllers Clock it all = all
 
-pub follows-bytes : (controllers : List Core) (n : ℕ) (s : TracedState) (h : List Entry) → All IsCoreOfBytes controllers → IsLegal n s h → Follows controllers s h → HasBytes h
+pub follows-bytes : (controllers : List ControllerState) (n : ℕ) (s : TracedState) (h : List Entry) → All IsCoreOfBytes controllers → IsLegal n s h → Follows controllers s h → HasBytes h
 follows-bytes controllers n s [] all legal follows = All-nil IsEntryOfBytes
 follows-bytes controllers n s (e ∷ h) all legal follows =
     let here = entry-bytes controllers n s e.actor e.act all legal.0 follows.0 in

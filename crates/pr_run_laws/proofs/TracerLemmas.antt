@@ -14,7 +14,7 @@ use Rattle.pr_model.specs.declared.events.Actor.{Actor}
 use Rattle.pr_model.specs.declared.events.Actor.TheVariants.{Controller, Lwp, Clock}
 use Rattle.pr_model.specs.declared.events.Entry.{Entry}
 use Rattle.pr_world.specs.Controllers.{after_reply, call_by, feed_at, next_call, with_fed}
-use Rattle.pr_world.specs.Cores.{Core, Script, Truss, Tool}
+use Rattle.pr_world.specs.ControllerStates.{ControllerState, Script, Truss, Tool}
 use Rattle.pr_world.specs.Protocol.{Follows, FollowsAt, controllers_after}
 use Rattle.pr_run_laws.proofs.AnswerLemmas.{reply-passive}
 use Rattle.pr_run_laws.proofs.PassiveLemmas.{tool-passive, truss-passive}
@@ -22,30 +22,30 @@ use Rattle.pr_run_laws.specs.Tracers.{IsPassiveCall, IsTracer}
 
 -- Where no controller is a script, a history is passive.
 
-core-passive : (c : Core) → IsTracer c → IfSome (next_call c) IsPassiveCall
+core-passive : (c : ControllerState) → IsTracer c → IfSome (next_call c) IsPassiveCall
 unfolding next_call IsTracer
 core-passive (Script s) tracer = absurd tracer
 core-passive (Truss t) tracer = truss-passive t
 core-passive (Tool t) tracer = tool-passive t
 
 -- a tracer stays one
-reply-tracer : (c : Core) (r : Reply) → IsTracer c → IsTracer (after_reply c r)
+reply-tracer : (c : ControllerState) (r : Reply) → IsTracer c → IsTracer (after_reply c r)
 unfolding after_reply IsTracer
 reply-tracer (Script s) r tracer = tracer
 reply-tracer (Truss t) r tracer = tt
 reply-tracer (Tool t) r tracer = tt
 
 -- the call of a controller
-call-passive : (controllers : List Core) (k : ℕ) (c : Call) → All IsTracer controllers → call_by controllers k ≡ Some c → IsPassiveCall c
+call-passive : (controllers : List ControllerState) (k : ℕ) (c : Call) → All IsTracer controllers → call_by controllers k ≡ Some c → IsPassiveCall c
 unfolding call_by
 call-passive controllers k c all is = of (slice_get controllers k) refl is
   where
-    of : (o : Option Core) → slice_get controllers k ≡ o → option_and_then next_call o ≡ Some c → IsPassiveCall c
+    of : (o : Option ControllerState) → slice_get controllers k ≡ o → option_and_then next_call o ≡ Some c → IsPassiveCall c
     of None found is = absurd (cc)
     of (Some core) found is = subst (λ next. IfSome next IsPassiveCall) is (core-passive core (All-at IsTracer controllers k core found all))
 
 -- each entry
-entry-passive : (controllers : List Core) (n : ℕ) (s : TracedState) (actor : Actor) (it : Act) → All IsTracer controllers → IsLegalEntry n s (record { actor = actor; act = it }) → FollowsAt controllers s (record { actor = actor; act = it }) → IsTrue (is_passive_act it)
+entry-passive : (controllers : List ControllerState) (n : ℕ) (s : TracedState) (actor : Actor) (it : Act) → All IsTracer controllers → IsLegalEntry n s (record { actor = actor; act = it }) → FollowsAt controllers s (record { actor = actor; act = it }) → IsTrue (is_passive_act it)
 unfolding IsLegalEntry FollowsAt
 entry-passive controllers n s (Controller k) (act.Call c r) all legal follows =
     reply-passive s k c (record { state = legal.1.0; reply = r }) legal.1.1 (call-passive controllers k c all follows)
@@ -55,15 +55,15 @@ entry-passive controllers n s (Lwp p l) (act.Call c r) all legal follows = absur
 entry-passive controllers n s Clock (act.Call c r) all legal follows = absurd legal
 
 -- the controllers after it are tracers too
-fed-tracers : (controllers : List Core) (k : ℕ) (r : Reply) → All IsTracer controllers → All IsTracer (with_fed k r controllers)
+fed-tracers : (controllers : List ControllerState) (k : ℕ) (r : Reply) → All IsTracer controllers → All IsTracer (with_fed k r controllers)
 unfolding with_fed
 fed-tracers controllers k r all = of (slice_get controllers k) refl
   where
-    of : (o : Option Core) → slice_get controllers k ≡ o → All IsTracer (feed_at k r controllers o)
+    of : (o : Option ControllerState) → slice_get controllers k ≡ o → All IsTracer (feed_at k r controllers o)
     of None found = all
     of (Some c) found = All-set IsTracer controllers k (after_reply c r) (reply-tracer c r (All-at IsTracer controllers k c found all)) all
 
-after-tracers : (controllers : List Core) (actor : Actor) (it : Act) → All IsTracer controllers → All IsTracer (controllers_after controllers (record { actor = actor; act = it }))
+after-tracers : (controllers : List ControllerState) (actor : Actor) (it : Act) → All IsTracer controllers → All IsTracer (controllers_after controllers (record { actor = actor; act = it }))
 unfolding controllers_after
 after-tracers controllers (Controller k) (act.Call c r) all = fed-tracers controllers k r all
 after-tracers controllers (Controller k) (act.Turn t) all = all
@@ -71,7 +71,7 @@ after-tracers controllers (Controller k) (act.Tick moment) all = all
 after-tracers controllers (Lwp p l) it all = all
 after-tracers controllers Clock it all = all
 
-pub tracers-passive : (controllers : List Core) (n : ℕ) (s : TracedState) (h : List Entry) → All IsTracer controllers → IsLegal n s h → Follows controllers s h → IsPassive h
+pub tracers-passive : (controllers : List ControllerState) (n : ℕ) (s : TracedState) (h : List Entry) → All IsTracer controllers → IsLegal n s h → Follows controllers s h → IsPassive h
 tracers-passive controllers n s [] all legal follows = All-nil (λ (e : Entry). IsTrue (is_passive_act e.act))
 tracers-passive controllers n s (e ∷ h) all legal follows =
     let here = entry-passive controllers n s e.actor e.act all legal.0 follows.0 in

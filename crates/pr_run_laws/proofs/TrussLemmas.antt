@@ -52,7 +52,7 @@ use Rattle.pr_truss_laws.specs.Handles.{HasNothingOpen}
 use Rattle.pr_truss_laws.specs.Polled.{IsNoEndOf, PollNames, calls_meanwhile}
 use Rattle.pr_truss_laws.specs.Runs.{IsTrussRun}
 use Rattle.pr_world.specs.Controllers.{after_reply, call_by, next_call, with_fed}
-use Rattle.pr_world.specs.Cores.{Core, Truss}
+use Rattle.pr_world.specs.ControllerStates.{ControllerState, Truss}
 use Rattle.pr_world.specs.Protocol.{Follows, FollowsAt, controllers_after, controllers_at}
 use Rattle.pr_run_laws.specs.TrussRuns.{HandlesChildren, HasControl, HasDone, IsNewborn, IsTrussKept, Releases, WasLetGo}
 use Rattle.pr_num.specs.Limits.{handle_limit}
@@ -62,24 +62,24 @@ use Rattle.pr_tool_laws.proofs.ProtocolLemmas.{fed-other, fed-own}
 
 -- ---- its call, and the reply to it
 
-truss-next : (controllers : List Core) (k : ℕ) (t : TrussState) (c : Call) → slice_get controllers k ≡ Some (Truss t) → call_by controllers k ≡ Some c → next_call_of t ≡ Some c
+truss-next : (controllers : List ControllerState) (k : ℕ) (t : TrussState) (c : Call) → slice_get controllers k ≡ Some (Truss t) → call_by controllers k ≡ Some c → next_call_of t ≡ Some c
 unfolding call_by next_call
 truss-next controllers k t c at calls = sym (ap (option_and_then next_call) at) ∙ calls
 
-truss-fed : (controllers : List Core) (k : ℕ) (t : TrussState) (r : Reply) → slice_get controllers k ≡ Some (Truss t) → slice_get (with_fed k r controllers) k ≡ Some (Truss (fed t r))
+truss-fed : (controllers : List ControllerState) (k : ℕ) (t : TrussState) (r : Reply) → slice_get controllers k ≡ Some (Truss t) → slice_get (with_fed k r controllers) k ≡ Some (Truss (fed t r))
 unfolding after_reply
 truss-fed controllers k t r at = fed-own controllers k r (Truss t) at
 
 -- ---- an entry
 
 -- the truss and its exchanges, once the rest of the history was made by these controllers
-abbrev Stays : List Core → List Entry → ℕ → TrussState → List Exchange → Type 0
+abbrev Stays : List ControllerState → List Entry → ℕ → TrussState → List Exchange → Type 0
 Stays controllers h k t xs = Makes t xs × (slice_get (controllers_at controllers h) k ≡ Some (Truss (truss_after t xs)))
 
-abbrev Rest : List Core → List Entry → ℕ → List Exchange → Type 0
+abbrev Rest : List ControllerState → List Entry → ℕ → List Exchange → Type 0
 Rest controllers h k xs = (u : TrussState) → slice_get controllers k ≡ Some (Truss u) → Stays controllers h k u xs
 
-call-stays : (controllers : List Core) (h : List Entry) (k by : ℕ) (t : TrussState) (c : Call) (r : Reply) (xs : List Exchange) (b : Bool) → (by == k) ≡ b → slice_get controllers k ≡ Some (Truss t) → call_by controllers by ≡ Some c → Rest (with_fed by r controllers) h k xs → Stays (with_fed by r controllers) h k t (cons_option (cond b (Some (record { call = c; reply = r })) None) xs)
+call-stays : (controllers : List ControllerState) (h : List Entry) (k by : ℕ) (t : TrussState) (c : Call) (r : Reply) (xs : List Exchange) (b : Bool) → (by == k) ≡ b → slice_get controllers k ≡ Some (Truss t) → call_by controllers by ≡ Some c → Rest (with_fed by r controllers) h k xs → Stays (with_fed by r controllers) h k t (cons_option (cond b (Some (record { call = c; reply = r })) None) xs)
 call-stays controllers h k by t c r xs true is at calls rest =
     let same = eqb-true by k is in
     let next = truss-next controllers k t c at (subst (λ n. call_by controllers n ≡ Some c) same calls) in
@@ -88,7 +88,7 @@ call-stays controllers h k by t c r xs true is at calls rest =
     ((next, it.0), it.1)
 call-stays controllers h k by t c r xs false is at calls rest = rest t (fed-other controllers by k r (eqb-false by k is) ∙ at)
 
-entry-stays : (controllers : List Core) (s : TracedState) (h : List Entry) (k : ℕ) (t : TrussState) (actor : Actor) (it : Act) (xs : List Exchange) → slice_get controllers k ≡ Some (Truss t) → FollowsAt controllers s (record { actor = actor; act = it }) → Rest (controllers_after controllers (record { actor = actor; act = it })) h k xs → Stays (controllers_after controllers (record { actor = actor; act = it })) h k t (cons_option (exchange_in k actor it) xs)
+entry-stays : (controllers : List ControllerState) (s : TracedState) (h : List Entry) (k : ℕ) (t : TrussState) (actor : Actor) (it : Act) (xs : List Exchange) → slice_get controllers k ≡ Some (Truss t) → FollowsAt controllers s (record { actor = actor; act = it }) → Rest (controllers_after controllers (record { actor = actor; act = it })) h k xs → Stays (controllers_after controllers (record { actor = actor; act = it })) h k t (cons_option (exchange_in k actor it) xs)
 unfolding FollowsAt controllers_after
 entry-stays controllers s h k t (Controller by) (act.Call c r) xs at follows rest = call-stays controllers h k by t c r xs (by == k) refl at follows rest
 entry-stays controllers s h k t (Controller by) (act.Turn did) xs at follows rest = rest t at
@@ -106,7 +106,7 @@ exchanges-cons : (k : ℕ) (e : Entry) (h : List Entry) → exchanges k (e ∷ h
 unfolding exchanges
 exchanges-cons k e h = refl
 
-truss-stays : (h : List Entry) (controllers : List Core) (s : TracedState) (k : ℕ) (t : TrussState) → slice_get controllers k ≡ Some (Truss t) → Follows controllers s h → Stays controllers h k t (exchanges k h)
+truss-stays : (h : List Entry) (controllers : List ControllerState) (s : TracedState) (k : ℕ) (t : TrussState) → slice_get controllers k ≡ Some (Truss t) → Follows controllers s h → Stays controllers h k t (exchanges k h)
 truss-stays [] controllers s k t at follows = subst (Stays controllers [] k t) (sym (exchanges-none k)) (tt, at)
 truss-stays (e ∷ h) controllers s k t at follows =
     let rest : Rest (controllers_after controllers e) h k (exchanges k h) = λ u here. truss-stays h (controllers_after controllers e) (after s e) k u here follows.1 in
@@ -257,7 +257,7 @@ module _ (n k : ℕ) (o : Options) (first : TracedState) (h : List Entry) (run :
         lets_go = λ before later pid is on. was-let pid (finished-watches-none k o pid h finished) later before is on;
       }
 
-pub truss-kept : (controllers : List Core) (n : ℕ) (first : TracedState) (h : List Entry) (k : ℕ) (o : Options) → IsReached first → HasBytes h → slice_get controllers k ≡ Some (Truss (first_truss o)) → HasNothingOpen k first → IsLegal n first h → Follows controllers first h → IsTrussKept controllers first h k o
+pub truss-kept : (controllers : List ControllerState) (n : ℕ) (first : TracedState) (h : List Entry) (k : ℕ) (o : Options) → IsReached first → HasBytes h → slice_get controllers k ≡ Some (Truss (first_truss o)) → HasNothingOpen k first → IsLegal n first h → Follows controllers first h → IsTrussKept controllers first h k o
 truss-kept controllers n first h k o reached bytes at none legal follows =
     let stays = truss-stays h controllers first k (first_truss o) at follows in
     let run : IsTrussRun n k o first h = record { lawful = reached.lawful; nothing_open = none; legal = legal; makes = stays.0 } in

@@ -6,7 +6,7 @@ use Rattle.pr_scen.specs.Scenarios.{Scenario}
 use Rattle.pr_scen.specs.declared.script_lines.ScriptLine.{ScriptLine}
 use Rattle.pr_scen.specs.declared.script_lines.ScriptLine.TheVariants as line
 use Rattle.pr_run_laws.specs.ScenarioRuns.{controllers_of, files_of}
-use Rattle.pr_world.specs.Cores.{Core, Script, Truss, Tool}
+use Rattle.pr_world.specs.ControllerStates.{ControllerState, Script, Truss, Tool}
 
 -- What is so of each scenario that was read, beside its limits.
 
@@ -16,7 +16,7 @@ IsLineOfBytes (line.Write name bytes) = All IsByte bytes
 IsLineOfBytes _ = Unit {0}
 
 -- what a controller writes is bytes; of truss and the tools it always is
-unfoldable pub IsCoreOfBytes : Core → Type 0
+unfoldable pub IsCoreOfBytes : ControllerState → Type 0
 IsCoreOfBytes (Script s) = All IsLineOfBytes s.lines
 IsCoreOfBytes (Truss t) = Unit {0}
 IsCoreOfBytes (Tool t) = Unit {0}

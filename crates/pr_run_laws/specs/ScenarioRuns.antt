@@ -19,7 +19,7 @@ use Rattle.pr_run_laws.specs.TrussRuns.{IsTrussKept}
 use Rattle.pr_world.specs.Protocol.{Follows}
 use Rattle.pr_world.specs.Runs.{after_moves}
 use Rattle.pr_world.specs.Worlds.{WorldState}
-use Rattle.pr_world.specs.Cores.{Core, Script, Truss, Tool}
+use Rattle.pr_world.specs.ControllerStates.{ControllerState, Script, Truss, Tool}
 
 -- The runs of a scenario.
 
@@ -32,13 +32,13 @@ abbrev pub first_state_of : Scenario → TracedState
 first_state_of s = first_state s.programs (files_of s) s.spawns
 
 -- the controller of a plan before its first call, a row a kind
-unfoldable pub controller_of : Plan → Core
+unfoldable pub controller_of : Plan → ControllerState
 controller_of (plan.Script script) = Script script
 controller_of (plan.Truss options) = Truss (first_truss options)
 controller_of (plan.Tool kind pid) = Tool (first_tool kind pid)
 
 -- its controllers before their first calls, in order
-abbrev pub controllers_of : Scenario → List Core
+abbrev pub controllers_of : Scenario → List ControllerState
 controllers_of s = map controller_of s.controllers
 
 -- The world before the first move; the history has as many places as the scenario has turns.

@@ -8,7 +8,7 @@ use Rattle.pr_tool_laws.specs.ShownStates.{ShowsOneState}
 use Rattle.pr_tool_laws.specs.Stacks.{ShowsOneStack}
 use Rattle.pr_tool_laws.specs.ToolTexts.{reads_once}
 use Rattle.pr_tools.specs.Tools.{ToolState, has_ended, printed}
-use Rattle.pr_world.specs.Cores.{Core, Tool}
+use Rattle.pr_world.specs.ControllerStates.{ControllerState, Tool}
 use Rattle.pr_world.specs.Protocol.{controllers_at}
 
 -- What a run keeps of each tool.
@@ -16,7 +16,7 @@ use Rattle.pr_world.specs.Protocol.{controllers_at}
 -- The controller of a number is a tool of this kind and process. When it has finished, and was not refused, it prints
 -- what stands in one state; pstack, which reads more than once, the stacks of one state. This is so with the labels of
 -- whatever programs it prints.
-pub record IsToolKept (controllers : List Core) (first : TracedState) (h : List Entry)
+pub record IsToolKept (controllers : List ControllerState) (first : TracedState) (h : List Entry)
     (k : ℕ) (kind : ToolKind) (pid : ℕ) : Type 0 where
   pub shows : (t : ToolState) (programs : List Program) → slice_get (controllers_at controllers h) k ≡ Some (Tool t)
       → has_ended t ≡ true → t.refusal ≡ None → reads_once kind ≡ true

@@ -3,11 +3,11 @@ use Rattle.pr_model.specs.Passive.{is_passive_message}
 use Rattle.pr_model.specs.declared.calls.Call.{Call}
 use Rattle.pr_model.specs.declared.calls.Call.TheVariants as call
 use Rattle.pr_num.specs.Messages.{first_message}
-use Rattle.pr_world.specs.Cores.{Core, Script, Truss, Tool}
+use Rattle.pr_world.specs.ControllerStates.{ControllerState, Script, Truss, Tool}
 
 -- Controllers that trace and show: truss and the proc tools. A script may make any call.
 
-unfoldable pub IsTracer : Core → Type 0
+unfoldable pub IsTracer : ControllerState → Type 0
 IsTracer (Script s) = ⊥
 IsTracer (Truss t) = Unit {0}
 IsTracer (Tool t) = Unit {0}

@@ -33,7 +33,7 @@ use Rattle.pr_truss_laws.specs.Exchanges.{Exchange, Makes, exchanges, truss_afte
 use Rattle.pr_truss_laws.specs.Given.{IsHandled, IsHandledSoFar}
 use Rattle.pr_truss_laws.specs.Handles.{HasNothingOpen}
 use Rattle.pr_truss_laws.specs.Polled.{IsNoEndOf, PollNames, calls_meanwhile}
-use Rattle.pr_world.specs.Cores.{Core, Truss}
+use Rattle.pr_world.specs.ControllerStates.{ControllerState, Truss}
 use Rattle.pr_world.specs.Protocol.{controllers_at}
 
 -- What a run keeps of each truss.
@@ -133,7 +133,7 @@ pub record Releases (k : ℕ) (o : Options) (first : TracedState) (h : List Entr
 -- alone. Wherever it has come to, it releases the processes of which it has set PR_RLC when it closes their control
 -- files; and what it has set so stays set while it has the control file open, also where the opening of the process is
 -- broken off.
-pub record IsTrussKept (controllers : List Core) (first : TracedState) (h : List Entry)
+pub record IsTrussKept (controllers : List ControllerState) (first : TracedState) (h : List Entry)
     (k : ℕ) (o : Options) : Type 0 where
   pub makes : Makes (first_truss o) (exchanges k h)
   pub truss : slice_get (controllers_at controllers h) k ≡ Some (Truss (truss_at k o h))

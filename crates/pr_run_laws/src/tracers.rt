@@ -11,7 +11,7 @@ ghost use Rattle.pr_tools.specs.Tools as tools;
 ghost use Rattle.pr_tools.specs.Tools.{ToolState};
 ghost use Rattle.pr_truss.specs.NextCalls as trusses;
 ghost use Rattle.pr_truss.specs.Trusses.{TrussState};
-ghost use Rattle.pr_world.specs.Cores.{Core};
+ghost use Rattle.pr_world.specs.ControllerStates.{ControllerState};
 ghost use Rattle.pr_world.specs.Protocol.{Follows};
 
 /// Whatever truss has learnt, the control message that it sends next, if it sends one, is passive: PCSTOP, PCRUN
@@ -37,6 +37,6 @@ pub fn calls_that_send_passive_messages_are_passive()
 /// A legal history is passive in which each controller is a truss or a tool and makes the calls that come after the
 /// replies that it got.
 pub fn histories_of_tracers_are_passive()
-    ensures { (controllers : List Core) (n : ℕ) (s : TracedState) (h : List Entry) → All IsTracer controllers
+    ensures { (controllers : List ControllerState) (n : ℕ) (s : TracedState) (h : List Entry) → All IsTracer controllers
         → IsLegal n s h → Follows controllers s h → IsPassive h }
 {}

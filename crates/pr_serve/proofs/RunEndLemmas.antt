@@ -12,7 +12,7 @@ use Rattle.pr_scen.specs.Scenarios.{Scenario}
 use Rattle.pr_world.specs.Runs.{IsFresh, IsTold, after_moves}
 use Rattle.pr_world.specs.Worlds.{WorldState, all_finished, end_of, end_with, next_actor, quiet_end}
 use Rattle.pr_world.proofs.RestLemmas.{all-rest, next-acts}
-use Rattle.pr_world.proofs.RunLemmas.{moves-counted, moves-told, told-lawful}
+use Rattle.pr_world.proofs.RunLemmas.{moves-counted, moves-told, signalled-lawful}
 use Rattle.pr_serve.proofs.InputLemmas.{input-range}
 use Rattle.pr_serve.specs.Answers.{Answer, RunText, answer_of, answer_to, end_status, ran, ran_so, refused_at}
 use Rattle.pr_serve.specs.Ends.{EndsAs}
@@ -82,8 +82,8 @@ unfolding end_status
 ended first n told fresh None rest = by (all_finished (after_moves n first)) refl
   where
     by : (b : Bool) → all_finished (after_moves n first) ≡ b → EndsAs n (after_moves n first) (end_status (quiet_end b))
-    by true finished = inl (refl, record { rest = λ actor. all-rest (after_moves n first) actor (told-lawful (after_moves n first) (moves-told first n told)) rest; finished = finished })
-    by false unfinished = inr (inr (refl, record { rest = λ actor. all-rest (after_moves n first) actor (told-lawful (after_moves n first) (moves-told first n told)) rest; unfinished = unfinished }))
+    by true finished = inl (refl, record { rest = λ actor. all-rest (after_moves n first) actor (signalled-lawful (after_moves n first) (moves-told first n told)) rest; finished = finished })
+    by false unfinished = inr (inr (refl, record { rest = λ actor. all-rest (after_moves n first) actor (signalled-lawful (after_moves n first) (moves-told first n told)) rest; unfinished = unfinished }))
 ended first n told fresh (Some actor) next =
     inr (inl (refl, record { mover = actor; can_move = next-acts (after_moves n first) actor next; full = moves-counted first n told fresh (ap is_some next) }))
 

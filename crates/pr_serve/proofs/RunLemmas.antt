@@ -20,7 +20,7 @@ use Rattle.pr_scen.specs.declared.plans.Plan.{Plan}
 use Rattle.pr_world.proofs.RunLemmas.{run-function, run-longer, run-places}
 use Rattle.pr_world.specs.Runs.{IsFresh, IsTold, StoppedIn, after_moves}
 use Rattle.pr_world.specs.Worlds.{WorldOf, WorldState, end_of, ended_as, goes_on, seen}
-use Rattle.pr_world.specs.Cores.{Core, core_of}
+use Rattle.pr_world.specs.ControllerStates.{ControllerState, state_of}
 use Rattle.pr_world.specs.declared.controllers.Controller.{Controller}
 use Rattle.pr_world.specs.declared.ends.End.{End}
 use Rattle.pr_serve.specs.Made.{IsWorldsWay, kern_view}
@@ -44,13 +44,13 @@ own-names s limits = limits.own_names
 
 -- ---- controllers: one of a plan
 
-pub controllers-few : (plans : List Plan) (controllers : List Controller) → map core_of controllers ≡ map controller_of plans → length controllers ≡ length plans
-controllers-few plans controllers same = sym (length-map controllers core_of) ∙ ap length same ∙ length-map plans controller_of
+pub controllers-few : (plans : List Plan) (controllers : List Controller) → map state_of controllers ≡ map controller_of plans → length controllers ≡ length plans
+controllers-few plans controllers same = sym (length-map controllers state_of) ∙ ap length same ∙ length-map plans controller_of
 
 -- ---- the first world
 
 -- A world that is made of the parts of a scenario's first world is seen as that.
-made : TracedState → List Entry → ℕ → List Core → List Actor → Option Actor → WorldState
+made : TracedState → List Entry → ℕ → List ControllerState → List Actor → Option Actor → WorldState
 made s h n controllers schedule last = record { kernel = kernel_of s h n; controllers = controllers; schedule = schedule; last = last }
 
 pub first-seen : (s : Scenario) (w : WorldOf Kernel) → w.kernel.state ≡ first_state s.programs (stored s.files) s.spawns → w.kernel.history ≡ [] → w.kernel.places ≡ s.turns → w.controllers ≡ controllers_of s → w.schedule ≡ s.schedule → w.last ≡ None → seen kern_view w ≡ first_world s
@@ -64,7 +64,7 @@ first-seen s w state history places controllers schedule last =
     ∙ ap (λ x. made (first_state_of s) [] s.turns (controllers_of s) s.schedule x) last
 
 -- The world that is made of a kernel and the parts of a scenario is its first world.
-pub first-made : (r : Result (WorldOf Kernel) NoMemory) (s : Scenario) (k : Kernel) (controllers : List Core) (schedule : List Actor) → k.state ≡ first_state s.programs (stored s.files) s.spawns → k.history ≡ [] → k.places ≡ s.turns → controllers ≡ controllers_of s → schedule ≡ s.schedule
+pub first-made : (r : Result (WorldOf Kernel) NoMemory) (s : Scenario) (k : Kernel) (controllers : List ControllerState) (schedule : List Actor) → k.state ≡ first_state s.programs (stored s.files) s.spawns → k.history ≡ [] → k.places ≡ s.turns → controllers ≡ controllers_of s → schedule ≡ s.schedule
     → IfOk r (λ world. world ≡ record { kernel = k; controllers = controllers; schedule = schedule; last = None }) → IfOk r (λ world. seen kern_view world ≡ first_world s)
 first-made (Ok w) s k controllers schedule state history places all acts is =
     first-seen s w

@@ -14,7 +14,7 @@ use Rattle.pr_world.specs.Runs.{CameFrom, IsTold}
 use Rattle.pr_world.specs.Worlds.{WorldState, all_finished, end_of, end_with, ended_as, goes_on, next_actor, quiet_end}
 use Rattle.pr_world.specs.declared.ends.End.{End}
 use Rattle.pr_world.proofs.RestLemmas.{all-rest, next-acts}
-use Rattle.pr_world.proofs.RunLemmas.{told-lawful}
+use Rattle.pr_world.proofs.RunLemmas.{signalled-lawful}
 use Rattle.pr_serve.proofs.InputLemmas.{input-range}
 use Rattle.pr_serve.proofs.RunEndLemmas.{status_cases}
 use Rattle.pr_serve.proofs.RunLemmas.{first_world-places}
@@ -64,7 +64,7 @@ led-places : (s : Scenario) (w : WorldState) → CameFrom (first_world s) w → 
 led-places s w came = came.led.places ∙ first_world-places s
 
 end-ends : (s : Scenario) (w : WorldState) → IsEndOf s w → EndsAs s.turns w (end_status (end_of w))
-end-ends s w e = over-ends w s.turns (told-lawful w e.told) e.over e.within (led-places s w e.came)
+end-ends s w e = over-ends w s.turns (signalled-lawful w e.told) e.over e.within (led-places s w e.came)
 
 -- ---- what is shown of it
 

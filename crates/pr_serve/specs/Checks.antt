@@ -1,7 +1,7 @@
 use Rattle.std.specs.Prelude.{◌≡◌, ◌==◌, ◌+◌, ◌-◌, ◌&&◌, ◌||◌, ℕ, Bool, true, false, List, Option, Some, None, Result, Ok, Err, codes, count_by, drop, find, length, min, nat_le, take, if◌then◌else◌}
 use Rattle.std.specs.List.{range_with_len, slice_get, starts_with}
 use Rattle.std.specs.Str.{bytes_eq}
-use Rattle.pr_model.specs.Kept.{Kept}
+use Rattle.pr_model.specs.HistoryViews.{HistoryView}
 use Rattle.pr_model.specs.declared.events.Entry.{Entry}
 use Rattle.pr_num.specs.Limits.{scenario_limit}
 use Rattle.pr_plain.specs.EntryReading.{history_of}
@@ -100,5 +100,5 @@ refused_as wrong_of (Err e) = Err (wrong_of e)
 abbrev pub ReadsScenario : Result Scenario Unchecked → Result Scenario ScenFault → Type 0
 ReadsScenario result read = Gives (λ s. s) result (refused_as wrong.Scenario read)
 
-abbrev pub ReadsHistory : Result Kept Unchecked → Result (List Entry) ℕ → Type 0
+abbrev pub ReadsHistory : Result HistoryView Unchecked → Result (List Entry) ℕ → Type 0
 ReadsHistory result read = Gives (λ h. h.entries) result (refused_as wrong.History read)

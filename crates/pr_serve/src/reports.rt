@@ -1,7 +1,7 @@
 //! What the controllers of a run print.
 ghost use Rattle.std.specs.Prelude.{◌≡◌, ◌<◌, ◌++◌, length, slice_get, IfOk, OnOk};
 ghost use Rattle.std.specs.Option.{ForSome};
-ghost use Rattle.pr_world.specs.Cores.{core_of};
+ghost use Rattle.pr_world.specs.ControllerStates.{state_of};
 ghost use Rattle.pr_world.specs.Worlds.{seen};
 ghost use Rattle.pr_serve.specs.Made.{kern_view};
 ghost use Rattle.pr_serve.specs.Reports.{printer_of, report_of, reports_of};
@@ -13,9 +13,9 @@ use pr_world::{Controller, World};
 use std::alloc::Global;
 
 /// Who prints, if it is no script.
-#[tactic(auto, unfolding(crate::specs::Reports::printer_of, pr_world::specs::Cores::core_of))]
+#[tactic(auto, unfolding(crate::specs::Reports::printer_of, pr_world::specs::ControllerStates::state_of))]
 fn printer_of(controller: &Controller) -> Option<Printer>
-    ensures { result ≡ printer_of (core_of controller.now) }
+    ensures { result ≡ printer_of (state_of controller.now) }
 {
     match controller {
         Controller::Script(_) => None,

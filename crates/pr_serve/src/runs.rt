@@ -2,7 +2,7 @@
 ghost use Rattle.std.specs.Prelude.{◌≡◌, map, IfOk, OnOk, OnErr};
 ghost use Rattle.pr_run_laws.specs.ScenarioRuns.{controller_of, first_world, run_of};
 ghost use Rattle.pr_scen.specs.Scenarios.{IsWithinLimits};
-ghost use Rattle.pr_world.specs.Cores.{core_of};
+ghost use Rattle.pr_world.specs.ControllerStates.{state_of};
 ghost use Rattle.pr_world.specs.Runs.{IsFresh, IsTold, after_moves};
 ghost use Rattle.pr_world.specs.Worlds.{end_of, seen};
 ghost use Rattle.pr_serve.specs.Made.{IsBroughtSoFar, IsWorldsWay, kern_view};
@@ -21,9 +21,9 @@ use pr_world::{Controller, End, World};
 use std::alloc::Global;
 
 /// The controller of a plan before its first call.
-#[tactic(auto, unfolding(pr_run_laws::specs::ScenarioRuns::controller_of, pr_world::specs::Cores::core_of))]
+#[tactic(auto, unfolding(pr_run_laws::specs::ScenarioRuns::controller_of, pr_world::specs::ControllerStates::state_of))]
 fn controller_of(alloc: Global, plan: Plan) -> Result<Controller, NoMemory>
-    ensures { IfOk result (λ controller. core_of controller ≡ controller_of plan) }
+    ensures { IfOk result (λ controller. state_of controller ≡ controller_of plan) }
 {
     Ok(match plan {
         Plan::Script(script) => Controller::Script(script),
@@ -34,7 +34,7 @@ fn controller_of(alloc: Global, plan: Plan) -> Result<Controller, NoMemory>
 
 /// The controllers of plans before their first calls.
 fn controllers_of(alloc: Global, plans: Vec<Plan>) -> Result<Vec<Controller>, NoMemory>
-    ensures { IfOk result (λ controllers. map core_of controllers.items ≡ map controller_of plans.items) }
+    ensures { IfOk result (λ controllers. map state_of controllers.items ≡ map controller_of plans.items) }
 {
     let mut controllers = Vec::with_capacity(alloc, plans.len())?;
     for plan in plans {

@@ -16,7 +16,7 @@ use Rattle.pr_tools.specs.Tools.{ToolState, fed, first_tool, has_ended, next_cal
 use Rattle.pr_tools.specs.declared.steps.Step.{Step}
 use Rattle.pr_tools.specs.declared.steps.Step.TheVariants as step
 use Rattle.pr_world.specs.Controllers.{after_reply, next_call}
-use Rattle.pr_world.specs.Cores.{Core, Script, Truss, Tool}
+use Rattle.pr_world.specs.ControllerStates.{ControllerState, Script, Truss, Tool}
 use Rattle.pr_world.specs.Protocol.{Follows, controllers_at}
 use Rattle.pr_tool_laws.proofs.ProtocolLemmas.{KeptByCalls, KeptByOthers, protocol-keeps}
 use Rattle.pr_tool_laws.proofs.EndedLemmas.{IsAwaited, first-awaited, pwait-keeps}
@@ -35,7 +35,7 @@ use Rattle.pr_tool_laws.specs.ToolTexts.{reads_once}
 
 -- ---- what a tool keeps
 
-abbrev OfTool : (ToolState → Type 0) → Core → Type 0
+abbrev OfTool : (ToolState → Type 0) → ControllerState → Type 0
 OfTool Q (Script s) = ⊥
 OfTool Q (Truss t) = ⊥
 OfTool Q (Tool t) = Q t
@@ -43,7 +43,7 @@ OfTool Q (Tool t) = Q t
 module _ (n k : ℕ) (first : TracedState) (Q : List Entry → ToolState → Type 0)
     (by_others : (h : List Entry) (t : ToolState) (actor : Actor) (it : Act) → IsLegalEntry n (state_after first h) (record { actor = actor; act = it }) → IsOther k actor it → Q h t → Q (h ++ (record { actor = actor; act = it }) ∷ []) t)
     (by_calls : (h : List Entry) (t : ToolState) (c : Call) (a : Answer) → next_call_of t ≡ Some c → answer_to (state_after first h) k c ≡ Some a → Q h t → Q (h ++ call_entry k c a.reply ∷ []) (fed t a.reply)) where
-  P : List Entry → Core → Type 0
+  P : List Entry → ControllerState → Type 0
   P h c = OfTool (Q h) c
 
   others-core : KeptByOthers n k first P
@@ -58,7 +58,7 @@ module _ (n k : ℕ) (first : TracedState) (Q : List Entry → ToolState → Typ
   calls-core h (Truss t) c a next given q = absurd q
   calls-core h (Tool t) c a next given q = by_calls h t c a next given q
 
-  tool-keeps : (controllers : List Core) (h : List Entry) (t u : ToolState) → IsLegal n first h → Follows controllers first h → slice_get controllers k ≡ Some (Tool t) → slice_get (controllers_at controllers h) k ≡ Some (Tool u) → Q [] t → Q h u
+  tool-keeps : (controllers : List ControllerState) (h : List Entry) (t u : ToolState) → IsLegal n first h → Follows controllers first h → slice_get controllers k ≡ Some (Tool t) → slice_get (controllers_at controllers h) k ≡ Some (Tool u) → Q [] t → Q h u
   unfolding P
   tool-keeps controllers h t u legal follows begins ends q = protocol-keeps n k first P others-core calls-core controllers h (Tool t) (Tool u) legal follows begins ends q
 
@@ -67,7 +67,7 @@ module _ (n k : ℕ) (first : TracedState) (Q : List Entry → ToolState → Typ
 -- when it has finished, and was not refused, this is so of the history and of what it printed
 abbrev LawOf : ℕ → ℕ → ToolKind → ℕ → TracedState → (List Entry → List ℕ → Type 0) → Type 0
 LawOf n k kind pid first IsSo =
-    (controllers : List Core) (h : List Entry) (t : ToolState) (programs : List Program) → slice_get controllers k ≡ Some (Tool (first_tool kind pid)) → IsLegal n first h → Follows controllers first h → slice_get (controllers_at controllers h) k ≡ Some (Tool t)
+    (controllers : List ControllerState) (h : List Entry) (t : ToolState) (programs : List Program) → slice_get controllers k ≡ Some (Tool (first_tool kind pid)) → IsLegal n first h → Follows controllers first h → slice_get (controllers_at controllers h) k ≡ Some (Tool t)
     → has_ended t ≡ true → t.refusal ≡ None → IsSo h (printed t programs)
 
 abbrev Law : ℕ → ℕ → ToolKind → ℕ → TracedState → Type 0
@@ -155,7 +155,7 @@ kind-law n k Prun pid first once = quiet-law n k Prun pid first prun-quiet
 kind-law n k Pwait pid first once = reader-law n k Pwait pid first once pwait-reads
 kind-law n k Ptree pid first once = tree-law n k pid first once
 
-pub tool-of-one-state : (controllers : List Core) (n k : ℕ) (kind : ToolKind) (pid : ℕ) (first : TracedState) (h : List Entry) (t : ToolState) (programs : List Program) → reads_once kind ≡ true → slice_get controllers k ≡ Some (Tool (first_tool kind pid)) → IsLegal n first h → Follows controllers first h → slice_get (controllers_at controllers h) k ≡ Some (Tool t) → has_ended t ≡ true → t.refusal ≡ None → IsOfOneState k kind pid first h (printed t programs)
+pub tool-of-one-state : (controllers : List ControllerState) (n k : ℕ) (kind : ToolKind) (pid : ℕ) (first : TracedState) (h : List Entry) (t : ToolState) (programs : List Program) → reads_once kind ≡ true → slice_get controllers k ≡ Some (Tool (first_tool kind pid)) → IsLegal n first h → Follows controllers first h → slice_get (controllers_at controllers h) k ≡ Some (Tool t) → has_ended t ≡ true → t.refusal ≡ None → IsOfOneState k kind pid first h (printed t programs)
 tool-of-one-state controllers n k kind pid first h t programs once begins legal follows ends ended accepted =
     kind-law n k kind pid first once controllers h t programs begins legal follows ends ended accepted
 
@@ -179,6 +179,6 @@ ended-law n k Pwait pid first once lawful = awaited-law n k pid first once lawfu
 ended-law n k kind pid first once lawful = not-awaited n k kind pid first (λ is. cc) (kind-law n k kind pid first once)
 
 -- from a lawful state
-pub tool-of-known-state : (controllers : List Core) (n k : ℕ) (kind : ToolKind) (pid : ℕ) (first : TracedState) (h : List Entry) (t : ToolState) (programs : List Program) → IsLawful first → reads_once kind ≡ true → slice_get controllers k ≡ Some (Tool (first_tool kind pid)) → IsLegal n first h → Follows controllers first h → slice_get (controllers_at controllers h) k ≡ Some (Tool t) → has_ended t ≡ true → t.refusal ≡ None → IsOfKnownState k kind pid first (EndsIfAwaited kind pid) h (printed t programs)
+pub tool-of-known-state : (controllers : List ControllerState) (n k : ℕ) (kind : ToolKind) (pid : ℕ) (first : TracedState) (h : List Entry) (t : ToolState) (programs : List Program) → IsLawful first → reads_once kind ≡ true → slice_get controllers k ≡ Some (Tool (first_tool kind pid)) → IsLegal n first h → Follows controllers first h → slice_get (controllers_at controllers h) k ≡ Some (Tool t) → has_ended t ≡ true → t.refusal ≡ None → IsOfKnownState k kind pid first (EndsIfAwaited kind pid) h (printed t programs)
 tool-of-known-state controllers n k kind pid first h t programs lawful once begins legal follows ends ended accepted =
     ended-law n k kind pid first once lawful controllers h t programs begins legal follows ends ended accepted

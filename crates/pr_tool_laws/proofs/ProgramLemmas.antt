@@ -15,11 +15,11 @@ use Rattle.pr_model.specs.Calls.{Answer, answer_to}
 use Rattle.pr_model.specs.Changes.{Change, signals, signals_itself, forks, reaps, Ending, ends_process, ends_lwp, all_changed, changed, ended}
 use Rattle.pr_model.specs.ControlMessages.{tail_of}
 use Rattle.pr_model.specs.FirstState.{bare_system, first_state, spawned_at, with_spawns}
-use Rattle.pr_model.specs.Generation.{told}
+use Rattle.pr_model.specs.Generation.{signalled}
 use Rattle.pr_model.specs.Handles.{released, with_closed, with_opened}
 use Rattle.pr_model.specs.Lawful.{IsLawful}
 use Rattle.pr_model.specs.Legal.{IsLegal, IsLegalEntry, after, state_after}
-use Rattle.pr_model.specs.Lives.{ended_if_live, with_child, with_ended, with_lwp_ended, with_made, with_parent_told, with_reaped, with_spawned, with_this_ended, without_lwp, Birth}
+use Rattle.pr_model.specs.Lives.{ended_if_live, with_child, with_ended, with_lwp_ended, with_made, with_parent_signalled, with_reaped, with_spawned, with_this_ended, without_lwp, Birth}
 use Rattle.pr_model.specs.LwpTurns.{LwpTurn, settled, turn_of}
 use Rattle.pr_model.specs.Machines.{traced}
 use Rattle.pr_model.specs.Rows.{Row}
@@ -58,7 +58,7 @@ process-same s pid f = refl
 -- ---- ends
 
 ended-same : (s : TracedSystem) (pid : ℕ) (p : TracedProcess) (status : ℕ) → Same s (with_this_ended traced pid p status s)
-unfolding with_this_ended with_parent_told with_process
+unfolding with_this_ended with_parent_signalled with_process
 ended-same s pid p status = either-same (p.parent == 0) s _ _ refl refl
 
 live_ended-same : (s : TracedSystem) (pid status : ℕ) → Same s (with_ended traced pid status s)
@@ -71,7 +71,7 @@ live_ended-same s pid status = by (live_process s pid)
 
 generated-same : (s : TracedSystem) (pid : ℕ) (target : Option ℕ) (g : Sig) (info : Info) → Same s (generated traced pid target g info s)
 unfolding generated
-generated-same s pid target g info = either-same (is_kill g) s _ _ (live_ended-same s pid (signal_number g)) (process-same s pid (told target g info))
+generated-same s pid target g info = either-same (is_kill g) s _ _ (live_ended-same s pid (signal_number g)) (process-same s pid (signalled target g info))
 
 lwp_ended-same : (s : TracedSystem) (pid : ℕ) (p : TracedProcess) (id : ℕ) → Same s (with_lwp_ended traced pid p id s)
 unfolding with_lwp_ended

@@ -13,7 +13,7 @@ use Rattle.pr_reached.specs.ByteHistories.{HasBytes}
 use Rattle.pr_reached.specs.InRange.{IsInRange}
 use Rattle.pr_tools.specs.Tools.{ToolState, fed, first_tool, has_ended, printed}
 use Rattle.pr_world.specs.Controllers.{after_reply, next_call}
-use Rattle.pr_world.specs.Cores.{Core, Script, Truss, Tool}
+use Rattle.pr_world.specs.ControllerStates.{ControllerState, Script, Truss, Tool}
 use Rattle.pr_world.specs.Protocol.{Follows, controllers_at}
 use Rattle.pr_tool_laws.proofs.ProtocolLemmas.{KeptByCalls, KeptByOthers, protocol-keeps}
 use Rattle.pr_tool_laws.proofs.StackCalls.{called-stage}
@@ -30,13 +30,13 @@ entry-lawful n s e lawful legal = history-state n s (e ∷ []) lawful (legal, tt
 
 module _ (n k pid : ℕ) (first : TracedState) where
   -- pstack at its stage, in a lawful state
-  IsKept : List Entry → Core → Type 0
-  IsKept h (Script s) = ⊥
-  IsKept h (Truss t) = ⊥
-  IsKept h (Tool t) = IsLawful (state_after first h) × StackStage n k pid first h (state_after first h) t
+  IsStackKept : List Entry → ControllerState → Type 0
+  IsStackKept h (Script s) = ⊥
+  IsStackKept h (Truss t) = ⊥
+  IsStackKept h (Tool t) = IsLawful (state_after first h) × StackStage n k pid first h (state_after first h) t
 
-  others-keep : KeptByOthers n k first IsKept
-  unfolding IsKept
+  others-keep : KeptByOthers n k first IsStackKept
+  unfolding IsStackKept
   others-keep h (Script s) actor it legal other kept = absurd kept
   others-keep h (Truss t) actor it legal other kept = absurd kept
   others-keep h (Tool t) actor it legal other kept =
@@ -46,8 +46,8 @@ module _ (n k pid : ℕ) (first : TracedState) where
       let stage = others-stage n k pid first h (state_after first h) kept.0 actor it legal other t kept.1 in
       subst (λ (s : TracedState). IsLawful s × StackStage n k pid first (h ++ e ∷ []) s t) same (lawful, stage)
 
-  calls-keep : KeptByCalls n k first IsKept
-  unfolding IsKept next_call after_reply
+  calls-keep : KeptByCalls n k first IsStackKept
+  unfolding IsStackKept next_call after_reply
   calls-keep h (Script s) c a next given kept = absurd kept
   calls-keep h (Truss t) c a next given kept = absurd kept
   calls-keep h (Tool t) c a next given kept =
@@ -57,10 +57,10 @@ module _ (n k pid : ℕ) (first : TracedState) where
       subst (λ (s : TracedState). IsLawful s × StackStage n k pid first (h ++ call_entry k c a.reply ∷ []) s (fed t a.reply)) same (lawful, stage)
 
 -- In the end it shows them, unless it was refused.
-pub shows-one-stack : (controllers : List Core) (n k pid : ℕ) (s : TracedState) (h : List Entry) (t : ToolState) (programs : List Program) → IsLawful s → IsInRange s.system → HasBytes h
+pub shows-one-stack : (controllers : List ControllerState) (n k pid : ℕ) (s : TracedState) (h : List Entry) (t : ToolState) (programs : List Program) → IsLawful s → IsInRange s.system → HasBytes h
     → slice_get controllers k ≡ Some (Tool (first_tool Pstack pid)) → IsLegal n s h → Follows controllers s h → slice_get (controllers_at controllers h) k ≡ Some (Tool t) → has_ended t ≡ true → t.refusal ≡ None
     → ShowsOneStack k pid programs s h (printed t programs)
-unfolding IsKept
+unfolding IsStackKept
 shows-one-stack controllers n k pid s h t programs lawful ranged bytes begins legal follows ends ended accepted =
-    let kept = protocol-keeps n k s (IsKept n k pid s) (others-keep n k pid s) (calls-keep n k pid s) controllers h (Tool (first_tool Pstack pid)) (Tool t) legal follows begins ends (lawful, at_first refl) in
+    let kept = protocol-keeps n k s (IsStackKept n k pid s) (others-keep n k pid s) (calls-keep n k pid s) controllers h (Tool (first_tool Pstack pid)) (Tool t) legal follows begins ends (lawful, at_first refl) in
     shows n k pid s h t programs lawful ranged bytes legal ended accepted (ended-stage n k pid s h (state_after s h) t ended accepted kept.1)

@@ -14,7 +14,7 @@ ghost use Rattle.pr_tool_laws.specs.OneState.{IsReadBack};
 ghost use Rattle.pr_tool_laws.specs.ShownStates.{ShowsOneState};
 ghost use Rattle.pr_tool_laws.specs.ToolTexts.{reads_once};
 ghost use Rattle.pr_tools.specs.Tools.{ToolState, first_tool, has_ended, printed};
-ghost use Rattle.pr_world.specs.Cores.{Core};
+ghost use Rattle.pr_world.specs.ControllerStates.{ControllerState};
 ghost use Rattle.pr_world.specs.Cores as cores;
 ghost use Rattle.pr_world.specs.Protocol.{Follows, controllers_at};
 
@@ -30,7 +30,7 @@ pub fn one_read_has_what_stands_there()
 /// stands in one state: in the one that its read finds. In the state of which pwait prints the wait status the process
 /// has ended, and was not reaped yet.
 pub fn tools_show_what_stands_there()
-    ensures later { (controllers : List Core) (n k : ℕ) (kind : ToolKind) (pid : ℕ) (s : TracedState) (h : List Entry)
+    ensures later { (controllers : List ControllerState) (n k : ℕ) (kind : ToolKind) (pid : ℕ) (s : TracedState) (h : List Entry)
         → (t : ToolState) (programs : List Program)
         → IsLawful s → IsInRange s.system → HasBytes h
         → reads_once kind ≡ true → slice_get controllers k ≡ Some (cores.Tool (first_tool kind pid))
@@ -38,7 +38,7 @@ pub fn tools_show_what_stands_there()
         → slice_get (controllers_at controllers h) k ≡ Some (cores.Tool t) → has_ended t ≡ true → t.refusal ≡ None
         → ShowsOneState k kind pid s h (printed t programs) }
     ensures first { (programs : List Program) (files : List StoredFile) (spawns : List ℕ)
-        → (controllers : List Core) (n k : ℕ) (kind : ToolKind) (pid : ℕ) (h : List Entry) (t : ToolState)
+        → (controllers : List ControllerState) (n k : ℕ) (kind : ToolKind) (pid : ℕ) (h : List Entry) (t : ToolState)
         → (labels : List Program) → IsStart programs files spawns → IsStartInRange programs files → HasBytes h
         → reads_once kind ≡ true → slice_get controllers k ≡ Some (cores.Tool (first_tool kind pid))
         → IsLegal n (first_state programs files spawns) h → Follows controllers (first_state programs files spawns) h

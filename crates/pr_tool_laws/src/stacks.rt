@@ -12,7 +12,7 @@ ghost use Rattle.pr_reached.specs.ByteHistories.{HasBytes};
 ghost use Rattle.pr_reached.specs.InRange.{IsInRange, IsStartInRange};
 ghost use Rattle.pr_tool_laws.specs.Stacks.{ShowsOneStack};
 ghost use Rattle.pr_tools.specs.Tools.{ToolState, first_tool, has_ended, printed};
-ghost use Rattle.pr_world.specs.Cores.{Core};
+ghost use Rattle.pr_world.specs.ControllerStates.{ControllerState};
 ghost use Rattle.pr_world.specs.Cores as cores;
 ghost use Rattle.pr_world.specs.Protocol.{Follows, controllers_at};
 
@@ -21,7 +21,7 @@ ghost use Rattle.pr_world.specs.Protocol.{Follows, controllers_at};
 /// state, although it reads frame by frame: of the one that it finds when it reads the status of all lwps, after it has
 /// waited for the process to stop. This is so whatever programs it takes its labels from.
 pub fn pstack_shows_one_state()
-    ensures later { (controllers : List Core) (n k : ℕ) (pid : ℕ) (s : TracedState) (h : List Entry) (t : ToolState)
+    ensures later { (controllers : List ControllerState) (n k : ℕ) (pid : ℕ) (s : TracedState) (h : List Entry) (t : ToolState)
         → (programs : List Program)
         → IsLawful s → IsInRange s.system → HasBytes h
         → slice_get controllers k ≡ Some (cores.Tool (first_tool Pstack pid))
@@ -29,7 +29,7 @@ pub fn pstack_shows_one_state()
         → slice_get (controllers_at controllers h) k ≡ Some (cores.Tool t) → has_ended t ≡ true → t.refusal ≡ None
         → ShowsOneStack k pid programs s h (printed t programs) }
     ensures first { (programs : List Program) (files : List StoredFile) (spawns : List ℕ)
-        → (controllers : List Core) (n k : ℕ) (pid : ℕ) (h : List Entry) (t : ToolState) (labels : List Program)
+        → (controllers : List ControllerState) (n k : ℕ) (pid : ℕ) (h : List Entry) (t : ToolState) (labels : List Program)
         → IsStart programs files spawns → IsStartInRange programs files → HasBytes h
         → slice_get controllers k ≡ Some (cores.Tool (first_tool Pstack pid))
         → IsLegal n (first_state programs files spawns) h → Follows controllers (first_state programs files spawns) h

@@ -8,7 +8,7 @@ ghost use Rattle.pr_tool_laws.specs.OneState.{IsOfOneState, IsReadBack};
 ghost use Rattle.pr_tool_laws.specs.Reads.{text_read};
 ghost use Rattle.pr_tool_laws.specs.ToolTexts.{reads_once, tool_text};
 ghost use Rattle.pr_tools.specs.Tools.{ToolState, first_tool, has_ended, printed};
-ghost use Rattle.pr_world.specs.Cores.{Core};
+ghost use Rattle.pr_world.specs.ControllerStates.{ControllerState};
 ghost use Rattle.pr_world.specs.Cores as cores;
 ghost use Rattle.pr_world.specs.Protocol.{Follows, controllers_at};
 
@@ -16,7 +16,7 @@ ghost use Rattle.pr_world.specs.Protocol.{Follows, controllers_at};
 /// than pstack that has finished, and was not refused, prints the text of one state: of the one that its read finds,
 /// and so of one between its first call and its last.
 pub fn a_tools_text_is_of_one_state()
-    ensures { (controllers : List Core) (n k : ℕ) (kind : ToolKind) (pid : ℕ) (first : TracedState) (h : List Entry)
+    ensures { (controllers : List ControllerState) (n k : ℕ) (kind : ToolKind) (pid : ℕ) (first : TracedState) (h : List Entry)
         → (t : ToolState) (programs : List Program)
         → reads_once kind ≡ true → slice_get controllers k ≡ Some (cores.Tool (first_tool kind pid))
         → IsLegal n first h → Follows controllers first h

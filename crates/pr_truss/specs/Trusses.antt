@@ -21,13 +21,13 @@ pub record TrussState : Type 0 where
   pub reports : List Report
 
 -- A truss as contracts see it: its state, and how many processes and how many reports more there is room for.
-pub record Kept : Type 0 where
+pub record TrussView : Type 0 where
   pub state : TrussState
   pub traced_room : ℕ
   pub report_room : ℕ
 
 -- whether it can be fed one reply without memory
-pub record IsReady (k : Kept) : Type 0 where
+pub record IsReady (k : TrussView) : Type 0 where
   pub traced : 0 < k.traced_room
   pub report : 0 < k.report_room
 

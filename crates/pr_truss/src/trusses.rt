@@ -28,9 +28,9 @@ pub struct Truss {
 
 impl Model for Truss {
     ghost use Rattle.std.specs.Prelude.{vec_len, vec_capacity, ◌-◌};
-    ghost use Rattle.pr_truss.specs.Trusses.{Kept};
+    ghost use Rattle.pr_truss.specs.Trusses.{TrussView};
 
-    ghost Value = { Kept };
+    ghost Value = { TrussView };
 
     ghost view = { λ a. record {
       state = record { options = a.options; begun = a.begun; traced = a.traced.items; stage = a.stage; leaving = a.leaving; reports = a.reports.items };

@@ -22,7 +22,7 @@ use Rattle.pr_model.specs.Transitions.{after_transition}
 use Rattle.pr_model.specs.declared.stops.Point.{Point}
 use Rattle.pr_truss_laws.proofs.OwnTurnLemmas.{GoesOn, row-carries, traced-same}
 use Rattle.pr_truss_laws.proofs.StillLemmas.{row-directed}
-use Rattle.pr_truss_laws.proofs.ToldLemmas.{Follows, KeepsDispositions, row-tells}
+use Rattle.pr_truss_laws.proofs.ToldLemmas.{MoveShows, KeepsDispositions, row-tells}
 use Rattle.pr_truss_laws.specs.Told.{TellsItsEvent, has_ended}
 use Rattle.pr_model.proofs.TurnLemmas.{turn-taken}
 
@@ -112,7 +112,7 @@ module _ (s : TracedSystem) (pid : ℕ) (p : TracedProcess) (id : ℕ) (l : Trac
 
     record Stopped (k : TracedLwp) : Type 0 where
       pub earlier : TracedLwp
-      pub follows : Follows row.transition.move earlier k
+      pub follows : MoveShows row.transition.move earlier k
       pub stopped : k.control.stop ≡ Some (stop_at pt)
 
     stopped-follows : (y : TracedLwp) → Stopped (stopped_at pt (moved traced row.transition.move y))

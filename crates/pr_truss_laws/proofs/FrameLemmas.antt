@@ -14,9 +14,9 @@ use Rattle.pr_lawful.proofs.EndLemmas.{buried, found-live}
 use Rattle.pr_lawful.proofs.SuitingLemmas.{SuitChanges, SuitsChange, SuitsReaped}
 use Rattle.pr_lawful.proofs.TurnLemmas.{acting as acting_in, row-suits}
 use Rattle.pr_parts.specs.SignalRules.{deleted_by}
-use Rattle.pr_model.specs.Generation.{ends_job_stop, lwp_with_pending, lwp_without_pending, told, with_deletions, with_pending, without_job_stop, without_pending}
+use Rattle.pr_model.specs.Generation.{ends_job_stop, lwp_with_pending, lwp_without_pending, signalled, with_deletions, with_pending, without_job_stop, without_pending}
 use Rattle.pr_model.specs.Changes.{Change, changed, files_are, space_is, signals, signals_itself, takes_shared, job_stops, disposition_is, held_is, resumes, forks, reaps, becomes, makes_lwp, suspends, all_changed, ended, Ending, ends_process, ends_lwp, with_fds, with_space}
-use Rattle.pr_model.specs.Lives.{Birth, forked, with_child, with_lwp_ended, ended_if_live, orphaned, with_ended, with_made, with_parent_told, with_reaped, with_this_ended, zombie}
+use Rattle.pr_model.specs.Lives.{Birth, forked, with_child, with_lwp_ended, ended_if_live, orphaned, with_ended, with_made, with_parent_signalled, with_reaped, with_this_ended, zombie}
 use Rattle.pr_model.specs.Lawful.{IsLawfulSystem, IsNumberedBelow}
 use Rattle.pr_model.specs.LwpTurns.{LwpTurn, settled, turn_of, with_counted}
 use Rattle.pr_model.specs.Machines.{traced}
@@ -107,8 +107,8 @@ pending-undisturbed (Some own) g info p =
     undisturbed p (with_pending (Some own) g info p) refl (record { space = refl })
     (map_each-hidden unsignalled own (lwp_with_pending g info) p.lwps (λ l. refl))
 
-pub told-undisturbed : (target : Option ℕ) (g : Sig) (info : Info) (p : TracedProcess) → IsUndisturbed p (told target g info p)
-unfolding told
+pub told-undisturbed : (target : Option ℕ) (g : Sig) (info : Info) (p : TracedProcess) → IsUndisturbed p (signalled target g info p)
+unfolding signalled
 told-undisturbed target g info p = elim (is_none p.ended) as (λ b. IsUndisturbed p (cond b (with_pending target g info (with_deletions g p)) p)) [ true ↦ undisturbed-next p (with_deletions g p) _ (deletions-undisturbed g p) (pending-undisturbed target g info (with_deletions g p)) | false ↦ undisturbed-self p ]
 
 pub orphaned-undisturbed : (gone : ℕ) (p : TracedProcess) → IsUndisturbed p (orphaned gone p)
@@ -189,11 +189,11 @@ module _ (pid : ℕ) (Ends : ℕ → Type 0) where
       own : other ≡ pid → Passes s (with_process other f s)
       own same = subst (λ n. Became Ends (process_of s pid) (under pid (change_under n f s.processes))) (sym same) (subst (Became Ends (process_of s pid)) (sym (under-change_under pid f s.processes)) (mapped-became f alone (process_of s pid)))
 
-  told-passes : (other : ℕ) (target : Option ℕ) (g : Sig) (info : Info) (s : TracedSystem) → Passes s (with_process other (told target g info) s)
-  told-passes other target g info s = any-passes other (told target g info) s (told-undisturbed target g info)
+  told-passes : (other : ℕ) (target : Option ℕ) (g : Sig) (info : Info) (s : TracedSystem) → Passes s (with_process other (signalled target g info) s)
+  told-passes other target g info s = any-passes other (signalled target g info) s (told-undisturbed target g info)
 
-  parent-passes : (parent gone status : ℕ) (s : TracedSystem) → Passes s (with_parent_told parent gone status s)
-  unfolding with_parent_told
+  parent-passes : (parent gone status : ℕ) (s : TracedSystem) → Passes s (with_parent_signalled parent gone status s)
+  unfolding with_parent_signalled
   parent-passes parent gone status s = either-passes (parent == 0) s s _ (same-passes s) (told-passes parent None Cld _ s)
 
   pub made-passes : (p : TracedProcess) (s : TracedSystem) → s.made ≢ pid → Passes s (with_made p s)
@@ -226,7 +226,7 @@ module _ (pid : ℕ) (Ends : ℕ → Type 0) where
   end-passes gone p status s such =
       let b : TracedSystem = buried gone p status s in
       let dies : Passes s b = elim (cases_Bool (gone == pid)) [ inl same ↦ own (eqb-true gone pid same) | inr not ↦ buried-other gone p status s (eqb-false gone pid not) ] in
-      next-passes s b (with_parent_told p.parent gone status b) dies (parent-passes p.parent gone status b)
+      next-passes s b (with_parent_signalled p.parent gone status b) dies (parent-passes p.parent gone status b)
     where
       own : gone ≡ pid → Passes s (buried gone p status s)
       own same = subst (λ n. Passes s (buried n p status s)) (sym same) (buried-own p status s (such same))
@@ -239,7 +239,7 @@ module _ (pid : ℕ) (Ends : ℕ → Type 0) where
       kill None is = same-passes s
       kill (Some p) is = end-passes target p (signal_number g) s (λ same. subst Ends (sym (kill-number g is)) such)
 
-      by : (b : Bool) → is_kill g ≡ b → Passes s (cond b (ended_if_live traced target (signal_number g) s (live_process s target)) (with_process target (told own g info) s))
+      by : (b : Bool) → is_kill g ≡ b → Passes s (cond b (ended_if_live traced target (signal_number g) s (live_process s target)) (with_process target (signalled own g info) s))
       by true is = kill (live_process s target) is
       by false is = told-passes target own g info s
 

@@ -28,11 +28,11 @@ use Rattle.pr_model.proofs.TurnLemmas.{turn-taken}
 use Rattle.pr_model.specs.Calls.{Answer, answer_to, close_answer, close_held, kill_answer, open_answer, open_unless, opened, spawn_answer, spawn_found, spawn_unless}
 use Rattle.pr_model.specs.Changes.{Change, files_are, space_is, signals, signals_itself, takes_shared, job_stops, disposition_is, held_is, resumes, forks, reaps, becomes, makes_lwp, suspends, Ending, ends_process, ends_lwp, all_changed, changed, ended, with_fds}
 use Rattle.pr_model.specs.ControlMessages.{tail_of, aim_of, control_answer, control_handle, decoded_answer, held_answer, still_there, target_of, targeted_answer}
-use Rattle.pr_model.specs.Generation.{told}
+use Rattle.pr_model.specs.Generation.{signalled}
 use Rattle.pr_model.specs.Handles.{released, with_closed, with_opened}
 use Rattle.pr_model.specs.Lawful.{IsLawful, IsLawfulSystem}
 use Rattle.pr_model.specs.Legal.{IsLegalEntry, after}
-use Rattle.pr_model.specs.Lives.{Birth, ended_if_live, forked, new_process, orphaned, with_child, with_ended, with_lwp_ended, with_made, with_parent_told, with_reaped, with_spawned, with_this_ended, zombie}
+use Rattle.pr_model.specs.Lives.{Birth, ended_if_live, forked, new_process, orphaned, with_child, with_ended, with_lwp_ended, with_made, with_parent_signalled, with_reaped, with_spawned, with_this_ended, zombie}
 use Rattle.pr_model.specs.LwpTurns.{LwpTurn, settled, turn_of, with_counted}
 use Rattle.pr_model.specs.Machines.{traced}
 use Rattle.pr_model.specs.Moves.{moved}
@@ -146,17 +146,17 @@ module _ (pid : ℕ) where
   unfolding with_process
   change-over other f s differs o = record { made = o.made; none = All-change_under (IsOverAt pid) other f s.processes (λ x found it. record { over = λ same. absurd (differs same) }) o.none }
 
-  told-over : (other : ℕ) (target : Option ℕ) (g : Sig) (info : Info) (s : TracedSystem) → IsOver pid s → IsOver pid (with_process other (told target g info) s)
+  told-over : (other : ℕ) (target : Option ℕ) (g : Sig) (info : Info) (s : TracedSystem) → IsOver pid s → IsOver pid (with_process other (signalled target g info) s)
   unfolding with_process
   told-over other target g info s o = record {
     made = o.made;
-    none = All-change_under (IsOverAt pid) other (told target g info) s.processes (λ x found it. record { over = λ same. ap (λ (e : Option ℕ). is_none e) (ended-same x (told target g info x) (told-undisturbed target g info x)) ∙ it.over same }) o.none;
+    none = All-change_under (IsOverAt pid) other (signalled target g info) s.processes (λ x found it. record { over = λ same. ap (λ (e : Option ℕ). is_none e) (ended-same x (signalled target g info x) (told-undisturbed target g info x)) ∙ it.over same }) o.none;
   }
 
   -- ---- processes end, are made and are reaped
 
-  parent-over : (parent gone status : ℕ) (s : TracedSystem) → IsOver pid s → IsOver pid (with_parent_told parent gone status s)
-  unfolding with_parent_told
+  parent-over : (parent gone status : ℕ) (s : TracedSystem) → IsOver pid s → IsOver pid (with_parent_signalled parent gone status s)
+  unfolding with_parent_signalled
   parent-over parent gone status s o = choice (IsOver pid) (parent == 0) _ _ (λ none. o) (λ some. told-over parent None Cld _ s o)
 
   buried-over : (gone : ℕ) (p : TracedProcess) (status : ℕ) (s : TracedSystem) → IsOver pid s → IsOver pid (buried gone p status s)

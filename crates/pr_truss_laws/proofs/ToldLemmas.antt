@@ -165,7 +165,7 @@ module _ (q : TracedProcess) (id : ℕ) (k : TracedLwp) where
 -- ---- the row of a turn
 
 -- what the lwp is after its move, whatever else became of it
-pub record Follows (m : Move) (y k : TracedLwp) : Type 0 where
+pub record MoveShows (m : Move) (y k : TracedLwp) : Type 0 where
   pub phase_is : k.phase ≡ (moved traced m y).phase
   pub regs_are : k.regs ≡ (moved traced m y).regs
   pub current_is : k.current ≡ (moved traced m y).current
@@ -178,7 +178,7 @@ KeepsDispositions _ p q = Unit {0}
 
 module _ (p : TracedProcess) (l : TracedLwp) where
   abbrev pub TellsRow : Row → Type 0
-  TellsRow row = (pt : Point) (y k : TracedLwp) (q : TracedProcess) (id : ℕ) → row.point ≡ Some pt → Follows row.transition.move y k → k.control.stop ≡ Some (stop_at pt) → KeepsDispositions row.transition.changes p q → has_ended row.did ≡ false → (row.transition.ending ≡ None) × TellsItsEvent p l row.did q id k
+  TellsRow row = (pt : Point) (y k : TracedLwp) (q : TracedProcess) (id : ℕ) → row.point ≡ Some pt → MoveShows row.transition.move y k → k.control.stop ≡ Some (stop_at pt) → KeepsDispositions row.transition.changes p q → has_ended row.did ≡ false → (row.transition.ending ≡ None) × TellsItsEvent p l row.did q id k
 
   quiet-tells : (row : Row) → row.point ≡ None → TellsRow row
   quiet-tells row none pt y k q id is f stops kept lives = absurd (none-some pt (sym none ∙ is))
@@ -200,7 +200,7 @@ module _ (p : TracedProcess) (l : TracedLwp) where
   unfolding told
   told-exit call args result = refl
 
-  left-phase : (call : Sysno) (args : List ℕ) (result : Res) (y k : TracedLwp) → Follows (move.leaves call args result) y k → k.phase ≡ phase.Exiting call args result
+  left-phase : (call : Sysno) (args : List ℕ) (result : Res) (y k : TracedLwp) → MoveShows (move.leaves call args result) y k → k.phase ≡ phase.Exiting call args result
   unfolding moved traced
   left-phase call args result y k f = f.phase_is
 
@@ -210,7 +210,7 @@ module _ (p : TracedProcess) (l : TracedLwp) where
     record {
       event = exit call args result;
       logged = ap (event_of p l (Some k)) did ∙ finished-logs woken call args result k same is;
-      tells = exit-told q id k call args result (met-stop (Exit call) pt k (sym point ∙ met) stops) (left-phase call args result y k (subst (λ m. Follows m y k) move f)) is ∙ sym (told-exit call args result);
+      tells = exit-told q id k call args result (met-stop (Exit call) pt k (sym point ∙ met) stops) (left-phase call args result y k (subst (λ m. MoveShows m y k) move f)) is ∙ sym (told-exit call args result);
     },
   )
 
@@ -235,7 +235,7 @@ module _ (p : TracedProcess) (l : TracedLwp) where
   took-tells : (g : Sig) (c : Current) (own : Bool) (row : Row) → c.signal ≡ g → row.did ≡ Took g → row.point ≡ Some (Signal g) → row.transition.move ≡ move.takes c own → row.transition.ending ≡ None → ((x : TracedProcess) → KeepsDispositions row.transition.changes p x → x.dispositions ≡ p.dispositions) → TellsRow row
   unfolding event_of told moved info_in
   took-tells g c own row sig did point takes ending keeps pt y k q id met f stops kept lives =
-      let holds : k.current ≡ Some c = (subst (λ m. Follows m y k) takes f).current_is in
+      let holds : k.current ≡ Some c = (subst (λ m. MoveShows m y k) takes f).current_is in
       let same : q.dispositions ≡ p.dispositions = keeps q kept in (
         ending,
         record {

@@ -14,7 +14,7 @@ use Rattle.pr_model.specs.Transitions.{after_transition, performed}
 use Rattle.pr_model.specs.declared.stops.Point.TheVariants.{Exit}
 use Rattle.pr_turn.specs.CallTurns.{call_made, call_moved, call_stops}
 use Rattle.pr_turn.specs.Making.{of_row}
-use Rattle.pr_turn.specs.Turns.{IsNext, Makes}
+use Rattle.pr_turn.specs.Turns.{IsNext, TurnMakes}
 use Rattle.pr_turn.specs.declared.making.Made.{Made}
 use Rattle.pr_turn.specs.declared.next.NextTurn.TheVariants.{Performs}
 
@@ -69,7 +69,7 @@ pub next-asked : (s : TracedSystem) (woken : Bool) (r : Request) → IsNext s r.
 next-asked s woken r is = rw (next-asks s woken r is) refl
 
 module _ (s after new : TracedSystem) (woken : Bool) (r : Request) where
-  pub performed-makes : (outcome : Performed) (traces : Bool) (did : Made) (stop : Bool) → IsNext s r.pid r.lwp (Performs woken r.call r.args r.since) → ((p : TracedProcess) → live_process s r.pid ≡ Some p → (l : TracedLwp) → lwp_of p r.lwp ≡ Some l → after ≡ after_effect r.pid p r.lwp l (effect_of s p l r) s) → ((p : TracedProcess) → live_process s r.pid ≡ Some p → (l : TracedLwp) → lwp_of p r.lwp ≡ Some l → outcome ≡ outcome_of (effect_of s p l r)) → ((p : TracedProcess) → live_process s r.pid ≡ Some p → traces ≡ is_traced p.control (Exit r.call)) → new ≡ with_lwp_of r.pid r.lwp (call_moved r outcome) after → did ≡ call_made woken r.call outcome → stop ≡ call_stops traces outcome → Makes s new r.pid r.lwp did stop
+  pub performed-makes : (outcome : Performed) (traces : Bool) (did : Made) (stop : Bool) → IsNext s r.pid r.lwp (Performs woken r.call r.args r.since) → ((p : TracedProcess) → live_process s r.pid ≡ Some p → (l : TracedLwp) → lwp_of p r.lwp ≡ Some l → after ≡ after_effect r.pid p r.lwp l (effect_of s p l r) s) → ((p : TracedProcess) → live_process s r.pid ≡ Some p → (l : TracedLwp) → lwp_of p r.lwp ≡ Some l → outcome ≡ outcome_of (effect_of s p l r)) → ((p : TracedProcess) → live_process s r.pid ≡ Some p → traces ≡ is_traced p.control (Exit r.call)) → new ≡ with_lwp_of r.pid r.lwp (call_moved r outcome) after → did ≡ call_made woken r.call outcome → stop ≡ call_stops traces outcome → TurnMakes s new r.pid r.lwp did stop
   performed-makes outcome traces did stop is system came asks e what stops =
       let p : TracedProcess = is.process in
       let l : TracedLwp = is.lwp in

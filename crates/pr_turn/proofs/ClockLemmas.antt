@@ -3,13 +3,13 @@ use Rattle.pr_num.specs.Signals.{signal_number}
 use Rattle.pr_num.specs.declared.infos.Info.{Info}
 use Rattle.pr_num.specs.declared.signals.Sig.{Sig}
 use Rattle.pr_model.specs.Changes.{Change, files_are, space_is, signals, signals_itself, takes_shared, job_stops, disposition_is, held_is, resumes, forks, reaps, becomes, makes_lwp, suspends, Ending, ends_process, ends_lwp, all_changed, changed, ended}
-use Rattle.pr_model.specs.Lives.{ended_if_live, with_child, with_ended, with_lwp_ended, with_made, with_parent_told, with_reaped, with_this_ended}
+use Rattle.pr_model.specs.Lives.{ended_if_live, with_child, with_ended, with_lwp_ended, with_made, with_parent_signalled, with_reaped, with_this_ended}
 use Rattle.pr_model.specs.Machines.{traced}
 use Rattle.pr_model.specs.Rows.{row_for}
 use Rattle.pr_model.specs.Signals.{generated, is_kill}
 use Rattle.pr_model.specs.State.{TracedLwp, TracedProcess, TracedSystem, live_process, with_lwp_of, with_process}
 use Rattle.pr_model.specs.Transitions.{Transition, after_transition, ended_if}
-use Rattle.pr_turn.specs.Turns.{Makes}
+use Rattle.pr_turn.specs.Turns.{TurnMakes}
 use Rattle.pr_turn.specs.declared.making.Made.{Made}
 
 -- A turn leaves the clock.
@@ -20,7 +20,7 @@ either-clock true s t clock h k = h
 either-clock false s t clock h k = k
 
 pub this_ended-clock : (pid : ℕ) (p : TracedProcess) (status : ℕ) (s : TracedSystem) → (with_this_ended traced pid p status s).clock ≡ s.clock
-unfolding with_this_ended with_parent_told with_process
+unfolding with_this_ended with_parent_signalled with_process
 this_ended-clock pid p status s = either-clock (p.parent == 0) _ _ s.clock refl refl
 
 if_live-clock : (pid status : ℕ) (s : TracedSystem) (o : Option TracedProcess) → (ended_if_live traced pid status s o).clock ≡ s.clock
@@ -64,7 +64,7 @@ module _ (pid : ℕ) (p : TracedProcess) (id : ℕ) (l : TracedLwp) where
   unfolding after_transition with_lwp_of with_process
   transition-clock t s = ended-clock t.ending _ ∙ all_changed-clock t.changes s
 
-pub clock-after : (s new counted met : TracedSystem) (pid id : ℕ) (did : Made) (stop : Bool) (f g : TracedProcess → TracedProcess) → Makes s new pid id did stop → counted ≡ with_process pid f new → met ≡ with_process pid g counted → met.clock ≡ s.clock
+pub clock-after : (s new counted met : TracedSystem) (pid id : ℕ) (did : Made) (stop : Bool) (f g : TracedProcess → TracedProcess) → TurnMakes s new pid id did stop → counted ≡ with_process pid f new → met ≡ with_process pid g counted → met.clock ≡ s.clock
 unfolding with_process
 clock-after s new counted met pid id did stop f g makes e h =
     ap (λ (t : TracedSystem). t.clock) h

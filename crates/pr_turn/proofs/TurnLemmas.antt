@@ -21,7 +21,7 @@ use Rattle.pr_turn.proofs.ChangeUsageLemmas.{AllUsedAtMost-transition}
 use Rattle.pr_turn.specs.CallTurns.{Asks, may_take_memory, phase_takes}
 use Rattle.pr_turn.specs.Making.{ends, of_row, process_after, quiet}
 use Rattle.pr_turn.specs.NextRows.{row_of, row_of_turn, turn_fits}
-use Rattle.pr_turn.specs.Turns.{IsNext, Makes}
+use Rattle.pr_turn.specs.Turns.{IsNext, TurnMakes}
 use Rattle.pr_turn.specs.declared.making.Made.{Made}
 use Rattle.pr_model.specs.declared.events.Did.{Did}
 use Rattle.pr_turn.specs.declared.next.Next.{Next}
@@ -171,7 +171,7 @@ module _ (s : TracedSystem) (pid : ℕ) (p : TracedProcess) (id : ℕ) (l : Trac
 
 module _ (s new : TracedSystem) (pid id : ℕ) (next : Next) where
   -- a row that does not end its process
-  pub makes-row : (p p1 : TracedProcess) (did : Made) (stop : Bool) → IsNext s pid id (ThisRow next) → ends next ≡ false → under pid s.processes ≡ Some p → ((l : TracedLwp) → lwp_of p id ≡ Some l → p1 ≡ process_after id (row_of p l next).transition p) → ((l : TracedLwp) → lwp_of p id ≡ Some l → did ≡ of_row (row_of p l next)) → ((l : TracedLwp) → lwp_of p id ≡ Some l → stop ≡ meets p.control (row_of p l next).point) → new ≡ record s { processes = put_under pid p1 s.processes } → Makes s new pid id did stop
+  pub makes-row : (p p1 : TracedProcess) (did : Made) (stop : Bool) → IsNext s pid id (ThisRow next) → ends next ≡ false → under pid s.processes ≡ Some p → ((l : TracedLwp) → lwp_of p id ≡ Some l → p1 ≡ process_after id (row_of p l next).transition p) → ((l : TracedLwp) → lwp_of p id ≡ Some l → did ≡ of_row (row_of p l next)) → ((l : TracedLwp) → lwp_of p id ≡ Some l → stop ≡ meets p.control (row_of p l next).point) → new ≡ record s { processes = put_under pid p1 s.processes } → TurnMakes s new pid id did stop
   unfolding with_process
   makes-row p p1 did stop is on there changes what traces e =
       let same : p ≡ is.process = same_Some p is.process (sym there ∙ live_process-found s pid is.process is.found) in
@@ -194,7 +194,7 @@ module _ (s new : TracedSystem) (pid id : ℕ) (next : Next) where
       }
 
   -- one that ends it
-  pub makes-end : (how : Did) (status : ℕ) (did : Made) → IsNext s pid id (ThisRow (Ends how status)) → new ≡ with_ended traced pid status s → did ≡ quiet how → Makes s new pid id did false
+  pub makes-end : (how : Did) (status : ℕ) (did : Made) → IsNext s pid id (ThisRow (Ends how status)) → new ≡ with_ended traced pid status s → did ≡ quiet how → TurnMakes s new pid id did false
   unfolding row_of
   makes-end how status did is e what =
       let made : new ≡ after_transition traced pid is.process id is.lwp (ending (ends_process status)) s = e ∙ after-end s pid is.process id is.lwp status is.found is.stands in
@@ -231,12 +231,12 @@ module _ (s : TracedSystem) (pid id : ℕ) (next : NextTurn) where
 pub ruleset next_laws = (next-found, next-live, next-stands, next-fits)
 
 -- what bounds all counts of use goes on to bound them
-pub makes-used : (n : ℕ) (s new : TracedSystem) (pid id : ℕ) (did : Made) (stop : Bool) → Makes s new pid id did stop → AllUsedAtMost n s → AllUsedAtMost n new
+pub makes-used : (n : ℕ) (s new : TracedSystem) (pid id : ℕ) (did : Made) (stop : Bool) → TurnMakes s new pid id did stop → AllUsedAtMost n s → AllUsedAtMost n new
 makes-used n s new pid id did stop m h =
     subst (AllUsedAtMost n) (sym m.system) (AllUsedAtMost-transition n pid m.process id m.lwp (row_for s pid m.process id m.lwp).transition s h)
 
 -- the turn
-pub turn-made : (s new : TracedSystem) (pid id : ℕ) (did : Made) (stop : Bool) → Makes s new pid id did stop → turn_of s pid id ≡ Some (record { system = with_process pid (after_meeting did.point id) (with_process pid (with_counted did.did did.begun) new); turned = record { did = did.did; stop = stop } })
+pub turn-made : (s new : TracedSystem) (pid id : ℕ) (did : Made) (stop : Bool) → TurnMakes s new pid id did stop → turn_of s pid id ≡ Some (record { system = with_process pid (after_meeting did.point id) (with_process pid (with_counted did.did did.begun) new); turned = record { did = did.did; stop = stop } })
 unfolding turn_of settled
 turn-made s new pid id did stop m =
     let row : Row = row_for s pid m.process id m.lwp in

@@ -26,7 +26,7 @@ pub record IsNext (s : TracedSystem) (pid id : ℕ) (next : NextTurn) : Type 0 w
 
 -- A system is as the transition of the next turn of an lwp leaves another one; this is what the turn did, and whether
 -- the process traces what it met.
-pub record Makes (s new : TracedSystem) (pid id : ℕ) (did : Made) (stop : Bool) : Type 0 where
+pub record TurnMakes (s new : TracedSystem) (pid id : ℕ) (did : Made) (stop : Bool) : Type 0 where
   pub process : TracedProcess
   pub lwp : TracedLwp
   pub found : live_process s pid ≡ Some process

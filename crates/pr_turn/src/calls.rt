@@ -9,7 +9,7 @@ ghost use Rattle.pr_model.specs.Moves.{leaves, moved, sleeps};
 ghost use Rattle.pr_model.specs.Points.{is_traced};
 ghost use Rattle.pr_model.specs.State.{live_process, with_lwp, with_lwp_of, with_process};
 ghost use Rattle.pr_turn.specs.CallTurns.{call_made, call_moved, call_stops};
-ghost use Rattle.pr_turn.specs.Turns.{IsNext, Makes};
+ghost use Rattle.pr_turn.specs.Turns.{IsNext, TurnMakes};
 
 use crate::making::{Made, at_point, quiet};
 use crate::moving::leave;
@@ -107,7 +107,7 @@ pub fn perform_next(
 ) -> Result<(Made, bool), NoMemory>
     requires lawful { IsLawfulSystem sys.old }
     requires next { IsNext sys.old request.now.pid request.now.lwp (NextTurn.Performs woken request.now.call request.now.args request.now.since) }
-    ensures ok { IfOk result (λ made. Makes sys.old sys.new request.now.pid request.now.lwp made.0 made.1) }
+    ensures ok { IfOk result (λ made. TurnMakes sys.old sys.new request.now.pid request.now.lwp made.0 made.1) }
     ensures sure { takes_memory request.now.call ≡ false → IsOk result }
     ensures err { OnErr result (sys.new ≡ sys.old) }
 {

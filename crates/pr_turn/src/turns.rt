@@ -8,7 +8,7 @@ ghost use Rattle.pr_model.specs.State.{with_process};
 ghost use Rattle.pr_proc.specs.Counts.{AllUsedAtMost, UsedAtMost};
 ghost use Rattle.pr_turn.specs.CallTurns.{may_take_memory, turn_takes};
 ghost use Rattle.pr_turn.specs.Making.{ends};
-ghost use Rattle.pr_turn.specs.Turns.{IsNext, Makes};
+ghost use Rattle.pr_turn.specs.Turns.{IsNext, TurnMakes};
 
 use crate::calls::perform_next;
 use crate::making::{Made, make_and_ask, quiet};
@@ -165,7 +165,7 @@ fn next_of(sys: &Sys, pid: u32, id: u32) -> NextTurn
 fn make_in(sys: &mut Sys, pid: u32, id: u32, next: Next) -> (Made, bool)
     requires next { IsNext sys.old pid id (NextTurn.Row next) }
     requires lives { ends next ≡ false }
-    ensures { Makes sys.old sys.new pid id result.0 result.1 }
+    ensures { TurnMakes sys.old sys.new pid id result.0 result.1 }
 {
     make_and_ask(sys.processes.get_mut(pid), id, next)
 }
@@ -174,7 +174,7 @@ fn make_in(sys: &mut Sys, pid: u32, id: u32, next: Next) -> (Made, bool)
 #[tactic(auto, using(crate::proofs::TurnLemmas::making_laws, crate::proofs::TurnLemmas::next_laws))]
 fn make_row(sys: &mut Sys, pid: u32, id: u32, next: Next) -> (Made, bool)
     requires next { IsNext sys.old pid id (NextTurn.Row next) }
-    ensures { Makes sys.old sys.new pid id result.0 result.1 }
+    ensures { TurnMakes sys.old sys.new pid id result.0 result.1 }
 {
     match next {
         Next::Ends { did, status } => {
@@ -195,7 +195,7 @@ fn make_turn(
 ) -> Result<(Made, bool), NoMemory>
     requires lawful { IsLawfulSystem sys.old }
     requires next { IsNext sys.old pid id next }
-    ensures ok { IfOk result (λ made. Makes sys.old sys.new pid id made.0 made.1) }
+    ensures ok { IfOk result (λ made. TurnMakes sys.old sys.new pid id made.0 made.1) }
     ensures sure { turn_takes next ≡ false → IsOk result }
     ensures err { OnErr result (sys.new ≡ sys.old) }
 {

@@ -20,7 +20,7 @@ use Rattle.pr_world.specs.Moves.{Does, IsMachines, IsShaped, Leads, Moves}
 use Rattle.pr_world.specs.Protocol.{controllers_after}
 use Rattle.pr_world.specs.Worlds.{WorldOf, WorldState, can_act, is_answered, seen}
 use Rattle.pr_world.specs.Answered.{Answered}
-use Rattle.pr_world.specs.Cores.{Core}
+use Rattle.pr_world.specs.ControllerStates.{ControllerState}
 
 -- A step of the kernel makes a move of the world.
 
@@ -57,11 +57,11 @@ module _ (k : ℕ) (c : Call) (old new : KernelView) (called : IsCalled k c old 
 
 -- ---- who has a next call is one of the controllers
 
-has_call : (controllers : List Core) (k : ℕ) (o : Option Core) (c : Call) → slice_get controllers k ≡ o → option_and_then next_call o ≡ Some c → k < length controllers
+has_call : (controllers : List ControllerState) (k : ℕ) (o : Option ControllerState) (c : Call) → slice_get controllers k ≡ o → option_and_then next_call o ≡ Some c → k < length controllers
 has_call controllers k None c found is = cc
 has_call controllers k (Some s) c found is = slice_get_within controllers k s found
 
-pub with_call : (controllers : List Core) (k : ℕ) (c : Call) → call_by controllers k ≡ Some c → k < length controllers
+pub with_call : (controllers : List ControllerState) (k : ℕ) (c : Call) → call_by controllers k ≡ Some c → k < length controllers
 unfolding call_by
 with_call controllers k c is = has_call controllers k (slice_get controllers k) c refl is
 
@@ -80,7 +80,7 @@ acts-call w k h = of (call_by w.controllers k) refl h
     of (Some c) is h = record { call = c; next = is; ready = h }
 
 -- a controller that is fed
-pub fed-set : (controllers : List Core) (k : ℕ) (r : Reply) (c new : Core) → slice_get controllers k ≡ Some c → new ≡ after_reply c r → slice_set controllers k new ≡ with_fed k r controllers
+pub fed-set : (controllers : List ControllerState) (k : ℕ) (r : Reply) (c new : ControllerState) → slice_get controllers k ≡ Some c → new ≡ after_reply c r → slice_set controllers k new ≡ with_fed k r controllers
 unfolding with_fed
 fed-set controllers k r c new at is = ap (slice_set controllers k) is ∙ ap (feed_at k r controllers) (sym at)
 
@@ -144,7 +144,7 @@ unfolding lwp-leads IsShaped
 lwp-moves w v pid id t acts turned controllers schedule last lawful = record { leads = lwp-leads w v pid id t acts turned controllers schedule last lawful; shaped = tt }
 
 -- the clock is awaited below its last moment alone
-pub awaited-early : (clock : ℕ) (sleeper : Bool) (controllers : List Core) → is_clock_awaited clock sleeper controllers ≡ true → clock < clock_limit
+pub awaited-early : (clock : ℕ) (sleeper : Bool) (controllers : List ControllerState) → is_clock_awaited clock sleeper controllers ≡ true → clock < clock_limit
 unfolding is_clock_awaited
 awaited-early clock sleeper controllers is = ltb-true clock clock_limit (and_left (nat_lt clock clock_limit) _ is)
   where
@@ -213,7 +213,7 @@ module _ {K : Type 0} (view : K → KernelView) (lawful : (k : K) → IsLawful (
       next_here : call_by inside.controllers k ≡ Some c
       next_here = ap (λ (x : WorldOf K). call_by x.controllers k) is ∙ next
 
-      controller-moved : (kern : K) (r : Reply) (fed : List Core) → IsCalled k c (view inside.kernel) (view kern) → last_reply_of (view kern).history ≡ Some r → fed ≡ with_fed k r inside.controllers → Moves (seen view w) (Controller k) (seen view (record inside { kernel = kern; controllers = fed }))
+      controller-moved : (kern : K) (r : Reply) (fed : List ControllerState) → IsCalled k c (view inside.kernel) (view kern) → last_reply_of (view kern).history ≡ Some r → fed ≡ with_fed k r inside.controllers → Moves (seen view w) (Controller k) (seen view (record inside { kernel = kern; controllers = fed }))
       controller-moved kern r fed called reply feeds =
           subst (λ (x : WorldOf K). Moves (seen view x) (Controller k) (seen view (record inside { kernel = kern; controllers = fed }))) is
           (controller-moves (seen view inside) (seen view (record inside { kernel = kern; controllers = fed })) k c r here next_here called reply feeds refl refl (lawful kern))
@@ -222,7 +222,7 @@ module _ {K : Type 0} (view : K → KernelView) (lawful : (k : K) → IsLawful (
     pub acts-within : k < length inside.controllers
     acts-within = let h = acts-call (seen view inside) k here in with_call inside.controllers k h.call h.next
 
-    module _ (x : Core) (at : slice_get inside.controllers k ≡ Some x) where
+    module _ (x : ControllerState) (at : slice_get inside.controllers k ≡ Some x) where
       call-here : call_by inside.controllers k ≡ next_call x
       unfolding call_by
       call-here = ap (option_and_then next_call) at
@@ -233,7 +233,7 @@ module _ {K : Type 0} (view : K → KernelView) (lawful : (k : K) → IsLawful (
       acts-answered = ap (is_answered (view inside.kernel) k) (sym call-here) ∙ here
 
       -- and when it was, the controller has moved
-      pub answered-moved : (kern : K) (new : Core) (controllers : List Core) → controllers ≡ slice_set inside.controllers k new → Answered k (view inside.kernel) (view kern) x new → Moves (seen view w) (Controller k) (seen view (record inside { kernel = kern; controllers = controllers }))
+      pub answered-moved : (kern : K) (new : ControllerState) (controllers : List ControllerState) → controllers ≡ slice_set inside.controllers k new → Answered k (view inside.kernel) (view kern) x new → Moves (seen view w) (Controller k) (seen view (record inside { kernel = kern; controllers = controllers }))
       answered-moved kern new controllers set a =
           let next : call_by w.controllers k ≡ Some a.call = ap (λ (y : WorldOf K). call_by y.controllers k) (sym is) ∙ call-here ∙ a.next in
           controller-moved a.call next kern a.reply controllers a.called a.replied (set ∙ fed-set inside.controllers k a.reply x new at a.fed)

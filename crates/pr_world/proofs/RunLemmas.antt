@@ -17,7 +17,7 @@ use Rattle.pr_world.specs.Moves.{Does, IsMachines, IsShaped, Leads, Moves, after
 use Rattle.pr_world.specs.Protocol.{FollowsAt, IsNextCall, controllers_after, controllers_at}
 use Rattle.pr_world.specs.Runs.{CameFrom, IsFresh, IsMachineRun, IsTold, LedFrom, RunsFor, StepLeads, Steps, after_moves, after_next, moved_by, or_unmoved}
 use Rattle.pr_world.specs.Worlds.{Pick, WorldState, actor_of, can_act, next_actor, next_pick, with_pick}
-use Rattle.pr_world.specs.Cores.{Core}
+use Rattle.pr_world.specs.ControllerStates.{ControllerState}
 use Rattle.pr_world.proofs.MoveLemmas.{told-clock}
 use Rattle.pr_world.proofs.ProtocolLemmas.{AreNextCalls-push, Follows-push, controllers_at-count, controllers_at-push}
 use Rattle.pr_world.proofs.RestLemmas.{pick-acts}
@@ -53,7 +53,7 @@ machine-on first w v actor h s controllers lawful m run =
     let here : FollowsAt w.controllers now e = follows-next now w v actor m.act (told-clock w.kernel now lawful run.state) (told-sleeper w.kernel now lawful run.state) m.acts m.does in
     record {
       legal = IsLegal-push (length first.controllers) s h e run.legal legal;
-      follows = Follows-push first.controllers s h e run.follows (subst (λ (cs : List Core). FollowsAt cs now e) controllers here);
+      follows = Follows-push first.controllers s h e run.follows (subst (λ (cs : List ControllerState). FollowsAt cs now e) controllers here);
       state = made.state ∙ ap Some (sym (state_after-push s h e));
     }
 
@@ -68,7 +68,7 @@ led-on first w v actor lawful led m =
       entries = led.entries ++ e ∷ [];
       history = m.history ∙ ap (λ (h : List Entry). h ++ e ∷ []) led.history ∙ append_assoc first.kernel.history led.entries (e ∷ []);
       places = m.places ∙ led.places;
-      controllers = m.controllers ∙ ap (λ (cs : List Core). controllers_after cs e) led.controllers ∙ sym (controllers_at-push first.controllers led.entries e);
+      controllers = m.controllers ∙ ap (λ (cs : List ControllerState). controllers_after cs e) led.controllers ∙ sym (controllers_at-push first.controllers led.entries e);
       machine = on-machine first.kernel.machine _ _ (λ s run. machine-on first w v actor led.entries s led.controllers lawful m run) led.machine;
     }
 
@@ -78,7 +78,7 @@ came-on first w v actor lawful came m =
     let e = entry_of actor m.leads.act in
     record {
       led = led-on first w v actor lawful came.led m.leads;
-      calls = AreNextCalls-push first.controllers came.led.entries e came.calls (subst (λ (cs : List Core). IsNextCall cs e) came.led.controllers (does-next w v actor m.leads.act m.leads.does m.shaped));
+      calls = AreNextCalls-push first.controllers came.led.entries e came.calls (subst (λ (cs : List ControllerState). IsNextCall cs e) came.led.controllers (does-next w v actor m.leads.act m.leads.does m.shaped));
     }
 
 begins : (first : WorldState) (o : Option TracedState) → o ≡ first.kernel.machine → IfSome o (IsMachineRun first.controllers [] first.kernel.machine)
@@ -162,8 +162,8 @@ run-places (suc n) first w run = run.2.moves.leads.places ∙ ap (λ (k : Kernel
 
 -- ---- runs of a machine that is told
 
-pub told-lawful : (w : WorldState) → IsTold w → IsLawful w.kernel
-told-lawful w t = subst IsLawful (sym t.is) (machine-lawful t.machine w.kernel.history w.kernel.places)
+pub signalled-lawful : (w : WorldState) → IsTold w → IsLawful w.kernel
+signalled-lawful w t = subst IsLawful (sym t.is) (machine-lawful t.machine w.kernel.history w.kernel.places)
 
 told-is : (w : WorldState) (t : IsTold w) → w.kernel.machine ≡ Some t.machine
 told-is w t = is-told t.machine w t.is
@@ -182,7 +182,7 @@ told-picked w p t = record { machine = t.machine; is = t.is }
 -- a move of a told world is the function's
 after_move-is : (w v : WorldState) (actor : Actor) → IsTold w → Leads w actor v → after_move w actor ≡ Some v
 unfolding after_move
-after_move-is w v actor t m = ap (option_and_then (λ s. move_in s w actor)) (told-is w t) ∙ move-is t.machine w v actor (told-lawful w t) (told-is w t) m
+after_move-is w v actor t m = ap (option_and_then (λ s. move_in s w actor)) (told-is w t) ∙ move-is t.machine w v actor (signalled-lawful w t) (told-is w t) m
 
 step-is : (w v : WorldState) → IsTold w → StepLeads w v → after_next w ≡ v
 unfolding after_next
@@ -236,7 +236,7 @@ reached-next : (first w : WorldState) (next : Option Pick) → next_pick w ≡ n
 reached-next first w None e r = subst (Reached first) (sym (stuck-next w e)) r
 reached-next first w (Some p) e r =
     let step = next-leads w p r.told e in
-    record { told = step-told w (after_next w) r.told step; led = led-step first w (after_next w) (told-lawful w r.told) r.led step }
+    record { told = step-told w (after_next w) r.told step; led = led-step first w (after_next w) (signalled-lawful w r.told) r.led step }
 
 reached : (first : WorldState) (n : ℕ) → IsTold first → Reached first (after_moves n first)
 unfolding after_moves

@@ -19,7 +19,7 @@ use Rattle.pr_world.specs.Controllers.{call_by, is_clock_awaited, with_fed}
 use Rattle.pr_world.specs.Moves.{Does, IsMachines, Leads, after_call_by, entry_of, move_in, with_answer, with_entry, with_tick, with_turn}
 use Rattle.pr_world.specs.Protocol.{controllers_after}
 use Rattle.pr_world.specs.Worlds.{WorldState, can_act}
-use Rattle.pr_world.specs.Cores.{Core}
+use Rattle.pr_world.specs.ControllerStates.{ControllerState}
 use Rattle.pr_world.proofs.MoveLemmas.{acts-call, clock-leads, controller-leads, lwp-leads, told-clock}
 
 -- Over a machine that is told a move is a function of the world.
@@ -44,10 +44,10 @@ turns-move s pid id = of_process (live_process s pid)
 
 -- ---- what a move led to is what the function says
 
-same-world : (v : WorldState) (k : KernelView) (cs : List Core) (schedule : List Actor) (last : Option Actor) → v.kernel ≡ k → v.controllers ≡ cs → v.schedule ≡ schedule → v.last ≡ last → v ≡ record { kernel = k; controllers = cs; schedule = schedule; last = last }
+same-world : (v : WorldState) (k : KernelView) (cs : List ControllerState) (schedule : List Actor) (last : Option Actor) → v.kernel ≡ k → v.controllers ≡ cs → v.schedule ≡ schedule → v.last ≡ last → v ≡ record { kernel = k; controllers = cs; schedule = schedule; last = last }
 same-world v k cs schedule last a b c d =
     ap (λ (x : KernelView). let u : WorldState = record { kernel = x; controllers = v.controllers; schedule = v.schedule; last = v.last } in u) a
-    ∙ ap (λ (x : List Core). let u : WorldState = record { kernel = k; controllers = x; schedule = v.schedule; last = v.last } in u) b
+    ∙ ap (λ (x : List ControllerState). let u : WorldState = record { kernel = k; controllers = x; schedule = v.schedule; last = v.last } in u) b
     ∙ ap (λ (x : List Actor). let u : WorldState = record { kernel = k; controllers = cs; schedule = x; last = v.last } in u) c
     ∙ ap (λ (x : Option Actor). let u : WorldState = record { kernel = k; controllers = cs; schedule = schedule; last = x } in u) d
 

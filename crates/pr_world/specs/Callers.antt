@@ -1,12 +1,12 @@
 -- Controllers, as a world keeps them.
 use Rattle.std.specs.Prelude.{Bool}
-use Rattle.pr_world.specs.Cores.{Core}
+use Rattle.pr_world.specs.ControllerStates.{ControllerState}
 
 -- A controller, and whether its next call was made. Once made it is kept until the reply comes, and questions about the
 -- controller take no memory.
 pub record CallerState : Type 0 where
-  pub core : Core
+  pub core : ControllerState
   pub made : Bool
 
-unfoldable pub core_in : CallerState → Core
+unfoldable pub core_in : CallerState → ControllerState
 core_in c = c.core

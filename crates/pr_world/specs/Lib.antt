@@ -1,7 +1,7 @@
 pub mod Answered
 pub mod Callers
 pub mod Controllers
-pub mod Cores
+pub mod ControllerStates
 pub mod Moves
 pub mod Protocol
 pub mod Runs

@@ -6,7 +6,7 @@ use Rattle.pr_model.specs.declared.events.Entry.{Entry}
 use Rattle.pr_world.specs.Moves.{Leads, Moves, after_move}
 use Rattle.pr_world.specs.Protocol.{AreNextCalls, Follows, controllers_at}
 use Rattle.pr_world.specs.Worlds.{Pick, WorldState, next_pick, with_pick}
-use Rattle.pr_world.specs.Cores.{Core}
+use Rattle.pr_world.specs.ControllerStates.{ControllerState}
 
 -- Runs of a world.
 
@@ -14,7 +14,7 @@ use Rattle.pr_world.specs.Cores.{Core}
 
 -- A history of a machine that began in this state is legal and follows the protocol of its controllers, and the machine
 -- is now in the state after it.
-pub record IsMachineRun (controllers : List Core) (h : List Entry) (now : Option TracedState) (first : TracedState) : Type 0 where
+pub record IsMachineRun (controllers : List ControllerState) (h : List Entry) (now : Option TracedState) (first : TracedState) : Type 0 where
   pub legal : IsLegal (length controllers) first h
   pub follows : Follows controllers first h
   pub state : now ≡ Some (state_after first h)

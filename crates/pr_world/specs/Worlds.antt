@@ -6,7 +6,7 @@ use Rattle.pr_model.specs.declared.events.Actor.{Actor}
 use Rattle.pr_model.specs.declared.events.Actor.TheVariants.{Controller, Lwp, Clock}
 use Rattle.pr_api.specs.Views.{KernelView, next_of}
 use Rattle.pr_world.specs.Controllers.{call_by, has_finished, is_clock_awaited}
-use Rattle.pr_world.specs.Cores.{Core}
+use Rattle.pr_world.specs.ControllerStates.{ControllerState}
 use Rattle.pr_world.specs.declared.ends.End.{End}
 use Rattle.pr_world.specs.declared.ends.End.TheVariants.{Quiet, Spent, Stuck}
 
@@ -16,7 +16,7 @@ use Rattle.pr_world.specs.declared.ends.End.TheVariants.{Quiet, Spent, Stuck}
 -- was picked last, if one was.
 pub record WorldOf (K : Type 0) : Type 0 where
   pub kernel : K
-  pub controllers : List Core
+  pub controllers : List ControllerState
   pub schedule : List Actor
   pub last : Option Actor
 

@@ -3,7 +3,7 @@ ghost use Rattle.std.specs.Prelude.{◌≡◌, ◌<◌, true, false, length, IfO
 ghost use Rattle.pr_num.specs.Limits.{controller_limit};
 ghost use Rattle.pr_world.specs.Answered.{Answered};
 ghost use Rattle.pr_world.specs.Controllers.{awaits_clock, has_finished, next_call, printed, wait_end_of};
-ghost use Rattle.pr_world.specs.Cores.{core_of};
+ghost use Rattle.pr_world.specs.ControllerStates.{state_of};
 ghost use Rattle.pr_world.specs.Worlds.{is_answered};
 
 use crate::Controller;
@@ -27,13 +27,13 @@ impl Model for Caller {
     ghost use Rattle.std.specs.Prelude.{◌≡◌, IfSome, is_some};
     ghost use Rattle.pr_world.specs.Callers.{CallerState};
     ghost use Rattle.pr_world.specs.Controllers.{next_call};
-    ghost use Rattle.pr_world.specs.Cores.{core_of};
+    ghost use Rattle.pr_world.specs.ControllerStates.{state_of};
 
     ghost Value = { CallerState };
 
-    ghost view = { λ a. record { core = core_of a.controller; made = is_some a.next } };
+    ghost view = { λ a. record { core = state_of a.controller; made = is_some a.next } };
 
-    ghost invariant = { λ a. IfSome a.next (λ call. call ≡ next_call (core_of a.controller)) };
+    ghost invariant = { λ a. IfSome a.next (λ call. call ≡ next_call (state_of a.controller)) };
 }
 
 /// The moment at which the wait of a call ends in any case; 0 sets no end.
@@ -50,7 +50,7 @@ fn wait_end_of(call: &Call) -> u64
 impl Caller {
     /// A controller that has made no call yet.
     pub fn new(controller: Controller) -> Caller
-        ensures { result ≡ record { core = core_of controller; made = false } }
+        ensures { result ≡ record { core = state_of controller; made = false } }
     {
         Caller {
             controller,
@@ -157,7 +157,7 @@ impl Caller {
 
     /// The controller as it stands, with the replies that it was fed.
     pub fn controller(&self) -> &Controller
-        ensures { core_of result.now ≡ self.now.core }
+        ensures { state_of result.now ≡ self.now.core }
     {
         &self.controller
     }

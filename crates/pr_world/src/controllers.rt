@@ -1,6 +1,6 @@
 ghost use Rattle.std.specs.Prelude.{◌≡◌, IfOk, OnOk};
 ghost use Rattle.pr_world.specs.Controllers.{after_reply, next_call, printed};
-ghost use Rattle.pr_world.specs.Cores.{core_of, IsReady};
+ghost use Rattle.pr_world.specs.ControllerStates.{state_of, IsReady};
 
 use pr_asm::Program;
 use pr_model::{Call, Reply};
@@ -23,9 +23,9 @@ pub enum Controller {
 
 impl Controller {
     /// The call that it makes next; `None` exactly where it has finished.
-    #[tactic(auto, unfolding(crate::specs::Controllers::next_call, crate::specs::Cores::core_of))]
+    #[tactic(auto, unfolding(crate::specs::Controllers::next_call, crate::specs::ControllerStates::state_of))]
     pub fn next_call(&self, alloc: Global) -> Result<Option<Call>, NoMemory>
-        ensures { IfOk result (λ call. call ≡ next_call (core_of self.now)) }
+        ensures { IfOk result (λ call. call ≡ next_call (state_of self.now)) }
     {
         match self {
             Controller::Script(script) => script.next_call(alloc),
@@ -35,9 +35,9 @@ impl Controller {
     }
 
     /// Makes one `feed` possible without memory.
-    #[tactic(auto, unfolding(crate::specs::Cores::core_of, crate::specs::Cores::IsReady))]
+    #[tactic(auto, unfolding(crate::specs::ControllerStates::state_of, crate::specs::ControllerStates::IsReady))]
     pub fn prepare(&mut self) -> Result<(), NoMemory>
-        ensures same { core_of self.new ≡ core_of self.old }
+        ensures same { state_of self.new ≡ state_of self.old }
         ensures ready { OnOk result (IsReady self.new) }
     {
         match self {
@@ -48,10 +48,10 @@ impl Controller {
     }
 
     /// Takes the reply to the call that `next_call` gave. Takes no memory.
-    #[tactic(auto, unfolding(crate::specs::Controllers::after_reply, crate::specs::Cores::core_of, crate::specs::Cores::IsReady))]
+    #[tactic(auto, unfolding(crate::specs::Controllers::after_reply, crate::specs::ControllerStates::state_of, crate::specs::ControllerStates::IsReady))]
     pub fn feed(&mut self, reply: &Reply)
         requires { IsReady self.old }
-        ensures { core_of self.new ≡ after_reply (core_of self.old) reply.now }
+        ensures { state_of self.new ≡ after_reply (state_of self.old) reply.now }
     {
         match self {
             Controller::Script(script) => script.feed(reply),
@@ -61,9 +61,9 @@ impl Controller {
     }
 
     /// What it prints at the end of a run, where the kernel has these programs.
-    #[tactic(auto, unfolding(crate::specs::Controllers::printed, crate::specs::Cores::core_of))]
+    #[tactic(auto, unfolding(crate::specs::Controllers::printed, crate::specs::ControllerStates::state_of))]
     pub fn print(&self, alloc: Global, programs: &[Program]) -> Result<Bytes, NoMemory>
-        ensures { IfOk result (λ text. text ≡ printed (core_of self.now) programs.now) }
+        ensures { IfOk result (λ text. text ≡ printed (state_of self.now) programs.now) }
     {
         match self {
             Controller::Script(script) => script.print(alloc, programs),

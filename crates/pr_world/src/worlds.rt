@@ -4,7 +4,7 @@ ghost use Rattle.std.specs.Option.{ForSome};
 ghost use Rattle.pr_num.specs.Limits.{controller_limit};
 ghost use Rattle.pr_world.specs.Callers.{core_in};
 ghost use Rattle.pr_world.specs.Controllers.{printed};
-ghost use Rattle.pr_world.specs.Cores.{core_of};
+ghost use Rattle.pr_world.specs.ControllerStates.{state_of};
 
 use crate::Controller;
 use crate::callers::Caller;
@@ -44,7 +44,7 @@ impl<Q> Model for World<Q> {
 /// The controllers, of which no call was made yet.
 #[tactic(auto, unfolding(crate::specs::Callers::core_in))]
 fn callers_of(alloc: Global, controllers: Vec<Controller>) -> Result<Vec<Caller>, NoMemory>
-    ensures { IfOk result (λ callers. map core_in callers.items ≡ map core_of controllers.items) }
+    ensures { IfOk result (λ callers. map core_in callers.items ≡ map state_of controllers.items) }
 {
     let mut callers = Vec::with_capacity(alloc, controllers.len())?;
     for controller in controllers {
@@ -64,7 +64,7 @@ impl<Q> World<Q> {
     where
         Q: Drop,
         requires { length controllers.items ≤ controller_limit }
-        ensures { IfOk result (λ world. world ≡ record { kernel = kernel; controllers = map core_of controllers.items; schedule = schedule.items; last = None }) }
+        ensures { IfOk result (λ world. world ≡ record { kernel = kernel; controllers = map state_of controllers.items; schedule = schedule.items; last = None }) }
     {
         let callers = callers_of(alloc, controllers)?;
         Ok(World {
@@ -104,7 +104,7 @@ impl<Q> World<Q> {
     #[tactic(auto, using(crate::proofs::CallerLemmas::cores))]
     pub fn controller(&self, number: u32) -> &Controller
         requires { number < length self.now.controllers }
-        ensures { slice_get self.now.controllers number ≡ Some (core_of result.now) }
+        ensures { slice_get self.now.controllers number ≡ Some (state_of result.now) }
     {
         self.callers[number as usize].controller()
     }

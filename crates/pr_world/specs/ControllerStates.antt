@@ -5,16 +5,16 @@ use Rattle.pr_truss.specs.Trusses.{TrussState, IsReady as HasRoom}
 use Rattle.pr_world.specs.declared.controllers.Controller.{Controller}
 use Rattle.pr_world.specs.declared.controllers.Controller.TheVariants as declared
 
-pub data Core : Type 0 where
-  Script : ScriptState → Core
-  Truss : TrussState → Core
-  Tool : ToolState → Core
+pub data ControllerState : Type 0 where
+  Script : ScriptState → ControllerState
+  Truss : TrussState → ControllerState
+  Tool : ToolState → ControllerState
 
 -- The core of a controller. How much room a controller has kept for its next reply is no part of it.
-unfoldable pub core_of : Controller → Core
-core_of (declared.Script s) = Script s
-core_of (declared.Truss t) = Truss t.state
-core_of (declared.Tool t) = Tool t
+unfoldable pub state_of : Controller → ControllerState
+state_of (declared.Script s) = Script s
+state_of (declared.Truss t) = Truss t.state
+state_of (declared.Tool t) = Tool t
 
 -- whether a controller can be fed one reply without memory
 unfoldable pub IsReady : Controller → Type 0
