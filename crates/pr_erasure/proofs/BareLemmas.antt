@@ -48,18 +48,24 @@ seen_system s = record {
 
 seen_process-bare : (p : TracedProcess) → seen_process (uncontrolled_process p) ≡ erased_process p
 unfolding seen_process seen_lwp uncontrolled_process uncontrolled_lwp erased_process erased_lwp
-seen_process-bare p = ap (λ ls. record (erased_process p) { lwps = ls }) (map_each-map_each uncontrolled_lwp seen_lwp p.lwps)
+seen_process-bare p =
+    ap (λ ls. record (erased_process p) { lwps = ls }) (map_each-map_each uncontrolled_lwp seen_lwp p.lwps)
 
 seen_system-bare : (s : TracedSystem) → seen_system (uncontrolled_system s) ≡ erased_system s
 unfolding seen_system uncontrolled_system erased_system
-seen_system-bare s = ap (λ ps. record (erased_system s) { processes = ps }) (map_each-map_each uncontrolled_process seen_process s.processes ∙ each s.processes)
+seen_system-bare s =
+    ap (λ ps. record (erased_system s) { processes = ps })
+    (map_each-map_each uncontrolled_process seen_process s.processes ∙ each s.processes)
   where
-    each : (es : List (ℕ × TracedProcess)) → map_each (λ p. seen_process (uncontrolled_process p)) es ≡ map_each erased_process es
+    each : (es : List (ℕ × TracedProcess))
+        → map_each (λ p. seen_process (uncontrolled_process p)) es ≡ map_each erased_process es
     each [] = refl
     each (e ∷ es) = rw (seen_process-bare e.1) (ap (λ ds. (e.0, erased_process e.1) ∷ ds) (each es))
 
-pub same-process : (p q : TracedProcess) → uncontrolled_process p ≡ uncontrolled_process q → erased_process p ≡ erased_process q
+pub same-process : (p q : TracedProcess) → uncontrolled_process p ≡ uncontrolled_process q
+    → erased_process p ≡ erased_process q
 same-process p q same = sym (seen_process-bare p) ∙ ap seen_process same ∙ seen_process-bare q
 
-pub same-system : (s t : TracedSystem) → uncontrolled_system s ≡ uncontrolled_system t → erased_system s ≡ erased_system t
+pub same-system : (s t : TracedSystem) → uncontrolled_system s ≡ uncontrolled_system t
+    → erased_system s ≡ erased_system t
 same-system s t same = sym (seen_system-bare s) ∙ ap seen_system same ∙ seen_system-bare t

@@ -76,8 +76,13 @@ pub record Hides (s t : TracedSystem) : Type 0 where
 pub hides-nothing : (s : TracedSystem) → IsUntouched s → Hides s s
 hides-nothing s u = record { same = refl; untouched = u }
 
-hides-process : (pid : ℕ) (f : TracedProcess → TracedProcess) → ((x : TracedProcess) → uncontrolled_process (f x) ≡ uncontrolled_process x) → KeepsProcesses f → (s : TracedSystem) → IsUntouched s → Hides s (with_process pid f s)
-hides-process pid f hides keeps s u = record { same = with_process-hidden s pid f hides; untouched = process-keeps pid f keeps s u }
+hides-process : (pid : ℕ) (f : TracedProcess → TracedProcess)
+    → ((x : TracedProcess) → uncontrolled_process (f x) ≡ uncontrolled_process x) → KeepsProcesses f
+    → (s : TracedSystem) → IsUntouched s → Hides s (with_process pid f s)
+hides-process pid f hides keeps s u = record {
+  same = with_process-hidden s pid f hides;
+  untouched = process-keeps pid f keeps s u;
+}
 
 -- ---- lwps
 
@@ -141,9 +146,11 @@ edits-hide m passive l k edits =
 klc-is : (w : ℕ) → has_flags w klc_mode ≡ has_number w 3
 klc-is w = has_flags-one w 3 (omega arith)
 
-no_klc-union : (a b : ℕ) → has_flags a klc_mode ≡ false → has_flags b klc_mode ≡ false → has_flags (union_word a b) klc_mode ≡ false
+no_klc-union : (a b : ℕ) → has_flags a klc_mode ≡ false → has_flags b klc_mode ≡ false
+    → has_flags (union_word a b) klc_mode ≡ false
 no_klc-union a b none other =
-    klc-is (union_word a b) ∙ has_number-union a b 3 ∙ ap (λ x. x || has_number b 3) (sym (klc-is a) ∙ none) ∙ sym (klc-is b) ∙ other
+    klc-is (union_word a b) ∙ has_number-union a b 3 ∙ ap (λ x. x || has_number b 3) (sym (klc-is a) ∙ none)
+    ∙ sym (klc-is b) ∙ other
 
 common-is : (a b : ℕ) → has_number (bit_and a b) 3 ≡ has_number (common_word a b) 3
 unfolding common_word
@@ -153,7 +160,8 @@ no_klc-minus : (a b : ℕ) → has_flags a klc_mode ≡ false → has_flags (min
 unfolding minus_word
 no_klc-minus a b none =
     let rest = 2 ^ 64 - 1 - b in
-    klc-is (minus_word a b) ∙ common-is a rest ∙ has_number-common a rest 3 ∙ ap (λ x. x && has_number rest 3) (sym (klc-is a) ∙ none)
+    klc-is (minus_word a b) ∙ common-is a rest ∙ has_number-common a rest 3
+    ∙ ap (λ x. x && has_number rest 3) (sym (klc-is a) ∙ none)
 
 -- ---- processes
 
@@ -263,7 +271,9 @@ released_lwp-keeps id x u = record { no_step = refl; no_abort = u.no_abort; no_a
 
 pub released-hidden : (p : TracedProcess) → uncontrolled_process (released p) ≡ uncontrolled_process p
 unfolding uncontrolled_process released
-released-hidden p = ap (λ ls. record (uncontrolled_process p) { lwps = ls }) (map_each-all_hidden uncontrolled_lwp released_lwp p.lwps released_lwp-hidden)
+released-hidden p =
+    ap (λ ls. record (uncontrolled_process p) { lwps = ls })
+    (map_each-all_hidden uncontrolled_lwp released_lwp p.lwps released_lwp-hidden)
 
 released-keeps : KeepsProcesses released
 unfolding released released_control
@@ -331,18 +341,33 @@ module _ (s : TracedState) (u : IsUntouched s.system) where
   hidden : (c : Call) (a : Answer) → steps_of_call c a.reply ≡ [] → HidesAnswer s a
       → StepsFollow s.system (steps_of_call c a.reply) a.state.system
   unfolding HidesAnswer
-  hidden c a none hides = subst (λ steps. StepsFollow s.system steps a.state.system) (sym none) (record { run = subst (UntracedRun (erased_system s.system) []) (sym (same-system a.state.system s.system hides.same)) ends_here; untouched = hides.untouched })
+  hidden c a none hides =
+      subst (λ steps. StepsFollow s.system steps a.state.system) (sym none) (record {
+        run =
+            subst (UntracedRun (erased_system s.system) [])
+            (sym (same-system a.state.system s.system hides.same)) ends_here;
+        untouched = hides.untouched;
+      })
 
-  spawn_unless-follows : (name : List ℕ) (program : Program) (held : Bool) → program_named s.system.programs name ≡ Some program → (o : Option Errno) → spawn_refusal s.system program ≡ o → StepsFollow s.system (steps_of_call (call.Spawn name held) (spawn_unless s program held o).reply) (spawn_unless s program held o).state.system
+  spawn_unless-follows : (name : List ℕ) (program : Program) (held : Bool)
+      → program_named s.system.programs name ≡ Some program → (o : Option Errno) → spawn_refusal s.system program ≡ o
+      → StepsFollow s.system (steps_of_call (call.Spawn name held) (spawn_unless s program held o).reply)
+      (spawn_unless s program held o).state.system
   spawn_unless-follows name program held named (Some e) refusal = follows-nothing s.system u
   spawn_unless-follows name program held named None refusal = spawn-follows name program held s.system u named refusal
 
-  spawn_found-follows : (name : List ℕ) (held : Bool) (o : Option Program) → program_named s.system.programs name ≡ o → StepsFollow s.system (steps_of_call (call.Spawn name held) (spawn_found s held o).reply) (spawn_found s held o).state.system
+  spawn_found-follows : (name : List ℕ) (held : Bool) (o : Option Program) → program_named s.system.programs name ≡ o
+      → StepsFollow s.system (steps_of_call (call.Spawn name held) (spawn_found s held o).reply)
+      (spawn_found s held o).state.system
   spawn_found-follows name held None named = follows-nothing s.system u
-  spawn_found-follows name held (Some program) named = spawn_unless-follows name program held named (spawn_refusal s.system program) refl
+  spawn_found-follows name held (Some program) named =
+      spawn_unless-follows name program held named (spawn_refusal s.system program) refl
 
-  sent-follows : (pid number : ℕ) (x : Sending) → sending pid number (life_of s.system pid) ≡ x → StepsFollow s.system (steps_of_call (call.Kill pid number) (sent_reply x)) (with_sent traced pid (killed_by 0) x s.system)
-  sent-follows pid number (refuses e) is = subst (λ t. StepsFollow s.system [] t) (sym (refused_sent pid e s.system)) (follows-nothing s.system u)
+  sent-follows : (pid number : ℕ) (x : Sending) → sending pid number (life_of s.system pid) ≡ x
+      → StepsFollow s.system (steps_of_call (call.Kill pid number) (sent_reply x))
+      (with_sent traced pid (killed_by 0) x s.system)
+  sent-follows pid number (refuses e) is =
+      subst (λ t. StepsFollow s.system [] t) (sym (refused_sent pid e s.system)) (follows-nothing s.system u)
   sent-follows pid number sends_nothing is = kill-follows pid number sends_nothing s.system u is nothing
   sent-follows pid number (sends g) is = kill-follows pid number (sends g) s.system u is it
 
@@ -358,10 +383,13 @@ module _ (s : TracedState) (u : IsUntouched s.system) where
       hidden (call.Ctl handle bytes) a refl
       (subst (HidesAnswer s) answer (ctl-hides by handle bytes c.reply refl passed))
   call-follows by (call.Spawn name held) a is passive =
-      subst (λ (x : Answer). StepsFollow s.system (steps_of_call (call.Spawn name held) x.reply) x.state.system) (same_Some (spawn_found s held (program_named s.system.programs name)) a is)
+      subst (λ (x : Answer). StepsFollow s.system (steps_of_call (call.Spawn name held) x.reply) x.state.system)
+      (same_Some (spawn_found s held (program_named s.system.programs name)) a is)
       (spawn_found-follows name held (program_named s.system.programs name) refl)
   call-follows by (call.Kill pid number) a is passive =
       let x = sending pid number (life_of s.system pid) in
-      subst (λ (y : Answer). StepsFollow s.system (steps_of_call (call.Kill pid number) y.reply) y.state.system) (same_Some (record { state = with_system (with_sent traced pid (killed_by 0) x) s; reply = sent_reply x }) a is)
+      subst (λ (y : Answer). StepsFollow s.system (steps_of_call (call.Kill pid number) y.reply) y.state.system)
+      (same_Some
+      (record { state = with_system (with_sent traced pid (killed_by 0) x) s; reply = sent_reply x }) a is)
       (sent-follows pid number x refl)
   call-follows by c a is passive = hidden c a refl (answer-hides by c a is tt)

@@ -12,7 +12,8 @@ use Rattle.pr_model.specs.InstructionEffects.{Load, Store, Decoded, faults_itsel
 use Rattle.pr_model.specs.Registers.{pc_of}
 use Rattle.pr_erasure.specs.PlainEffects.{IsPlain}
 
--- Where nothing is watched no instruction incurs FLTWATCH, and none incurs FLTTRACE by itself: that comes of a step mark.
+-- Where nothing is watched no instruction incurs FLTWATCH, and none incurs FLTTRACE by itself: that comes of a step
+-- mark.
 
 unwatched : (kind at size : ℕ) → hit_in kind [] at size ≡ None
 unfolding hit_in
@@ -25,19 +26,23 @@ plain-access true (NotAllowed address) = λ e. cc
 plain-access false (Hole address) = λ e. cc
 plain-access false (NotAllowed address) = λ e. cc
 
-plain-load : (space : Space) (regs : List ℕ) (load : Load) (at size : ℕ) → IsPlain (load_effect space [] None regs load at size)
+plain-load : (space : Space) (regs : List ℕ) (load : Load) (at size : ℕ)
+    → IsPlain (load_effect space [] None regs load at size)
 unfolding load_effect
 plain-load space regs load at size = by (bytes_for prot_read space at size) refl
   where
-    by : (r : Result (List ℕ) BadByte) → bytes_for prot_read space at size ≡ r → IsPlain (load_effect space [] None regs load at size)
+    by : (r : Result (List ℕ) BadByte) → bytes_for prot_read space at size ≡ r
+        → IsPlain (load_effect space [] None regs load at size)
     by (Err bad) is = rw is (plain-access (is_stack_load load) bad)
     by (Ok bytes) is = rw (is, unwatched watch_read at size) tt
 
-plain-store : (space : Space) (stack : Bool) (regs : List ℕ) (store : Store) → IsPlain (store_effect space [] None stack regs store)
+plain-store : (space : Space) (stack : Bool) (regs : List ℕ) (store : Store)
+    → IsPlain (store_effect space [] None stack regs store)
 unfolding store_effect
 plain-store space stack regs store = by (bytes_for prot_write space store.at (length store.bytes)) refl
   where
-    by : (r : Result (List ℕ) BadByte) → bytes_for prot_write space store.at (length store.bytes) ≡ r → IsPlain (store_effect space [] None stack regs store)
+    by : (r : Result (List ℕ) BadByte) → bytes_for prot_write space store.at (length store.bytes) ≡ r
+        → IsPlain (store_effect space [] None stack regs store)
     by (Err bad) is = rw is (plain-access stack bad)
     by (Ok bytes) is = rw (is, unwatched watch_write store.at (length store.bytes)) tt
 
@@ -75,7 +80,8 @@ plain-decoded (op.Call target) regs = tt
 plain-decoded op.Ret regs = tt
 plain-decoded (op.Sys call) regs = tt
 
-plain-executed : (space : Space) (regs : List ℕ) (d : Decoded) → FaultsPlainly d → IsPlain (executed space [] None regs d)
+plain-executed : (space : Space) (regs : List ℕ) (d : Decoded) → FaultsPlainly d
+    → IsPlain (executed space [] None regs d)
 unfolding executed
 plain-executed space regs (faults_itself f) itself = itself
 plain-executed space regs (enters_call call) itself = tt
@@ -83,7 +89,8 @@ plain-executed space regs (leaves new) itself = tt
 plain-executed space regs (loads load at size) itself = plain-load space regs load at size
 plain-executed space regs (stores stack new store) itself = plain-store space stack new store
 
-plain-instruction : (space : Space) (regs : List ℕ) (i : Option Instruction) → IsPlain (of_instruction space [] None regs i)
+plain-instruction : (space : Space) (regs : List ℕ) (i : Option Instruction)
+    → IsPlain (of_instruction space [] None regs i)
 plain-instruction space regs None = λ e. cc
 plain-instruction space regs (Some i) = plain-executed space regs (decoded i regs) (plain-decoded i regs)
 
@@ -91,6 +98,8 @@ pub plain : (space : Space) (regs : List ℕ) → IsPlain (instruction_effect sp
 unfolding instruction_effect
 plain space regs = by (bytes_for prot_exec space (pc_of regs) 16) refl
   where
-    by : (r : Result (List ℕ) BadByte) → bytes_for prot_exec space (pc_of regs) 16 ≡ r → IsPlain (instruction_effect space [] regs)
+    by : (r : Result (List ℕ) BadByte) → bytes_for prot_exec space (pc_of regs) 16 ≡ r
+        → IsPlain (instruction_effect space [] regs)
     by (Err bad) is = rw is (plain-access false bad)
-    by (Ok bytes) is = rw (is, unwatched watch_exec (pc_of regs) 16) (plain-instruction space regs (instruction_in bytes))
+    by (Ok bytes) is =
+        rw (is, unwatched watch_exec (pc_of regs) 16) (plain-instruction space regs (instruction_in bytes))

@@ -84,7 +84,8 @@ module _ (s : TracedSystem) (pid : ℕ) (p : TracedProcess) (id : ℕ) (l : Trac
   interrupted-goes false call args = refl
   interrupted-goes true call args = refl
 
-  performed-goes : (woken : Bool) (call : Sysno) (args : List ℕ) (since : ℕ) (effect : Effect) → GoesOn (performed_row woken call args since effect)
+  performed-goes : (woken : Bool) (call : Sysno) (args : List ℕ) (since : ℕ) (effect : Effect)
+      → GoesOn (performed_row woken call args since effect)
   unfolding GoesOn is_stop performed_row
   performed-goes false call args since (change.does result changes) = refl
   performed-goes true call args since (change.does result changes) = refl
@@ -112,17 +113,20 @@ module _ (s : TracedSystem) (pid : ℕ) (p : TracedProcess) (id : ℕ) (l : Trac
   ]
 
 -- and that row changes what controllers set alone
-stop-bare : (s : TracedSystem) (pid id : ℕ) (t : LwpTurn) → turn_of s pid id ≡ Some t → t.turned.did ≡ Stopped → uncontrolled_system t.system ≡ uncontrolled_system s
+stop-bare : (s : TracedSystem) (pid id : ℕ) (t : LwpTurn) → turn_of s pid id ≡ Some t → t.turned.did ≡ Stopped
+    → uncontrolled_system t.system ≡ uncontrolled_system s
 unfolding settled
 stop-bare s pid id t turn did =
     let taken = turn-taken s pid id t turn in
     let p = taken.process in
     let l = taken.lwp in
     let was : (row_for s pid p id l).did ≡ Stopped = sym (ap (λ (x : LwpTurn). x.turned.did) taken.is) ∙ did in
-    ap (λ (x : LwpTurn). uncontrolled_system x.system) (taken.is ∙ ap (settled s pid p id l) (only_requested s pid p id l was))
+    ap (λ (x : LwpTurn). uncontrolled_system x.system) (taken.is
+    ∙ ap (settled s pid p id l) (only_requested s pid p id l was))
     ∙ requested-bare s pid p id l
 
-pub stop-hidden : (s : TracedSystem) (pid id : ℕ) (t : LwpTurn) → turn_of s pid id ≡ Some t → t.turned.did ≡ Stopped → erased_system t.system ≡ erased_system s
+pub stop-hidden : (s : TracedSystem) (pid id : ℕ) (t : LwpTurn) → turn_of s pid id ≡ Some t → t.turned.did ≡ Stopped
+    → erased_system t.system ≡ erased_system s
 stop-hidden s pid id t turn did = same-system t.system s (stop-bare s pid id t turn did)
 
 pub ruleset stops = (stop-hidden)

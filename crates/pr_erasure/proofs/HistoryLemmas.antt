@@ -44,23 +44,39 @@ tick-follows : (s : TracedSystem) → IsUntouched s → StepsFollow s (Tick ∷ 
 unfolding erased_system
 tick-follows s u = record { run = step_by ticks ends_here; untouched = record { processes = u.processes } }
 
-turn-follows : (s : TracedSystem) (pid id : ℕ) (t : LwpTurn) (m : Memory) → turn_of s pid id ≡ Some t → IsUntouched s → StepsFollow s (steps_of m (record { actor = Lwp pid id; act = act.Turn t.turned })) t.system
+turn-follows : (s : TracedSystem) (pid id : ℕ) (t : LwpTurn) (m : Memory) → turn_of s pid id ≡ Some t → IsUntouched s
+    → StepsFollow s (steps_of m (record { actor = Lwp pid id; act = act.Turn t.turned })) t.system
 unfolding steps_of settled
 turn-follows s pid id t m turn u =
     let taken = turn-taken s pid id t turn in
     let p = taken.process in
     let l = taken.lwp in
     let row = row_for s pid p id l in
-    let pu : IsUntouchedProcess (pid, p) = All-under IsUntouchedProcess pid p s.processes u.processes (live_process-found s pid p taken.live) in
+    let pu : IsUntouchedProcess (pid, p) =
+    All-under IsUntouchedProcess pid p s.processes u.processes (live_process-found s pid p taken.live) in
     let lu : IsUntouchedLwp (id, l) = All-under IsUntouchedLwp id l p.lwps pu.lwps taken.there in
-    let has : l.control.directed ≡ false → HasTurn s pid p id l = λ directed. record { live = taken.live; there = taken.there; free = taken.free; not_directed = directed; no_agent = lu.no_agent; no_step = lu.no_step; no_abort = lu.no_abort; unwatched = pu.unwatched } in
-    subst (λ (v : LwpTurn). StepsFollow s (steps_of_turn (m.returning pid id) pid id v.turned.did) v.system) (sym taken.is) (record {
+    let has : l.control.directed ≡ false → HasTurn s pid p id l =
+    λ directed. record {
+      live = taken.live;
+      there = taken.there;
+      free = taken.free;
+      not_directed = directed;
+      no_agent = lu.no_agent;
+      no_step = lu.no_step;
+      no_abort = lu.no_abort;
+      unwatched = pu.unwatched;
+    } in
+    subst (λ (v : LwpTurn). StepsFollow s (steps_of_turn (m.returning pid id) pid id v.turned.did) v.system)
+    (sym taken.is) (record {
       run = row-runs s pid p id l has taken.goes (m.returning pid id);
       untouched = settled-keeps pid p id l lu s u row (row-proper s pid p id l);
     })
 
 -- Each entry of a legal and passive history.
-entry-follows : (n : ℕ) (s : TracedState) (m : Memory) (actor : Actor) (it : Act) → IsUntouched s.system → IsTrue (is_passive_act it) → IsLegalEntry n s (record { actor = actor; act = it }) → StepsFollow s.system (steps_of m (record { actor = actor; act = it })) (after s (record { actor = actor; act = it })).system
+entry-follows : (n : ℕ) (s : TracedState) (m : Memory) (actor : Actor) (it : Act) → IsUntouched s.system
+    → IsTrue (is_passive_act it) → IsLegalEntry n s (record { actor = actor; act = it })
+    → StepsFollow s.system (steps_of m (record { actor = actor; act = it }))
+    (after s (record { actor = actor; act = it })).system
 unfolding IsLegalEntry steps_of after
 entry-follows n s m (Controller k) (act.Call c r) u passive legal =
     let a : Answer = record { state = legal.1.0; reply = r } in
@@ -74,43 +90,64 @@ entry-follows n s m Clock (act.Tick moment) u passive legal = tick-follows s.sys
 entry-follows n s m _ _ u passive legal = absurd legal
 
 -- Histories, entry by entry.
-history-follows : (n : ℕ) (s : TracedState) (m : Memory) (h : List Entry) → IsUntouched s.system → IsPassive h → IsLegal n s h → StepsFollow s.system (steps_from m h) (state_after s h).system
+history-follows : (n : ℕ) (s : TracedState) (m : Memory) (h : List Entry) → IsUntouched s.system → IsPassive h
+    → IsLegal n s h → StepsFollow s.system (steps_from m h) (state_after s h).system
 history-follows n s m [] u passive legal = record { run = ends_here; untouched = u }
 history-follows n s m (e ∷ h) u passive legal =
-    let first = entry-follows n s m e.actor e.act u (All-head (λ (x : Entry). IsTrue (is_passive_act x.act)) e h passive) legal.0 in
-    let rest = history-follows n (after s e) (remembered m e) h first.untouched (All-tail (λ (x : Entry). IsTrue (is_passive_act x.act)) e h passive) legal.1 in
+    let first =
+    entry-follows n s m e.actor e.act u
+    (All-head (λ (x : Entry). IsTrue (is_passive_act x.act)) e h passive) legal.0 in
+    let rest =
+    history-follows n (after s e) (remembered m e) h first.untouched
+    (All-tail (λ (x : Entry). IsTrue (is_passive_act x.act)) e h passive) legal.1 in
     record { run = UntracedRun-append first.run rest.run; untouched = rest.untouched }
 
 -- ---- the first state: nothing is touched
 
-spawned_at-untouched : (program : Option Program) (s : TracedSystem) → IsUntouched s → IsUntouched (spawned_at program s)
+spawned_at-untouched : (program : Option Program) (s : TracedSystem) → IsUntouched s
+    → IsUntouched (spawned_at program s)
 spawned_at-untouched None s u = u
 spawned_at-untouched (Some program) s u = with_spawned-untouched program false s u
 
 spawns-untouched : (spawns : List ℕ) (s : TracedSystem) → IsUntouched s → IsUntouched (with_spawns spawns s)
 unfolding with_spawns
 spawns-untouched [] s u = u
-spawns-untouched (place ∷ spawns) s u = spawns-untouched spawns _ (spawned_at-untouched (slice_get s.programs place) s u)
+spawns-untouched (place ∷ spawns) s u =
+    spawns-untouched spawns _ (spawned_at-untouched (slice_get s.programs place) s u)
 
 system-untouched : IsUntouchedProcess (0, system_process)
 unfolding system_process bare_process traced nothing_set has_flags common_word
 system-untouched = record { no_kill = refl; unwatched = refl; lwps = All-nil IsUntouchedLwp }
 
-first-untouched : (programs : List Program) (files : List StoredFile) (spawns : List ℕ) → IsUntouched (first_state programs files spawns).system
+first-untouched : (programs : List Program) (files : List StoredFile) (spawns : List ℕ)
+    → IsUntouched (first_state programs files spawns).system
 unfolding first_state bare_system
 first-untouched programs files spawns =
-    spawns-untouched spawns (bare_system programs files) (record { processes = All-cons IsUntouchedProcess (0, system_process) [] system-untouched (All-nil IsUntouchedProcess) })
+    spawns-untouched spawns (bare_system programs files)
+    (record {
+      processes = All-cons IsUntouchedProcess (0, system_process) [] system-untouched
+          (All-nil IsUntouchedProcess);
+    })
 
 -- ---- tracing is transparent
 
-pub transparent-later : (n : ℕ) (s : TracedState) (h : List Entry) → IsUntouched s.system → IsLegal n s h → IsPassive h → IsTransparent s h
+pub transparent-later : (n : ℕ) (s : TracedState) (h : List Entry) → IsUntouched s.system → IsLegal n s h → IsPassive h
+    → IsTransparent s h
 unfolding untraced_steps
-transparent-later n s h u legal passive = let follows = history-follows n s nothing_yet h u passive legal in record { run = follows.run; trace = untraced_trace-steps h }
+transparent-later n s h u legal passive =
+    let follows = history-follows n s nothing_yet h u passive legal in
+    record { run = follows.run; trace = untraced_trace-steps h }
 
-pub transparent-first : (n : ℕ) (programs : List Program) (files : List StoredFile) (spawns : List ℕ) (h : List Entry) → IsLegal n (first_state programs files spawns) h → IsPassive h → IsTransparent (first_state programs files spawns) h
-transparent-first n programs files spawns h legal passive = transparent-later n (first_state programs files spawns) h (first-untouched programs files spawns) legal passive
+pub transparent-first : (n : ℕ) (programs : List Program) (files : List StoredFile) (spawns : List ℕ) (h : List Entry)
+    → IsLegal n (first_state programs files spawns) h → IsPassive h
+    → IsTransparent (first_state programs files spawns) h
+transparent-first n programs files spawns h legal passive =
+    transparent-later n (first_state programs files spawns) h (first-untouched programs files spawns) legal passive
 
-pub stays-untouched : (n : ℕ) (s : TracedState) (h : List Entry) → IsUntouched s.system → IsLegal n s h → IsPassive h → IsUntouched (state_after s h).system
-stays-untouched n s h u legal passive = let follows = history-follows n s nothing_yet h u passive legal in follows.untouched
+pub stays-untouched : (n : ℕ) (s : TracedState) (h : List Entry) → IsUntouched s.system → IsLegal n s h → IsPassive h
+    → IsUntouched (state_after s h).system
+stays-untouched n s h u legal passive =
+    let follows = history-follows n s nothing_yet h u passive legal in
+    follows.untouched
 
 pub ruleset transparency = (transparent-first, transparent-later, stays-untouched)

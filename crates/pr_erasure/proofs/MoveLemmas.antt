@@ -26,22 +26,33 @@ seen_in l pending phase = record {
 }
 
 -- what is made of an lwp: a line a move
-pub moved-erased : (move : Move) (l : TracedLwp) → Fits move l.phase → erased_lwp (moved traced move l) ≡ moved untraced move (erased_lwp l)
+pub moved-erased : (move : Move) (l : TracedLwp) → Fits move l.phase
+    → erased_lwp (moved traced move l) ≡ moved untraced move (erased_lwp l)
 unfolding erased_lwp erased_phase erased_pending moved traced untraced fault_incurred fault_posted fault_pending unchanged seen_in
 moved-erased stays l fits = refl
 moved-erased stops l fits = refl
 moved-erased (posts f address) l fits = sym (ap (seen_in l (λ phase. erased_pending phase l.pending)) fits)
 moved-erased returns l fits = ap (λ w. record (erased_lwp l) { pending = w; phase = in_program }) (sym (fits l.pending))
 moved-erased (runs regs) l fits = refl
-moved-erased (enters call regs) l fits = ap (λ w. record (erased_lwp l) { regs = regs; pending = w; phase = at_call call }) (sym (fits l.pending))
-moved-erased (incurs f address) l fits = sym (ap (seen_in l (λ phase. added (fault_signal f) (of_fault address) (erased_pending phase l.pending))) fits)
+moved-erased (enters call regs) l fits =
+    ap (λ w. record (erased_lwp l) { regs = regs; pending = w; phase = at_call call }) (sym (fits l.pending))
+moved-erased (incurs f address) l fits =
+    sym (ap (seen_in l (λ phase. added (fault_signal f) (of_fault address) (erased_pending phase l.pending))) fits)
 moved-erased (traps f address regs) l fits =
-    ap (λ w. record (erased_lwp l) { regs = regs; pending = added (fault_signal f) (of_fault address) w; phase = in_program }) (sym (fits l.pending))
-moved-erased (leaves call args result) l fits = ap (λ w. record (erased_lwp l) { regs = stored call result l.regs; pending = w; phase = in_program }) (sym (fits l.pending))
-moved-erased (sleeps call args since) l fits = ap (λ w. record (erased_lwp l) { pending = w; phase = sleeping call args since }) (sym (fits l.pending))
+    ap (λ w. record
+    (erased_lwp l) { regs = regs; pending = added (fault_signal f) (of_fault address) w; phase = in_program })
+    (sym (fits l.pending))
+moved-erased (leaves call args result) l fits =
+    ap (λ w. record (erased_lwp l) { regs = stored call result l.regs; pending = w; phase = in_program })
+    (sym (fits l.pending))
+moved-erased (sleeps call args since) l fits =
+    ap (λ w. record (erased_lwp l) { pending = w; phase = sleeping call args since }) (sym (fits l.pending))
 moved-erased (takes c true) l fits =
-    ap (λ w. record (erased_lwp l) { current = Some c; pending = w }) (fits (without_one c.signal l.pending) ∙ ap (without_one c.signal) (sym (fits l.pending)))
+    ap (λ w. record (erased_lwp l) { current = Some c; pending = w }) (fits (without_one c.signal l.pending)
+    ∙ ap (without_one c.signal) (sym (fits l.pending)))
 moved-erased (takes c false) l fits = refl
 moved-erased drops l fits = refl
 moved-erased (catches frames regs held) l fits =
-    ap (λ w. record (erased_lwp l) { frames = frames; regs = regs; held = held; current = None; pending = w; phase = in_program }) (sym (fits l.pending))
+    ap (λ w. record
+    (erased_lwp l) { frames = frames; regs = regs; held = held; current = None; pending = w; phase = in_program })
+    (sym (fits l.pending))

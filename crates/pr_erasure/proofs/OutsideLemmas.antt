@@ -33,19 +33,31 @@ follows-nothing s u = record { run = ends_here; untouched = u }
 
 -- ---- processes that are made from outside
 
-new_process-untouched : (program : Program) (clock : ℕ) (held : Bool) (pid : ℕ) → IsUntouchedProcess (pid, new_process traced program clock held)
+new_process-untouched : (program : Program) (clock : ℕ) (held : Bool) (pid : ℕ)
+    → IsUntouchedProcess (pid, new_process traced program clock held)
 unfolding new_process bare_process first_lwp new_lwp traced nothing_set no_marks has_flags common_word
-new_process-untouched program clock held pid = record { no_kill = refl; unwatched = refl; lwps = All-cons IsUntouchedLwp _ [] (record { no_step = refl; no_abort = refl; no_agent = refl }) (All-nil IsUntouchedLwp) }
+new_process-untouched program clock held pid = record {
+  no_kill = refl;
+  unwatched = refl;
+  lwps =
+      All-cons IsUntouchedLwp _ [] (record { no_step = refl; no_abort = refl; no_agent = refl })
+      (All-nil IsUntouchedLwp);
+}
 
-pub with_spawned-untouched : (program : Program) (held : Bool) (s : TracedSystem) → IsUntouched s → IsUntouched (with_spawned traced program held s)
+pub with_spawned-untouched : (program : Program) (held : Bool) (s : TracedSystem) → IsUntouched s
+    → IsUntouched (with_spawned traced program held s)
 unfolding with_spawned
-with_spawned-untouched program held s u = made-keeps (new_process traced program s.clock held) s (new_process-untouched program s.clock held) u
+with_spawned-untouched program held s u =
+    made-keeps (new_process traced program s.clock held) s (new_process-untouched program s.clock held) u
 
-refusal-erased : (s : TracedSystem) (program : Program) → spawn_refusal (erased_system s) program ≡ spawn_refusal s program
+refusal-erased : (s : TracedSystem) (program : Program)
+    → spawn_refusal (erased_system s) program ≡ spawn_refusal s program
 unfolding spawn_refusal
 refusal-erased s program = rw (room-erased s (mapped_size (first_space program)) 0, made-erased s) refl
 
-pub spawn-follows : (name : List ℕ) (program : Program) (held : Bool) (s : TracedSystem) → IsUntouched s → program_named s.programs name ≡ Some program → spawn_refusal s program ≡ None → StepsFollow s (Spawn name ∷ []) (with_spawned traced program held s)
+pub spawn-follows : (name : List ℕ) (program : Program) (held : Bool) (s : TracedSystem) → IsUntouched s
+    → program_named s.programs name ≡ Some program → spawn_refusal s program ≡ None
+    → StepsFollow s (Spawn name ∷ []) (with_spawned traced program held s)
 spawn-follows name program held s u named refusal = record {
   run = step_by (spawns (record {
     program = program;
@@ -62,21 +74,26 @@ pub refused_sent : (pid : ℕ) (e : Errno) (s : TracedSystem) → with_sent trac
 unfolding with_sent
 refused_sent pid e s = refl
 
-sent-erased : (pid : ℕ) (x : Sending) (s : TracedSystem) → erased_system (with_sent traced pid (killed_by 0) x s) ≡ with_sent untraced pid (killed_by 0) x (erased_system s)
+sent-erased : (pid : ℕ) (x : Sending) (s : TracedSystem)
+    → erased_system (with_sent traced pid (killed_by 0) x s) ≡ with_sent untraced pid (killed_by 0) x (erased_system s)
 unfolding with_sent
 sent-erased pid (refuses e) s = refl
 sent-erased pid sends_nothing s = refl
 sent-erased pid (sends g) s = generated-erased pid None g (killed_by 0) (record { no_fault = refl }) s
 
-sent-keeps : (pid : ℕ) (x : Sending) (s : TracedSystem) → IsUntouched s → IsUntouched (with_sent traced pid (killed_by 0) x s)
+sent-keeps : (pid : ℕ) (x : Sending) (s : TracedSystem) → IsUntouched s
+    → IsUntouched (with_sent traced pid (killed_by 0) x s)
 unfolding with_sent
 sent-keeps pid (refuses e) s u = u
 sent-keeps pid sends_nothing s u = u
 sent-keeps pid (sends g) s u = generated-keeps pid None g (killed_by 0) s u
 
-pub kill-follows : (pid number : ℕ) (x : Sending) (s : TracedSystem) → IsUntouched s → sending pid number (life_of s pid) ≡ x → IsGranted x → StepsFollow s (Kill pid number ∷ []) (with_sent traced pid (killed_by 0) x s)
+pub kill-follows : (pid number : ℕ) (x : Sending) (s : TracedSystem) → IsUntouched s
+    → sending pid number (life_of s pid) ≡ x → IsGranted x
+    → StepsFollow s (Kill pid number ∷ []) (with_sent traced pid (killed_by 0) x s)
 kill-follows pid number x s u is granted =
-    let same : sending pid number (life_of (erased_system s) pid) ≡ x = ap (sending pid number) (life-erased s pid) ∙ is in
+    let same : sending pid number (life_of (erased_system s) pid) ≡ x =
+    ap (sending pid number) (life-erased s pid) ∙ is in
     record {
       run = step_by (sends_signal (record {
         granted = subst IsGranted (sym same) granted;

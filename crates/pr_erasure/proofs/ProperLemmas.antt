@@ -47,9 +47,16 @@ module _ (s : TracedSystem) (pid : ℕ) (p : TracedProcess) (id : ℕ) (l : Trac
 
   proper-handled : (c : Current) (handler : ℕ) → AreProper (handled l c handler).changes
   unfolding handled
-  proper-handled c handler = elim (ltb (length l.frames) frame_limit) as (λ b. AreProper (cond b (moving (catches (with_frame l.regs l.held l.frames) (handler_registers c handler l.regs) (handler_held c l.held))) (ending (ends_process (signal_number Segv)))).changes) [ true ↦ tt | false ↦ tt ]
+  proper-handled c handler =
+      elim (ltb (length l.frames) frame_limit) as
+      (λ b. AreProper
+      (cond b (moving
+      (catches (with_frame l.regs l.held l.frames) (handler_registers c handler l.regs)
+      (handler_held c l.held)))
+      (ending (ends_process (signal_number Segv)))).changes) [ true ↦ tt | false ↦ tt ]
 
-  proper-performed : (woken : Bool) (call : Sysno) (args : List ℕ) (since : ℕ) (effect : Effect) → IsProperEffect effect → IsProperRow (performed_row woken call args since effect)
+  proper-performed : (woken : Bool) (call : Sysno) (args : List ℕ) (since : ℕ) (effect : Effect)
+      → IsProperEffect effect → IsProperRow (performed_row woken call args since effect)
   unfolding IsProperRow performed_row performed
   proper-performed woken call args since (change.does result changes) proper = proper
   proper-performed woken call args since change.sleeps proper = tt

@@ -38,13 +38,19 @@ or_right true b e other = clash true refl other
 or_right false b e other = e
 
 module _ (s : TracedSystem) (pid : ℕ) (p : TracedProcess) (id : ℕ) (l : TracedLwp) (h : HasTurn s pid p id l) where
-  current-runs : (o : Option Current) → l.current ≡ o → HasNoFault l.phase → (rest : Row) → (l.current ≡ None → RowRuns s pid p id l rest) → RowRuns s pid p id l (current_row_or s pid p id l o rest)
+  current-runs : (o : Option Current) → l.current ≡ o → HasNoFault l.phase → (rest : Row)
+      → (l.current ≡ None → RowRuns s pid p id l rest) → RowRuns s pid p id l (current_row_or s pid p id l o rest)
   current-runs (Some c) is no_fault rest runs = acted-runs s pid p id l h c is no_fault
   current-runs None is no_fault rest runs = runs is
 
-  taken-runs : (a b : Option Sig) → own_takeable l ≡ a → shared_takeable p l ≡ b → HasNoFault l.phase → takes_in (erased_phase l.phase) ≡ true → l.current ≡ None → (rest : Row) → (own_takeable l ≡ None → shared_takeable p l ≡ None → RowRuns s pid p id l rest) → RowRuns s pid p id l (taken_or s pid p id l a b rest)
-  taken-runs (Some g) b own shared no_fault place current rest runs = own_taken-runs s pid p id l h g no_fault place current own
-  taken-runs None (Some g) own shared no_fault place current rest runs = shared_taken-runs s pid p id l h g no_fault place current own shared
+  taken-runs : (a b : Option Sig) → own_takeable l ≡ a → shared_takeable p l ≡ b → HasNoFault l.phase
+      → takes_in (erased_phase l.phase) ≡ true → l.current ≡ None → (rest : Row)
+      → (own_takeable l ≡ None → shared_takeable p l ≡ None → RowRuns s pid p id l rest)
+      → RowRuns s pid p id l (taken_or s pid p id l a b rest)
+  taken-runs (Some g) b own shared no_fault place current rest runs =
+      own_taken-runs s pid p id l h g no_fault place current own
+  taken-runs None (Some g) own shared no_fault place current rest runs =
+      shared_taken-runs s pid p id l h g no_fault place current own shared
   taken-runs None None own shared no_fault place current rest runs = runs own shared
 
   -- an lwp that neither acts on a signal nor takes one has none to take
@@ -55,43 +61,68 @@ module _ (s : TracedSystem) (pid : ℕ) (p : TracedProcess) (id : ℕ) (l : Trac
       ∙ ap (λ o. is_some o) shared
 
   -- an lwp that is asleep, and goes on for no other reason, is ready
-  ready-asleep : (call : Sysno) (args : List ℕ) (since : ℕ) → may_wake s pid p id l since call args ≡ true → l.current ≡ None → own_takeable l ≡ None → shared_takeable p l ≡ None → is_ready s pid p id l since call args ≡ true
+  ready-asleep : (call : Sysno) (args : List ℕ) (since : ℕ) → may_wake s pid p id l since call args ≡ true
+      → l.current ≡ None → own_takeable l ≡ None → shared_takeable p l ≡ None
+      → is_ready s pid p id l since call args ≡ true
   unfolding may_wake
   ready-asleep call args since wakes current own shared =
-      or_right l.control.abort _ (or_right (has_takeable p l) _ (or_right (is_some l.current) _ (or_right l.control.directed _ wakes h.not_directed) (ap (λ o. is_some o) current)) (none_takeable own shared)) h.no_abort
+      or_right l.control.abort _
+      (or_right (has_takeable p l) _
+      (or_right (is_some l.current) _ (or_right l.control.directed _ wakes h.not_directed)
+      (ap (λ o. is_some o) current)) (none_takeable own shared)) h.no_abort
 
-  phase-runs : (phase : Phase) → l.phase ≡ phase → may_go_on s pid p id l phase ≡ true → RowRuns s pid p id l (posted_row_or s pid p id l phase (current_row_or s pid p id l l.current (signal_row_or s pid p id l phase (row_in s pid p id l phase))))
+  phase-runs : (phase : Phase) → l.phase ≡ phase → may_go_on s pid p id l phase ≡ true
+      → RowRuns s pid p id l
+      (posted_row_or s pid p id l phase
+      (current_row_or s pid p id l l.current (signal_row_or s pid p id l phase (row_in s pid p id l phase))))
   unfolding erased_pending erased_phase signal_row_or row_in call_row
   phase-runs User is goes =
       let no_fault : HasNoFault l.phase = subst HasNoFault (sym is) (λ w. refl) in
       current-runs l.current refl no_fault _ (λ current.
-      taken-runs (own_takeable l) (shared_takeable p l) refl refl no_fault (ap (λ ph. takes_in (erased_phase ph)) is) current _ (λ own shared.
+      taken-runs (own_takeable l) (shared_takeable p l) refl refl no_fault
+      (ap (λ ph. takes_in (erased_phase ph)) is) current _ (λ own shared.
       program-runs s pid p id l h is no_fault (unsignalled s pid p id l h no_fault current own shared)))
   phase-runs (Entered call) is goes =
       let no_fault : HasNoFault l.phase = subst HasNoFault (sym is) (λ w. refl) in
       let known = call-known s pid p id l s.clock call (arguments l.regs) in
       current-runs l.current refl no_fault _ (λ current.
-      subst (λ b. RowRuns s pid p id l (cond b (interrupted_row false call (arguments l.regs)) (performed_row false call (arguments l.regs) s.clock (call_effect s pid p id l s.clock call (arguments l.regs))))) (sym h.no_abort)
+      subst (λ b. RowRuns s pid p id l
+      (cond b (interrupted_row false call (arguments l.regs))
+      (performed_row false call (arguments l.regs) s.clock
+      (call_effect s pid p id l s.clock call (arguments l.regs))))) (sym h.no_abort)
       (call-runs s pid p id l h call _ refl known.proper is current no_fault))
   phase-runs (Asleep call args since) is goes =
       let no_fault : HasNoFault l.phase = subst HasNoFault (sym is) (λ w. refl) in
       let known = call-known s pid p id l since call args in
       current-runs l.current refl no_fault _ (λ current.
-      taken-runs (own_takeable l) (shared_takeable p l) refl refl no_fault (ap (λ ph. takes_in (erased_phase ph)) is) current _ (λ own shared.
-      subst (λ b. RowRuns s pid p id l (cond b (interrupted_row true call args) (performed_row true call args since (call_effect s pid p id l since call args)))) (sym h.no_abort)
-      (woken-runs s pid p id l h call args since _ refl known.proper (known.over (ready-asleep call args since goes current own shared)) is (unsignalled s pid p id l h no_fault current own shared) no_fault)))
+      taken-runs (own_takeable l) (shared_takeable p l) refl refl no_fault
+      (ap (λ ph. takes_in (erased_phase ph)) is) current _ (λ own shared.
+      subst (λ b. RowRuns s pid p id l
+      (cond b (interrupted_row true call args)
+      (performed_row true call args since (call_effect s pid p id l since call args)))) (sym h.no_abort)
+      (woken-runs s pid p id l h call args since _ refl known.proper
+      (known.over (ready-asleep call args since goes current own shared)) is
+      (unsignalled s pid p id l h no_fault current own shared) no_fault)))
   phase-runs (Exiting call args result) is goes =
       let no_fault : HasNoFault l.phase = subst HasNoFault (sym is) (λ w. refl) in
       current-runs l.current refl no_fault _ (λ current.
-      taken-runs (own_takeable l) (shared_takeable p l) refl refl no_fault (ap (λ ph. takes_in (erased_phase ph)) is) current _ (λ own shared.
+      taken-runs (own_takeable l) (shared_takeable p l) refl refl no_fault
+      (ap (λ ph. takes_in (erased_phase ph)) is) current _ (λ own shared.
       returned-runs s pid p id l h call args result is no_fault))
   phase-runs (Faulted f address) is goes = posted-runs s pid p id l h f address is
 
 -- whatever row is the first that fits
-pub row-runs : (s : TracedSystem) (pid : ℕ) (p : TracedProcess) (id : ℕ) (l : TracedLwp) → (l.control.directed ≡ false → HasTurn s pid p id l) → may_go_on s pid p id l l.phase ≡ true → RowRuns s pid p id l (row_for s pid p id l)
+pub row-runs : (s : TracedSystem) (pid : ℕ) (p : TracedProcess) (id : ℕ) (l : TracedLwp)
+    → (l.control.directed ≡ false → HasTurn s pid p id l) → may_go_on s pid p id l l.phase ≡ true
+    → RowRuns s pid p id l (row_for s pid p id l)
 unfolding row_for
 row-runs s pid p id l turn goes = by l.control.directed refl
   where
-    by : (b : Bool) → l.control.directed ≡ b → RowRuns s pid p id l (cond b requested_row (posted_row_or s pid p id l l.phase (current_row_or s pid p id l l.current (signal_row_or s pid p id l l.phase (row_in s pid p id l l.phase)))))
+    by : (b : Bool) → l.control.directed ≡ b
+        → RowRuns s pid p id l
+        (cond b requested_row
+        (posted_row_or s pid p id l l.phase
+        (current_row_or s pid p id l l.current
+        (signal_row_or s pid p id l l.phase (row_in s pid p id l l.phase)))))
     by true is = requested-runs s pid p id l
     by false is = phase-runs s pid p id l (turn is) l.phase refl goes

@@ -215,7 +215,7 @@ module _ (s : TracedSystem) (pid : ℕ) (p : TracedProcess) (tail : List ℕ) (l
   kill-made number aim None is = edit.nothing
   kill-made number aim (Some g) is =
       choice (Made (message.Kill number)) (has_room g (pending_at s pid p aim)) _ _
-          (λ room. edit.a_signal (target_of_aim s pid p aim) g is (aimed-room aim g room)) (λ full. edit.nothing)
+      (λ room. edit.a_signal (target_of_aim s pid p aim) g is (aimed-room aim g room)) (λ full. edit.nothing)
 
   unkill-made : (number : ℕ) (aim : Aim) (o : Option Sig) → signal_of_number number ≡ o
       → Made (message.Unkill number) (unkill_by s pid p aim len o)
@@ -260,7 +260,7 @@ module _ (s : TracedSystem) (pid : ℕ) (p : TracedProcess) (tail : List ℕ) (l
   write-made at size =
       choice (Made (message.Write at size)) (is_ok (bytes_for 0 p.space at (length tail))) _ _
       (λ mapped. one-process (message.Write at size) (with_space (with_bytes at tail p.space))
-          (process.is_written mapped)) (λ hole. edit.nothing)
+      (process.is_written mapped)) (λ hole. edit.nothing)
 
   by-one : (m : Message) (f : TracedLwp → TracedLwp) → ((l : TracedLwp) → LwpEdit m l (f l)) → Edits m f
   unfolding Edits

@@ -36,11 +36,17 @@ use Rattle.pr_lawful.proofs.SystemLemmas.{parents-on}
 module _ (s : TracedState) (h : IsLawful s) where
   -- ---- what comes from outside
 
-  spawn-room : (program : Program) → spawn_refusal s.system program ≡ None → (s.system.made < process_limit) × (total_has_room s.system (mapped_size (first_space program)) 0 ≡ true)
+  spawn-room : (program : Program) → spawn_refusal s.system program ≡ None
+      → (s.system.made < process_limit) × (total_has_room s.system (mapped_size (first_space program)) 0 ≡ true)
   unfolding spawn_refusal
-  spawn-room program grants = by (leb process_limit s.system.made) (total_has_room s.system (mapped_size (first_space program)) 0) refl refl grants
+  spawn-room program grants =
+      by (leb process_limit s.system.made)
+      (total_has_room s.system (mapped_size (first_space program)) 0) refl refl grants
     where
-      by : (a b : Bool) → leb process_limit s.system.made ≡ a → total_has_room s.system (mapped_size (first_space program)) 0 ≡ b → cond a (Some Again) (cond b None (Some Nomem)) ≡ None → (s.system.made < process_limit) × (total_has_room s.system (mapped_size (first_space program)) 0 ≡ true)
+      by : (a b : Bool) → leb process_limit s.system.made ≡ a
+          → total_has_room s.system (mapped_size (first_space program)) 0 ≡ b
+          → cond a (Some Again) (cond b None (Some Nomem)) ≡ None
+          → (s.system.made < process_limit) × (total_has_room s.system (mapped_size (first_space program)) 0 ≡ true)
       by true b full has wrong = absurd (none-some Again (sym wrong))
       by false true room has ok = (leb-false process_limit s.system.made room, has)
       by false false room big wrong = absurd (none-some Nomem (sym wrong))
@@ -51,10 +57,14 @@ module _ (s : TracedState) (h : IsLawful s) where
   spawned-state program held within is =
       let room = spawn-room program is in
       record {
-        system = spawned-lawful s.system program held within h.system room.0 (let limit = leb-true _ _ room.1 in omega arith);
+        system =
+            spawned-lawful s.system program held within h.system room.0
+            (let limit = leb-true _ _ room.1 in omega arith);
         places = h.places;
         fitting = h.fitting;
-        handles = handles-on s.opens s.system (with_spawned traced program held s.system) (spawned-grows s.system program held) h.handles;
+        handles =
+            handles-on s.opens s.system (with_spawned traced program held s.system)
+            (spawned-grows s.system program held) h.handles;
         exclusive = h.exclusive;
         released = spawned-released s.opens s.system program held h.released;
       }
@@ -78,7 +88,8 @@ module _ (s : TracedState) (h : IsLawful s) where
   edited-state by c t (edit.sends {pid = pid} {number = number} {g = g} is) = record {
     system =
         generated-lawful s.system pid None g (killed_by 0)
-        (sent-reaches s.system pid number g (killed_by 0) (record { code = omega arith; pid = omega arith }) is) h.system
+        (sent-reaches s.system pid number g (killed_by 0)
+        (record { code = omega arith; pid = omega arith }) is) h.system
         (sent-user pid number (life_of s.system pid) g is);
     places = h.places;
     fitting = h.fitting;
@@ -101,7 +112,9 @@ module _ (s : TracedState) (h : IsLawful s) where
       rising = h.system.rising;
       numbered = h.system.numbered;
       processes = h.system.processes;
-      parents = All-weaker (HasParent s.system) (HasParent (ticked s.system)) (parents-on s.system (ticked s.system) (λ pid live. live)) s.system.processes h.system.parents;
+      parents =
+          All-weaker (HasParent s.system) (HasParent (ticked s.system))
+          (parents-on s.system (ticked s.system) (λ pid live. live)) s.system.processes h.system.parents;
       first = h.system.first;
       made = h.system.made;
       programs = h.system.programs;

@@ -35,7 +35,8 @@ use Rattle.pr_lawful.proofs.SystemLemmas.{replaced, kept, joined, reaped, lives,
 
 -- ---- files and memory
 
-files-lawful : (s : TracedSystem) (pid : ℕ) (files : _) (fds : _) → pid ≢ 0 → IsLawfulSystem s → SuitsFiles s pid files fds → IsLawfulSystem (with_process pid (with_fds fds) (record s { files = files }))
+files-lawful : (s : TracedSystem) (pid : ℕ) (files : _) (fds : _) → pid ≢ 0 → IsLawfulSystem s
+    → SuitsFiles s pid files fds → IsLawfulSystem (with_process pid (with_fds fds) (record s { files = files }))
 unfolding with_fds size_of
 files-lawful s pid files fds user h suits =
     let x = suits.process in
@@ -62,7 +63,8 @@ files-lawful s pid files fds user h suits =
       users = suits.counted.each;
     })
 
-space-lawful : (s : TracedSystem) (pid : ℕ) (space : _) → pid ≢ 0 → IsLawfulSystem s → SuitsSpace s pid space → IsLawfulSystem (with_process pid (with_space space) s)
+space-lawful : (s : TracedSystem) (pid : ℕ) (space : _) → pid ≢ 0 → IsLawfulSystem s → SuitsSpace s pid space
+    → IsLawfulSystem (with_process pid (with_space space) s)
 unfolding with_space size_of
 space-lawful s pid space user h suits =
     replaced s s.files pid (with_space space) suits.process h user suits.found (record {
@@ -92,11 +94,15 @@ space-lawful s pid space user h suits =
 
 pub shared_taken-keeps : (g : Sig) → Keeps (with_shared_taken g)
 unfolding with_shared_taken
-shared_taken-keeps g pid x = kept-parts pid x (with_shared_taken g x) refl (same_rest x _ refl refl refl refl (taken-infos g x.pending)) (same_lwps x _ refl refl) refl refl
+shared_taken-keeps g pid x =
+    kept-parts pid x (with_shared_taken g x) refl (same_rest x _ refl refl refl refl (taken-infos g x.pending))
+    (same_lwps x _ refl refl) refl refl
 
 job_stop-keeps : (g : Sig) → Keeps (with_job_stop g)
 unfolding with_job_stop
-job_stop-keeps g pid x = kept-parts pid x (with_job_stop g x) refl (same_rest x _ refl refl refl refl (λ it. it)) (same_lwps x _ refl refl) refl refl
+job_stop-keeps g pid x =
+    kept-parts pid x (with_job_stop g x) refl (same_rest x _ refl refl refl refl (λ it. it))
+    (same_lwps x _ refl refl) refl refl
 
 -- a signal that can be caught is neither SIGKILL nor SIGSTOP
 other-kill : (g : Sig) → can_be_caught g ≡ true → eqb 8 (signal_number g - 1) ≡ false
@@ -116,7 +122,11 @@ unfolding with_disposition_of disposition_of signal_number
 disposition-keeps g d catchable pid x = record {
   lawful = λ it. record {
     has_lwps = record { some = it.has_lwps.some };
-    empty_zombie = record { no_lwps = it.empty_zombie.no_lwps; no_memory = it.empty_zombie.no_memory; no_files = it.empty_zombie.no_files };
+    empty_zombie = record {
+      no_lwps = it.empty_zombie.no_lwps;
+      no_memory = it.empty_zombie.no_memory;
+      no_files = it.empty_zombie.no_files;
+    };
     rising = it.rising;
     lwps = it.lwps;
     next_lwp = it.next_lwp;
@@ -124,8 +134,12 @@ disposition-keeps g d catchable pid x = record {
     descriptors = it.descriptors;
     traced = it.traced;
     uncaught = record {
-      kill = get_or-set_other x.dispositions (signal_number g - 1) 8 d 0 (eqb-false 8 (signal_number g - 1) (other-kill g catchable)) ∙ it.uncaught.kill;
-      stop = get_or-set_other x.dispositions (signal_number g - 1) 22 d 0 (eqb-false 22 (signal_number g - 1) (other-stop g catchable)) ∙ it.uncaught.stop;
+      kill =
+          get_or-set_other x.dispositions (signal_number g - 1) 8 d 0
+          (eqb-false 8 (signal_number g - 1) (other-kill g catchable)) ∙ it.uncaught.kill;
+      stop =
+          get_or-set_other x.dispositions (signal_number g - 1) 22 d 0
+          (eqb-false 22 (signal_number g - 1) (other-stop g catchable)) ∙ it.uncaught.stop;
     };
     pending = it.pending;
     heap_place = it.heap_place;
@@ -141,24 +155,55 @@ disposition-keeps g d catchable pid x = record {
 
 pub held-keeps : (held : ℕ) → IsHoldable held → KeepsLwp (with_held held)
 unfolding with_held
-held-keeps held holdable next id l it = record { id = it.id; held = holdable; frames = it.frames; few_frames = it.few_frames; pending = it.pending; current = it.current }
+held-keeps held holdable next id l it = record {
+  id = it.id;
+  held = holdable;
+  frames = it.frames;
+  few_frames = it.few_frames;
+  pending = it.pending;
+  current = it.current;
+}
 
 resumed-keeps : (frame : Frame) (frames : List Frame) → SuitsFrames frame.held frames → KeepsLwp (resumed frame frames)
 unfolding resumed
-resumed-keeps frame frames suits next id l it = record { id = it.id; held = suits.holdable; frames = suits.backs; few_frames = suits.few; pending = it.pending; current = it.current }
+resumed-keeps frame frames suits next id l it = record {
+  id = it.id;
+  held = suits.holdable;
+  frames = suits.backs;
+  few_frames = suits.few;
+  pending = it.pending;
+  current = it.current;
+}
 
 suspended-keeps : (suspended : Bool) → KeepsLwp (with_suspended suspended)
 unfolding with_suspended
 suspended-keeps suspended = same_sets (with_suspended suspended) (λ l. refl) (λ l. refl) (λ l. refl) (λ l. refl)
 
-new_lwp-lawful : (regs : List ℕ) (held next id : ℕ) (marks : Bool) → IsHoldable held → id < next → IsLawfulLwp next (id, new_lwp traced regs held (no_marks marks))
+new_lwp-lawful : (regs : List ℕ) (held next id : ℕ) (marks : Bool) → IsHoldable held → id < next
+    → IsLawfulLwp next (id, new_lwp traced regs held (no_marks marks))
 unfolding new_lwp
-new_lwp-lawful regs held next id marks holdable low = record { id = inl low; held = holdable; frames = All-nil IsLawfulFrame; few_frames = omega arith; pending = no-infos; current = tt }
+new_lwp-lawful regs held next id marks holdable low = record {
+  id = inl low;
+  held = holdable;
+  frames = All-nil IsLawfulFrame;
+  few_frames = omega arith;
+  pending = no-infos;
+  current = tt;
+}
 
 more-ids : (next : ℕ) (e : ℕ × TracedLwp) → IsLawfulLwp next e → IsLawfulLwp (next + 1) e
-more-ids next e it = record { id = elim it.id [ inl low ↦ inl (omega arith) | inr agent ↦ inr agent ]; held = it.held; frames = it.frames; few_frames = it.few_frames; pending = it.pending; current = it.current }
+more-ids next e it = record {
+  id = elim it.id [ inl low ↦ inl (omega arith) | inr agent ↦ inr agent ];
+  held = it.held;
+  frames = it.frames;
+  few_frames = it.few_frames;
+  pending = it.pending;
+  current = it.current;
+}
 
-one_more-kept : (pid new held : ℕ) (regs : List ℕ) (x : TracedProcess) → x.ended ≡ None → new ≡ x.next_lwp → x.next_lwp ≤ last_lwp → length x.lwps < lwp_limit → IsHoldable held → StaysLawful pid x (with_new_lwp traced new regs held x)
+one_more-kept : (pid new held : ℕ) (regs : List ℕ) (x : TracedProcess) → x.ended ≡ None → new ≡ x.next_lwp
+    → x.next_lwp ≤ last_lwp → length x.lwps < lwp_limit → IsHoldable held
+    → StaysLawful pid x (with_new_lwp traced new regs held x)
 unfolding with_new_lwp traced
 one_more-kept pid new held regs x live next last few holdable = by (is_some (lwp_of x new)) refl
   where
@@ -173,10 +218,15 @@ one_more-kept pid new held regs x live next last few holdable = by (is_some (lwp
           record {
             has_lwps = record { some = λ user is. omega arith };
             empty_zombie = live-empty made live;
-            rising = rises_from-inserted 0 new (new_lwp traced regs held (no_marks false)) x.lwps (omega arith) it.rising free;
+            rising =
+                rises_from-inserted 0 new (new_lwp traced regs held (no_marks false)) x.lwps
+                (omega arith) it.rising free;
             lwps =
-                All-inserted (IsLawfulLwp (new + 1)) new (new_lwp traced regs held (no_marks false)) x.lwps (new_lwp-lawful regs held (new + 1) new false holdable (omega arith))
-                (rw next (All-weaker (IsLawfulLwp x.next_lwp) (IsLawfulLwp (x.next_lwp + 1)) (more-ids x.next_lwp) x.lwps it.lwps));
+                All-inserted (IsLawfulLwp (new + 1)) new (new_lwp traced regs held (no_marks false)) x.lwps
+                (new_lwp-lawful regs held (new + 1) new false holdable (omega arith))
+                (rw next
+                (All-weaker (IsLawfulLwp x.next_lwp) (IsLawfulLwp (x.next_lwp + 1))
+                (more-ids x.next_lwp) x.lwps it.lwps));
             next_lwp = omega arith;
             few_lwps = omega arith;
             descriptors = it.descriptors;
@@ -192,11 +242,13 @@ one_more-kept pid new held regs x live next last few holdable = by (is_some (lwp
       fds = refl;
     }
 
-new-lawful : (s : TracedSystem) (pid new held : ℕ) (regs : List ℕ) → pid ≢ 0 → IsLawfulSystem s → SuitsLwp s pid new held → IsLawfulSystem (with_process pid (with_new_lwp traced new regs held) s)
+new-lawful : (s : TracedSystem) (pid new held : ℕ) (regs : List ℕ) → pid ≢ 0 → IsLawfulSystem s
+    → SuitsLwp s pid new held → IsLawfulSystem (with_process pid (with_new_lwp traced new regs held) s)
 new-lawful s pid new held regs user h suits =
     kept s pid (with_new_lwp traced new regs held) user (λ x is.
     let same = same_Some suits.process x (sym suits.found ∙ is) in
-    subst (λ y. StaysLawful pid y (with_new_lwp traced new regs held y)) same (one_more-kept pid new held regs suits.process suits.live suits.next suits.last suits.few suits.holdable)) h
+    subst (λ y. StaysLawful pid y (with_new_lwp traced new regs held y)) same
+    (one_more-kept pid new held regs suits.process suits.live suits.next suits.last suits.few suits.holdable)) h
 
 -- ---- processes
 
@@ -209,7 +261,8 @@ uncaught-all : (ds : List ℕ) → AreUncaught ds → AreUncaught (map uncaught 
 unfolding disposition_of
 uncaught-all ds it = record { kill = uncaught-at ds _ it.kill; stop = uncaught-at ds _ it.stop }
 
-program-lawful : (s : TracedSystem) (pid id : ℕ) (l : TracedLwp) (program : _) → pid ≢ 0 → IsLawfulSystem s → SuitsProgram s pid id l program → IsLawfulSystem (with_process pid (with_program traced id l program) s)
+program-lawful : (s : TracedSystem) (pid id : ℕ) (l : TracedLwp) (program : _) → pid ≢ 0 → IsLawfulSystem s
+    → SuitsProgram s pid id l program → IsLawfulSystem (with_process pid (with_program traced id l program) s)
 unfolding with_program started traced exec_control size_of
 program-lawful s pid id l program user h suits =
     let own = All-under IsLawfulProcess pid suits.process s.processes h.processes suits.found in
@@ -219,7 +272,9 @@ program-lawful s pid id l program user h suits =
         has_lwps = record { some = λ other is. omega arith };
         empty_zombie = live-empty (with_program traced id l program suits.process) suits.live;
         rising = rw (le-leb 0 id (omega arith)) refl;
-        lwps = All-cons (IsLawfulLwp suits.process.next_lwp) (id, started traced l) [] (record { id = lwp.id; held = lwp.held; frames = All-nil IsLawfulFrame; few_frames = omega arith; pending = lwp.pending; current = lwp.current }) (All-nil (IsLawfulLwp suits.process.next_lwp));
+        lwps =
+            All-cons (IsLawfulLwp suits.process.next_lwp) (id, started traced l) []
+            (record { id = lwp.id; held = lwp.held; frames = All-nil IsLawfulFrame; few_frames = omega arith; pending = lwp.pending; current = lwp.current }) (All-nil (IsLawfulLwp suits.process.next_lwp));
         next_lwp = it.next_lwp;
         few_lwps = omega arith;
         descriptors = it.descriptors;
@@ -237,15 +292,20 @@ program-lawful s pid id l program user h suits =
       users = λ place. refl;
     })
 
-child_control-traced : (c : TracedControl) → has_number c.traced_signals (signal_number Kill) ≡ false → has_number (child_control c).traced_signals (signal_number Kill) ≡ false
+child_control-traced : (c : TracedControl) → has_number c.traced_signals (signal_number Kill) ≡ false
+    → has_number (child_control c).traced_signals (signal_number Kill) ≡ false
 unfolding child_control nothing_set
 child_control-traced c is = by (has_flags c.modes fork_mode)
   where
-    by : (b : Bool) → has_number (cond b (record c { modes = fork_mode; areas = []; usage = nothing_used }) nothing_set).traced_signals (signal_number Kill) ≡ false
+    by : (b : Bool)
+        → has_number
+        (cond b (record c { modes = fork_mode; areas = []; usage = nothing_used }) nothing_set).traced_signals
+        (signal_number Kill) ≡ false
     by true = is
     by false = has_number-zero (signal_number Kill)
 
-child-lawful : (birth : Birth) (s : TracedSystem) (pid : ℕ) (p : TracedProcess) (l : TracedLwp) (args : List ℕ) → IsLawfulSystem s → SuitsChild s pid p l → IsLawfulSystem (with_child traced birth pid p l args s)
+child-lawful : (birth : Birth) (s : TracedSystem) (pid : ℕ) (p : TracedProcess) (l : TracedLwp) (args : List ℕ)
+    → IsLawfulSystem s → SuitsChild s pid p l → IsLawfulSystem (with_child traced birth pid p l args s)
 unfolding with_child forked forked_lwp traced size_of
 child-lawful birth s pid p l args h suits =
     let own = All-under IsLawfulProcess pid p s.processes h.processes suits.found in
@@ -254,7 +314,20 @@ child-lawful birth s pid p l args h suits =
         has_lwps = record { some = λ user is. omega arith };
         empty_zombie = live-empty (forked traced birth pid p l args s.clock) refl;
         rising = refl;
-        lwps = All-cons (IsLawfulLwp 2) (1, forked_lwp traced birth args p.control l) [] (record { id = inl (omega arith); held = suits.held; frames = suits.frames; few_frames = suits.few_frames; pending = no-infos; current = tt }) (All-nil (IsLawfulLwp 2));
+        lwps =
+            All-cons (IsLawfulLwp 2) (1, forked_lwp traced birth args p.control l) []
+            (record {
+              id = inl
+                  (omega arith);
+              held =
+                  suits.held;
+              frames =
+                  suits.frames;
+              few_frames =
+                  suits.few_frames;
+              pending = no-infos;
+              current = tt;
+            }) (All-nil (IsLawfulLwp 2));
         next_lwp = omega arith;
         few_lwps = omega arith;
         descriptors = own.descriptors;
@@ -264,7 +337,11 @@ child-lawful birth s pid p l args h suits =
         heap_place = own.heap_place;
         small_space = own.small_space;
       };
-      parent = record { parent = inr (lives-live s pid ∙ ap lives suits.found ∙ ap (λ (o : Option ℕ). is_none o) suits.live) };
+      parent =
+          record {
+            parent = inr (lives-live s pid ∙ ap lives suits.found
+                ∙ ap (λ (o : Option ℕ). is_none o) suits.live);
+          };
       room = suits.room;
       mapped = suits.mapped;
       table = IsFileTable-all_shared s.files p.fds h.files.table;
@@ -279,24 +356,39 @@ module _ (pid : ℕ) (p : TracedProcess) (id : ℕ) (l : TracedLwp) (user : pid 
   unless true s t one other = one
   unless false s t one other = other
 
-  pub changed-lawful : (c : Change) (s : TracedSystem) → IsLawfulSystem s → SuitsChange pid p id l s c → IsLawfulSystem (changed traced pid p id l c s)
+  pub changed-lawful : (c : Change) (s : TracedSystem) → IsLawfulSystem s → SuitsChange pid p id l s c
+      → IsLawfulSystem (changed traced pid p id l c s)
   unfolding changed
   changed-lawful (files_are files fds) s h suits = files-lawful s pid files fds user h suits
   changed-lawful (space_is space) s h suits = space-lawful s pid space user h suits
-  changed-lawful (signals target g info) s h suits = unless (is_kill g && eqb target pid) s _ h (generated-lawful s target None g info suits.1 h suits.0)
-  changed-lawful (signals_itself g info) s h suits = unless (is_kill g) s _ h (generated-lawful s pid (Some id) g info suits h user)
-  changed-lawful (takes_shared g) s h suits = kept s pid (with_shared_taken g) user (λ x is. shared_taken-keeps g pid x) h
+  changed-lawful (signals target g info) s h suits =
+      unless (is_kill g && eqb target pid) s _ h (generated-lawful s target None g info suits.1 h suits.0)
+  changed-lawful (signals_itself g info) s h suits =
+      unless (is_kill g) s _ h (generated-lawful s pid (Some id) g info suits h user)
+  changed-lawful (takes_shared g) s h suits =
+      kept s pid (with_shared_taken g) user (λ x is. shared_taken-keeps g pid x) h
   changed-lawful (job_stops g) s h suits = kept s pid (with_job_stop g) user (λ x is. job_stop-keeps g pid x) h
-  changed-lawful (disposition_is g d) s h suits = kept s pid (with_disposition_of g d) user (λ x is. disposition-keeps g d suits pid x) h
-  changed-lawful (held_is held) s h suits = kept s pid (with_lwp id (with_held held)) user (λ x is. keeps-lwp id (with_held held) (held-keeps held suits) pid x) h
-  changed-lawful (resumes frame frames) s h suits = kept s pid (with_lwp id (resumed frame frames)) user (λ x is. keeps-lwp id (resumed frame frames) (resumed-keeps frame frames suits) pid x) h
-  changed-lawful (forks birth args) s h suits = unless (eqb s.made pid) s _ h (child-lawful birth s pid p l args h suits)
-  changed-lawful (reaps child) s h suits = unless (eqb child pid) s _ h (reaped s child suits.status suits.zombie h suits.found suits.over)
+  changed-lawful (disposition_is g d) s h suits =
+      kept s pid (with_disposition_of g d) user (λ x is. disposition-keeps g d suits pid x) h
+  changed-lawful (held_is held) s h suits =
+      kept s pid (with_lwp id (with_held held)) user
+      (λ x is. keeps-lwp id (with_held held) (held-keeps held suits) pid x) h
+  changed-lawful (resumes frame frames) s h suits =
+      kept s pid (with_lwp id (resumed frame frames)) user
+      (λ x is. keeps-lwp id (resumed frame frames) (resumed-keeps frame frames suits) pid x) h
+  changed-lawful (forks birth args) s h suits =
+      unless (eqb s.made pid) s _ h (child-lawful birth s pid p l args h suits)
+  changed-lawful (reaps child) s h suits =
+      unless (eqb child pid) s _ h (reaped s child suits.status suits.zombie h suits.found suits.over)
   changed-lawful (becomes program) s h suits = program-lawful s pid id l program user h suits
   changed-lawful (makes_lwp new regs held) s h suits = new-lawful s pid new held regs user h suits
-  changed-lawful (suspends other suspended) s h suits = kept s pid (with_lwp other (with_suspended suspended)) user (λ x is. keeps-lwp other (with_suspended suspended) (suspended-keeps suspended) pid x) h
+  changed-lawful (suspends other suspended) s h suits =
+      kept s pid (with_lwp other (with_suspended suspended)) user
+      (λ x is. keeps-lwp other (with_suspended suspended) (suspended-keeps suspended) pid x) h
 
-  pub all_changed-lawful : (cs : List Change) (s : TracedSystem) → IsLawfulSystem s → SuitChanges pid p id l s cs → IsLawfulSystem (all_changed traced pid p id l cs s)
+  pub all_changed-lawful : (cs : List Change) (s : TracedSystem) → IsLawfulSystem s → SuitChanges pid p id l s cs
+      → IsLawfulSystem (all_changed traced pid p id l cs s)
   unfolding all_changed
   all_changed-lawful [] s h suits = h
-  all_changed-lawful (c ∷ cs) s h suits = all_changed-lawful cs (changed traced pid p id l c s) (changed-lawful c s h suits.0) suits.1
+  all_changed-lawful (c ∷ cs) s h suits =
+      all_changed-lawful cs (changed traced pid p id l c s) (changed-lawful c s h suits.0) suits.1

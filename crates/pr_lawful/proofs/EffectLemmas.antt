@@ -91,28 +91,42 @@ zombie_status (first_zombie child status) = status
 all_live-none : (child status : ℕ) → all_live ≡ first_zombie child status → ⊥
 all_live-none child status e = cc
 
-children-zombie : (pid low : ℕ) (es : List (ℕ × TracedProcess)) (child status : ℕ) → rises_from low es ≡ true → children_among pid es ≡ first_zombie child status → HasZombie es child status
+children-zombie : (pid low : ℕ) (es : List (ℕ × TracedProcess)) (child status : ℕ) → rises_from low es ≡ true
+    → children_among pid es ≡ first_zombie child status → HasZombie es child status
 unfolding zombie_id zombie_status
 children-zombie pid low [] child status rises is = absurd (nobody is)
   where
     nobody : no_child ≡ first_zombie child status → ⊥
     nobody e = cc
 children-zombie pid low (e ∷ es) child status rises is =
-    elim (eqb e.1.parent pid) as (λ b. cond b (child_before e.0 e.1.ended (children_among pid es)) (children_among pid es) ≡ first_zombie child status → HasZombie (e ∷ es) child status)
-    [ true ↦ λ here. own e.1.ended (children_among pid es) refl refl (λ there. later (children-zombie pid (e.0 + 1) es child status tail there)) here | false ↦ λ there. later (children-zombie pid (e.0 + 1) es child status tail there) ] is
+    elim (eqb e.1.parent pid) as
+    (λ b. cond b (child_before e.0 e.1.ended (children_among pid es))
+    (children_among pid es) ≡ first_zombie child status → HasZombie (e ∷ es) child status) [
+      | true ↦ λ here. own e.1.ended (children_among pid es) refl refl
+          (λ there. later (children-zombie pid (e.0 + 1) es child status tail there)) here
+      | false ↦ λ there. later
+          (children-zombie pid (e.0 + 1) es child status tail there)
+    ] is
   where
     tail : rises_from (e.0 + 1) es ≡ true
     tail = rises_from-tail low e es rises
 
     later : HasZombie es child status → HasZombie (e ∷ es) child status
     later rest =
-        let apart : e.0 ≢ child = λ same. none-some rest.zombie (sym (under-below (e.0 + 1) child es tail (omega arith)) ∙ rest.found) in
+        let apart : e.0 ≢ child =
+        λ same. none-some rest.zombie (sym (under-below (e.0 + 1) child es tail (omega arith)) ∙ rest.found) in
         record { zombie = rest.zombie; found = rw (ne_eqb e.0 child apart) rest.found; over = rest.over }
 
-    own : (ended : Option ℕ) (others : Children) → e.1.ended ≡ ended → children_among pid es ≡ others → (children_among pid es ≡ first_zombie child status → HasZombie (e ∷ es) child status) → child_before e.0 ended others ≡ first_zombie child status → HasZombie (e ∷ es) child status
+    own : (ended : Option ℕ) (others : Children) → e.1.ended ≡ ended → children_among pid es ≡ others
+        → (children_among pid es ≡ first_zombie child status → HasZombie (e ∷ es) child status)
+        → child_before e.0 ended others ≡ first_zombie child status → HasZombie (e ∷ es) child status
     own (Some own_status) others over rest go found =
         let same : e.0 ≡ child = ap zombie_id found in
-        record { zombie = e.1; found = rw (eq-eqb e.0 child same) refl; over = over ∙ ap (λ n. Some n) (ap zombie_status found) }
+        record {
+          zombie = e.1;
+          found = rw (eq-eqb e.0 child same) refl;
+          over = over ∙ ap (λ n. Some n) (ap zombie_status found);
+        }
     own None no_child over rest go found = absurd (all_live-none child status found)
     own None all_live over rest go found = absurd (all_live-none child status found)
     own None (first_zombie other other_status) over rest go found = go (rest ∙ found)
@@ -136,7 +150,9 @@ smaller f p (m ∷ ms) =
     let whole = sum_by-cons f m ms in
     let part = sum_by-cons f m (without_first p ms) in
     let rest = smaller f p ms in
-    elim (p m) as (λ b. sum_by f (cond b ms (m ∷ without_first p ms)) ≤ sum_by f (m ∷ ms)) [ true ↦ omega arith | false ↦ omega arith ]
+    elim (p m) as
+    (λ b. sum_by f (cond b ms (m ∷ without_first p ms)) ≤ sum_by f
+    (m ∷ ms)) [ true ↦ omega arith | false ↦ omega arith ]
 
 -- ---- effects
 
@@ -171,25 +187,48 @@ module _ (s : TracedSystem) (pid : ℕ) (p : TracedProcess) (id : ℕ) (l : Trac
   -- ---- memory
 
   -- a space that is no larger; one for which there is room
-  no_larger : (space : Space) → mapped_size space ≤ mapped_size p.space → All LeavesHeapPlace space → SuitsSpace s pid space
+  no_larger : (space : Space) → mapped_size space ≤ mapped_size p.space → All LeavesHeapPlace space
+      → SuitsSpace s pid space
   unfolding size_of
-  no_larger space small leaves = record { process = p; found = a.found; live = a.live; mapped = let limit = a.lawful.mapped in omega arith; heap_place = leaves; small = let few = own-process.small_space in omega arith }
+  no_larger space small leaves = record {
+    process = p;
+    found = a.found;
+    live = a.live;
+    mapped = let limit = a.lawful.mapped in omega arith;
+    heap_place = leaves;
+    small = let few = own-process.small_space in omega arith;
+  }
 
-  with_room : (space : Space) → mapped_size space ≤ mapping_limit → total_has_room s (mapped_size space) (size_of p) ≡ true → All LeavesHeapPlace space → SuitsSpace s pid space
+  with_room : (space : Space) → mapped_size space ≤ mapping_limit
+      → total_has_room s (mapped_size space) (size_of p) ≡ true → All LeavesHeapPlace space → SuitsSpace s pid space
   unfolding total_has_room
-  with_room space small room leaves = record { process = p; found = a.found; live = a.live; mapped = leb-true _ _ room; heap_place = leaves; small = small }
+  with_room space small room leaves = record {
+    process = p;
+    found = a.found;
+    live = a.live;
+    mapped = leb-true _ _ room;
+    heap_place = leaves;
+    small = small;
+  }
 
   pub stored-suits : (at : ℕ) (bytes : List ℕ) → SuitsSpace s pid (with_bytes at bytes p.space)
-  stored-suits at bytes = no_larger (with_bytes at bytes p.space) (let same = mapped_size-with_bytes at bytes p.space in omega arith) (LeavesHeapPlace-with_bytes at bytes p.space own-process.heap_place)
+  stored-suits at bytes =
+      no_larger (with_bytes at bytes p.space) (let same = mapped_size-with_bytes at bytes p.space in omega arith)
+      (LeavesHeapPlace-with_bytes at bytes p.space own-process.heap_place)
 
   -- bytes that are stored after another change
-  stored-after : (t : TracedSystem) (x : TracedProcess) (at : ℕ) (bytes : List ℕ) → IsLawfulSystem t → process_of t pid ≡ Some x → x.ended ≡ None → x.space ≡ p.space → SuitsSpace t pid (with_bytes at bytes p.space)
+  stored-after : (t : TracedSystem) (x : TracedProcess) (at : ℕ) (bytes : List ℕ) → IsLawfulSystem t
+      → process_of t pid ≡ Some x → x.ended ≡ None → x.space ≡ p.space → SuitsSpace t pid (with_bytes at bytes p.space)
   unfolding size_of
   stored-after t x at bytes lawful found alive space = record {
     process = x;
     found = found;
     live = alive;
-    mapped = let limit = lawful.mapped in let same = mapped_size-with_bytes at bytes p.space in let as_before = ap mapped_size space in omega arith;
+    mapped =
+        let limit = lawful.mapped in
+        let same = mapped_size-with_bytes at bytes p.space in
+        let as_before = ap mapped_size space in
+        omega arith;
     heap_place = LeavesHeapPlace-with_bytes at bytes p.space own-process.heap_place;
     small = let few = own-process.small_space in let same = mapped_size-with_bytes at bytes p.space in omega arith;
   }
@@ -201,37 +240,56 @@ module _ (s : TracedSystem) (pid : ℕ) (p : TracedProcess) (id : ℕ) (l : Trac
   big-suits : (value : ℕ) (space : Space) → All LeavesHeapPlace space → Suits (unless_too_big s p value space)
   big-suits value space leaves =
       choice Suits (leb (mapped_size space) mapping_limit && total_has_room s (mapped_size space) (size_of p)) _ _
-      (λ fits. let within = and_parts _ _ fits in one-space value space (with_room space (leb-true (mapped_size space) mapping_limit within.0) within.1 leaves)) (λ big. fails-suits _)
+      (λ fits. let within = and_parts _ _ fits in one-space value space
+      (with_room space (leb-true (mapped_size space) mapping_limit within.0) within.1 leaves))
+      (λ big. fails-suits _)
 
   brk-suits : (end : ℕ) → Suits (brk_effect s p end)
   unfolding brk_effect
-  brk-suits end = choice Suits (ltb end heap_base || ltb break_limit end) _ _ (λ out. fails-suits _) (λ within. big-suits 0 (with_break end p.space) (LeavesHeapPlace-with_heap (rounded (end - heap_base)) p.space own-process.heap_place))
+  brk-suits end =
+      choice Suits (ltb end heap_base || ltb break_limit end) _ _ (λ out. fails-suits _)
+      (λ within. big-suits 0 (with_break end p.space)
+      (LeavesHeapPlace-with_heap (rounded (end - heap_base)) p.space own-process.heap_place))
 
   mmap-suits : (len prot : ℕ) → Suits (mmap_effect s p len prot)
   unfolding mmap_effect
   mmap-suits len prot = by (gap_in (rounded len) p.space) refl
     where
       by : (o : Option ℕ) → gap_in (rounded len) p.space ≡ o → Suits (mmap_effect s p len prot)
-      by None is = rw is (choice Suits (eqb len 0 || (ltb mapping_limit len || ltb prot_limit prot)) _ _ (λ wrong. fails-suits Inval) (λ right. fails-suits Nomem))
-      by (Some at) is = rw is (choice Suits (eqb len 0 || (ltb mapping_limit len || ltb prot_limit prot)) _ _ (λ wrong. fails-suits _) (λ right. big-suits at (with_mapping (zeros_at at (rounded len) prot Mapped) p.space) (LeavesHeapPlace-with_mapping at (rounded len) prot Mapped p.space (gap-outside (rounded len) p.space at is) own-process.heap_place)))
+      by None is =
+          rw is (choice Suits (eqb len 0 || (ltb mapping_limit len || ltb prot_limit prot)) _ _
+          (λ wrong. fails-suits Inval) (λ right. fails-suits Nomem))
+      by (Some at) is =
+          rw is (choice Suits (eqb len 0 || (ltb mapping_limit len || ltb prot_limit prot)) _ _
+          (λ wrong. fails-suits _)
+          (λ right. big-suits at (with_mapping (zeros_at at (rounded len) prot Mapped) p.space)
+          (LeavesHeapPlace-with_mapping at (rounded len) prot Mapped p.space
+          (gap-outside (rounded len) p.space at is) own-process.heap_place)))
 
   munmap-suits : (at len : ℕ) → Suits (munmap_effect s p at len)
   unfolding munmap_effect without_range
   munmap-suits at len =
       choice Suits (list_any (is_mapped_range at (rounded len)) p.space) _ _
-      (λ one. one-space 0 (without_range at (rounded len) p.space) (no_larger (without_range at (rounded len) p.space) (smaller (λ m. length m.bytes) (is_range at (rounded len)) p.space) (All-without_first LeavesHeapPlace (is_range at (rounded len)) p.space own-process.heap_place)))
+      (λ one. one-space 0 (without_range at (rounded len) p.space)
+      (no_larger (without_range at (rounded len) p.space)
+      (smaller (λ m. length m.bytes) (is_range at (rounded len)) p.space)
+      (All-without_first LeavesHeapPlace (is_range at (rounded len)) p.space own-process.heap_place)))
       (λ none. fails-suits _)
 
   mprotect-suits : (at len prot : ℕ) → Suits (mprotect_effect s p at len prot)
   unfolding mprotect_effect
   mprotect-suits at len prot =
       choice Suits (has_range at (rounded len) p.space && leb prot prot_limit) _ _
-      (λ one. one-space 0 (with_protected at (rounded len) prot p.space) (no_larger (with_protected at (rounded len) prot p.space) (let same = mapped_size-with_protected at (rounded len) prot p.space in omega arith) (LeavesHeapPlace-with_protected at (rounded len) prot p.space own-process.heap_place)))
+      (λ one. one-space 0 (with_protected at (rounded len) prot p.space)
+      (no_larger (with_protected at (rounded len) prot p.space)
+      (let same = mapped_size-with_protected at (rounded len) prot p.space in omega arith)
+      (LeavesHeapPlace-with_protected at (rounded len) prot p.space own-process.heap_place)))
       (λ none. fails-suits _)
 
   -- ---- files
 
-  files-suit : (files : FileTable) (fds : Descriptors) → IsFileTable files → PipesHaveEnds files → CountsUsers s.files p.fds files fds → length fds ≡ length p.fds → SuitsFiles s pid files fds
+  files-suit : (files : FileTable) (fds : Descriptors) → IsFileTable files → PipesHaveEnds files
+      → CountsUsers s.files p.fds files fds → length fds ≡ length p.fds → SuitsFiles s pid files fds
   files-suit files fds table pipes counted places = record {
     process = p;
     found = a.found;
@@ -246,16 +304,19 @@ module _ (s : TracedSystem) (pid : ℕ) (p : TracedProcess) (id : ℕ) (l : Trac
   fair-suits e fair = files-suit e.files e.fds fair.table fair.pipes fair.counted fair.places
 
   -- what stands then, and what is stored in it
-  files-then : (files : FileTable) (fds : Descriptors) (at : ℕ) (bytes : List ℕ) → SuitsFiles s pid files fds → SuitsSpace (changed traced pid p id l (files_are files fds) s) pid (with_bytes at bytes p.space)
+  files-then : (files : FileTable) (fds : Descriptors) (at : ℕ) (bytes : List ℕ) → SuitsFiles s pid files fds
+      → SuitsSpace (changed traced pid p id l (files_are files fds) s) pid (with_bytes at bytes p.space)
   unfolding changed with_process with_fds
   files-then files fds at bytes suits =
-      stored-after (changed traced pid p id l (files_are files fds) s) (with_fds fds p) at bytes (changed-lawful pid p id l a.user (files_are files fds) s a.lawful suits)
+      stored-after (changed traced pid p id l (files_are files fds) s) (with_fds fds p) at bytes
+      (changed-lawful pid p id l a.user (files_are files fds) s a.lawful suits)
       (under-change_under pid (with_fds fds) s.processes ∙ ap (option_map (with_fds fds)) a.found) a.live refl
 
   refusal-suits : (why : FileNo) → Suits (refusal_effect why)
   unfolding Suits signal_number
   refusal-suits Sleep = tt
-  refusal-suits NoReader = (standard-reaches s pid (Some id) Pipe of_broken_pipe (record { code = omega arith; pid = omega arith }) refl, tt)
+  refusal-suits NoReader =
+      (standard-reaches s pid (Some id) Pipe of_broken_pipe (record { code = omega arith; pid = omega arith }) refl, tt)
   refusal-suits _ = tt
 
   file-suits : (e : FileEffect ℕ) → IsFair s.files p.fds e → Suits (file_effect e)
@@ -274,23 +335,37 @@ module _ (s : TracedSystem) (pid : ℕ) (p : TracedProcess) (id : ℕ) (l : Trac
       files = (read_fd s.files p.fds fd size).files
 
       suits : SuitsFiles s pid files p.fds
-      suits = files-suit files p.fds (read-ordered s.files p.fds a.lawful.files.table fd size) (read-ends s.files p.fds a.lawful.files.table a.lawful.files.pipes fd size) (fair-read s.files p.fds a.lawful.files.table a.lawful.files.pipes fd size) refl
+      suits =
+          files-suit files p.fds (read-ordered s.files p.fds a.lawful.files.table fd size)
+          (read-ends s.files p.fds a.lawful.files.table a.lawful.files.pipes fd size)
+          (fair-read s.files p.fds a.lawful.files.table a.lawful.files.pipes fd size) refl
 
-      by : (r : Result (List ℕ) FileNo) → (read_fd s.files p.fds fd size).bytes ≡ r → Suits (read_effect s.files p.fds p.space fd at size)
+      by : (r : Result (List ℕ) FileNo) → (read_fd s.files p.fds fd size).bytes ≡ r
+          → Suits (read_effect s.files p.fds p.space fd at size)
       by (Ok bytes) is =
-          rw is (choice Suits (is_none (open_for_reading s.files p.fds fd)) _ _ (λ closed. tt) (λ open_now. choice Suits (ltb transfer_limit size) _ _ (λ long. tt) (λ short. choice Suits (can_write p.space at size) _ _ (λ fits. (suits, (files-then files p.fds at bytes suits, tt))) (λ bad. tt))))
+          rw is (choice Suits (is_none (open_for_reading s.files p.fds fd)) _ _ (λ closed. tt)
+          (λ open_now. choice Suits (ltb transfer_limit size) _ _ (λ long. tt)
+          (λ short. choice Suits (can_write p.space at size) _ _
+          (λ fits. (suits, (files-then files p.fds at bytes suits, tt))) (λ bad. tt))))
       by (Err why) is =
-          rw is (choice Suits (is_none (open_for_reading s.files p.fds fd)) _ _ (λ closed. tt) (λ open_now. choice Suits (ltb transfer_limit size) _ _ (λ long. tt) (λ short. choice Suits (can_write p.space at size) _ _ (λ fits. refusal-suits why) (λ bad. tt))))
+          rw is (choice Suits (is_none (open_for_reading s.files p.fds fd)) _ _ (λ closed. tt)
+          (λ open_now. choice Suits (ltb transfer_limit size) _ _ (λ long. tt)
+          (λ short. choice Suits (can_write p.space at size) _ _ (λ fits. refusal-suits why) (λ bad. tt))))
 
   write-suits : (fd at size : ℕ) → Suits (write_effect s.files p.fds p.space fd at size)
   unfolding write_effect Suits
   write-suits fd at size = by (bytes_for prot_read p.space at size) refl
     where
-      by : (r : Result (List ℕ) BadByte) → bytes_for prot_read p.space at size ≡ r → Suits (write_effect s.files p.fds p.space fd at size)
+      by : (r : Result (List ℕ) BadByte) → bytes_for prot_read p.space at size ≡ r
+          → Suits (write_effect s.files p.fds p.space fd at size)
       by (Ok bytes) is =
-          rw is (choice Suits (is_none (open_for_writing s.files p.fds fd)) _ _ (λ closed. tt) (λ open_now. choice Suits (ltb transfer_limit size) _ _ (λ long. tt) (λ short. file-suits (write_fd s.files p.fds fd bytes) (fair-written s.files p.fds a.lawful.files.table a.lawful.files.pipes fd bytes))))
+          rw is (choice Suits (is_none (open_for_writing s.files p.fds fd)) _ _ (λ closed. tt)
+          (λ open_now. choice Suits (ltb transfer_limit size) _ _ (λ long. tt)
+          (λ short. file-suits (write_fd s.files p.fds fd bytes)
+          (fair-written s.files p.fds a.lawful.files.table a.lawful.files.pipes fd bytes))))
       by (Err bad) is =
-          rw is (choice Suits (is_none (open_for_writing s.files p.fds fd)) _ _ (λ closed. tt) (λ open_now. choice Suits (ltb transfer_limit size) _ _ (λ long. tt) (λ short. tt)))
+          rw is (choice Suits (is_none (open_for_writing s.files p.fds fd)) _ _ (λ closed. tt)
+          (λ open_now. choice Suits (ltb transfer_limit size) _ _ (λ long. tt) (λ short. tt)))
 
   open-suits : (at flags : ℕ) → Suits (open_effect s.files p.fds p.space at flags)
   unfolding open_effect Suits
@@ -299,14 +374,22 @@ module _ (s : TracedSystem) (pid : ℕ) (p : TracedProcess) (id : ℕ) (l : Trac
       by : (r : Result (List ℕ) Errno) → path_at p.space at ≡ r → Suits (open_effect s.files p.fds p.space at flags)
       by (Err e) is = rw is tt
       by (Ok name) is =
-          rw is (choice Suits (are_open_flags flags) _ _ (λ right. file-suits (opened s.files p.fds name flags) (fair-opened s.files p.fds a.lawful.files.table a.lawful.files.pipes name flags)) (λ wrong. tt))
+          rw is (choice Suits (are_open_flags flags) _ _
+          (λ right. file-suits (opened s.files p.fds name flags)
+          (fair-opened s.files p.fds a.lawful.files.table a.lawful.files.pipes name flags)) (λ wrong. tt))
 
   close-suits : (fd : ℕ) → Suits (close_effect s.files p.fds p.space fd)
   unfolding close_effect Suits
   close-suits fd = by (closed s.files p.fds fd).answer refl
     where
-      by : (r : Result (Unit {0}) FileNo) → (closed s.files p.fds fd).answer ≡ r → Suits (close_effect s.files p.fds p.space fd)
-      by (Ok done) is = rw is (fair-suits (closed s.files p.fds fd) (fair-closed s.files p.fds a.lawful.files.table a.lawful.files.pipes fd), tt)
+      by : (r : Result (Unit {0}) FileNo) → (closed s.files p.fds fd).answer ≡ r
+          → Suits (close_effect s.files p.fds p.space fd)
+      by (Ok done) is =
+          rw is (
+            fair-suits (closed s.files p.fds fd)
+                (fair-closed s.files p.fds a.lawful.files.table a.lawful.files.pipes fd),
+            tt,
+          )
       by (Err why) is = rw is (refusal-suits why)
 
   pipe-suits : (at : ℕ) → Suits (pipe_effect s.files p.fds p.space at)
@@ -318,23 +401,41 @@ module _ (s : TracedSystem) (pid : ℕ) (p : TracedProcess) (id : ℕ) (l : Trac
 
       by : (r : Result (ℕ × ℕ) FileNo) → (piped s.files p.fds).answer ≡ r → Suits (pipe_effect s.files p.fds p.space at)
       by (Ok both) is =
-          rw is (choice Suits (can_write p.space at (2 * word_size)) _ _ (λ fits. (suits, (files-then (piped s.files p.fds).files (piped s.files p.fds).fds at (word_bytes both.0 ++ word_bytes both.1) suits, tt))) (λ bad. tt))
-      by (Err why) is = rw is (choice Suits (can_write p.space at (2 * word_size)) _ _ (λ fits. refusal-suits why) (λ bad. tt))
+          rw is (choice Suits (can_write p.space at (2 * word_size)) _ _
+          (λ fits. (
+            suits,
+            (
+              files-then (piped s.files p.fds).files (piped s.files p.fds).fds at
+                  (word_bytes both.0 ++ word_bytes both.1) suits,
+              tt,
+            ),
+          )) (λ bad. tt))
+      by (Err why) is =
+          rw is (choice Suits (can_write p.space at (2 * word_size)) _ _ (λ fits. refusal-suits why) (λ bad. tt))
 
   dup-suits : (fd : ℕ) → Suits (dup_effect s.files p.fds p.space fd)
   unfolding dup_effect
-  dup-suits fd = file-suits (duplicated s.files p.fds fd) (fair-duplicated s.files p.fds a.lawful.files.table a.lawful.files.pipes fd)
+  dup-suits fd =
+      file-suits (duplicated s.files p.fds fd)
+      (fair-duplicated s.files p.fds a.lawful.files.table a.lawful.files.pipes fd)
 
   lseek-suits : (fd offset : ℕ) → Suits (lseek_effect s.files p.fds p.space fd offset)
   unfolding lseek_effect
-  lseek-suits fd offset = file-suits (sought s.files p.fds fd offset) (fair-sought s.files p.fds a.lawful.files.table a.lawful.files.pipes fd offset)
+  lseek-suits fd offset =
+      file-suits (sought s.files p.fds fd offset)
+      (fair-sought s.files p.fds a.lawful.files.table a.lawful.files.pipes fd offset)
 
   fstat-suits : (fd at : ℕ) → Suits (fstat_effect s.files p.fds p.space fd at)
   unfolding fstat_effect
   fstat-suits fd at = by (described s.files p.fds fd) refl
     where
       by : (r : Result Stat FileNo) → described s.files p.fds fd ≡ r → Suits (fstat_effect s.files p.fds p.space fd at)
-      by (Ok stat) is = rw is (choice Suits (can_write p.space at (3 * word_size)) _ _ (λ fits. one-space 0 (with_bytes at (word_bytes stat.kind ++ word_bytes stat.size ++ word_bytes stat.offset) p.space) (stored-suits at (word_bytes stat.kind ++ word_bytes stat.size ++ word_bytes stat.offset))) (λ bad. fails-suits Fault))
+      by (Ok stat) is =
+          rw is (choice Suits (can_write p.space at (3 * word_size)) _ _
+          (λ fits. one-space 0
+          (with_bytes at (word_bytes stat.kind ++ word_bytes stat.size ++ word_bytes stat.offset) p.space)
+          (stored-suits at (word_bytes stat.kind ++ word_bytes stat.size ++ word_bytes stat.offset)))
+          (λ bad. fails-suits Fault))
       by (Err why) is = rw is (refusal-suits why)
 
   -- ---- processes
@@ -345,22 +446,26 @@ module _ (s : TracedSystem) (pid : ℕ) (p : TracedProcess) (id : ℕ) (l : Trac
       choice Suits (eqb id agent_id) _ _ (λ agent. tt) (λ other.
       choice Suits (leb process_limit s.made) _ _ (λ full. tt) (λ room.
       choice Suits (total_has_room s (size_of p) 0) _ _
-      (λ fits. (record { found = a.found; live = a.live; room = leb-false process_limit s.made room; mapped = let limit = leb-true _ _ fits in omega arith; held = own-lwp.held; frames = own-lwp.frames; few_frames = own-lwp.few_frames }, tt))
+      (λ fits.
+      (record { found = a.found; live = a.live; room = leb-false process_limit s.made room; mapped = let limit = leb-true _ _ fits in omega arith; held = own-lwp.held; frames = own-lwp.frames; few_frames = own-lwp.few_frames }, tt))
       (λ big. tt)))
 
   exec-suits : (at : ℕ) → Suits (exec_effect s p id at)
   unfolding exec_effect Suits total_has_room
   exec-suits at = by (path_at p.space at) refl
     where
-      named : (name : List ℕ) (program : Program) → program_named s.programs name ≡ Some program → IsLawfulProgram program
+      named : (name : List ℕ) (program : Program) → program_named s.programs name ≡ Some program
+          → IsLawfulProgram program
       named name program found = named-lawful name s.programs program a.lawful.programs found
 
-      run : (name : List ℕ) (o : Option Program) → path_at p.space at ≡ Ok name → program_named s.programs name ≡ o → Suits (exec_effect s p id at)
+      run : (name : List ℕ) (o : Option Program) → path_at p.space at ≡ Ok name → program_named s.programs name ≡ o
+          → Suits (exec_effect s p id at)
       run name None is found = rw (is, found) (choice Suits (eqb id agent_id) _ _ (λ agent. tt) (λ other. tt))
       run name (Some program) is found =
           rw (is, found) (choice Suits (eqb id agent_id) _ _ (λ agent. tt) (λ other.
           choice Suits (total_has_room s (mapped_size (first_space program)) (size_of p)) _ _
-          (λ fits. (record { process = p; found = a.found; live = a.live; mapped = leb-true _ _ fits; heap_place = program-leaves program (named name program found); small = program-small program (named name program found); there = a.there }, tt)) (λ big. tt)))
+          (λ fits.
+          (record { process = p; found = a.found; live = a.live; mapped = leb-true _ _ fits; heap_place = program-leaves program (named name program found); small = program-small program (named name program found); there = a.there }, tt)) (λ big. tt)))
 
       by : (r : Result (List ℕ) Errno) → path_at p.space at ≡ r → Suits (exec_effect s p id at)
       by (Err e) is = rw is (choice Suits (eqb id agent_id) _ _ (λ agent. tt) (λ other. tt))
@@ -382,26 +487,45 @@ module _ (s : TracedSystem) (pid : ℕ) (p : TracedProcess) (id : ℕ) (l : Trac
       by all_live is = tt
       by (first_zombie child status) is =
           let it = children-zombie pid 0 s.processes child status a.lawful.rising is in
-          let suits : SuitsReaped s child = record { zombie = it.zombie; status = status; found = it.found; over = it.over } in
+          let suits : SuitsReaped s child = record {
+            zombie = it.zombie;
+            status = status;
+            found = it.found;
+            over = it.over;
+          } in
           choice Suits (eqb at 0) _ _ (λ nowhere. (suits, tt)) (λ somewhere.
           choice Suits (can_write p.space at word_size) _ _
-          (λ fits. (suits, (stored-after (changed traced pid p id l (reaps child) s) p at (word_bytes status) (changed-lawful pid p id l a.user (reaps child) s a.lawful suits) (reaped-then child) a.live refl, tt)))
+          (λ fits. (
+            suits,
+            (
+              stored-after (changed traced pid p id l (reaps child) s) p at (word_bytes status)
+                  (changed-lawful pid p id l a.user (reaps child) s a.lawful suits)
+                  (reaped-then child) a.live refl,
+              tt,
+            ),
+          ))
           (λ bad. tt))
 
   sleep-suits : (since time : ℕ) → Suits (sleep_effect s.clock since time)
   unfolding sleep_effect Suits
-  sleep-suits since time = choice Suits (ltb sleep_limit time) _ _ (λ long. tt) (λ short. choice Suits (leb (since + time) s.clock) _ _ (λ over. tt) (λ not_yet. tt))
+  sleep-suits since time =
+      choice Suits (ltb sleep_limit time) _ _ (λ long. tt)
+      (λ short. choice Suits (leb (since + time) s.clock) _ _ (λ over. tt) (λ not_yet. tt))
 
   -- ---- signals
 
-  send-suits : (target number : ℕ) (info : Info) → IsInfo info → Suits (send_effect pid target number info (life_of s target))
+  send-suits : (target number : ℕ) (info : Info) → IsInfo info
+      → Suits (send_effect pid target number info (life_of s target))
   unfolding send_effect sent_effect Suits
   send-suits target number info new = by (sending target number (life_of s target)) refl
     where
       by : (x : Sending) → sending target number (life_of s target) ≡ x → Suits (sent_effect pid target info x)
       by (refuses e) is = tt
       by sends_nothing is = tt
-      by (sends g) is = choice Suits (is_kill g && eqb target pid) _ _ (λ own. tt) (λ other. ((sent-user target number (life_of s target) g is, sent-reaches s target number g info new is), tt))
+      by (sends g) is =
+          choice Suits (is_kill g && eqb target pid) _ _ (λ own. tt)
+          (λ other.
+          ((sent-user target number (life_of s target) g is, sent-reaches s target number g info new is), tt))
 
   sigaction-suits : (number disposition : ℕ) → Suits (sigaction_effect p.dispositions number disposition)
   unfolding sigaction_effect Suits
@@ -426,7 +550,10 @@ module _ (s : TracedSystem) (pid : ℕ) (p : TracedProcess) (id : ℕ) (l : Trac
             record {
               holdable = All-at IsLawfulFrame l.frames (length l.frames - 1) frame is own-lwp.frames;
               backs = All-take IsLawfulFrame (length l.frames - 1) l.frames own-lwp.frames;
-              few = let few = own-lwp.few_frames in let fewer = length-take (length l.frames - 1) l.frames in omega arith;
+              few =
+                  let few = own-lwp.few_frames in
+                  let fewer = length-take (length l.frames - 1) l.frames in
+                  omega arith;
             },
             tt,
           )
@@ -443,7 +570,9 @@ module _ (s : TracedSystem) (pid : ℕ) (p : TracedProcess) (id : ℕ) (l : Trac
 
   suspend-suits : (other : ℕ) → Suits (lwp_suspend_effect p id other)
   unfolding lwp_suspend_effect Suits
-  suspend-suits other = choice Suits (can_be_named p other) _ _ (λ named. choice Suits (eqb other id) _ _ (λ own. tt) (λ apart. (tt, tt))) (λ none. tt)
+  suspend-suits other =
+      choice Suits (can_be_named p other) _ _
+      (λ named. choice Suits (eqb other id) _ _ (λ own. tt) (λ apart. (tt, tt))) (λ none. tt)
 
   continue-suits : (other : ℕ) → Suits (lwp_continue_effect p other)
   unfolding lwp_continue_effect Suits
@@ -466,7 +595,11 @@ module _ (s : TracedSystem) (pid : ℕ) (p : TracedProcess) (id : ℕ) (l : Trac
   call-suits since sys.Pipe args = pipe-suits (slice_index args 0)
   call-suits since sys.Dup args = dup-suits (slice_index args 0)
   call-suits since sys.Lseek args = lseek-suits (slice_index args 0) (slice_index args 1)
-  call-suits since sys.Kill args = send-suits (slice_index args 0) (slice_index args 1) (killed_by pid) (record { code = omega arith; pid = own-id s pid p a.lawful a.found })
+  call-suits since sys.Kill args =
+      send-suits (slice_index args 0) (slice_index args 1) (killed_by pid) (record {
+        code = omega arith;
+        pid = own-id s pid p a.lawful a.found;
+      })
   call-suits since sys.Sigaction args = sigaction-suits (slice_index args 0) (slice_index args 1)
   call-suits since sys.Sigmask args = sigmask-suits (slice_index args 0)
   call-suits since sys.Pause args = tt
@@ -482,4 +615,8 @@ module _ (s : TracedSystem) (pid : ℕ) (p : TracedProcess) (id : ℕ) (l : Trac
   call-suits since sys.LwpSuspend args = suspend-suits (slice_index args 0)
   call-suits since sys.LwpContinue args = continue-suits (slice_index args 0)
   call-suits since sys.Fstat args = fstat-suits (slice_index args 0) (slice_index args 1)
-  call-suits since sys.Sigqueue args = send-suits (slice_index args 0) (slice_index args 1) (queued_by pid (slice_index args 2)) (record { code = omega arith; pid = own-id s pid p a.lawful a.found })
+  call-suits since sys.Sigqueue args =
+      send-suits (slice_index args 0) (slice_index args 1) (queued_by pid (slice_index args 2)) (record {
+        code = omega arith;
+        pid = own-id s pid p a.lawful a.found;
+      })

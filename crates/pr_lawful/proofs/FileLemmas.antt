@@ -48,22 +48,35 @@ module _ (t : FileTable) (fds : Descriptors) (h : IsFileTable t) where
   unfolding duplicated
   duplicated-ordered fd = by (open_of t fds fd) (position is_none fds) refl refl
     where
-      by : (o : Option (ℕ × OpenFile)) (free : Option ℕ) → open_of t fds fd ≡ o → position is_none fds ≡ free → IsOrdered t fds (duplicated t fds fd)
+      by : (o : Option (ℕ × OpenFile)) (free : Option ℕ) → open_of t fds fd ≡ o → position is_none fds ≡ free
+          → IsOrdered t fds (duplicated t fds fd)
       by None free is at = rw is (same BadFd)
       by (Some found) None is at = rw (is, at) (record { table = h; places = refl })
-      by (Some found) (Some free) is at = rw (is, at) (record { table = IsFileTable-user_added t found.0 h; places = length-set fds free (Some found.0) })
+      by (Some found) (Some free) is at =
+          rw (is, at) (record {
+            table = IsFileTable-user_added t found.0 h;
+            places = length-set fds free (Some found.0);
+          })
 
   -- ---- open and pipe
 
   opened_file-ordered : (fd file flags : ℕ) → file < length t.files → IsOrdered t fds (opened_file t fds fd file flags)
   unfolding opened_file
-  opened_file-ordered fd file flags within = record { table = IsFileTable-opened t file (access_of flags) within h; places = length-set fds fd (Some (free_place t.opens)) }
+  opened_file-ordered fd file flags within = record {
+    table = IsFileTable-opened t file (access_of flags) within h;
+    places = length-set fds fd (Some (free_place t.opens));
+  }
 
-  created-ordered : (fd : ℕ) (name : List ℕ) (flags : ℕ) → file_named t name ≡ None → IsOrdered t fds (created_file t fds fd name flags)
+  created-ordered : (fd : ℕ) (name : List ℕ) (flags : ℕ) → file_named t name ≡ None
+      → IsOrdered t fds (created_file t fds fd name flags)
   unfolding created_file opened_file
   created-ordered fd name flags none =
-      choice (IsOrdered t fds) (ltb (length t.files) file_limit) (opened_file (with_file t name []) fds fd (length t.files) flags) _
-      (λ few. record { table = IsFileTable-created t name (access_of flags) (ltb-true (length t.files) file_limit few) none h; places = length-set fds fd _ })
+      choice (IsOrdered t fds) (ltb (length t.files) file_limit)
+      (opened_file (with_file t name []) fds fd (length t.files) flags) _
+      (λ few. record {
+        table = IsFileTable-created t name (access_of flags) (ltb-true (length t.files) file_limit few) none h;
+        places = length-set fds fd _;
+      })
       (λ full. record { table = h; places = refl })
 
   named-within : (name : List ℕ) (file : ℕ) → file_named t name ≡ Some file → file < length t.files
@@ -74,15 +87,18 @@ module _ (t : FileTable) (fds : Descriptors) (h : IsFileTable t) where
   unfolding opened
   opened-ordered name flags = by (file_named t name) refl
     where
-      at_new : (free : Option ℕ) → file_named t name ≡ None → position is_none fds ≡ free → creates flags ≡ true → IsOrdered t fds (opened t fds name flags)
+      at_new : (free : Option ℕ) → file_named t name ≡ None → position is_none fds ≡ free → creates flags ≡ true
+          → IsOrdered t fds (opened t fds name flags)
       at_new None none at made = rw (none, at, made) (record { table = h; places = refl })
       at_new (Some fd) none at made = rw (none, at, made) (created-ordered fd name flags none)
 
-      at_none : (made : Bool) → file_named t name ≡ None → creates flags ≡ made → IsOrdered t fds (opened t fds name flags)
+      at_none : (made : Bool) → file_named t name ≡ None → creates flags ≡ made
+          → IsOrdered t fds (opened t fds name flags)
       at_none true none made = at_new (position is_none fds) none refl made
       at_none false none made = rw (none, made) (record { table = h; places = refl })
 
-      at_free : (file : ℕ) (free : Option ℕ) → file_named t name ≡ Some file → position is_none fds ≡ free → file < length t.files → IsOrdered t fds (opened t fds name flags)
+      at_free : (file : ℕ) (free : Option ℕ) → file_named t name ≡ Some file → position is_none fds ≡ free
+          → file < length t.files → IsOrdered t fds (opened t fds name flags)
       at_free file None found at within = rw (found, at) (record { table = h; places = refl })
       at_free file (Some fd) found at within = rw (found, at) (opened_file-ordered fd file flags within)
 
@@ -97,13 +113,21 @@ module _ (t : FileTable) (fds : Descriptors) (h : IsFileTable t) where
       two : (reader writer at to : ℕ) → length (set (set fds reader (Some at)) writer (Some to)) ≡ length fds
       two reader writer at to = length-set (set fds reader (Some at)) writer (Some to) ∙ length-set fds reader (Some at)
 
-      at_room : (room : Bool) (reader writer : ℕ) → position is_none fds ≡ Some reader → free_fd_behind fds reader ≡ Some writer → ltb (count_by is_some t.pipes) pipe_limit ≡ room → IsOrdered t fds (piped t fds)
-      at_room true reader writer first second room = rw (first, second, room) (record { table = IsFileTable-with_pipe t (ltb-true _ _ room) h; places = two reader writer _ _ })
+      at_room : (room : Bool) (reader writer : ℕ) → position is_none fds ≡ Some reader
+          → free_fd_behind fds reader ≡ Some writer → ltb (count_by is_some t.pipes) pipe_limit ≡ room
+          → IsOrdered t fds (piped t fds)
+      at_room true reader writer first second room =
+          rw (first, second, room) (record {
+            table = IsFileTable-with_pipe t (ltb-true _ _ room) h;
+            places = two reader writer _ _;
+          })
       at_room false reader writer first second room = rw (first, second, room) (record { table = h; places = refl })
 
-      at_second : (reader : ℕ) (writer : Option ℕ) → position is_none fds ≡ Some reader → free_fd_behind fds reader ≡ writer → IsOrdered t fds (piped t fds)
+      at_second : (reader : ℕ) (writer : Option ℕ) → position is_none fds ≡ Some reader
+          → free_fd_behind fds reader ≡ writer → IsOrdered t fds (piped t fds)
       at_second reader None first second = rw (first, second) (record { table = h; places = refl })
-      at_second reader (Some writer) first second = at_room (ltb (count_by is_some t.pipes) pipe_limit) reader writer first second refl
+      at_second reader (Some writer) first second =
+          at_room (ltb (count_by is_some t.pipes) pipe_limit) reader writer first second refl
 
       by : (reader : Option ℕ) → position is_none fds ≡ reader → IsOrdered t fds (piped t fds)
       by None first = rw first (record { table = h; places = refl })
@@ -121,20 +145,37 @@ module _ (t : FileTable) (fds : Descriptors) (h : IsFileTable t) where
       by : (o : Option (ℕ × OpenFile)) → open_of t fds fd ≡ o → Good (sought t fds fd offset)
       by None is = rw is (same BadFd, refl)
       by (Some found) is =
-          rw is (choice Good (is_some (pipe_of found.1.target)) (refused t fds NotSeekable) _ (λ pipe. (same NotSeekable, refl)) (λ file.
-          choice Good (leb offset file_size_limit) (record { files = with_open_at t found.0 (record found.1 { offset = offset }); fds = fds; answer = Ok offset }) (refused t fds BadOffset)
-          (λ within. (record { table = IsFileTable-moved t found.0 offset found.1 (IsOpenFile-at t found.0 found.1 (open_of-there t fds fd found is) h) (leb-true offset file_size_limit within) h; places = refl }, refl))
+          rw is (choice Good (is_some (pipe_of found.1.target)) (refused t fds NotSeekable) _
+          (λ pipe. (same NotSeekable, refl)) (λ file.
+          choice Good (leb offset file_size_limit)
+          (record {
+            files = with_open_at t found.0
+                (record found.1 { offset = offset });
+            fds = fds;
+            answer = Ok offset;
+          }) (refused t fds BadOffset)
+          (λ within. (
+            record {
+              table = IsFileTable-moved t found.0 offset found.1
+                  (IsOpenFile-at t found.0 found.1 (open_of-there t fds fd found is) h)
+                  (leb-true offset file_size_limit within) h;
+              places = refl;
+            },
+            refl,
+          ))
           (λ past. (same BadOffset, refl))))
 
   -- ---- read
 
-  read-within : (most offset : ℕ) (bytes : List ℕ) → length bytes ≤ file_size_limit → offset ≤ file_size_limit → offset + length (bytes_from bytes offset most) ≤ file_size_limit
+  read-within : (most offset : ℕ) (bytes : List ℕ) → length bytes ≤ file_size_limit → offset ≤ file_size_limit
+      → offset + length (bytes_from bytes offset most) ≤ file_size_limit
   read-within most offset bytes short within =
       let taken = length-take most (drop offset bytes) in
       let left = length-drop offset bytes in
       omega arith
 
-  read_open-table : (here most : ℕ) (o : OpenFile) → at_place t.opens here ≡ Some o → IsFileTable (read_open t here o most).files
+  read_open-table : (here most : ℕ) (o : OpenFile) → at_place t.opens here ≡ Some o
+      → IsFileTable (read_open t here o most).files
   unfolding read_file read_pipe
   read_open-table here most o there = by o.target refl
     where
@@ -144,14 +185,17 @@ module _ (t : FileTable) (fds : Descriptors) (h : IsFileTable t) where
           (λ empty. choice (λ (e : ReadEffect). IsFileTable e.files) (has_writer t pipe) _ _ (λ waits. h) (λ over. h))
           (λ some. IsFileTable-dropped t pipe most h)
 
-      file-table : (file : ℕ) (f : OpenFile) → at_place t.opens here ≡ Some f → IsFileTable (read_file t here f most).files
+      file-table : (file : ℕ) (f : OpenFile) → at_place t.opens here ≡ Some f
+          → IsFileTable (read_file t here f most).files
       file-table file f at =
           let is_open = IsOpenFile-at t here f at h in
-          IsFileTable-moved t here (f.offset + length (bytes_from (contents t f.target) f.offset most)) f is_open (read-within most f.offset (contents t f.target) (length-contents t f.target h) is_open.within) h
+          IsFileTable-moved t here (f.offset + length (bytes_from (contents t f.target) f.offset most)) f is_open
+          (read-within most f.offset (contents t f.target) (length-contents t f.target h) is_open.within) h
 
       by : (target : Target) → o.target ≡ target → IsFileTable (read_open t here o most).files
       by (File file) is =
-          rw is (file-table file (record o { target = File file }) (there ∙ ap (λ (target : Target). Some (record o { target = target })) is))
+          rw is (file-table file (record o { target = File file }) (there
+          ∙ ap (λ (target : Target). Some (record o { target = target })) is))
       by (PipeReader pipe) is = rw is (pipe-table pipe)
       by (PipeWriter pipe) is = rw is (pipe-table pipe)
 
@@ -177,19 +221,32 @@ module _ (t : FileTable) (fds : Descriptors) (h : IsFileTable t) where
       (λ room. (record { table = IsFileTable-extended t pipe bytes (ltb-false _ _ room) h; places = refl }, refl)))
       (λ broken. (record { table = h; places = refl }, refl))
 
-  write_file-ordered : (here file : ℕ) (o : OpenFile) (bytes : List ℕ) → at_place t.opens here ≡ Some (record o { target = File file }) → Written (write_file t fds here (record o { target = File file }) file bytes)
+  write_file-ordered : (here file : ℕ) (o : OpenFile) (bytes : List ℕ)
+      → at_place t.opens here ≡ Some (record o { target = File file })
+      → Written (write_file t fds here (record o { target = File file }) file bytes)
   unfolding write_file Written
   write_file-ordered here file o bytes there =
       choice Written (ltb file_size_limit (o.offset + length bytes)) _ _
       (λ full. (record { table = h; places = refl }, refl))
-      (λ room. (record { table = IsFileTable-written t here file (record o { target = File file }) bytes (IsOpenFile-at t here (record o { target = File file }) there h) (ltb-false _ _ room) h; places = refl }, refl))
+      (λ room. (
+        record {
+          table = IsFileTable-written t here file (record o { target = File file }) bytes
+              (IsOpenFile-at t here (record o { target = File file }) there h) (ltb-false _ _ room) h;
+          places =
+              refl;
+        },
+        refl,
+      ))
 
-  write_open-ordered : (here : ℕ) (o : OpenFile) (bytes : List ℕ) → at_place t.opens here ≡ Some o → Written (write_open t fds here o bytes)
+  write_open-ordered : (here : ℕ) (o : OpenFile) (bytes : List ℕ) → at_place t.opens here ≡ Some o
+      → Written (write_open t fds here o bytes)
   unfolding Written
   write_open-ordered here o bytes there = by o.target refl
     where
       by : (target : Target) → o.target ≡ target → Written (write_open t fds here o bytes)
-      by (File file) is = rw is (write_file-ordered here file o bytes (there ∙ ap (λ (target : Target). Some (record o { target = target })) is))
+      by (File file) is =
+          rw is (write_file-ordered here file o bytes (there
+          ∙ ap (λ (target : Target). Some (record o { target = target })) is))
       by (PipeReader pipe) is = rw is (write_pipe-ordered pipe bytes)
       by (PipeWriter pipe) is = rw is (write_pipe-ordered pipe bytes)
 
@@ -205,19 +262,46 @@ module _ (t : FileTable) (fds : Descriptors) (h : IsFileTable t) where
 
   module _ (ends : PipesHaveEnds t) where
     pub fair-closed : (fd : ℕ) → IsFair t fds (closed t fds fd)
-    fair-closed fd = let it = closed-ordered fd in record { table = it.table; pipes = ends-closed t fds fd ends; counted = CountsUsers-closed t fds fd h; places = it.places }
+    fair-closed fd =
+        let it = closed-ordered fd in
+        record {
+          table = it.table;
+          pipes = ends-closed t fds fd ends;
+          counted = CountsUsers-closed t fds fd h;
+          places = it.places;
+        }
 
     pub fair-duplicated : (fd : ℕ) → IsFair t fds (duplicated t fds fd)
-    fair-duplicated fd = let it = duplicated-ordered fd in record { table = it.table; pipes = ends-duplicated t fds fd ends; counted = CountsUsers-duplicated t fds fd; places = it.places }
+    fair-duplicated fd =
+        let it = duplicated-ordered fd in
+        record {
+          table = it.table;
+          pipes = ends-duplicated t fds fd ends;
+          counted = CountsUsers-duplicated t fds fd;
+          places = it.places;
+        }
 
     pub fair-opened : (name : List ℕ) (flags : ℕ) → IsFair t fds (opened t fds name flags)
-    fair-opened name flags = let it = opened-ordered name flags in record { table = it.table; pipes = ends-opened t fds name flags ends; counted = CountsUsers-opened t fds name flags; places = it.places }
+    fair-opened name flags =
+        let it = opened-ordered name flags in
+        record {
+          table = it.table;
+          pipes = ends-opened t fds name flags ends;
+          counted = CountsUsers-opened t fds name flags;
+          places = it.places;
+        }
 
     pub fair-piped : IsFair t fds (piped t fds)
-    fair-piped = record { table = piped-ordered.table; pipes = ends-piped t fds ends; counted = CountsUsers-piped t fds; places = piped-ordered.places }
+    fair-piped = record {
+      table = piped-ordered.table;
+      pipes = ends-piped t fds ends;
+      counted = CountsUsers-piped t fds;
+      places = piped-ordered.places;
+    }
 
     -- a call that leaves the descriptors, and how many stand for each open file
-    left : {A : Type 0} (e : FileEffect A) → IsOrdered t fds e × (e.fds ≡ fds) → PipesHaveEnds e.files → ((place : ℕ) → users_at e.files place ≡ users_at t place) → IsFair t fds e
+    left : {A : Type 0} (e : FileEffect A) → IsOrdered t fds e × (e.fds ≡ fds) → PipesHaveEnds e.files
+        → ((place : ℕ) → users_at e.files place ≡ users_at t place) → IsFair t fds e
     left e it pipes users = record {
       table = it.0.table;
       pipes = pipes;
@@ -226,11 +310,15 @@ module _ (t : FileTable) (fds : Descriptors) (h : IsFileTable t) where
     }
 
     pub fair-sought : (fd offset : ℕ) → IsFair t fds (sought t fds fd offset)
-    fair-sought fd offset = left (sought t fds fd offset) (sought-ordered fd offset) (ends-sought t fds fd offset ends) (users-sought t fds fd offset)
+    fair-sought fd offset =
+        left (sought t fds fd offset) (sought-ordered fd offset) (ends-sought t fds fd offset ends)
+        (users-sought t fds fd offset)
 
     pub fair-written : (fd : ℕ) (bytes : List ℕ) → IsFair t fds (write_fd t fds fd bytes)
     unfolding Written
-    fair-written fd bytes = left (write_fd t fds fd bytes) (written-ordered fd bytes) (ends-written t fds fd bytes ends) (λ place. users-written t fds fd place bytes)
+    fair-written fd bytes =
+        left (write_fd t fds fd bytes) (written-ordered fd bytes) (ends-written t fds fd bytes ends)
+        (λ place. users-written t fds fd place bytes)
 
     -- a read leaves the descriptors
     pub fair-read : (fd most : ℕ) → CountsUsers t fds (read_fd t fds fd most).files fds

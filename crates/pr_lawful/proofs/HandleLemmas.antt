@@ -35,19 +35,23 @@ module _ {X : Type 0} (q : X → Bool) where
   under_bit true b c d e same = refl
   under_bit false b c d e same = same
 
-  pub any-swap : (xs : List X) (i : ℕ) (x y : X) → slice_get xs i ≡ Some x → (list_any q (set xs i y) || q x) ≡ (list_any q xs || q y)
+  pub any-swap : (xs : List X) (i : ℕ) (x y : X) → slice_get xs i ≡ Some x
+      → (list_any q (set xs i y) || q x) ≡ (list_any q xs || q y)
   any-swap [] i x y found = cc
   any-swap (z ∷ zs) zero x y found =
       let same = same_Some z x found in
       rw same (swap_bits (q y) (list_any q zs) (q x))
-  any-swap (z ∷ zs) (suc i) x y found = under_bit (q z) (list_any q (set zs i y)) (q x) (list_any q zs) (q y) (any-swap zs i x y found)
+  any-swap (z ∷ zs) (suc i) x y found =
+      under_bit (q z) (list_any q (set zs i y)) (q x) (list_any q zs) (q y) (any-swap zs i x y found)
 
   pub any-at : (xs : List X) (i : ℕ) (x : X) → slice_get xs i ≡ Some x → q x ≡ true → list_any q xs ≡ true
   any-at [] i x found passes = cc
   any-at (z ∷ zs) zero x found passes = let same = same_Some z x found in rw (same, passes) refl
-  any-at (z ∷ zs) (suc i) x found passes = elim (q z) as (λ b. (b || list_any q zs) ≡ true) [ true ↦ refl | false ↦ any-at zs i x found passes ]
+  any-at (z ∷ zs) (suc i) x found passes =
+      elim (q z) as (λ b. (b || list_any q zs) ≡ true) [ true ↦ refl | false ↦ any-at zs i x found passes ]
 
-  pub count-swap : (xs : List X) (i : ℕ) (x y : X) → slice_get xs i ≡ Some x → count_by q (set xs i y) + cond (q x) 1 0 ≡ count_by q xs + cond (q y) 1 0
+  pub count-swap : (xs : List X) (i : ℕ) (x y : X) → slice_get xs i ≡ Some x
+      → count_by q (set xs i y) + cond (q x) 1 0 ≡ count_by q xs + cond (q y) 1 0
   count-swap xs i x y found =
       let counted = sum_by-set (λ z. cond (q z) 1 0) xs i y x (slice_get_within xs i x found) in
       rw (get_or_from_slice_get xs i x x found) at counted
@@ -59,13 +63,25 @@ module _ {X : Type 0} (q : X → Bool) where
   count-some [] some = cc
   count-some (x ∷ xs) some =
       let counted = count-cons x xs in
-      elim (q x) as (λ b. (b || list_any q xs) ≡ true → count_by q (x ∷ xs) ≡ cond b 1 0 + count_by q xs → 1 ≤ count_by q (x ∷ xs)) [ true ↦ λ here is. omega arith | false ↦ λ there is. let rest = count-some xs there in omega arith ] some counted
+      elim (q x) as
+      (λ b. (b || list_any q xs) ≡ true → count_by q (x ∷ xs) ≡ cond b 1 0 + count_by q xs → 1 ≤ count_by q
+      (x ∷ xs)) [
+        | true ↦ λ here is. omega arith
+        | false ↦ λ there is. let rest =
+            count-some xs there in omega arith
+      ] some counted
 
   pub count-none : (xs : List X) → list_any q xs ≡ false → count_by q xs ≡ 0
   count-none [] none = refl
   count-none (x ∷ xs) none =
       let counted = count-cons x xs in
-      elim (q x) as (λ b. (b || list_any q xs) ≡ false → count_by q (x ∷ xs) ≡ cond b 1 0 + count_by q xs → count_by q (x ∷ xs) ≡ 0) [ true ↦ λ here is. absurd (false≢true (sym here)) | false ↦ λ there is. let rest = count-none xs there in omega arith ] none counted
+      elim (q x) as
+      (λ b. (b || list_any q xs) ≡ false → count_by q (x ∷ xs) ≡ cond b 1 0 + count_by q xs → count_by q
+      (x ∷ xs) ≡ 0) [
+        | true ↦ λ here is. absurd (false≢true (sym here))
+        | false ↦ λ there is. let rest =
+            count-none xs there in omega arith
+      ] none counted
 
 -- ---- handles
 
@@ -77,10 +93,12 @@ is-free (Some h) is = cc
 pub free-at : (opens : Places) (place : ℕ) → position is_none opens ≡ Some place → slice_get opens place ≡ Some None
 free-at opens place at =
     let found = position-Some is_none opens place None at in
-    slice_get-get_or opens place None found.0 ∙ ap (λ (o : Option Held). Some o) (is-free (get_or opens place None) found.1)
+    slice_get-get_or opens place None found.0
+    ∙ ap (λ (o : Option Held). Some o) (is-free (get_or opens place None) found.1)
 
 -- the handle of a number stands there
-pub handle-at : (opens : Places) (by number : ℕ) (h : Held) → handle_of opens by number ≡ Some h → slice_get opens number ≡ Some (Some h)
+pub handle-at : (opens : Places) (by number : ℕ) (h : Held) → handle_of opens by number ≡ Some h
+    → slice_get opens number ≡ Some (Some h)
 unfolding handle_of
 handle-at opens by number h is = at (slice_get opens number) is
   where
@@ -100,7 +118,8 @@ exclusive-writes Write is = cc
 exclusive-writes WriteExcl is = refl
 
 -- a handle of a control file is for writing
-pub control-writes : (h : Held) → fits_file h.file h.mode h.lwp ≡ true → is_control h.file ≡ true → is_writable h.mode ≡ true
+pub control-writes : (h : Held) → fits_file h.file h.mode h.lwp ≡ true → is_control h.file ≡ true
+    → is_writable h.mode ≡ true
 control-writes h fits control =
     let first = (and_parts _ _ fits).0 in
     by (is_control h.file) (is_writable h.mode) control first
@@ -117,12 +136,14 @@ exclusive-writer pid (Some h) is =
     let parts = and_parts (eqb h.pid pid) (is_exclusive h.mode) is in
     rw (parts.0, exclusive-writes h.mode parts.1) refl
 
-any-weaker : {X : Type 0} (p q : X → Bool) → ((x : X) → p x ≡ true → q x ≡ true) → (xs : List X) → list_any p xs ≡ true → list_any q xs ≡ true
+any-weaker : {X : Type 0} (p q : X → Bool) → ((x : X) → p x ≡ true → q x ≡ true) → (xs : List X) → list_any p xs ≡ true
+    → list_any q xs ≡ true
 any-weaker p q weaker [] is = cc
 any-weaker p q weaker (x ∷ xs) is =
     elim (p x) as (λ b. p x ≡ b → (b || list_any p xs) ≡ true → (q x || list_any q xs) ≡ true) [
       | true ↦ λ here some. rw (weaker x here) refl
-      | false ↦ λ none there. elim (q x) as (λ b. (b || list_any q xs) ≡ true) [ true ↦ refl | false ↦ any-weaker p q weaker xs there ]
+      | false ↦ λ none there. elim (q x) as
+          (λ b. (b || list_any q xs) ≡ true) [ true ↦ refl | false ↦ any-weaker p q weaker xs there ]
     ] refl is
 
 exclusive-has : (pid : ℕ) (opens : Places) → has_exclusive_writer pid opens ≡ true → has_writer pid opens ≡ true
@@ -145,8 +166,11 @@ module _ (opens : Places) (place : ℕ) (h : Held) (free : slice_get opens place
   writer-taken : (pid : ℕ) → has_writer pid taken ≡ (has_writer pid opens || is_writer pid (Some h))
   writer-taken pid = sym (or_false (has_writer pid taken)) ∙ any-swap (is_writer pid) opens place None (Some h) free
 
-  exclusive-taken : (pid : ℕ) → has_exclusive_writer pid taken ≡ (has_exclusive_writer pid opens || is_exclusive_writer pid (Some h))
-  exclusive-taken pid = sym (or_false (has_exclusive_writer pid taken)) ∙ any-swap (is_exclusive_writer pid) opens place None (Some h) free
+  exclusive-taken : (pid : ℕ)
+      → has_exclusive_writer pid taken ≡ (has_exclusive_writer pid opens || is_exclusive_writer pid (Some h))
+  exclusive-taken pid =
+      sym (or_false (has_exclusive_writer pid taken))
+      ∙ any-swap (is_exclusive_writer pid) opens place None (Some h) free
 
   -- a process that no controller has open for writing then was so before
   pub alone-before : (pid : ℕ) → has_writer pid taken ≡ false → has_writer pid opens ≡ false
@@ -162,12 +186,15 @@ module _ (opens : Places) (place : ℕ) (h : Held) (free : slice_get opens place
   pub exclusive-kept : conflicts h.pid h.mode opens ≡ false → AreExclusive opens → AreExclusive taken
   exclusive-kept none e = record { alone = λ pid is. by pid (is_exclusive_writer pid (Some h)) refl is }
     where
-      count : (pid : ℕ) → count_by (is_writer pid) taken + 0 ≡ count_by (is_writer pid) opens + cond (is_writer pid (Some h)) 1 0
+      count : (pid : ℕ)
+          → count_by (is_writer pid) taken + 0 ≡ count_by (is_writer pid) opens + cond (is_writer pid (Some h)) 1 0
       count pid = count-swap (is_writer pid) opens place None (Some h) free
 
       -- no conflict: an exclusive handle comes where there is no writer, and a writer where there is no exclusive one
       no_writer : is_exclusive h.mode ≡ true → has_writer h.pid opens ≡ false
-      no_writer exclusive = go (is_exclusive h.mode) (has_writer h.pid opens) (is_writable h.mode && has_exclusive_writer h.pid opens) exclusive none
+      no_writer exclusive =
+          go (is_exclusive h.mode) (has_writer h.pid opens)
+          (is_writable h.mode && has_exclusive_writer h.pid opens) exclusive none
         where
           go : (a b c : Bool) → a ≡ true → ((a && b) || c) ≡ false → b ≡ false
           go true true c is clear = cc
@@ -175,7 +202,9 @@ module _ (opens : Places) (place : ℕ) (h : Held) (free : slice_get opens place
           go false b c is clear = cc
 
       no_exclusive : is_writable h.mode ≡ true → has_exclusive_writer h.pid opens ≡ false
-      no_exclusive writable = go (is_exclusive h.mode && has_writer h.pid opens) (is_writable h.mode) (has_exclusive_writer h.pid opens) writable none
+      no_exclusive writable =
+          go (is_exclusive h.mode && has_writer h.pid opens) (is_writable h.mode)
+          (has_exclusive_writer h.pid opens) writable none
         where
           go : (c a b : Bool) → a ≡ true → (c || (a && b)) ≡ false → b ≡ false
           go true a b is clear = cc
@@ -194,17 +223,22 @@ module _ (opens : Places) (place : ℕ) (h : Held) (free : slice_get opens place
               let same = eqb-true h.pid pid parts.0 in
               absurd (false≢true (sym (no_exclusive parts.1) ∙ ap (λ n. has_exclusive_writer n opens) same ∙ had))
 
-      by : (pid : ℕ) (b : Bool) → is_exclusive_writer pid (Some h) ≡ b → has_exclusive_writer pid taken ≡ true → count_by (is_writer pid) taken ≡ 1
+      by : (pid : ℕ) (b : Bool) → is_exclusive_writer pid (Some h) ≡ b → has_exclusive_writer pid taken ≡ true
+          → count_by (is_writer pid) taken ≡ 1
       by pid true new is =
           let parts = and_parts (eqb h.pid pid) (is_exclusive h.mode) new in
           let same = eqb-true h.pid pid parts.0 in
           let before = count-none (is_writer pid) opens (ap (λ n. has_writer n opens) (sym same) ∙ no_writer parts.1) in
           let writer = exclusive-writer pid (Some h) new in
-          one_more (is_writer pid (Some h)) (count_by (is_writer pid) taken) (count_by (is_writer pid) opens) writer before (count pid)
+          one_more (is_writer pid (Some h)) (count_by (is_writer pid) taken)
+          (count_by (is_writer pid) opens) writer before (count pid)
       by pid false old is =
-          let had : has_exclusive_writer pid opens ≡ true = sym (or_false (has_exclusive_writer pid opens)) ∙ ap (λ b. has_exclusive_writer pid opens || b) (sym old) ∙ sym (exclusive-taken pid) ∙ is in
+          let had : has_exclusive_writer pid opens ≡ true =
+          sym (or_false (has_exclusive_writer pid opens)) ∙ ap (λ b. has_exclusive_writer pid opens || b) (sym old)
+          ∙ sym (exclusive-taken pid) ∙ is in
           let before = e.alone pid had in
-          none_more (is_writer pid (Some h)) (count_by (is_writer pid) taken) (count_by (is_writer pid) opens) (other pid had) (count pid) ∙ before
+          none_more (is_writer pid (Some h)) (count_by (is_writer pid) taken) (count_by (is_writer pid) opens)
+          (other pid had) (count pid) ∙ before
 
 -- ---- a place is free again
 
@@ -215,11 +249,14 @@ module _ (opens : Places) (place : ℕ) (h : Held) (there : slice_get opens plac
   writer-freed : (pid : ℕ) → (has_writer pid freed || is_writer pid (Some h)) ≡ has_writer pid opens
   writer-freed pid = any-swap (is_writer pid) opens place (Some h) None there ∙ or_false (has_writer pid opens)
 
-  exclusive-freed : (pid : ℕ) → (has_exclusive_writer pid freed || is_exclusive_writer pid (Some h)) ≡ has_exclusive_writer pid opens
-  exclusive-freed pid = any-swap (is_exclusive_writer pid) opens place (Some h) None there ∙ or_false (has_exclusive_writer pid opens)
+  exclusive-freed : (pid : ℕ)
+      → (has_exclusive_writer pid freed || is_exclusive_writer pid (Some h)) ≡ has_exclusive_writer pid opens
+  exclusive-freed pid =
+      any-swap (is_exclusive_writer pid) opens place (Some h) None there ∙ or_false (has_exclusive_writer pid opens)
 
   -- no controller had the process open for writing, where none has it then and the handle was not for writing it
-  pub alone-then : (pid : ℕ) → is_writer pid (Some h) ≡ false → has_writer pid freed ≡ false → has_writer pid opens ≡ false
+  pub alone-then : (pid : ℕ) → is_writer pid (Some h) ≡ false → has_writer pid freed ≡ false
+      → has_writer pid opens ≡ false
   alone-then pid other alone = sym (writer-freed pid) ∙ rw (alone, other) refl
 
   pub fitting-freed : All IsFitting opens → All IsFitting freed
@@ -228,7 +265,8 @@ module _ (opens : Places) (place : ℕ) (h : Held) (there : slice_get opens plac
   pub exclusive-left : AreExclusive opens → AreExclusive freed
   exclusive-left e = record {
     alone = λ pid is.
-        let had : has_exclusive_writer pid opens ≡ true = sym (exclusive-freed pid) ∙ ap (λ b. b || is_exclusive_writer pid (Some h)) is in
+        let had : has_exclusive_writer pid opens ≡ true =
+        sym (exclusive-freed pid) ∙ ap (λ b. b || is_exclusive_writer pid (Some h)) is in
         let before = e.alone pid had in
         let counted = count-swap (is_writer pid) opens place (Some h) None there in
         let some = count-some (is_writer pid) freed (exclusive-has pid freed is) in
@@ -237,15 +275,18 @@ module _ (opens : Places) (place : ℕ) (h : Held) (there : slice_get opens plac
 
 -- ---- the handle that a message comes by
 
-pub handle-writer : (opens : Places) (number : ℕ) (h : Held) → All IsFitting opens → slice_get opens number ≡ Some (Some h) → is_control h.file ≡ true → has_writer h.pid opens ≡ true
+pub handle-writer : (opens : Places) (number : ℕ) (h : Held) → All IsFitting opens
+    → slice_get opens number ≡ Some (Some h) → is_control h.file ≡ true → has_writer h.pid opens ≡ true
 handle-writer opens number h all there control =
     let fits : fits_file h.file h.mode h.lwp ≡ true = All-at IsFitting opens number (Some h) there all in
-    any-at (is_writer h.pid) opens number (Some h) there (rw (eq-eqb h.pid h.pid refl, control-writes h fits control) refl)
+    any-at (is_writer h.pid) opens number (Some h) there
+    (rw (eq-eqb h.pid h.pid refl, control-writes h fits control) refl)
 
 -- ---- processes beside other handles
 
 -- what is released beside some handles is so beside others, where no process has a writer fewer
-pub released-beside : (opens others : Places) (e : ℕ × TracedProcess) → (has_writer e.0 others ≡ false → has_writer e.0 opens ≡ false) → IsReleased opens e → IsReleased others e
+pub released-beside : (opens others : Places) (e : ℕ × TracedProcess)
+    → (has_writer e.0 others ≡ false → has_writer e.0 opens ≡ false) → IsReleased opens e → IsReleased others e
 released-beside opens others e before h = record {
   no_kill = λ live alone. h.no_kill live (before alone);
   untraced = λ live alone mode. h.untraced live (before alone) mode;
@@ -254,22 +295,28 @@ released-beside opens others e before h = record {
 
 -- what holds of each process but one, and of that one once it is changed
 module _ {X : Type 0} (R : ℕ × X → Type 0) (id : ℕ) where
-  beyond : (low : ℕ) (es : List (ℕ × X)) → id < low → rises_from low es ≡ true → All (λ (e : ℕ × X). e.0 ≢ id → R e) es → All R es
+  beyond : (low : ℕ) (es : List (ℕ × X)) → id < low → rises_from low es ≡ true → All (λ (e : ℕ × X). e.0 ≢ id → R e) es
+      → All R es
   beyond low [] above rises all = All-nil R
   beyond low (e ∷ es) above rises all =
       let first = rises_from-head low e es rises in
       All-cons R e es (All-head (λ (d : ℕ × X). d.0 ≢ id → R d) e es all (λ is. absurd (omega arith)))
-      (beyond (e.0 + 1) es (omega arith) (rises_from-tail low e es rises) (All-tail (λ (d : ℕ × X). d.0 ≢ id → R d) e es all))
+      (beyond (e.0 + 1) es (omega arith) (rises_from-tail low e es rises)
+      (All-tail (λ (d : ℕ × X). d.0 ≢ id → R d) e es all))
 
-  pub all-fixed : (f : X → X) (low : ℕ) (es : List (ℕ × X)) → rises_from low es ≡ true → All (λ (e : ℕ × X). e.0 ≢ id → R e) es → ((x : X) → under id es ≡ Some x → R (id, f x)) → All R (change_under id f es)
+  pub all-fixed : (f : X → X) (low : ℕ) (es : List (ℕ × X)) → rises_from low es ≡ true
+      → All (λ (e : ℕ × X). e.0 ≢ id → R e) es → ((x : X) → under id es ≡ Some x → R (id, f x))
+      → All R (change_under id f es)
   all-fixed f low [] rises all here = All-nil R
   all-fixed f low (e ∷ es) rises all here =
       let tail = rises_from-tail low e es rises in
       elim (cases_eq e.0 id) [
         | inl same ↦
             let it = eq-eqb e.0 id same in
-            rw it (All-cons R (e.0, f e.1) es (rw same (here e.1 (rw it refl))) (beyond (e.0 + 1) es (omega arith) tail (All-tail (λ (d : ℕ × X). d.0 ≢ id → R d) e es all)))
+            rw it (All-cons R (e.0, f e.1) es (rw same (here e.1 (rw it refl)))
+            (beyond (e.0 + 1) es (omega arith) tail (All-tail (λ (d : ℕ × X). d.0 ≢ id → R d) e es all)))
         | inr apart ↦
             let it = ne_eqb e.0 id apart in
-            rw it (All-cons R e (change_under id f es) (All-head (λ (d : ℕ × X). d.0 ≢ id → R d) e es all apart) (all-fixed f (e.0 + 1) es tail (All-tail (λ (d : ℕ × X). d.0 ≢ id → R d) e es all) (rw it at here)))
+            rw it (All-cons R e (change_under id f es) (All-head (λ (d : ℕ × X). d.0 ≢ id → R d) e es all apart)
+            (all-fixed f (e.0 + 1) es tail (All-tail (λ (d : ℕ × X). d.0 ≢ id → R d) e es all) (rw it at here)))
       ]

@@ -14,7 +14,8 @@ use Rattle.pr_lawful.proofs.StateLemmas.{turn-state}
 
 -- Every state of a legal history from a lawful one is lawful.
 
-entry-state : (n : ℕ) (s : TracedState) (actor : Actor) (it : Act) → IsLawful s → IsLegalEntry n s (record { actor = actor; act = it }) → IsLawful (after s (record { actor = actor; act = it }))
+entry-state : (n : ℕ) (s : TracedState) (actor : Actor) (it : Act) → IsLawful s
+    → IsLegalEntry n s (record { actor = actor; act = it }) → IsLawful (after s (record { actor = actor; act = it }))
 unfolding IsLegalEntry after
 entry-state n s (Controller k) (act.Call c r) h legal =
     let a : Answer = record { state = legal.1.0; reply = r } in
@@ -29,4 +30,5 @@ entry-state n s _ _ h legal = absurd legal
 
 pub history-state : (n : ℕ) (s : TracedState) (h : List Entry) → IsLawful s → IsLegal n s h → IsLawful (state_after s h)
 history-state n s [] lawful legal = lawful
-history-state n s (e ∷ h) lawful legal = history-state n (after s e) h (entry-state n s e.actor e.act lawful legal.0) legal.1
+history-state n s (e ∷ h) lawful legal =
+    history-state n (after s e) h (entry-state n s e.actor e.act lawful legal.0) legal.1

@@ -21,7 +21,9 @@ abbrev pub KeepsLwp : (TracedLwp → TracedLwp) → Type 0
 KeepsLwp f = (next id : ℕ) (l : TracedLwp) → IsLawfulLwp next (id, l) → IsLawfulLwp next (id, f l)
 
 -- it leaves the held set and the frames
-pub same_sets : (f : TracedLwp → TracedLwp) → ((l : TracedLwp) → (f l).held ≡ l.held) → ((l : TracedLwp) → (f l).frames ≡ l.frames) → ((l : TracedLwp) → (f l).pending ≡ l.pending) → ((l : TracedLwp) → (f l).current ≡ l.current) → KeepsLwp f
+pub same_sets : (f : TracedLwp → TracedLwp) → ((l : TracedLwp) → (f l).held ≡ l.held)
+    → ((l : TracedLwp) → (f l).frames ≡ l.frames) → ((l : TracedLwp) → (f l).pending ≡ l.pending)
+    → ((l : TracedLwp) → (f l).current ≡ l.current) → KeepsLwp f
 same_sets f held frames pending current next id l h = record {
   id = h.id;
   held = subst IsHoldable (sym (held l)) h.held;
@@ -69,7 +71,8 @@ kept-next pid x y z first next = record {
   fds = next.fds ∙ first.fds;
 }
 
-pub kept-if : (pid : ℕ) (b : Bool) (x y z : TracedProcess) → StaysLawful pid x y → StaysLawful pid x z → StaysLawful pid x (cond b y z)
+pub kept-if : (pid : ℕ) (b : Bool) (x y z : TracedProcess) → StaysLawful pid x y → StaysLawful pid x z
+    → StaysLawful pid x (cond b y z)
 kept-if pid true x y z one other = one
 kept-if pid false x y z one other = other
 
@@ -87,11 +90,15 @@ pub record SameLwps (x y : TracedProcess) : Type 0 where
   pub rising : IsRising x.lwps → IsRising y.lwps
   pub lawful : All (IsLawfulLwp x.next_lwp) x.lwps → All (IsLawfulLwp y.next_lwp) y.lwps
 
-pub lawful-lwps : (pid : ℕ) (x y : TracedProcess) → SameRest x y → SameLwps x y → y.space ≡ x.space → y.fds ≡ x.fds → IsLawfulProcess (pid, x) → IsLawfulProcess (pid, y)
+pub lawful-lwps : (pid : ℕ) (x y : TracedProcess) → SameRest x y → SameLwps x y → y.space ≡ x.space → y.fds ≡ x.fds
+    → IsLawfulProcess (pid, x) → IsLawfulProcess (pid, y)
 lawful-lwps pid x y rest lwps space fds h = record {
-  has_lwps = record { some = λ user live. subst (λ n. 0 < n) (sym lwps.count) (h.has_lwps.some user (sym rest.ended ∙ live)) };
+  has_lwps =
+      record { some = λ user live. subst (λ n. 0 < n) (sym lwps.count) (h.has_lwps.some user (sym rest.ended ∙ live)) };
   empty_zombie = record {
-    no_lwps = λ status is. nil_from_length y.lwps (lwps.count ∙ ap (λ (ls : List (ℕ × TracedLwp)). length ls) (h.empty_zombie.no_lwps status (sym rest.ended ∙ is)));
+    no_lwps =
+        λ status is. nil_from_length y.lwps (lwps.count
+        ∙ ap (λ (ls : List (ℕ × TracedLwp)). length ls) (h.empty_zombie.no_lwps status (sym rest.ended ∙ is)));
     no_memory = λ status is. space ∙ h.empty_zombie.no_memory status (sym rest.ended ∙ is);
     no_files = λ status is. fds ∙ h.empty_zombie.no_files status (sym rest.ended ∙ is);
   };
@@ -116,29 +123,44 @@ same_lwps x y lwps next = record {
 }
 
 -- an lwp is changed in its place, where that leaves the one that stands there lawful, or any lwp; and all are changed
-pub changed_one : (x : TracedProcess) (id : ℕ) (f : TracedLwp → TracedLwp) → ((l : TracedLwp) → lwp_of x id ≡ Some l → IsLawfulLwp x.next_lwp (id, l) → IsLawfulLwp x.next_lwp (id, f l)) → SameLwps x (record x { lwps = change_under id f x.lwps })
+pub changed_one : (x : TracedProcess) (id : ℕ) (f : TracedLwp → TracedLwp)
+    → ((l : TracedLwp) → lwp_of x id ≡ Some l → IsLawfulLwp x.next_lwp (id, l) → IsLawfulLwp x.next_lwp (id, f l))
+    → SameLwps x (record x { lwps = change_under id f x.lwps })
 changed_one x id f keeps = record {
   count = length-change_under id f x.lwps;
   rising = λ h. rises_from-change_under 0 id f x.lwps ∙ h;
   lawful = λ h. All-change_under (IsLawfulLwp x.next_lwp) id f x.lwps keeps h;
 }
 
-pub changed_lwps : (x : TracedProcess) (id : ℕ) (f : TracedLwp → TracedLwp) → KeepsLwp f → SameLwps x (record x { lwps = change_under id f x.lwps })
+pub changed_lwps : (x : TracedProcess) (id : ℕ) (f : TracedLwp → TracedLwp) → KeepsLwp f
+    → SameLwps x (record x { lwps = change_under id f x.lwps })
 changed_lwps x id f keeps = changed_one x id f (λ l found it. keeps x.next_lwp id l it)
 
-pub mapped_lwps : (x : TracedProcess) (f : TracedLwp → TracedLwp) → KeepsLwp f → SameLwps x (record x { lwps = map_each f x.lwps })
+pub mapped_lwps : (x : TracedProcess) (f : TracedLwp → TracedLwp) → KeepsLwp f
+    → SameLwps x (record x { lwps = map_each f x.lwps })
 mapped_lwps x f keeps = record {
   count = length-map_each f x.lwps;
   rising = λ h. rises_from-map_each 0 f x.lwps ∙ h;
-  lawful = λ h. All-map_each (IsLawfulLwp x.next_lwp) (IsLawfulLwp x.next_lwp) f (λ e it. keeps x.next_lwp e.0 e.1 it) x.lwps h;
+  lawful =
+      λ h. All-map_each (IsLawfulLwp x.next_lwp) (IsLawfulLwp x.next_lwp) f
+      (λ e it. keeps x.next_lwp e.0 e.1 it) x.lwps h;
 }
 
 -- ---- changes that keep a process
 
-pub same_rest : (x y : TracedProcess) → y.ended ≡ x.ended → y.next_lwp ≡ x.next_lwp → y.control.traced_signals ≡ x.control.traced_signals → y.dispositions ≡ x.dispositions → (IsLawfulPending x.pending → IsLawfulPending y.pending) → SameRest x y
-same_rest x y ended next traced dispositions pending = record { ended = ended; next_lwp = next; traced = traced; dispositions = dispositions; pending = pending }
+pub same_rest : (x y : TracedProcess) → y.ended ≡ x.ended → y.next_lwp ≡ x.next_lwp
+    → y.control.traced_signals ≡ x.control.traced_signals → y.dispositions ≡ x.dispositions
+    → (IsLawfulPending x.pending → IsLawfulPending y.pending) → SameRest x y
+same_rest x y ended next traced dispositions pending = record {
+  ended = ended;
+  next_lwp = next;
+  traced = traced;
+  dispositions = dispositions;
+  pending = pending;
+}
 
-pub kept-parts : (pid : ℕ) (x y : TracedProcess) → y.parent ≡ x.parent → SameRest x y → SameLwps x y → y.space ≡ x.space → y.fds ≡ x.fds → StaysLawful pid x y
+pub kept-parts : (pid : ℕ) (x y : TracedProcess) → y.parent ≡ x.parent → SameRest x y → SameLwps x y
+    → y.space ≡ x.space → y.fds ≡ x.fds → StaysLawful pid x y
 kept-parts pid x y parent rest lwps space fds = record {
   lawful = lawful-lwps pid x y rest lwps space fds;
   parent = parent;
@@ -151,8 +173,10 @@ kept-parts pid x y parent rest lwps space fds = record {
 pub keeps-lwp : (id : ℕ) (f : TracedLwp → TracedLwp) → KeepsLwp f → Keeps (with_lwp id f)
 unfolding with_lwp
 keeps-lwp id f keeps pid x =
-    kept-parts pid x (record x { lwps = change_under id f x.lwps }) refl (same_rest x _ refl refl refl refl (λ it. it)) (changed_lwps x id f keeps) refl refl
+    kept-parts pid x (record x { lwps = change_under id f x.lwps }) refl (same_rest x _ refl refl refl refl (λ it. it))
+    (changed_lwps x id f keeps) refl refl
 
 pub keeps-each : (f : TracedLwp → TracedLwp) → KeepsLwp f → Keeps (λ x. record x { lwps = map_each f x.lwps })
 keeps-each f keeps pid x =
-    kept-parts pid x (record x { lwps = map_each f x.lwps }) refl (same_rest x _ refl refl refl refl (λ it. it)) (mapped_lwps x f keeps) refl refl
+    kept-parts pid x (record x { lwps = map_each f x.lwps }) refl (same_rest x _ refl refl refl refl (λ it. it))
+    (mapped_lwps x f keeps) refl refl

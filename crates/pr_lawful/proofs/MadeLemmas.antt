@@ -46,7 +46,8 @@ process-grows s pid f = omega arith
 
 -- ---- ends
 
-pub ended-grows : (s : TracedSystem) (pid : ℕ) (p : TracedProcess) (status : ℕ) → Grows s (with_this_ended traced pid p status s)
+pub ended-grows : (s : TracedSystem) (pid : ℕ) (p : TracedProcess) (status : ℕ)
+    → Grows s (with_this_ended traced pid p status s)
 unfolding with_this_ended with_parent_signalled with_process
 ended-grows s pid p status = either-grows (eqb p.parent 0) s _ _ (omega arith) (omega arith)
 
@@ -58,13 +59,17 @@ with_ended-grows s pid status = by (live_process s pid)
     by None = same-grows s
     by (Some p) = ended-grows s pid p status
 
-pub generated-grows : (s : TracedSystem) (pid : ℕ) (target : Option ℕ) (g : Sig) (info : Info) → Grows s (generated traced pid target g info s)
+pub generated-grows : (s : TracedSystem) (pid : ℕ) (target : Option ℕ) (g : Sig) (info : Info)
+    → Grows s (generated traced pid target g info s)
 unfolding generated
-generated-grows s pid target g info = either-grows (is_kill g) s _ _ (with_ended-grows s pid (signal_number g)) (process-grows s pid (signalled target g info))
+generated-grows s pid target g info =
+    either-grows (is_kill g) s _ _ (with_ended-grows s pid (signal_number g))
+    (process-grows s pid (signalled target g info))
 
 lwp_ended-grows : (s : TracedSystem) (pid : ℕ) (p : TracedProcess) (id : ℕ) → Grows s (with_lwp_ended traced pid p id s)
 unfolding with_lwp_ended
-lwp_ended-grows s pid p id = either-grows (eqb (length p.lwps) 1) s _ _ (ended-grows s pid p 0) (process-grows s pid (without_lwp id))
+lwp_ended-grows s pid p id =
+    either-grows (eqb (length p.lwps) 1) s _ _ (ended-grows s pid p 0) (process-grows s pid (without_lwp id))
 
 -- ---- messages and closes
 
@@ -90,7 +95,8 @@ pub spawned-grows : (s : TracedSystem) (program : Program) (held : Bool) → Gro
 unfolding with_spawned with_made
 spawned-grows s program held = omega arith
 
-child-grows : (birth : Birth) (s : TracedSystem) (pid : ℕ) (p : TracedProcess) (l : TracedLwp) (args : List ℕ) → Grows s (with_child traced birth pid p l args s)
+child-grows : (birth : Birth) (s : TracedSystem) (pid : ℕ) (p : TracedProcess) (l : TracedLwp) (args : List ℕ)
+    → Grows s (with_child traced birth pid p l args s)
 unfolding with_child with_made
 child-grows birth s pid p l args = omega arith
 
@@ -101,14 +107,17 @@ module _ (pid : ℕ) (p : TracedProcess) (id : ℕ) (l : TracedLwp) where
   unfolding changed with_process with_reaped
   changed-grows (files_are files fds) s = omega arith
   changed-grows (space_is space) s = omega arith
-  changed-grows (signals target g info) s = either-grows (is_kill g && eqb target pid) s _ _ (same-grows s) (generated-grows s target None g info)
-  changed-grows (signals_itself g info) s = either-grows (is_kill g) s _ _ (same-grows s) (generated-grows s pid (Some id) g info)
+  changed-grows (signals target g info) s =
+      either-grows (is_kill g && eqb target pid) s _ _ (same-grows s) (generated-grows s target None g info)
+  changed-grows (signals_itself g info) s =
+      either-grows (is_kill g) s _ _ (same-grows s) (generated-grows s pid (Some id) g info)
   changed-grows (takes_shared g) s = omega arith
   changed-grows (job_stops g) s = omega arith
   changed-grows (disposition_is g d) s = omega arith
   changed-grows (held_is held) s = omega arith
   changed-grows (resumes frame frames) s = omega arith
-  changed-grows (forks birth args) s = either-grows (eqb s.made pid) s _ _ (same-grows s) (child-grows birth s pid p l args)
+  changed-grows (forks birth args) s =
+      either-grows (eqb s.made pid) s _ _ (same-grows s) (child-grows birth s pid p l args)
   changed-grows (reaps child) s = either-grows (eqb child pid) s _ _ (same-grows s) (omega arith)
   changed-grows (becomes program) s = omega arith
   changed-grows (makes_lwp new regs held) s = omega arith
@@ -118,7 +127,8 @@ module _ (pid : ℕ) (p : TracedProcess) (id : ℕ) (l : TracedLwp) where
   unfolding all_changed
   all_changed-grows [] s = same-grows s
   all_changed-grows (c ∷ cs) s =
-      next-grows s (changed traced pid p id l c s) (all_changed traced pid p id l cs (changed traced pid p id l c s)) (changed-grows c s) (all_changed-grows cs (changed traced pid p id l c s))
+      next-grows s (changed traced pid p id l c s) (all_changed traced pid p id l cs (changed traced pid p id l c s))
+      (changed-grows c s) (all_changed-grows cs (changed traced pid p id l c s))
 
   ending-grows : (how : Ending) (s : TracedSystem) → Grows s (ended traced pid p id how s)
   unfolding ended
@@ -143,5 +153,6 @@ of-made : (made more : ℕ) → made ≤ more → (o : Option Held) → IsOfMade
 of-made made more fewer None it = tt
 of-made made more fewer (Some h) it = omega arith
 
-pub handles-on : (opens : Places) (s t : TracedSystem) → Grows s t → All (IsOfMade s.made) opens → All (IsOfMade t.made) opens
+pub handles-on : (opens : Places) (s t : TracedSystem) → Grows s t → All (IsOfMade s.made) opens
+    → All (IsOfMade t.made) opens
 handles-on opens s t grows all = All-weaker (IsOfMade s.made) (IsOfMade t.made) (of-made s.made t.made grows) opens all

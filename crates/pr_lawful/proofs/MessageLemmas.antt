@@ -71,7 +71,14 @@ module _ (next id : ℕ) where
   unfolding without_current without_fault with_directive without_directive let_go with_step with_abort lwp_without_one
       with_held_set with_registers with_address
   edited-lwp m l k (lwp.drops_signal is) h =
-      record { id = h.id; held = h.held; frames = h.frames; few_frames = h.few_frames; pending = h.pending; current = tt }
+      record {
+        id = h.id;
+        held = h.held;
+        frames = h.frames;
+        few_frames = h.few_frames;
+        pending = h.pending;
+        current = tt;
+      }
   edited-lwp m l k (lwp.signal_is is) h = record {
     id = h.id;
     held = h.held;
@@ -126,7 +133,11 @@ control-kept : (pid : ℕ) (x : TracedProcess) (c : TracedControl)
 control-kept pid x c traced_too = record {
   lawful = λ it. record {
     has_lwps = record { some = it.has_lwps.some };
-    empty_zombie = record { no_lwps = it.empty_zombie.no_lwps; no_memory = it.empty_zombie.no_memory; no_files = it.empty_zombie.no_files };
+    empty_zombie = record {
+      no_lwps = it.empty_zombie.no_lwps;
+      no_memory = it.empty_zombie.no_memory;
+      no_files = it.empty_zombie.no_files;
+    };
     rising = it.rising;
     lwps = it.lwps;
     next_lwp = it.next_lwp;
@@ -154,7 +165,9 @@ module _ (pid : ℕ) (p : TracedProcess) (live : p.ended ≡ None) where
           has_lwps = record { some = λ user is. omega arith };
           empty_zombie = live-empty (with_agent regs p) live;
           rising = rises_from-inserted 0 agent_id (agent_lwp regs) p.lwps (omega arith) it.rising none;
-          lwps = All-inserted (IsLawfulLwp p.next_lwp) agent_id (agent_lwp regs) p.lwps (record { id = inr refl; held = holdable-holdable all_signals; frames = All-nil IsLawfulFrame; few_frames = omega arith; pending = no-infos; current = tt }) it.lwps;
+          lwps =
+              All-inserted (IsLawfulLwp p.next_lwp) agent_id (agent_lwp regs) p.lwps
+              (record { id = inr refl; held = holdable-holdable all_signals; frames = All-nil IsLawfulFrame; few_frames = omega arith; pending = no-infos; current = tt }) it.lwps;
           next_lwp = it.next_lwp;
           few_lwps = omega arith;
           descriptors = it.descriptors;

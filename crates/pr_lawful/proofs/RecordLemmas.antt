@@ -25,14 +25,17 @@ current-info None h = record { code = omega arith; pid = omega arith }
 current-info (Some c) h = h
 
 -- the status of an lwp
-pub lwpstatus-info : (next : ℕ) (p : TracedProcess) (e : ℕ × TracedLwp) → IsLawfulLwp next e → HasInfo (lwpstatus_of p e.0 e.1)
+pub lwpstatus-info : (next : ℕ) (p : TracedProcess) (e : ℕ × TracedLwp) → IsLawfulLwp next e
+    → HasInfo (lwpstatus_of p e.0 e.1)
 unfolding lwpstatus_of
 lwpstatus-info next p e h = current-info e.1.current h.current
 
-statuses-info : (next : ℕ) (p : TracedProcess) (es : List (ℕ × TracedLwp)) → All (IsLawfulLwp next) es → All HasInfo (statuses_of_lwps p es)
+statuses-info : (next : ℕ) (p : TracedProcess) (es : List (ℕ × TracedLwp)) → All (IsLawfulLwp next) es
+    → All HasInfo (statuses_of_lwps p es)
 statuses-info next p [] all = All-nil HasInfo
 statuses-info next p (e ∷ es) all =
-    All-cons HasInfo (lwpstatus_of p e.0 e.1) (statuses_of_lwps p es) (lwpstatus-info next p e (All-head (IsLawfulLwp next) e es all))
+    All-cons HasInfo (lwpstatus_of p e.0 e.1) (statuses_of_lwps p es)
+    (lwpstatus-info next p e (All-head (IsLawfulLwp next) e es all))
     (statuses-info next p es (All-tail (IsLawfulLwp next) e es all))
 
 pub lstatus-info : (pid : ℕ) (p : TracedProcess) → IsLawfulProcess (pid, p) → All HasInfo (lstatus_of p)
@@ -48,7 +51,12 @@ either-holds P None b h k = k
 found-holds : {X : Type 0} (P : X → Type 0) (q : X → Bool) (xs : List X) → All P xs → IfSome (find q xs) P
 found-holds P q [] all = tt
 found-holds P q (x ∷ xs) all =
-    elim (q x) as (λ b. IfSome (cond b (Some x) (find q xs)) P) [ true ↦ All-head P x xs all | false ↦ found-holds P q xs (All-tail P x xs all) ]
+    elim (q x) as
+    (λ b. IfSome (cond b (Some x) (find q xs)) P) [
+      | true ↦ All-head P x xs all
+      | false ↦ found-holds P q xs
+          (All-tail P x xs all)
+    ]
 
 module _ (pid : ℕ) (p : TracedProcess) (h : IsLawfulProcess (pid, p)) where
   class-lawful : (class : ℕ) → IfSome (first_in_class p.job_stop class p.lwps) (IsLawfulLwp p.next_lwp)
@@ -58,7 +66,8 @@ module _ (pid : ℕ) (p : TracedProcess) (h : IsLawfulProcess (pid, p)) where
   agent-lawful : IfSome (agent_of p) (IsLawfulLwp p.next_lwp)
   agent-lawful = by (lwp_of p agent_id) (λ l there. All-under (IsLawfulLwp p.next_lwp) agent_id l p.lwps h.lwps there)
     where
-      by : (o : Option TracedLwp) → ((l : TracedLwp) → o ≡ Some l → IsLawfulLwp p.next_lwp (agent_id, l)) → IfSome (let e : Option (ℕ × TracedLwp) = option_map (λ l. (agent_id, l)) o in e) (IsLawfulLwp p.next_lwp)
+      by : (o : Option TracedLwp) → ((l : TracedLwp) → o ≡ Some l → IsLawfulLwp p.next_lwp (agent_id, l))
+          → IfSome (let e : Option (ℕ × TracedLwp) = option_map (λ l. (agent_id, l)) o in e) (IsLawfulLwp p.next_lwp)
       by None lawful = tt
       by (Some l) lawful = lawful l refl
 
@@ -66,7 +75,10 @@ module _ (pid : ℕ) (p : TracedProcess) (h : IsLawfulProcess (pid, p)) where
   unfolding representative
   representative-lawful =
       let either = either-holds (IsLawfulLwp p.next_lwp) in
-      either _ _ (either _ _ (either _ _ (either _ _ (either _ _ agent-lawful (class-lawful 1)) (class-lawful 2)) (class-lawful 3)) (class-lawful 4)) (class-lawful 5)
+      either _ _
+      (either _ _
+      (either _ _ (either _ _ (either _ _ agent-lawful (class-lawful 1)) (class-lawful 2)) (class-lawful 3))
+      (class-lawful 4)) (class-lawful 5)
 
   -- the status of the process has that of the representative
   pub status-info : (s : TracedSystem) → HasInfo (status_of s pid p).lwp

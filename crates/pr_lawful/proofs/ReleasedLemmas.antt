@@ -63,12 +63,15 @@ moved-calm move.returns goes_on = same_control (moved traced move.returns) (λ l
 moved-calm (move.runs regs) goes_on = same_control (moved traced (move.runs regs)) (λ l. refl)
 moved-calm (move.enters call regs) goes_on = same_control (moved traced (move.enters call regs)) (λ l. refl)
 moved-calm (move.incurs f address) goes_on = same_control (moved traced (move.incurs f address)) (λ l. refl)
-moved-calm (move.traps f address regs) goes_on = λ id l h. record { no_stop = h.no_stop; not_directed = h.not_directed; no_step = refl }
-moved-calm (move.leaves call args result) goes_on = λ id l h. record { no_stop = h.no_stop; not_directed = h.not_directed; no_step = h.no_step }
+moved-calm (move.traps f address regs) goes_on =
+    λ id l h. record { no_stop = h.no_stop; not_directed = h.not_directed; no_step = refl }
+moved-calm (move.leaves call args result) goes_on =
+    λ id l h. record { no_stop = h.no_stop; not_directed = h.not_directed; no_step = h.no_step }
 moved-calm (move.sleeps call args since) goes_on = same_control (moved traced (move.sleeps call args since)) (λ l. refl)
 moved-calm (move.takes c own) goes_on = same_control (moved traced (move.takes c own)) (λ l. refl)
 moved-calm move.drops goes_on = same_control (moved traced move.drops) (λ l. refl)
-moved-calm (move.catches frames regs held) goes_on = same_control (moved traced (move.catches frames regs held)) (λ l. refl)
+moved-calm (move.catches frames regs held) goes_on =
+    same_control (moved traced (move.catches frames regs held)) (λ l. refl)
 
 -- ---- processes
 
@@ -109,56 +112,81 @@ same_parts x y ended control lwps = record {
 
 calm-lwp : (id : ℕ) (f : TracedLwp → TracedLwp) → KeepsCalm f → Calms (with_lwp id f)
 unfolding with_lwp
-calm-lwp id f keeps x = record { ended = λ is. is; modes = refl; untraced = λ u. u; runs = λ u all. All-change_under IsReleasedLwp id f x.lwps (λ l found it. keeps id l it) all }
+calm-lwp id f keeps x = record {
+  ended = λ is. is;
+  modes = refl;
+  untraced = λ u. u;
+  runs = λ u all. All-change_under IsReleasedLwp id f x.lwps (λ l found it. keeps id l it) all;
+}
 
 calm-each : (f : TracedLwp → TracedLwp) → KeepsCalm f → Calms (λ x. record x { lwps = map_each f x.lwps })
-calm-each f keeps x = record { ended = λ is. is; modes = refl; untraced = λ u. u; runs = λ u all. All-map_each IsReleasedLwp IsReleasedLwp f (λ e it. keeps e.0 e.1 it) x.lwps all }
+calm-each f keeps x = record {
+  ended = λ is. is;
+  modes = refl;
+  untraced = λ u. u;
+  runs = λ u all. All-map_each IsReleasedLwp IsReleasedLwp f (λ e it. keeps e.0 e.1 it) x.lwps all;
+}
 
 -- ---- signals
 
 pending-calm : (target : Option ℕ) (g : Sig) (info : Info) → Calms (with_pending target g info)
 unfolding with_pending lwp_with_pending with_lwp
 pending-calm None g info x = same_parts x (with_pending None g info x) refl refl refl
-pending-calm (Some id) g info x = let it = calm-lwp id (lwp_with_pending g info) (same_control (lwp_with_pending g info) (λ l. refl)) x in record { ended = it.ended; modes = it.modes; untraced = it.untraced; runs = it.runs }
+pending-calm (Some id) g info x =
+    let it = calm-lwp id (lwp_with_pending g info) (same_control (lwp_with_pending g info) (λ l. refl)) x in
+    record { ended = it.ended; modes = it.modes; untraced = it.untraced; runs = it.runs }
 
 without_pending-calm : (set : ℕ) → Calms (without_pending set)
 unfolding without_pending lwp_without_pending
-without_pending-calm set x = let it = calm-each (lwp_without_pending set) (same_control (lwp_without_pending set) (λ l. refl)) x in record { ended = it.ended; modes = it.modes; untraced = it.untraced; runs = it.runs }
+without_pending-calm set x =
+    let it = calm-each (lwp_without_pending set) (same_control (lwp_without_pending set) (λ l. refl)) x in
+    record { ended = it.ended; modes = it.modes; untraced = it.untraced; runs = it.runs }
 
 job-calm : (g : Sig) → Calms (without_job_stop g)
 unfolding without_job_stop
-job-calm g x = calm-if (ends_job_stop g) x (record x { job_stop = None }) x (same_parts x (record x { job_stop = None }) refl refl refl) (calm-same x)
+job-calm g x =
+    calm-if (ends_job_stop g) x (record x { job_stop = None }) x
+    (same_parts x (record x { job_stop = None }) refl refl refl) (calm-same x)
 
 deletions-calm : (g : Sig) → Calms (with_deletions g)
 unfolding with_deletions
 deletions-calm g x =
     calm-if (eqb (deleted_by g) 0) x x (without_job_stop g (without_pending (deleted_by g) x)) (calm-same x)
-    (calm-next x (without_pending (deleted_by g) x) (without_job_stop g (without_pending (deleted_by g) x)) (without_pending-calm (deleted_by g) x) (job-calm g (without_pending (deleted_by g) x)))
+    (calm-next x (without_pending (deleted_by g) x) (without_job_stop g (without_pending (deleted_by g) x))
+    (without_pending-calm (deleted_by g) x) (job-calm g (without_pending (deleted_by g) x)))
 
 signalled-calm : (target : Option ℕ) (g : Sig) (info : Info) → Calms (signalled target g info)
 unfolding signalled
 signalled-calm target g info x =
     calm-if (is_none x.ended) x (with_pending target g info (with_deletions g x)) x
-    (calm-next x (with_deletions g x) (with_pending target g info (with_deletions g x)) (deletions-calm g x) (pending-calm target g info (with_deletions g x))) (calm-same x)
+    (calm-next x (with_deletions g x) (with_pending target g info (with_deletions g x)) (deletions-calm g x)
+    (pending-calm target g info (with_deletions g x))) (calm-same x)
 
 -- ---- stops
 
 stop-ended : (point : Point) (id : ℕ) (x : TracedProcess) → (with_stop_at point id x).ended ≡ x.ended
 unfolding with_stop_at with_others_directed with_all_directed with_lwp
-stop-ended point id x = choice (λ (y : TracedProcess). y.ended ≡ x.ended) (has_flags x.control.modes async_mode) _ _ (λ async. refl) (λ others. refl)
+stop-ended point id x =
+    choice (λ (y : TracedProcess). y.ended ≡ x.ended) (has_flags x.control.modes async_mode) _ _ (λ async. refl)
+    (λ others. refl)
 
 stop-control : (point : Point) (id : ℕ) (x : TracedProcess) → (with_stop_at point id x).control ≡ x.control
 unfolding with_stop_at with_others_directed with_all_directed with_lwp
-stop-control point id x = choice (λ (y : TracedProcess). y.control ≡ x.control) (has_flags x.control.modes async_mode) _ _ (λ async. refl) (λ others. refl)
+stop-control point id x =
+    choice (λ (y : TracedProcess). y.control ≡ x.control) (has_flags x.control.modes async_mode) _ _ (λ async. refl)
+    (λ others. refl)
 
 -- ---- the system, beside some open handles
 
 module _ (opens : Places) where
-  pub calm-released : (pid : ℕ) (x y : TracedProcess) → StaysCalm x y → IsReleased opens (pid, x) → IsReleased opens (pid, y)
+  pub calm-released : (pid : ℕ) (x y : TracedProcess) → StaysCalm x y → IsReleased opens (pid, x)
+      → IsReleased opens (pid, y)
   calm-released pid x y calm h = record {
     no_kill = λ live alone. rw calm.modes (h.no_kill (calm.ended live) alone);
     untraced = λ live alone mode. calm.untraced (h.untraced (calm.ended live) alone (rw calm.modes at mode));
-    runs = λ live alone mode. calm.runs (h.untraced (calm.ended live) alone (rw calm.modes at mode)) (h.runs (calm.ended live) alone (rw calm.modes at mode));
+    runs =
+        λ live alone mode. calm.runs (h.untraced (calm.ended live) alone (rw calm.modes at mode))
+        (h.runs (calm.ended live) alone (rw calm.modes at mode));
   }
 
   -- whatever a process is that a controller has open for writing
@@ -170,7 +198,8 @@ module _ (opens : Places) where
   }
 
   -- a process with neither mode
-  pub modeless-released : (pid : ℕ) (x : TracedProcess) → has_flags x.control.modes klc_mode ≡ false → has_flags x.control.modes rlc_mode ≡ false → IsReleased opens (pid, x)
+  pub modeless-released : (pid : ℕ) (x : TracedProcess) → has_flags x.control.modes klc_mode ≡ false
+      → has_flags x.control.modes rlc_mode ≡ false → IsReleased opens (pid, x)
   modeless-released pid x no_kill no_release = record {
     no_kill = λ live alone. no_kill;
     untraced = λ live alone mode. absurd (false≢true (sym no_release ∙ mode));
@@ -180,11 +209,14 @@ module _ (opens : Places) where
   abbrev pub AllReleased : TracedSystem → Type 0
   AllReleased s = All (IsReleased opens) s.processes
 
-  pub process-released : (s : TracedSystem) (pid : ℕ) (f : TracedProcess → TracedProcess) → ((x : TracedProcess) → process_of s pid ≡ Some x → IsReleased opens (pid, x) → IsReleased opens (pid, f x)) → AllReleased s → AllReleased (with_process pid f s)
+  pub process-released : (s : TracedSystem) (pid : ℕ) (f : TracedProcess → TracedProcess)
+      → ((x : TracedProcess) → process_of s pid ≡ Some x → IsReleased opens (pid, x) → IsReleased opens (pid, f x))
+      → AllReleased s → AllReleased (with_process pid f s)
   unfolding with_process
   process-released s pid f keeps all = All-change_under (IsReleased opens) pid f s.processes keeps all
 
-  pub calms : (s : TracedSystem) (pid : ℕ) (f : TracedProcess → TracedProcess) → Calms f → AllReleased s → AllReleased (with_process pid f s)
+  pub calms : (s : TracedSystem) (pid : ℕ) (f : TracedProcess → TracedProcess) → Calms f → AllReleased s
+      → AllReleased (with_process pid f s)
   calms s pid f calm all = process-released s pid f (λ x found it. calm-released pid x (f x) (calm x) it) all
 
   either : (b : Bool) (s t : TracedSystem) → AllReleased s → AllReleased t → AllReleased (cond b s t)
@@ -203,21 +235,33 @@ module _ (opens : Places) where
 
   orphaned-calm : (gone : ℕ) → Calms (orphaned gone)
   unfolding orphaned
-  orphaned-calm gone x = calm-if (eqb x.parent gone) x (record x { parent = 0 }) x (same_parts x (record x { parent = 0 }) refl refl refl) (calm-same x)
+  orphaned-calm gone x =
+      calm-if (eqb x.parent gone) x (record x { parent = 0 }) x (same_parts x (record x { parent = 0 }) refl refl refl)
+      (calm-same x)
 
   -- a process ends whose zombie is buried among the others
-  pub buried-released : (s : TracedSystem) (pid : ℕ) (p : TracedProcess) (status : ℕ) → All (IsReleased opens) (change_under pid (zombie traced status) s.processes) → AllReleased (with_this_ended traced pid p status s)
+  pub buried-released : (s : TracedSystem) (pid : ℕ) (p : TracedProcess) (status : ℕ)
+      → All (IsReleased opens) (change_under pid (zombie traced status) s.processes)
+      → AllReleased (with_this_ended traced pid p status s)
   unfolding with_this_ended with_parent_signalled
   buried-released s pid p status buried =
       let left : List (ℕ × TracedProcess) = change_under pid (zombie traced status) s.processes in
-      let orphans = All-map_each (IsReleased opens) (IsReleased opens) (orphaned pid) (λ e it. calm-released e.0 e.1 (orphaned pid e.1) (orphaned-calm pid e.1) it) left buried in
-      either (eqb p.parent 0) _ _ orphans (calms _ p.parent (signalled None Cld (of_child pid status)) (signalled-calm None Cld (of_child pid status)) orphans)
+      let orphans =
+      All-map_each (IsReleased opens) (IsReleased opens) (orphaned pid)
+      (λ e it. calm-released e.0 e.1 (orphaned pid e.1) (orphaned-calm pid e.1) it) left buried in
+      either (eqb p.parent 0) _ _ orphans
+      (calms _ p.parent (signalled None Cld (of_child pid status))
+      (signalled-calm None Cld (of_child pid status)) orphans)
 
-  pub ended-released : (s : TracedSystem) (pid : ℕ) (p : TracedProcess) (status : ℕ) → AllReleased s → AllReleased (with_this_ended traced pid p status s)
+  pub ended-released : (s : TracedSystem) (pid : ℕ) (p : TracedProcess) (status : ℕ) → AllReleased s
+      → AllReleased (with_this_ended traced pid p status s)
   ended-released s pid p status all =
-      buried-released s pid p status (All-change_under (IsReleased opens) pid (zombie traced status) s.processes (λ x found it. zombie-released pid status x) all)
+      buried-released s pid p status
+      (All-change_under (IsReleased opens) pid (zombie traced status) s.processes
+      (λ x found it. zombie-released pid status x) all)
 
-  with_ended-released : (s : TracedSystem) (pid status : ℕ) → AllReleased s → AllReleased (with_ended traced pid status s)
+  with_ended-released : (s : TracedSystem) (pid status : ℕ) → AllReleased s
+      → AllReleased (with_ended traced pid status s)
   unfolding with_ended
   with_ended-released s pid status all = by (live_process s pid)
     where
@@ -225,86 +269,134 @@ module _ (opens : Places) where
       by None = all
       by (Some p) = ended-released s pid p status all
 
-  pub generated-released : (s : TracedSystem) (pid : ℕ) (target : Option ℕ) (g : Sig) (info : Info) → AllReleased s → AllReleased (generated traced pid target g info s)
+  pub generated-released : (s : TracedSystem) (pid : ℕ) (target : Option ℕ) (g : Sig) (info : Info) → AllReleased s
+      → AllReleased (generated traced pid target g info s)
   unfolding generated
-  generated-released s pid target g info all = either (is_kill g) _ _ (with_ended-released s pid (signal_number g) all) (calms s pid (signalled target g info) (signalled-calm target g info) all)
+  generated-released s pid target g info all =
+      either (is_kill g) _ _ (with_ended-released s pid (signal_number g) all)
+      (calms s pid (signalled target g info) (signalled-calm target g info) all)
 
   without_lwp-calm : (id : ℕ) → Calms (without_lwp id)
   unfolding without_lwp
-  without_lwp-calm id x = record { ended = λ is. is; modes = refl; untraced = λ u. u; runs = λ u all. All-without_id IsReleasedLwp id x.lwps all }
+  without_lwp-calm id x = record {
+    ended = λ is. is;
+    modes = refl;
+    untraced = λ u. u;
+    runs = λ u all. All-without_id IsReleasedLwp id x.lwps all;
+  }
 
-  lwp_ended-released : (s : TracedSystem) (pid : ℕ) (p : TracedProcess) (id : ℕ) → AllReleased s → AllReleased (with_lwp_ended traced pid p id s)
+  lwp_ended-released : (s : TracedSystem) (pid : ℕ) (p : TracedProcess) (id : ℕ) → AllReleased s
+      → AllReleased (with_lwp_ended traced pid p id s)
   unfolding with_lwp_ended
-  lwp_ended-released s pid p id all = either (eqb (length p.lwps) 1) _ _ (ended-released s pid p 0 all) (calms s pid (without_lwp id) (without_lwp-calm id) all)
+  lwp_ended-released s pid p id all =
+      either (eqb (length p.lwps) 1) _ _ (ended-released s pid p 0 all)
+      (calms s pid (without_lwp id) (without_lwp-calm id) all)
 
   -- ---- beginnings
 
-  pub made-released : (s : TracedSystem) (p : TracedProcess) → IsReleased opens (s.made, p) → AllReleased s → AllReleased (with_made p s)
+  pub made-released : (s : TracedSystem) (p : TracedProcess) → IsReleased opens (s.made, p) → AllReleased s
+      → AllReleased (with_made p s)
   unfolding with_made
   made-released s p new all = All-inserted (IsReleased opens) s.made p s.processes new all
 
-  child-modes : (c : TracedControl) → (has_flags (child_control c).modes klc_mode ≡ false) × (has_flags (child_control c).modes rlc_mode ≡ false)
+  child-modes : (c : TracedControl)
+      → (has_flags (child_control c).modes klc_mode ≡ false) × (has_flags (child_control c).modes rlc_mode ≡ false)
   unfolding child_control nothing_set has_flags common_word
-  child-modes c = choice (λ (d : TracedControl). (has_flags d.modes klc_mode ≡ false) × (has_flags d.modes rlc_mode ≡ false)) (has_flags c.modes fork_mode) _ _ (λ inherits. (refl, refl)) (λ starts. (refl, refl))
+  child-modes c =
+      choice (λ (d : TracedControl). (has_flags d.modes klc_mode ≡ false) × (has_flags d.modes rlc_mode ≡ false))
+      (has_flags c.modes fork_mode) _ _ (λ inherits. (refl, refl)) (λ starts. (refl, refl))
 
-  child-released : (birth : Birth) (s : TracedSystem) (pid : ℕ) (p : TracedProcess) (l : TracedLwp) (args : List ℕ) → AllReleased s → AllReleased (with_child traced birth pid p l args s)
+  child-released : (birth : Birth) (s : TracedSystem) (pid : ℕ) (p : TracedProcess) (l : TracedLwp) (args : List ℕ)
+      → AllReleased s → AllReleased (with_child traced birth pid p l args s)
   unfolding with_child forked traced
   child-released birth s pid p l args all =
       let modes = child-modes p.control in
-      made-released _ (forked traced birth pid p l args s.clock) (modeless-released s.made (forked traced birth pid p l args s.clock) modes.0 modes.1) all
+      made-released _ (forked traced birth pid p l args s.clock)
+      (modeless-released s.made (forked traced birth pid p l args s.clock) modes.0 modes.1) all
 
-  pub spawned-released : (s : TracedSystem) (program : Program) (held : Bool) → AllReleased s → AllReleased (with_spawned traced program held s)
+  pub spawned-released : (s : TracedSystem) (program : Program) (held : Bool) → AllReleased s
+      → AllReleased (with_spawned traced program held s)
   unfolding with_spawned new_process bare_process traced nothing_set has_flags common_word
-  spawned-released s program held all = made-released s (new_process traced program s.clock held) (modeless-released s.made (new_process traced program s.clock held) refl refl) all
+  spawned-released s program held all =
+      made-released s (new_process traced program s.clock held)
+      (modeless-released s.made (new_process traced program s.clock held) refl refl) all
 
   new_lwp-calm : (new : ℕ) (regs : List ℕ) (held : ℕ) → Calms (with_new_lwp traced new regs held)
   unfolding with_new_lwp new_lwp traced no_marks
   new_lwp-calm new regs held x =
-      calm-if (is_some (lwp_of x new)) x x (record x { next_lwp = new + 1; lwps = inserted new (new_lwp traced regs held (no_marks false)) x.lwps }) (calm-same x)
-      (record { ended = λ is. is; modes = refl; untraced = λ u. u; runs = λ u all. All-inserted IsReleasedLwp new (new_lwp traced regs held (no_marks false)) x.lwps (record { no_stop = refl; not_directed = refl; no_step = refl }) all })
+      calm-if (is_some (lwp_of x new)) x x
+      (record x { next_lwp = new + 1; lwps = inserted new (new_lwp traced regs held (no_marks false)) x.lwps })
+      (calm-same x)
+      (record {
+        ended = λ is. is;
+        modes = refl;
+        untraced = λ u. u;
+        runs =
+            λ u all. All-inserted IsReleasedLwp new (new_lwp traced regs held (no_marks false)) x.lwps
+            (record { no_stop = refl; not_directed = refl; no_step = refl }) all;
+      })
 
   -- an lwp of the process runs another program
-  program-calm : (id : ℕ) (l : TracedLwp) (program : Program) (x : TracedProcess) → lwp_of x id ≡ Some l → StaysCalm x (with_program traced id l program x)
+  program-calm : (id : ℕ) (l : TracedLwp) (program : Program) (x : TracedProcess) → lwp_of x id ≡ Some l
+      → StaysCalm x (with_program traced id l program x)
   unfolding with_program started traced exec_control
   program-calm id l program x there = record {
     ended = λ is. is;
     modes = refl;
-    untraced = λ u. record { signals = u.signals; faults = u.faults; entries = u.entries; exits = u.exits; areas = refl };
+    untraced =
+        λ u. record { signals = u.signals; faults = u.faults; entries = u.entries; exits = u.exits; areas = refl };
     runs = λ u all.
         let it = All-under IsReleasedLwp id l x.lwps all there in
-        All-cons IsReleasedLwp (id, started traced l) [] (record { no_stop = it.no_stop; not_directed = it.not_directed; no_step = it.no_step }) (All-nil IsReleasedLwp);
+        All-cons IsReleasedLwp (id, started traced l) []
+        (record { no_stop = it.no_stop; not_directed = it.not_directed; no_step = it.no_step })
+        (All-nil IsReleasedLwp);
   }
 
   -- ---- changes: a line a kind
 
   module _ (pid : ℕ) (p : TracedProcess) (id : ℕ) (l : TracedLwp) where
-    own : (s : TracedSystem) (other : ℕ) (f : TracedLwp → TracedLwp) → ((x : TracedLwp) → (f x).control ≡ x.control) → AllReleased s → AllReleased (with_process pid (with_lwp other f) s)
+    own : (s : TracedSystem) (other : ℕ) (f : TracedLwp → TracedLwp) → ((x : TracedLwp) → (f x).control ≡ x.control)
+        → AllReleased s → AllReleased (with_process pid (with_lwp other f) s)
     own s other f same all = calms s pid (with_lwp other f) (calm-lwp other f (same_control f same)) all
 
-    changed-released : (c : Change) (s : TracedSystem) → SuitsChange pid p id l s c → AllReleased s → AllReleased (changed traced pid p id l c s)
+    changed-released : (c : Change) (s : TracedSystem) → SuitsChange pid p id l s c → AllReleased s
+        → AllReleased (changed traced pid p id l c s)
     unfolding changed with_fds with_space with_shared_taken with_job_stop with_disposition_of with_held resumed with_suspended with_reaped
-    changed-released (files_are files fds) s suits all = calms (record s { files = files }) pid (with_fds fds) (λ x. same_parts x (with_fds fds x) refl refl refl) all
-    changed-released (space_is space) s suits all = calms s pid (with_space space) (λ x. same_parts x (with_space space x) refl refl refl) all
-    changed-released (signals target g info) s suits all = either (is_kill g && eqb target pid) s _ all (generated-released s target None g info all)
-    changed-released (signals_itself g info) s suits all = either (is_kill g) s _ all (generated-released s pid (Some id) g info all)
-    changed-released (takes_shared g) s suits all = calms s pid (with_shared_taken g) (λ x. same_parts x (with_shared_taken g x) refl refl refl) all
-    changed-released (job_stops g) s suits all = calms s pid (with_job_stop g) (λ x. same_parts x (with_job_stop g x) refl refl refl) all
-    changed-released (disposition_is g d) s suits all = calms s pid (with_disposition_of g d) (λ x. same_parts x (with_disposition_of g d x) refl refl refl) all
+    changed-released (files_are files fds) s suits all =
+        calms (record s { files = files }) pid (with_fds fds) (λ x. same_parts x (with_fds fds x) refl refl refl) all
+    changed-released (space_is space) s suits all =
+        calms s pid (with_space space) (λ x. same_parts x (with_space space x) refl refl refl) all
+    changed-released (signals target g info) s suits all =
+        either (is_kill g && eqb target pid) s _ all (generated-released s target None g info all)
+    changed-released (signals_itself g info) s suits all =
+        either (is_kill g) s _ all (generated-released s pid (Some id) g info all)
+    changed-released (takes_shared g) s suits all =
+        calms s pid (with_shared_taken g) (λ x. same_parts x (with_shared_taken g x) refl refl refl) all
+    changed-released (job_stops g) s suits all =
+        calms s pid (with_job_stop g) (λ x. same_parts x (with_job_stop g x) refl refl refl) all
+    changed-released (disposition_is g d) s suits all =
+        calms s pid (with_disposition_of g d) (λ x. same_parts x (with_disposition_of g d x) refl refl refl) all
     changed-released (held_is held) s suits all = own s id (with_held held) (λ x. refl) all
     changed-released (resumes frame frames) s suits all = own s id (resumed frame frames) (λ x. refl) all
-    changed-released (forks birth args) s suits all = either (eqb s.made pid) s _ all (child-released birth s pid p l args all)
-    changed-released (reaps child) s suits all = either (eqb child pid) s _ all (All-without_id (IsReleased opens) child s.processes all)
+    changed-released (forks birth args) s suits all =
+        either (eqb s.made pid) s _ all (child-released birth s pid p l args all)
+    changed-released (reaps child) s suits all =
+        either (eqb child pid) s _ all (All-without_id (IsReleased opens) child s.processes all)
     changed-released (becomes program) s suits all =
         process-released s pid (with_program traced id l program) (λ x is it.
         let same = same_Some suits.process x (sym suits.found ∙ is) in
-        calm-released pid x (with_program traced id l program x) (program-calm id l program x (ap (λ (y : TracedProcess). lwp_of y id) (sym same) ∙ suits.there)) it) all
-    changed-released (makes_lwp new regs held) s suits all = calms s pid (with_new_lwp traced new regs held) (new_lwp-calm new regs held) all
+        calm-released pid x (with_program traced id l program x)
+        (program-calm id l program x (ap (λ (y : TracedProcess). lwp_of y id) (sym same) ∙ suits.there)) it) all
+    changed-released (makes_lwp new regs held) s suits all =
+        calms s pid (with_new_lwp traced new regs held) (new_lwp-calm new regs held) all
     changed-released (suspends other it) s suits all = own s other (with_suspended it) (λ x. refl) all
 
-    all_changed-released : (cs : List Change) (s : TracedSystem) → SuitChanges pid p id l s cs → AllReleased s → AllReleased (all_changed traced pid p id l cs s)
+    all_changed-released : (cs : List Change) (s : TracedSystem) → SuitChanges pid p id l s cs → AllReleased s
+        → AllReleased (all_changed traced pid p id l cs s)
     unfolding all_changed
     all_changed-released [] s suits all = all
-    all_changed-released (c ∷ cs) s suits all = all_changed-released cs (changed traced pid p id l c s) suits.1 (changed-released c s suits.0 all)
+    all_changed-released (c ∷ cs) s suits all =
+        all_changed-released cs (changed traced pid p id l c s) suits.1 (changed-released c s suits.0 all)
 
     -- ---- transitions
 
@@ -314,15 +406,20 @@ module _ (opens : Places) where
     ending-released ends_lwp s all = lwp_ended-released s pid p id all
 
     -- an lwp stops as directed: something is asked of its process
-    stop-released : (m : Move) → lwp_of p id ≡ Some l → l.control.directed ≡ true → IsReleased opens (pid, p) → IsReleased opens (pid, with_lwp id (moved traced m) p)
+    stop-released : (m : Move) → lwp_of p id ≡ Some l → l.control.directed ≡ true → IsReleased opens (pid, p)
+        → IsReleased opens (pid, with_lwp id (moved traced m) p)
     unfolding with_lwp
     stop-released m there directed h = record {
       no_kill = h.no_kill;
       untraced = h.untraced;
-      runs = λ live alone mode. let it = All-under IsReleasedLwp id l p.lwps (h.runs live alone mode) there in absurd (false≢true (sym it.not_directed ∙ directed));
+      runs =
+          λ live alone mode. let it =
+          All-under IsReleasedLwp id l p.lwps (h.runs live alone mode) there in absurd
+          (false≢true (sym it.not_directed ∙ directed));
     }
 
-    transition-released : (s : TracedSystem) (t : Transition) → process_of s pid ≡ Some p → lwp_of p id ≡ Some l → SuitsTransition s pid p id l t → AllReleased s → AllReleased (after_transition traced pid p id l t s)
+    transition-released : (s : TracedSystem) (t : Transition) → process_of s pid ≡ Some p → lwp_of p id ≡ Some l
+        → SuitsTransition s pid p id l t → AllReleased s → AllReleased (after_transition traced pid p id l t s)
     unfolding after_transition with_lwp_of all_changed
     transition-released s t found there suits all = by t.ending refl
       where
@@ -337,18 +434,24 @@ module _ (opens : Places) where
 
         moves : (b : Bool) → is_stop t.move ≡ b → AllReleased to
         moves false is =
-            calms (all_changed traced pid p id l t.changes s) pid (with_lwp id (moved traced t.move)) (calm-lwp id (moved traced t.move) (moved-calm t.move is))
+            calms (all_changed traced pid p id l t.changes s) pid (with_lwp id (moved traced t.move))
+            (calm-lwp id (moved traced t.move) (moved-calm t.move is))
             (all_changed-released t.changes s suits.changes all)
         moves true is =
             let stop = suits.stop is in
-            subst (λ cs. AllReleased (with_process pid (with_lwp id (moved traced t.move)) (all_changed traced pid p id l cs s))) (sym stop.1)
+            subst (λ cs. AllReleased
+            (with_process pid (with_lwp id (moved traced t.move)) (all_changed traced pid p id l cs s)))
+            (sym stop.1)
             (process-released s pid (with_lwp id (moved traced t.move)) (λ x at it.
             let same = same_Some p x (sym found ∙ at) in
-            subst (λ y. IsReleased opens (pid, with_lwp id (moved traced t.move) y)) same (stop-released t.move there stop.0 (subst (λ y. IsReleased opens (pid, y)) (sym same) it))) all)
+            subst (λ y. IsReleased opens (pid, with_lwp id (moved traced t.move) y)) same
+            (stop-released t.move there stop.0 (subst (λ y. IsReleased opens (pid, y)) (sym same) it))) all)
 
         by : (o : Option Ending) → t.ending ≡ o → AllReleased (ended_if traced pid p id l o to)
         by None is = moves (is_stop t.move) refl
-        by (Some how) is = subst (λ u. AllReleased (ended traced pid p id how u)) (sym (nothing_else how is)) (ending-released how s all)
+        by (Some how) is =
+            subst (λ u. AllReleased (ended traced pid p id how u)) (sym (nothing_else how is))
+            (ending-released how s all)
 
     -- ---- counts and stops
 
@@ -374,9 +477,22 @@ module _ (opens : Places) where
           runs = λ u all. absurd (false≢true (sym (untraced-point x.control point u) ∙ is));
         }
 
-    pub settled-released : (s : TracedSystem) (row : Row) → process_of s pid ≡ Some p → lwp_of p id ≡ Some l → SuitsTransition s pid p id l row.transition → AllReleased s → AllReleased (settled s pid p id l row).system
+    pub settled-released : (s : TracedSystem) (row : Row) → process_of s pid ≡ Some p → lwp_of p id ≡ Some l
+        → SuitsTransition s pid p id l row.transition → AllReleased s → AllReleased (settled s pid p id l row).system
     unfolding settled with_counted
     settled-released s row found there suits all =
         calms _ pid (after_meeting row.point id) (meeting-calm row.point)
-        (calms _ pid (with_counted row.did row.begun) (λ x. record { ended = λ is. is; modes = refl; untraced = λ u. record { signals = u.signals; faults = u.faults; entries = u.entries; exits = u.exits; areas = u.areas }; runs = λ u it. it })
+        (calms _ pid (with_counted row.did row.begun) (λ x. record {
+          ended = λ is. is;
+          modes = refl;
+          untraced =
+              λ u. record {
+                signals = u.signals;
+                faults = u.faults;
+                entries = u.entries;
+                exits = u.exits;
+                areas = u.areas;
+              };
+          runs = λ u it. it;
+        })
         (transition-released s row.transition found there suits all))

@@ -65,7 +65,8 @@ system-lawful = record {
   small_space = omega arith;
 }
 
-module _ (programs : List Program) (files : List StoredFile) (spawns : List ℕ) (start : IsStart programs files spawns) where
+module _ (programs : List Program) (files : List StoredFile) (spawns : List ℕ)
+    (start : IsStart programs files spawns) where
   alone : TracedState
   alone = record { system = bare_system programs files; opens = nothing_open; interrupted = 0 }
 
@@ -74,9 +75,13 @@ module _ (programs : List Program) (files : List StoredFile) (spawns : List ℕ)
   alone-lawful = record {
     system = record {
       rising = refl;
-      numbered = All-cons (IsNumberedBelow 1) (0, system_process) [] (record { id = omega arith }) (All-nil (IsNumberedBelow 1));
+      numbered =
+          All-cons (IsNumberedBelow 1) (0, system_process) [] (record { id = omega arith })
+          (All-nil (IsNumberedBelow 1));
       processes = All-cons IsLawfulProcess (0, system_process) [] system-lawful (All-nil IsLawfulProcess);
-      parents = All-cons (HasParent (bare_system programs files)) (0, system_process) [] (record { parent = inl refl }) (All-nil (HasParent (bare_system programs files)));
+      parents =
+          All-cons (HasParent (bare_system programs files)) (0, system_process) [] (record { parent = inl refl })
+          (All-nil (HasParent (bare_system programs files)));
       first = refl;
       made = omega arith;
       programs = start.within;
@@ -97,8 +102,14 @@ module _ (programs : List Program) (files : List StoredFile) (spawns : List ℕ)
     places = length-replicate {A = Option Held} handle_limit None;
     fitting = all-free IsFitting tt handle_limit;
     handles = all-free (IsOfMade 1) tt handle_limit;
-    exclusive = record { alone = λ pid is. absurd (false≢true (sym (no-handle (is_exclusive_writer pid) refl handle_limit) ∙ is)) };
-    released = All-cons (IsReleased nothing_open) (0, system_process) [] (modeless-released nothing_open 0 system_process refl refl) (All-nil (IsReleased nothing_open));
+    exclusive =
+        record {
+          alone = λ pid is. absurd (false≢true (sym (no-handle (is_exclusive_writer pid) refl handle_limit)
+              ∙ is));
+        };
+    released =
+        All-cons (IsReleased nothing_open) (0, system_process) []
+        (modeless-released nothing_open 0 system_process refl refl) (All-nil (IsReleased nothing_open));
   }
 
 -- ---- spawns
@@ -107,18 +118,28 @@ spawned-programs : (program : Program) (s : TracedSystem) → (with_spawned trac
 unfolding with_spawned with_made
 spawned-programs program s = refl
 
-spawned-size : (program : Program) (s : TracedSystem) → total_size (with_spawned traced program false s) ≡ size_at_start (Some program) + total_size s
+spawned-size : (program : Program) (s : TracedSystem)
+    → total_size (with_spawned traced program false s) ≡ size_at_start (Some program) + total_size s
 unfolding with_spawned with_made total_size size_of
 spawned-size program s =
     let p = new_process traced program s.clock false in
-    sizes-sum _ ∙ sum-inserted size_of s.made p s.processes ∙ ap (λ n. n + sum_of size_of s.processes) (ap mapped_size (new-space program s.clock false)) ∙ ap (λ n. size_at_start (Some program) + n) (sym (sizes-sum s.processes))
+    sizes-sum _ ∙ sum-inserted size_of s.made p s.processes
+    ∙ ap (λ n. n + sum_of size_of s.processes) (ap mapped_size (new-space program s.clock false))
+    ∙ ap (λ n. size_at_start (Some program) + n) (sym (sizes-sum s.processes))
 
 -- a state that has room for what is spawned
 record HasRoomFor (spawns : List ℕ) (s : TracedSystem) : Type 0 where
   made : s.made + length spawns ≤ process_limit
   mapped : total_size s + sum_by (λ place. size_at_start (slice_get s.programs place)) spawns ≤ all_mappings_limit
 
-spawned-state : (opens : Places) (o : Option Program) (s : TracedSystem) → ((program : Program) → o ≡ Some program → IsLawfulProgram program) → IsLawful (record { system = s; opens = opens; interrupted = 0 }) → s.made < process_limit → total_size s + size_at_start o ≤ all_mappings_limit → IsLawful (record { system = spawned_at o s; opens = opens; interrupted = 0 })
+spawned-state : (opens : Places) (o : Option Program) (s : TracedSystem)
+    → ((program : Program) → o ≡ Some program → IsLawfulProgram program)
+    → IsLawful (record { system = s; opens = opens; interrupted = 0 }) → s.made < process_limit
+    → total_size s + size_at_start o ≤ all_mappings_limit → IsLawful (record {
+      system = spawned_at o s;
+      opens = opens;
+      interrupted = 0;
+    })
 spawned-state opens None s within h room mapped = h
 spawned-state opens (Some program) s within h room mapped = record {
   system = spawned-lawful s program false (within program refl) h.system room mapped;
@@ -129,35 +150,56 @@ spawned-state opens (Some program) s within h room mapped = record {
   released = spawned-released opens s program false h.released;
 }
 
-spawns-state : (opens : Places) (spawns : List ℕ) (s : TracedSystem) → IsLawful (record { system = s; opens = opens; interrupted = 0 }) → HasRoomFor spawns s → IsLawful (record { system = with_spawns spawns s; opens = opens; interrupted = 0 })
+spawns-state : (opens : Places) (spawns : List ℕ) (s : TracedSystem)
+    → IsLawful (record { system = s; opens = opens; interrupted = 0 }) → HasRoomFor spawns s → IsLawful (record {
+      system = with_spawns spawns s;
+      opens = opens;
+      interrupted = 0;
+    })
 unfolding with_spawns
 spawns-state opens [] s h room = h
 spawns-state opens (place ∷ spawns) s h room =
     let size = sum_by-cons (λ at. size_at_start (slice_get s.programs at)) place spawns in
     let made = room.made in
     let mapped = room.mapped in
-    spawns-state opens spawns (spawned_at (slice_get s.programs place) s) (spawned-state opens (slice_get s.programs place) s (λ program is. placed-lawful s.programs place program h.system.programs is) h (omega arith) (omega arith))
+    spawns-state opens spawns (spawned_at (slice_get s.programs place) s)
+    (spawned-state opens (slice_get s.programs place) s
+    (λ program is. placed-lawful s.programs place program h.system.programs is) h (omega arith) (omega arith))
     (by (slice_get s.programs place) refl size made mapped)
   where
-    by : (o : Option Program) → slice_get s.programs place ≡ o → sum_by (λ at. size_at_start (slice_get s.programs at)) (place ∷ spawns) ≡ size_at_start (slice_get s.programs place) + sum_by (λ at. size_at_start (slice_get s.programs at)) spawns → s.made + suc (length spawns) ≤ process_limit → total_size s + sum_by (λ at. size_at_start (slice_get s.programs at)) (place ∷ spawns) ≤ all_mappings_limit → HasRoomFor spawns (spawned_at o s)
+    by : (o : Option Program) → slice_get s.programs place ≡ o
+        → sum_by (λ at. size_at_start (slice_get s.programs at)) (place ∷ spawns) ≡ size_at_start
+        (slice_get s.programs place) + sum_by (λ at. size_at_start (slice_get s.programs at)) spawns
+        → s.made + suc (length spawns) ≤ process_limit
+        → total_size s + sum_by (λ at. size_at_start (slice_get s.programs at))
+        (place ∷ spawns) ≤ all_mappings_limit → HasRoomFor spawns (spawned_at o s)
     by None is size made mapped = record { made = omega arith; mapped = omega arith }
     by (Some program) is size made mapped = record {
       made = let more = with_spawned-made program s in omega arith;
       mapped =
           let all = spawned-size program s in
           let own : size_at_start (slice_get s.programs place) ≡ size_at_start (Some program) = ap size_at_start is in
-          subst (λ (programs : List Program). total_size (with_spawned traced program false s) + sum_by (λ at. size_at_start (slice_get programs at)) spawns ≤ all_mappings_limit) (sym (spawned-programs program s)) (omega arith);
+          subst (λ (programs : List Program). total_size (with_spawned traced program false s) + sum_by
+          (λ at. size_at_start (slice_get programs at)) spawns ≤ all_mappings_limit)
+          (sym (spawned-programs program s)) (omega arith);
     }
 
-bare-lawful : (programs : List Program) (files : List StoredFile) (spawns : List ℕ) → IsStart programs files spawns → IsLawful (record { system = bare_system programs files; opens = nothing_open; interrupted = 0 })
+bare-lawful : (programs : List Program) (files : List StoredFile) (spawns : List ℕ) → IsStart programs files spawns
+    → IsLawful (record { system = bare_system programs files; opens = nothing_open; interrupted = 0 })
 unfolding alone
 bare-lawful programs files spawns start = alone-lawful programs files spawns start
 
-bare-room : (programs : List Program) (files : List StoredFile) (spawns : List ℕ) → IsStart programs files spawns → HasRoomFor spawns (bare_system programs files)
+bare-room : (programs : List Program) (files : List StoredFile) (spawns : List ℕ) → IsStart programs files spawns
+    → HasRoomFor spawns (bare_system programs files)
 unfolding bare_system total_size size_of system_process bare_process
-bare-room programs files spawns start = record { made = let room = start.room in omega arith; mapped = let mapped = start.mapped in omega arith }
+bare-room programs files spawns start = record {
+  made = let room = start.room in omega arith;
+  mapped = let mapped = start.mapped in omega arith;
+}
 
-pub first-lawful : (programs : List Program) (files : List StoredFile) (spawns : List ℕ) → IsStart programs files spawns → IsLawful (first_state programs files spawns)
+pub first-lawful : (programs : List Program) (files : List StoredFile) (spawns : List ℕ)
+    → IsStart programs files spawns → IsLawful (first_state programs files spawns)
 unfolding first_state
 first-lawful programs files spawns start =
-    spawns-state nothing_open spawns (bare_system programs files) (bare-lawful programs files spawns start) (bare-room programs files spawns start)
+    spawns-state nothing_open spawns (bare_system programs files) (bare-lawful programs files spawns start)
+    (bare-room programs files spawns start)

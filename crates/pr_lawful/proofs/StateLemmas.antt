@@ -51,7 +51,8 @@ use Rattle.pr_model.proofs.TurnLemmas.{turn-taken}
 
 -- ---- a turn
 
-pub turn-state : (s : TracedState) (pid id : ℕ) (t : LwpTurn) → IsLawful s → turn_of s.system pid id ≡ Some t → IsLawful (record s { system = t.system })
+pub turn-state : (s : TracedState) (pid id : ℕ) (t : LwpTurn) → IsLawful s → turn_of s.system pid id ≡ Some t
+    → IsLawful (record s { system = t.system })
 turn-state s pid id t h turn =
     let it = turn-taken s.system pid id t turn in
     let a = acting s.system pid id it.process it.lwp h.system it.live it.there in
@@ -59,10 +60,16 @@ turn-state s pid id t h turn =
       system = turn-lawful s.system pid id t h.system turn;
       places = h.places;
       fitting = h.fitting;
-      handles = handles-on s.opens s.system t.system (subst (λ (v : LwpTurn). Grows s.system v.system) (sym it.is) (settled-grows pid it.process id it.lwp s.system (row_for s.system pid it.process id it.lwp))) h.handles;
+      handles =
+          handles-on s.opens s.system t.system
+          (subst (λ (v : LwpTurn). Grows s.system v.system) (sym it.is)
+          (settled-grows pid it.process id it.lwp s.system
+          (row_for s.system pid it.process id it.lwp))) h.handles;
       exclusive = h.exclusive;
       released = subst (λ (v : LwpTurn). All (IsReleased s.opens) v.system.processes) (sym it.is)
-          (settled-released s.opens pid it.process id it.lwp s.system (row_for s.system pid it.process id it.lwp) a.found a.there (row-suits s.system pid it.process id it.lwp a) h.released);
+          (settled-released s.opens pid it.process id it.lwp s.system
+          (row_for s.system pid it.process id it.lwp) a.found a.there
+          (row-suits s.system pid it.process id it.lwp a) h.released);
     }
 
 -- ---- what changes neither the system nor the handles
@@ -104,24 +111,37 @@ edit-state s pid p m tail t h user found live written e = record {
 
 -- ---- opens
 
-pub opened-state : (s : TracedState) (place : ℕ) (h : Held) → IsLawful s → position is_none s.opens ≡ Some place → open_refusal s h.pid h.lwp h.file h.mode ≡ None → IsLawful (with_opened h place s)
+pub opened-state : (s : TracedState) (place : ℕ) (h : Held) → IsLawful s → position is_none s.opens ≡ Some place
+    → open_refusal s h.pid h.lwp h.file h.mode ≡ None → IsLawful (with_opened h place s)
 unfolding with_opened open_refusal
-opened-state s place h lawful at grants = by (fits_file h.file h.mode h.lwp) (has_file (process_of s.system h.pid) h.file h.lwp) (conflicts h.pid h.mode s.opens) refl refl refl grants
+opened-state s place h lawful at grants =
+    by (fits_file h.file h.mode h.lwp) (has_file (process_of s.system h.pid) h.file h.lwp)
+    (conflicts h.pid h.mode s.opens) refl refl refl grants
   where
-    made-file : (o : Option TracedProcess) → process_of s.system h.pid ≡ o → has_file o h.file h.lwp ≡ true → h.pid < s.system.made
+    made-file : (o : Option TracedProcess) → process_of s.system h.pid ≡ o → has_file o h.file h.lwp ≡ true
+        → h.pid < s.system.made
     made-file None is has = absurd (false≢true has)
-    made-file (Some p) is has = (All-under (IsNumberedBelow s.system.made) h.pid p s.system.processes lawful.system.numbered is).id
+    made-file (Some p) is has =
+        (All-under (IsNumberedBelow s.system.made) h.pid p s.system.processes lawful.system.numbered is).id
 
-    by : (a b c : Bool) → fits_file h.file h.mode h.lwp ≡ a → has_file (process_of s.system h.pid) h.file h.lwp ≡ b → conflicts h.pid h.mode s.opens ≡ c → cond (not a) (Some Inval) (cond (not b) (Some Noent) (cond c (Some Busy) None)) ≡ None → IsLawful (with_opened h place s)
+    by : (a b c : Bool) → fits_file h.file h.mode h.lwp ≡ a → has_file (process_of s.system h.pid) h.file h.lwp ≡ b
+        → conflicts h.pid h.mode s.opens ≡ c
+        → cond (not a) (Some Inval) (cond (not b) (Some Noent) (cond c (Some Busy) None)) ≡ None
+        → IsLawful (with_opened h place s)
     by true true false fits has free ok =
         let there = free-at s.opens place at in
         record {
           system = lawful.system;
           places = length-set s.opens place (Some h) ∙ lawful.places;
           fitting = fitting-taken s.opens place h there fits lawful.fitting;
-          handles = All-set (IsOfMade s.system.made) s.opens place (Some h) (made-file (process_of s.system h.pid) refl has) lawful.handles;
+          handles =
+              All-set (IsOfMade s.system.made) s.opens place (Some h)
+              (made-file (process_of s.system h.pid) refl has) lawful.handles;
           exclusive = exclusive-kept s.opens place h there free lawful.exclusive;
-          released = All-weaker (IsReleased s.opens) (IsReleased (slice_set s.opens place (Some h))) (λ e it. released-beside s.opens (slice_set s.opens place (Some h)) e (alone-before s.opens place h there e.0) it) s.system.processes lawful.released;
+          released =
+              All-weaker (IsReleased s.opens) (IsReleased (slice_set s.opens place (Some h)))
+              (λ e it. released-beside s.opens (slice_set s.opens place (Some h)) e
+              (alone-before s.opens place h there e.0) it) s.system.processes lawful.released;
         }
     by true true true fits has free ok = absurd (none-some _ (sym ok))
     by true false c fits has free ok = absurd (none-some _ (sym ok))
@@ -163,24 +183,34 @@ released-keeps pid x =
     }
 
 -- the system process has no mode, so that its last close does nothing
-system-modeless : (s : TracedSystem) (p : TracedProcess) → IsLawfulSystem s → process_of s 0 ≡ Some p → has_flags p.control.modes klc_mode ≡ false
+system-modeless : (s : TracedSystem) (p : TracedProcess) → IsLawfulSystem s → process_of s 0 ≡ Some p
+    → has_flags p.control.modes klc_mode ≡ false
 unfolding system_process bare_process traced nothing_set has_flags common_word
-system-modeless s p h found = subst (λ (x : TracedProcess). has_flags x.control.modes klc_mode ≡ false) (same_Some system_process p (sym h.first ∙ found)) refl
+system-modeless s p h found =
+    subst (λ (x : TracedProcess). has_flags x.control.modes klc_mode ≡ false) (same_Some system_process p (sym h.first
+    ∙ found)) refl
 
-system-rests : (s : TracedSystem) (p : TracedProcess) → IsLawfulSystem s → process_of s 0 ≡ Some p → has_flags p.control.modes rlc_mode ≡ false
+system-rests : (s : TracedSystem) (p : TracedProcess) → IsLawfulSystem s → process_of s 0 ≡ Some p
+    → has_flags p.control.modes rlc_mode ≡ false
 unfolding system_process bare_process traced nothing_set has_flags common_word
-system-rests s p h found = subst (λ (x : TracedProcess). has_flags x.control.modes rlc_mode ≡ false) (same_Some system_process p (sym h.first ∙ found)) refl
+system-rests s p h found =
+    subst (λ (x : TracedProcess). has_flags x.control.modes rlc_mode ≡ false) (same_Some system_process p (sym h.first
+    ∙ found)) refl
 
-last-close-lawful : (s : TracedSystem) (pid : ℕ) (p : TracedProcess) → IsLawfulSystem s → process_of s pid ≡ Some p → IsLawfulSystem (with_last_close pid p s)
+last-close-lawful : (s : TracedSystem) (pid : ℕ) (p : TracedProcess) → IsLawfulSystem s → process_of s pid ≡ Some p
+    → IsLawfulSystem (with_last_close pid p s)
 unfolding with_last_close
 last-close-lawful s pid p h found =
     choice IsLawfulSystem (has_flags p.control.modes klc_mode) _ _
-    (λ kills. ended-lawful s pid p (signal_number Kill) h (λ is. false≢true (sym (system-modeless s p h (ap (process_of s) (sym is) ∙ found)) ∙ kills)) found)
+    (λ kills. ended-lawful s pid p (signal_number Kill) h
+    (λ is. false≢true (sym (system-modeless s p h (ap (process_of s) (sym is) ∙ found)) ∙ kills)) found)
     (λ spares. choice IsLawfulSystem (has_flags p.control.modes rlc_mode) _ _
-    (λ releases. kept s pid released (λ is. false≢true (sym (system-rests s p h (ap (process_of s) (sym is) ∙ found)) ∙ releases)) (λ x at. released-keeps pid x) h)
+    (λ releases. kept s pid released (λ is. false≢true (sym (system-rests s p h (ap (process_of s) (sym is) ∙ found))
+    ∙ releases)) (λ x at. released-keeps pid x) h)
     (λ stays. h))
 
-after-close-lawful : (s : TracedSystem) (pid : ℕ) → IsLawfulSystem s → IsLawfulSystem (after_last_close pid (live_process s pid) s)
+after-close-lawful : (s : TracedSystem) (pid : ℕ) → IsLawfulSystem s
+    → IsLawfulSystem (after_last_close pid (live_process s pid) s)
 after-close-lawful s pid h = by (live_process s pid) refl
   where
     by : (o : Option TracedProcess) → live_process s pid ≡ o → IsLawfulSystem (after_last_close pid o s)
@@ -197,9 +227,12 @@ module _ (others : Places) where
   mapped-calm : (es : List (ℕ × TracedLwp)) → All IsReleasedLwp (map_each released_lwp es)
   unfolding released_lwp
   mapped-calm [] = All-nil IsReleasedLwp
-  mapped-calm (e ∷ es) = All-cons IsReleasedLwp (e.0, released_lwp e.1) (map_each released_lwp es) (record { no_stop = refl; not_directed = refl; no_step = refl }) (mapped-calm es)
+  mapped-calm (e ∷ es) =
+      All-cons IsReleasedLwp (e.0, released_lwp e.1) (map_each released_lwp es)
+      (record { no_stop = refl; not_directed = refl; no_step = refl }) (mapped-calm es)
 
-  released-released : (pid : ℕ) (x : TracedProcess) → has_flags x.control.modes klc_mode ≡ false → IsReleased others (pid, released x)
+  released-released : (pid : ℕ) (x : TracedProcess) → has_flags x.control.modes klc_mode ≡ false
+      → IsReleased others (pid, released x)
   unfolding released released_control
   released-released pid x spares = record {
     no_kill = λ live alone. spares;
@@ -208,7 +241,8 @@ module _ (others : Places) where
   }
 
   -- a process that is no live one
-  ended-one : (s : TracedSystem) (pid : ℕ) → live_process s pid ≡ None → (x : TracedProcess) → process_of s pid ≡ Some x → IsReleased others (pid, x)
+  ended-one : (s : TracedSystem) (pid : ℕ) → live_process s pid ≡ None → (x : TracedProcess)
+      → process_of s pid ≡ Some x → IsReleased others (pid, x)
   unfolding live_process
   ended-one s pid none x found = record {
     no_kill = λ live alone. absurd (clash live);
@@ -217,9 +251,12 @@ module _ (others : Places) where
   }
     where
       clash : x.ended ≡ None → ⊥
-      clash live = none-some x (sym none ∙ ap (option_and_then if_live) found ∙ ap (λ (o : Option ℕ). cond (is_none o) (Some x) None) live)
+      clash live =
+          none-some x (sym none ∙ ap (option_and_then if_live) found
+          ∙ ap (λ (o : Option ℕ). cond (is_none o) (Some x) None) live)
 
-  close-released : (s : TracedSystem) (pid : ℕ) → IsLawfulSystem s → ButOne pid s → All (IsReleased others) (after_last_close pid (live_process s pid) s).processes
+  close-released : (s : TracedSystem) (pid : ℕ) → IsLawfulSystem s → ButOne pid s
+      → All (IsReleased others) (after_last_close pid (live_process s pid) s).processes
   unfolding with_last_close ButOne with_process
   close-released s pid h all = by (live_process s pid) refl
     where
@@ -228,16 +265,23 @@ module _ (others : Places) where
 
       same : ((x : TracedProcess) → process_of s pid ≡ Some x → IsReleased others (pid, x)) → Done s
       same here =
-          subst (All (IsReleased others)) (change_under-same pid (λ x. x) (λ x. refl) s.processes) (all-fixed (IsReleased others) pid (λ x. x) 0 s.processes h.rising all here)
+          subst (All (IsReleased others)) (change_under-same pid (λ x. x) (λ x. refl) s.processes)
+          (all-fixed (IsReleased others) pid (λ x. x) 0 s.processes h.rising all here)
 
       of : (p : TracedProcess) → live_process s pid ≡ Some p → Done (with_last_close pid p s)
       of p is =
           let found = (found-live s pid p is).0 in
           choice Done (has_flags p.control.modes klc_mode) _ _
-          (λ kills. buried-released others s pid p (signal_number Kill) (all-fixed (IsReleased others) pid (zombie traced (signal_number Kill)) 0 s.processes h.rising all (λ x at. zombie-released others pid (signal_number Kill) x)))
+          (λ kills. buried-released others s pid p (signal_number Kill)
+          (all-fixed (IsReleased others) pid (zombie traced (signal_number Kill)) 0 s.processes h.rising all
+          (λ x at. zombie-released others pid (signal_number Kill) x)))
           (λ spares. choice Done (has_flags p.control.modes rlc_mode) _ _
-          (λ releases. all-fixed (IsReleased others) pid released 0 s.processes h.rising all (λ x at. released-released pid x (subst (λ (y : TracedProcess). has_flags y.control.modes klc_mode ≡ false) (same_Some p x (sym found ∙ at)) spares)))
-          (λ stays. same (λ x at. subst (λ y. IsReleased others (pid, y)) (same_Some p x (sym found ∙ at)) (modeless-released others pid p spares stays))))
+          (λ releases. all-fixed (IsReleased others) pid released 0 s.processes h.rising all
+          (λ x at. released-released pid x
+          (subst (λ (y : TracedProcess). has_flags y.control.modes klc_mode ≡ false) (same_Some p x (sym found
+          ∙ at)) spares)))
+          (λ stays. same (λ x at. subst (λ y. IsReleased others (pid, y)) (same_Some p x (sym found
+          ∙ at)) (modeless-released others pid p spares stays))))
 
       by : (o : Option TracedProcess) → live_process s pid ≡ o → Done (after_last_close pid o s)
       by None is = same (ended-one s pid is)
@@ -247,21 +291,35 @@ module _ (others : Places) where
 not-writer : (h : Held) (pid : ℕ) → pid ≢ h.pid → is_writer pid (Some h) ≡ false
 not-writer h pid apart = ap (λ b. b && is_writable h.mode) (ne_eqb h.pid pid (λ is. apart (sym is)))
 
-pub closed-state : (s : TracedState) (number : ℕ) (h : Held) → IsLawful s → slice_get s.opens number ≡ Some (Some h) → IsLawful (with_closed h number s)
+pub closed-state : (s : TracedState) (number : ℕ) (h : Held) → IsLawful s → slice_get s.opens number ≡ Some (Some h)
+    → IsLawful (with_closed h number s)
 unfolding with_closed ButOne
 closed-state s number h lawful there = record {
-  system = choice IsLawfulSystem (was_last_writer h (slice_set s.opens number None)) _ _ (λ last. after-close-lawful s.system h.pid lawful.system) (λ others. lawful.system);
+  system =
+      choice IsLawfulSystem (was_last_writer h (slice_set s.opens number None)) _ _
+      (λ last. after-close-lawful s.system h.pid lawful.system) (λ others. lawful.system);
   places = length-set s.opens number None ∙ lawful.places;
   fitting = fitting-freed s.opens number h there lawful.fitting;
   handles =
-      All-set (IsOfMade (cond (was_last_writer h (slice_set s.opens number None)) (after_last_close h.pid (live_process s.system h.pid) s.system) s.system).made) s.opens number None tt
+      All-set (IsOfMade
+      (cond (was_last_writer h (slice_set s.opens number None))
+      (after_last_close h.pid (live_process s.system h.pid) s.system) s.system).made) s.opens number None tt
       (handles-on s.opens s.system (with_closed h number s).system
       (closed-grows s.system h.pid (with_closed h number s).system (close-edit s number h)) lawful.handles);
   exclusive = exclusive-left s.opens number h there lawful.exclusive;
   released =
-      choice (λ (t : TracedSystem). All (IsReleased (slice_set s.opens number None)) t.processes) (was_last_writer h (slice_set s.opens number None)) _ _
-      (λ last. close-released (slice_set s.opens number None) s.system h.pid lawful.system (All-weaker (IsReleased s.opens) (λ (e : ℕ × TracedProcess). e.0 ≢ h.pid → IsReleased (slice_set s.opens number None) e) (λ e it apart. released-beside s.opens (slice_set s.opens number None) e (alone-then s.opens number h there e.0 (not-writer h e.0 apart)) it) s.system.processes lawful.released))
-      (λ left. All-weaker (IsReleased s.opens) (IsReleased (slice_set s.opens number None)) (λ e it. released-beside s.opens (slice_set s.opens number None) e (λ alone. alone-then s.opens number h there e.0 (none-left e.0 left alone) alone) it) s.system.processes lawful.released);
+      choice (λ (t : TracedSystem). All (IsReleased (slice_set s.opens number None)) t.processes)
+      (was_last_writer h (slice_set s.opens number None)) _ _
+      (λ last. close-released (slice_set s.opens number None) s.system h.pid lawful.system
+      (All-weaker (IsReleased s.opens)
+      (λ (e : ℕ × TracedProcess). e.0 ≢ h.pid → IsReleased (slice_set s.opens number None) e)
+      (λ e it apart. released-beside s.opens (slice_set s.opens number None) e
+      (alone-then s.opens number h there e.0
+      (not-writer h e.0 apart)) it) s.system.processes lawful.released))
+      (λ left. All-weaker (IsReleased s.opens) (IsReleased (slice_set s.opens number None))
+      (λ e it. released-beside s.opens (slice_set s.opens number None) e
+      (λ alone. alone-then s.opens number h there e.0
+      (none-left e.0 left alone) alone) it) s.system.processes lawful.released);
 }
   where
     one : (w a : Bool) → (w && not a) ≡ false → a ≡ false → w ≡ false
@@ -269,11 +327,14 @@ closed-state s number h lawful there = record {
     one true false left alone = cc
     one false a left alone = refl
 
-    none-left : (pid : ℕ) → was_last_writer h (slice_set s.opens number None) ≡ false → has_writer pid (slice_set s.opens number None) ≡ false → is_writer pid (Some h) ≡ false
+    none-left : (pid : ℕ) → was_last_writer h (slice_set s.opens number None) ≡ false
+        → has_writer pid (slice_set s.opens number None) ≡ false → is_writer pid (Some h) ≡ false
     none-left pid left alone =
         elim (cases_eq pid h.pid) [
           | inl same ↦
-              let writes = one (is_writable h.mode) (has_writer h.pid (slice_set s.opens number None)) left (ap (λ n. has_writer n (slice_set s.opens number None)) (sym same) ∙ alone) in
+              let writes =
+              one (is_writable h.mode) (has_writer h.pid (slice_set s.opens number None)) left
+              (ap (λ n. has_writer n (slice_set s.opens number None)) (sym same) ∙ alone) in
               rw (writes) (and_false (eqb h.pid pid))
           | inr apart ↦ not-writer h pid apart
         ]
@@ -282,9 +343,17 @@ closed-state s number h lawful there = record {
 
 new_lwp-lawful : (held : Bool) → IsLawfulLwp 2 (1, first_lwp traced held)
 unfolding first_lwp new_lwp holdable_word without_number minus_word
-new_lwp-lawful held = record { id = inl (omega arith); held = record { same = refl }; frames = All-nil IsLawfulFrame; few_frames = omega arith; pending = no-infos; current = tt }
+new_lwp-lawful held = record {
+  id = inl (omega arith);
+  held = record { same = refl };
+  frames = All-nil IsLawfulFrame;
+  few_frames = omega arith;
+  pending = no-infos;
+  current = tt;
+}
 
-new_process-lawful : (pid clock : ℕ) (program : Program) (held : Bool) → IsLawfulProgram program → IsLawfulProcess (pid, new_process traced program clock held)
+new_process-lawful : (pid clock : ℕ) (program : Program) (held : Bool) → IsLawfulProgram program
+    → IsLawfulProcess (pid, new_process traced program clock held)
 unfolding new_process bare_process traced nothing_set disposition_of signal_number
 new_process-lawful pid clock program held within = record {
   has_lwps = record { some = λ user live. omega arith };
@@ -305,23 +374,30 @@ new-parent : (program : Program) (clock : ℕ) (held : Bool) → (new_process tr
 unfolding new_process bare_process
 new-parent program clock held = refl
 
-pub new-space : (program : Program) (clock : ℕ) (held : Bool) → (new_process traced program clock held).space ≡ first_space program
+pub new-space : (program : Program) (clock : ℕ) (held : Bool)
+    → (new_process traced program clock held).space ≡ first_space program
 unfolding new_process bare_process
 new-space program clock held = refl
 
-new-users : (program : Program) (clock : ℕ) (held : Bool) (place n : ℕ) → n ≡ n + count_at (new_process traced program clock held).fds place
+new-users : (program : Program) (clock : ℕ) (held : Bool) (place n : ℕ)
+    → n ≡ n + count_at (new_process traced program clock held).fds place
 unfolding new_process bare_process
 new-users program clock held place n = omega arith
 
 -- a process of a program is made, where there is room
-pub spawned-lawful : (s : TracedSystem) (program : Program) (held : Bool) → IsLawfulProgram program → IsLawfulSystem s → s.made < process_limit → total_size s + mapped_size (first_space program) ≤ all_mappings_limit → IsLawfulSystem (with_spawned traced program held s)
+pub spawned-lawful : (s : TracedSystem) (program : Program) (held : Bool) → IsLawfulProgram program → IsLawfulSystem s
+    → s.made < process_limit → total_size s + mapped_size (first_space program) ≤ all_mappings_limit
+    → IsLawfulSystem (with_spawned traced program held s)
 unfolding with_spawned size_of
-spawned-lawful s program held within h room mapped = joined s s.files (new_process traced program s.clock held) h (record {
-  lawful = new_process-lawful s.made s.clock program held within;
-  parent = record { parent = inl (new-parent program s.clock held) };
-  room = room;
-  mapped = subst (λ (space : Space). total_size s + mapped_size space ≤ all_mappings_limit) (sym (new-space program s.clock held)) mapped;
-  table = h.files.table;
-  pipes = h.files.pipes;
-  users = λ place. new-users program s.clock held place (users_at s.files place);
-})
+spawned-lawful s program held within h room mapped =
+    joined s s.files (new_process traced program s.clock held) h (record {
+      lawful = new_process-lawful s.made s.clock program held within;
+      parent = record { parent = inl (new-parent program s.clock held) };
+      room = room;
+      mapped =
+          subst (λ (space : Space). total_size s + mapped_size space ≤ all_mappings_limit)
+          (sym (new-space program s.clock held)) mapped;
+      table = h.files.table;
+      pipes = h.files.pipes;
+      users = λ place. new-users program s.clock held place (users_at s.files place);
+    })

@@ -58,7 +58,8 @@ pub record SuitsReaped (s : TracedSystem) (child : ℕ) : Type 0 where
   pub found : process_of s child ≡ Some zombie
   pub over : zombie.ended ≡ Some status
 
--- another program: it begins within the limit of a space, there is room for its memory, and the lwp that goes on is one of the process
+-- another program: it begins within the limit of a space, there is room for its memory, and the lwp that goes on is one
+-- of the process
 pub record SuitsProgram (s : TracedSystem) (pid id : ℕ) (l : TracedLwp) (program : Program) : Type 0 where
   pub process : TracedProcess
   pub found : process_of s pid ≡ Some process
@@ -124,7 +125,8 @@ is_stop _ = false
 
 -- The changes suit, and so does the move; what ends its lwp or its process does nothing else; and an lwp that stops was
 -- directed to, and does nothing else.
-pub record SuitsTransition (s : TracedSystem) (pid : ℕ) (p : TracedProcess) (id : ℕ) (l : TracedLwp) (t : Transition) : Type 0 where
+pub record SuitsTransition (s : TracedSystem) (pid : ℕ) (p : TracedProcess) (id : ℕ) (l : TracedLwp)
+    (t : Transition) : Type 0 where
   pub changes : SuitChanges pid p id l s t.changes
   pub move : SuitsMove t.move
   pub alone : (how : _) → t.ending ≡ Some how → (t.changes ≡ []) × (t.move ≡ stays)

@@ -15,10 +15,13 @@ module _ {X : Type 0} (f : X → ℕ) where
   sum_of [] = 0
   sum_of (e ∷ es) = f e.1 + sum_of es
 
-  pub sum-change_under : (id : ℕ) (g : X → X) (x : X) (es : List (ℕ × X)) → under id es ≡ Some x → sum_of (change_under id g es) + f x ≡ sum_of es + f (g x)
+  pub sum-change_under : (id : ℕ) (g : X → X) (x : X) (es : List (ℕ × X)) → under id es ≡ Some x
+      → sum_of (change_under id g es) + f x ≡ sum_of es + f (g x)
   sum-change_under id g x [] found = cc
   sum-change_under id g x (e ∷ es) found =
-      elim (eqb e.0 id) as (λ b. cond b (Some e.1) (under id es) ≡ Some x → sum_of (cond b ((e.0, g e.1) ∷ es) (e ∷ change_under id g es)) + f x ≡ (f e.1 + sum_of es) + f (g x)) [
+      elim (eqb e.0 id) as
+      (λ b. cond b (Some e.1) (under id es) ≡ Some x → sum_of
+      (cond b ((e.0, g e.1) ∷ es) (e ∷ change_under id g es)) + f x ≡ (f e.1 + sum_of es) + f (g x)) [
         | true ↦ λ here. let same = same_Some e.1 x here in rw same (omega arith)
         | false ↦ λ there. let rest = sum-change_under id g x es there in omega arith
       ] found
@@ -31,12 +34,17 @@ module _ {X : Type 0} (f : X → ℕ) where
   sum-inserted id x [] = refl
   sum-inserted id x (e ∷ es) =
       let rest = sum-inserted id x es in
-      elim (ltb e.0 id) as (λ b. sum_of (cond b (e ∷ inserted id x es) ((id, x) ∷ e ∷ es)) ≡ f x + (f e.1 + sum_of es)) [ true ↦ omega arith | false ↦ refl ]
+      elim (ltb e.0 id) as
+      (λ b. sum_of (cond b (e ∷ inserted id x es) ((id, x) ∷ e ∷ es)) ≡ f x +
+      (f e.1 + sum_of es)) [ true ↦ omega arith | false ↦ refl ]
 
-  pub sum-without_id : (id : ℕ) (x : X) (es : List (ℕ × X)) → under id es ≡ Some x → sum_of (without_id id es) + f x ≡ sum_of es
+  pub sum-without_id : (id : ℕ) (x : X) (es : List (ℕ × X)) → under id es ≡ Some x
+      → sum_of (without_id id es) + f x ≡ sum_of es
   sum-without_id id x [] found = cc
   sum-without_id id x (e ∷ es) found =
-      elim (eqb e.0 id) as (λ b. cond b (Some e.1) (under id es) ≡ Some x → sum_of (cond b es (e ∷ without_id id es)) + f x ≡ f e.1 + sum_of es) [
+      elim (eqb e.0 id) as
+      (λ b. cond b (Some e.1) (under id es) ≡ Some x → sum_of
+      (cond b es (e ∷ without_id id es)) + f x ≡ f e.1 + sum_of es) [
         | true ↦ λ here. let same = same_Some e.1 x here in rw same (omega arith)
         | false ↦ λ there. let rest = sum-without_id id x es there in omega arith
       ] found

@@ -36,7 +36,8 @@ lives-live s pid = by (process_of s pid)
     by (Some p) = elim (is_none p.ended) as (λ b. is_some (cond b (Some p) None) ≡ b) [ true ↦ refl | false ↦ refl ]
 
 -- a parent is live still where every live process is
-pub parents-on : (s t : TracedSystem) → ((pid : ℕ) → lives (process_of s pid) ≡ true → lives (process_of t pid) ≡ true) → (e : ℕ × TracedProcess) → HasParent s e → HasParent t e
+pub parents-on : (s t : TracedSystem) → ((pid : ℕ) → lives (process_of s pid) ≡ true → lives (process_of t pid) ≡ true)
+    → (e : ℕ × TracedProcess) → HasParent s e → HasParent t e
 parents-on s t on e h = record { parent = by h.parent }
   where
     by : (e.1.parent ≡ 0) ⊎ IsSome (live_process s e.1.parent) → (e.1.parent ≡ 0) ⊎ IsSome (live_process t e.1.parent)
@@ -44,17 +45,21 @@ parents-on s t on e h = record { parent = by h.parent }
     by (inr live) = inr (lives-live t e.1.parent ∙ on e.1.parent (sym (lives-live s e.1.parent) ∙ live))
 
 -- the same where the parent of the process is named anew
-pub parent-same : (s : TracedSystem) (pid : ℕ) (x y : TracedProcess) → y.parent ≡ x.parent → HasParent s (pid, x) → HasParent s (pid, y)
+pub parent-same : (s : TracedSystem) (pid : ℕ) (x y : TracedProcess) → y.parent ≡ x.parent → HasParent s (pid, x)
+    → HasParent s (pid, y)
 parent-same s pid x y same h = record { parent = subst (λ n. (n ≡ 0) ⊎ IsSome (live_process s n)) (sym same) h.parent }
 
-lives-change_under : (pid : ℕ) (f : TracedProcess → TracedProcess) (es : List (ℕ × TracedProcess)) → ((x : TracedProcess) → under pid es ≡ Some x → (f x).ended ≡ x.ended) → (other : ℕ) → lives (under other (change_under pid f es)) ≡ lives (under other es)
+lives-change_under : (pid : ℕ) (f : TracedProcess → TracedProcess) (es : List (ℕ × TracedProcess))
+    → ((x : TracedProcess) → under pid es ≡ Some x → (f x).ended ≡ x.ended) → (other : ℕ)
+    → lives (under other (change_under pid f es)) ≡ lives (under other es)
 lives-change_under pid f es same other =
     elim (cases_eq pid other) [
       | inl here ↦ rw (← here) (ap lives (under-change_under pid f es) ∙ by (under pid es) same)
       | inr apart ↦ ap lives (under-change_under_other pid other f apart es)
     ]
   where
-    by : (o : Option TracedProcess) → ((x : TracedProcess) → o ≡ Some x → (f x).ended ≡ x.ended) → lives (option_map f o) ≡ lives o
+    by : (o : Option TracedProcess) → ((x : TracedProcess) → o ≡ Some x → (f x).ended ≡ x.ended)
+        → lives (option_map f o) ≡ lives o
     by None same = refl
     by (Some x) same = ap (λ (o : Option ℕ). is_none o) (same x refl)
 
@@ -71,19 +76,30 @@ pub record Replaces (s : TracedSystem) (files : FileTable) (pid : ℕ) (x y : Tr
   pub pipes : PipesHaveEnds files
   pub users : (place : ℕ) → users_at files place + count_at x.fds place ≡ users_at s.files place + count_at y.fds place
 
-pub replaced : (s : TracedSystem) (files : FileTable) (pid : ℕ) (f : TracedProcess → TracedProcess) (x : TracedProcess) → IsLawfulSystem s → pid ≢ 0 → process_of s pid ≡ Some x → Replaces s files pid x (f x) → IsLawfulSystem (with_process pid f (record s { files = files }))
+pub replaced : (s : TracedSystem) (files : FileTable) (pid : ℕ) (f : TracedProcess → TracedProcess) (x : TracedProcess)
+    → IsLawfulSystem s → pid ≢ 0 → process_of s pid ≡ Some x → Replaces s files pid x (f x)
+    → IsLawfulSystem (with_process pid f (record s { files = files }))
 unfolding with_process total_size
 replaced s files pid f x h user found r =
     let t : TracedSystem = record s { files = files; processes = change_under pid f s.processes } in
     let same : (y : TracedProcess) → process_of s pid ≡ Some y → x ≡ y = λ y is. same_Some x y (sym found ∙ is) in
-    let live : (other : ℕ) → lives (process_of t other) ≡ lives (process_of s other) = lives-change_under pid f s.processes (λ y is. subst (λ (z : TracedProcess). (f z).ended ≡ z.ended) (same y is) r.ended) in
+    let live : (other : ℕ) → lives (process_of t other) ≡ lives (process_of s other) =
+    lives-change_under pid f s.processes
+    (λ y is. subst (λ (z : TracedProcess). (f z).ended ≡ z.ended) (same y is) r.ended) in
     record {
       rising = rises_from-change_under 0 pid f s.processes ∙ h.rising;
-      numbered = All-change_under (IsNumberedBelow s.made) pid f s.processes (λ y is it. record { id = it.id }) h.numbered;
-      processes = All-change_under IsLawfulProcess pid f s.processes (λ y is it. subst (λ z. IsLawfulProcess (pid, f z)) (same y is) (r.lawful (subst (λ z. IsLawfulProcess (pid, z)) (sym (same y is)) it))) h.processes;
+      numbered =
+          All-change_under (IsNumberedBelow s.made) pid f s.processes (λ y is it. record { id = it.id }) h.numbered;
+      processes =
+          All-change_under IsLawfulProcess pid f s.processes
+          (λ y is it. subst (λ z. IsLawfulProcess (pid, f z)) (same y is)
+          (r.lawful (subst (λ z. IsLawfulProcess (pid, z)) (sym (same y is)) it))) h.processes;
       parents =
-          All-weaker (HasParent s) (HasParent t) (parents-on s t (λ other is. live other ∙ is)) (change_under pid f s.processes)
-          (All-change_under (HasParent s) pid f s.processes (λ y is it. parent-same s pid y (f y) (subst (λ (z : TracedProcess). (f z).parent ≡ z.parent) (same y is) r.parent) it) h.parents);
+          All-weaker (HasParent s) (HasParent t) (parents-on s t (λ other is. live other
+          ∙ is)) (change_under pid f s.processes)
+          (All-change_under (HasParent s) pid f s.processes
+          (λ y is it. parent-same s pid y (f y)
+          (subst (λ (z : TracedProcess). (f z).parent ≡ z.parent) (same y is) r.parent) it) h.parents);
       first = under-change_under_other pid 0 f user s.processes ∙ h.first;
       made = h.made;
       programs = h.programs;
@@ -107,7 +123,8 @@ replaced s files pid f x h user found r =
     }
 
 -- a process that is kept in its place
-pub kept-replaces : (s : TracedSystem) (pid : ℕ) (x y : TracedProcess) → IsLawfulSystem s → StaysLawful pid x y → Replaces s s.files pid x y
+pub kept-replaces : (s : TracedSystem) (pid : ℕ) (x y : TracedProcess) → IsLawfulSystem s → StaysLawful pid x y
+    → Replaces s s.files pid x y
 unfolding total_size size_of
 kept-replaces s pid x y h kept = record {
   lawful = kept.lawful;
@@ -120,11 +137,14 @@ kept-replaces s pid x y h kept = record {
 }
 
 -- where no process has the id nothing changes
-unfound : (s : TracedSystem) (pid : ℕ) (f : TracedProcess → TracedProcess) → process_of s pid ≡ None → with_process pid f s ≡ s
+unfound : (s : TracedSystem) (pid : ℕ) (f : TracedProcess → TracedProcess) → process_of s pid ≡ None
+    → with_process pid f s ≡ s
 unfolding with_process
 unfound s pid f none = ap (λ ps. record s { processes = ps }) (change_under-none pid f s.processes none)
 
-pub kept : (s : TracedSystem) (pid : ℕ) (f : TracedProcess → TracedProcess) → pid ≢ 0 → ((x : TracedProcess) → process_of s pid ≡ Some x → StaysLawful pid x (f x)) → IsLawfulSystem s → IsLawfulSystem (with_process pid f s)
+pub kept : (s : TracedSystem) (pid : ℕ) (f : TracedProcess → TracedProcess) → pid ≢ 0
+    → ((x : TracedProcess) → process_of s pid ≡ Some x → StaysLawful pid x (f x)) → IsLawfulSystem s
+    → IsLawfulSystem (with_process pid f s)
 kept s pid f user keeps h = by (process_of s pid) refl
   where
     by : (o : Option TracedProcess) → process_of s pid ≡ o → IsLawfulSystem (with_process pid f s)
@@ -133,7 +153,8 @@ kept s pid f user keeps h = by (process_of s pid) refl
 
 -- ---- a process is made
 
-below : (made : ℕ) (es : List (ℕ × TracedProcess)) → All (IsNumberedBelow made) es → All (λ (e : ℕ × TracedProcess). e.0 < made) es
+below : (made : ℕ) (es : List (ℕ × TracedProcess)) → All (IsNumberedBelow made) es
+    → All (λ (e : ℕ × TracedProcess). e.0 < made) es
 below made es all = All-weaker (IsNumberedBelow made) (λ (e : ℕ × TracedProcess). e.0 < made) (λ e it. it.id) es all
 
 -- the next id is free
@@ -156,20 +177,25 @@ first-made s h none =
     let it = first.id in
     absurd (omega arith)
 
-pub joined : (s : TracedSystem) (files : FileTable) (p : TracedProcess) → IsLawfulSystem s → Joins s files p → IsLawfulSystem (with_made p (record s { files = files }))
+pub joined : (s : TracedSystem) (files : FileTable) (p : TracedProcess) → IsLawfulSystem s → Joins s files p
+    → IsLawfulSystem (with_made p (record s { files = files }))
 unfolding with_made total_size
 joined s files p h j =
     let t : TracedSystem = record s { made = s.made + 1; files = files; processes = inserted s.made p s.processes } in
     let free = next-free s h in
-    let stays : (other : ℕ) → lives (process_of s other) ≡ true → lives (process_of t other) ≡ true = λ other is. elim (cases_eq s.made other) [
+    let stays : (other : ℕ) → lives (process_of s other) ≡ true → lives (process_of t other) ≡ true =
+    λ other is. elim (cases_eq s.made other) [
       | inl here ↦ absurd (no_one (process_of s other) (ap (λ n. under n s.processes) (sym here) ∙ free) is)
       | inr apart ↦ ap lives (under-inserted_other s.made other p apart s.processes) ∙ is
     ] in
     record {
-      rising = rises_from-inserted 0 s.made p s.processes (omega arith) h.rising (ap (λ (o : Option TracedProcess). is_some o) free);
+      rising =
+          rises_from-inserted 0 s.made p s.processes (omega arith) h.rising
+          (ap (λ (o : Option TracedProcess). is_some o) free);
       numbered =
           All-inserted (IsNumberedBelow (s.made + 1)) s.made p s.processes (record { id = omega arith })
-          (All-weaker (IsNumberedBelow s.made) (IsNumberedBelow (s.made + 1)) (λ e it. record { id = let low = it.id in omega arith }) s.processes h.numbered);
+          (All-weaker (IsNumberedBelow s.made) (IsNumberedBelow (s.made + 1))
+          (λ e it. record { id = let low = it.id in omega arith }) s.processes h.numbered);
       processes = All-inserted IsLawfulProcess s.made p s.processes j.lawful h.processes;
       parents =
           All-weaker (HasParent s) (HasParent t) (parents-on s t stays) (inserted s.made p s.processes)
@@ -207,19 +233,22 @@ pub count-none : (place : ℕ) → count_at no_descriptors place ≡ 0
 count-none place = refl
 
 -- the system process is live, so that a zombie is another one
-zombie-other : (s : TracedSystem) (pid status : ℕ) (z : TracedProcess) → IsLawfulSystem s → process_of s pid ≡ Some z → z.ended ≡ Some status → pid ≢ 0
+zombie-other : (s : TracedSystem) (pid status : ℕ) (z : TracedProcess) → IsLawfulSystem s → process_of s pid ≡ Some z
+    → z.ended ≡ Some status → pid ≢ 0
 unfolding system_process bare_process
 zombie-other s pid status z h found over is =
     let same : system_process ≡ z = same_Some system_process z (sym h.first ∙ ap (process_of s) (sym is) ∙ found) in
     let live : None ≡ Some status = ap (λ (p : TracedProcess). p.ended) same ∙ over in
     none-some status live
 
-pub reaped : (s : TracedSystem) (child status : ℕ) (z : TracedProcess) → IsLawfulSystem s → process_of s child ≡ Some z → z.ended ≡ Some status → IsLawfulSystem (with_reaped child s)
+pub reaped : (s : TracedSystem) (child status : ℕ) (z : TracedProcess) → IsLawfulSystem s → process_of s child ≡ Some z
+    → z.ended ≡ Some status → IsLawfulSystem (with_reaped child s)
 unfolding with_reaped total_size size_of
 reaped s child status z h found over =
     let t : TracedSystem = record s { processes = without_id child s.processes } in
     let zombie = All-under IsLawfulProcess child z s.processes h.processes found in
-    let stays : (other : ℕ) → lives (process_of s other) ≡ true → lives (process_of t other) ≡ true = λ other is. elim (cases_eq child other) [
+    let stays : (other : ℕ) → lives (process_of s other) ≡ true → lives (process_of t other) ≡ true =
+    λ other is. elim (cases_eq child other) [
       | inl here ↦ absurd (dead (process_of s other) (ap (λ n. under n s.processes) (sym here) ∙ found) is)
       | inr apart ↦ ap lives (under-without_id_other child other apart s.processes) ∙ is
     ] in
@@ -247,7 +276,8 @@ reaped s child status z h found over =
             let before = all_users-sum place s.processes in
             let after = all_users-sum place (without_id child s.processes) in
             let counted = h.files.users place in
-            let none : count_at z.fds place ≡ 0 = ap (λ fds. count_at fds place) (zombie.empty_zombie.no_files status over) ∙ count-none place in
+            let none : count_at z.fds place ≡ 0 =
+            ap (λ fds. count_at fds place) (zombie.empty_zombie.no_files status over) ∙ count-none place in
             omega arith;
       };
     }
@@ -263,7 +293,8 @@ reaped s child status z h found over =
 -- ---- descriptors
 
 -- the descriptors of a process are open
-pub descriptors-open : (s : TracedSystem) (pid : ℕ) (p : TracedProcess) → IsLawfulSystem s → process_of s pid ≡ Some p → AreOpenIn p.fds s.files
+pub descriptors-open : (s : TracedSystem) (pid : ℕ) (p : TracedProcess) → IsLawfulSystem s → process_of s pid ≡ Some p
+    → AreOpenIn p.fds s.files
 descriptors-open s pid p h found = record {
   each = λ place.
       let part = sum-part (count_in place) pid p s.processes found in

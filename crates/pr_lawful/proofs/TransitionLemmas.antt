@@ -41,21 +41,65 @@ moved-keeps : (m : Move) → SuitsMove m → KeepsLwp (moved traced m)
 unfolding moved traced fault_incurred fault_posted
 moved-keeps move.stays suits = same_sets (moved traced move.stays) (λ l. refl) (λ l. refl) (λ l. refl) (λ l. refl)
 moved-keeps move.stops suits = same_sets (moved traced move.stops) (λ l. refl) (λ l. refl) (λ l. refl) (λ l. refl)
-moved-keeps (move.posts f address) suits = λ next id l it. record { id = it.id; held = it.held; frames = it.frames; few_frames = it.few_frames; pending = added-infos (fault_signal f) (of_fault address) l.pending (fault-info address) (standard-room (fault_signal f) l.pending (fault-standard f)) it.pending; current = it.current }
+moved-keeps (move.posts f address) suits =
+    λ next id l it. record {
+      id = it.id;
+      held = it.held;
+      frames = it.frames;
+      few_frames = it.few_frames;
+      pending =
+          added-infos (fault_signal f) (of_fault address) l.pending (fault-info address)
+          (standard-room (fault_signal f) l.pending (fault-standard f)) it.pending;
+      current = it.current;
+    }
 moved-keeps move.returns suits = same_sets (moved traced move.returns) (λ l. refl) (λ l. refl) (λ l. refl) (λ l. refl)
-moved-keeps (move.runs regs) suits = same_sets (moved traced (move.runs regs)) (λ l. refl) (λ l. refl) (λ l. refl) (λ l. refl)
-moved-keeps (move.enters call regs) suits = same_sets (moved traced (move.enters call regs)) (λ l. refl) (λ l. refl) (λ l. refl) (λ l. refl)
-moved-keeps (move.incurs f address) suits = same_sets (moved traced (move.incurs f address)) (λ l. refl) (λ l. refl) (λ l. refl) (λ l. refl)
-moved-keeps (move.traps f address regs) suits = same_sets (moved traced (move.traps f address regs)) (λ l. refl) (λ l. refl) (λ l. refl) (λ l. refl)
-moved-keeps (move.leaves call args result) suits = same_sets (moved traced (move.leaves call args result)) (λ l. refl) (λ l. refl) (λ l. refl) (λ l. refl)
-moved-keeps (move.sleeps call args since) suits = same_sets (moved traced (move.sleeps call args since)) (λ l. refl) (λ l. refl) (λ l. refl) (λ l. refl)
-moved-keeps (move.takes c own) suits = λ next id l it. record { id = it.id; held = it.held; frames = it.frames; few_frames = it.few_frames; pending = elim own as (λ b. IsLawfulPending (cond b (without_one c.signal l.pending) l.pending)) [ true ↦ taken-infos c.signal l.pending it.pending | false ↦ it.pending ]; current = suits }
-moved-keeps move.drops suits = λ next id l it. record { id = it.id; held = it.held; frames = it.frames; few_frames = it.few_frames; pending = it.pending; current = tt }
-moved-keeps (move.catches frames regs held) suits = λ next id l it. record { id = it.id; held = suits.holdable; frames = suits.backs; few_frames = suits.few; pending = it.pending; current = tt }
+moved-keeps (move.runs regs) suits =
+    same_sets (moved traced (move.runs regs)) (λ l. refl) (λ l. refl) (λ l. refl) (λ l. refl)
+moved-keeps (move.enters call regs) suits =
+    same_sets (moved traced (move.enters call regs)) (λ l. refl) (λ l. refl) (λ l. refl) (λ l. refl)
+moved-keeps (move.incurs f address) suits =
+    same_sets (moved traced (move.incurs f address)) (λ l. refl) (λ l. refl) (λ l. refl) (λ l. refl)
+moved-keeps (move.traps f address regs) suits =
+    same_sets (moved traced (move.traps f address regs)) (λ l. refl) (λ l. refl) (λ l. refl) (λ l. refl)
+moved-keeps (move.leaves call args result) suits =
+    same_sets (moved traced (move.leaves call args result)) (λ l. refl) (λ l. refl) (λ l. refl) (λ l. refl)
+moved-keeps (move.sleeps call args since) suits =
+    same_sets (moved traced (move.sleeps call args since)) (λ l. refl) (λ l. refl) (λ l. refl) (λ l. refl)
+moved-keeps (move.takes c own) suits =
+    λ next id l it. record {
+      id = it.id;
+      held = it.held;
+      frames = it.frames;
+      few_frames = it.few_frames;
+      pending =
+          elim own as
+          (λ b. IsLawfulPending
+          (cond b (without_one c.signal l.pending) l.pending)) [ true ↦ taken-infos c.signal l.pending it.pending | false ↦ it.pending ];
+      current = suits;
+    }
+moved-keeps move.drops suits =
+    λ next id l it. record {
+      id = it.id;
+      held = it.held;
+      frames = it.frames;
+      few_frames = it.few_frames;
+      pending = it.pending;
+      current = tt;
+    }
+moved-keeps (move.catches frames regs held) suits =
+    λ next id l it. record {
+      id = it.id;
+      held = suits.holdable;
+      frames = suits.backs;
+      few_frames = suits.few;
+      pending = it.pending;
+      current = tt;
+    }
 
 -- ---- transitions
 
-pub change_under-same : {X : Type 0} (id : ℕ) (f : X → X) → ((x : X) → f x ≡ x) → (es : List (ℕ × X)) → change_under id f es ≡ es
+pub change_under-same : {X : Type 0} (id : ℕ) (f : X → X) → ((x : X) → f x ≡ x) → (es : List (ℕ × X))
+    → change_under id f es ≡ es
 change_under-same id f same [] = refl
 change_under-same id f same (e ∷ es) =
     elim (eqb e.0 id) as (λ b. cond b ((e.0, f e.1) ∷ es) (e ∷ change_under id f es) ≡ e ∷ es)
@@ -65,15 +109,19 @@ pub stayed : (pid id : ℕ) (s : TracedSystem) → with_lwp_of pid id (moved tra
 unfolding with_lwp_of with_process with_lwp moved
 stayed pid id s =
     ap (λ ps. record s { processes = ps })
-    (change_under-same pid (with_lwp id (moved traced move.stays)) (λ p. ap (λ ls. record p { lwps = ls }) (change_under-same id (moved traced move.stays) (λ l. refl) p.lwps)) s.processes)
+    (change_under-same pid (with_lwp id (moved traced move.stays))
+    (λ p. ap (λ ls. record p { lwps = ls })
+    (change_under-same id (moved traced move.stays) (λ l. refl) p.lwps)) s.processes)
 
-module _ (s : TracedSystem) (pid : ℕ) (p : TracedProcess) (id : ℕ) (l : TracedLwp) (h : IsLawfulSystem s) (user : pid ≢ 0) (found : process_of s pid ≡ Some p) (live : p.ended ≡ None) where
+module _ (s : TracedSystem) (pid : ℕ) (p : TracedProcess) (id : ℕ) (l : TracedLwp) (h : IsLawfulSystem s)
+    (user : pid ≢ 0) (found : process_of s pid ≡ Some p) (live : p.ended ≡ None) where
   ending-lawful : (how : Ending) → IsLawfulSystem (ended traced pid p id how s)
   unfolding ended
   ending-lawful (ends_process status) = ended-lawful s pid p status h user found
   ending-lawful ends_lwp = lwp_ended-lawful s pid p id h user found live
 
-  pub transition-lawful : (t : Transition) → SuitsTransition s pid p id l t → IsLawfulSystem (after_transition traced pid p id l t s)
+  pub transition-lawful : (t : Transition) → SuitsTransition s pid p id l t
+      → IsLawfulSystem (after_transition traced pid p id l t s)
   unfolding after_transition with_lwp_of all_changed
   transition-lawful t suits = by t.ending refl
     where
@@ -91,18 +139,24 @@ module _ (s : TracedSystem) (pid : ℕ) (p : TracedProcess) (id : ℕ) (l : Trac
           kept (all_changed traced pid p id l t.changes s) pid (with_lwp id (moved traced t.move)) user
           (λ x there. keeps-lwp id (moved traced t.move) (moved-keeps t.move suits.move) pid x)
           (all_changed-lawful pid p id l user t.changes s h suits.changes)
-      by (Some how) is = subst (λ u. IsLawfulSystem (ended traced pid p id how u)) (sym (nothing_else how is)) (ending-lawful how)
+      by (Some how) is =
+          subst (λ u. IsLawfulSystem (ended traced pid p id how u)) (sym (nothing_else how is)) (ending-lawful how)
 
 -- ---- counts and stops
 
 counted-keeps : (did : _) (begun : Bool) → Keeps (with_counted did begun)
 unfolding with_counted
-counted-keeps did begun pid x = kept-parts pid x (with_counted did begun x) refl (same_rest x _ refl refl refl refl (λ it. it)) (same_lwps x _ refl refl) refl refl
+counted-keeps did begun pid x =
+    kept-parts pid x (with_counted did begun x) refl (same_rest x _ refl refl refl refl (λ it. it))
+    (same_lwps x _ refl refl) refl refl
 
 pub directed-keeps : KeepsLwp directed
 unfolding directed
 directed-keeps next id l it =
-    keeps-if (has_event_stop l) (λ m. m) (λ m. record m { control = record m.control { directed = true } }) (λ n i m has. has) (same_sets (λ m. record m { control = record m.control { directed = true } }) (λ m. refl) (λ m. refl) (λ m. refl) (λ m. refl)) next id l it
+    keeps-if (has_event_stop l) (λ m. m) (λ m. record m { control = record m.control { directed = true } })
+    (λ n i m has. has)
+    (same_sets (λ m. record m { control = record m.control { directed = true } }) (λ m. refl) (λ m. refl)
+    (λ m. refl) (λ m. refl)) next id l it
 
 pub all_directed-keeps : Keeps with_all_directed
 unfolding with_all_directed
@@ -119,10 +173,13 @@ meeting-keeps (Some point) id pid x =
     let at = with_lwp id (stopped_at point) x in
     let stopped = keeps-lwp id (stopped_at point) (stopped-keeps point) pid x in
     kept-if pid (is_traced x.control point) x (cond (has_flags at.control.modes async_mode) at (with_all_directed at)) x
-    (kept-if pid (has_flags at.control.modes async_mode) x at (with_all_directed at) stopped (kept-next pid x at (with_all_directed at) stopped (all_directed-keeps pid at)))
+    (kept-if pid (has_flags at.control.modes async_mode) x at (with_all_directed at) stopped
+    (kept-next pid x at (with_all_directed at) stopped (all_directed-keeps pid at)))
     (kept-same pid x)
 
-pub settled-lawful : (s : TracedSystem) (pid : ℕ) (p : TracedProcess) (id : ℕ) (l : TracedLwp) → IsLawfulSystem s → pid ≢ 0 → process_of s pid ≡ Some p → p.ended ≡ None → (row : Row) → SuitsTransition s pid p id l row.transition → IsLawfulSystem (settled s pid p id l row).system
+pub settled-lawful : (s : TracedSystem) (pid : ℕ) (p : TracedProcess) (id : ℕ) (l : TracedLwp) → IsLawfulSystem s
+    → pid ≢ 0 → process_of s pid ≡ Some p → p.ended ≡ None → (row : Row) → SuitsTransition s pid p id l row.transition
+    → IsLawfulSystem (settled s pid p id l row).system
 unfolding settled
 settled-lawful s pid p id l h user found live row suits =
     kept _ pid (after_meeting row.point id) user (λ x is. meeting-keeps row.point id pid x)

@@ -48,10 +48,15 @@ use Rattle.pr_model.proofs.TurnLemmas.{turn-taken}
 -- ---- handlers
 
 -- a signal that is caught can be caught
-caught-can : (ds : List ℕ) (g : Sig) (handler : ℕ) → AreUncaught ds → action_for ds g ≡ act.Catch handler → can_be_caught g ≡ true
+caught-can : (ds : List ℕ) (g : Sig) (handler : ℕ) → AreUncaught ds → action_for ds g ≡ act.Catch handler
+    → can_be_caught g ≡ true
 unfolding action_of default_action
-caught-can ds Kill handler uncaught is = let wrong : act.Die ≡ act.Catch handler = sym (ap (action_of Kill) uncaught.kill) ∙ is in cc
-caught-can ds Stop handler uncaught is = let wrong : act.Stop ≡ act.Catch handler = sym (ap (action_of Stop) uncaught.stop) ∙ is in cc
+caught-can ds Kill handler uncaught is =
+    let wrong : act.Die ≡ act.Catch handler = sym (ap (action_of Kill) uncaught.kill) ∙ is in
+    cc
+caught-can ds Stop handler uncaught is =
+    let wrong : act.Stop ≡ act.Catch handler = sym (ap (action_of Stop) uncaught.stop) ∙ is in
+    cc
 caught-can ds _ handler uncaught is = refl
 
 in-range : (g : Sig) → (leb 1 (signal_number g) && leb (signal_number g) 64) ≡ true
@@ -71,11 +76,13 @@ not-stop Kill catchable = refl
 not-stop Stop catchable = cc
 not-stop _ catchable = refl
 
-held-suits : (c : Current) (held : ℕ) → IsHoldable held → can_be_caught c.signal ≡ true → IsHoldable (handler_held c held)
+held-suits : (c : Current) (held : ℕ) → IsHoldable held → can_be_caught c.signal ≡ true
+    → IsHoldable (handler_held c held)
 unfolding handler_held
 held-suits c held holdable catchable =
     let range = and_parts _ _ (in-range c.signal) in
-    holdable-with held (signal_number c.signal) holdable (leb-true _ _ range.0) (leb-true _ _ range.1) (eqb-false _ _ (not-kill c.signal catchable)) (eqb-false _ _ (not-stop c.signal catchable))
+    holdable-with held (signal_number c.signal) holdable (leb-true _ _ range.0) (leb-true _ _ range.1)
+    (eqb-false _ _ (not-kill c.signal catchable)) (eqb-false _ _ (not-stop c.signal catchable))
 
 -- ---- the rows
 
@@ -87,27 +94,47 @@ module _ (s : TracedSystem) (pid : ℕ) (p : TracedProcess) (id : ℕ) (l : Trac
   SuitsRow row = SuitsTransition s pid p id l row.transition
 
   move-suits : (m : Move) → SuitsMove m → is_stop m ≡ false → SuitsT (moving m)
-  move-suits m suits goes_on = record { changes = tt; move = suits; alone = λ how is. absurd (none-some how is); stop = λ is. absurd (false≢true (sym goes_on ∙ is)) }
+  move-suits m suits goes_on = record {
+    changes = tt;
+    move = suits;
+    alone = λ how is. absurd (none-some how is);
+    stop = λ is. absurd (false≢true (sym goes_on ∙ is));
+  }
 
   end-suits : (how : Ending) → SuitsT (ending how)
-  end-suits how = record { changes = tt; move = tt; alone = λ other is. (refl, refl); stop = λ is. absurd (false≢true is) }
+  end-suits how = record {
+    changes = tt;
+    move = tt;
+    alone = λ other is. (refl, refl);
+    stop = λ is. absurd (false≢true is);
+  }
 
-  change-suits : (cs : List Change) (m : Move) → SuitChanges pid p id l s cs → SuitsMove m → is_stop m ≡ false → SuitsT (changing cs m)
-  change-suits cs m changes suits goes_on = record { changes = changes; move = suits; alone = λ how is. absurd (none-some how is); stop = λ is. absurd (false≢true (sym goes_on ∙ is)) }
+  change-suits : (cs : List Change) (m : Move) → SuitChanges pid p id l s cs → SuitsMove m → is_stop m ≡ false
+      → SuitsT (changing cs m)
+  change-suits cs m changes suits goes_on = record {
+    changes = changes;
+    move = suits;
+    alone = λ how is. absurd (none-some how is);
+    stop = λ is. absurd (false≢true (sym goes_on ∙ is));
+  }
 
   store-suits : (store : Option Store) → SuitChanges pid p id l s (stored_in p.space store)
   unfolding stored_in
   store-suits None = tt
   store-suits (Some store) = (stored-suits s pid p id l a store.at store.bytes, tt)
 
-  trap-suits : (f : Flt) (address : ℕ) (regs : List ℕ) (store : Option Store) → SuitsT (trapped f address p.space regs store)
+  trap-suits : (f : Flt) (address : ℕ) (regs : List ℕ) (store : Option Store)
+      → SuitsT (trapped f address p.space regs store)
   unfolding trapped
-  trap-suits f address regs store = change-suits (stored_in p.space store) (traps f address regs) (store-suits store) tt refl
+  trap-suits f address regs store =
+      change-suits (stored_in p.space store) (traps f address regs) (store-suits store) tt refl
 
   executed-suits : (e : InstructionEffect) → SuitsRow (executed_row p l e)
   unfolding SuitsRow executed_row ran_row entered_row incurred_row watched_row ran entered incurred
   executed-suits (instruction.runs regs store) =
-      choice (λ (row : Row). SuitsT row.transition) l.control.step _ _ (λ marked. trap-suits Trace (pc_of regs) regs store) (λ plain. change-suits (stored_in p.space store) (runs regs) (store-suits store) tt refl)
+      choice (λ (row : Row). SuitsT row.transition) l.control.step _ _
+      (λ marked. trap-suits Trace (pc_of regs) regs store)
+      (λ plain. change-suits (stored_in p.space store) (runs regs) (store-suits store) tt refl)
   executed-suits (instruction.calls call regs) = move-suits (enters call regs) tt refl
   executed-suits (instruction.faults f address) = move-suits (incurs f address) tt refl
   executed-suits (instruction.runs_into_watch address regs store) = trap-suits Watch address regs store
@@ -117,23 +144,33 @@ module _ (s : TracedSystem) (pid : ℕ) (p : TracedProcess) (id : ℕ) (l : Trac
   handled-suits c handler catchable =
       let own = own-lwp s pid p id l a in
       choice SuitsT (ltb (length l.frames) frame_limit) _ _
-      (λ room. move-suits (catches (with_frame l.regs l.held l.frames) (handler_registers c handler l.regs) (handler_held c l.held)) (record {
+      (λ room. move-suits
+      (catches (with_frame l.regs l.held l.frames) (handler_registers c handler l.regs) (handler_held c l.held))
+      (record {
         holdable = held-suits c l.held own.held catchable;
-        backs = All-append IsLawfulFrame l.frames (record { regs = l.regs; held = l.held } ∷ []) own.frames (All-cons IsLawfulFrame (record { regs = l.regs; held = l.held }) [] own.held (All-nil IsLawfulFrame));
-        few = let below = ltb-true (length l.frames) frame_limit room in let more = length-append l.frames (record { regs = l.regs; held = l.held } ∷ []) in omega arith;
+        backs =
+            All-append IsLawfulFrame l.frames (record { regs = l.regs; held = l.held } ∷ []) own.frames
+            (All-cons IsLawfulFrame (record { regs = l.regs; held = l.held }) [] own.held (All-nil IsLawfulFrame));
+        few =
+            let below = ltb-true (length l.frames) frame_limit room in
+            let more = length-append l.frames (record { regs = l.regs; held = l.held } ∷ []) in
+            omega arith;
       }) refl)
       (λ full. end-suits (ends_process (signal_number Segv)))
 
-  performed-suits : (woken : Bool) (call : Sysno) (args : List ℕ) (since : ℕ) (effect : Effect) → Suits s pid p id l a effect → SuitsRow (performed_row woken call args since effect)
+  performed-suits : (woken : Bool) (call : Sysno) (args : List ℕ) (since : ℕ) (effect : Effect)
+      → Suits s pid p id l a effect → SuitsRow (performed_row woken call args since effect)
   unfolding SuitsRow performed_row performed Suits
-  performed-suits woken call args since (change.does result changes) suits = change-suits changes (leaves call args result) suits tt refl
+  performed-suits woken call args since (change.does result changes) suits =
+      change-suits changes (leaves call args result) suits tt refl
   performed-suits woken call args since change.sleeps suits = move-suits (sleeps call args since) tt refl
   performed-suits woken call args since (change.ends how) suits = end-suits how
 
   returned-suits : (call : Sysno) → SuitsRow (returned_row p l call)
   unfolding SuitsRow returned_row returned
   returned-suits call =
-      choice (λ (row : Row). SuitsT row.transition) l.control.step _ _ (λ marked. trap-suits Trace (pc_of l.regs) l.regs None) (λ plain. move-suits returns tt refl)
+      choice (λ (row : Row). SuitsT row.transition) l.control.step _ _
+      (λ marked. trap-suits Trace (pc_of l.regs) l.regs None) (λ plain. move-suits returns tt refl)
 
   kind-suits : (row : Row) → RowKind s pid p id l row → SuitsRow row
   unfolding SuitsRow requested_row requested posted_row posted dropped job_stopped died handler_row own_taken_row
@@ -170,19 +207,23 @@ module _ (s : TracedSystem) (pid : ℕ) (p : TracedProcess) (id : ℕ) (l : Trac
 -- ---- the turn
 
 -- the system process has no lwp
-no-lwp : (s : TracedSystem) (pid id : ℕ) (p : TracedProcess) (l : TracedLwp) → IsLawfulSystem s → process_of s pid ≡ Some p → lwp_of p id ≡ Some l → pid ≢ 0
+no-lwp : (s : TracedSystem) (pid id : ℕ) (p : TracedProcess) (l : TracedLwp) → IsLawfulSystem s
+    → process_of s pid ≡ Some p → lwp_of p id ≡ Some l → pid ≢ 0
 unfolding system_process bare_process
 no-lwp s pid id p l h found there is =
     let same : system_process ≡ p = same_Some system_process p (sym h.first ∙ ap (process_of s) (sym is) ∙ found) in
     let none : None ≡ Some l = ap (λ (q : TracedProcess). lwp_of q id) same ∙ there in
     none-some l none
 
-pub acting : (s : TracedSystem) (pid id : ℕ) (p : TracedProcess) (l : TracedLwp) → IsLawfulSystem s → live_process s pid ≡ Some p → lwp_of p id ≡ Some l → IsActing s pid p id l
+pub acting : (s : TracedSystem) (pid id : ℕ) (p : TracedProcess) (l : TracedLwp) → IsLawfulSystem s
+    → live_process s pid ≡ Some p → lwp_of p id ≡ Some l → IsActing s pid p id l
 acting s pid id p l h live there =
     let it = found-live s pid p live in
     record { lawful = h; user = no-lwp s pid id p l h it.0 there; found = it.0; live = it.1; there = there }
 
-pub turn-lawful : (s : TracedSystem) (pid id : ℕ) (t : LwpTurn) → IsLawfulSystem s → turn_of s pid id ≡ Some t → IsLawfulSystem t.system
+pub turn-lawful : (s : TracedSystem) (pid id : ℕ) (t : LwpTurn) → IsLawfulSystem s → turn_of s pid id ≡ Some t
+    → IsLawfulSystem t.system
 turn-lawful s pid id t h turn =
     let it = turn-taken s pid id t turn in
-    subst (λ (v : LwpTurn). IsLawfulSystem v.system) (sym it.is) (row-lawful s pid it.process id it.lwp (acting s pid id it.process it.lwp h it.live it.there))
+    subst (λ (v : LwpTurn). IsLawfulSystem v.system) (sym it.is)
+    (row-lawful s pid it.process id it.lwp (acting s pid id it.process it.lwp h it.live it.there))

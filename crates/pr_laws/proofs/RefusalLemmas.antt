@@ -68,17 +68,22 @@ module _ (s : TracedSystem) where
   either false x y one other = other
 
   module _ (pid : ℕ) (p : TracedProcess) where
-    found-leaves : (len : ℕ) (change : TracedLwp → TracedLwp) (o : Option (ℕ × TracedLwp)) → LeavesSystem (on_found s pid p len change o)
+    found-leaves : (len : ℕ) (change : TracedLwp → TracedLwp) (o : Option (ℕ × TracedLwp))
+        → LeavesSystem (on_found s pid p len change o)
     found-leaves len change None = used s len
     found-leaves len change (Some e) = used _ len
 
-    stopped-leaves : (len : ℕ) (change : TracedLwp → TracedLwp) (o : Option (ℕ × TracedLwp)) → LeavesSystem (on_stopped_found s pid p len change o)
+    stopped-leaves : (len : ℕ) (change : TracedLwp → TracedLwp) (o : Option (ℕ × TracedLwp))
+        → LeavesSystem (on_stopped_found s pid p len change o)
     stopped-leaves len change None = refusal Busy
-    stopped-leaves len change (Some e) = either _ _ _ (used (with_process pid (with_lwp e.0 change) s) len) (refusal Busy)
+    stopped-leaves len change (Some e) =
+        either _ _ _ (used (with_process pid (with_lwp e.0 change) s) len) (refusal Busy)
 
-    run_found-leaves : (flags len id : ℕ) (o : Option TracedLwp) → LeavesSystem (run_found s pid p flags len (found_at s pid p id o))
+    run_found-leaves : (flags len id : ℕ) (o : Option TracedLwp)
+        → LeavesSystem (run_found s pid p flags len (found_at s pid p id o))
     run_found-leaves flags len id None = refusal Busy
-    run_found-leaves flags len id (Some l) = either _ _ _ (refusal Busy) (used (with_process pid (with_lwp id (run_lwp flags)) s) len)
+    run_found-leaves flags len id (Some l) =
+        either _ _ _ (refusal Busy) (used (with_process pid (with_lwp id (run_lwp flags)) s) len)
 
     run-leaves : (aim : Aim) (flags len : ℕ) → LeavesSystem (run_answer s pid p aim flags len)
     unfolding run_answer
@@ -88,11 +93,13 @@ module _ (s : TracedSystem) where
     ssig-leaves : (aim : Aim) (number len : ℕ) → LeavesSystem (ssig_answer s pid p aim number len)
     unfolding ssig_answer killed
     ssig-leaves aim number len =
-        either _ _ _ (used (with_this_ended traced pid p (signal_number sig.Kill) s) len) (found-leaves len (with_signal_set (signal_of_number number)) (aimed_lwp s pid p aim))
+        either _ _ _ (used (with_this_ended traced pid p (signal_number sig.Kill) s) len)
+        (found-leaves len (with_signal_set (signal_of_number number)) (aimed_lwp s pid p aim))
 
     kill_by-leaves : (aim : Aim) (len : ℕ) (o : Option Sig) → LeavesSystem (kill_by s pid p aim len o)
     kill_by-leaves aim len None = used s len
-    kill_by-leaves aim len (Some g) = either _ _ _ (used (generated traced pid (target_of_aim s pid p aim) g by_controller s) len) (refusal Again)
+    kill_by-leaves aim len (Some g) =
+        either _ _ _ (used (generated traced pid (target_of_aim s pid p aim) g by_controller s) len) (refusal Again)
 
     kill-leaves : (aim : Aim) (number len : ℕ) → LeavesSystem (kill_message s pid p aim number len)
     unfolding kill_message
@@ -113,11 +120,14 @@ module _ (s : TracedSystem) where
         either _ _ _ (used (with_process pid (with_control (with_areas (without_area at p.control.areas))) s) len)
         (either _ _ _ (refusal Inval)
         (either _ _ _ (refusal Nomem)
-        (used (with_process pid (with_control (with_areas (with_area (record { at = at; size = size; flags = flags }) p.control.areas))) s) len)))
+        (used (with_process pid
+        (with_control
+        (with_areas (with_area (record { at = at; size = size; flags = flags }) p.control.areas))) s) len)))
 
     agent-leaves : (regs : List ℕ) (len : ℕ) → LeavesSystem (agent_answer s pid p regs len)
     unfolding agent_answer
-    agent-leaves regs len = either _ _ _ (refusal Busy) (either _ _ _ (refusal Nomem) (used (with_process pid (with_agent regs) s) len))
+    agent-leaves regs len =
+        either _ _ _ (refusal Busy) (either _ _ _ (refusal Nomem) (used (with_process pid (with_agent regs) s) len))
 
     read_of-leaves : (r : Result (List ℕ) BadByte) → LeavesSystem (read_of s pid p r)
     unfolding LeavesSystem
@@ -130,9 +140,11 @@ module _ (s : TracedSystem) where
 
     write-leaves : (at : ℕ) (bytes : List ℕ) (len : ℕ) → LeavesSystem (write_answer s pid p at bytes len)
     unfolding write_answer
-    write-leaves at bytes len = either _ _ _ (used (with_process pid (with_space (with_bytes at bytes p.space)) s) len) (refusal Io)
+    write-leaves at bytes len =
+        either _ _ _ (used (with_process pid (with_space (with_bytes at bytes p.space)) s) len) (refusal Io)
 
-    message-leaves : (aim : Aim) (m : Message) (tail : List ℕ) (len : ℕ) → LeavesSystem (message_answer s pid p aim m tail len)
+    message-leaves : (aim : Aim) (m : Message) (tail : List ℕ) (len : ℕ)
+        → LeavesSystem (message_answer s pid p aim m tail len)
     unfolding message_answer
     message-leaves aim Stop tail len = half _ 0
     message-leaves aim Dstop tail len = used _ len
@@ -158,9 +170,11 @@ module _ (s : TracedSystem) where
     message-leaves aim (Read at size) tail len = read-leaves at size
     message-leaves aim (Write at size) tail len = write-leaves at tail len
 
-  decoded-leaves : (h : Held) (p : TracedProcess) (bytes : List ℕ) (r : Result (Message × ℕ) MsgFault) → LeavesSystem (decoded_answer s h p bytes r)
+  decoded-leaves : (h : Held) (p : TracedProcess) (bytes : List ℕ) (r : Result (Message × ℕ) MsgFault)
+      → LeavesSystem (decoded_answer s h p bytes r)
   decoded-leaves h p bytes (Err fault) = refusal _
-  decoded-leaves h p bytes (Ok m) = either _ _ _ (refusal (system_refusal m.0)) (message-leaves h.pid p (aim_of h) m.0 (tail_of m.0 bytes) m.1)
+  decoded-leaves h p bytes (Ok m) =
+      either _ _ _ (refusal (system_refusal m.0)) (message-leaves h.pid p (aim_of h) m.0 (tail_of m.0 bytes) m.1)
 
   targeted-leaves : (h : Held) (o : Option TracedProcess) (bytes : List ℕ) → LeavesSystem (targeted_answer s h o bytes)
   targeted-leaves h None bytes = refusal _
@@ -170,12 +184,14 @@ module _ (s : TracedSystem) where
   held-leaves None bytes = refusal _
   held-leaves (Some h) bytes = targeted-leaves h (target_of s h) bytes
 
-  pub control-leaves : (opens : Places) (by handle : ℕ) (bytes : List ℕ) → LeavesSystem (control_answer s opens by handle bytes)
+  pub control-leaves : (opens : Places) (by handle : ℕ) (bytes : List ℕ)
+      → LeavesSystem (control_answer s opens by handle bytes)
   unfolding control_answer
   control-leaves opens by handle bytes = held-leaves (control_handle (handle_of opens by handle)) bytes
 
 -- what was refused left the system
-pub refused-system : (s : TracedSystem) (c : Controlled) (e : Errno) → LeavesSystem s c → c.reply ≡ Fail e → c.system ≡ s
+pub refused-system : (s : TracedSystem) (c : Controlled) (e : Errno) → LeavesSystem s c → c.reply ≡ Fail e
+    → c.system ≡ s
 unfolding LeavesSystem
 refused-system s c e leaves is = of c.reply is leaves
   where
@@ -236,7 +252,8 @@ module _ (s : TracedState) (by : ℕ) where
   unfolding LeavesSystem
   controlled-leaves c kept = of c.reply kept
     where
-      of : (r : Reply) → LeavesSystem s.system (record { system = c.system; reply = r }) → LeavesIfRefused s by (controlled s (record { system = c.system; reply = r }))
+      of : (r : Reply) → LeavesSystem s.system (record { system = c.system; reply = r })
+          → LeavesIfRefused s by (controlled s (record { system = c.system; reply = r }))
       of (Fail e) kept = inl (ap (λ system. record s { system = system }) kept)
       of _ kept = tt
 
@@ -259,17 +276,21 @@ module _ (s : TracedState) (by : ℕ) where
   poll-leaves : (handles : List ℕ) → Leaves (poll_answer s by handles)
   unfolding poll_answer
   poll-leaves handles =
-      choice _ _ _ (refused-here Badf) (choice _ _ _ (refused-here Inval) (choice _ _ _ interrupt-seen (ready-leaves (find (is_polled_ready s by) handles))))
+      choice _ _ _ (refused-here Badf)
+      (choice _ _ _ (refused-here Inval)
+      (choice _ _ _ interrupt-seen (ready-leaves (find (is_polled_ready s by) handles))))
 
   until-leaves : (moment : ℕ) → Leaves (until_answer s by moment)
   unfolding until_answer
   until-leaves moment = choice _ _ _ interrupt-seen (choice _ _ _ (some (answered s Done) tt) not_ready)
 
-  interrupt-leaves : (b : Bool) (x : Answer) (e : Errno) → LeavesIfRefused s by x → LeavesIfRefused s by (cond b x (refused s e))
+  interrupt-leaves : (b : Bool) (x : Answer) (e : Errno) → LeavesIfRefused s by x
+      → LeavesIfRefused s by (cond b x (refused s e))
   interrupt-leaves true x e h = h
   interrupt-leaves false x e h = inl refl
 
-  spawn_unless-leaves : (program : Program) (held : Bool) (o : Option Errno) → LeavesIfRefused s by (spawn_unless s program held o)
+  spawn_unless-leaves : (program : Program) (held : Bool) (o : Option Errno)
+      → LeavesIfRefused s by (spawn_unless s program held o)
   spawn_unless-leaves program held (Some e) = inl refl
   spawn_unless-leaves program held None = tt
 
@@ -277,7 +298,10 @@ module _ (s : TracedState) (by : ℕ) where
   spawn-leaves held None = inl refl
   spawn-leaves held (Some program) = spawn_unless-leaves program held (spawn_refusal s.system program)
 
-  sent-leaves : (pid : ℕ) (info : Info) (x : Sending) → LeavesIfRefused s by (record { state = with_system (with_sent traced pid info x) s; reply = sent_reply x })
+  sent-leaves : (pid : ℕ) (info : Info) (x : Sending) → LeavesIfRefused s by (record {
+    state = with_system (with_sent traced pid info x) s;
+    reply = sent_reply x;
+  })
   unfolding with_sent
   sent-leaves pid info (refuses e) = inl refl
   sent-leaves pid info sends_nothing = tt
@@ -289,17 +313,28 @@ module _ (s : TracedState) (by : ℕ) where
   answer-leaves (call.Open pid id file mode) = some _ (open-leaves _ (open_refusal s pid id file mode))
   answer-leaves (call.Close handle) = some _ (close-leaves handle (handle_of s.opens by handle))
   answer-leaves (call.Ctl handle bytes) = some _ (controlled-leaves _ (control-leaves s.system s.opens by handle bytes))
-  answer-leaves (call.CtlWait handle until bytes) = wait-leaves (wait_reply s.system s.opens by handle until (is_interrupted s by) bytes)
+  answer-leaves (call.CtlWait handle until bytes) =
+      wait-leaves (wait_reply s.system s.opens by handle until (is_interrupted s by) bytes)
   answer-leaves (call.Read handle from len) = some _ (same-leaves (read_reply s by handle from len))
   answer-leaves (call.Poll handles) = poll-leaves handles
-  answer-leaves (call.Interrupt controller) = some _ (interrupt-leaves (ltb controller controller_limit) (record { state = record s { interrupted = with_number s.interrupted (controller + 1) }; reply = Done }) Inval tt)
+  answer-leaves (call.Interrupt controller) =
+      some _ (interrupt-leaves (ltb controller controller_limit)
+      (record {
+        state = record s {
+          interrupted = with_number s.interrupted
+              (controller + 1);
+        };
+        reply = Done;
+      }) Inval tt)
   answer-leaves (call.Spawn program held) = some _ (spawn-leaves held (program_named s.system.programs program))
-  answer-leaves (call.Kill pid number) = some _ (sent-leaves pid (killed_by 0) (sending pid number (life_of s.system pid)))
+  answer-leaves (call.Kill pid number) =
+      some _ (sent-leaves pid (killed_by 0) (sending pid number (life_of s.system pid)))
   answer-leaves (call.Until moment) = until-leaves moment
   answer-leaves call.List = some _ tt
 
 -- a refused call leaves the state
-pub refused-leaves : (s : TracedState) (by : ℕ) (c : calls.Call) (a : Answer) → answer_to s by c ≡ Some a → LeavesIfRefused s by a
+pub refused-leaves : (s : TracedState) (by : ℕ) (c : calls.Call) (a : Answer) → answer_to s by c ≡ Some a
+    → LeavesIfRefused s by a
 unfolding Leaves
 refused-leaves s by c a e = subst (λ o. IfSome o (LeavesIfRefused s by)) e (answer-leaves s by c)
 

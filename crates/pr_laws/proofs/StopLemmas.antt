@@ -41,7 +41,8 @@ alone_in o e b first =
     (cond (class_of_shown o == 4) (Some e) None))
     (cond (class_of_shown o == 5) (Some e) None)
 
-on_event : (o : Option Shown) (id : ℕ) (l : TracedLwp) (b : Bool) → found_on_event (alone_in o (id, l) b (agent_id, l)) ≡ has_event_stop l
+on_event : (o : Option Shown) (id : ℕ) (l : TracedLwp) (b : Bool)
+    → found_on_event (alone_in o (id, l) b (agent_id, l)) ≡ has_event_stop l
 unfolding alone_in
 on_event None id l true = refl
 on_event None id l false = refl
@@ -60,18 +61,32 @@ on_event (Some (Event (stop.Faulted f))) id l false = refl
 on_event (Some Suspended) id l true = refl
 on_event (Some Suspended) id l false = refl
 
-moved : (b : Bool) (l : TracedLwp) → option_map {U = ℕ × TracedLwp} (λ (x : TracedLwp). (agent_id, x)) (cond b (Some l) None) ≡ cond b (Some (agent_id, l)) None
+moved : (b : Bool) (l : TracedLwp)
+    → option_map {U = ℕ × TracedLwp} (λ (x : TracedLwp). (agent_id, x)) (cond b (Some l) None) ≡ cond b
+    (Some (agent_id, l)) None
 moved true l = refl
 moved false l = refl
 
-chosen-alone : (job : Option Sig) (id : ℕ) (l : TracedLwp) → found_on_event (chosen job ((id, l) ∷ [])) ≡ has_event_stop l
+chosen-alone : (job : Option Sig) (id : ℕ) (l : TracedLwp)
+    → found_on_event (chosen job ((id, l) ∷ [])) ≡ has_event_stop l
 unfolding chosen first_in_class class_of alone_in
 chosen-alone job id l =
-    ap (λ o. found_on_event (option_or (option_or (option_or (option_or (option_or o (cond (class_of_shown (shown job l) == 1) (Some (id, l)) None)) (cond (class_of_shown (shown job l) == 2) (Some (id, l)) None)) (cond (class_of_shown (shown job l) == 3) (Some (id, l)) None)) (cond (class_of_shown (shown job l) == 4) (Some (id, l)) None)) (cond (class_of_shown (shown job l) == 5) (Some (id, l)) None))) (moved (id == agent_id) l)
+    ap (λ o. found_on_event
+    (option_or
+    (option_or
+    (option_or
+    (option_or (option_or o (cond (class_of_shown (shown job l) == 1) (Some (id, l)) None))
+    (cond (class_of_shown (shown job l) == 2) (Some (id, l)) None))
+    (cond (class_of_shown (shown job l) == 3) (Some (id, l)) None))
+    (cond (class_of_shown (shown job l) == 4) (Some (id, l)) None))
+    (cond (class_of_shown (shown job l) == 5) (Some (id, l)) None)))
+    (moved (id == agent_id) l)
     ∙ on_event (shown job l) id l (id == agent_id)
 
-pub is_stopped-alone : (p : TracedProcess) (id : ℕ) (l : TracedLwp) → p.lwps ≡ (id, l) ∷ [] → is_stopped p ≡ has_event_stop l
+pub is_stopped-alone : (p : TracedProcess) (id : ℕ) (l : TracedLwp) → p.lwps ≡ (id, l) ∷ []
+    → is_stopped p ≡ has_event_stop l
 unfolding is_stopped
-is_stopped-alone p id l alone = ap found_on_event (representative-chosen p ∙ ap (chosen p.job_stop) alone) ∙ chosen-alone p.job_stop id l
+is_stopped-alone p id l alone =
+    ap found_on_event (representative-chosen p ∙ ap (chosen p.job_stop) alone) ∙ chosen-alone p.job_stop id l
 
 pub ruleset single = (is_stopped-alone)

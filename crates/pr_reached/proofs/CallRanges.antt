@@ -61,7 +61,8 @@ use Rattle.pr_reached.specs.InRange.{AreArguments, AreRegisters, IsFrameInRange,
 -- ---- ids
 
 -- the id of a process, and that of its parent
-pub process-id : (s : TracedSystem) (pid : ℕ) (p : TracedProcess) → IsLawfulSystem s → process_of s pid ≡ Some p → pid < process_limit
+pub process-id : (s : TracedSystem) (pid : ℕ) (p : TracedProcess) → IsLawfulSystem s → process_of s pid ≡ Some p
+    → pid < process_limit
 process-id s pid p h found =
     let own = All-under (IsNumberedBelow s.made) pid p s.processes h.numbered found in
     let below = own.id in
@@ -76,14 +77,16 @@ live-id s pid h is = by (process_of s pid) refl is
     by None none there = absurd (false≢true there)
     by (Some p) found there = process-id s pid p h found
 
-pub parent-below : (s : TracedSystem) → IsLawfulSystem s → (e : ℕ × TracedProcess) → HasParent s e → e.1.parent < process_limit
+pub parent-below : (s : TracedSystem) → IsLawfulSystem s → (e : ℕ × TracedProcess) → HasParent s e
+    → e.1.parent < process_limit
 parent-below s h e it = by it.parent
   where
     by : (e.1.parent ≡ 0) ⊎ IsSome (live_process s e.1.parent) → e.1.parent < process_limit
     by (inl first) = omega arith
     by (inr live) = live-id s e.1.parent h live
 
-pub parent-id : (s : TracedSystem) (pid : ℕ) (p : TracedProcess) → IsLawfulSystem s → process_of s pid ≡ Some p → p.parent < process_limit
+pub parent-id : (s : TracedSystem) (pid : ℕ) (p : TracedProcess) → IsLawfulSystem s → process_of s pid ≡ Some p
+    → p.parent < process_limit
 parent-id s pid p h found = parent-below s h (pid, p) (All-under (HasParent s) pid p s.processes h.parents found)
 
 -- the id of a zombie among the children of a process
@@ -92,13 +95,17 @@ IsChildBelow made no_child = Unit {0}
 IsChildBelow made all_live = Unit {0}
 IsChildBelow made (first_zombie child status) = child < made
 
-child-below : (made pid : ℕ) (es : List (ℕ × TracedProcess)) → All (IsNumberedBelow made) es → IsChildBelow made (children_among pid es)
+child-below : (made pid : ℕ) (es : List (ℕ × TracedProcess)) → All (IsNumberedBelow made) es
+    → IsChildBelow made (children_among pid es)
 child-below made pid [] all = tt
 child-below made pid (e ∷ es) all =
-    choice (IsChildBelow made) (eqb e.1.parent pid) _ _ (λ own. before e.1.ended (children_among pid es) (child-below made pid es (All-tail (IsNumberedBelow made) e es all)))
+    choice (IsChildBelow made) (eqb e.1.parent pid) _ _
+    (λ own. before e.1.ended (children_among pid es)
+    (child-below made pid es (All-tail (IsNumberedBelow made) e es all)))
     (λ other. child-below made pid es (All-tail (IsNumberedBelow made) e es all))
   where
-    before : (o : Option ℕ) (others : Children) → IsChildBelow made others → IsChildBelow made (child_before e.0 o others)
+    before : (o : Option ℕ) (others : Children) → IsChildBelow made others
+        → IsChildBelow made (child_before e.0 o others)
     before (Some status) others it = (All-head (IsNumberedBelow made) e es all).id
     before None no_child it = tt
     before None all_live it = tt
@@ -135,11 +142,13 @@ holdable-set held it =
     omega arith
 
 -- a program that is found by its name
-pub named-range : (programs : List Program) (name : List ℕ) (program : Program) → All IsProgramInRange programs → program_named programs name ≡ Some program → IsProgramInRange program
+pub named-range : (programs : List Program) (name : List ℕ) (program : Program) → All IsProgramInRange programs
+    → program_named programs name ≡ Some program → IsProgramInRange program
 unfolding program_named
 named-range programs name program all is = All-find IsProgramInRange (is_program_of name) programs program all is
 
-module _ (s : TracedSystem) (pid : ℕ) (p : TracedProcess) (id : ℕ) (l : TracedLwp) (a : IsActing s pid p id l) (h : IsInRange s) where
+module _ (s : TracedSystem) (pid : ℕ) (p : TracedProcess) (id : ℕ) (l : TracedLwp) (a : IsActing s pid p id l)
+    (h : IsInRange s) where
   pub acting-process : IsProcessInRange p
   acting-process = process-range s pid p h a.found
 
@@ -151,14 +160,20 @@ module _ (s : TracedSystem) (pid : ℕ) (p : TracedProcess) (id : ℕ) (l : Trac
   stored-space : (at : ℕ) (bytes : List ℕ) → All IsByte bytes → IsChangeInRange (space_is (with_bytes at bytes p.space))
   stored-space at bytes all = with_bytes-range at bytes all p.space acting-process.space
 
-  one-space : (value : ℕ) (space : Space) → IsWord value → IsSpaceInRange space → IsEffectInRange (gives value (space_is space ∷ []))
+  one-space : (value : ℕ) (space : Space) → IsWord value → IsSpaceInRange space
+      → IsEffectInRange (gives value (space_is space ∷ []))
   one-space value space fits it = (fits, one-change (space_is space) it)
 
-  sized-range : (value : ℕ) (space : Space) → IsWord value → All IsMappingInRange space → IsEffectInRange (unless_too_big s p value space)
+  sized-range : (value : ℕ) (space : Space) → IsWord value → All IsMappingInRange space
+      → IsEffectInRange (unless_too_big s p value space)
   sized-range value space fits it =
-      choice IsEffectInRange (leb (mapped_size space) mapping_limit && total_has_room s (mapped_size space) (size_of p)) _ _
+      choice IsEffectInRange
+      (leb (mapped_size space) mapping_limit && total_has_room s (mapped_size space) (size_of p)) _ _
       (λ room.
-      let small = leb-true (mapped_size space) mapping_limit (and_parts (leb (mapped_size space) mapping_limit) (total_has_room s (mapped_size space) (size_of p)) room).0 in
+      let small =
+      leb-true (mapped_size space) mapping_limit
+      (and_parts (leb (mapped_size space) mapping_limit)
+      (total_has_room s (mapped_size space) (size_of p)) room).0 in
       one-space value space fits (sized-few space it small))
       (λ big. refusal)
 
@@ -166,35 +181,50 @@ module _ (s : TracedSystem) (pid : ℕ) (p : TracedProcess) (id : ℕ) (l : Trac
   unfolding brk_effect
   brk-range end =
       choice IsEffectInRange (ltb end heap_base || ltb break_limit end) _ _ (λ out. refusal)
-      (λ within. sized-range 0 (with_break end p.space) (omega arith) (break-range end p.space acting-process.space.mappings))
+      (λ within. sized-range 0 (with_break end p.space) (omega arith)
+      (break-range end p.space acting-process.space.mappings))
 
   mmap-range : (len prot : ℕ) → IsEffectInRange (mmap_effect s p len prot)
   unfolding mmap_effect
   mmap-range len prot = by (gap_in (rounded len) p.space) refl
     where
       by : (o : Option ℕ) → gap_in (rounded len) p.space ≡ o → IsEffectInRange (mmap_effect s p len prot)
-      by None is = rw is (choice IsEffectInRange (eqb len 0 || (ltb mapping_limit len || ltb prot_limit prot)) _ _ (λ bad. refusal) (λ right. refusal))
+      by None is =
+          rw is (choice IsEffectInRange (eqb len 0 || (ltb mapping_limit len || ltb prot_limit prot)) _ _
+          (λ bad. refusal) (λ right. refusal))
       by (Some at) is =
-          rw is (choice IsEffectInRange (eqb len 0 || (ltb mapping_limit len || ltb prot_limit prot)) _ _ (λ bad. refusal)
+          rw is (choice IsEffectInRange (eqb len 0 || (ltb mapping_limit len || ltb prot_limit prot)) _ _
+          (λ bad. refusal)
           (λ right.
-          let some : 0 < len = let apart = eqb-false len 0 (or_parts (eqb len 0) (ltb mapping_limit len || ltb prot_limit prot) right).0 in omega arith in
-          let allowed : prot ≤ 7 = ltb-false 7 prot (or_parts (ltb mapping_limit len) (ltb prot_limit prot) (or_parts (eqb len 0) (ltb mapping_limit len || ltb prot_limit prot) right).1).1 in
+          let some : 0 < len =
+          let apart =
+          eqb-false len 0 (or_parts (eqb len 0) (ltb mapping_limit len || ltb prot_limit prot) right).0 in
+          omega arith in
+          let allowed : prot ≤ 7 =
+          ltb-false 7 prot
+          (or_parts (ltb mapping_limit len) (ltb prot_limit prot)
+          (or_parts (eqb len 0) (ltb mapping_limit len || ltb prot_limit prot) right).1).1 in
           let fits = gap-word (rounded len) p.space at is in
-          sized-range at (with_mapping (zeros_at at (rounded len) prot Mapped) p.space) fits (zeros_mapped-range at (rounded len) prot Mapped p.space fits (omega arith) (rounded-page len some) acting-process.space.mappings)))
+          sized-range at (with_mapping (zeros_at at (rounded len) prot Mapped) p.space) fits
+          (zeros_mapped-range at (rounded len) prot Mapped p.space fits (omega arith)
+          (rounded-page len some) acting-process.space.mappings)))
 
   munmap-range : (at len : ℕ) → IsEffectInRange (munmap_effect s p at len)
   unfolding munmap_effect
   munmap-range at len =
       choice IsEffectInRange (list_any (is_mapped_range at (rounded len)) p.space) _ _
-      (λ one. one-space 0 (without_range at (rounded len) p.space) (omega arith) (without_range-range at (rounded len) p.space acting-process.space)) (λ none. refusal)
+      (λ one. one-space 0 (without_range at (rounded len) p.space) (omega arith)
+      (without_range-range at (rounded len) p.space acting-process.space)) (λ none. refusal)
 
   mprotect-range : (at len prot : ℕ) → IsEffectInRange (mprotect_effect s p at len prot)
   unfolding mprotect_effect
   mprotect-range at len prot =
       choice IsEffectInRange (has_range at (rounded len) p.space && leb prot prot_limit) _ _
       (λ one.
-      let allowed : prot ≤ 7 = leb-true prot 7 (and_parts (has_range at (rounded len) p.space) (leb prot prot_limit) one).1 in
-      one-space 0 (with_protected at (rounded len) prot p.space) (omega arith) (with_protected-range at (rounded len) prot p.space (omega arith) acting-process.space))
+      let allowed : prot ≤ 7 =
+      leb-true prot 7 (and_parts (has_range at (rounded len) p.space) (leb prot prot_limit) one).1 in
+      one-space 0 (with_protected at (rounded len) prot p.space) (omega arith)
+      (with_protected-range at (rounded len) prot p.space (omega arith) acting-process.space))
       (λ none. refusal)
 
   -- ---- files
@@ -219,15 +249,19 @@ module _ (s : TracedSystem) (pid : ℕ) (p : TracedProcess) (id : ℕ) (l : Trac
       files : FileTable
       files = (read_fd s.files p.fds fd size).files
 
-      by : (r : Result (List ℕ) FileNo) → (read_fd s.files p.fds fd size).bytes ≡ r → AreBytesGiven size r → IsEffectInRange (read_effect s.files p.fds p.space fd at size)
+      by : (r : Result (List ℕ) FileNo) → (read_fd s.files p.fds fd size).bytes ≡ r → AreBytesGiven size r
+          → IsEffectInRange (read_effect s.files p.fds p.space fd at size)
       by (Ok bytes) is it =
           rw is (choice IsEffectInRange (is_none (open_for_reading s.files p.fds fd)) _ _ (λ shut. refusal) (λ open_now.
           choice IsEffectInRange (ltb transfer_limit size) _ _ (λ long. refusal) (λ short.
           choice IsEffectInRange (can_write p.space at size) _ _
           (λ fits.
           let most = ltb-false transfer_limit size short in
-          let few = it.1 in
-          (omega arith, two-changes (files_are files p.fds) (space_is (with_bytes at bytes p.space)) (read-range s.files p.fds h.files fd size).files (stored-space at bytes it.0)))
+          let few = it.1 in (
+            omega arith,
+            two-changes (files_are files p.fds) (space_is (with_bytes at bytes p.space))
+                (read-range s.files p.fds h.files fd size).files (stored-space at bytes it.0),
+          ))
           (λ bad. refusal))))
       by (Err why) is it =
           rw is (choice IsEffectInRange (is_none (open_for_reading s.files p.fds fd)) _ _ (λ shut. refusal) (λ open_now.
@@ -236,12 +270,17 @@ module _ (s : TracedSystem) (pid : ℕ) (p : TracedProcess) (id : ℕ) (l : Trac
 
   write-call : (fd at size : ℕ) → IsWord at → IsEffectInRange (write_effect s.files p.fds p.space fd at size)
   unfolding write_effect
-  write-call fd at size word = by (bytes_for prot_read p.space at size) refl (bytes-read prot_read p.space acting-process.space.mappings size at word)
+  write-call fd at size word =
+      by (bytes_for prot_read p.space at size) refl
+      (bytes-read prot_read p.space acting-process.space.mappings size at word)
     where
-      by : (r : Result (List ℕ) BadByte) → bytes_for prot_read p.space at size ≡ r → AreBytesRead size r → IsEffectInRange (write_effect s.files p.fds p.space fd at size)
+      by : (r : Result (List ℕ) BadByte) → bytes_for prot_read p.space at size ≡ r → AreBytesRead size r
+          → IsEffectInRange (write_effect s.files p.fds p.space fd at size)
       by (Ok bytes) is it =
           rw is (choice IsEffectInRange (is_none (open_for_writing s.files p.fds fd)) _ _ (λ shut. refusal) (λ open_now.
-          choice IsEffectInRange (ltb transfer_limit size) _ _ (λ long. refusal) (λ short. file-range (write_fd s.files p.fds fd bytes) (written-range s.files p.fds h.files fd bytes it.0))))
+          choice IsEffectInRange (ltb transfer_limit size) _ _ (λ long. refusal)
+          (λ short. file-range (write_fd s.files p.fds fd bytes)
+          (written-range s.files p.fds h.files fd bytes it.0))))
       by (Err bad) is it =
           rw is (choice IsEffectInRange (is_none (open_for_writing s.files p.fds fd)) _ _ (λ shut. refusal) (λ open_now.
           choice IsEffectInRange (ltb transfer_limit size) _ _ (λ long. refusal) (λ short. refusal)))
@@ -250,35 +289,52 @@ module _ (s : TracedSystem) (pid : ℕ) (p : TracedProcess) (id : ℕ) (l : Trac
   unfolding open_effect
   open-call at flags word = by (path_at p.space at) refl
     where
-      by : (r : Result (List ℕ) Errno) → path_at p.space at ≡ r → IsEffectInRange (open_effect s.files p.fds p.space at flags)
+      by : (r : Result (List ℕ) Errno) → path_at p.space at ≡ r
+          → IsEffectInRange (open_effect s.files p.fds p.space at flags)
       by (Err e) is = rw is (refusal)
       by (Ok name) is =
           rw is (choice IsEffectInRange (are_open_flags flags) _ _
-          (λ right. file-range (opened s.files p.fds name flags) (opened-range s.files p.fds h.files name flags (path-name p.space acting-process.space.mappings at name word is) (own-process s pid p id l a).descriptors))
+          (λ right. file-range (opened s.files p.fds name flags)
+          (opened-range s.files p.fds h.files name flags
+          (path-name p.space acting-process.space.mappings at name word is)
+          (own-process s pid p id l a).descriptors))
           (λ bad. refusal))
 
   close-call : (fd : ℕ) → IsEffectInRange (close_effect s.files p.fds p.space fd)
   unfolding close_effect
   close-call fd = by (closed s.files p.fds fd).answer refl
     where
-      by : (r : Result (Unit {0}) FileNo) → (closed s.files p.fds fd).answer ≡ r → IsEffectInRange (close_effect s.files p.fds p.space fd)
-      by (Ok done) is = rw is (omega arith, one-change (files_are (closed s.files p.fds fd).files (closed s.files p.fds fd).fds) (closed-range s.files p.fds h.files fd))
+      by : (r : Result (Unit {0}) FileNo) → (closed s.files p.fds fd).answer ≡ r
+          → IsEffectInRange (close_effect s.files p.fds p.space fd)
+      by (Ok done) is =
+          rw is (
+            omega arith,
+            one-change (files_are (closed s.files p.fds fd).files (closed s.files p.fds fd).fds)
+                (closed-range s.files p.fds h.files fd),
+          )
       by (Err why) is = rw is (refused-call why)
 
   pipe-call : (at : ℕ) → IsEffectInRange (pipe_effect s.files p.fds p.space at)
   unfolding pipe_effect
   pipe-call at = by (piped s.files p.fds).answer refl
     where
-      by : (r : Result (ℕ × ℕ) FileNo) → (piped s.files p.fds).answer ≡ r → IsEffectInRange (pipe_effect s.files p.fds p.space at)
+      by : (r : Result (ℕ × ℕ) FileNo) → (piped s.files p.fds).answer ≡ r
+          → IsEffectInRange (pipe_effect s.files p.fds p.space at)
       by (Ok both) is =
           rw is (choice IsEffectInRange (can_write p.space at (2 * word_size)) _ _
           (λ fits. (
             omega arith,
-            two-changes (files_are (piped s.files p.fds).files (piped s.files p.fds).fds) (space_is (with_bytes at (word_bytes both.0 ++ word_bytes both.1) p.space)) (piped-range s.files p.fds h.files)
-                (stored-space at (word_bytes both.0 ++ word_bytes both.1) (All-append IsByte (word_bytes both.0) (word_bytes both.1) (AreBytes-word_bytes both.0) (AreBytes-word_bytes both.1))),
+            two-changes (files_are (piped s.files p.fds).files (piped s.files p.fds).fds)
+                (space_is (with_bytes at (word_bytes both.0 ++ word_bytes both.1) p.space))
+                (piped-range s.files p.fds h.files)
+                (stored-space at (word_bytes both.0 ++ word_bytes both.1)
+                (All-append IsByte (word_bytes both.0) (word_bytes both.1) (AreBytes-word_bytes both.0)
+                (AreBytes-word_bytes both.1))),
           ))
           (λ bad. refusal))
-      by (Err why) is = rw is (choice IsEffectInRange (can_write p.space at (2 * word_size)) _ _ (λ fits. refused-call why) (λ bad. refusal))
+      by (Err why) is =
+          rw is (choice IsEffectInRange (can_write p.space at (2 * word_size)) _ _ (λ fits. refused-call why)
+          (λ bad. refusal))
 
   fstat-call : (fd at : ℕ) → IsEffectInRange (fstat_effect s.files p.fds p.space fd at)
   unfolding fstat_effect
@@ -287,12 +343,18 @@ module _ (s : TracedSystem) (pid : ℕ) (p : TracedProcess) (id : ℕ) (l : Trac
       words : (stat : Stat) → All IsByte (word_bytes stat.kind ++ word_bytes stat.size ++ word_bytes stat.offset)
       words stat =
           All-append IsByte (word_bytes stat.kind ++ word_bytes stat.size) (word_bytes stat.offset)
-          (All-append IsByte (word_bytes stat.kind) (word_bytes stat.size) (AreBytes-word_bytes stat.kind) (AreBytes-word_bytes stat.size)) (AreBytes-word_bytes stat.offset)
+          (All-append IsByte (word_bytes stat.kind) (word_bytes stat.size) (AreBytes-word_bytes stat.kind)
+          (AreBytes-word_bytes stat.size)) (AreBytes-word_bytes stat.offset)
 
-      by : (r : Result Stat FileNo) → described s.files p.fds fd ≡ r → IsEffectInRange (fstat_effect s.files p.fds p.space fd at)
+      by : (r : Result Stat FileNo) → described s.files p.fds fd ≡ r
+          → IsEffectInRange (fstat_effect s.files p.fds p.space fd at)
       by (Ok stat) is =
           rw is (choice IsEffectInRange (can_write p.space at (3 * word_size)) _ _
-          (λ fits. one-space 0 (with_bytes at (word_bytes stat.kind ++ word_bytes stat.size ++ word_bytes stat.offset) p.space) (omega arith) (stored-space at (word_bytes stat.kind ++ word_bytes stat.size ++ word_bytes stat.offset) (words stat)))
+          (λ fits. one-space 0
+          (with_bytes at (word_bytes stat.kind ++ word_bytes stat.size ++ word_bytes stat.offset) p.space)
+          (omega arith)
+          (stored-space at (word_bytes stat.kind ++ word_bytes stat.size ++ word_bytes stat.offset)
+          (words stat)))
           (λ bad. refusal))
       by (Err why) is = rw is (refused-call why)
 
@@ -304,18 +366,22 @@ module _ (s : TracedSystem) (pid : ℕ) (p : TracedProcess) (id : ℕ) (l : Trac
       let made = a.lawful.made in
       choice IsEffectInRange (eqb id agent_id) _ _ (λ agent. refusal) (λ other.
       choice IsEffectInRange (leb process_limit s.made) _ _ (λ full. refusal) (λ room.
-      choice IsEffectInRange (total_has_room s (size_of p) 0) _ _ (λ fits. (omega arith, one-change (forks by_fork args) given)) (λ big. refusal)))
+      choice IsEffectInRange (total_has_room s (size_of p) 0) _ _
+      (λ fits. (omega arith, one-change (forks by_fork args) given)) (λ big. refusal)))
 
   exec-call : (at : ℕ) → IsEffectInRange (exec_effect s p id at)
   unfolding exec_effect
   exec-call at = by (path_at p.space at) refl
     where
-      named : (name : List ℕ) (o : Option Program) → path_at p.space at ≡ Ok name → program_named s.programs name ≡ o → IsEffectInRange (exec_effect s p id at)
-      named name None is found = rw (is, found) (choice IsEffectInRange (eqb id agent_id) _ _ (λ agent. refusal) (λ other. refusal))
+      named : (name : List ℕ) (o : Option Program) → path_at p.space at ≡ Ok name → program_named s.programs name ≡ o
+          → IsEffectInRange (exec_effect s p id at)
+      named name None is found =
+          rw (is, found) (choice IsEffectInRange (eqb id agent_id) _ _ (λ agent. refusal) (λ other. refusal))
       named name (Some program) is found =
           rw (is, found) (choice IsEffectInRange (eqb id agent_id) _ _ (λ agent. refusal) (λ other.
           choice IsEffectInRange (total_has_room s (mapped_size (first_space program)) (size_of p)) _ _
-          (λ fits. (omega arith, one-change (becomes program) (named-range s.programs name program h.programs found))) (λ big. refusal)))
+          (λ fits. (omega arith, one-change (becomes program) (named-range s.programs name program h.programs found)))
+          (λ big. refusal)))
 
       by : (r : Result (List ℕ) Errno) → path_at p.space at ≡ r → IsEffectInRange (exec_effect s p id at)
       by (Err e) is = rw is (choice IsEffectInRange (eqb id agent_id) _ _ (λ agent. refusal) (λ other. refusal))
@@ -333,80 +399,119 @@ module _ (s : TracedSystem) (pid : ℕ) (p : TracedProcess) (id : ℕ) (l : Trac
           let fits : IsWord child = omega arith in
           choice IsEffectInRange (eqb at 0) _ _ (λ nowhere. (fits, one-change (reaps child) tt)) (λ somewhere.
           choice IsEffectInRange (can_write p.space at word_size) _ _
-          (λ there. (fits, two-changes (reaps child) (space_is (with_bytes at (word_bytes status) p.space)) tt (stored-space at (word_bytes status) (AreBytes-word_bytes status)))) (λ bad. refusal))
+          (λ there. (
+            fits,
+            two-changes (reaps child) (space_is (with_bytes at (word_bytes status) p.space)) tt
+                (stored-space at (word_bytes status) (AreBytes-word_bytes status)),
+          )) (λ bad. refusal))
 
   sleep-call : (since time : ℕ) → IsEffectInRange (sleep_effect s.clock since time)
   unfolding sleep_effect
-  sleep-call since time = choice IsEffectInRange (ltb sleep_limit time) _ _ (λ long. refusal) (λ short. choice IsEffectInRange (leb (since + time) s.clock) _ _ (λ over. zero-given) (λ not_yet. tt))
+  sleep-call since time =
+      choice IsEffectInRange (ltb sleep_limit time) _ _ (λ long. refusal)
+      (λ short. choice IsEffectInRange (leb (since + time) s.clock) _ _ (λ over. zero-given) (λ not_yet. tt))
 
   -- ---- signals
 
-  send-call : (target number : ℕ) (info : Info) (life : Life) → HasWord info → IsEffectInRange (send_effect pid target number info life)
+  send-call : (target number : ℕ) (info : Info) (life : Life) → HasWord info
+      → IsEffectInRange (send_effect pid target number info life)
   unfolding send_effect sent_effect
   send-call target number info life new = by (sending target number life)
     where
       by : (x : Sending) → IsEffectInRange (sent_effect pid target info x)
       by (refuses e) = refusal
       by sends_nothing = zero-given
-      by (sends g) = choice IsEffectInRange (is_kill g && eqb target pid) _ _ (λ own. signal-word g) (λ other. (omega arith, one-change (signals target g info) new))
+      by (sends g) =
+          choice IsEffectInRange (is_kill g && eqb target pid) _ _ (λ own. signal-word g)
+          (λ other. (omega arith, one-change (signals target g info) new))
 
-  sigaction-call : (number disposition : ℕ) → IsWord disposition → IsEffectInRange (sigaction_effect p.dispositions number disposition)
+  sigaction-call : (number disposition : ℕ) → IsWord disposition
+      → IsEffectInRange (sigaction_effect p.dispositions number disposition)
   unfolding sigaction_effect disposition_of
   sigaction-call number disposition fits = by (signal_of_number number) refl
     where
-      by : (o : Option Sig) → signal_of_number number ≡ o → IsEffectInRange (sigaction_effect p.dispositions number disposition)
+      by : (o : Option Sig) → signal_of_number number ≡ o
+          → IsEffectInRange (sigaction_effect p.dispositions number disposition)
       by None is = rw is (refusal)
       by (Some g) is =
           rw is (choice IsEffectInRange (can_be_caught g) _ _
-          (λ can. (word_at p.dispositions (signal_number g - 1) acting-process.dispositions.words, one-change (disposition_is g disposition) fits)) (λ cannot. refusal))
+          (λ can. (
+            word_at p.dispositions (signal_number g - 1) acting-process.dispositions.words,
+            one-change
+                (disposition_is g disposition) fits,
+          )) (λ cannot. refusal))
 
   sigmask-call : (word : ℕ) → IsEffectInRange (sigmask_effect l.held word)
   unfolding sigmask_effect
   sigmask-call word =
       choice IsEffectInRange (ltb word (2 ^ signal_count)) _ _
-      (λ within. (let held = acting-lwp.held in omega arith, one-change (held_is (holdable_word word)) (holdable-set word (ltb-true word (2 ^ signal_count) within)))) (λ beyond. refusal)
+      (λ within. (
+        let held = acting-lwp.held in omega arith,
+        one-change (held_is (holdable_word word))
+            (holdable-set word (ltb-true word (2 ^ signal_count) within)),
+      )) (λ beyond. refusal)
 
   sigreturn-call : IsEffectInRange (sigreturn_effect l.frames)
   unfolding sigreturn_effect
   sigreturn-call = by (slice_get l.frames (length l.frames - 1)) refl
     where
-      by : (o : Option Frame) → slice_get l.frames (length l.frames - 1) ≡ o → IsEffectInRange (sigreturn_effect l.frames)
+      by : (o : Option Frame) → slice_get l.frames (length l.frames - 1) ≡ o
+          → IsEffectInRange (sigreturn_effect l.frames)
       by None is = rw is (refusal)
       by (Some frame) is =
-          rw is (omega arith, one-change (resumes frame (take (length l.frames - 1) l.frames)) (All-at IsFrameInRange l.frames (length l.frames - 1) frame is acting-lwp.frames, All-take IsFrameInRange (length l.frames - 1) l.frames acting-lwp.frames))
+          rw is (
+            omega arith,
+            one-change (resumes frame (take (length l.frames - 1) l.frames)) (
+              All-at IsFrameInRange l.frames (length l.frames - 1) frame is acting-lwp.frames,
+              All-take IsFrameInRange
+                  (length l.frames - 1) l.frames acting-lwp.frames,
+            ),
+          )
 
   -- ---- lwps
 
   made-registers : (pc sp r1 : ℕ) → IsWord pc → IsWord sp → IsWord r1 → AreRegisters (made_registers pc sp r1)
   made-registers pc sp r1 is_pc is_sp is_r1 =
       let first = set (replicate 11 0) 1 r1 in
-      registers-set (with_sp sp first) 10 pc is_pc (registers-set first 8 sp is_sp (registers-set (replicate 11 0) 1 r1 is_r1 zeros-registers))
+      registers-set (with_sp sp first) 10 pc is_pc
+      (registers-set first 8 sp is_sp (registers-set (replicate 11 0) 1 r1 is_r1 zeros-registers))
 
-  create-call : (pc sp r1 : ℕ) → IsWord pc → IsWord sp → IsWord r1 → IsEffectInRange (lwp_create_effect p id l.held pc sp r1)
+  create-call : (pc sp r1 : ℕ) → IsWord pc → IsWord sp → IsWord r1
+      → IsEffectInRange (lwp_create_effect p id l.held pc sp r1)
   unfolding lwp_create_effect
   create-call pc sp r1 is_pc is_sp is_r1 =
       let next = (own-process s pid p id l a).next_lwp in
       choice IsEffectInRange (eqb id agent_id) _ _ (λ agent. refusal) (λ other.
       choice IsEffectInRange (leb lwp_limit (length p.lwps) || ltb last_lwp p.next_lwp) _ _ (λ full. refusal)
-      (λ room. (omega arith, one-change (makes_lwp p.next_lwp (made_registers pc sp r1) l.held) (made-registers pc sp r1 is_pc is_sp is_r1, acting-lwp.held))))
+      (λ room. (
+        omega arith,
+        one-change (makes_lwp p.next_lwp (made_registers pc sp r1) l.held)
+            (made-registers pc sp r1 is_pc is_sp is_r1, acting-lwp.held),
+      )))
 
   suspend-call : (other : ℕ) → IsEffectInRange (lwp_suspend_effect p id other)
   unfolding lwp_suspend_effect
   suspend-call other =
-      choice IsEffectInRange (can_be_named p other) _ _ (λ named. choice IsEffectInRange (eqb other id) _ _ (λ own. refusal) (λ apart. (omega arith, one-change (suspends other true) tt))) (λ none. refusal)
+      choice IsEffectInRange (can_be_named p other) _ _
+      (λ named. choice IsEffectInRange (eqb other id) _ _ (λ own. refusal)
+      (λ apart. (omega arith, one-change (suspends other true) tt))) (λ none. refusal)
 
   continue-call : (other : ℕ) → IsEffectInRange (lwp_continue_effect p other)
   unfolding lwp_continue_effect
-  continue-call other = choice IsEffectInRange (can_be_named p other) _ _ (λ named. (omega arith, one-change (suspends other false) tt)) (λ none. refusal)
+  continue-call other =
+      choice IsEffectInRange (can_be_named p other) _ _ (λ named. (omega arith, one-change (suspends other false) tt))
+      (λ none. refusal)
 
   -- ---- the calls
 
-  pub call-range : (since : ℕ) (call : Sysno) (args : List ℕ) → AreArguments args → IsEffectInRange (call_effect s pid p id l since call args)
+  pub call-range : (since : ℕ) (call : Sysno) (args : List ℕ) → AreArguments args
+      → IsEffectInRange (call_effect s pid p id l since call args)
   unfolding call_effect exit_effect dup_effect lseek_effect
   call-range since sys.Exit args given = omega arith
   call-range since sys.Fork args given = fork-call args given
   call-range since sys.Read args given = read-call (get_or args 0 0) (get_or args 1 0) (get_or args 2 0)
-  call-range since sys.Write args given = write-call (get_or args 0 0) (get_or args 1 0) (get_or args 2 0) (word_at args 1 given.words)
+  call-range since sys.Write args given =
+      write-call (get_or args 0 0) (get_or args 1 0) (get_or args 2 0) (word_at args 1 given.words)
   call-range since sys.Open args given = open-call (get_or args 0 0) (get_or args 1 0) (word_at args 0 given.words)
   call-range since sys.Close args given = close-call (get_or args 0 0)
   call-range since sys.Wait args given = wait-call (get_or args 0 0)
@@ -414,10 +519,16 @@ module _ (s : TracedSystem) (pid : ℕ) (p : TracedProcess) (id : ℕ) (l : Trac
   call-range since sys.Getppid args given = (let own = parent-id s pid p a.lawful a.found in omega arith, no-change)
   call-range since sys.Exec args given = exec-call (get_or args 0 0)
   call-range since sys.Pipe args given = pipe-call (get_or args 0 0)
-  call-range since sys.Dup args given = file-range (duplicated s.files p.fds (get_or args 0 0)) (duplicated-range s.files p.fds h.files (get_or args 0 0) (own-process s pid p id l a).descriptors)
-  call-range since sys.Lseek args given = file-range (sought s.files p.fds (get_or args 0 0) (get_or args 1 0)) (sought-range s.files p.fds h.files (get_or args 0 0) (get_or args 1 0))
-  call-range since sys.Kill args given = send-call (get_or args 0 0) (get_or args 1 0) (killed_by pid) (life_of s (get_or args 0 0)) (omega arith)
-  call-range since sys.Sigaction args given = sigaction-call (get_or args 0 0) (get_or args 1 0) (word_at args 1 given.words)
+  call-range since sys.Dup args given =
+      file-range (duplicated s.files p.fds (get_or args 0 0))
+      (duplicated-range s.files p.fds h.files (get_or args 0 0) (own-process s pid p id l a).descriptors)
+  call-range since sys.Lseek args given =
+      file-range (sought s.files p.fds (get_or args 0 0) (get_or args 1 0))
+      (sought-range s.files p.fds h.files (get_or args 0 0) (get_or args 1 0))
+  call-range since sys.Kill args given =
+      send-call (get_or args 0 0) (get_or args 1 0) (killed_by pid) (life_of s (get_or args 0 0)) (omega arith)
+  call-range since sys.Sigaction args given =
+      sigaction-call (get_or args 0 0) (get_or args 1 0) (word_at args 1 given.words)
   call-range since sys.Sigmask args given = sigmask-call (get_or args 0 0)
   call-range since sys.Pause args given = tt
   call-range since sys.Sigreturn args given = sigreturn-call
@@ -427,9 +538,13 @@ module _ (s : TracedSystem) (pid : ℕ) (p : TracedProcess) (id : ℕ) (l : Trac
   call-range since sys.Mprotect args given = mprotect-range (get_or args 0 0) (get_or args 1 0) (get_or args 2 0)
   call-range since sys.Time args given = (let now = h.clock in omega arith, no-change)
   call-range since sys.Sleep args given = sleep-call since (get_or args 0 0)
-  call-range since sys.LwpCreate args given = create-call (get_or args 0 0) (get_or args 1 0) (get_or args 2 0) (word_at args 0 given.words) (word_at args 1 given.words) (word_at args 2 given.words)
+  call-range since sys.LwpCreate args given =
+      create-call (get_or args 0 0) (get_or args 1 0) (get_or args 2 0) (word_at args 0 given.words)
+      (word_at args 1 given.words) (word_at args 2 given.words)
   call-range since sys.LwpExit args given = tt
   call-range since sys.LwpSuspend args given = suspend-call (get_or args 0 0)
   call-range since sys.LwpContinue args given = continue-call (get_or args 0 0)
   call-range since sys.Fstat args given = fstat-call (get_or args 0 0) (get_or args 1 0)
-  call-range since sys.Sigqueue args given = send-call (get_or args 0 0) (get_or args 1 0) (queued_by pid (get_or args 2 0)) (life_of s (get_or args 0 0)) (word_at args 2 given.words)
+  call-range since sys.Sigqueue args given =
+      send-call (get_or args 0 0) (get_or args 1 0) (queued_by pid (get_or args 2 0)) (life_of s (get_or args 0 0))
+      (word_at args 2 given.words)

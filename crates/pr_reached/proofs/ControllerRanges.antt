@@ -63,11 +63,17 @@ closed-range s pid t (edit.releases p live spares mode) h = changed-one s pid re
 
 -- ---- the message with which bytes begin
 
-read-message : (bytes : List ℕ) (m : Message) (len : ℕ) → All IsByte bytes → first_message bytes ≡ Ok (m, len) → IsReadMessage m (tail_of m bytes)
+read-message : (bytes : List ℕ) (m : Message) (len : ℕ) → All IsByte bytes → first_message bytes ≡ Ok (m, len)
+    → IsReadMessage m (tail_of m bytes)
 read-message bytes m len all read =
     let spelt = (read_is_spelt bytes m len all read).1.1 in
     let from = unpadded_length m - tail_length m in
-    record { words = spelt.words; count = spelt.count; columns = spelt.columns; tail_bytes = All-take IsByte (unpadded_length m - from) (drop from bytes) (All-drop IsByte from bytes all) }
+    record {
+      words = spelt.words;
+      count = spelt.count;
+      columns = spelt.columns;
+      tail_bytes = All-take IsByte (unpadded_length m - from) (drop from bytes) (All-drop IsByte from bytes all);
+    }
 
 -- ---- the calls
 

@@ -30,11 +30,31 @@ use Rattle.pr_reached.specs.InRange.{AreDispositions, HasWord, HaveWords, IsArea
 -- ---- signals
 
 -- other pending signals, another job stop, another parent
-pub pending-kept : (x : TracedProcess) (pending : Pending) → HaveWords pending → IsProcessInRange x → IsProcessInRange (record x { pending = pending })
-pending-kept x pending it h = record { program = h.program; made_at = h.made_at; ended = h.ended; space = h.space; dispositions = h.dispositions; pending = it; lwps = h.lwps; control = h.control }
+pub pending-kept : (x : TracedProcess) (pending : Pending) → HaveWords pending → IsProcessInRange x
+    → IsProcessInRange (record x { pending = pending })
+pending-kept x pending it h = record {
+  program = h.program;
+  made_at = h.made_at;
+  ended = h.ended;
+  space = h.space;
+  dispositions = h.dispositions;
+  pending = it;
+  lwps = h.lwps;
+  control = h.control;
+}
 
-pub job-kept : (x : TracedProcess) (job : Option Sig) → IsProcessInRange x → IsProcessInRange (record x { job_stop = job })
-job-kept x job h = record { program = h.program; made_at = h.made_at; ended = h.ended; space = h.space; dispositions = h.dispositions; pending = h.pending; lwps = h.lwps; control = h.control }
+pub job-kept : (x : TracedProcess) (job : Option Sig) → IsProcessInRange x
+    → IsProcessInRange (record x { job_stop = job })
+job-kept x job h = record {
+  program = h.program;
+  made_at = h.made_at;
+  ended = h.ended;
+  space = h.space;
+  dispositions = h.dispositions;
+  pending = h.pending;
+  lwps = h.lwps;
+  control = h.control;
+}
 
 added-keeps : (g : Sig) (info : Info) → HasWord info → KeepsLwp (lwp_with_pending g info)
 unfolding lwp_with_pending
@@ -46,7 +66,8 @@ deleted-keeps set l h = with_pending_set l (without_signals set l.pending) (dele
 
 pending-keeps : (target : Option ℕ) (g : Sig) (info : Info) → HasWord info → KeepsProcess (with_pending target g info)
 unfolding with_pending with_lwp
-pending-keeps None g info new x h = pending-kept x (added g info x.pending) (added-words g info x.pending new h.pending) h
+pending-keeps None g info new x h =
+    pending-kept x (added g info x.pending) (added-words g info x.pending new h.pending) h
 pending-keeps (Some id) g info new x h = keeps-one id (lwp_with_pending g info) (added-keeps g info new) x h
 
 without_pending-keeps : (set : ℕ) → KeepsProcess (without_pending set)
@@ -67,12 +88,15 @@ unfolding with_deletions without_job_stop
 deletions-keep g x h =
     let deleted = without_pending-keeps (deleted_by g) x h in
     choice IsProcessInRange (deleted_by g == 0) _ _ (λ none. h)
-    (λ some. choice IsProcessInRange (ends_job_stop g) _ _ (λ ends. job-kept (without_pending (deleted_by g) x) None deleted) (λ stays. deleted))
+    (λ some. choice IsProcessInRange (ends_job_stop g) _ _
+    (λ ends. job-kept (without_pending (deleted_by g) x) None deleted) (λ stays. deleted))
 
-pub signalled-keeps : (target : Option ℕ) (g : Sig) (info : Info) → HasWord info → KeepsProcess (signalled target g info)
+pub signalled-keeps : (target : Option ℕ) (g : Sig) (info : Info) → HasWord info
+    → KeepsProcess (signalled target g info)
 unfolding signalled
 signalled-keeps target g info new x h =
-    choice IsProcessInRange (is_none x.ended) _ _ (λ live. pending-keeps target g info new (with_deletions g x) (deletions-keep g x h)) (λ over. h)
+    choice IsProcessInRange (is_none x.ended) _ _
+    (λ live. pending-keeps target g info new (with_deletions g x) (deletions-keep g x h)) (λ over. h)
 
 -- ---- what nothing is set on
 
@@ -92,7 +116,8 @@ pub default-dispositions : AreDispositions default_dispositions
 default-dispositions = record { words = All-replicate IsWord signal_count 0 (omega arith); count = refl }
 
 -- a process without lwps and without memory
-pub bare-range : (parent : ℕ) (name : List ℕ) (clock : ℕ) → IsShortName name → IsWord clock → IsProcessInRange (bare_process traced parent name clock)
+pub bare-range : (parent : ℕ) (name : List ℕ) (clock : ℕ) → IsShortName name → IsWord clock
+    → IsProcessInRange (bare_process traced parent name clock)
 unfolding bare_process traced
 bare-range parent name clock named moment = record {
   program = named;
@@ -134,22 +159,30 @@ orphaned-keeps gone x h =
     choice IsProcessInRange (x.parent == gone) _ _
     (λ is. record { program = h.program; made_at = h.made_at; ended = h.ended; space = h.space; dispositions = h.dispositions; pending = h.pending; lwps = h.lwps; control = h.control }) (λ apart. h)
 
-parent_told-range : (parent pid status : ℕ) (s : TracedSystem) → IsWord status → IsInRange s → IsInRange (with_parent_signalled parent pid status s)
+parent_told-range : (parent pid status : ℕ) (s : TracedSystem) → IsWord status → IsInRange s
+    → IsInRange (with_parent_signalled parent pid status s)
 unfolding with_parent_signalled
 parent_told-range parent pid status s fits h =
-    choice IsInRange (parent == 0) _ _ (λ first. h) (λ other. changed-one s parent (signalled None Cld (of_child pid status)) (signalled-keeps None Cld (of_child pid status) fits) h)
+    choice IsInRange (parent == 0) _ _ (λ first. h)
+    (λ other. changed-one s parent (signalled None Cld (of_child pid status))
+    (signalled-keeps None Cld (of_child pid status) fits) h)
 
-pub this_ended-range : (s : TracedSystem) (pid : ℕ) (p : TracedProcess) (status : ℕ) → IsWord status → IsInRange s → IsInRange (with_this_ended traced pid p status s)
+pub this_ended-range : (s : TracedSystem) (pid : ℕ) (p : TracedProcess) (status : ℕ) → IsWord status → IsInRange s
+    → IsInRange (with_this_ended traced pid p status s)
 unfolding with_this_ended
 this_ended-range s pid p status fits h =
     parent_told-range p.parent pid status _ fits (record {
       programs = h.programs;
       clock = h.clock;
       files = all_closed-range s.files p.fds h.files;
-      processes = changed-each _ (orphaned pid) (orphaned-keeps pid) (All-change_under ProcessInRange pid (zombie traced status) s.processes (λ x there it. zombie-range status fits x it) h.processes);
+      processes =
+          changed-each _ (orphaned pid) (orphaned-keeps pid)
+          (All-change_under ProcessInRange pid (zombie traced status) s.processes
+          (λ x there it. zombie-range status fits x it) h.processes);
     })
 
-ended_if_live-range : (pid status : ℕ) (s : TracedSystem) (o : Option TracedProcess) → IsWord status → IsInRange s → IsInRange (ended_if_live traced pid status s o)
+ended_if_live-range : (pid status : ℕ) (s : TracedSystem) (o : Option TracedProcess) → IsWord status → IsInRange s
+    → IsInRange (ended_if_live traced pid status s o)
 ended_if_live-range pid status s None fits h = h
 ended_if_live-range pid status s (Some p) fits h = this_ended-range s pid p status fits h
 
@@ -157,10 +190,12 @@ pub signal-word : (g : Sig) → IsWord (signal_number g)
 signal-word g = let most = (signal_number-range g).1 in omega arith
 
 -- a signal is generated
-pub generated-range : (s : TracedSystem) (pid : ℕ) (target : Option ℕ) (g : Sig) (info : Info) → HasWord info → IsInRange s → IsInRange (generated traced pid target g info s)
+pub generated-range : (s : TracedSystem) (pid : ℕ) (target : Option ℕ) (g : Sig) (info : Info) → HasWord info
+    → IsInRange s → IsInRange (generated traced pid target g info s)
 unfolding generated with_ended
 generated-range s pid target g info new h =
-    choice IsInRange (is_kill g) _ _ (λ kill. ended_if_live-range pid (signal_number g) s (live_process s pid) (signal-word g) h)
+    choice IsInRange (is_kill g) _ _
+    (λ kill. ended_if_live-range pid (signal_number g) s (live_process s pid) (signal-word g) h)
     (λ other. changed-one s pid (signalled target g info) (signalled-keeps target g info new) h)
 
 without_lwp-keeps : (id : ℕ) → KeepsProcess (without_lwp id)
@@ -172,8 +207,10 @@ abbrev pub IsEndingInRange : Ending → Type 0
 IsEndingInRange (ends_process status) = IsWord status
 IsEndingInRange ends_lwp = Unit {0}
 
-pub ended-range : (s : TracedSystem) (pid : ℕ) (p : TracedProcess) (id : ℕ) (how : Ending) → IsEndingInRange how → IsInRange s → IsInRange (ended traced pid p id how s)
+pub ended-range : (s : TracedSystem) (pid : ℕ) (p : TracedProcess) (id : ℕ) (how : Ending) → IsEndingInRange how
+    → IsInRange s → IsInRange (ended traced pid p id how s)
 unfolding ended with_lwp_ended
 ended-range s pid p id (ends_process status) fits h = this_ended-range s pid p status fits h
 ended-range s pid p id ends_lwp fits h =
-    choice IsInRange (length p.lwps == 1) _ _ (λ last. this_ended-range s pid p 0 (omega arith) h) (λ more. changed-one s pid (without_lwp id) (without_lwp-keeps id) h)
+    choice IsInRange (length p.lwps == 1) _ _ (λ last. this_ended-range s pid p 0 (omega arith) h)
+    (λ more. changed-one s pid (without_lwp id) (without_lwp-keeps id) h)

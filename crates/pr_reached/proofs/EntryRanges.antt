@@ -43,10 +43,13 @@ no-name = record { short = omega arith; bytes = All-nil IsByte }
 name-field : (name : List ℕ) → IsShortName name → IsNameField (name_field name)
 name-field name it =
     let short = it.short in
-    let zeros : length (replicate {A = ℕ} (32 - length name) 0) ≡ 32 - length name = length-replicate (32 - length name) 0 in
+    let zeros : length (replicate {A = ℕ} (32 - length name) 0) ≡ 32 - length name =
+    length-replicate (32 - length name) 0 in
     record {
       whole = length-append name (replicate (32 - length name) 0) ∙ omega arith;
-      bytes = All-append IsByte name (replicate (32 - length name) 0) it.bytes (All-replicate IsByte (32 - length name) 0 (omega arith));
+      bytes =
+          All-append IsByte name (replicate (32 - length name) 0) it.bytes
+          (All-replicate IsByte (32 - length name) 0 (omega arith));
     }
 
 -- ---- what ps(1) shows
@@ -55,7 +58,8 @@ status-word : (o : Option ℕ) → IsWordIf o → IsWord (unwrap_or o 0)
 status-word None it = omega arith
 status-word (Some status) it = it
 
-pub psinfo-range : (s : TracedSystem) (pid : ℕ) (p : TracedProcess) → IsLawfulSystem s → IsInRange s → process_of s pid ≡ Some p → IsPsinfo (psinfo_of s pid p)
+pub psinfo-range : (s : TracedSystem) (pid : ℕ) (p : TracedProcess) → IsLawfulSystem s → IsInRange s
+    → process_of s pid ≡ Some p → IsPsinfo (psinfo_of s pid p)
 unfolding psinfo_of size_seen
 psinfo-range s pid p lawful h found =
     let own = All-under IsLawfulProcess pid p s.processes lawful.processes found in
@@ -91,21 +95,30 @@ mapping-name program Heap it = no-name
 mapping-name program Stack it = no-name
 mapping-name program Mapped it = no-name
 
-maps-range : (program : List ℕ) (space : Space) → IsShortName program → All (IsWithin all_mappings_limit) space → All IsMappingInRange space → All IsMapEntry (map (map_entry_of program) space)
+maps-range : (program : List ℕ) (space : Space) → IsShortName program → All (IsWithin all_mappings_limit) space
+    → All IsMappingInRange space → All IsMapEntry (map (map_entry_of program) space)
 unfolding map_entry_of
 maps-range program [] named small all = All-nil IsMapEntry
 maps-range program (m ∷ space) named small all =
     let own = All-head IsMappingInRange m space all in
     let size = (All-head (IsWithin all_mappings_limit) m space small).within in
     All-cons IsMapEntry (map_entry_of program m) (map (map_entry_of program) space)
-    (record { at = own.at; size = omega arith; prot = own.prot; name = name-field (mapping_name program m.kind) (mapping-name program m.kind named) })
-    (maps-range program space named (All-tail (IsWithin all_mappings_limit) m space small) (All-tail IsMappingInRange m space all))
+    (record {
+      at = own.at;
+      size = omega arith;
+      prot = own.prot;
+      name = name-field (mapping_name program m.kind) (mapping-name program m.kind named);
+    })
+    (maps-range program space named (All-tail (IsWithin all_mappings_limit) m space small)
+    (All-tail IsMappingInRange m space all))
 
-pub map-range : (s : TracedSystem) (pid : ℕ) (p : TracedProcess) → IsLawfulSystem s → IsInRange s → process_of s pid ≡ Some p → All IsMapEntry (map_of s p)
+pub map-range : (s : TracedSystem) (pid : ℕ) (p : TracedProcess) → IsLawfulSystem s → IsInRange s
+    → process_of s pid ≡ Some p → All IsMapEntry (map_of s p)
 unfolding map_of
 map-range s pid p lawful h found =
     let ranged = process-range s pid p h found in
-    maps-range p.program p.space ranged.program (each-within all_mappings_limit p.space (size-word s pid p lawful found)) ranged.space.mappings
+    maps-range p.program p.space ranged.program
+    (each-within all_mappings_limit p.space (size-word s pid p lawful found)) ranged.space.mappings
 
 -- ---- watched areas
 
@@ -113,20 +126,24 @@ pub watch-range : (p : TracedProcess) → IsProcessInRange p → All IsWatchEntr
 unfolding watch_of watch_entry_of
 watch-range p h =
     All-map IsWatchEntry watch_entry_of p.control.areas
-    (All-weaker IsAreaInRange (λ a. IsWatchEntry (watch_entry_of a)) (λ a it. record { at = it.at; size = it.size; flags = it.flags }) p.control.areas h.control.areas)
+    (All-weaker IsAreaInRange (λ a. IsWatchEntry (watch_entry_of a))
+    (λ a it. record { at = it.at; size = it.size; flags = it.flags }) p.control.areas h.control.areas)
 
 -- ---- descriptors
 
-file-name : (files : FileTable) (target : Target) → AreFilesInRange files → IsShortName (unwrap_or (name_of files target) [])
+file-name : (files : FileTable) (target : Target) → AreFilesInRange files
+    → IsShortName (unwrap_or (name_of files target) [])
 file-name files (File place) h = by (slice_get files.files place) refl
   where
-    by : (o : Option StoredFile) → slice_get files.files place ≡ o → IsShortName (unwrap_or (name_of files (File place)) [])
+    by : (o : Option StoredFile) → slice_get files.files place ≡ o
+        → IsShortName (unwrap_or (name_of files (File place)) [])
     by None is = rw is no-name
     by (Some f) is = rw is (All-at IsFileInRange files.files place f is h.files).name
 file-name files (PipeReader place) h = no-name
 file-name files (PipeWriter place) h = no-name
 
-module _ (files : FileTable) (h : AreFilesInRange files) (opens : All (IsOpenPlace files.files files.pipes) files.opens) where
+module _ (files : FileTable) (h : AreFilesInRange files)
+    (opens : All (IsOpenPlace files.files files.pipes) files.opens) where
   -- the offset of an open file
   IsOffset : Option OpenFile → Type 0
   IsOffset None = Unit {0}
@@ -139,21 +156,33 @@ module _ (files : FileTable) (h : AreFilesInRange files) (opens : All (IsOpenPla
       by : (o : Option (Option OpenFile)) → slice_get files.opens place ≡ o → IsOffset (at_place files.opens place)
       by None is = rw is tt
       by (Some None) is = rw is tt
-      by (Some (Some o)) is = rw is (let it = All-at (IsOpenPlace files.files files.pipes) files.opens place (Some o) is opens in let within = it.within in omega arith)
+      by (Some (Some o)) is =
+          rw is (let it = All-at (IsOpenPlace files.files files.pipes) files.opens place
+          (Some o) is opens in let within = it.within in omega arith)
 
-  entry-before : (fd : ℕ) (o : Option OpenFile) (others : _) → fd < descriptor_limit → IsOffset o → All IsFdEntry others → All IsFdEntry (fd_entry_before files fd o others)
+  entry-before : (fd : ℕ) (o : Option OpenFile) (others : _) → fd < descriptor_limit → IsOffset o
+      → All IsFdEntry others → All IsFdEntry (fd_entry_before files fd o others)
   unfolding fd_entry_of IsOffset
   entry-before fd None others below fits rest = rest
   entry-before fd (Some o) others below fits rest =
-      All-cons IsFdEntry (fd_entry_of files fd o) others (record { descriptor = below; offset = fits; name = name-field (unwrap_or (name_of files o.target) []) (file-name files o.target h) }) rest
+      All-cons IsFdEntry (fd_entry_of files fd o) others
+      (record {
+        descriptor = below;
+        offset = fits;
+        name = name-field (unwrap_or (name_of files o.target) [])
+            (file-name files o.target h);
+      }) rest
 
-  entries-range : (fd : ℕ) (fds : Descriptors) → fd + length fds ≤ descriptor_limit → All IsFdEntry (fd_entries_from files fd fds)
+  entries-range : (fd : ℕ) (fds : Descriptors) → fd + length fds ≤ descriptor_limit
+      → All IsFdEntry (fd_entries_from files fd fds)
   entries-range fd [] few = All-nil IsFdEntry
   entries-range fd (None ∷ fds) few = entries-range (fd + 1) fds (omega arith)
   entries-range fd (Some place ∷ fds) few =
-      entry-before fd (at_place files.opens place) (fd_entries_from files (fd + 1) fds) (omega arith) (offset-word place) (entries-range (fd + 1) fds (omega arith))
+      entry-before fd (at_place files.opens place) (fd_entries_from files (fd + 1) fds) (omega arith)
+      (offset-word place) (entries-range (fd + 1) fds (omega arith))
 
-pub fds-range : (s : TracedSystem) (pid : ℕ) (p : TracedProcess) → IsLawfulSystem s → IsInRange s → process_of s pid ≡ Some p → All IsFdEntry (fds_of s.files p)
+pub fds-range : (s : TracedSystem) (pid : ℕ) (p : TracedProcess) → IsLawfulSystem s → IsInRange s
+    → process_of s pid ≡ Some p → All IsFdEntry (fds_of s.files p)
 unfolding fds_of
 fds-range s pid p lawful h found =
     let own = All-under IsLawfulProcess pid p s.processes lawful.processes found in
@@ -162,16 +191,25 @@ fds-range s pid p lawful h found =
 -- ---- the list of processes
 
 module _ (s : TracedSystem) (lawful : IsLawfulSystem s) where
-  listed-range : (es : List (ℕ × TracedProcess)) → All (IsNumberedBelow s.made) es → All (HasParent s) es → All ProcessInRange es → All IsListEntry (list_entries es)
+  listed-range : (es : List (ℕ × TracedProcess)) → All (IsNumberedBelow s.made) es → All (HasParent s) es
+      → All ProcessInRange es → All IsListEntry (list_entries es)
   unfolding list_entry_of
   listed-range [] numbered parents all = All-nil IsListEntry
   listed-range (e ∷ es) numbered parents all =
-      let rest = listed-range es (All-tail (IsNumberedBelow s.made) e es numbered) (All-tail (HasParent s) e es parents) (All-tail ProcessInRange e es all) in
+      let rest =
+      listed-range es (All-tail (IsNumberedBelow s.made) e es numbered) (All-tail (HasParent s) e es parents)
+      (All-tail ProcessInRange e es all) in
       let id_below = (All-head (IsNumberedBelow s.made) e es numbered).id in
       let made = lawful.made in
       let parent_below = parent-below s lawful e (All-head (HasParent s) e es parents) in
       choice (All IsListEntry) (eqb e.0 0) _ _ (λ system. rest)
-      (λ user. All-cons IsListEntry (list_entry_of e.0 e.1) (list_entries es) (record { id = omega arith; parent = omega arith; program = name-field e.1.program (All-head ProcessInRange e es all).program }) rest)
+      (λ user. All-cons IsListEntry (list_entry_of e.0 e.1) (list_entries es)
+      (record {
+        id = omega arith;
+        parent = omega arith;
+        program = name-field e.1.program
+            (All-head ProcessInRange e es all).program;
+      }) rest)
 
 pub list-range : (s : TracedSystem) → IsLawfulSystem s → IsInRange s → All IsListEntry (list_of s)
 unfolding list_of

@@ -28,7 +28,10 @@ idle-range : (pipe : Option ℕ) (t : FileTable) → AreFilesInRange t → AreFi
 unfolding without_idle_pipe
 idle-range None t h = h
 idle-range (Some pipe) t h =
-    choice AreFilesInRange (list_any (is_end_of pipe) t.opens) _ _ (λ open_now. h) (λ idle. record { files = h.files; pipes = All-set IsPipeInRange t.pipes pipe None tt h.pipes })
+    choice AreFilesInRange (list_any (is_end_of pipe) t.opens) _ _ (λ open_now. h) (λ idle. record {
+      files = h.files;
+      pipes = All-set IsPipeInRange t.pipes pipe None tt h.pipes;
+    })
 
 gone-range : (t : FileTable) (place : ℕ) → AreFilesInRange t → AreFilesInRange (with_user_gone t place)
 unfolding with_user_gone
@@ -39,7 +42,10 @@ gone-range t place h = by (slice_get t.opens place) refl
     by (Some None) is = rw is h
     by (Some (Some o)) is =
         rw is (choice AreFilesInRange (ltb 1 o.users) _ _ (λ more. record { files = h.files; pipes = h.pipes })
-        (λ last. idle-range (pipe_of o.target) (record t { opens = set t.opens place None }) (record { files = h.files; pipes = h.pipes })))
+        (λ last. idle-range (pipe_of o.target) (record t { opens = set t.opens place None }) (record {
+          files = h.files;
+          pipes = h.pipes;
+        })))
 
 pub all_closed-range : (t : FileTable) (fds : Descriptors) → AreFilesInRange t → AreFilesInRange (with_all_closed t fds)
 unfolding with_all_closed
@@ -85,7 +91,8 @@ pub record IsRead (most : ℕ) (e : ReadEffect) : Type 0 where
 pipe-bytes : (t : FileTable) (place : ℕ) → AreFilesInRange t → All IsByte (unwrap_or (at_place t.pipes place) [])
 pipe-bytes t place h = by (slice_get t.pipes place) refl
   where
-    by : (o : Option (Option (List ℕ))) → slice_get t.pipes place ≡ o → All IsByte (unwrap_or (at_place t.pipes place) [])
+    by : (o : Option (Option (List ℕ))) → slice_get t.pipes place ≡ o
+        → All IsByte (unwrap_or (at_place t.pipes place) [])
     by None is = rw is (All-nil IsByte)
     by (Some None) is = rw is (All-nil IsByte)
     by (Some (Some bytes)) is = rw is (All-at IsPipeInRange t.pipes place (Some bytes) is h.pipes)
@@ -99,11 +106,16 @@ contents-range t (File place) h = by (slice_get t.files place) refl
 contents-range t (PipeReader place) h = pipe-bytes t place h
 contents-range t (PipeWriter place) h = pipe-bytes t place h
 
-with_pipe_bytes-range : (t : FileTable) (pipe : ℕ) (bytes : List ℕ) → All IsByte bytes → AreFilesInRange t → AreFilesInRange (with_pipe_bytes t pipe bytes)
+with_pipe_bytes-range : (t : FileTable) (pipe : ℕ) (bytes : List ℕ) → All IsByte bytes → AreFilesInRange t
+    → AreFilesInRange (with_pipe_bytes t pipe bytes)
 unfolding with_pipe_bytes
-with_pipe_bytes-range t pipe bytes all h = record { files = h.files; pipes = All-set IsPipeInRange t.pipes pipe (Some bytes) all h.pipes }
+with_pipe_bytes-range t pipe bytes all h = record {
+  files = h.files;
+  pipes = All-set IsPipeInRange t.pipes pipe (Some bytes) all h.pipes;
+}
 
-with_file_bytes-range : (t : FileTable) (place : ℕ) (bytes : List ℕ) → All IsByte bytes → AreFilesInRange t → AreFilesInRange (with_file_bytes t place bytes)
+with_file_bytes-range : (t : FileTable) (place : ℕ) (bytes : List ℕ) → All IsByte bytes → AreFilesInRange t
+    → AreFilesInRange (with_file_bytes t place bytes)
 unfolding with_file_bytes
 with_file_bytes-range t place bytes all h = by (slice_get t.files place) refl
   where
@@ -111,28 +123,36 @@ with_file_bytes-range t place bytes all h = by (slice_get t.files place) refl
     by None is = rw is h
     by (Some f) is =
         rw is (record {
-          files = All-set IsFileInRange t.files place (record f { bytes = bytes }) (record { name = (All-at IsFileInRange t.files place f is h.files).name; bytes = all }) h.files;
+          files =
+              All-set IsFileInRange t.files place (record f { bytes = bytes })
+              (record { name = (All-at IsFileInRange t.files place f is h.files).name; bytes = all }) h.files;
           pipes = h.pipes;
         })
 
 -- the open files beside them have no range
-with_opens : (t : FileTable) (opens : List (Option OpenFile)) → AreFilesInRange t → AreFilesInRange (record t { opens = opens })
+with_opens : (t : FileTable) (opens : List (Option OpenFile)) → AreFilesInRange t
+    → AreFilesInRange (record t { opens = opens })
 with_opens t opens h = record { files = h.files; pipes = h.pipes }
 
-after_write-bytes : (bytes : List ℕ) (offset : ℕ) (others : List ℕ) → All IsByte bytes → All IsByte others → All IsByte (after_write bytes offset others)
+after_write-bytes : (bytes : List ℕ) (offset : ℕ) (others : List ℕ) → All IsByte bytes → All IsByte others
+    → All IsByte (after_write bytes offset others)
 after_write-bytes bytes offset others all new =
     choice (All IsByte) (length others == 0) bytes (written_over bytes offset others) (λ none. all)
     (λ some.
-    All-append IsByte (take offset bytes ++ replicate (offset - length bytes) 0 ++ others) (drop (offset + length others) bytes)
+    All-append IsByte (take offset bytes ++ replicate (offset - length bytes) 0 ++ others)
+    (drop (offset + length others) bytes)
     (All-append IsByte (take offset bytes ++ replicate (offset - length bytes) 0) others
-    (All-append IsByte (take offset bytes) (replicate (offset - length bytes) 0) (All-take IsByte offset bytes all) (All-replicate IsByte (offset - length bytes) 0 (omega arith))) new)
+    (All-append IsByte (take offset bytes) (replicate (offset - length bytes) 0) (All-take IsByte offset bytes all)
+    (All-replicate IsByte (offset - length bytes) 0 (omega arith))) new)
     (All-drop IsByte (offset + length others) bytes all))
 
 placed-range : (pipes : List (Option (List ℕ))) → All IsPipeInRange pipes → All IsPipeInRange (with_placed pipes [])
 placed-range [] h = All-cons IsPipeInRange (Some []) [] (All-nil IsByte) h
-placed-range (None ∷ pipes) h = All-cons IsPipeInRange (Some []) pipes (All-nil IsByte) (All-tail IsPipeInRange None pipes h)
+placed-range (None ∷ pipes) h =
+    All-cons IsPipeInRange (Some []) pipes (All-nil IsByte) (All-tail IsPipeInRange None pipes h)
 placed-range (Some bytes ∷ pipes) h =
-    All-cons IsPipeInRange (Some bytes) (with_placed pipes []) (All-head IsPipeInRange (Some bytes) pipes h) (placed-range pipes (All-tail IsPipeInRange (Some bytes) pipes h))
+    All-cons IsPipeInRange (Some bytes) (with_placed pipes []) (All-head IsPipeInRange (Some bytes) pipes h)
+    (placed-range pipes (All-tail IsPipeInRange (Some bytes) pipes h))
 
 -- ---- the calls
 
@@ -156,30 +176,39 @@ module _ (t : FileTable) (fds : Descriptors) (h : AreFilesInRange t) where
   unfolding duplicated
   duplicated-range fd places = by (open_of t fds fd) (free_fd fds) refl refl
     where
-      by : (o : Option (ℕ × OpenFile)) (free : Option ℕ) → open_of t fds fd ≡ o → free_fd fds ≡ free → IsFileEffect (duplicated t fds fd)
+      by : (o : Option (ℕ × OpenFile)) (free : Option ℕ) → open_of t fds fd ≡ o → free_fd fds ≡ free
+          → IsFileEffect (duplicated t fds fd)
       by None free is at = rw is (refused-range _)
       by (Some found) None is at = rw (is, at) (refused-range _)
-      by (Some found) (Some free) is at = rw (is, at) (record { files = added-range t found.0 h; answer = free-word places free at })
+      by (Some found) (Some free) is at =
+          rw (is, at) (record { files = added-range t found.0 h; answer = free-word places free at })
 
-  opened_file-range : (u : FileTable) (fd file flags : ℕ) → AreFilesInRange u → IsWord fd → IsFileEffect (opened_file u fds fd file flags)
+  opened_file-range : (u : FileTable) (fd file flags : ℕ) → AreFilesInRange u → IsWord fd
+      → IsFileEffect (opened_file u fds fd file flags)
   unfolding opened_file with_open
   opened_file-range u fd file flags it fits = record { files = with_opens u _ it; answer = fits }
 
-  created-range : (fd : ℕ) (name : List ℕ) (flags : ℕ) → IsShortName name → IsWord fd → IsFileEffect (created_file t fds fd name flags)
+  created-range : (fd : ℕ) (name : List ℕ) (flags : ℕ) → IsShortName name → IsWord fd
+      → IsFileEffect (created_file t fds fd name flags)
   unfolding created_file with_file
   created-range fd name flags named fits =
       choice IsFileEffect (ltb (length t.files) file_limit) _ _
       (λ few. opened_file-range (with_file t name []) fd (length t.files) flags (record {
-        files = All-append IsFileInRange t.files (record { name = name; bytes = [] } ∷ []) h.files (All-cons IsFileInRange (record { name = name; bytes = [] }) [] (record { name = named; bytes = All-nil IsByte }) (All-nil IsFileInRange));
+        files =
+            All-append IsFileInRange t.files (record { name = name; bytes = [] } ∷ []) h.files
+            (All-cons IsFileInRange (record { name = name; bytes = [] }) []
+            (record { name = named; bytes = All-nil IsByte }) (All-nil IsFileInRange));
         pipes = h.pipes;
       }) fits)
       (λ full. refused-range _)
 
-  pub opened-range : (name : List ℕ) (flags : ℕ) → IsShortName name → length fds ≡ descriptor_limit → IsFileEffect (opened t fds name flags)
+  pub opened-range : (name : List ℕ) (flags : ℕ) → IsShortName name → length fds ≡ descriptor_limit
+      → IsFileEffect (opened t fds name flags)
   unfolding opened
   opened-range name flags named places = by (file_named t name) (free_fd fds) refl refl
     where
-      new : (made : Bool) (free : Option ℕ) → creates flags ≡ made → file_named t name ≡ None → free_fd fds ≡ free → IsFileEffect (opened t fds name flags)
+      new : (made : Bool) (free : Option ℕ) → creates flags ≡ made → file_named t name ≡ None → free_fd fds ≡ free
+          → IsFileEffect (opened t fds name flags)
       new false free flag none at = rw (none, flag) (refused-range _)
       new true None flag none at = rw (none, flag, at) (refused-range _)
       new true (Some fd) flag none at = rw (none, flag, at) (created-range fd name flags named (free-word places fd at))
@@ -197,13 +226,16 @@ module _ (t : FileTable) (fds : Descriptors) (h : AreFilesInRange t) where
   unfolding piped made_pipe
   piped-range = by (free_fd fds) refl
     where
-      room : (b : Bool) (reader writer : ℕ) → ltb (count_by is_some t.pipes) pipe_limit ≡ b → free_fd fds ≡ Some reader → free_fd_behind fds reader ≡ Some writer → AreFilesInRange (piped t fds).files
+      room : (b : Bool) (reader writer : ℕ) → ltb (count_by is_some t.pipes) pipe_limit ≡ b → free_fd fds ≡ Some reader
+          → free_fd_behind fds reader ≡ Some writer → AreFilesInRange (piped t fds).files
       room true reader writer few first second = rw (first, second, few) with_pipe-range
       room false reader writer full first second = rw (first, second, full) h
 
-      both : (reader : ℕ) (o : Option ℕ) → free_fd fds ≡ Some reader → free_fd_behind fds reader ≡ o → AreFilesInRange (piped t fds).files
+      both : (reader : ℕ) (o : Option ℕ) → free_fd fds ≡ Some reader → free_fd_behind fds reader ≡ o
+          → AreFilesInRange (piped t fds).files
       both reader None first second = rw (first, second) h
-      both reader (Some writer) first second = room (ltb (count_by is_some t.pipes) pipe_limit) reader writer refl first second
+      both reader (Some writer) first second =
+          room (ltb (count_by is_some t.pipes) pipe_limit) reader writer refl first second
 
       by : (o : Option ℕ) → free_fd fds ≡ o → AreFilesInRange (piped t fds).files
       by None first = rw first h
@@ -230,9 +262,12 @@ module _ (t : FileTable) (fds : Descriptors) (h : AreFilesInRange t) where
   read_pipe-range pipe most =
       let all = pipe-bytes t pipe h in
       choice (IsRead most) (length (pipe_bytes t pipe) == 0) _ _
-      (λ empty. choice (IsRead most) (has_writer t pipe) _ _ (λ waits. record { files = h; bytes = tt }) (λ over. record { files = h; bytes = (All-nil IsByte, omega arith) }))
+      (λ empty. choice (IsRead most) (has_writer t pipe) _ _ (λ waits. record { files = h; bytes = tt })
+      (λ over. record { files = h; bytes = (All-nil IsByte, omega arith) }))
       (λ some. record {
-        files = with_pipe_bytes-range t pipe (drop most (pipe_bytes t pipe)) (All-drop IsByte most (pipe_bytes t pipe) all) h;
+        files =
+            with_pipe_bytes-range t pipe (drop most (pipe_bytes t pipe))
+            (All-drop IsByte most (pipe_bytes t pipe) all) h;
         bytes = (All-take IsByte most (pipe_bytes t pipe) all, taken-short most (pipe_bytes t pipe));
       })
 
@@ -240,7 +275,12 @@ module _ (t : FileTable) (fds : Descriptors) (h : AreFilesInRange t) where
   unfolding read_file with_open_at
   read_file-range place most o = record {
     files = with_opens t _ h;
-    bytes = (All-take IsByte most (drop o.offset (contents t o.target)) (All-drop IsByte o.offset (contents t o.target) (contents-range t o.target h)), taken-short most (drop o.offset (contents t o.target)));
+    bytes = (
+      All-take IsByte most (drop o.offset (contents t o.target))
+          (All-drop IsByte o.offset (contents t o.target) (contents-range t o.target h)),
+      taken-short most
+          (drop o.offset (contents t o.target)),
+    );
   }
 
   read_open-range : (place most : ℕ) (o : OpenFile) → IsRead most (read_open t place o most)
@@ -268,23 +308,31 @@ module _ (t : FileTable) (fds : Descriptors) (h : AreFilesInRange t) where
   unfolding write_pipe
   write_pipe-range pipe bytes all =
       choice IsFileEffect (has_reader t pipe) _ _
-      (λ read. choice IsFileEffect (ltb pipe_size_limit (length (pipe_bytes t pipe) + length bytes)) _ _ (λ full. refused-range _)
+      (λ read. choice IsFileEffect (ltb pipe_size_limit (length (pipe_bytes t pipe) + length bytes)) _ _
+      (λ full. refused-range _)
       (λ room. record {
-        files = with_pipe_bytes-range t pipe (pipe_bytes t pipe ++ bytes) (All-append IsByte (pipe_bytes t pipe) bytes (pipe-bytes t pipe h) all) h;
+        files =
+            with_pipe_bytes-range t pipe (pipe_bytes t pipe ++ bytes)
+            (All-append IsByte (pipe_bytes t pipe) bytes (pipe-bytes t pipe h) all) h;
         answer = let few = ltb-false pipe_size_limit (length (pipe_bytes t pipe) + length bytes) room in omega arith;
       }))
       (λ broken. refused-range _)
 
-  write_file-range : (place file : ℕ) (o : OpenFile) (bytes : List ℕ) → All IsByte bytes → IsFileEffect (write_file t fds place o file bytes)
+  write_file-range : (place file : ℕ) (o : OpenFile) (bytes : List ℕ) → All IsByte bytes
+      → IsFileEffect (write_file t fds place o file bytes)
   unfolding write_file with_open_at
   write_file-range place file o bytes all =
       choice IsFileEffect (ltb file_size_limit (o.offset + length bytes)) _ _ (λ full. refused-range _)
       (λ room. record {
-        files = with_opens _ _ (with_file_bytes-range t file (after_write (contents t o.target) o.offset bytes) (after_write-bytes (contents t o.target) o.offset bytes (contents-range t o.target h) all) h);
+        files =
+            with_opens _ _
+            (with_file_bytes-range t file (after_write (contents t o.target) o.offset bytes)
+            (after_write-bytes (contents t o.target) o.offset bytes (contents-range t o.target h) all) h);
         answer = let few = ltb-false file_size_limit (o.offset + length bytes) room in omega arith;
       })
 
-  write_open-range : (place : ℕ) (o : OpenFile) (bytes : List ℕ) → All IsByte bytes → IsFileEffect (write_open t fds place o bytes)
+  write_open-range : (place : ℕ) (o : OpenFile) (bytes : List ℕ) → All IsByte bytes
+      → IsFileEffect (write_open t fds place o bytes)
   write_open-range place o bytes all = by o.target refl
     where
       by : (target : Target) → o.target ≡ target → IsFileEffect (write_open t fds place o bytes)

@@ -27,7 +27,9 @@ released_lwp-keeps l h = stopless-fits (released_lwp l) refl h.pending
 
 released-keeps : KeepsProcess released
 unfolding released
-released-keeps x h = let fits = keeps-each released_lwp released_lwp-keeps x h in record { lwps = fits.lwps; pending = fits.pending }
+released-keeps x h =
+    let fits = keeps-each released_lwp released_lwp-keeps x h in
+    record { lwps = fits.lwps; pending = fits.pending }
 
 closed-fits : (s : TracedSystem) (pid : ℕ) (t : TracedSystem) → CloseEdit s pid t → IsFitSystem s → IsFitSystem t
 closed-fits s pid t edit.nothing h = h

@@ -34,9 +34,11 @@ new_process-fits program clock held = record {
   pending = nothing-spares;
 }
 
-pub spawned-fits : (s : TracedSystem) (program : Program) (held : Bool) → IsFitSystem s → IsFitSystem (with_spawned traced program held s)
+pub spawned-fits : (s : TracedSystem) (program : Program) (held : Bool) → IsFitSystem s
+    → IsFitSystem (with_spawned traced program held s)
 unfolding with_spawned
-spawned-fits s program held h = made-fits s (new_process traced program s.clock held) (new_process-fits program s.clock held) h
+spawned-fits s program held h =
+    made-fits s (new_process traced program s.clock held) (new_process-fits program s.clock held) h
 
 -- a child is born at the exit from the call that made it, or without a stop
 birth_stops : (call : Sysno) (c : TracedControl)
@@ -72,13 +74,15 @@ new-keeps : (new held : ℕ) (regs : List ℕ) → KeepsProcess (with_new_lwp tr
 unfolding with_new_lwp traced
 new-keeps new held regs x h =
     let l = new_lwp traced regs held (no_marks false) in
-    choice IsFitProcess (is_some (lwp_of x new)) _ _ (λ stands. h) (λ free. keeps-more new l x _ (new_lwp-fits regs held false) refl refl h)
+    choice IsFitProcess (is_some (lwp_of x new)) _ _ (λ stands. h)
+    (λ free. keeps-more new l x _ (new_lwp-fits regs held false) refl refl h)
 
 started-keeps : KeepsFit (started traced)
 unfolding started
 started-keeps = same_place (started traced) (λ l. refl) (λ l. refl) (λ l it. it)
 
-program-keeps : (id : ℕ) (l : TracedLwp) (program : Program) → IsFitLwp l → KeepsProcess (with_program traced id l program)
+program-keeps : (id : ℕ) (l : TracedLwp) (program : Program) → IsFitLwp l
+    → KeepsProcess (with_program traced id l program)
 unfolding with_program
 program-keeps id l program own x h = record {
   lwps = All-cons LwpFits (id, started traced l) [] (started-keeps l own) (All-nil LwpFits);
@@ -103,23 +107,40 @@ module _ (pid : ℕ) (p : TracedProcess) (id : ℕ) (l : TracedLwp) (own : IsFit
   changed-fits : (c : Change) (s : TracedSystem) → IsFitSystem s → IsFitSystem (changed traced pid p id l c s)
   unfolding changed with_fds with_space with_shared_taken with_job_stop with_disposition_of
   changed-fits (files_are files fds) s h =
-      changed-one (record s { files = files }) pid (with_fds fds) (λ x it. record { lwps = it.lwps; pending = it.pending }) (record { processes = h.processes })
-  changed-fits (space_is space) s h = changed-one s pid (with_space space) (λ x it. record { lwps = it.lwps; pending = it.pending }) h
-  changed-fits (signals target g info) s h = choice IsFitSystem (is_kill g && (target == pid)) _ _ (λ itself. h) (λ other. generated-fits s target None g info h)
-  changed-fits (signals_itself g info) s h = choice IsFitSystem (is_kill g) _ _ (λ kill. h) (λ other. generated-fits s pid (Some id) g info h)
-  changed-fits (takes_shared g) s h = changed-one s pid (with_shared_taken g) (λ x it. record { lwps = it.lwps; pending = taken-spares g x.pending it.pending }) h
-  changed-fits (job_stops g) s h = changed-one s pid (with_job_stop g) (λ x it. record { lwps = it.lwps; pending = it.pending }) h
-  changed-fits (disposition_is g d) s h = changed-one s pid (with_disposition_of g d) (λ x it. record { lwps = it.lwps; pending = it.pending }) h
-  changed-fits (held_is held) s h = changed-one s pid (with_lwp id (with_held held)) (keeps-one id (with_held held) (held-keeps held)) h
-  changed-fits (resumes frame frames) s h = changed-one s pid (with_lwp id (resumed frame frames)) (keeps-one id (resumed frame frames) (resumed-keeps frame frames)) h
+      changed-one (record s { files = files }) pid (with_fds fds)
+      (λ x it. record { lwps = it.lwps; pending = it.pending }) (record { processes = h.processes })
+  changed-fits (space_is space) s h =
+      changed-one s pid (with_space space) (λ x it. record { lwps = it.lwps; pending = it.pending }) h
+  changed-fits (signals target g info) s h =
+      choice IsFitSystem (is_kill g && (target == pid)) _ _ (λ itself. h)
+      (λ other. generated-fits s target None g info h)
+  changed-fits (signals_itself g info) s h =
+      choice IsFitSystem (is_kill g) _ _ (λ kill. h) (λ other. generated-fits s pid (Some id) g info h)
+  changed-fits (takes_shared g) s h =
+      changed-one s pid (with_shared_taken g)
+      (λ x it. record { lwps = it.lwps; pending = taken-spares g x.pending it.pending }) h
+  changed-fits (job_stops g) s h =
+      changed-one s pid (with_job_stop g) (λ x it. record { lwps = it.lwps; pending = it.pending }) h
+  changed-fits (disposition_is g d) s h =
+      changed-one s pid (with_disposition_of g d) (λ x it. record { lwps = it.lwps; pending = it.pending }) h
+  changed-fits (held_is held) s h =
+      changed-one s pid (with_lwp id (with_held held)) (keeps-one id (with_held held) (held-keeps held)) h
+  changed-fits (resumes frame frames) s h =
+      changed-one s pid (with_lwp id (resumed frame frames))
+      (keeps-one id (resumed frame frames) (resumed-keeps frame frames)) h
   changed-fits (forks birth args) s h =
       choice IsFitSystem (s.made == pid) _ _ (λ own_id. h) (λ apart. child-fits s birth pid p l args h)
   changed-fits (reaps child) s h = choice IsFitSystem (child == pid) _ _ (λ itself. h) (λ apart. reaped-fits s child h)
-  changed-fits (becomes program) s h = changed-one s pid (with_program traced id l program) (program-keeps id l program own) h
-  changed-fits (makes_lwp new regs held) s h = changed-one s pid (with_new_lwp traced new regs held) (new-keeps new held regs) h
-  changed-fits (suspends other suspended) s h = changed-one s pid (with_lwp other (with_suspended suspended)) (keeps-one other (with_suspended suspended) (suspended-keeps suspended)) h
+  changed-fits (becomes program) s h =
+      changed-one s pid (with_program traced id l program) (program-keeps id l program own) h
+  changed-fits (makes_lwp new regs held) s h =
+      changed-one s pid (with_new_lwp traced new regs held) (new-keeps new held regs) h
+  changed-fits (suspends other suspended) s h =
+      changed-one s pid (with_lwp other (with_suspended suspended))
+      (keeps-one other (with_suspended suspended) (suspended-keeps suspended)) h
 
-  pub all_changed-fits : (cs : List Change) (s : TracedSystem) → IsFitSystem s → IsFitSystem (all_changed traced pid p id l cs s)
+  pub all_changed-fits : (cs : List Change) (s : TracedSystem) → IsFitSystem s
+      → IsFitSystem (all_changed traced pid p id l cs s)
   unfolding all_changed
   all_changed-fits [] s h = h
   all_changed-fits (c ∷ cs) s h = all_changed-fits cs (changed traced pid p id l c s) (changed-fits c s h)

@@ -28,7 +28,11 @@ use Rattle.pr_reached.specs.Fits.{IsFitSystem}
 
 bare-fits : (programs : List Program) (files : List StoredFile) → IsFitSystem (bare_system programs files)
 unfolding bare_system system_process bare_process
-bare-fits programs files = record { processes = All-cons ProcessFits (0, system_process) [] (record { lwps = All-nil LwpFits; pending = nothing-spares }) (All-nil ProcessFits) }
+bare-fits programs files =
+    record {
+      processes = All-cons ProcessFits (0, system_process) []
+          (record { lwps = All-nil LwpFits; pending = nothing-spares }) (All-nil ProcessFits);
+    }
 
 spawned_at-fits : (o : Option Program) (s : TracedSystem) → IsFitSystem s → IsFitSystem (spawned_at o s)
 spawned_at-fits None s h = h
@@ -37,15 +41,19 @@ spawned_at-fits (Some program) s h = spawned-fits s program false h
 spawns-fit : (spawns : List ℕ) (s : TracedSystem) → IsFitSystem s → IsFitSystem (with_spawns spawns s)
 unfolding with_spawns
 spawns-fit [] s h = h
-spawns-fit (place ∷ spawns) s h = spawns-fit spawns (spawned_at (slice_get s.programs place) s) (spawned_at-fits (slice_get s.programs place) s h)
+spawns-fit (place ∷ spawns) s h =
+    spawns-fit spawns (spawned_at (slice_get s.programs place) s) (spawned_at-fits (slice_get s.programs place) s h)
 
-pub first-fits : (programs : List Program) (files : List StoredFile) (spawns : List ℕ) → IsFitSystem (first_state programs files spawns).system
+pub first-fits : (programs : List Program) (files : List StoredFile) (spawns : List ℕ)
+    → IsFitSystem (first_state programs files spawns).system
 unfolding first_state
 first-fits programs files spawns = spawns-fit spawns (bare_system programs files) (bare-fits programs files)
 
 -- ---- histories
 
-entry-fits : (n : ℕ) (s : TracedState) (actor : Actor) (it : Act) → IsLawful s → IsFitSystem s.system → IsLegalEntry n s (record { actor = actor; act = it }) → IsFitSystem (after s (record { actor = actor; act = it })).system
+entry-fits : (n : ℕ) (s : TracedState) (actor : Actor) (it : Act) → IsLawful s → IsFitSystem s.system
+    → IsLegalEntry n s (record { actor = actor; act = it })
+    → IsFitSystem (after s (record { actor = actor; act = it })).system
 unfolding IsLegalEntry after
 entry-fits n s (Controller k) (act.Call c r) lawful h legal =
     let a : Answer = record { state = legal.1.0; reply = r } in
@@ -58,7 +66,9 @@ entry-fits n s (Lwp p l) (act.Turn t) lawful h legal =
 entry-fits n s Clock (act.Tick moment) lawful h legal = record { processes = h.processes }
 entry-fits n s _ _ lawful h legal = absurd legal
 
-pub history-fits : (n : ℕ) (s : TracedState) (h : List Entry) → IsLawful s → IsFitSystem s.system → IsLegal n s h → IsFitSystem (state_after s h).system
+pub history-fits : (n : ℕ) (s : TracedState) (h : List Entry) → IsLawful s → IsFitSystem s.system → IsLegal n s h
+    → IsFitSystem (state_after s h).system
 history-fits n s [] lawful fits legal = fits
 history-fits n s (e ∷ h) lawful fits legal =
-    history-fits n (after s e) h (history-state n s (e ∷ []) lawful (legal.0, tt)) (entry-fits n s e.actor e.act lawful fits legal.0) legal.1
+    history-fits n (after s e) h (history-state n s (e ∷ []) lawful (legal.0, tt))
+    (entry-fits n s e.actor e.act lawful fits legal.0) legal.1

@@ -49,11 +49,14 @@ other-place _ other = refl
 pub nothing-spares : SparesKill nothing_pending
 nothing-spares = free-spares nothing_pending refl
 
-pub added-spares : (g : Sig) (info : Info) (p : Pending) → is_kill g ≡ false → SparesKill p → SparesKill (added g info p)
+pub added-spares : (g : Sig) (info : Info) (p : Pending) → is_kill g ≡ false → SparesKill p
+    → SparesKill (added g info p)
 unfolding added
 added-spares g info p other h =
     choice SparesKill (is_standard g) (with_standard (signal_number g - 1) info p) (with_queued g info p)
-    (λ standard. free-spares _ (get_or-set_other p.standard (signal_number g - 1) 8 _ None (eqb-false 8 _ (other-place g other)) ∙ place-free p h))
+    (λ standard. free-spares _
+    (get_or-set_other p.standard (signal_number g - 1) 8 _ None (eqb-false 8 _ (other-place g other))
+    ∙ place-free p h))
     (λ queues. free-spares _ (place-free p h))
 
 emptied : (os : List (Option Info)) (i j : ℕ) → get_or os j None ≡ None → get_or (set os i None) j None ≡ None
@@ -67,7 +70,8 @@ pub taken-spares : (g : Sig) (p : Pending) → SparesKill p → SparesKill (with
 unfolding without_one
 taken-spares g p h =
     choice SparesKill (is_standard g) _ _
-    (λ standard. free-spares _ (emptied p.standard (signal_number g - 1) 8 (place-free p h))) (λ queues. free-spares _ (place-free p h))
+    (λ standard. free-spares _ (emptied p.standard (signal_number g - 1) 8 (place-free p h)))
+    (λ queues. free-spares _ (place-free p h))
 
 pub deleted-spares : (signals : ℕ) (p : Pending) → SparesKill p → SparesKill (without_signals signals p)
 deleted-spares signals p h = record {
@@ -98,7 +102,8 @@ stopless-fits l none spares = record {
 pub requested-fits : (l : TracedLwp) → l.control.stop ≡ Some Requested → SparesKill l.pending → IsFitLwp l
 requested-fits l requested spares = record { entry = λ call is. cc; exit = λ call is. absurd (cc); pending = spares }
 
-pub exiting-fits : (l : TracedLwp) (call : Sysno) (args : List ℕ) (result : Res) → l.control.stop ≡ Some (SysExit call) → l.phase ≡ Exiting call args result → SparesKill l.pending → IsFitLwp l
+pub exiting-fits : (l : TracedLwp) (call : Sysno) (args : List ℕ) (result : Res) → l.control.stop ≡ Some (SysExit call)
+    → l.phase ≡ Exiting call args result → SparesKill l.pending → IsFitLwp l
 exiting-fits l call args result stop phase spares = record {
   entry = λ other is. cc;
   exit = λ other is. (args, (result, cc));
@@ -110,7 +115,9 @@ abbrev pub KeepsFit : (TracedLwp → TracedLwp) → Type 0
 KeepsFit f = (l : TracedLwp) → IsFitLwp l → IsFitLwp (f l)
 
 -- it leaves the stop and the phase
-pub same_place : (f : TracedLwp → TracedLwp) → ((l : TracedLwp) → (f l).control.stop ≡ l.control.stop) → ((l : TracedLwp) → (f l).phase ≡ l.phase) → ((l : TracedLwp) → SparesKill l.pending → SparesKill (f l).pending) → KeepsFit f
+pub same_place : (f : TracedLwp → TracedLwp) → ((l : TracedLwp) → (f l).control.stop ≡ l.control.stop)
+    → ((l : TracedLwp) → (f l).phase ≡ l.phase) → ((l : TracedLwp) → SparesKill l.pending → SparesKill (f l).pending)
+    → KeepsFit f
 same_place f stop phase pending l h = record {
   entry = λ call is. phase l ∙ h.entry call (sym (stop l) ∙ is);
   exit = λ call is. let was = h.exit call (sym (stop l) ∙ is) in (was.0, (was.1.0, phase l ∙ was.1.1));
@@ -122,7 +129,8 @@ pub directed-keeps : KeepsFit directed
 unfolding directed
 directed-keeps l h =
     choice IsFitLwp (has_event_stop l) _ _ (λ stands. h)
-    (λ runs. same_place (λ m. record m { control = record m.control { directed = true } }) (λ m. refl) (λ m. refl) (λ m it. it) l h)
+    (λ runs. same_place (λ m. record m { control = record m.control { directed = true } }) (λ m. refl) (λ m. refl)
+    (λ m it. it) l h)
 
 -- ---- processes
 
@@ -133,7 +141,9 @@ pub lwp-fits : (p : TracedProcess) (id : ℕ) (l : TracedLwp) → IsFitProcess p
 lwp-fits p id l h there = All-under LwpFits id l p.lwps h.lwps there
 
 -- the lwp of an id is changed, and every lwp is
-pub keeps-at : (id : ℕ) (f : TracedLwp → TracedLwp) (x : TracedProcess) → ((l : TracedLwp) → lwp_of x id ≡ Some l → IsFitLwp l → IsFitLwp (f l)) → IsFitProcess x → IsFitProcess (with_lwp id f x)
+pub keeps-at : (id : ℕ) (f : TracedLwp → TracedLwp) (x : TracedProcess)
+    → ((l : TracedLwp) → lwp_of x id ≡ Some l → IsFitLwp l → IsFitLwp (f l)) → IsFitProcess x
+    → IsFitProcess (with_lwp id f x)
 unfolding with_lwp
 keeps-at id f x keeps h = record { lwps = All-change_under LwpFits id f x.lwps keeps h.lwps; pending = h.pending }
 
@@ -141,14 +151,18 @@ pub keeps-one : (id : ℕ) (f : TracedLwp → TracedLwp) → KeepsFit f → Keep
 keeps-one id f keeps x h = keeps-at id f x (λ l there it. keeps l it) h
 
 pub keeps-each : (f : TracedLwp → TracedLwp) → KeepsFit f → KeepsProcess (λ x. record x { lwps = map_each f x.lwps })
-keeps-each f keeps x h = record { lwps = All-map_each LwpFits LwpFits f (λ e it. keeps e.1 it) x.lwps h.lwps; pending = h.pending }
+keeps-each f keeps x h = record {
+  lwps = All-map_each LwpFits LwpFits f (λ e it. keeps e.1 it) x.lwps h.lwps;
+  pending = h.pending;
+}
 
 pub all_directed-keeps : KeepsProcess with_all_directed
 unfolding with_all_directed
 all_directed-keeps x h = keeps-each directed directed-keeps x h
 
 -- an lwp joins
-pub keeps-more : (id : ℕ) (l : TracedLwp) (x y : TracedProcess) → IsFitLwp l → y.lwps ≡ inserted id l x.lwps → y.pending ≡ x.pending → IsFitProcess x → IsFitProcess y
+pub keeps-more : (id : ℕ) (l : TracedLwp) (x y : TracedProcess) → IsFitLwp l → y.lwps ≡ inserted id l x.lwps
+    → y.pending ≡ x.pending → IsFitProcess x → IsFitProcess y
 keeps-more id l x y new lwps pending h = record {
   lwps = subst (All LwpFits) (sym lwps) (All-inserted LwpFits id l x.lwps new h.lwps);
   pending = subst SparesKill (sym pending) h.pending;
@@ -159,19 +173,24 @@ keeps-more id l x y new lwps pending h = record {
 abbrev pub ProcessFits : ℕ × TracedProcess → Type 0
 ProcessFits e = IsFitProcess e.1
 
-pub process-fits : (s : TracedSystem) (pid : ℕ) (p : TracedProcess) → IsFitSystem s → process_of s pid ≡ Some p → IsFitProcess p
+pub process-fits : (s : TracedSystem) (pid : ℕ) (p : TracedProcess) → IsFitSystem s → process_of s pid ≡ Some p
+    → IsFitProcess p
 process-fits s pid p h found = All-under ProcessFits pid p s.processes h.processes found
 
 -- a process is changed in its place
-pub changed-at : (s : TracedSystem) (pid : ℕ) (f : TracedProcess → TracedProcess) → ((x : TracedProcess) → process_of s pid ≡ Some x → IsFitProcess x → IsFitProcess (f x)) → IsFitSystem s → IsFitSystem (with_process pid f s)
+pub changed-at : (s : TracedSystem) (pid : ℕ) (f : TracedProcess → TracedProcess)
+    → ((x : TracedProcess) → process_of s pid ≡ Some x → IsFitProcess x → IsFitProcess (f x)) → IsFitSystem s
+    → IsFitSystem (with_process pid f s)
 unfolding with_process
 changed-at s pid f keeps h = record { processes = All-change_under ProcessFits pid f s.processes keeps h.processes }
 
-pub changed-one : (s : TracedSystem) (pid : ℕ) (f : TracedProcess → TracedProcess) → KeepsProcess f → IsFitSystem s → IsFitSystem (with_process pid f s)
+pub changed-one : (s : TracedSystem) (pid : ℕ) (f : TracedProcess → TracedProcess) → KeepsProcess f → IsFitSystem s
+    → IsFitSystem (with_process pid f s)
 changed-one s pid f keeps h = changed-at s pid f (λ x there it. keeps x it) h
 
 -- every process is changed
-pub changed-each : (es : List (ℕ × TracedProcess)) (f : TracedProcess → TracedProcess) → KeepsProcess f → All ProcessFits es → All ProcessFits (map_each f es)
+pub changed-each : (es : List (ℕ × TracedProcess)) (f : TracedProcess → TracedProcess) → KeepsProcess f
+    → All ProcessFits es → All ProcessFits (map_each f es)
 changed-each es f keeps h = All-map_each ProcessFits ProcessFits f (λ e it. keeps e.1 it) es h
 
 -- one is made, and one is reaped

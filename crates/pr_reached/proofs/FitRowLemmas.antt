@@ -37,18 +37,26 @@ pub moved-fits : (m : Move) (l : TracedLwp) → l.control.stop ≡ None → IsFi
 unfolding moved traced stopped_as_directed fault_incurred fault_posted step_taken call_over
 moved-fits move.stays l none h = h
 moved-fits move.stops l none h = requested-fits (moved traced move.stops l) refl h.pending
-moved-fits (move.posts f address) l none h = stopless-fits (moved traced (move.posts f address) l) none (added-spares (fault_signal f) (of_fault address) l.pending (fault-spares f) h.pending)
+moved-fits (move.posts f address) l none h =
+    stopless-fits (moved traced (move.posts f address) l) none
+    (added-spares (fault_signal f) (of_fault address) l.pending (fault-spares f) h.pending)
 moved-fits move.returns l none h = stopless-fits (moved traced move.returns l) none h.pending
 moved-fits (move.runs regs) l none h = stopless-fits (moved traced (move.runs regs) l) none h.pending
 moved-fits (move.enters call regs) l none h = stopless-fits (moved traced (move.enters call regs) l) none h.pending
 moved-fits (move.incurs f address) l none h = stopless-fits (moved traced (move.incurs f address) l) none h.pending
-moved-fits (move.traps f address regs) l none h = stopless-fits (moved traced (move.traps f address regs) l) none h.pending
-moved-fits (move.leaves call args result) l none h = stopless-fits (moved traced (move.leaves call args result) l) none h.pending
-moved-fits (move.sleeps call args since) l none h = stopless-fits (moved traced (move.sleeps call args since) l) none h.pending
+moved-fits (move.traps f address regs) l none h =
+    stopless-fits (moved traced (move.traps f address regs) l) none h.pending
+moved-fits (move.leaves call args result) l none h =
+    stopless-fits (moved traced (move.leaves call args result) l) none h.pending
+moved-fits (move.sleeps call args since) l none h =
+    stopless-fits (moved traced (move.sleeps call args since) l) none h.pending
 moved-fits (move.takes c own) l none h =
-    stopless-fits (moved traced (move.takes c own) l) none (choice SparesKill own (without_one c.signal l.pending) l.pending (λ stands. taken-spares c.signal l.pending h.pending) (λ shared. h.pending))
+    stopless-fits (moved traced (move.takes c own) l) none
+    (choice SparesKill own (without_one c.signal l.pending) l.pending
+    (λ stands. taken-spares c.signal l.pending h.pending) (λ shared. h.pending))
 moved-fits move.drops l none h = stopless-fits (moved traced move.drops l) none h.pending
-moved-fits (move.catches frames regs held) l none h = stopless-fits (moved traced (move.catches frames regs held) l) none h.pending
+moved-fits (move.catches frames regs held) l none h =
+    stopless-fits (moved traced (move.catches frames regs held) l) none h.pending
 
 -- ---- points
 
@@ -60,25 +68,32 @@ FitsPoint (Some (Fault f)) l = Unit {0}
 FitsPoint (Some (Entry call)) l = l.phase ≡ Entered call
 FitsPoint (Some (Exit call)) l = (args : List ℕ) × ((result : Res) × (l.phase ≡ Exiting call args result))
 
-pub stopped-fits : (point : Point) (l : TracedLwp) → FitsPoint (Some point) l → IsFitLwp l → IsFitLwp (stopped_at point l)
+pub stopped-fits : (point : Point) (l : TracedLwp) → FitsPoint (Some point) l → IsFitLwp l
+    → IsFitLwp (stopped_at point l)
 unfolding stopped_at
 stopped-fits (Signal g) l phase h = record { entry = λ call is. cc; exit = λ call is. absurd (cc); pending = h.pending }
 stopped-fits (Fault f) l phase h = record { entry = λ call is. cc; exit = λ call is. absurd (cc); pending = h.pending }
 stopped-fits (Entry c) l phase h = record { entry = λ call is. cc; exit = λ call is. absurd (cc); pending = h.pending }
-stopped-fits (Exit c) l phase h = record { entry = λ call is. cc; exit = λ call is. (phase.0, (phase.1.0, cc)); pending = h.pending }
+stopped-fits (Exit c) l phase h = record {
+  entry = λ call is. cc;
+  exit = λ call is. (phase.0, (phase.1.0, cc));
+  pending = h.pending;
+}
 
 -- ---- rows
 
 -- A row meets nothing; or it ends nothing, and leaves any lwp in the phase that its point asks for.
 pub data FitsRow (row : Row) : Type 0 where
   quiet : row.point ≡ None → FitsRow row
-  meets : row.transition.ending ≡ None → ((l : TracedLwp) → FitsPoint row.point (moved traced row.transition.move l)) → FitsRow row
+  meets : row.transition.ending ≡ None → ((l : TracedLwp) → FitsPoint row.point (moved traced row.transition.move l))
+      → FitsRow row
 
 interrupted-fits : (woken : Bool) (call : Sysno) (args : List ℕ) → FitsRow (interrupted_row woken call args)
 unfolding interrupted_row interrupted moved traced
 interrupted-fits woken call args = meets refl (λ l. (args, (Error Intr, refl)))
 
-performed-fits : (woken : Bool) (call : Sysno) (args : List ℕ) (since : ℕ) (effect : Effect) → FitsRow (performed_row woken call args since effect)
+performed-fits : (woken : Bool) (call : Sysno) (args : List ℕ) (since : ℕ) (effect : Effect)
+    → FitsRow (performed_row woken call args since effect)
 unfolding performed_row performed moved traced
 performed-fits woken call args since (change.does result changes) = meets refl (λ l. (args, (result, refl)))
 performed-fits woken call args since change.sleeps = quiet refl
@@ -87,7 +102,8 @@ performed-fits woken call args since (change.ends how) = quiet refl
 module _ (s : TracedSystem) (pid : ℕ) (p : TracedProcess) (id : ℕ) (l : TracedLwp) where
   executed-fits : (e : InstructionEffect) → FitsRow (executed_row p l e)
   unfolding executed_row ran_row entered_row incurred_row watched_row ran entered incurred trapped moved traced
-  executed-fits (instruction.runs regs store) = choice FitsRow l.control.step _ _ (λ marked. meets refl (λ k. tt)) (λ plain. quiet refl)
+  executed-fits (instruction.runs regs store) =
+      choice FitsRow l.control.step _ _ (λ marked. meets refl (λ k. tt)) (λ plain. quiet refl)
   executed-fits (instruction.calls call regs) = meets refl (λ k. refl)
   executed-fits (instruction.faults f address) = meets refl (λ k. tt)
   executed-fits (instruction.runs_into_watch address regs store) = meets refl (λ k. tt)

@@ -23,13 +23,16 @@ use Rattle.pr_reached.specs.Fits.{IsFitProcess, IsFitSystem}
 
 added-keeps : (g : Sig) (info : Info) → is_kill g ≡ false → KeepsFit (lwp_with_pending g info)
 unfolding lwp_with_pending
-added-keeps g info other = same_place (lwp_with_pending g info) (λ l. refl) (λ l. refl) (λ l it. added-spares g info l.pending other it)
+added-keeps g info other =
+    same_place (lwp_with_pending g info) (λ l. refl) (λ l. refl) (λ l it. added-spares g info l.pending other it)
 
 deleted-keeps : (set : ℕ) → KeepsFit (lwp_without_pending set)
 unfolding lwp_without_pending
-deleted-keeps set = same_place (lwp_without_pending set) (λ l. refl) (λ l. refl) (λ l it. deleted-spares set l.pending it)
+deleted-keeps set =
+    same_place (lwp_without_pending set) (λ l. refl) (λ l. refl) (λ l it. deleted-spares set l.pending it)
 
-pending-keeps : (target : Option ℕ) (g : Sig) (info : Info) → is_kill g ≡ false → KeepsProcess (with_pending target g info)
+pending-keeps : (target : Option ℕ) (g : Sig) (info : Info) → is_kill g ≡ false
+    → KeepsProcess (with_pending target g info)
 unfolding with_pending with_lwp
 pending-keeps None g info other x h = record { lwps = h.lwps; pending = added-spares g info x.pending other h.pending }
 pending-keeps (Some id) g info other x h = keeps-one id (lwp_with_pending g info) (added-keeps g info other) x h
@@ -46,12 +49,15 @@ unfolding with_deletions without_job_stop
 deletions-keep g x h =
     let deleted = without_pending-keeps (deleted_by g) x h in
     choice IsFitProcess (deleted_by g == 0) _ _ (λ none. h)
-    (λ some. choice IsFitProcess (ends_job_stop g) _ _ (λ ends. record { lwps = deleted.lwps; pending = deleted.pending }) (λ stays. deleted))
+    (λ some. choice IsFitProcess (ends_job_stop g) _ _
+    (λ ends. record { lwps = deleted.lwps; pending = deleted.pending }) (λ stays. deleted))
 
-pub signalled-keeps : (target : Option ℕ) (g : Sig) (info : Info) → is_kill g ≡ false → KeepsProcess (signalled target g info)
+pub signalled-keeps : (target : Option ℕ) (g : Sig) (info : Info) → is_kill g ≡ false
+    → KeepsProcess (signalled target g info)
 unfolding signalled
 signalled-keeps target g info other x h =
-    choice IsFitProcess (is_none x.ended) _ _ (λ live. pending-keeps target g info other (with_deletions g x) (deletions-keep g x h)) (λ over. h)
+    choice IsFitProcess (is_none x.ended) _ _
+    (λ live. pending-keeps target g info other (with_deletions g x) (deletions-keep g x h)) (λ over. h)
 
 -- ---- ends
 
@@ -61,26 +67,36 @@ zombie-fits status p = record { lwps = All-nil LwpFits; pending = nothing-spares
 
 orphaned-keeps : (gone : ℕ) → KeepsProcess (orphaned gone)
 unfolding orphaned
-orphaned-keeps gone x h = choice IsFitProcess (x.parent == gone) _ _ (λ is. record { lwps = h.lwps; pending = h.pending }) (λ apart. h)
+orphaned-keeps gone x h =
+    choice IsFitProcess (x.parent == gone) _ _ (λ is. record { lwps = h.lwps; pending = h.pending }) (λ apart. h)
 
-parent_told-fits : (parent pid status : ℕ) (s : TracedSystem) → IsFitSystem s → IsFitSystem (with_parent_signalled parent pid status s)
+parent_told-fits : (parent pid status : ℕ) (s : TracedSystem) → IsFitSystem s
+    → IsFitSystem (with_parent_signalled parent pid status s)
 unfolding with_parent_signalled
 parent_told-fits parent pid status s h =
-    choice IsFitSystem (parent == 0) _ _ (λ first. h) (λ other. changed-one s parent (signalled None Cld (of_child pid status)) (signalled-keeps None Cld (of_child pid status) refl) h)
+    choice IsFitSystem (parent == 0) _ _ (λ first. h)
+    (λ other. changed-one s parent (signalled None Cld (of_child pid status))
+    (signalled-keeps None Cld (of_child pid status) refl) h)
 
-pub this_ended-fits : (s : TracedSystem) (pid : ℕ) (p : TracedProcess) (status : ℕ) → IsFitSystem s → IsFitSystem (with_this_ended traced pid p status s)
+pub this_ended-fits : (s : TracedSystem) (pid : ℕ) (p : TracedProcess) (status : ℕ) → IsFitSystem s
+    → IsFitSystem (with_this_ended traced pid p status s)
 unfolding with_this_ended
 this_ended-fits s pid p status h =
     parent_told-fits p.parent pid status _ (record {
-      processes = changed-each _ (orphaned pid) (orphaned-keeps pid) (All-change_under ProcessFits pid (zombie traced status) s.processes (λ x there it. zombie-fits status x) h.processes);
+      processes =
+          changed-each _ (orphaned pid) (orphaned-keeps pid)
+          (All-change_under ProcessFits pid (zombie traced status) s.processes
+          (λ x there it. zombie-fits status x) h.processes);
     })
 
-ended_if_live-fits : (pid status : ℕ) (s : TracedSystem) (o : Option TracedProcess) → IsFitSystem s → IsFitSystem (ended_if_live traced pid status s o)
+ended_if_live-fits : (pid status : ℕ) (s : TracedSystem) (o : Option TracedProcess) → IsFitSystem s
+    → IsFitSystem (ended_if_live traced pid status s o)
 ended_if_live-fits pid status s None h = h
 ended_if_live-fits pid status s (Some p) h = this_ended-fits s pid p status h
 
 -- a signal is generated: SIGKILL ends the process, and does not pend
-pub generated-fits : (s : TracedSystem) (pid : ℕ) (target : Option ℕ) (g : Sig) (info : Info) → IsFitSystem s → IsFitSystem (generated traced pid target g info s)
+pub generated-fits : (s : TracedSystem) (pid : ℕ) (target : Option ℕ) (g : Sig) (info : Info) → IsFitSystem s
+    → IsFitSystem (generated traced pid target g info s)
 unfolding generated with_ended
 generated-fits s pid target g info h =
     choice IsFitSystem (is_kill g) _ _ (λ kill. ended_if_live-fits pid (signal_number g) s (live_process s pid) h)
@@ -90,8 +106,10 @@ without_lwp-keeps : (id : ℕ) → KeepsProcess (without_lwp id)
 unfolding without_lwp
 without_lwp-keeps id x h = record { lwps = All-without_id LwpFits id x.lwps h.lwps; pending = h.pending }
 
-pub ended-fits : (s : TracedSystem) (pid : ℕ) (p : TracedProcess) (id : ℕ) (how : Ending) → IsFitSystem s → IsFitSystem (ended traced pid p id how s)
+pub ended-fits : (s : TracedSystem) (pid : ℕ) (p : TracedProcess) (id : ℕ) (how : Ending) → IsFitSystem s
+    → IsFitSystem (ended traced pid p id how s)
 unfolding ended with_lwp_ended
 ended-fits s pid p id (ends_process status) h = this_ended-fits s pid p status h
 ended-fits s pid p id ends_lwp h =
-    choice IsFitSystem (length p.lwps == 1) _ _ (λ last. this_ended-fits s pid p 0 h) (λ more. changed-one s pid (without_lwp id) (without_lwp-keeps id) h)
+    choice IsFitSystem (length p.lwps == 1) _ _ (λ last. this_ended-fits s pid p 0 h)
+    (λ more. changed-one s pid (without_lwp id) (without_lwp-keeps id) h)

@@ -33,13 +33,19 @@ use Rattle.pr_reached.specs.InRange.{IsInRange, IsShortName, IsPipeInRange, IsPr
 -- ---- the first state
 
 sched-name : IsShortName (codes "sched")
-sched-name = record { short = omega arith; bytes = All-from_recursion IsByte (codes "sched") (omega arith, (omega arith, (omega arith, (omega arith, (omega arith, tt))))) }
+sched-name = record {
+  short = omega arith;
+  bytes =
+      All-from_recursion IsByte (codes "sched")
+      (omega arith, (omega arith, (omega arith, (omega arith, (omega arith, tt)))));
+}
 
 system-range : IsProcessInRange system_process
 unfolding system_process
 system-range = bare-range 0 (codes "sched") 0 sched-name (omega arith)
 
-bare-system-range : (programs : List Program) (files : List StoredFile) → IsStartInRange programs files → IsInRange (bare_system programs files)
+bare-system-range : (programs : List Program) (files : List StoredFile) → IsStartInRange programs files
+    → IsInRange (bare_system programs files)
 unfolding bare_system
 bare-system-range programs files start = record {
   programs = start.of_programs;
@@ -48,7 +54,8 @@ bare-system-range programs files start = record {
   processes = All-cons ProcessInRange (0, system_process) [] system-range (All-nil ProcessInRange);
 }
 
-spawned_at-range : (o : Option Program) (s : TracedSystem) → ((program : Program) → o ≡ Some program → IsProgramInRange program) → IsInRange s → IsInRange (spawned_at o s)
+spawned_at-range : (o : Option Program) (s : TracedSystem)
+    → ((program : Program) → o ≡ Some program → IsProgramInRange program) → IsInRange s → IsInRange (spawned_at o s)
 spawned_at-range None s each h = h
 spawned_at-range (Some program) s each h = spawned-range s program false (each program refl) h
 
@@ -57,11 +64,14 @@ unfolding with_spawns
 spawns-range [] s h = h
 spawns-range (place ∷ spawns) s h =
     spawns-range spawns (spawned_at (slice_get s.programs place) s)
-    (spawned_at-range (slice_get s.programs place) s (λ program is. All-at IsProgramInRange s.programs place program is h.programs) h)
+    (spawned_at-range (slice_get s.programs place) s
+    (λ program is. All-at IsProgramInRange s.programs place program is h.programs) h)
 
-pub first-state-range : (programs : List Program) (files : List StoredFile) (spawns : List ℕ) → IsStartInRange programs files → IsInRange (first_state programs files spawns).system
+pub first-state-range : (programs : List Program) (files : List StoredFile) (spawns : List ℕ)
+    → IsStartInRange programs files → IsInRange (first_state programs files spawns).system
 unfolding first_state
-first-state-range programs files spawns start = spawns-range spawns (bare_system programs files) (bare-system-range programs files start)
+first-state-range programs files spawns start =
+    spawns-range spawns (bare_system programs files) (bare-system-range programs files start)
 
 -- ---- the clock
 
@@ -70,7 +80,9 @@ tick-range s before h = record { programs = h.programs; clock = omega arith; fil
 
 -- ---- histories
 
-entry-range : (n : ℕ) (s : TracedState) (actor : Actor) (it : Act) → IsLawful s → IsInRange s.system → IsActOfBytes it → IsLegalEntry n s (record { actor = actor; act = it }) → IsInRange (after s (record { actor = actor; act = it })).system
+entry-range : (n : ℕ) (s : TracedState) (actor : Actor) (it : Act) → IsLawful s → IsInRange s.system → IsActOfBytes it
+    → IsLegalEntry n s (record { actor = actor; act = it })
+    → IsInRange (after s (record { actor = actor; act = it })).system
 unfolding IsLegalEntry after
 entry-range n s (Controller k) (act.Call c r) lawful h bytes legal =
     let a : Answer = record { state = legal.1.0; reply = r } in
@@ -83,7 +95,10 @@ entry-range n s (Lwp p l) (act.Turn t) lawful h bytes legal =
 entry-range n s Clock (act.Tick moment) lawful h bytes legal = tick-range s.system legal.0 h
 entry-range n s _ _ lawful h bytes legal = absurd legal
 
-pub history-range : (n : ℕ) (s : TracedState) (h : List Entry) → IsLawful s → IsInRange s.system → HasBytes h → IsLegal n s h → IsInRange (state_after s h).system
+pub history-range : (n : ℕ) (s : TracedState) (h : List Entry) → IsLawful s → IsInRange s.system → HasBytes h
+    → IsLegal n s h → IsInRange (state_after s h).system
 history-range n s [] lawful ranged bytes legal = ranged
 history-range n s (e ∷ h) lawful ranged bytes legal =
-    history-range n (after s e) h (history-state n s (e ∷ []) lawful (legal.0, tt)) (entry-range n s e.actor e.act lawful ranged (All-head IsEntryOfBytes e h bytes) legal.0) (All-tail IsEntryOfBytes e h bytes) legal.1
+    history-range n (after s e) h (history-state n s (e ∷ []) lawful (legal.0, tt))
+    (entry-range n s e.actor e.act lawful ranged (All-head IsEntryOfBytes e h bytes) legal.0)
+    (All-tail IsEntryOfBytes e h bytes) legal.1

@@ -18,14 +18,27 @@ use Rattle.pr_reached.specs.Mapped.{HasAPage, HasFewMappings, HaveFewMappings}
 -- The processes of a system in range have few mappings, and so have those of each state that is reached.
 
 pub few-mappings : (p : TracedProcess) → IsProcessInRange p → HasFewMappings p
-few-mappings p h = record { pages = All-weaker IsMappingInRange HasAPage (λ m it. record { page = it.page }) p.space h.space.mappings; few = h.space.few }
+few-mappings p h = record {
+  pages = All-weaker IsMappingInRange HasAPage (λ m it. record { page = it.page }) p.space h.space.mappings;
+  few = h.space.few;
+}
 
 pub all-few : (s : TracedSystem) → IsInRange s → HaveFewMappings s
-all-few s h = record { processes = All-weaker ProcessInRange (λ (e : ℕ × TracedProcess). HasFewMappings e.1) (λ e it. few-mappings e.1 it) s.processes h.processes }
+all-few s h =
+    record {
+      processes = All-weaker ProcessInRange (λ (e : ℕ × TracedProcess). HasFewMappings e.1)
+          (λ e it. few-mappings e.1 it) s.processes h.processes;
+    }
 
-pub history-few : (n : ℕ) (s : TracedState) (h : List Entry) → IsLawful s → IsInRange s.system → HasBytes h → IsLegal n s h → HaveFewMappings (state_after s h).system
-history-few n s h lawful ranged bytes legal = all-few (state_after s h).system (history-range n s h lawful ranged bytes legal)
+pub history-few : (n : ℕ) (s : TracedState) (h : List Entry) → IsLawful s → IsInRange s.system → HasBytes h
+    → IsLegal n s h → HaveFewMappings (state_after s h).system
+history-few n s h lawful ranged bytes legal =
+    all-few (state_after s h).system (history-range n s h lawful ranged bytes legal)
 
-pub first-history-few : (n : ℕ) (programs : List Program) (files : List StoredFile) (spawns : List ℕ) (h : List Entry) → IsStart programs files spawns → IsStartInRange programs files → HasBytes h → IsLegal n (first_state programs files spawns) h → HaveFewMappings (state_after (first_state programs files spawns) h).system
+pub first-history-few : (n : ℕ) (programs : List Program) (files : List StoredFile) (spawns : List ℕ) (h : List Entry)
+    → IsStart programs files spawns → IsStartInRange programs files → HasBytes h
+    → IsLegal n (first_state programs files spawns) h
+    → HaveFewMappings (state_after (first_state programs files spawns) h).system
 first-history-few n programs files spawns h start ranged bytes legal =
-    history-few n (first_state programs files spawns) h (first-lawful programs files spawns start) (first-state-range programs files spawns ranged) bytes legal
+    history-few n (first_state programs files spawns) h (first-lawful programs files spawns start)
+    (first-state-range programs files spawns ranged) bytes legal

@@ -34,7 +34,8 @@ use Rattle.pr_model.specs.MemoryCalls.{path_at}
 use Rattle.pr_reached.proofs.RegisterRanges.{byte_at, wraps}
 use Rattle.pr_reached.specs.InRange.{IsMappingInRange, IsShortName, IsProgramInRange, IsSpaceInRange}
 
--- The bytes of address spaces stay bytes, and what is read of them are bytes. Each mapping keeps a page at least, and so
+-- The bytes of address spaces stay bytes, and what is read of them are bytes. Each mapping keeps a page at least, and
+-- so
 -- there are never more mappings than a process can map pages.
 
 -- ---- lists
@@ -53,13 +54,15 @@ without_first-within : {X : Type 0} (p : X → Bool) (xs : List X) → length (w
 without_first-within p [] = omega arith
 without_first-within p (x ∷ xs) =
     let rest = without_first-within p xs in
-    choice (λ (ys : List _). length ys ≤ suc (length xs)) (p x) xs (x ∷ without_first p xs) (λ here. omega arith) (λ there. omega arith)
+    choice (λ (ys : List _). length ys ≤ suc (length xs)) (p x) xs (x ∷ without_first p xs) (λ here. omega arith)
+    (λ there. omega arith)
 
 change_first-within : {X : Type 0} (p : X → Bool) (f : X → X) (xs : List X) → length (change_first p f xs) ≤ length xs
 change_first-within p f [] = omega arith
 change_first-within p f (x ∷ xs) =
     let rest = change_first-within p f xs in
-    choice (λ (ys : List _). length ys ≤ suc (length xs)) (p x) (f x ∷ xs) (x ∷ change_first p f xs) (λ here. omega arith) (λ there. omega arith)
+    choice (λ (ys : List _). length ys ≤ suc (length xs)) (p x) (f x ∷ xs) (x ∷ change_first p f xs)
+    (λ here. omega arith) (λ there. omega arith)
 
 -- ---- how many mappings there are
 
@@ -108,15 +111,20 @@ module _ (needed : ℕ) (space : Space) (h : All IsMappingInRange space) where
       by : (o : Option Mapping) → find (covers address) space ≡ o → IsByteRead (byte_for needed space address)
       by None is = rw is fits
       by (Some m) is =
-          rw is (choice IsByteRead (has_flags m.prot needed) (Ok (get_or m.bytes (address - m.at) 0)) (Err (NotAllowed address))
-          (λ allowed. byte_at m.bytes (address - m.at) (All-find IsMappingInRange (covers address) space m h is).bytes) (λ not. fits))
+          rw is (choice IsByteRead (has_flags m.prot needed) (Ok (get_or m.bytes (address - m.at) 0))
+          (Err (NotAllowed address))
+          (λ allowed. byte_at m.bytes (address - m.at) (All-find IsMappingInRange (covers address) space m h is).bytes)
+          (λ not. fits))
 
   pub bytes-read : (n address : ℕ) → IsWord address → AreBytesRead n (bytes_for needed space address n)
   unfolding bytes_for
   bytes-read zero address fits = (All-nil IsByte, refl)
-  bytes-read (suc n) address fits = both (byte_for needed space address) (bytes_for needed space ((address + 1) % 2 ^ 64) n) (byte-read address fits) (bytes-read n ((address + 1) % 2 ^ 64) (wraps (address + 1)))
+  bytes-read (suc n) address fits =
+      both (byte_for needed space address) (bytes_for needed space ((address + 1) % 2 ^ 64) n) (byte-read address fits)
+      (bytes-read n ((address + 1) % 2 ^ 64) (wraps (address + 1)))
     where
-      both : (b : Result ℕ BadByte) (r : Result (List ℕ) BadByte) → IsByteRead b → AreBytesRead n r → AreBytesRead (suc n) (one_more b r)
+      both : (b : Result ℕ BadByte) (r : Result (List ℕ) BadByte) → IsByteRead b → AreBytesRead n r
+          → AreBytesRead (suc n) (one_more b r)
       both (Err bad) r here rest = here
       both (Ok byte) (Err bad) here rest = rest
       both (Ok byte) (Ok bytes) here rest = (All-cons IsByte byte bytes here rest.0, ap suc rest.1)
@@ -132,16 +140,23 @@ module _ (space : Space) (h : All IsMappingInRange space) where
   text-read : (most address : ℕ) → IsWord address → IsTextRead most (text_at space address most)
   unfolding text_at
   text-read zero address fits = tt
-  text-read (suc most) address fits = both (byte_for 4 space address) (text_at space ((address + 1) % 2 ^ 64) most) (byte-read 4 space h address fits) (text-read most ((address + 1) % 2 ^ 64) (wraps (address + 1)))
+  text-read (suc most) address fits =
+      both (byte_for 4 space address) (text_at space ((address + 1) % 2 ^ 64) most) (byte-read 4 space h address fits)
+      (text-read most ((address + 1) % 2 ^ 64) (wraps (address + 1)))
     where
-      behind : (byte : ℕ) (r : Result (Option (List ℕ)) BadByte) → IsByte byte → IsTextRead most r → IsTextRead (suc most) (text_behind byte r)
+      behind : (byte : ℕ) (r : Result (Option (List ℕ)) BadByte) → IsByte byte → IsTextRead most r
+          → IsTextRead (suc most) (text_behind byte r)
       behind byte (Err bad) here rest = tt
       behind byte (Ok None) here rest = tt
-      behind byte (Ok (Some text)) here rest = (All-cons IsByte byte text here rest.0, let short = rest.1 in omega arith)
+      behind byte (Ok (Some text)) here rest =
+          (All-cons IsByte byte text here rest.0, let short = rest.1 in omega arith)
 
-      both : (b : Result ℕ BadByte) (r : Result (Option (List ℕ)) BadByte) → IsByteRead b → IsTextRead most r → IsTextRead (suc most) (text_with b r)
+      both : (b : Result ℕ BadByte) (r : Result (Option (List ℕ)) BadByte) → IsByteRead b → IsTextRead most r
+          → IsTextRead (suc most) (text_with b r)
       both (Err bad) r here rest = tt
-      both (Ok byte) r here rest = choice (IsTextRead (suc most)) (byte == 0) _ _ (λ ends. (All-nil IsByte, omega arith)) (λ more. behind byte r here rest)
+      both (Ok byte) r here rest =
+          choice (IsTextRead (suc most)) (byte == 0) _ _ (λ ends. (All-nil IsByte, omega arith))
+          (λ more. behind byte r here rest)
 
   abbrev IsPathRead : Result (List ℕ) Errno → Type 0
   IsPathRead (Err e) = Unit {0}
@@ -151,7 +166,8 @@ module _ (space : Space) (h : All IsMappingInRange space) where
   unfolding path_at
   path-read at fits = by (text_at space at path_limit) refl (text-read path_limit at fits)
     where
-      by : (r : Result (Option (List ℕ)) BadByte) → text_at space at path_limit ≡ r → IsTextRead path_limit r → IsPathRead (path_at space at)
+      by : (r : Result (Option (List ℕ)) BadByte) → text_at space at path_limit ≡ r → IsTextRead path_limit r
+          → IsPathRead (path_at space at)
       by (Err bad) is it = rw is tt
       by (Ok None) is it = rw is tt
       by (Ok (Some [])) is it = rw is tt
@@ -165,12 +181,15 @@ module _ (space : Space) (h : All IsMappingInRange space) where
 
 module _ (at : ℕ) (bytes : List ℕ) (all : All IsByte bytes) where
   written-byte : (address old : ℕ) → IsByte old → IsByte (written_byte at bytes address old)
-  written-byte address old here = choice IsByte (leb at address && ltb address (at + length bytes)) _ _ (λ within. byte_at bytes (address - at) all) (λ out. here)
+  written-byte address old here =
+      choice IsByte (leb at address && ltb address (at + length bytes)) _ _
+      (λ within. byte_at bytes (address - at) all) (λ out. here)
 
   written-bytes : (address : ℕ) (olds : List ℕ) → All IsByte olds → All IsByte (written_bytes at bytes address olds)
   written-bytes address [] h = h
   written-bytes address (old ∷ olds) h =
-      All-cons IsByte (written_byte at bytes address old) (written_bytes at bytes (address + 1) olds) (written-byte address old (All-head IsByte old olds h))
+      All-cons IsByte (written_byte at bytes address old) (written_bytes at bytes (address + 1) olds)
+      (written-byte address old (All-head IsByte old olds h))
       (written-bytes (address + 1) olds (All-tail IsByte old olds h))
 
   written-mapping : (m : Mapping) → IsMappingInRange m → IsMappingInRange (with_written at bytes m)
@@ -187,13 +206,15 @@ module _ (at : ℕ) (bytes : List ℕ) (all : All IsByte bytes) where
   with_bytes-range space h = record {
     mappings =
         All-map IsMappingInRange (with_written at bytes) space
-        (All-weaker IsMappingInRange (λ m. IsMappingInRange (with_written at bytes m)) written-mapping space h.mappings);
+        (All-weaker IsMappingInRange
+        (λ m. IsMappingInRange (with_written at bytes m)) written-mapping space h.mappings);
     few = let same = length-map space (with_written at bytes) in let few = h.few in omega arith;
   }
 
 -- ---- mapping, unmapping and protecting
 
-zeros-range : (at size prot : ℕ) (kind : MappingKind) → IsWord at → prot < 8 → page_size ≤ size → IsMappingInRange (zeros_at at size prot kind)
+zeros-range : (at size prot : ℕ) (kind : MappingKind) → IsWord at → prot < 8 → page_size ≤ size
+    → IsMappingInRange (zeros_at at size prot kind)
 zeros-range at size prot kind fits allowed page = record {
   at = fits;
   prot = allowed;
@@ -201,33 +222,43 @@ zeros-range at size prot kind fits allowed page = record {
   page = let same : length (replicate {A = ℕ} size 0) ≡ size = length-replicate size 0 in omega arith;
 }
 
-pub zeros_mapped-range : (at size prot : ℕ) (kind : MappingKind) (space : Space) → IsWord at → prot < 8 → page_size ≤ size → All IsMappingInRange space → All IsMappingInRange (with_mapping (zeros_at at size prot kind) space)
+pub zeros_mapped-range : (at size prot : ℕ) (kind : MappingKind) (space : Space) → IsWord at → prot < 8
+    → page_size ≤ size → All IsMappingInRange space
+    → All IsMappingInRange (with_mapping (zeros_at at size prot kind) space)
 unfolding with_mapping
 zeros_mapped-range at size prot kind space fits allowed page h =
-    All-placed IsMappingInRange address_of (zeros_at at size prot kind) space (zeros-range at size prot kind fits allowed page) h
+    All-placed IsMappingInRange address_of (zeros_at at size prot kind) space
+    (zeros-range at size prot kind fits allowed page) h
 
-pub without_range-range : (at size : ℕ) (space : Space) → IsSpaceInRange space → IsSpaceInRange (without_range at size space)
+pub without_range-range : (at size : ℕ) (space : Space) → IsSpaceInRange space
+    → IsSpaceInRange (without_range at size space)
 unfolding without_range
 without_range-range at size space h = record {
   mappings = All-without_first IsMappingInRange (is_range at size) space h.mappings;
   few = let shorter = without_first-within (is_range at size) space in let few = h.few in omega arith;
 }
 
-pub with_protected-range : (at size prot : ℕ) (space : Space) → prot < 8 → IsSpaceInRange space → IsSpaceInRange (with_protected at size prot space)
+pub with_protected-range : (at size prot : ℕ) (space : Space) → prot < 8 → IsSpaceInRange space
+    → IsSpaceInRange (with_protected at size prot space)
 unfolding with_protected with_prot
 with_protected-range at size prot space allowed h = record {
   mappings =
-      All-change_first IsMappingInRange (is_range at size) (with_prot prot) (λ m is it. record { at = it.at; prot = allowed; bytes = it.bytes; page = it.page }) space h.mappings;
+      All-change_first IsMappingInRange (is_range at size) (with_prot prot)
+      (λ m is it. record { at = it.at; prot = allowed; bytes = it.bytes; page = it.page }) space h.mappings;
   few = let same = change_first-within (is_range at size) (with_prot prot) space in let few = h.few in omega arith;
 }
 
 -- the address of a gap
-gap_from-word : (size : ℕ) (space : Space) (at places found : ℕ) → gap_from size space at places ≡ Some found → IsWord found
+gap_from-word : (size : ℕ) (space : Space) (at places found : ℕ) → gap_from size space at places ≡ Some found
+    → IsWord found
 unfolding gap_from
 gap_from-word size space at zero found is = absurd (none-some found is)
-gap_from-word size space at (suc places) found is = by (is_gap size space at) refl (gap_from size space (at + page_size) places) (gap_from-word size space (at + page_size) places found) is
+gap_from-word size space at (suc places) found is =
+    by (is_gap size space at) refl (gap_from size space (at + page_size) places)
+    (gap_from-word size space (at + page_size) places found) is
   where
-    by : (b : Bool) → is_gap size space at ≡ b → (rest : Option ℕ) → (rest ≡ Some found → IsWord found) → cond b (Some at) rest ≡ Some found → IsWord found
+    by : (b : Bool) → is_gap size space at ≡ b → (rest : Option ℕ) → (rest ≡ Some found → IsWord found)
+        → cond b (Some at) rest ≡ Some found → IsWord found
     by true free rest later here =
         let low : at + size < stack_base = ltb-true (at + size) stack_base (and_parts _ _ free).0 in
         let same = same_Some at found here in
@@ -248,20 +279,28 @@ resized-range size m page h = record {
   page =
       let both = length-append (take size m.bytes) (replicate (size - length m.bytes) 0) in
       let kept = length-take size m.bytes in
-      let zeros : length (replicate {A = ℕ} (size - length m.bytes) 0) ≡ size - length m.bytes = length-replicate (size - length m.bytes) 0 in
+      let zeros : length (replicate {A = ℕ} (size - length m.bytes) 0) ≡ size - length m.bytes =
+      length-replicate (size - length m.bytes) 0 in
       omega arith;
-  bytes = All-append IsByte (take size m.bytes) (replicate (size - length m.bytes) 0) (All-take IsByte size m.bytes h.bytes) (All-replicate IsByte (size - length m.bytes) 0 (omega arith));
+  bytes =
+      All-append IsByte (take size m.bytes) (replicate (size - length m.bytes) 0)
+      (All-take IsByte size m.bytes h.bytes) (All-replicate IsByte (size - length m.bytes) 0 (omega arith));
 }
 
-heap-range : (size : ℕ) (space : Space) → (eqb size 0 ≡ false → page_size ≤ size) → All IsMappingInRange space → All IsMappingInRange (with_heap size space)
+heap-range : (size : ℕ) (space : Space) → (eqb size 0 ≡ false → page_size ≤ size) → All IsMappingInRange space
+    → All IsMappingInRange (with_heap size space)
 unfolding with_heap
 heap-range size space page h = by (find is_break_heap space) refl
   where
     by : (o : Option Mapping) → find is_break_heap space ≡ o → All IsMappingInRange (with_heap size space)
-    by None is = rw is (choice (All IsMappingInRange) (size == 0) _ _ (λ none. h) (λ some. zeros_mapped-range heap_base size read_write Heap space (omega arith) (omega arith) (page some) h))
+    by None is =
+        rw is (choice (All IsMappingInRange) (size == 0) _ _ (λ none. h)
+        (λ some. zeros_mapped-range heap_base size read_write Heap space (omega arith) (omega arith) (page some) h))
     by (Some heap) is =
-        rw is (choice (All IsMappingInRange) (size == 0) _ _ (λ none. All-without_first IsMappingInRange is_break_heap space h)
-        (λ some. All-change_first IsMappingInRange is_break_heap (resized size) (λ m found it. resized-range size m (page some) it) space h))
+        rw is (choice (All IsMappingInRange) (size == 0) _ _
+        (λ none. All-without_first IsMappingInRange is_break_heap space h)
+        (λ some. All-change_first IsMappingInRange is_break_heap (resized size)
+        (λ m found it. resized-range size m (page some) it) space h))
 
 pub break-range : (end : ℕ) (space : Space) → All IsMappingInRange space → All IsMappingInRange (with_break end space)
 break-range end space h = heap-range (rounded (end - heap_base)) space (pages-page (end - heap_base)) h
@@ -274,17 +313,22 @@ register-byte R0 = omega arith
 register-byte _ = omega arith
 
 -- the bytes of an instruction are bytes
-fields-bytes : (op a b immediate : ℕ) → IsByte op → IsByte a → IsByte b → All IsByte (op ∷ a ∷ b ∷ 0 ∷ 0 ∷ 0 ∷ 0 ∷ 0 ∷ word_bytes immediate)
+fields-bytes : (op a b immediate : ℕ) → IsByte op → IsByte a → IsByte b
+    → All IsByte (op ∷ a ∷ b ∷ 0 ∷ 0 ∷ 0 ∷ 0 ∷ 0 ∷ word_bytes immediate)
 fields-bytes op a b immediate is_op is_a is_b =
     let zero_byte : IsByte 0 = omega arith in
     All-append IsByte (op ∷ a ∷ b ∷ 0 ∷ 0 ∷ 0 ∷ 0 ∷ 0 ∷ []) (word_bytes immediate)
-    (All-from_recursion IsByte (op ∷ a ∷ b ∷ 0 ∷ 0 ∷ 0 ∷ 0 ∷ 0 ∷ []) (is_op, (is_a, (is_b, (zero_byte, (zero_byte, (zero_byte, (zero_byte, (zero_byte, tt)))))))))
+    (All-from_recursion IsByte (op ∷ a ∷ b ∷ 0 ∷ 0 ∷ 0 ∷ 0 ∷ 0 ∷ [])
+    (is_op, (is_a, (is_b, (zero_byte, (zero_byte, (zero_byte, (zero_byte, (zero_byte, tt)))))))))
     (AreBytes-word_bytes immediate)
 
-register-bytes : (op : ℕ) (a b : Reg) (immediate : ℕ) → IsByte op → All IsByte (op ∷ register_number a ∷ register_number b ∷ 0 ∷ 0 ∷ 0 ∷ 0 ∷ 0 ∷ word_bytes immediate)
-register-bytes op a b immediate is_op = fields-bytes op (register_number a) (register_number b) immediate is_op (register-byte a) (register-byte b)
+register-bytes : (op : ℕ) (a b : Reg) (immediate : ℕ) → IsByte op
+    → All IsByte (op ∷ register_number a ∷ register_number b ∷ 0 ∷ 0 ∷ 0 ∷ 0 ∷ 0 ∷ word_bytes immediate)
+register-bytes op a b immediate is_op =
+    fields-bytes op (register_number a) (register_number b) immediate is_op (register-byte a) (register-byte b)
 
-one-bytes : (op : ℕ) (a : Reg) (immediate : ℕ) → IsByte op → All IsByte (op ∷ register_number a ∷ 0 ∷ 0 ∷ 0 ∷ 0 ∷ 0 ∷ 0 ∷ word_bytes immediate)
+one-bytes : (op : ℕ) (a : Reg) (immediate : ℕ) → IsByte op
+    → All IsByte (op ∷ register_number a ∷ 0 ∷ 0 ∷ 0 ∷ 0 ∷ 0 ∷ 0 ∷ word_bytes immediate)
 one-bytes op a immediate is_op = fields-bytes op (register_number a) 0 immediate is_op (register-byte a) (omega arith)
 
 plain-bytes : (op : ℕ) (immediate : ℕ) → IsByte op → All IsByte (op ∷ 0 ∷ 0 ∷ 0 ∷ 0 ∷ 0 ∷ 0 ∷ 0 ∷ word_bytes immediate)
@@ -314,24 +358,31 @@ instruction-bytes (i.Sys call) = plain-bytes 19 (syscall_number call) (omega ari
 
 text-bytes : (code : List Instruction) → All IsByte (flat_map instruction_bytes code)
 text-bytes [] = All-nil IsByte
-text-bytes (x ∷ code) = All-append IsByte (instruction_bytes x) (flat_map instruction_bytes code) (instruction-bytes x) (text-bytes code)
+text-bytes (x ∷ code) =
+    All-append IsByte (instruction_bytes x) (flat_map instruction_bytes code) (instruction-bytes x) (text-bytes code)
 
-pages-range : (address prot : ℕ) (kind : MappingKind) (bytes : List ℕ) → IsWord address → prot < 8 → All IsByte bytes → All IsMappingInRange (unless_empty address prot kind bytes)
+pages-range : (address prot : ℕ) (kind : MappingKind) (bytes : List ℕ) → IsWord address → prot < 8 → All IsByte bytes
+    → All IsMappingInRange (unless_empty address prot kind bytes)
 pages-range address prot kind [] fits allowed all = All-nil IsMappingInRange
 pages-range address prot kind (b ∷ bytes) fits allowed all =
     let page : Mapping = record { at = address; prot = prot; kind = kind; bytes = whole_pages (b ∷ bytes) } in
     All-cons IsMappingInRange page [] (record {
       at = fits;
       prot = allowed;
-      bytes = All-append IsByte (b ∷ bytes) (replicate (rounded (length (b ∷ bytes)) - length (b ∷ bytes)) 0) all (All-replicate IsByte (rounded (length (b ∷ bytes)) - length (b ∷ bytes)) 0 (omega arith));
+      bytes =
+          All-append IsByte (b ∷ bytes) (replicate (rounded (length (b ∷ bytes)) - length (b ∷ bytes)) 0) all
+          (All-replicate IsByte (rounded (length (b ∷ bytes)) - length (b ∷ bytes)) 0 (omega arith));
       page =
           let both = length-append (b ∷ bytes) (replicate (rounded (length (b ∷ bytes)) - length (b ∷ bytes)) 0) in
-          let zeros : length (replicate {A = ℕ} (rounded (length (b ∷ bytes)) - length (b ∷ bytes)) 0) ≡ rounded (length (b ∷ bytes)) - length (b ∷ bytes) = length-replicate (rounded (length (b ∷ bytes)) - length (b ∷ bytes)) 0 in
+          let zeros : length (replicate {A = ℕ} (rounded (length (b ∷ bytes)) - length (b ∷ bytes)) 0) ≡ rounded
+          (length (b ∷ bytes)) - length (b ∷ bytes) =
+          length-replicate (rounded (length (b ∷ bytes)) - length (b ∷ bytes)) 0 in
           let whole = rounded-page (length (b ∷ bytes)) (omega arith) in
           omega arith;
     }) (All-nil IsMappingInRange)
 
-one-at-most : (address prot : ℕ) (kind : MappingKind) (bytes : List ℕ) → length (unless_empty address prot kind bytes) ≤ 1
+one-at-most : (address prot : ℕ) (kind : MappingKind) (bytes : List ℕ)
+    → length (unless_empty address prot kind bytes) ≤ 1
 one-at-most address prot kind [] = omega arith
 one-at-most address prot kind (b ∷ bytes) = omega arith
 
@@ -349,7 +400,9 @@ first-mappings program h =
       at = omega arith;
       prot = omega arith;
       bytes = All-replicate IsByte page_size 0 (omega arith);
-      page = let same : length (replicate {A = ℕ} page_size 0) ≡ page_size = length-replicate {A = ℕ} page_size 0 in omega arith;
+      page =
+          let same : length (replicate {A = ℕ} page_size 0) ≡ page_size = length-replicate {A = ℕ} page_size 0 in
+          omega arith;
     }) (All-nil IsMappingInRange))
 
 first-few : (program : Program) → length (first_space program) ≤ 3

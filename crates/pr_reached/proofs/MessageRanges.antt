@@ -59,10 +59,12 @@ below-column n bound word is = by (ltb n bound) refl is
 area-flags : (at size flags : ℕ) → eqb flags 0 ≡ false → bad_operand (message.Watch at size flags) ≡ None → flags < 16
 unfolding bad_operand
 area-flags at size flags watches is =
-    let inner : cond {A = Option ℕ} (eqb size 0 || ltb (2 ^ 64) (at + size)) (Some 2) (cond {A = Option ℕ} (ltb flags 16 && not (eqb flags 8)) None (Some 3)) ≡ None = rw watches at is in
+    let inner : cond {A = Option ℕ} (eqb size 0 || ltb (2 ^ 64) (at + size)) (Some 2)
+    (cond {A = Option ℕ} (ltb flags 16 && not (eqb flags 8)) None (Some 3)) ≡ None = rw watches at is in
     by (eqb size 0 || ltb (2 ^ 64) (at + size)) (ltb flags 16 && not (eqb flags 8)) refl inner
   where
-    by : (out small : Bool) → (ltb flags 16 && not (eqb flags 8)) ≡ small → cond {A = Option ℕ} out (Some 2) (cond {A = Option ℕ} small None (Some 3)) ≡ None → flags < 16
+    by : (out small : Bool) → (ltb flags 16 && not (eqb flags 8)) ≡ small
+        → cond {A = Option ℕ} out (Some 2) (cond {A = Option ℕ} small None (Some 3)) ≡ None → flags < 16
     by true small few here = absurd (none-some 2 (sym here))
     by false true few here = ltb-true flags 16 (and_parts (ltb flags 16) (not (eqb flags 8)) few).0
     by false false few here = absurd (none-some 3 (sym here))

@@ -25,11 +25,15 @@ all-at_or P d here (x ∷ xs) (suc i) all = all-at_or P d here xs i (All-tail P 
 -- ---- what is pending
 
 pub nothing-words : HaveWords nothing_pending
-nothing-words = record { standard = All-replicate HasWordIf standard_signal_count None tt; queued = All-nil HasWordQueued }
+nothing-words = record {
+  standard = All-replicate HasWordIf standard_signal_count None tt;
+  queued = All-nil HasWordQueued;
+}
 
 kept-word : (o : Option Info) (info : Info) → HasWordIf o → HasWord info → HasWord (kept_info o info)
 kept-word None info old new = new
-kept-word (Some standing) info old new = choice HasWord (info.code == fault_code) info standing (λ fault. new) (λ other. old)
+kept-word (Some standing) info old new =
+    choice HasWord (info.code == fault_code) info standing (λ fault. new) (λ other. old)
 
 pub added-words : (g : Sig) (info : Info) (p : Pending) → HasWord info → HaveWords p → HaveWords (added g info p)
 unfolding added
@@ -37,22 +41,31 @@ added-words g info p new h =
     let place = signal_number g - 1 in
     choice HaveWords (is_standard g) (with_standard place info p) (with_queued g info p)
     (λ standard. record {
-      standard = All-set HasWordIf p.standard place (Some (kept_info (get_or p.standard place None) info)) (kept-word (get_or p.standard place None) info (all-at_or HasWordIf None tt p.standard place h.standard) new) h.standard;
+      standard =
+          All-set HasWordIf p.standard place (Some (kept_info (get_or p.standard place None) info))
+          (kept-word (get_or p.standard place None) info
+          (all-at_or HasWordIf None tt p.standard place h.standard) new) h.standard;
       queued = h.queued;
     })
     (λ queues. record {
       standard = h.standard;
-      queued = All-append HasWordQueued p.queued (record { signal = g; info = info } ∷ []) h.queued (All-cons HasWordQueued (record { signal = g; info = info }) [] new (All-nil HasWordQueued));
+      queued =
+          All-append HasWordQueued p.queued (record { signal = g; info = info } ∷ []) h.queued
+          (All-cons HasWordQueued (record { signal = g; info = info }) [] new (All-nil HasWordQueued));
     })
 
 pub taken-words : (g : Sig) (p : Pending) → HaveWords p → HaveWords (without_one g p)
 unfolding without_one
 taken-words g p h =
     choice HaveWords (is_standard g) _ _
-    (λ standard. record { standard = All-set HasWordIf p.standard (signal_number g - 1) None tt h.standard; queued = h.queued })
+    (λ standard. record {
+      standard = All-set HasWordIf p.standard (signal_number g - 1) None tt h.standard;
+      queued = h.queued;
+    })
     (λ queues. record { standard = h.standard; queued = All-without_first HasWordQueued (is_of g) p.queued h.queued })
 
-left-words : (signals number : ℕ) (os : List (Option Info)) → All HasWordIf os → All HasWordIf (without_infos signals number os)
+left-words : (signals number : ℕ) (os : List (Option Info)) → All HasWordIf os
+    → All HasWordIf (without_infos signals number os)
 left-words signals number [] all = all
 left-words signals number (o ∷ os) all =
     All-cons HasWordIf (cond (has_number signals number) None o) (without_infos signals (suc number) os)
@@ -68,7 +81,8 @@ deleted-words signals p h = record {
 
 -- ---- what is taken
 
-found-word : (g : Sig) (qs : List Queued) → All HasWordQueued qs → HasWordIf (option_map (λ q. q.info) (find (is_of g) qs))
+found-word : (g : Sig) (qs : List Queued) → All HasWordQueued qs
+    → HasWordIf (option_map (λ q. q.info) (find (is_of g) qs))
 found-word g [] all = tt
 found-word g (q ∷ qs) all =
     choice (λ (o : Option Queued). HasWordIf (option_map (λ r. r.info) o)) (is_of g q) (Some q) (find (is_of g) qs)
@@ -77,7 +91,9 @@ found-word g (q ∷ qs) all =
 info_of-word : (g : Sig) (p : Pending) → HaveWords p → HasWordIf (info_of g p)
 unfolding info_of
 info_of-word g p h =
-    choice HasWordIf (is_standard g) _ _ (λ standard. all-at_or HasWordIf None tt p.standard (signal_number g - 1) h.standard) (λ queues. found-word g p.queued h.queued)
+    choice HasWordIf (is_standard g) _ _
+    (λ standard. all-at_or HasWordIf None tt p.standard (signal_number g - 1) h.standard)
+    (λ queues. found-word g p.queued h.queued)
 
 pub current-word : (g : Sig) (p : Pending) → HaveWords p → HasWord (current_of g p).info
 current-word g p h = by (info_of g p) (info_of-word g p h)

@@ -16,14 +16,16 @@ use Rattle.pr_reached.specs.Reached.{IsReached}
 
 -- What is so of reached states, together.
 
-pub first-reached : (programs : List Program) (files : List StoredFile) (spawns : List ℕ) → IsStart programs files spawns → IsStartInRange programs files → IsReached (first_state programs files spawns)
+pub first-reached : (programs : List Program) (files : List StoredFile) (spawns : List ℕ)
+    → IsStart programs files spawns → IsStartInRange programs files → IsReached (first_state programs files spawns)
 first-reached programs files spawns start ranged = record {
   lawful = first-lawful programs files spawns start;
   fit = first-fits programs files spawns;
   in_range = first-state-range programs files spawns ranged;
 }
 
-pub later-reached : (n : ℕ) (s : TracedState) (h : List Entry) → IsReached s → HasBytes h → IsLegal n s h → IsReached (state_after s h)
+pub later-reached : (n : ℕ) (s : TracedState) (h : List Entry) → IsReached s → HasBytes h → IsLegal n s h
+    → IsReached (state_after s h)
 later-reached n s h reached bytes legal = record {
   lawful = history-state n s h reached.lawful legal;
   fit = history-fits n s h reached.lawful reached.fit legal;

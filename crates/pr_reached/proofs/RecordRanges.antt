@@ -77,7 +77,8 @@ fault-address-word (Exiting call args result) it = omega arith
 no-arguments : AreArguments (replicate 6 0)
 no-arguments = record { words = All-replicate IsWord 6 0 (omega arith); count = refl }
 
-arguments-range : (regs : List ℕ) (phase : Phase) → AreRegisters regs → IsPhaseInRange phase → AreArguments (arguments_in regs phase)
+arguments-range : (regs : List ℕ) (phase : Phase) → AreRegisters regs → IsPhaseInRange phase
+    → AreArguments (arguments_in regs phase)
 unfolding arguments_in
 arguments-range regs User h it = no-arguments
 arguments-range regs (Entered call) h it = arguments-words regs h
@@ -137,7 +138,8 @@ module _ (pid : ℕ) (p : TracedProcess) (lawful : IsLawfulProcess (pid, p)) (h 
   each-range : (es : List (ℕ × TracedLwp)) → All (IsLawfulLwp p.next_lwp) es → All LwpInRange es → All IsShownLwp es
   each-range [] all ranged = All-nil IsShownLwp
   each-range (e ∷ es) all ranged =
-      All-cons IsShownLwp e es (lwpstatus-range e (All-head (IsLawfulLwp p.next_lwp) e es all) (All-head LwpInRange e es ranged))
+      All-cons IsShownLwp e es
+      (lwpstatus-range e (All-head (IsLawfulLwp p.next_lwp) e es all) (All-head LwpInRange e es ranged))
       (each-range es (All-tail (IsLawfulLwp p.next_lwp) e es all) (All-tail LwpInRange e es ranged))
 
   shown-range : All IsShownLwp p.lwps
@@ -147,20 +149,24 @@ module _ (pid : ℕ) (p : TracedProcess) (lawful : IsLawfulProcess (pid, p)) (h 
   unfolding IsShownLwp
   listed-range [] all = All-nil IsLwpStatus
   listed-range (e ∷ es) all =
-      All-cons IsLwpStatus (lwpstatus_of p e.0 e.1) (statuses_of_lwps p es) (All-head IsShownLwp e es all) (listed-range es (All-tail IsShownLwp e es all))
+      All-cons IsLwpStatus (lwpstatus_of p e.0 e.1) (statuses_of_lwps p es) (All-head IsShownLwp e es all)
+      (listed-range es (All-tail IsShownLwp e es all))
 
   pub lstatus-range : All IsLwpStatus (lstatus_of p)
   unfolding lstatus_of
   lstatus-range = listed-range p.lwps shown-range
 
-  either-range : (a b : Option (ℕ × TracedLwp)) → IfSome a IsShownLwp → IfSome b IsShownLwp → IfSome (option_or a b) IsShownLwp
+  either-range : (a b : Option (ℕ × TracedLwp)) → IfSome a IsShownLwp → IfSome b IsShownLwp
+      → IfSome (option_or a b) IsShownLwp
   either-range (Some x) b it other = it
   either-range None b it other = other
 
-  found-range : (q : ℕ × TracedLwp → Bool) (es : List (ℕ × TracedLwp)) → All IsShownLwp es → IfSome (find q es) IsShownLwp
+  found-range : (q : ℕ × TracedLwp → Bool) (es : List (ℕ × TracedLwp)) → All IsShownLwp es
+      → IfSome (find q es) IsShownLwp
   found-range q [] all = tt
   found-range q (e ∷ es) all =
-      choice (λ (o : Option (ℕ × TracedLwp)). IfSome o IsShownLwp) (q e) (Some e) (find q es) (λ here. All-head IsShownLwp e es all) (λ there. found-range q es (All-tail IsShownLwp e es all))
+      choice (λ (o : Option (ℕ × TracedLwp)). IfSome o IsShownLwp) (q e) (Some e) (find q es)
+      (λ here. All-head IsShownLwp e es all) (λ there. found-range q es (All-tail IsShownLwp e es all))
 
   class-range : (class : ℕ) → IfSome (first_in_class p.job_stop class p.lwps) IsShownLwp
   unfolding first_in_class
@@ -169,14 +175,18 @@ module _ (pid : ℕ) (p : TracedProcess) (lawful : IsLawfulProcess (pid, p)) (h 
   agent-range : IfSome (agent_of p) IsShownLwp
   agent-range = by (lwp_of p agent_id) (λ l there. All-under IsShownLwp agent_id l p.lwps shown-range there)
     where
-      by : (o : Option TracedLwp) → ((l : TracedLwp) → o ≡ Some l → IsShownLwp (agent_id, l)) → IfSome (let e : Option (ℕ × TracedLwp) = option_map (λ l. (agent_id, l)) o in e) IsShownLwp
+      by : (o : Option TracedLwp) → ((l : TracedLwp) → o ≡ Some l → IsShownLwp (agent_id, l))
+          → IfSome (let e : Option (ℕ × TracedLwp) = option_map (λ l. (agent_id, l)) o in e) IsShownLwp
       by None shows = tt
       by (Some l) shows = shows l refl
 
   representative-range : IfSome (representative p) IsShownLwp
   unfolding representative
   representative-range =
-      either-range _ _ (either-range _ _ (either-range _ _ (either-range _ _ (either-range _ _ agent-range (class-range 1)) (class-range 2)) (class-range 3)) (class-range 4)) (class-range 5)
+      either-range _ _
+      (either-range _ _
+      (either-range _ _ (either-range _ _ (either-range _ _ agent-range (class-range 1)) (class-range 2))
+      (class-range 3)) (class-range 4)) (class-range 5)
 
   no_lwp-range : IsLwpStatus no_lwp
   unfolding no_lwp
@@ -203,15 +213,18 @@ module _ (pid : ℕ) (p : TracedProcess) (lawful : IsLawfulProcess (pid, p)) (h 
 -- ---- sizes
 
 -- a process maps no more than all do
-pub size-within : (pid : ℕ) (p : TracedProcess) (es : List (ℕ × TracedProcess)) → under pid es ≡ Some p → size_of p ≤ sizes_of es
+pub size-within : (pid : ℕ) (p : TracedProcess) (es : List (ℕ × TracedProcess)) → under pid es ≡ Some p
+    → size_of p ≤ sizes_of es
 size-within pid p [] found = absurd (none-some p found)
 size-within pid p (e ∷ es) found = by (e.0 == pid) found (size-within pid p es)
   where
-    by : (b : Bool) → cond b (Some e.1) (under pid es) ≡ Some p → (under pid es ≡ Some p → size_of p ≤ sizes_of es) → size_of p ≤ size_of e.1 + sizes_of es
+    by : (b : Bool) → cond b (Some e.1) (under pid es) ≡ Some p → (under pid es ≡ Some p → size_of p ≤ sizes_of es)
+        → size_of p ≤ size_of e.1 + sizes_of es
     by true here later = let same = ap size_of (same_Some e.1 p here) in omega arith
     by false there later = let within = later there in omega arith
 
-pub size-word : (s : TracedSystem) (pid : ℕ) (p : TracedProcess) → IsLawfulSystem s → process_of s pid ≡ Some p → mapped_size p.space ≤ all_mappings_limit
+pub size-word : (s : TracedSystem) (pid : ℕ) (p : TracedProcess) → IsLawfulSystem s → process_of s pid ≡ Some p
+    → mapped_size p.space ≤ all_mappings_limit
 unfolding total_size size_of
 size-word s pid p h found = let own = size-within pid p s.processes found in let all = h.mapped in omega arith
 
@@ -224,7 +237,9 @@ heap-within (m ∷ space) =
     let rest = heap-within space in
     by (is_heap m.kind) heap whole rest
   where
-    by : (b : Bool) → heap_size (m ∷ space) ≡ cond b (length m.bytes) 0 + heap_size space → mapped_size (m ∷ space) ≡ length m.bytes + mapped_size space → heap_size space ≤ mapped_size space → heap_size (m ∷ space) ≤ mapped_size (m ∷ space)
+    by : (b : Bool) → heap_size (m ∷ space) ≡ cond b (length m.bytes) 0 + heap_size space
+        → mapped_size (m ∷ space) ≡ length m.bytes + mapped_size space → heap_size space ≤ mapped_size space
+        → heap_size (m ∷ space) ≤ mapped_size (m ∷ space)
     by true heap whole rest = omega arith
     by false heap whole rest = omega arith
 
@@ -233,7 +248,8 @@ heap-within (m ∷ space) =
 process-flags-below : (modes : ℕ) (system : Bool) → modes < 2 ^ 4 → process_flags_of modes system < 2 ^ 5
 process-flags-below modes system few = omega (arith, flag-le system 16)
 
-pub status-range : (s : TracedSystem) (pid : ℕ) (p : TracedProcess) → IsLawfulSystem s → IsInRange s → process_of s pid ≡ Some p → IsStatus (status_of s pid p)
+pub status-range : (s : TracedSystem) (pid : ℕ) (p : TracedProcess) → IsLawfulSystem s → IsInRange s
+    → process_of s pid ≡ Some p → IsStatus (status_of s pid p)
 unfolding status_of process_flags
 status-range s pid p lawful h found =
     let own = All-under IsLawfulProcess pid p s.processes lawful.processes found in
@@ -257,13 +273,17 @@ status-range s pid p lawful h found =
       lwp = representative-status pid p own ranged (representative p) (representative-range pid p own ranged);
     }
 
-pub lstatus-of-range : (s : TracedSystem) (pid : ℕ) (p : TracedProcess) → IsLawfulSystem s → IsInRange s → process_of s pid ≡ Some p → All IsLwpStatus (lstatus_of p)
+pub lstatus-of-range : (s : TracedSystem) (pid : ℕ) (p : TracedProcess) → IsLawfulSystem s → IsInRange s
+    → process_of s pid ≡ Some p → All IsLwpStatus (lstatus_of p)
 lstatus-of-range s pid p lawful h found =
-    lstatus-range pid p (All-under IsLawfulProcess pid p s.processes lawful.processes found) (process-range s pid p h found)
+    lstatus-range pid p (All-under IsLawfulProcess pid p s.processes lawful.processes found)
+    (process-range s pid p h found)
 
-pub lwpstatus-of-range : (s : TracedSystem) (pid id : ℕ) (p : TracedProcess) (l : TracedLwp) → IsLawfulSystem s → IsInRange s → process_of s pid ≡ Some p → lwp_of p id ≡ Some l → IsLwpStatus (lwpstatus_of p id l)
+pub lwpstatus-of-range : (s : TracedSystem) (pid id : ℕ) (p : TracedProcess) (l : TracedLwp) → IsLawfulSystem s
+    → IsInRange s → process_of s pid ≡ Some p → lwp_of p id ≡ Some l → IsLwpStatus (lwpstatus_of p id l)
 unfolding IsShownLwp
 lwpstatus-of-range s pid id p l lawful h found there =
     let own = All-under IsLawfulProcess pid p s.processes lawful.processes found in
     let ranged = process-range s pid p h found in
-    lwpstatus-range pid p own ranged (id, l) (All-under (IsLawfulLwp p.next_lwp) id l p.lwps own.lwps there) (All-under LwpInRange id l p.lwps ranged.lwps there)
+    lwpstatus-range pid p own ranged (id, l) (All-under (IsLawfulLwp p.next_lwp) id l p.lwps own.lwps there)
+    (All-under LwpInRange id l p.lwps ranged.lwps there)

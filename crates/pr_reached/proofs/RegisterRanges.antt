@@ -53,7 +53,10 @@ pub register-at : (regs : List ℕ) (i : ℕ) → AreRegisters regs → IsWord (
 register-at regs i h = word_at regs i h.words
 
 pub registers-set : (regs : List ℕ) (i v : ℕ) → IsWord v → AreRegisters regs → AreRegisters (set regs i v)
-registers-set regs i v fits h = record { words = All-set IsWord regs i v fits h.words; count = length-set regs i v ∙ h.count }
+registers-set regs i v fits h = record {
+  words = All-set IsWord regs i v fits h.words;
+  count = length-set regs i v ∙ h.count;
+}
 
 pub moved_on-registers : (regs : List ℕ) → AreRegisters regs → AreRegisters (moved_on regs)
 unfolding moved_on
@@ -70,17 +73,21 @@ arguments-words regs h = record {
   count = length-take 6 (drop 1 regs) ∙ (let size = length-drop 1 regs in let whole = h.count in omega arith);
 }
 
-with_result-registers : (result : Res) (regs : List ℕ) → IsResult result → AreRegisters regs → AreRegisters (with_result result regs)
+with_result-registers : (result : Res) (regs : List ℕ) → IsResult result → AreRegisters regs
+    → AreRegisters (with_result result regs)
 unfolding with_result
-with_result-registers (Value v) regs fits h = registers-set (set regs 0 v) 7 0 (omega arith) (registers-set regs 0 v fits h)
-with_result-registers (Error e) regs fits h = registers-set (set regs 0 0) 7 (errno_number e) (errno-word e) (registers-set regs 0 0 (omega arith) h)
+with_result-registers (Value v) regs fits h =
+    registers-set (set regs 0 v) 7 0 (omega arith) (registers-set regs 0 v fits h)
+with_result-registers (Error e) regs fits h =
+    registers-set (set regs 0 0) 7 (errno_number e) (errno-word e) (registers-set regs 0 0 (omega arith) h)
 with_result-registers Ended regs fits h = h
 
 pub result_0-registers : (regs : List ℕ) → AreRegisters regs → AreRegisters (with_result (Value 0) regs)
 result_0-registers regs h = with_result-registers (Value 0) regs (omega arith) h
 
 -- a result is stored, but for that of sigreturn and that of an exec
-pub stored-registers : (call : Sysno) (result : Res) (regs : List ℕ) → IsResult result → AreRegisters regs → AreRegisters (stored call result regs)
+pub stored-registers : (call : Sysno) (result : Res) (regs : List ℕ) → IsResult result → AreRegisters regs
+    → AreRegisters (stored call result regs)
 unfolding stored
 stored-registers Sigreturn (Value v) regs fits h = h
 stored-registers Exec (Value v) regs fits h = h

@@ -76,31 +76,83 @@ IsMoveInRange move.drops = Unit {0}
 IsMoveInRange (move.catches frames regs held) = All IsFrameInRange frames × AreRegisters regs × IsSignalSet held
 
 -- an lwp with other registers in another phase
-with_regs : (l : TracedLwp) (regs : List ℕ) (phase : Phase) → AreRegisters regs → IsPhaseInRange phase → IsLwpInRange l → IsLwpInRange (record l { regs = regs; phase = phase })
-with_regs l regs phase is_regs it h = record { regs = is_regs; held = h.held; frames = h.frames; pending = h.pending; current = h.current; phase = it }
+with_regs : (l : TracedLwp) (regs : List ℕ) (phase : Phase) → AreRegisters regs → IsPhaseInRange phase → IsLwpInRange l
+    → IsLwpInRange (record l { regs = regs; phase = phase })
+with_regs l regs phase is_regs it h = record {
+  regs = is_regs;
+  held = h.held;
+  frames = h.frames;
+  pending = h.pending;
+  current = h.current;
+  phase = it;
+}
 
 pub moved-range : (m : Move) → IsMoveInRange m → KeepsLwp (moved traced m)
 unfolding moved traced stopped_as_directed fault_incurred fault_posted step_taken call_over
 moved-range move.stays it l h = h
 moved-range move.stops it l h = with_marks l _ h
-moved-range (move.posts f address) it l h = record { regs = h.regs; held = h.held; frames = h.frames; pending = added-words (fault_signal f) (of_fault address) l.pending it h.pending; current = h.current; phase = tt }
+moved-range (move.posts f address) it l h = record {
+  regs = h.regs;
+  held = h.held;
+  frames = h.frames;
+  pending = added-words (fault_signal f) (of_fault address) l.pending it h.pending;
+  current = h.current;
+  phase = tt;
+}
 moved-range move.returns it l h = in_phase l User tt h
-moved-range (move.runs regs) it l h = record { regs = it; held = h.held; frames = h.frames; pending = h.pending; current = h.current; phase = h.phase }
+moved-range (move.runs regs) it l h = record {
+  regs = it;
+  held = h.held;
+  frames = h.frames;
+  pending = h.pending;
+  current = h.current;
+  phase = h.phase;
+}
 moved-range (move.enters call regs) it l h = with_regs l regs (Entered call) it tt h
 moved-range (move.incurs f address) it l h = in_phase l (Faulted f address) it h
-moved-range (move.traps f address regs) it l h = record { regs = it.1; held = h.held; frames = h.frames; pending = h.pending; current = h.current; phase = it.0 }
-moved-range (move.leaves call args result) it l h = record { regs = stored-registers call result l.regs it.1 h.regs; held = h.held; frames = h.frames; pending = h.pending; current = h.current; phase = it }
+moved-range (move.traps f address regs) it l h = record {
+  regs = it.1;
+  held = h.held;
+  frames = h.frames;
+  pending = h.pending;
+  current = h.current;
+  phase = it.0;
+}
+moved-range (move.leaves call args result) it l h = record {
+  regs = stored-registers call result l.regs it.1 h.regs;
+  held = h.held;
+  frames = h.frames;
+  pending = h.pending;
+  current = h.current;
+  phase = it;
+}
 moved-range (move.sleeps call args since) it l h = in_phase l (Asleep call args since) it h
 moved-range (move.takes c own) it l h = record {
   regs = h.regs;
   held = h.held;
   frames = h.frames;
-  pending = choice HaveWords own (without_one c.signal l.pending) l.pending (λ stands. taken-words c.signal l.pending h.pending) (λ shared. h.pending);
+  pending =
+      choice HaveWords own (without_one c.signal l.pending) l.pending
+      (λ stands. taken-words c.signal l.pending h.pending) (λ shared. h.pending);
   current = it;
   phase = h.phase;
 }
-moved-range move.drops it l h = record { regs = h.regs; held = h.held; frames = h.frames; pending = h.pending; current = tt; phase = h.phase }
-moved-range (move.catches frames regs held) it l h = record { regs = it.1; held = it.2; frames = it.0; pending = h.pending; current = tt; phase = tt }
+moved-range move.drops it l h = record {
+  regs = h.regs;
+  held = h.held;
+  frames = h.frames;
+  pending = h.pending;
+  current = tt;
+  phase = h.phase;
+}
+moved-range (move.catches frames regs held) it l h = record {
+  regs = it.1;
+  held = it.2;
+  frames = it.0;
+  pending = h.pending;
+  current = tt;
+  phase = tt;
+}
 
 -- ---- transitions
 
@@ -144,14 +196,16 @@ default-range default.Stop = tt
 action-range : (g : Sig) (d : ℕ) → IsWord d → IsActionInRange (action_of g d)
 unfolding action_of
 action-range g d fits =
-    choice IsActionInRange (ltb 1 d) _ _ (λ caught. fits) (λ other. choice IsActionInRange (eqb d 1) _ _ (λ ignored. tt) (λ default. default-range (default_action g)))
+    choice IsActionInRange (ltb 1 d) _ _ (λ caught. fits)
+    (λ other. choice IsActionInRange (eqb d 1) _ _ (λ ignored. tt) (λ default. default-range (default_action g)))
 
 -- what a record can hold of a signal's information is words
 record IsTaken (c : Current) : Type 0 where
   info : IsInfo c.info
   value : HasWord c.info
 
-handler-registers : (c : Current) (handler : ℕ) (regs : List ℕ) → IsTaken c → IsWord handler → AreRegisters regs → AreRegisters (handler_registers c handler regs)
+handler-registers : (c : Current) (handler : ℕ) (regs : List ℕ) → IsTaken c → IsWord handler → AreRegisters regs
+    → AreRegisters (handler_registers c handler regs)
 unfolding handler_registers
 handler-registers c handler regs it fits h =
     let code = it.info.code in
@@ -167,31 +221,40 @@ handler-registers c handler regs it fits h =
 
 handler-held : (c : Current) (held : ℕ) → IsSignalSet held → IsSignalSet (handler_held c held)
 unfolding handler_held
-handler-held c held it = let range = signal_number-range c.signal in with_number-lt signal_count held (signal_number c.signal) it range.0 range.1
+handler-held c held it =
+    let range = signal_number-range c.signal in
+    with_number-lt signal_count held (signal_number c.signal) it range.0 range.1
 
 -- ---- the rows
 
-module _ (s : TracedSystem) (pid : ℕ) (p : TracedProcess) (id : ℕ) (l : TracedLwp) (a : IsActing s pid p id l) (h : IsInRange s) where
+module _ (s : TracedSystem) (pid : ℕ) (p : TracedProcess) (id : ℕ) (l : TracedLwp) (a : IsActing s pid p id l)
+    (h : IsInRange s) where
   own-regs : AreRegisters l.regs
   own-regs = (acting-lwp s pid p id l a h).regs
 
   store-range : (store : Option Store) → IsStoreIf store → All IsChangeInRange (stored_in p.space store)
   unfolding stored_in
   store-range None it = All-nil IsChangeInRange
-  store-range (Some store) it = one (space_is (with_bytes store.at store.bytes p.space)) (with_bytes-range store.at store.bytes it.bytes p.space (acting-process s pid p id l a h).space)
+  store-range (Some store) it =
+      one (space_is (with_bytes store.at store.bytes p.space))
+      (with_bytes-range store.at store.bytes it.bytes p.space (acting-process s pid p id l a h).space)
 
-  trap-range : (f : Flt) (address : ℕ) (regs : List ℕ) (store : Option Store) → IsWord address → AreRegisters regs → IsStoreIf store → IsTransitionInRange (trapped f address p.space regs store)
+  trap-range : (f : Flt) (address : ℕ) (regs : List ℕ) (store : Option Store) → IsWord address → AreRegisters regs
+      → IsStoreIf store → IsTransitionInRange (trapped f address p.space regs store)
   unfolding trapped
-  trap-range f address regs store fits is_regs it = changes (stored_in p.space store) (move.traps f address regs) (store-range store it) (fits, is_regs)
+  trap-range f address regs store fits is_regs it =
+      changes (stored_in p.space store) (move.traps f address regs) (store-range store it) (fits, is_regs)
 
   executed-range : (e : InstructionEffect) → IsInstructionEffect e → IsRowInRange (executed_row p l e)
   unfolding executed_row ran_row entered_row incurred_row watched_row ran entered incurred
   executed-range (instruction.runs regs store) it =
-      choice IsRowInRange l.control.step _ _ (λ marked. trap-range Trace (pc_of regs) regs store (register-at regs 10 it.0) it.0 it.1)
+      choice IsRowInRange l.control.step _ _
+      (λ marked. trap-range Trace (pc_of regs) regs store (register-at regs 10 it.0) it.0 it.1)
       (λ plain. changes (stored_in p.space store) (move.runs regs) (store-range store it.1) it.0)
   executed-range (instruction.calls call regs) it = moves (move.enters call regs) it
   executed-range (instruction.faults f address) it = moves (move.incurs f address) it
-  executed-range (instruction.runs_into_watch address regs store) it = trap-range Watch address regs store it.0 it.1 it.2
+  executed-range (instruction.runs_into_watch address regs store) it =
+      trap-range Watch address regs store it.0 it.1 it.2
 
   handled-range : (c : Current) (handler : ℕ) → IsTaken c → IsWord handler → IsTransitionInRange (handled l c handler)
   unfolding handled
@@ -199,8 +262,15 @@ module _ (s : TracedSystem) (pid : ℕ) (p : TracedProcess) (id : ℕ) (l : Trac
       let own = acting-lwp s pid p id l a h in
       let back : Frame = record { regs = l.regs; held = l.held } in
       choice IsTransitionInRange (ltb (length l.frames) frame_limit) _ _
-      (λ room. moves (move.catches (with_frame l.regs l.held l.frames) (handler_registers c handler l.regs) (handler_held c l.held))
-      (All-append IsFrameInRange l.frames (back ∷ []) own.frames (All-cons IsFrameInRange back [] (record { regs = own.regs; held = own.held }) (All-nil IsFrameInRange)), handler-registers c handler l.regs it fits own.regs, handler-held c l.held own.held))
+      (λ room. moves
+      (move.catches (with_frame l.regs l.held l.frames) (handler_registers c handler l.regs)
+      (handler_held c l.held)) (
+        All-append IsFrameInRange l.frames (back ∷ []) own.frames
+            (All-cons IsFrameInRange back [] (record { regs = own.regs; held = own.held })
+            (All-nil IsFrameInRange)),
+        handler-registers c handler l.regs it fits own.regs,
+        handler-held c l.held own.held,
+      ))
       (λ full. ends (ends_process (signal_number Segv)) (signal-word Segv))
 
   -- what comes with the current signal
@@ -223,16 +293,20 @@ module _ (s : TracedSystem) (pid : ℕ) (p : TracedProcess) (id : ℕ) (l : Trac
   in_call-arguments woken call args since (kind.asleep_in_it at) =
       subst IsPhaseInRange at (acting-lwp s pid p id l a h).phase
 
-  performed-range : (woken : Bool) (call : Sysno) (args : List ℕ) (since : ℕ) (effect : Effect) → AreArguments args → IsEffectInRange effect → IsRowInRange (performed_row woken call args since effect)
+  performed-range : (woken : Bool) (call : Sysno) (args : List ℕ) (since : ℕ) (effect : Effect) → AreArguments args
+      → IsEffectInRange effect → IsRowInRange (performed_row woken call args since effect)
   unfolding performed_row performed
-  performed-range woken call args since (change.does result cs) given it = changes cs (move.leaves call args result) it.1 (given, it.0)
+  performed-range woken call args since (change.does result cs) given it =
+      changes cs (move.leaves call args result) it.1 (given, it.0)
   performed-range woken call args since change.sleeps given it = moves (move.sleeps call args since) given
   performed-range woken call args since (change.ends how) given it = ends how it
 
   returned-range : (call : Sysno) → IsRowInRange (returned_row p l call)
   unfolding returned_row returned
   returned-range call =
-      choice IsRowInRange l.control.step _ _ (λ marked. trap-range Trace (pc_of l.regs) l.regs None (register-at l.regs 10 own-regs) own-regs tt) (λ plain. moves move.returns tt)
+      choice IsRowInRange l.control.step _ _
+      (λ marked. trap-range Trace (pc_of l.regs) l.regs None (register-at l.regs 10 own-regs) own-regs tt)
+      (λ plain. moves move.returns tt)
 
   kind-range : (row : Row) → RowKind s pid p id l row → IsRowInRange row
   unfolding requested_row requested posted_row posted dropped job_stopped died handler_row own_taken_row

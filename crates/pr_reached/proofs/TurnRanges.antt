@@ -58,13 +58,16 @@ meeting-keeps (Some point) id x h =
     let stopped : TracedProcess = with_lwp id (stopped_at point) x in
     let ranged = keeps-one id (stopped_at point) (stopped-keeps point) x h in
     choice IsProcessInRange (is_traced x.control point) _ _
-    (λ traces. choice IsProcessInRange (has_flags stopped.control.modes async_mode) _ _ (λ alone. ranged) (λ all. all_directed-keeps stopped ranged))
+    (λ traces. choice IsProcessInRange (has_flags stopped.control.modes async_mode) _ _ (λ alone. ranged)
+    (λ all. all_directed-keeps stopped ranged))
     (λ passes. h)
 
 -- ---- a turn
 
-module _ (s : TracedSystem) (pid : ℕ) (p : TracedProcess) (id : ℕ) (l : TracedLwp) (a : IsActing s pid p id l) (h : IsInRange s) where
-  ended_if-range : (o : Option Ending) (t : TracedSystem) → IsEndingIf o → IsInRange t → IsInRange (ended_if traced pid p id l o t)
+module _ (s : TracedSystem) (pid : ℕ) (p : TracedProcess) (id : ℕ) (l : TracedLwp) (a : IsActing s pid p id l)
+    (h : IsInRange s) where
+  ended_if-range : (o : Option Ending) (t : TracedSystem) → IsEndingIf o → IsInRange t
+      → IsInRange (ended_if traced pid p id l o t)
   ended_if-range None t it ranged = ranged
   ended_if-range (Some how) t it ranged = ended-range t pid p id how it ranged
 
@@ -72,17 +75,24 @@ module _ (s : TracedSystem) (pid : ℕ) (p : TracedProcess) (id : ℕ) (l : Trac
   unfolding settled after_transition with_lwp_of
   settled-range row it =
       let changes = all_changed traced pid p id l row.transition.changes s in
-      let changed = all_changed-range pid p id l (acting-process s pid p id l a h) (acting-lwp s pid p id l a h) row.transition.changes s it.changes h in
+      let changed =
+      all_changed-range pid p id l (acting-process s pid p id l a h)
+      (acting-lwp s pid p id l a h) row.transition.changes s it.changes h in
       let moves = with_process pid (with_lwp id (moved traced row.transition.move)) changes in
-      let moved_too = changed-one changes pid (with_lwp id (moved traced row.transition.move)) (keeps-one id (moved traced row.transition.move) (moved-range row.transition.move it.move)) changed in
+      let moved_too =
+      changed-one changes pid (with_lwp id (moved traced row.transition.move))
+      (keeps-one id (moved traced row.transition.move) (moved-range row.transition.move it.move)) changed in
       let ends = ended_if traced pid p id l row.transition.ending moves in
       let ended_too = ended_if-range row.transition.ending moves it.ending moved_too in
       let counts = with_process pid (with_counted row.did row.begun) ends in
-      changed-one counts pid (after_meeting row.point id) (meeting-keeps row.point id) (changed-one ends pid (with_counted row.did row.begun) (counted-keeps row.did row.begun) ended_too)
+      changed-one counts pid (after_meeting row.point id) (meeting-keeps row.point id)
+      (changed-one ends pid (with_counted row.did row.begun) (counted-keeps row.did row.begun) ended_too)
 
-pub turn-range : (s : TracedSystem) (pid id : ℕ) (t : LwpTurn) → IsLawfulSystem s → IsInRange s → turn_of s pid id ≡ Some t → IsInRange t.system
+pub turn-range : (s : TracedSystem) (pid id : ℕ) (t : LwpTurn) → IsLawfulSystem s → IsInRange s
+    → turn_of s pid id ≡ Some t → IsInRange t.system
 turn-range s pid id t lawful h turn =
     let it = turn-taken s pid id t turn in
     let a = acting s pid id it.process it.lwp lawful it.live it.there in
     subst (λ (v : LwpTurn). IsInRange v.system) (sym it.is)
-    (settled-range s pid it.process id it.lwp a h (row_for s pid it.process id it.lwp) (row-range s pid it.process id it.lwp a h))
+    (settled-range s pid it.process id it.lwp a h (row_for s pid it.process id it.lwp)
+    (row-range s pid it.process id it.lwp a h))

@@ -67,12 +67,19 @@ instructions-one false = omega arith
 
 module _ (most : ℕ) where
   more : (e : ℕ × TracedProcess) → UsedWithin most e → UsedWithin (most + 1) e
-  more e it = record { calls = let few = it.calls in omega arith; signals = let few = it.signals in omega arith; faults = let few = it.faults in omega arith; instructions = let few = it.instructions in omega arith }
+  more e it = record {
+    calls = let few = it.calls in omega arith;
+    signals = let few = it.signals in omega arith;
+    faults = let few = it.faults in omega arith;
+    instructions = let few = it.instructions in omega arith;
+  }
 
   pub used-more : (s : TracedSystem) → HaveUsed most s → HaveUsed (most + 1) s
-  used-more s h = record { processes = All-weaker (UsedWithin most) (UsedWithin (most + 1)) more s.processes h.processes }
+  used-more s h =
+      record { processes = All-weaker (UsedWithin most) (UsedWithin (most + 1)) more s.processes h.processes }
 
-  counted-one : (did : Did) (begun : Bool) (x : TracedProcess) → IsUsedWithin most x.control.usage → IsUsedWithin (most + 1) (with_counted did begun x).control.usage
+  counted-one : (did : Did) (begun : Bool) (x : TracedProcess) → IsUsedWithin most x.control.usage
+      → IsUsedWithin (most + 1) (with_counted did begun x).control.usage
   unfolding with_counted counted
   counted-one did begun x it = record {
     calls = let few = it.calls in let one = calls-one did in omega arith;
@@ -81,32 +88,42 @@ module _ (most : ℕ) where
     instructions = let few = it.instructions in let one = instructions-one begun in omega arith;
   }
 
-  counted-used : (s : TracedSystem) (pid : ℕ) (did : Did) (begun : Bool) → HaveUsed most s → HaveUsed (most + 1) (with_process pid (with_counted did begun) s)
+  counted-used : (s : TracedSystem) (pid : ℕ) (did : Did) (begun : Bool) → HaveUsed most s
+      → HaveUsed (most + 1) (with_process pid (with_counted did begun) s)
   unfolding with_process
   counted-used s pid did begun h = record {
     processes =
         All-change_under (UsedWithin (most + 1)) pid (with_counted did begun) s.processes
-        (λ x there it. counted-one did begun x (All-under (UsedWithin most) pid x s.processes h.processes there)) (used-more s h).processes;
+        (λ x there it. counted-one did begun x (All-under (UsedWithin most) pid x s.processes h.processes there))
+        (used-more s h).processes;
   }
 
-  ended_if-used : (pid : ℕ) (p : TracedProcess) (id : ℕ) (l : TracedLwp) (o : Option Ending) (t : TracedSystem) → HaveUsed most t → HaveUsed most (ended_if traced pid p id l o t)
+  ended_if-used : (pid : ℕ) (p : TracedProcess) (id : ℕ) (l : TracedLwp) (o : Option Ending) (t : TracedSystem)
+      → HaveUsed most t → HaveUsed most (ended_if traced pid p id l o t)
   ended_if-used pid p id l None t h = h
   ended_if-used pid p id l (Some how) t h = ended-used most t pid p id how h
 
-  settled-used : (s : TracedSystem) (pid : ℕ) (p : TracedProcess) (id : ℕ) (l : TracedLwp) (row : Row) → HaveUsed most s → HaveUsed (most + 1) (settled s pid p id l row).system
+  settled-used : (s : TracedSystem) (pid : ℕ) (p : TracedProcess) (id : ℕ) (l : TracedLwp) (row : Row)
+      → HaveUsed most s → HaveUsed (most + 1) (settled s pid p id l row).system
   unfolding settled after_transition with_lwp_of
   settled-used s pid p id l row h =
       let changes = all_changed traced pid p id l row.transition.changes s in
       let moves = with_process pid (with_lwp id (moved traced row.transition.move)) changes in
-      let moves_too = used-one most changes pid (with_lwp id (moved traced row.transition.move)) (lwp-keeps most id (moved traced row.transition.move)) (all_changed-used most pid p id l row.transition.changes s h) in
+      let moves_too =
+      used-one most changes pid (with_lwp id (moved traced row.transition.move))
+      (lwp-keeps most id (moved traced row.transition.move))
+      (all_changed-used most pid p id l row.transition.changes s h) in
       let ends = ended_if traced pid p id l row.transition.ending moves in
       let ends_too = ended_if-used pid p id l row.transition.ending moves moves_too in
-      used-one (most + 1) (with_process pid (with_counted row.did row.begun) ends) pid (after_meeting row.point id) (meeting-keeps (most + 1) row.point id) (counted-used ends pid row.did row.begun ends_too)
+      used-one (most + 1) (with_process pid (with_counted row.did row.begun) ends) pid (after_meeting row.point id)
+      (meeting-keeps (most + 1) row.point id) (counted-used ends pid row.did row.begun ends_too)
 
-  turn-used : (s : TracedSystem) (pid id : ℕ) (t : LwpTurn) → HaveUsed most s → turn_of s pid id ≡ Some t → HaveUsed (most + 1) t.system
+  turn-used : (s : TracedSystem) (pid id : ℕ) (t : LwpTurn) → HaveUsed most s → turn_of s pid id ≡ Some t
+      → HaveUsed (most + 1) t.system
   turn-used s pid id t h turn =
       let it = turn-taken s pid id t turn in
-      subst (λ (v : LwpTurn). HaveUsed (most + 1) v.system) (sym it.is) (settled-used s pid it.process id it.lwp (row_for s pid it.process id it.lwp) h)
+      subst (λ (v : LwpTurn). HaveUsed (most + 1) v.system) (sym it.is)
+      (settled-used s pid it.process id it.lwp (row_for s pid it.process id it.lwp) h)
 
   -- ---- calls
 
@@ -139,21 +156,25 @@ module _ (most : ℕ) where
     called-used by c None is = h
     called-used by c (Some a) is = edited-used s by c a.state (call-edit s by c a is) h
 
-    turned-used : (o : Option LwpTurn) → ((t : LwpTurn) → o ≡ Some t → HaveUsed (most + 1) t.system) → HaveUsed (most + 1) (after_turn s o).system
+    turned-used : (o : Option LwpTurn) → ((t : LwpTurn) → o ≡ Some t → HaveUsed (most + 1) t.system)
+        → HaveUsed (most + 1) (after_turn s o).system
     turned-used None it = used-more s.system h
     turned-used (Some t) it = it t refl
 
     -- whatever an entry is
-    pub entry-used : (actor : Actor) (it : Act) → HaveUsed (most + 1) (after s (record { actor = actor; act = it })).system
+    pub entry-used : (actor : Actor) (it : Act)
+        → HaveUsed (most + 1) (after s (record { actor = actor; act = it })).system
     unfolding after
     entry-used (Controller k) (act.Call c r) = used-more _ (called-used k c (answer_to s k c) refl)
-    entry-used (Lwp p l) (act.Turn t) = turned-used (turn_of s.system p l) (λ turn taken. turn-used s.system p l turn h taken)
+    entry-used (Lwp p l) (act.Turn t) =
+        turned-used (turn_of s.system p l) (λ turn taken. turn-used s.system p l turn h taken)
     entry-used Clock (act.Tick moment) = record { processes = (used-more s.system h).processes }
     entry-used _ _ = used-more s.system h
 
 -- ---- histories
 
-pub history-used : (most : ℕ) (s : TracedState) (h : List Entry) → HaveUsed most s.system → HaveUsed (most + length h) (state_after s h).system
+pub history-used : (most : ℕ) (s : TracedState) (h : List Entry) → HaveUsed most s.system
+    → HaveUsed (most + length h) (state_after s h).system
 history-used most s [] used = subst (λ n. HaveUsed n s.system) (omega arith) used
 history-used most s (e ∷ h) used =
     let rest = history-used (most + 1) (after s e) h (entry-used most s used e.actor e.act) in
@@ -167,20 +188,24 @@ spawned_at-used (Some program) s h = spawned-used 0 s program false h
 spawns-used : (spawns : List ℕ) (s : TracedSystem) → HaveUsed 0 s → HaveUsed 0 (with_spawns spawns s)
 unfolding with_spawns
 spawns-used [] s h = h
-spawns-used (place ∷ spawns) s h = spawns-used spawns (spawned_at (slice_get s.programs place) s) (spawned_at-used (slice_get s.programs place) s h)
+spawns-used (place ∷ spawns) s h =
+    spawns-used spawns (spawned_at (slice_get s.programs place) s) (spawned_at-used (slice_get s.programs place) s h)
 
 bare-used : (programs : List Program) (files : List StoredFile) → HaveUsed 0 (bare_system programs files)
 unfolding bare_system system_process bare_process traced nothing_set
-bare-used programs files = record { processes = All-cons (UsedWithin 0) (0, system_process) [] (nothing-used 0) (All-nil (UsedWithin 0)) }
+bare-used programs files =
+    record { processes = All-cons (UsedWithin 0) (0, system_process) [] (nothing-used 0) (All-nil (UsedWithin 0)) }
 
 -- nothing is used at first
-pub first-used : (programs : List Program) (files : List StoredFile) (spawns : List ℕ) → HaveUsed 0 (first_state programs files spawns).system
+pub first-used : (programs : List Program) (files : List StoredFile) (spawns : List ℕ)
+    → HaveUsed 0 (first_state programs files spawns).system
 unfolding first_state
 first-used programs files spawns = spawns-used spawns (bare_system programs files) (bare-used programs files)
 
 -- ---- the record of usage
 
-pub usage-range : (most : ℕ) (s : TracedSystem) (pid : ℕ) (p : TracedProcess) → IsWord most → IsLawfulSystem s → HaveUsed most s → process_of s pid ≡ Some p → IsUsage (usage_of pid p)
+pub usage-range : (most : ℕ) (s : TracedSystem) (pid : ℕ) (p : TracedProcess) → IsWord most → IsLawfulSystem s
+    → HaveUsed most s → process_of s pid ≡ Some p → IsUsage (usage_of pid p)
 unfolding usage_of
 usage-range most s pid p fits lawful h found =
     let it = All-under (UsedWithin most) pid p s.processes h.processes found in

@@ -26,7 +26,12 @@ use Rattle.pr_reached.specs.Used.{HaveUsed, IsUsedWithin}
 -- What processes have used grows by at most one of each with a turn, and else stays.
 
 pub nothing-used : (most : ℕ) → IsUsedWithin most nothing_used
-nothing-used most = record { calls = omega arith; signals = omega arith; faults = omega arith; instructions = omega arith }
+nothing-used most = record {
+  calls = omega arith;
+  signals = omega arith;
+  faults = omega arith;
+  instructions = omega arith;
+}
 
 module _ (most : ℕ) where
   abbrev pub UsedWithin : ℕ × TracedProcess → Type 0
@@ -40,9 +45,11 @@ module _ (most : ℕ) where
   abbrev pub Keeps : (TracedProcess → TracedProcess) → Type 0
   Keeps f = (x : TracedProcess) → IsUsed x → IsUsed (f x)
 
-  pub used-one : (s : TracedSystem) (pid : ℕ) (f : TracedProcess → TracedProcess) → Keeps f → HaveUsed most s → HaveUsed most (with_process pid f s)
+  pub used-one : (s : TracedSystem) (pid : ℕ) (f : TracedProcess → TracedProcess) → Keeps f → HaveUsed most s
+      → HaveUsed most (with_process pid f s)
   unfolding with_process
-  used-one s pid f keeps h = record { processes = All-change_under UsedWithin pid f s.processes (λ x there it. keeps x it) h.processes }
+  used-one s pid f keeps h =
+      record { processes = All-change_under UsedWithin pid f s.processes (λ x there it. keeps x it) h.processes }
 
   pub used-made : (s : TracedSystem) (p : TracedProcess) → IsUsed p → HaveUsed most s → HaveUsed most (with_made p s)
   unfolding with_made
@@ -61,7 +68,9 @@ module _ (most : ℕ) where
   signalled-keeps target g info x h = choice IsUsed (is_none x.ended) _ _ (λ live. pends target (deletes h)) (λ over. h)
     where
       deletes : IsUsed x → IsUsed (with_deletions g x)
-      deletes it = choice IsUsed (deleted_by g == 0) _ _ (λ none. it) (λ some. choice IsUsed (ends_job_stop g) _ _ (λ ends. it) (λ stays. it))
+      deletes it =
+          choice IsUsed (deleted_by g == 0) _ _ (λ none. it)
+          (λ some. choice IsUsed (ends_job_stop g) _ _ (λ ends. it) (λ stays. it))
 
       pends : (o : Option ℕ) → IsUsed (with_deletions g x) → IsUsed (with_pending o g info (with_deletions g x))
       pends None it = it
@@ -69,18 +78,23 @@ module _ (most : ℕ) where
 
   -- ---- beginnings and ends
 
-  pub spawned-used : (s : TracedSystem) (program : Program) (held : Bool) → HaveUsed most s → HaveUsed most (with_spawned traced program held s)
+  pub spawned-used : (s : TracedSystem) (program : Program) (held : Bool) → HaveUsed most s
+      → HaveUsed most (with_spawned traced program held s)
   unfolding with_spawned new_process bare_process traced nothing_set
   spawned-used s program held h = used-made s (new_process traced program s.clock held) (nothing-used most) h
 
   child-used : (c : TracedControl) → IsUsedWithin most (child_control c).usage
   unfolding child_control nothing_set
-  child-used c = choice (λ (x : TracedControl). IsUsedWithin most x.usage) (has_flags c.modes fork_mode) _ _ (λ forks. nothing-used most) (λ alone. nothing-used most)
+  child-used c =
+      choice (λ (x : TracedControl). IsUsedWithin most x.usage) (has_flags c.modes fork_mode) _ _
+      (λ forks. nothing-used most) (λ alone. nothing-used most)
 
-  forked-used : (birth : Birth) (s : TracedSystem) (pid : ℕ) (p : TracedProcess) (l : TracedLwp) (args : List ℕ) → HaveUsed most s → HaveUsed most (with_child traced birth pid p l args s)
+  forked-used : (birth : Birth) (s : TracedSystem) (pid : ℕ) (p : TracedProcess) (l : TracedLwp) (args : List ℕ)
+      → HaveUsed most s → HaveUsed most (with_child traced birth pid p l args s)
   unfolding with_child forked traced
   forked-used birth s pid p l args h =
-      used-made (record s { files = with_all_shared s.files p.fds }) (forked traced birth pid p l args s.clock) (child-used p.control) (record { processes = h.processes })
+      used-made (record s { files = with_all_shared s.files p.fds }) (forked traced birth pid p l args s.clock)
+      (child-used p.control) (record { processes = h.processes })
 
   zombie-keeps : (status : ℕ) → Keeps (zombie traced status)
   unfolding zombie traced zombie_control
@@ -90,19 +104,25 @@ module _ (most : ℕ) where
   unfolding orphaned
   orphaned-keeps gone x h = choice IsUsed (x.parent == gone) _ _ (λ own. h) (λ other. h)
 
-  pub this_ended-used : (s : TracedSystem) (pid : ℕ) (p : TracedProcess) (status : ℕ) → HaveUsed most s → HaveUsed most (with_this_ended traced pid p status s)
+  pub this_ended-used : (s : TracedSystem) (pid : ℕ) (p : TracedProcess) (status : ℕ) → HaveUsed most s
+      → HaveUsed most (with_this_ended traced pid p status s)
   unfolding with_this_ended with_parent_signalled
   this_ended-used s pid p status h =
-      let over : All UsedWithin (change_under pid (zombie traced status) s.processes) = All-change_under UsedWithin pid (zombie traced status) s.processes (λ x there it. zombie-keeps status x it) h.processes in
+      let over : All UsedWithin (change_under pid (zombie traced status) s.processes) =
+      All-change_under UsedWithin pid (zombie traced status) s.processes
+      (λ x there it. zombie-keeps status x it) h.processes in
       let left = All-map_each UsedWithin UsedWithin (orphaned pid) (λ e it. orphaned-keeps pid e.1 it) _ over in
       choice (HaveUsed most) (p.parent == 0) _ _ (λ first. record { processes = left })
-      (λ other. used-one _ p.parent (signalled None Cld (of_child pid status)) (signalled-keeps None Cld (of_child pid status)) (record { processes = left }))
+      (λ other. used-one _ p.parent (signalled None Cld (of_child pid status))
+      (signalled-keeps None Cld (of_child pid status)) (record { processes = left }))
 
-  ended_if-used : (pid status : ℕ) (s : TracedSystem) (o : Option TracedProcess) → HaveUsed most s → HaveUsed most (ended_if_live traced pid status s o)
+  ended_if-used : (pid status : ℕ) (s : TracedSystem) (o : Option TracedProcess) → HaveUsed most s
+      → HaveUsed most (ended_if_live traced pid status s o)
   ended_if-used pid status s None h = h
   ended_if-used pid status s (Some p) h = this_ended-used s pid p status h
 
-  pub generated-used : (s : TracedSystem) (pid : ℕ) (target : Option ℕ) (g : Sig) (info : Info) → HaveUsed most s → HaveUsed most (generated traced pid target g info s)
+  pub generated-used : (s : TracedSystem) (pid : ℕ) (target : Option ℕ) (g : Sig) (info : Info) → HaveUsed most s
+      → HaveUsed most (generated traced pid target g info s)
   unfolding generated with_ended
   generated-used s pid target g info h =
       choice (HaveUsed most) (is_kill g) _ _ (λ kill. ended_if-used pid (signal_number g) s (live_process s pid) h)
@@ -112,11 +132,13 @@ module _ (most : ℕ) where
   unfolding without_lwp
   without_lwp-keeps id x h = h
 
-  pub ended-used : (s : TracedSystem) (pid : ℕ) (p : TracedProcess) (id : ℕ) (how : Ending) → HaveUsed most s → HaveUsed most (ended traced pid p id how s)
+  pub ended-used : (s : TracedSystem) (pid : ℕ) (p : TracedProcess) (id : ℕ) (how : Ending) → HaveUsed most s
+      → HaveUsed most (ended traced pid p id how s)
   unfolding ended with_lwp_ended
   ended-used s pid p id (ends_process status) h = this_ended-used s pid p status h
   ended-used s pid p id ends_lwp h =
-      choice (HaveUsed most) (length p.lwps == 1) _ _ (λ last. this_ended-used s pid p 0 h) (λ more. used-one s pid (without_lwp id) (without_lwp-keeps id) h)
+      choice (HaveUsed most) (length p.lwps == 1) _ _ (λ last. this_ended-used s pid p 0 h)
+      (λ more. used-one s pid (without_lwp id) (without_lwp-keeps id) h)
 
   -- ---- changes
 
@@ -151,22 +173,32 @@ module _ (most : ℕ) where
   module _ (pid : ℕ) (p : TracedProcess) (id : ℕ) (l : TracedLwp) where
     changed-used : (c : Change) (s : TracedSystem) → HaveUsed most s → HaveUsed most (changed traced pid p id l c s)
     unfolding changed with_reaped
-    changed-used (files_are files fds) s h = used-one (record s { files = files }) pid (with_fds fds) (fds-keeps fds) (record { processes = h.processes })
+    changed-used (files_are files fds) s h =
+        used-one (record s { files = files }) pid (with_fds fds) (fds-keeps fds) (record { processes = h.processes })
     changed-used (space_is space) s h = used-one s pid (with_space space) (space-keeps space) h
-    changed-used (signals target g info) s h = choice (HaveUsed most) (is_kill g && (target == pid)) _ _ (λ itself. h) (λ other. generated-used s target None g info h)
-    changed-used (signals_itself g info) s h = choice (HaveUsed most) (is_kill g) _ _ (λ kill. h) (λ other. generated-used s pid (Some id) g info h)
+    changed-used (signals target g info) s h =
+        choice (HaveUsed most) (is_kill g && (target == pid)) _ _ (λ itself. h)
+        (λ other. generated-used s target None g info h)
+    changed-used (signals_itself g info) s h =
+        choice (HaveUsed most) (is_kill g) _ _ (λ kill. h) (λ other. generated-used s pid (Some id) g info h)
     changed-used (takes_shared g) s h = used-one s pid (with_shared_taken g) (shared-keeps g) h
     changed-used (job_stops g) s h = used-one s pid (with_job_stop g) (job-keeps g) h
     changed-used (disposition_is g d) s h = used-one s pid (with_disposition_of g d) (disposition-keeps g d) h
     changed-used (held_is held) s h = used-one s pid (with_lwp id _) (lwp-keeps id _) h
     changed-used (resumes frame frames) s h = used-one s pid (with_lwp id _) (lwp-keeps id _) h
-    changed-used (forks birth args) s h = choice (HaveUsed most) (s.made == pid) _ _ (λ own_id. h) (λ apart. forked-used birth s pid p l args h)
-    changed-used (reaps child) s h = choice (HaveUsed most) (child == pid) _ _ (λ itself. h) (λ apart. record { processes = All-without_id UsedWithin child s.processes h.processes })
-    changed-used (becomes program) s h = used-one s pid (with_program traced id l program) (program-keeps id l program) h
-    changed-used (makes_lwp new regs held) s h = used-one s pid (with_new_lwp traced new regs held) (new-keeps new held regs) h
+    changed-used (forks birth args) s h =
+        choice (HaveUsed most) (s.made == pid) _ _ (λ own_id. h) (λ apart. forked-used birth s pid p l args h)
+    changed-used (reaps child) s h =
+        choice (HaveUsed most) (child == pid) _ _ (λ itself. h)
+        (λ apart. record { processes = All-without_id UsedWithin child s.processes h.processes })
+    changed-used (becomes program) s h =
+        used-one s pid (with_program traced id l program) (program-keeps id l program) h
+    changed-used (makes_lwp new regs held) s h =
+        used-one s pid (with_new_lwp traced new regs held) (new-keeps new held regs) h
     changed-used (suspends other suspended) s h = used-one s pid (with_lwp other _) (lwp-keeps other _) h
 
-    pub all_changed-used : (cs : List Change) (s : TracedSystem) → HaveUsed most s → HaveUsed most (all_changed traced pid p id l cs s)
+    pub all_changed-used : (cs : List Change) (s : TracedSystem) → HaveUsed most s
+        → HaveUsed most (all_changed traced pid p id l cs s)
     unfolding all_changed
     all_changed-used [] s h = h
     all_changed-used (c ∷ cs) s h = all_changed-used cs (changed traced pid p id l c s) (changed-used c s h)
@@ -176,4 +208,5 @@ module _ (most : ℕ) where
   unfolding after_meeting with_stop_at with_others_directed with_lwp with_all_directed
   meeting-keeps None id x h = h
   meeting-keeps (Some point) id x h =
-      choice IsUsed (is_traced x.control point) _ _ (λ traces. choice IsUsed (has_flags x.control.modes async_mode) _ _ (λ alone. h) (λ all. h)) (λ passes. h)
+      choice IsUsed (is_traced x.control point) _ _
+      (λ traces. choice IsUsed (has_flags x.control.modes async_mode) _ _ (λ alone. h) (λ all. h)) (λ passes. h)

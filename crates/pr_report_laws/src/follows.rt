@@ -18,7 +18,7 @@ ghost use Rattle.pr_report_laws.specs.Freed.{IsInterruptedFreeing, IsSetFree, Re
 /// report, what was opened of the child is closed, file by file, and the parent runs. Or truss was interrupted. Where
 /// its exchanges end before all this, the call that comes then is due; where truss has finished none is. This is so
 /// whatever it was replied.
-#[tactic(auto, using(crate::proofs::FollowLaws::follows))]
+#[tactic(auto, using(crate::proofs::FollowedChildren::FollowLaws::follows))]
 pub fn each_child_that_was_read_is_handled()
     ensures { (o : Options) (xs before later : List Exchange) (x : Exchange) (place child : ℕ) → o.follow ≡ true
         → Makes (first_truss o) xs → xs ≡ before ++ x ∷ later
@@ -38,7 +38,7 @@ pub fn no_opening_of_a_child_is_interrupted()
 /// opens the child's control file, sets PR_RLC and closes it. Where the open is refused, that is the next report; an
 /// interrupted one is not reported. Then the files of the process are closed. Where its exchanges end before all this,
 /// the call that comes then is due. This is so whatever it was replied.
-#[tactic(auto, using(crate::proofs::FreedLaws::frees))]
+#[tactic(auto, using(crate::proofs::FollowedChildren::FreedLaws::frees))]
 pub fn each_child_that_was_read_while_leaving_is_set_free()
     ensures { (o : Options) (xs before later : List Exchange) (x : Exchange) (child : ℕ) → o.follow ≡ true
         → Makes (first_truss o) xs → xs ≡ before ++ x ∷ later

@@ -13,7 +13,7 @@ ghost use Rattle.pr_truss_laws.specs.Runs.{IsTrussRun};
 /// makes its calls: the text that truss has reported with an event is what stood in the memory of the process, where
 /// the line of the event asks for it, in the state in which truss read it, which was after its report before and before
 /// this one. An event whose line asks for none has no text.
-#[tactic(auto, using(crate::proofs::MemoryReads::memories))]
+#[tactic(auto, using(crate::proofs::Memory::MemoryReads::memories))]
 pub fn the_text_of_an_event_is_what_stood_in_memory()
     ensures { (n k : ℕ) (o : Options) (s : TracedState) (h : List Entry) → IsTrussRun n k o s h
         → HaveTheirTexts k o s h (truss_at k o h).reports }
@@ -24,7 +24,7 @@ pub fn the_text_of_an_event_is_what_stood_in_memory()
 /// just those events of the process were selected that truss had reported when it read. And the text of the report is
 /// what stood in memory in the state right after that entry; or SIGKILL ended the process in between. What other
 /// controllers and other processes do does not matter.
-#[tactic(auto, using(crate::proofs::EventMemory::moments))]
+#[tactic(auto, using(crate::proofs::Memory::EventMemory::moments))]
 pub fn the_text_of_an_event_is_that_of_its_moment()
     ensures forks_left { (n k : ℕ) (o : Options) (pid : ℕ) (s : TracedState) (h : List Entry) → IsReached s
         → IsTrussRun n k o s h → HasBytes h → NamesNoChild o h → LeavesForks k o h

@@ -31,7 +31,7 @@ pub fn no_process_is_made_twice()
 /// where the last entry makes truss watch a process by the calls with which it opens the child of a fork: that process
 /// was made by a fork of this history, so no controller made it of a program; no lwp of it has had a turn in it, and so
 /// no event of it that the options select was logged before truss watches it.
-#[tactic(auto, using(crate::proofs::NewbornLaws::newborns))]
+#[tactic(auto, using(crate::proofs::NewbornChildren::NewbornLaws::newborns))]
 pub fn a_followed_child_does_nothing_before_it_is_watched()
     ensures forked { (n k : ℕ) (o : Options) (pid : ℕ) (s : TracedState) (before : List Entry) (e : Entry) → IsReached s
         → IsTrussRun n k o s (before ++ e ∷ []) → HasBytes (before ++ e ∷ []) → NamesNoChild o (before ++ e ∷ [])

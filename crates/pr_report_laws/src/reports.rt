@@ -17,7 +17,7 @@ ghost use Rattle.pr_truss_laws.specs.Runs.{IsTrussRun};
 /// The history is legal, from a state in which truss has nothing open, and truss makes its calls in it. Where children are
 /// followed, fork makes none of the processes that the options name, and between a fork and the opening of its child no
 /// other controller is granted a handle for writing of the child. What else other controllers do does not matter.
-#[tactic(auto, using(crate::proofs::Births::reports))]
+#[tactic(auto, using(crate::proofs::UnopenedChildren::Births::reports))]
 pub fn truss_shows_the_selected_events()
     ensures { (n k : ℕ) (o : Options) (pid : ℕ) (s : TracedState) (h : List Entry) → IsReached s → IsTrussRun n k o s h
         → HasBytes h → NamesNoChild o h → LeavesForks k o h → IsReported k o pid s h }
@@ -25,7 +25,7 @@ pub fn truss_shows_the_selected_events()
 
 /// The same of a process of which truss never got hold as the child of a fork, as of each that it was given, if fork did
 /// not make it: whatever becomes of the children of forks.
-#[tactic(auto, using(crate::proofs::Births::reports))]
+#[tactic(auto, using(crate::proofs::UnopenedChildren::Births::reports))]
 pub fn truss_shows_the_selected_events_of_what_it_never_followed()
     ensures { (n k : ℕ) (o : Options) (pid : ℕ) (s : TracedState) (h : List Entry) → IsReached s → IsTrussRun n k o s h
         → HasBytes h → IsNeverFollowed k o pid h → IsReported k o pid s h }

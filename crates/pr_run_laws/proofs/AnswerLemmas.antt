@@ -23,7 +23,8 @@ use Rattle.pr_run_laws.specs.Tracers.{BeginsPassively, IsPassiveCall}
 abbrev Read : Type 0
 Read = Result (Message × ℕ) MsgFault
 
-write-passive : (bytes : List ℕ) (m : Message) (len : ℕ) → first_message bytes ≡ Ok (m, len) → is_passive_message m ≡ true → is_passive_write (first_message bytes) ≡ true
+write-passive : (bytes : List ℕ) (m : Message) (len : ℕ) → first_message bytes ≡ Ok (m, len)
+    → is_passive_message m ≡ true → is_passive_write (first_message bytes) ≡ true
 write-passive bytes m len read passive = ap is_passive_write read ∙ passive
 
 -- ---- a write of messages
@@ -36,19 +37,24 @@ module _ (handle : ℕ) (bytes : List ℕ) where
   any-reply passive (reply.Fail e) = refl
   any-reply passive _ = passive
 
-  decoded-passive : (s : TracedSystem) (h : Held) (p : TracedProcess) (q : Read) → first_message bytes ≡ q → IfOk q (λ first. is_passive_message first.0 ≡ true) → IsPassiveReply (decoded_answer s h p bytes q).reply
+  decoded-passive : (s : TracedSystem) (h : Held) (p : TracedProcess) (q : Read) → first_message bytes ≡ q
+      → IfOk q (λ first. is_passive_message first.0 ≡ true) → IsPassiveReply (decoded_answer s h p bytes q).reply
   decoded-passive s h p (Err fault) read passive = refl
-  decoded-passive s h p (Ok (m, len)) read passive = any-reply (write-passive bytes m len read passive) (decoded_answer s h p bytes (Ok (m, len))).reply
+  decoded-passive s h p (Ok (m, len)) read passive =
+      any-reply (write-passive bytes m len read passive) (decoded_answer s h p bytes (Ok (m, len))).reply
 
-  targeted-passive : (s : TracedSystem) (h : Held) (o : Option TracedProcess) → BeginsPassively bytes → IsPassiveReply (targeted_answer s h o bytes).reply
+  targeted-passive : (s : TracedSystem) (h : Held) (o : Option TracedProcess) → BeginsPassively bytes
+      → IsPassiveReply (targeted_answer s h o bytes).reply
   targeted-passive s h None passive = refl
   targeted-passive s h (Some p) passive = decoded-passive s h p (first_message bytes) refl passive
 
-  held-passive : (s : TracedSystem) (o : Option Held) → BeginsPassively bytes → IsPassiveReply (held_answer s o bytes).reply
+  held-passive : (s : TracedSystem) (o : Option Held) → BeginsPassively bytes
+      → IsPassiveReply (held_answer s o bytes).reply
   held-passive s None passive = refl
   held-passive s (Some h) passive = targeted-passive s h (target_of s h) passive
 
-  control-passive : (s : TracedSystem) (opens : Places) (by : ℕ) → BeginsPassively bytes → IsPassiveReply (control_answer s opens by handle bytes).reply
+  control-passive : (s : TracedSystem) (opens : Places) (by : ℕ) → BeginsPassively bytes
+      → IsPassiveReply (control_answer s opens by handle bytes).reply
   unfolding control_answer
   control-passive s opens by passive = held-passive s (control_handle (handle_of opens by handle)) passive
 
@@ -63,21 +69,29 @@ module _ (handle until : ℕ) (bytes : List ℕ) where
   any-wait passive (Some (reply.Fail e)) = refl
   any-wait passive (Some _) = passive
 
-  decoded_wait-passive : (s : TracedSystem) (h : Held) (p : TracedProcess) (interrupted : Bool) (q : Read) → first_message bytes ≡ q → IfOk q (λ first. is_passive_message first.0 ≡ true) → IsPassiveWait (decoded_wait s h p until interrupted q)
+  decoded_wait-passive : (s : TracedSystem) (h : Held) (p : TracedProcess) (interrupted : Bool) (q : Read)
+      → first_message bytes ≡ q → IfOk q (λ first. is_passive_message first.0 ≡ true)
+      → IsPassiveWait (decoded_wait s h p until interrupted q)
   decoded_wait-passive s h p interrupted (Err fault) read passive = refl
-  decoded_wait-passive s h p interrupted (Ok (m, len)) read passive = any-wait (write-passive bytes m len read passive) (decoded_wait s h p until interrupted (Ok (m, len)))
+  decoded_wait-passive s h p interrupted (Ok (m, len)) read passive =
+      any-wait (write-passive bytes m len read passive) (decoded_wait s h p until interrupted (Ok (m, len)))
 
-  targeted_wait-passive : (s : TracedSystem) (h : Held) (o : Option TracedProcess) (interrupted : Bool) → BeginsPassively bytes → IsPassiveWait (targeted_wait s h o until interrupted bytes)
+  targeted_wait-passive : (s : TracedSystem) (h : Held) (o : Option TracedProcess) (interrupted : Bool)
+      → BeginsPassively bytes → IsPassiveWait (targeted_wait s h o until interrupted bytes)
   targeted_wait-passive s h None interrupted passive = refl
-  targeted_wait-passive s h (Some p) interrupted passive = decoded_wait-passive s h p interrupted (first_message bytes) refl passive
+  targeted_wait-passive s h (Some p) interrupted passive =
+      decoded_wait-passive s h p interrupted (first_message bytes) refl passive
 
-  held_wait-passive : (s : TracedSystem) (o : Option Held) (interrupted : Bool) → BeginsPassively bytes → IsPassiveWait (held_wait s o until interrupted bytes)
+  held_wait-passive : (s : TracedSystem) (o : Option Held) (interrupted : Bool) → BeginsPassively bytes
+      → IsPassiveWait (held_wait s o until interrupted bytes)
   held_wait-passive s None interrupted passive = refl
   held_wait-passive s (Some h) interrupted passive = targeted_wait-passive s h (target_of s h) interrupted passive
 
-  wait-passive : (s : TracedSystem) (opens : Places) (by : ℕ) (interrupted : Bool) → BeginsPassively bytes → IsPassiveWait (wait_reply s opens by handle until interrupted bytes)
+  wait-passive : (s : TracedSystem) (opens : Places) (by : ℕ) (interrupted : Bool) → BeginsPassively bytes
+      → IsPassiveWait (wait_reply s opens by handle until interrupted bytes)
   unfolding wait_reply
-  wait-passive s opens by interrupted passive = held_wait-passive s (control_handle (handle_of opens by handle)) interrupted passive
+  wait-passive s opens by interrupted passive =
+      held_wait-passive s (control_handle (handle_of opens by handle)) interrupted passive
 
 -- the reply stays, also where an interrupt was seen
 waited-reply : (s : TracedState) (by : ℕ) (r : Reply) → (waited s by r).reply ≡ r
@@ -105,15 +119,21 @@ calm c _ none = refl
 answered : (P : Reply → Type 0) (a b : Answer) → Some a ≡ Some b → P a.reply → P b.reply
 answered P a b is h = subst (λ (x : Answer). P x.reply) (same_Some a b is) h
 
-pub reply-passive : (s : TracedState) (by : ℕ) (c : Call) (a : Answer) → answer_to s by c ≡ Some a → IsPassiveCall c → is_passive_call c a.reply ≡ true
+pub reply-passive : (s : TracedState) (by : ℕ) (c : Call) (a : Answer) → answer_to s by c ≡ Some a → IsPassiveCall c
+    → is_passive_call c a.reply ≡ true
 unfolding answer_to IsPassiveCall
 reply-passive s by (call.Ctl handle bytes) a is passive =
-    answered (λ r. is_passive_call (call.Ctl handle bytes) r ≡ true) _ a is (control-passive handle bytes s.system s.opens by passive)
+    answered (λ r. is_passive_call (call.Ctl handle bytes) r ≡ true) _ a is
+    (control-passive handle bytes s.system s.opens by passive)
 reply-passive s by (call.CtlWait handle until bytes) a is passive =
-    of (wait_reply s.system s.opens by handle until (is_interrupted s by) bytes) is (wait-passive handle until bytes s.system s.opens by (is_interrupted s by) passive)
+    of (wait_reply s.system s.opens by handle until (is_interrupted s by) bytes) is
+    (wait-passive handle until bytes s.system s.opens by (is_interrupted s by) passive)
   where
-    of : (o : Option Reply) → option_map (waited s by) o ≡ Some a → IfSome o (λ r. is_passive_call (call.CtlWait handle until bytes) r ≡ true) → is_passive_call (call.CtlWait handle until bytes) a.reply ≡ true
+    of : (o : Option Reply) → option_map (waited s by) o ≡ Some a
+        → IfSome o (λ r. is_passive_call (call.CtlWait handle until bytes) r ≡ true)
+        → is_passive_call (call.CtlWait handle until bytes) a.reply ≡ true
     of None is passive = absurd (cc)
     of (Some r) is passive =
-        answered (λ r. is_passive_call (call.CtlWait handle until bytes) r ≡ true) (waited s by r) a is (rw (waited-reply s by r) passive)
+        answered (λ r. is_passive_call (call.CtlWait handle until bytes) r ≡ true) (waited s by r) a is
+        (rw (waited-reply s by r) passive)
 reply-passive s by c a is passive = calm c a.reply tt

@@ -55,7 +55,8 @@ use Rattle.pr_world.specs.Protocol.{Follows, FollowsAt, controllers_after}
 spelt-bytes : (m : Message) → All IsByte (spelling m [])
 spelt-bytes m =
     let words : List ℕ = words_bytes (message_code m ∷ operands m) in
-    let with_tail : All IsByte (words ++ []) = All-append IsByte words [] (AreBytes-words_bytes (message_code m ∷ operands m)) (All-nil IsByte) in
+    let with_tail : All IsByte (words ++ []) =
+    All-append IsByte words [] (AreBytes-words_bytes (message_code m ∷ operands m)) (All-nil IsByte) in
     All-append IsByte (words ++ []) [] with_tail (All-nil IsByte)
 
 -- ---- truss, a row a step
@@ -142,7 +143,8 @@ tool-bytes s = step-bytes s s.step
 
 -- ---- a script writes what is left of a line's bytes
 
-write-bytes : (wait : Option ℕ) (handle : ℕ) (left : List ℕ) → All IsByte left → IsOfBytes (scripts.write_call wait handle left)
+write-bytes : (wait : Option ℕ) (handle : ℕ) (left : List ℕ) → All IsByte left
+    → IsOfBytes (scripts.write_call wait handle left)
 write-bytes None handle left all = all
 write-bytes (Some until) handle left all = tt
 
@@ -152,7 +154,8 @@ line-bytes s (line.Open name pid lwp file mode) all = tt
 line-bytes s (line.Close name) all = tt
 line-bytes s (line.Read name at len) all = tt
 line-bytes s (line.Poll names) all = tt
-line-bytes s (line.Write name bytes) all = write-bytes s.wait (handle_of s.bindings name) (drop s.taken bytes) (All-drop IsByte s.taken bytes all)
+line-bytes s (line.Write name bytes) all =
+    write-bytes s.wait (handle_of s.bindings name) (drop s.taken bytes) (All-drop IsByte s.taken bytes all)
 line-bytes s (line.Interrupt controller) all = tt
 line-bytes s (line.Spawn program held) all = tt
 line-bytes s (line.Kill pid sig) all = tt
@@ -177,7 +180,8 @@ taken-lines : (s : ScriptState) (total n : ℕ) → (scripts.with_taken s total 
 unfolding scripts.with_taken
 taken-lines s total n = of (nat_le total (s.taken + n))
   where
-    of : (all : Bool) → (cond all (scripts.with_line_over s) (record s { taken = s.taken + n; wait = None })).lines ≡ s.lines
+    of : (all : Bool)
+        → (cond all (scripts.with_line_over s) (record s { taken = s.taken + n; wait = None })).lines ≡ s.lines
     of true = over-lines s
     of false = refl
 
@@ -203,12 +207,14 @@ wait-lines s total (reply.Pid pid) = over-lines s
 wait-lines s total (reply.Ready handle) = over-lines s
 wait-lines s total (reply.Fail errno) = over-lines s
 
-write-lines : (wait : Option ℕ) (s : ScriptState) (total : ℕ) (r : Reply) → (scripts.with_write_answered wait s total r).lines ≡ s.lines
+write-lines : (wait : Option ℕ) (s : ScriptState) (total : ℕ) (r : Reply)
+    → (scripts.with_write_answered wait s total r).lines ≡ s.lines
 write-lines None s total r = ctl-lines s total r
 write-lines (Some until) s total r = wait-lines s total r
 
 -- the line whose reply it is, a row a line
-answer-lines : (s : ScriptState) (r : Reply) (o : Option ScriptLine) → (scripts.with_answer s r (scripts.present_of o)).lines ≡ s.lines
+answer-lines : (s : ScriptState) (r : Reply) (o : Option ScriptLine)
+    → (scripts.with_answer s r (scripts.present_of o)).lines ≡ s.lines
 unfolding scripts.present_of scripts.with_answer
 answer-lines s r None = refl
 answer-lines s r (Some (line.Open name pid lwp file mode)) = over-lines (scripts.with_bound s name (handle_in r))
@@ -241,18 +247,22 @@ reply-bytes (Truss t) r bytes = tt
 reply-bytes (Tool t) r bytes = tt
 
 -- the call of a controller
-call-bytes : (controllers : List ControllerState) (k : ℕ) (c : Call) → All IsCoreOfBytes controllers → call_by controllers k ≡ Some c → IsOfBytes c
+call-bytes : (controllers : List ControllerState) (k : ℕ) (c : Call) → All IsCoreOfBytes controllers
+    → call_by controllers k ≡ Some c → IsOfBytes c
 unfolding call_by
 call-bytes controllers k c all is = of (slice_get controllers k) refl is
   where
     of : (o : Option ControllerState) → slice_get controllers k ≡ o → option_and_then next_call o ≡ Some c → IsOfBytes c
     of None found is = absurd (cc)
-    of (Some core) found is = subst (λ next. IfSome next IsOfBytes) is (core-bytes core (All-at IsCoreOfBytes controllers k core found all))
+    of (Some core) found is =
+        subst (λ next. IfSome next IsOfBytes) is (core-bytes core (All-at IsCoreOfBytes controllers k core found all))
 
 -- ---- a history
 
 -- Each entry. A legal one is no call of an lwp or of the clock.
-entry-bytes : (controllers : List ControllerState) (n : ℕ) (s : TracedState) (actor : Actor) (it : Act) → All IsCoreOfBytes controllers → IsLegalEntry n s (record { actor = actor; act = it }) → FollowsAt controllers s (record { actor = actor; act = it }) → IsActOfBytes it
+entry-bytes : (controllers : List ControllerState) (n : ℕ) (s : TracedState) (actor : Actor) (it : Act)
+    → All IsCoreOfBytes controllers → IsLegalEntry n s (record { actor = actor; act = it })
+    → FollowsAt controllers s (record { actor = actor; act = it }) → IsActOfBytes it
 unfolding IsLegalEntry FollowsAt
 entry-bytes controllers n s (Controller k) (act.Call c r) all legal follows = call-bytes controllers k c all follows
 entry-bytes controllers n s actor (act.Turn t) all legal follows = tt
@@ -261,15 +271,19 @@ entry-bytes controllers n s (Lwp p l) (act.Call c r) all legal follows = absurd 
 entry-bytes controllers n s Clock (act.Call c r) all legal follows = absurd legal
 
 -- the controllers after it write bytes too
-fed-bytes : (controllers : List ControllerState) (k : ℕ) (r : Reply) → All IsCoreOfBytes controllers → All IsCoreOfBytes (with_fed k r controllers)
+fed-bytes : (controllers : List ControllerState) (k : ℕ) (r : Reply) → All IsCoreOfBytes controllers
+    → All IsCoreOfBytes (with_fed k r controllers)
 unfolding with_fed
 fed-bytes controllers k r all = of (slice_get controllers k) refl
   where
     of : (o : Option ControllerState) → slice_get controllers k ≡ o → All IsCoreOfBytes (feed_at k r controllers o)
     of None found = all
-    of (Some c) found = All-set IsCoreOfBytes controllers k (after_reply c r) (reply-bytes c r (All-at IsCoreOfBytes controllers k c found all)) all
+    of (Some c) found =
+        All-set IsCoreOfBytes controllers k (after_reply c r)
+        (reply-bytes c r (All-at IsCoreOfBytes controllers k c found all)) all
 
-after-bytes : (controllers : List ControllerState) (actor : Actor) (it : Act) → All IsCoreOfBytes controllers → All IsCoreOfBytes (controllers_after controllers (record { actor = actor; act = it }))
+after-bytes : (controllers : List ControllerState) (actor : Actor) (it : Act) → All IsCoreOfBytes controllers
+    → All IsCoreOfBytes (controllers_after controllers (record { actor = actor; act = it }))
 unfolding controllers_after
 after-bytes controllers (Controller k) (act.Call c r) all = fed-bytes controllers k r all
 after-bytes controllers (Controller k) (act.Turn t) all = all
@@ -277,9 +291,12 @@ after-bytes controllers (Controller k) (act.Tick moment) all = all
 after-bytes controllers (Lwp p l) it all = all
 after-bytes controllers Clock it all = all
 
-pub follows-bytes : (controllers : List ControllerState) (n : ℕ) (s : TracedState) (h : List Entry) → All IsCoreOfBytes controllers → IsLegal n s h → Follows controllers s h → HasBytes h
+pub follows-bytes : (controllers : List ControllerState) (n : ℕ) (s : TracedState) (h : List Entry)
+    → All IsCoreOfBytes controllers → IsLegal n s h → Follows controllers s h → HasBytes h
 follows-bytes controllers n s [] all legal follows = All-nil IsEntryOfBytes
 follows-bytes controllers n s (e ∷ h) all legal follows =
     let here = entry-bytes controllers n s e.actor e.act all legal.0 follows.0 in
-    let rest = follows-bytes (controllers_after controllers e) n (after s e) h (after-bytes controllers e.actor e.act all) legal.1 follows.1 in
+    let rest =
+    follows-bytes (controllers_after controllers e) n (after s e) h
+    (after-bytes controllers e.actor e.act all) legal.1 follows.1 in
     All-cons IsEntryOfBytes e h here rest

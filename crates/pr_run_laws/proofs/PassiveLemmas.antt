@@ -40,14 +40,20 @@ IsPassiveRead r = IfOk r (λ first. is_passive_message first.0 ≡ true)
 
 tail-passive : (bytes : List ℕ) (m : Message) → is_passive_message m ≡ true → IsPassiveRead (with_tail bytes m)
 unfolding with_tail
-tail-passive bytes m passive = of (nat_lt (length bytes) (encoded_length m)) (list_all (λ b. b == 0) (slice_range bytes (unpadded_length m) (encoded_length m))) (encoded_length m / 8 - 1)
+tail-passive bytes m passive =
+    of (nat_lt (length bytes) (encoded_length m))
+    (list_all (λ b. b == 0) (slice_range bytes (unpadded_length m) (encoded_length m))) (encoded_length m / 8 - 1)
   where
-    of : (short zeros : Bool) (word : ℕ) → IsPassiveRead (let r : Read = cond short (Err Short) (cond zeros (let ok : Read = Ok (m, encoded_length m) in ok) (Err (BadOperand word))) in r)
+    of : (short zeros : Bool) (word : ℕ)
+        → IsPassiveRead
+        (let r : Read = cond short (Err Short)
+        (cond zeros (let ok : Read = Ok (m, encoded_length m) in ok) (Err (BadOperand word))) in r)
     of true zeros word = tt
     of false true word = passive
     of false false word = tt
 
-columns-passive : (bytes : List ℕ) (m : Message) → is_passive_message m ≡ true → IsPassiveRead (in_columns m >>= with_tail bytes)
+columns-passive : (bytes : List ℕ) (m : Message) → is_passive_message m ≡ true
+    → IsPassiveRead (in_columns m >>= with_tail bytes)
 unfolding in_columns
 columns-passive bytes m passive = of (bad_operand m)
   where
@@ -57,7 +63,8 @@ columns-passive bytes m passive = of (bad_operand m)
 
 -- Bytes begin with a passive message, or with none, where that is the message of their words, whether its operand lies
 -- in its column or not.
-read-passive : (bytes : List ℕ) (m : Message) → nat_lt (length bytes) 8 ≡ false → message_read (nth_word bytes 0) bytes ≡ Ok m → is_passive_message m ≡ true → BeginsPassively bytes
+read-passive : (bytes : List ℕ) (m : Message) → nat_lt (length bytes) 8 ≡ false
+    → message_read (nth_word bytes 0) bytes ≡ Ok m → is_passive_message m ≡ true → BeginsPassively bytes
 unfolding first_message
 read-passive bytes m long read passive = rw (long, read) (columns-passive bytes m passive)
 
@@ -86,23 +93,33 @@ release-begins = read-passive (spelling (message.Set rlc_mode) []) (message.Set 
 -- these whatever their operand
 unset-begins : (modes : ℕ) → BeginsPassively (spelling (message.Unset modes) [])
 unfolding message_code operands nth_word word_bytes word_of message_read one_word is_passive_message
-unset-begins modes = read-passive (spelling (message.Unset modes) []) (message.Unset (nth_word (spelling (message.Unset modes) []) 1)) refl refl refl
+unset-begins modes =
+    read-passive (spelling (message.Unset modes) [])
+    (message.Unset (nth_word (spelling (message.Unset modes) []) 1)) refl refl refl
 
 signals-begins : (signals : ℕ) → BeginsPassively (spelling (message.Strace signals) [])
 unfolding message_code operands nth_word word_bytes word_of message_read one_word is_passive_message
-signals-begins signals = read-passive (spelling (message.Strace signals) []) (message.Strace (nth_word (spelling (message.Strace signals) []) 1)) refl refl refl
+signals-begins signals =
+    read-passive (spelling (message.Strace signals) [])
+    (message.Strace (nth_word (spelling (message.Strace signals) []) 1)) refl refl refl
 
 faults-begins : (faults : ℕ) → BeginsPassively (spelling (message.Sfault faults) [])
 unfolding message_code operands nth_word word_bytes word_of message_read one_word is_passive_message
-faults-begins faults = read-passive (spelling (message.Sfault faults) []) (message.Sfault (nth_word (spelling (message.Sfault faults) []) 1)) refl refl refl
+faults-begins faults =
+    read-passive (spelling (message.Sfault faults) [])
+    (message.Sfault (nth_word (spelling (message.Sfault faults) []) 1)) refl refl refl
 
 entries-begins : (calls : ℕ) → BeginsPassively (spelling (message.Sentry calls) [])
 unfolding message_code operands nth_word word_bytes word_of message_read one_word is_passive_message
-entries-begins calls = read-passive (spelling (message.Sentry calls) []) (message.Sentry (nth_word (spelling (message.Sentry calls) []) 1)) refl refl refl
+entries-begins calls =
+    read-passive (spelling (message.Sentry calls) [])
+    (message.Sentry (nth_word (spelling (message.Sentry calls) []) 1)) refl refl refl
 
 exits-begins : (calls : ℕ) → BeginsPassively (spelling (message.Sexit calls) [])
 unfolding message_code operands nth_word word_bytes word_of message_read one_word is_passive_message
-exits-begins calls = read-passive (spelling (message.Sexit calls) []) (message.Sexit (nth_word (spelling (message.Sexit calls) []) 1)) refl refl refl
+exits-begins calls =
+    read-passive (spelling (message.Sexit calls) [])
+    (message.Sexit (nth_word (spelling (message.Sexit calls) []) 1)) refl refl refl
 
 -- ---- truss, a row a step
 

@@ -75,7 +75,8 @@ in_code does.Ret row = then_ok SaysBytes (none BadOperand row) _ (λ _ _. tt)
 in_code does.Sys row = then_ok SaysBytes (one_call row) _ (λ _ _. tt)
 
 -- the second of two words
-pub second-bytes : {E : Type 0} (e : E) (row : List (List ℕ)) → AreWordsOfBytes row → IfOk (two e row) (λ words. All IsByte words.1)
+pub second-bytes : {E : Type 0} (e : E) (row : List (List ℕ)) → AreWordsOfBytes row
+    → IfOk (two e row) (λ words. All IsByte words.1)
 second-bytes e [] h = tt
 second-bytes e (a ∷ []) h = tt
 second-bytes e (a ∷ b ∷ []) h = All-head (All IsByte) b [] (All-tail (All IsByte) a (b ∷ []) h)
@@ -87,7 +88,10 @@ in_text row h =
     then_ok SaysBytes (two BadOperand row) _ (λ words is.
     then_ok SaysBytes (ok_or BadOperand (name_of words.0)) _ (λ name _.
     then_ok SaysBytes (ok_or BadOperand (quoted_bytes words.1)) _ (λ bytes read.
-    of_some (All IsByte) (quoted_bytes words.1) bytes (ok_some BadOperand (quoted_bytes words.1) bytes read) (quoted-bytes words.1 (of_ok (λ (v : List ℕ × List ℕ). All IsByte v.1) (two BadOperand row) words is (second-bytes BadOperand row h))))))
+    of_some (All IsByte) (quoted_bytes words.1) bytes (ok_some BadOperand (quoted_bytes words.1) bytes read)
+    (quoted-bytes words.1
+    (of_ok (λ (v : List ℕ × List ℕ). All IsByte v.1) (two BadOperand row) words is
+    (second-bytes BadOperand row h))))))
 
 in_space : (row : List (List ℕ)) → IfOk (space_of row) SaysBytes
 unfolding space_of
@@ -106,9 +110,11 @@ in_statement : (first : List ℕ) (row : List (List ℕ)) → AreWordsOfBytes ro
 unfolding statement_with
 in_statement first row h =
     if_ok SaysBytes (bytes_eq first (codes "text")) _ _ (λ _. in_text row h) (λ _.
-    if_ok SaysBytes (bytes_eq first (codes "space")) _ _ (λ _. in_space row) (λ _. in_instruction (find (is_spelled first) mnemonics) row))
+    if_ok SaysBytes (bytes_eq first (codes "space")) _ _ (λ _. in_space row)
+    (λ _. in_instruction (find (is_spelled first) mnemonics) row))
 
-in_label : (o : Option (List ℕ)) (first : List ℕ) (row : List (List ℕ)) → AreWordsOfBytes row → IfOk (label_or o first row) SaysBytes
+in_label : (o : Option (List ℕ)) (first : List ℕ) (row : List (List ℕ)) → AreWordsOfBytes row
+    → IfOk (label_or o first row) SaysBytes
 unfolding label_or
 in_label (Some name) first row h = then_ok SaysBytes (none BadOperand row) _ (λ _ _. tt)
 in_label None first row h = in_statement first row h
@@ -117,7 +123,8 @@ in_words : (row : List (List ℕ)) → AreWordsOfBytes row → IfOk (statement_i
 unfolding statement_in
 in_words [] h = tt
 in_words (first ∷ row) h =
-    if_ok SaysBytes (begins_comment first) _ _ (λ _. tt) (λ _. in_label (label_of first) first row (All-tail (All IsByte) first row h))
+    if_ok SaysBytes (begins_comment first) _ _ (λ _. tt)
+    (λ _. in_label (label_of first) first row (All-tail (All IsByte) first row h))
 
 says-bytes : (line : List ℕ) → All IsByte line → IfOk (statement_of line) SaysBytes
 unfolding statement_of
@@ -147,33 +154,56 @@ code_more p i room s = record {
   range = record { name = s.range.name; bytes = s.range.bytes };
 }
 
-data_more : (p : Program) (bytes : List ℕ) (zeros : ℕ) → aligned (length p.bytes) + length bytes + zeros ≤ data_limit → All IsByte bytes → IsWhole p → IsWhole (with_data p bytes zeros)
+data_more : (p : Program) (bytes : List ℕ) (zeros : ℕ) → aligned (length p.bytes) + length bytes + zeros ≤ data_limit
+    → All IsByte bytes → IsWhole p → IsWhole (with_data p bytes zeros)
 data_more p bytes zeros room small s =
     let gap : List ℕ = replicate (aligned (length p.bytes) - length p.bytes) 0 in
     let none : List ℕ = replicate zeros 0 in
     record {
       lawful = record {
         code = s.lawful.code;
-        bytes = omega (arith, room, length-append (p.bytes ++ gap ++ bytes) none, length-append (p.bytes ++ gap) bytes, length-append p.bytes gap, length-replicate {A = ℕ} (aligned (length p.bytes) - length p.bytes) 0, length-replicate {A = ℕ} zeros 0);
+        bytes =
+            omega (
+              arith,
+              room,
+              length-append (p.bytes ++ gap ++ bytes) none,
+              length-append
+                  (p.bytes ++ gap) bytes,
+              length-append p.bytes gap,
+              length-replicate {A = ℕ}
+                  (aligned (length p.bytes) - length p.bytes) 0,
+              length-replicate {A = ℕ} zeros 0,
+            );
       };
       range = record {
         name = s.range.name;
-        bytes = All-append IsByte (p.bytes ++ gap ++ bytes) none (All-append IsByte (p.bytes ++ gap) bytes (All-append IsByte p.bytes gap s.range.bytes (All-replicate IsByte (aligned (length p.bytes) - length p.bytes) 0 (omega arith))) small) (All-replicate IsByte zeros 0 (omega arith));
+        bytes =
+            All-append IsByte (p.bytes ++ gap ++ bytes) none
+            (All-append IsByte (p.bytes ++ gap) bytes
+            (All-append IsByte p.bytes gap s.range.bytes
+            (All-replicate IsByte (aligned (length p.bytes) - length p.bytes) 0 (omega arith))) small)
+            (All-replicate IsByte zeros 0 (omega arith));
       };
     }
 
 module _ (place_of : List ℕ → Option Place) where
-  statement_more : (n : ℕ) (p : Program) (s : Statement) → SaysBytes s → IsWhole p → IfOk (with_statement place_of n p s) IsWhole
+  statement_more : (n : ℕ) (p : Program) (s : Statement) → SaysBytes s → IsWhole p
+      → IfOk (with_statement place_of n p s) IsWhole
   unfolding with_statement label_added data_added code_added
   statement_more n p says.Blank h w = w
   statement_more n p (says.Label name) h w =
       if_ok IsWhole (is_first place_of n name) _ _ (λ _. label_more p name w) (λ _. tt)
   statement_more n p (says.Data name bytes zeros) h w =
-      if_ok IsWhole (is_first place_of n name) _ _ (λ _. if_ok IsWhole (has_room (length p.bytes) (length bytes) zeros) _ _ (λ room. data_more p bytes zeros (leb-true _ _ room) h w) (λ _. tt)) (λ _. tt)
+      if_ok IsWhole (is_first place_of n name) _ _
+      (λ _. if_ok IsWhole (has_room (length p.bytes) (length bytes) zeros) _ _
+      (λ room. data_more p bytes zeros (leb-true _ _ room) h w) (λ _. tt)) (λ _. tt)
   statement_more n p (says.Code i name) h w =
-      then_ok IsWhole (filled place_of i name) _ (λ j _. if_ok IsWhole (nat_lt (length p.code) code_limit) _ _ (λ room. code_more p j (ltb-true _ _ room) w) (λ _. tt))
+      then_ok IsWhole (filled place_of i name) _
+      (λ j _. if_ok IsWhole (nat_lt (length p.code) code_limit) _ _ (λ room. code_more p j (ltb-true _ _ room) w)
+      (λ _. tt))
 
-  read_more : (n : ℕ) (p : Program) (r : Result Statement AsmKind) → IfOk r SaysBytes → IsWhole p → IfOk (read_added place_of n p r) IsWhole
+  read_more : (n : ℕ) (p : Program) (r : Result Statement AsmKind) → IfOk r SaysBytes → IsWhole p
+      → IfOk (read_added place_of n p r) IsWhole
   read_more n p (Ok s) h w = statement_more n p s h w
   read_more n p (Err kind) h w = tt
 
@@ -181,24 +211,30 @@ module _ (place_of : List ℕ → Option Place) where
   at_line n (Ok p) w = w
   at_line n (Err kind) w = tt
 
-  reads_more : (n : ℕ) (p : Program) (reads : List (Result Statement AsmKind)) → All (λ r. IfOk r SaysBytes) reads → IsWhole p → IfOk (folded (read_added_at place_of) n p reads) IsWhole
+  reads_more : (n : ℕ) (p : Program) (reads : List (Result Statement AsmKind)) → All (λ r. IfOk r SaysBytes) reads
+      → IsWhole p → IfOk (folded (read_added_at place_of) n p reads) IsWhole
   unfolding folded
   reads_more n p [] h w = w
   reads_more n p (r ∷ reads) h w =
       then_ok IsWhole (read_added_at place_of n p r) (λ q. folded (read_added_at place_of) (n + 1) q reads) (λ q is.
-      reads_more (n + 1) q reads (All-tail (λ r. IfOk r SaysBytes) r reads h) (of_ok IsWhole (read_added_at place_of n p r) q is (at_line n (read_added place_of n p r) (read_more n p r (All-head (λ r. IfOk r SaysBytes) r reads h) w))))
+      reads_more (n + 1) q reads (All-tail (λ r. IfOk r SaysBytes) r reads h)
+      (of_ok IsWhole (read_added_at place_of n p r) q is
+      (at_line n (read_added place_of n p r) (read_more n p r (All-head (λ r. IfOk r SaysBytes) r reads h) w))))
 
 -- ---- the program of a block
 
 each_says : (body : List (List ℕ)) → AreWordsOfBytes body → All (λ line. IfOk (statement_of line) SaysBytes) body
 each_says [] h = All-nil _
 each_says (line ∷ body) h =
-    All-cons (λ l. IfOk (statement_of l) SaysBytes) line body (says-bytes line (All-head (All IsByte) line body h)) (each_says body (All-tail (All IsByte) line body h))
+    All-cons (λ l. IfOk (statement_of l) SaysBytes) line body (says-bytes line (All-head (All IsByte) line body h))
+    (each_says body (All-tail (All IsByte) line body h))
 
-program-whole : (name : List ℕ) (body : List (List ℕ)) (n : ℕ) → IsShortName name → AreWordsOfBytes body → IfOk (program_in name body n) IsWhole
+program-whole : (name : List ℕ) (body : List (List ℕ)) (n : ℕ) → IsShortName name → AreWordsOfBytes body
+    → IfOk (program_in name body n) IsWhole
 unfolding assembled
 program-whole name body n is h =
-    reads_more (place_in n (map statement_of body)) n (program name [] [] []) (map statement_of body) (All-map (λ r. IfOk r SaysBytes) statement_of body (each_says body h)) (begins name is)
+    reads_more (place_in n (map statement_of body)) n (program name [] [] []) (map statement_of body)
+    (All-map (λ r. IfOk r SaysBytes) statement_of body (each_says body h)) (begins name is)
 
 -- the lines of a block that can be read have bytes alone
 ok_numbered : (n : ℕ) (r : Result (Unit {0}) ScenKind) (x : Unit {0}) → blocks.numbered n r ≡ Ok x → r ≡ Ok x
@@ -210,19 +246,25 @@ unfolding all_readable
 body-bytes n [] = All-nil (All IsByte)
 body-bytes n (this ∷ below) =
     then_ok (λ _. AreWordsOfBytes (this ∷ below)) (blocks.numbered n (readable this)) _ (λ x is.
-    with_below (all_readable (n + 1) below) (readable-bytes this x (ok_numbered n (readable this) x is)) (body-bytes (n + 1) below))
+    with_below (all_readable (n + 1) below) (readable-bytes this x (ok_numbered n (readable this) x is))
+    (body-bytes (n + 1) below))
   where
-    with_below : (r : Result (Unit {0}) ScenFault) → All IsByte this → IfOk r (λ _. AreWordsOfBytes below) → IfOk r (λ _. AreWordsOfBytes (this ∷ below))
+    with_below : (r : Result (Unit {0}) ScenFault) → All IsByte this → IfOk r (λ _. AreWordsOfBytes below)
+        → IfOk r (λ _. AreWordsOfBytes (this ∷ below))
     with_below (Ok x) small h = All-cons (All IsByte) this below small h
     with_below (Err fault) small h = tt
 
-both-read : (a : Result (Unit {0}) ScenFault) (r : Result Program AsmFault) (P : Type 0) → IfOk a (λ _. P) → (P → IfOk r IsWhole) → IfOk (first_of_both a r) IsWhole
+both-read : (a : Result (Unit {0}) ScenFault) (r : Result Program AsmFault) (P : Type 0) → IfOk a (λ _. P)
+    → (P → IfOk r IsWhole) → IfOk (first_of_both a r) IsWhole
 both-read (Ok x) (Ok p) P h on = on h
 both-read (Ok x) (Err fault) P h on = tt
 both-read (Err unreadable) (Ok p) P h on = tt
-both-read (Err unreadable) (Err fault) P h on = if_ok IsWhole (nat_le unreadable.line fault.line) _ _ (λ _. tt) (λ _. tt)
+both-read (Err unreadable) (Err fault) P h on =
+    if_ok IsWhole (nat_le unreadable.line fault.line) _ _ (λ _. tt) (λ _. tt)
 
-pub program-range : (name : List ℕ) (n : ℕ) (body : List (List ℕ)) → IsShortName name → IfOk (program_read name n body) IsWhole
+pub program-range : (name : List ℕ) (n : ℕ) (body : List (List ℕ)) → IsShortName name
+    → IfOk (program_read name n body) IsWhole
 unfolding program_read
 program-range name n body is =
-    both-read (all_readable n body) (program_in name body n) (AreWordsOfBytes body) (body-bytes n body) (program-whole name body n is)
+    both-read (all_readable n body) (program_in name body n) (AreWordsOfBytes body) (body-bytes n body)
+    (program-whole name body n is)

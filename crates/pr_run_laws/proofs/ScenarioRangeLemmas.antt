@@ -82,7 +82,11 @@ in_file row h =
     then_ok InRange (ok_or BadOperand (quoted_bytes words.1)) _ (λ bytes has.
     record {
       name = named BadOperand words.0 name read;
-      bytes = of_some (All IsByte) (quoted_bytes words.1) bytes (ok_some BadOperand (quoted_bytes words.1) bytes has) (quoted-bytes words.1 (of_ok (λ (v : List ℕ × List ℕ). All IsByte v.1) (two BadOperand row) words is (second-bytes BadOperand row h)));
+      bytes =
+          of_some (All IsByte) (quoted_bytes words.1) bytes (ok_some BadOperand (quoted_bytes words.1) bytes has)
+          (quoted-bytes words.1
+          (of_ok (λ (v : List ℕ × List ℕ). All IsByte v.1) (two BadOperand row) words is
+          (second-bytes BadOperand row h)));
     })))
 
 in_truss : (words : List (List ℕ)) (r : Result Options WordFault) → IfOk (truss_read words r) InRange
@@ -94,7 +98,10 @@ unfolding tool_line_of
 in_tool [] = tt
 in_tool (word ∷ []) = if_ok InRange (bytes_eq word (codes "ptree")) _ _ (λ _. tt) (λ _. tt)
 in_tool (word ∷ id ∷ []) =
-    then_ok InRange (ok_or BadOperand (name_of word)) _ (λ _ _. then_ok InRange (ok_or BadOperand (id_of id)) _ (λ pid _. if_ok InRange (bytes_eq word (codes "ptree")) _ _ (λ _. tt) (λ _. then_ok InRange (ok_or UnknownName (process_tool_of_name word)) _ (λ kind _. tt))))
+    then_ok InRange (ok_or BadOperand (name_of word)) _
+    (λ _ _. then_ok InRange (ok_or BadOperand (id_of id)) _
+    (λ pid _. if_ok InRange (bytes_eq word (codes "ptree")) _ _ (λ _. tt)
+    (λ _. then_ok InRange (ok_or UnknownName (process_tool_of_name word)) _ (λ kind _. tt))))
 in_tool (word ∷ id ∷ more ∷ others) = tt
 
 in_schedule : (turns : List Turns) → IfOk (items.unless_none turns) InRange
@@ -106,32 +113,49 @@ unfolding item_of item_with turns_of program_of items.spawn_of script_of truss_o
 item_in_range [] h = tt
 item_in_range (first ∷ operands) h =
     if_ok InRange (begins_comment first) _ _ (λ _. tt) (λ _.
-    if_ok InRange (bytes_eq first (codes "turns")) _ _ (λ _. then_ok InRange (one BadOperand operands) _ (λ word _. then_ok InRange (ok_or BadOperand (number_of word)) _ (λ n _. if_ok InRange (n == 0) _ _ (λ _. tt) (λ _. tt)))) (λ _.
-    if_ok InRange (bytes_eq first (codes "file")) _ _ (λ _. in_file operands (All-tail (All IsByte) first operands h)) (λ _.
-    if_ok InRange (bytes_eq first (codes "program")) _ _ (λ _. then_ok InRange (one BadOperand operands) _ (λ word _. then_ok InRange (ok_or BadOperand (name_of word)) _ (λ name is. named BadOperand word name is))) (λ _.
-    if_ok InRange (bytes_eq first (codes "spawn")) _ _ (λ _. then_ok InRange (one BadOperand operands) _ (λ word _. then_ok InRange (ok_or BadOperand (name_of word)) _ (λ name _. tt))) (λ _.
-    if_ok InRange (bytes_eq first (codes "script")) _ _ (λ _. then_ok InRange (none BadOperand operands) _ (λ u _. tt)) (λ _.
+    if_ok InRange (bytes_eq first (codes "turns")) _ _
+    (λ _. then_ok InRange (one BadOperand operands) _
+    (λ word _. then_ok InRange (ok_or BadOperand (number_of word)) _
+    (λ n _. if_ok InRange (n == 0) _ _ (λ _. tt) (λ _. tt)))) (λ _.
+    if_ok InRange (bytes_eq first (codes "file")) _ _ (λ _. in_file operands (All-tail (All IsByte) first operands h))
+    (λ _.
+    if_ok InRange (bytes_eq first (codes "program")) _ _
+    (λ _. then_ok InRange (one BadOperand operands) _
+    (λ word _. then_ok InRange (ok_or BadOperand (name_of word)) _ (λ name is. named BadOperand word name is)))
+    (λ _.
+    if_ok InRange (bytes_eq first (codes "spawn")) _ _
+    (λ _. then_ok InRange (one BadOperand operands) _
+    (λ word _. then_ok InRange (ok_or BadOperand (name_of word)) _ (λ name _. tt))) (λ _.
+    if_ok InRange (bytes_eq first (codes "script")) _ _ (λ _. then_ok InRange (none BadOperand operands) _ (λ u _. tt))
+    (λ _.
     if_ok InRange (bytes_eq first (codes "truss")) _ _ (λ _. in_truss operands (options_of operands)) (λ _.
     if_ok InRange (bytes_eq first (codes "tool")) _ _ (λ _. in_tool operands) (λ _.
-    if_ok InRange (bytes_eq first (codes "schedule")) _ _ (λ _. then_ok InRange (with_turns_of [] operands) items.unless_none (λ turns _. in_schedule turns)) (λ _. tt)))))))))
+    if_ok InRange (bytes_eq first (codes "schedule")) _ _
+    (λ _. then_ok InRange (with_turns_of [] operands) items.unless_none (λ turns _. in_schedule turns))
+    (λ _. tt)))))))))
 
 in_range : (this : List ℕ) → IfOk (item_in this) InRange
 in_range this =
-    then_ok InRange (readable this) (λ _. item_of (texts_of this)) (λ x is. item_in_range (texts_of this) (texts-bytes this (readable-bytes this x is)))
+    then_ok InRange (readable this) (λ _. item_of (texts_of this))
+    (λ x is. item_in_range (texts_of this) (texts-bytes this (readable-bytes this x is)))
 
 -- ---- what a line of a script says: a write has bytes
 
-written : (words : List ℕ × List (List ℕ)) → IfOk (ok_or BadOperand (name_of words.0) >>= λ name. messages_of words.1 >>= λ bytes. Ok (call.Write name bytes)) IsLineOfBytes
+written : (words : List ℕ × List (List ℕ))
+    → IfOk (ok_or BadOperand (name_of words.0) >>= λ name. messages_of words.1 >>= λ bytes. Ok
+    (call.Write name bytes)) IsLineOfBytes
 written words =
     then_ok IsLineOfBytes (ok_or BadOperand (name_of words.0)) _ (λ name _.
-    then_ok IsLineOfBytes (messages_of words.1) _ (λ bytes is. of_ok (All IsByte) (messages_of words.1) bytes is (messages-bytes words.1)))
+    then_ok IsLineOfBytes (messages_of words.1) _
+    (λ bytes is. of_ok (All IsByte) (messages_of words.1) bytes is (messages-bytes words.1)))
 
 in_spawn : (operands : List (List ℕ)) → IfOk (calls.spawn_of operands) IsLineOfBytes
 unfolding calls.spawn_of
 in_spawn [] = tt
 in_spawn (word ∷ []) = then_ok IsLineOfBytes (ok_or BadOperand (name_of word)) _ (λ name _. tt)
 in_spawn (word ∷ how ∷ []) =
-    then_ok IsLineOfBytes (ok_or BadOperand (name_of word)) _ (λ name _. if_ok IsLineOfBytes (bytes_eq how (codes "held")) _ _ (λ _. tt) (λ _. tt))
+    then_ok IsLineOfBytes (ok_or BadOperand (name_of word)) _
+    (λ name _. if_ok IsLineOfBytes (bytes_eq how (codes "held")) _ _ (λ _. tt) (λ _. tt))
 in_spawn (word ∷ how ∷ more ∷ others) = tt
 
 in_poll : (names : List (List ℕ)) → IfOk (unless_none names) IsLineOfBytes
@@ -141,16 +165,39 @@ in_poll (name ∷ names) = tt
 in_call : (first : List ℕ) (operands : List (List ℕ)) → IfOk (call_with first operands) IsLineOfBytes
 unfolding call_with open_of close_of read_of poll_of write_of interrupt_of kill_of until_of list_of
 in_call first operands =
-    if_ok IsLineOfBytes (bytes_eq first (codes "open")) _ _ (λ _. then_ok IsLineOfBytes (four BadOperand operands) _ (λ words _. then_ok IsLineOfBytes (ok_or BadOperand (name_of words.0)) _ (λ name _. then_ok IsLineOfBytes (ok_or BadOperand (place_of_word words.1)) _ (λ place _. then_ok IsLineOfBytes (ok_or BadOperand (mode_of_name words.3)) _ (λ mode _. then_ok IsLineOfBytes (ok_or BadOperand (name_of words.2)) _ (λ _ _. then_ok IsLineOfBytes (ok_or UnknownName (file_of_name words.2)) _ (λ file _. tt))))))) (λ _.
-    if_ok IsLineOfBytes (bytes_eq first (codes "close")) _ _ (λ _. then_ok IsLineOfBytes (one BadOperand operands) _ (λ word _. then_ok IsLineOfBytes (ok_or BadOperand (name_of word)) _ (λ name _. tt))) (λ _.
-    if_ok IsLineOfBytes (bytes_eq first (codes "read")) _ _ (λ _. then_ok IsLineOfBytes (three BadOperand operands) _ (λ words _. then_ok IsLineOfBytes (ok_or BadOperand (name_of words.0)) _ (λ name _. then_ok IsLineOfBytes (ok_or BadOperand (number_of words.1)) _ (λ at _. then_ok IsLineOfBytes (ok_or BadOperand (number_of words.2)) _ (λ len _. tt))))) (λ _.
-    if_ok IsLineOfBytes (bytes_eq first (codes "poll")) _ _ (λ _. then_ok IsLineOfBytes (with_names [] operands) unless_none (λ names _. in_poll names)) (λ _.
-    if_ok IsLineOfBytes (bytes_eq first (codes "write")) _ _ (λ _. then_ok IsLineOfBytes (some BadOperand operands) _ (λ words _. written words)) (λ _.
-    if_ok IsLineOfBytes (bytes_eq first (codes "interrupt")) _ _ (λ _. then_ok IsLineOfBytes (one BadOperand operands) _ (λ word _. then_ok IsLineOfBytes (ok_or BadOperand (id_of word)) _ (λ k _. tt))) (λ _.
+    if_ok IsLineOfBytes (bytes_eq first (codes "open")) _ _
+    (λ _. then_ok IsLineOfBytes (four BadOperand operands) _
+    (λ words _. then_ok IsLineOfBytes (ok_or BadOperand (name_of words.0)) _
+    (λ name _. then_ok IsLineOfBytes (ok_or BadOperand (place_of_word words.1)) _
+    (λ place _. then_ok IsLineOfBytes (ok_or BadOperand (mode_of_name words.3)) _
+    (λ mode _. then_ok IsLineOfBytes (ok_or BadOperand (name_of words.2)) _
+    (λ _ _. then_ok IsLineOfBytes (ok_or UnknownName (file_of_name words.2)) _
+    (λ file _. tt))))))) (λ _.
+    if_ok IsLineOfBytes (bytes_eq first (codes "close")) _ _
+    (λ _. then_ok IsLineOfBytes (one BadOperand operands) _
+    (λ word _. then_ok IsLineOfBytes (ok_or BadOperand (name_of word)) _ (λ name _. tt))) (λ _.
+    if_ok IsLineOfBytes (bytes_eq first (codes "read")) _ _
+    (λ _. then_ok IsLineOfBytes (three BadOperand operands) _
+    (λ words _. then_ok IsLineOfBytes (ok_or BadOperand (name_of words.0)) _
+    (λ name _. then_ok IsLineOfBytes (ok_or BadOperand (number_of words.1)) _
+    (λ at _. then_ok IsLineOfBytes (ok_or BadOperand (number_of words.2)) _ (λ len _. tt))))) (λ _.
+    if_ok IsLineOfBytes (bytes_eq first (codes "poll")) _ _
+    (λ _. then_ok IsLineOfBytes (with_names [] operands) unless_none (λ names _. in_poll names)) (λ _.
+    if_ok IsLineOfBytes (bytes_eq first (codes "write")) _ _
+    (λ _. then_ok IsLineOfBytes (some BadOperand operands) _ (λ words _. written words)) (λ _.
+    if_ok IsLineOfBytes (bytes_eq first (codes "interrupt")) _ _
+    (λ _. then_ok IsLineOfBytes (one BadOperand operands) _
+    (λ word _. then_ok IsLineOfBytes (ok_or BadOperand (id_of word)) _ (λ k _. tt))) (λ _.
     if_ok IsLineOfBytes (bytes_eq first (codes "spawn")) _ _ (λ _. in_spawn operands) (λ _.
-    if_ok IsLineOfBytes (bytes_eq first (codes "kill")) _ _ (λ _. then_ok IsLineOfBytes (two BadOperand operands) _ (λ words _. then_ok IsLineOfBytes (ok_or BadOperand (id_of words.0)) _ (λ pid _. then_ok IsLineOfBytes (ok_or BadOperand (number_of words.1)) _ (λ sig _. tt)))) (λ _.
-    if_ok IsLineOfBytes (bytes_eq first (codes "until")) _ _ (λ _. then_ok IsLineOfBytes (one BadOperand operands) _ (λ word _. then_ok IsLineOfBytes (ok_or BadOperand (number_of word)) _ (λ moment _. tt))) (λ _.
-    if_ok IsLineOfBytes (bytes_eq first (codes "list")) _ _ (λ _. then_ok IsLineOfBytes (none BadOperand operands) _ (λ _ _. tt)) (λ _. tt))))))))))
+    if_ok IsLineOfBytes (bytes_eq first (codes "kill")) _ _
+    (λ _. then_ok IsLineOfBytes (two BadOperand operands) _
+    (λ words _. then_ok IsLineOfBytes (ok_or BadOperand (id_of words.0)) _
+    (λ pid _. then_ok IsLineOfBytes (ok_or BadOperand (number_of words.1)) _ (λ sig _. tt)))) (λ _.
+    if_ok IsLineOfBytes (bytes_eq first (codes "until")) _ _
+    (λ _. then_ok IsLineOfBytes (one BadOperand operands) _
+    (λ word _. then_ok IsLineOfBytes (ok_or BadOperand (number_of word)) _ (λ moment _. tt))) (λ _.
+    if_ok IsLineOfBytes (bytes_eq first (codes "list")) _ _
+    (λ _. then_ok IsLineOfBytes (none BadOperand operands) _ (λ _ _. tt)) (λ _. tt))))))))))
 
 abbrev OfBytes : InScript → Type 0
 OfBytes in_script.Blank = Unit {0}
@@ -160,7 +207,9 @@ in_script_line : (row : List (List ℕ)) → IfOk (script_line_of row) OfBytes
 unfolding script_line_of
 in_script_line [] = tt
 in_script_line (first ∷ operands) =
-    if_ok OfBytes (begins_comment first) _ _ (λ _. tt) (λ _. then_ok OfBytes (call_with first operands) _ (λ l is. of_ok IsLineOfBytes (call_with first operands) l is (in_call first operands)))
+    if_ok OfBytes (begins_comment first) _ _ (λ _. tt)
+    (λ _. then_ok OfBytes (call_with first operands) _
+    (λ l is. of_ok IsLineOfBytes (call_with first operands) l is (in_call first operands)))
 
 -- ---- what was read so far
 
@@ -186,30 +235,46 @@ range_nothing = record { programs = All-nil _; files = All-nil _; controllers = 
 range_turns : (d : Draft) (n : ℕ) → IsDraftInRange d → IfOk (with_turns d n) IsDraftInRange
 unfolding with_turns
 range_turns d n s =
-    if_ok IsDraftInRange (is_some d.turns) _ _ (λ _. tt) (λ _. if_ok IsDraftInRange (nat_le n turn_limit) _ _ (λ _. record { programs = s.programs; files = s.files; controllers = s.controllers; lines = s.lines }) (λ _. tt))
+    if_ok IsDraftInRange (is_some d.turns) _ _ (λ _. tt)
+    (λ _. if_ok IsDraftInRange (nat_le n turn_limit) _ _
+    (λ _. record { programs = s.programs; files = s.files; controllers = s.controllers; lines = s.lines })
+    (λ _. tt))
 
-range_file : (d : Draft) (name bytes : List ℕ) → IsStored (name, bytes) → IsDraftInRange d → IfOk (with_file d name bytes) IsDraftInRange
+range_file : (d : Draft) (name bytes : List ℕ) → IsStored (name, bytes) → IsDraftInRange d
+    → IfOk (with_file d name bytes) IsDraftInRange
 unfolding with_file
 range_file d name bytes f s =
     if_ok IsDraftInRange (is_some (place_of d.file_names name)) _ _ (λ _. tt) (λ _.
     if_ok IsDraftInRange (nat_lt (length d.file_names) file_limit) _ _ (λ _.
-    if_ok IsDraftInRange (nat_le (length bytes) file_size_limit) _ _ (λ _. record { programs = s.programs; files = All-push IsStored d.files (name, bytes) s.files f; controllers = s.controllers; lines = s.lines }) (λ _. tt)) (λ _. tt))
+    if_ok IsDraftInRange (nat_le (length bytes) file_size_limit) _ _
+    (λ _. record {
+      programs = s.programs;
+      files = All-push IsStored d.files
+          (name, bytes) s.files f;
+      controllers = s.controllers;
+      lines = s.lines;
+    }) (λ _. tt)) (λ _. tt))
 
 range_process : (d : Draft) (place size : ℕ) → IsDraftInRange d → IfOk (with_process d place size) IsDraftInRange
 range_process d place size s =
     if_ok IsDraftInRange (nat_lt (length d.spawns) spawn_limit) _ _ (λ _.
-    if_ok IsDraftInRange (nat_le (d.mapped + size) all_mappings_limit) _ _ (λ _. record { programs = s.programs; files = s.files; controllers = s.controllers; lines = s.lines }) (λ _. tt)) (λ _. tt)
+    if_ok IsDraftInRange (nat_le (d.mapped + size) all_mappings_limit) _ _
+    (λ _. record { programs = s.programs; files = s.files; controllers = s.controllers; lines = s.lines })
+    (λ _. tt)) (λ _. tt)
 
 range_spawn : (d : Draft) (name : List ℕ) → IsDraftInRange d → IfOk (with_spawn d name) IsDraftInRange
 unfolding with_spawn
 range_spawn d name s =
     then_ok IsDraftInRange (ok_or UnknownName (place_of d.program_names name)) _ (λ place _.
-    then_ok IsDraftInRange (ok_or UnknownName (option_map first_size (slice_get d.programs place))) _ (λ size _. range_process d place size s))
+    then_ok IsDraftInRange (ok_or UnknownName (option_map first_size (slice_get d.programs place))) _
+    (λ size _. range_process d place size s))
 
-range_controller : (d : Draft) (plan : Plan) → IsPlanOfBytes plan → IsDraftInRange d → IfOk (with_controller d plan) IsDraftInRange
+range_controller : (d : Draft) (plan : Plan) → IsPlanOfBytes plan → IsDraftInRange d
+    → IfOk (with_controller d plan) IsDraftInRange
 unfolding with_controller
 range_controller d plan p s =
-    if_ok IsDraftInRange (nat_lt (length d.controllers) controller_limit) _ _ (λ _. record { programs = s.programs; files = s.files; controllers = All-push IsPlanOfBytes d.controllers plan s.controllers p; lines = s.lines }) (λ _. tt)
+    if_ok IsDraftInRange (nat_lt (length d.controllers) controller_limit) _ _
+    (λ _. record { programs = s.programs; files = s.files; controllers = All-push IsPlanOfBytes d.controllers plan s.controllers p; lines = s.lines }) (λ _. tt)
 
 range_truss : (d : Draft) (options : Options) → IsDraftInRange d → IfOk (with_truss d options) IsDraftInRange
 unfolding with_truss IsCoreOfBytes controller_of
@@ -219,7 +284,8 @@ range_truss d options s =
 range_schedule : (d : Draft) (turns : List Turns) → IsDraftInRange d → IfOk (with_schedule d turns) IsDraftInRange
 unfolding with_schedule
 range_schedule d turns s =
-    if_ok IsDraftInRange (nat_le (length d.schedule + turn_count turns) schedule_limit) _ _ (λ _. record { programs = s.programs; files = s.files; controllers = s.controllers; lines = s.lines }) (λ _. tt)
+    if_ok IsDraftInRange (nat_le (length d.schedule + turn_count turns) schedule_limit) _ _
+    (λ _. record { programs = s.programs; files = s.files; controllers = s.controllers; lines = s.lines }) (λ _. tt)
 
 range_with : (d : Draft) (i : Item) → InRange i → IsDraftInRange d → IfOk (with_item d i) IsDraftInRange
 unfolding with_item IsCoreOfBytes controller_of
@@ -236,24 +302,43 @@ range_with d (item.Schedule turns) h s = range_schedule d turns s
 range_line : (d : Draft) (this : List ℕ) → IsDraftInRange d → IfOk (line_added d this) IsDraftInRange
 unfolding line_added
 range_line d this s =
-    then_ok IsDraftInRange (item_in this) (with_item d) (λ i is. range_with d i (of_ok InRange (item_in this) i is (in_range this)) s)
+    then_ok IsDraftInRange (item_in this) (with_item d)
+    (λ i is. range_with d i (of_ok InRange (item_in this) i is (in_range this)) s)
 
 -- ---- program blocks
 
-range_program : (n : ℕ) (d : Draft) (name : List ℕ) (body : List (List ℕ)) (last : List ℕ) → IsShortName name → IsDraftInRange d → IfOk (program_added n d name body last) IsDraftInRange
+range_program : (n : ℕ) (d : Draft) (name : List ℕ) (body : List (List ℕ)) (last : List ℕ) → IsShortName name
+    → IsDraftInRange d → IfOk (program_added n d name body last) IsDraftInRange
 unfolding program_added with_program
 range_program n d name body last named s =
     then_ok IsDraftInRange (program_read name (n + 1) body) _ (λ p is.
     then_ok IsDraftInRange (numbered (n + (length body + 1)) (ended last)) _ (λ _ _.
-    record { programs = All-push IsWhole d.programs p s.programs (of_ok IsWhole (program_read name (n + 1) body) p is (program-range name (n + 1) body named)); files = s.files; controllers = s.controllers; lines = s.lines }))
+    record {
+      programs =
+          All-push IsWhole d.programs p s.programs
+          (of_ok IsWhole (program_read name (n + 1) body) p is (program-range name (n + 1) body named));
+      files = s.files;
+      controllers = s.controllers;
+      lines = s.lines;
+    }))
 
 -- ---- script blocks
 
 line_more : (d : Draft) (l : ScriptLine) → IsLineOfBytes l → IsDraftInRange d → IsDraftInRange (with_line d l)
-line_more d l h s = record { programs = s.programs; files = s.files; controllers = s.controllers; lines = All-push IsLineOfBytes d.lines l s.lines h }
+line_more d l h s = record {
+  programs = s.programs;
+  files = s.files;
+  controllers = s.controllers;
+  lines = All-push IsLineOfBytes d.lines l s.lines h;
+}
 
 list_more : (d : Draft) → IsDraftInRange d → IsDraftInRange (record (with_line d call.List) { lists = d.lists + 1 })
-list_more d s = record { programs = s.programs; files = s.files; controllers = s.controllers; lines = All-push IsLineOfBytes d.lines call.List s.lines tt }
+list_more d s = record {
+  programs = s.programs;
+  files = s.files;
+  controllers = s.controllers;
+  lines = All-push IsLineOfBytes d.lines call.List s.lines tt;
+}
 
 range_call : (d : Draft) (l : ScriptLine) → IsLineOfBytes l → IsDraftInRange d → IfOk (call_added d l) IsDraftInRange
 unfolding call_added
@@ -270,22 +355,35 @@ range_said d (in_script.Line l) h s = range_call d l h s
 range_words : (n : ℕ) (d : Draft) (this : List ℕ) → IsDraftInRange d → IfOk (script_line_read n d this) IsDraftInRange
 unfolding script_line_read
 range_words n d this s =
-    numbered_ok IsDraftInRange n (script_words_added d this) (then_ok IsDraftInRange (readable this) _ (λ _ _. then_ok IsDraftInRange (script_line_of (texts_of this)) (script_line_added d) (λ l is. range_said d l (of_ok OfBytes (script_line_of (texts_of this)) l is (in_script_line (texts_of this))) s)))
+    numbered_ok IsDraftInRange n (script_words_added d this)
+    (then_ok IsDraftInRange (readable this) _
+    (λ _ _. then_ok IsDraftInRange (script_line_of (texts_of this)) (script_line_added d)
+    (λ l is. range_said d l
+    (of_ok OfBytes (script_line_of (texts_of this)) l is (in_script_line (texts_of this))) s)))
 
 range_script : (d : Draft) → IsDraftInRange d → IsDraftInRange (with_script d)
 unfolding with_script first_script IsCoreOfBytes controller_of
-range_script d s = record { programs = s.programs; files = s.files; controllers = All-push IsPlanOfBytes d.controllers (Script (first_script d.lines)) s.controllers s.lines; lines = All-nil IsLineOfBytes }
+range_script d s = record {
+  programs = s.programs;
+  files = s.files;
+  controllers = All-push IsPlanOfBytes d.controllers (Script (first_script d.lines)) s.controllers s.lines;
+  lines = All-nil IsLineOfBytes;
+}
 
-range_script_block : (n : ℕ) (d : Draft) (body : List (List ℕ)) (last : List ℕ) → IsDraftInRange d → IfOk (script_added n d body last) IsDraftInRange
+range_script_block : (n : ℕ) (d : Draft) (body : List (List ℕ)) (last : List ℕ) → IsDraftInRange d
+    → IfOk (script_added n d body last) IsDraftInRange
 unfolding script_added
 range_script_block n d body last s =
     then_ok IsDraftInRange (folded script_line_read (n + 1) d body) _ (λ e is.
     then_ok IsDraftInRange (numbered (n + (length body + 1)) (ended last)) _ (λ _ _.
-    range_script e (of_ok IsDraftInRange (folded script_line_read (n + 1) d body) e is (folded_ok IsDraftInRange script_line_read range_words (n + 1) d body s))))
+    range_script e
+    (of_ok IsDraftInRange (folded script_line_read (n + 1) d body) e is
+    (folded_ok IsDraftInRange script_line_read range_words (n + 1) d body s))))
 
 -- ---- parts
 
-range_block : (n : ℕ) (d : Draft) (i : Item) (body : List (List ℕ)) (last : List ℕ) → InRange i → IsDraftInRange d → IfOk (block_added n d i body last) IsDraftInRange
+range_block : (n : ℕ) (d : Draft) (i : Item) (body : List (List ℕ)) (last : List ℕ) → InRange i → IsDraftInRange d
+    → IfOk (block_added n d i body last) IsDraftInRange
 unfolding block_added
 range_block n d (item.Program name) body last h s = range_program n d name body last h s
 range_block n d item.Script body last h s = range_script_block n d body last s
@@ -294,13 +392,18 @@ range_block n d _ body last h s = s
 may_at : (d : Draft) (first : List ℕ) → IfOk (begun d first) InRange
 unfolding begun
 may_at d first =
-    then_ok InRange (item_in first) _ (λ i is. then_ok InRange (may_begin d i) (λ _. Ok i) (λ _ _. of_ok InRange (item_in first) i is (in_range first)))
+    then_ok InRange (item_in first) _
+    (λ i is. then_ok InRange (may_begin d i) (λ _. Ok i)
+    (λ _ _. of_ok InRange (item_in first) i is (in_range first)))
 
 range_part : (d : Draft) (part : Part) → IsDraftInRange d → IfOk (part_added d part) IsDraftInRange
 unfolding part_added
 range_part d (line n this) s = numbered_ok IsDraftInRange n (line_added d this) (range_line d this s)
 range_part d (block n first body last) s =
-    then_ok IsDraftInRange (numbered n (begun d first)) _ (λ i is. range_block n d i body last (of_ok InRange (numbered n (begun d first)) i is (numbered_ok InRange n (begun d first) (may_at d first))) s)
+    then_ok IsDraftInRange (numbered n (begun d first)) _
+    (λ i is. range_block n d i body last
+    (of_ok InRange (numbered n (begun d first)) i is
+    (numbered_ok InRange n (begun d first) (may_at d first))) s)
 range_part d (endless n first) s =
     numbered_ok IsDraftInRange n (endless_kind d first) (then_ok IsDraftInRange (begun d first) _ (λ _ _. tt))
 
@@ -308,7 +411,8 @@ range_parts : (d : Draft) (parts : List Part) → IsDraftInRange d → IfOk (par
 unfolding parts_added
 range_parts d [] s = s
 range_parts d (part ∷ parts) s =
-    then_ok IsDraftInRange (part_added d part) _ (λ e is. range_parts e parts (of_ok IsDraftInRange (part_added d part) e is (range_part d part s)))
+    then_ok IsDraftInRange (part_added d part) _
+    (λ e is. range_parts e parts (of_ok IsDraftInRange (part_added d part) e is (range_part d part s)))
 
 -- ---- the scenario
 
@@ -325,7 +429,8 @@ made_range d s = record { programs = s.programs; files = s.files; controllers = 
 has_ranges : (lines : List (List ℕ)) → IfOk (scenario_in lines) HasRanges
 unfolding scenario_in draft_in
 has_ranges lines =
-    then_ok HasRanges (parts_added nothing _) _ (λ d is. made_range d (of_ok IsDraftInRange _ d is (range_parts nothing _ range_nothing)))
+    then_ok HasRanges (parts_added nothing _) _
+    (λ d is. made_range d (of_ok IsDraftInRange _ d is (range_parts nothing _ range_nothing)))
 
 in_all : (s : Scenario) → IsWithinLimits s → HasRanges s → IsScenarioInRange s
 in_all s w r = record {
@@ -347,4 +452,5 @@ in_all s w r = record {
 -- a scenario that was read is in range
 pub scenario-range : (input : List ℕ) (s : Scenario) → scenario_of input ≡ Ok s → IsScenarioInRange s
 scenario-range input s is =
-    in_all s (of_ok IsWithinLimits (scenario_in (lines_of input)) s is (scenario_within (lines_of input))) (of_ok HasRanges (scenario_in (lines_of input)) s is (has_ranges (lines_of input)))
+    in_all s (of_ok IsWithinLimits (scenario_in (lines_of input)) s is (scenario_within (lines_of input)))
+    (of_ok HasRanges (scenario_in (lines_of input)) s is (has_ranges (lines_of input)))

@@ -36,16 +36,21 @@ reply-tracer (Truss t) r tracer = tt
 reply-tracer (Tool t) r tracer = tt
 
 -- the call of a controller
-call-passive : (controllers : List ControllerState) (k : ℕ) (c : Call) → All IsTracer controllers → call_by controllers k ≡ Some c → IsPassiveCall c
+call-passive : (controllers : List ControllerState) (k : ℕ) (c : Call) → All IsTracer controllers
+    → call_by controllers k ≡ Some c → IsPassiveCall c
 unfolding call_by
 call-passive controllers k c all is = of (slice_get controllers k) refl is
   where
-    of : (o : Option ControllerState) → slice_get controllers k ≡ o → option_and_then next_call o ≡ Some c → IsPassiveCall c
+    of : (o : Option ControllerState) → slice_get controllers k ≡ o → option_and_then next_call o ≡ Some c
+        → IsPassiveCall c
     of None found is = absurd (cc)
-    of (Some core) found is = subst (λ next. IfSome next IsPassiveCall) is (core-passive core (All-at IsTracer controllers k core found all))
+    of (Some core) found is =
+        subst (λ next. IfSome next IsPassiveCall) is (core-passive core (All-at IsTracer controllers k core found all))
 
 -- each entry
-entry-passive : (controllers : List ControllerState) (n : ℕ) (s : TracedState) (actor : Actor) (it : Act) → All IsTracer controllers → IsLegalEntry n s (record { actor = actor; act = it }) → FollowsAt controllers s (record { actor = actor; act = it }) → IsTrue (is_passive_act it)
+entry-passive : (controllers : List ControllerState) (n : ℕ) (s : TracedState) (actor : Actor) (it : Act)
+    → All IsTracer controllers → IsLegalEntry n s (record { actor = actor; act = it })
+    → FollowsAt controllers s (record { actor = actor; act = it }) → IsTrue (is_passive_act it)
 unfolding IsLegalEntry FollowsAt
 entry-passive controllers n s (Controller k) (act.Call c r) all legal follows =
     reply-passive s k c (record { state = legal.1.0; reply = r }) legal.1.1 (call-passive controllers k c all follows)
@@ -55,15 +60,19 @@ entry-passive controllers n s (Lwp p l) (act.Call c r) all legal follows = absur
 entry-passive controllers n s Clock (act.Call c r) all legal follows = absurd legal
 
 -- the controllers after it are tracers too
-fed-tracers : (controllers : List ControllerState) (k : ℕ) (r : Reply) → All IsTracer controllers → All IsTracer (with_fed k r controllers)
+fed-tracers : (controllers : List ControllerState) (k : ℕ) (r : Reply) → All IsTracer controllers
+    → All IsTracer (with_fed k r controllers)
 unfolding with_fed
 fed-tracers controllers k r all = of (slice_get controllers k) refl
   where
     of : (o : Option ControllerState) → slice_get controllers k ≡ o → All IsTracer (feed_at k r controllers o)
     of None found = all
-    of (Some c) found = All-set IsTracer controllers k (after_reply c r) (reply-tracer c r (All-at IsTracer controllers k c found all)) all
+    of (Some c) found =
+        All-set IsTracer controllers k (after_reply c r)
+        (reply-tracer c r (All-at IsTracer controllers k c found all)) all
 
-after-tracers : (controllers : List ControllerState) (actor : Actor) (it : Act) → All IsTracer controllers → All IsTracer (controllers_after controllers (record { actor = actor; act = it }))
+after-tracers : (controllers : List ControllerState) (actor : Actor) (it : Act) → All IsTracer controllers
+    → All IsTracer (controllers_after controllers (record { actor = actor; act = it }))
 unfolding controllers_after
 after-tracers controllers (Controller k) (act.Call c r) all = fed-tracers controllers k r all
 after-tracers controllers (Controller k) (act.Turn t) all = all
@@ -71,9 +80,12 @@ after-tracers controllers (Controller k) (act.Tick moment) all = all
 after-tracers controllers (Lwp p l) it all = all
 after-tracers controllers Clock it all = all
 
-pub tracers-passive : (controllers : List ControllerState) (n : ℕ) (s : TracedState) (h : List Entry) → All IsTracer controllers → IsLegal n s h → Follows controllers s h → IsPassive h
+pub tracers-passive : (controllers : List ControllerState) (n : ℕ) (s : TracedState) (h : List Entry)
+    → All IsTracer controllers → IsLegal n s h → Follows controllers s h → IsPassive h
 tracers-passive controllers n s [] all legal follows = All-nil (λ (e : Entry). IsTrue (is_passive_act e.act))
 tracers-passive controllers n s (e ∷ h) all legal follows =
     let here = entry-passive controllers n s e.actor e.act all legal.0 follows.0 in
-    let rest = tracers-passive (controllers_after controllers e) n (after s e) h (after-tracers controllers e.actor e.act all) legal.1 follows.1 in
+    let rest =
+    tracers-passive (controllers_after controllers e) n (after s e) h
+    (after-tracers controllers e.actor e.act all) legal.1 follows.1 in
     All-cons (λ (x : Entry). IsTrue (is_passive_act x.act)) e h here rest

@@ -20,21 +20,21 @@ use Rattle.pr_model.specs.declared.events.Entry.{Entry}
 use Rattle.pr_model.specs.declared.handles.Held.{Held}
 use Rattle.pr_reached.specs.ByteHistories.{HasBytes}
 use Rattle.pr_reached.specs.Reached.{IsReached}
-use Rattle.pr_report_laws.proofs.BeginLaws.{finished-watches-none, followed-watches, opened-watches}
-use Rattle.pr_report_laws.proofs.BeginsOnlyLaws.{watched-opened}
-use Rattle.pr_report_laws.proofs.Births.{births-report, unfollowed-report}
-use Rattle.pr_report_laws.proofs.EndLaws.{watched-let}
-use Rattle.pr_report_laws.proofs.EventMemory.{left-memories, unfollowed-memories}
-use Rattle.pr_report_laws.proofs.FileLaws.{HasFiles, IsFileOf}
-use Rattle.pr_report_laws.proofs.FileUses.{freed-file}
-use Rattle.pr_report_laws.proofs.FollowCalm.{never-kept, never-left}
-use Rattle.pr_report_laws.proofs.FollowLaws.{read-followed}
-use Rattle.pr_report_laws.proofs.FreedLaws.{read-freed}
-use Rattle.pr_report_laws.proofs.MemoryReads.{read-texts}
-use Rattle.pr_report_laws.proofs.NewbornLaws.{followed-forked, followed-rests, followed-silent, followed-unstarted}
-use Rattle.pr_report_laws.proofs.ReleaseLaws.{freed-set, set-stays, traced-set}
-use Rattle.pr_report_laws.proofs.ReleaseSteps.{truss-releases}
-use Rattle.pr_report_laws.proofs.WatchHistories.{exchanges-both, makes-front, makes-rest, run-reaches}
+use Rattle.pr_report_laws.proofs.Attachments.BeginLaws.{finished-watches-none, followed-watches, opened-watches}
+use Rattle.pr_report_laws.proofs.Attachments.BeginsOnlyLaws.{watched-opened}
+use Rattle.pr_report_laws.proofs.UnopenedChildren.Births.{births-report, unfollowed-report}
+use Rattle.pr_report_laws.proofs.Attachments.EndLaws.{watched-let}
+use Rattle.pr_report_laws.proofs.Memory.EventMemory.{left-memories, unfollowed-memories}
+use Rattle.pr_report_laws.proofs.Files.FileLaws.{HasFiles, IsFileOf}
+use Rattle.pr_report_laws.proofs.Files.FileUses.{freed-file}
+use Rattle.pr_report_laws.proofs.FollowedChildren.FollowCalm.{never-kept, never-left}
+use Rattle.pr_report_laws.proofs.FollowedChildren.FollowLaws.{read-followed}
+use Rattle.pr_report_laws.proofs.FollowedChildren.FreedLaws.{read-freed}
+use Rattle.pr_report_laws.proofs.Memory.MemoryReads.{read-texts}
+use Rattle.pr_report_laws.proofs.NewbornChildren.NewbornLaws.{followed-forked, followed-rests, followed-silent, followed-unstarted}
+use Rattle.pr_report_laws.proofs.Releases.ReleaseLaws.{freed-set, set-stays, traced-set}
+use Rattle.pr_report_laws.proofs.Releases.ReleaseSteps.{truss-releases}
+use Rattle.pr_report_laws.proofs.Files.WatchHistories.{exchanges-both, makes-front, makes-rest, run-reaches}
 use Rattle.pr_tool_laws.proofs.WholeLemmas.{front-bytes, front-legal}
 use Rattle.pr_report_laws.specs.Births.{LeavesForks, NamesNoChild, granted}
 use Rattle.pr_report_laws.specs.Attachments.{HasFollowed, HasOpened, IsLetGo}
@@ -62,11 +62,13 @@ use Rattle.pr_tool_laws.proofs.ProtocolLemmas.{fed-other, fed-own}
 
 -- ---- its call, and the reply to it
 
-truss-next : (controllers : List ControllerState) (k : ℕ) (t : TrussState) (c : Call) → slice_get controllers k ≡ Some (Truss t) → call_by controllers k ≡ Some c → next_call_of t ≡ Some c
+truss-next : (controllers : List ControllerState) (k : ℕ) (t : TrussState) (c : Call)
+    → slice_get controllers k ≡ Some (Truss t) → call_by controllers k ≡ Some c → next_call_of t ≡ Some c
 unfolding call_by next_call
 truss-next controllers k t c at calls = sym (ap (option_and_then next_call) at) ∙ calls
 
-truss-fed : (controllers : List ControllerState) (k : ℕ) (t : TrussState) (r : Reply) → slice_get controllers k ≡ Some (Truss t) → slice_get (with_fed k r controllers) k ≡ Some (Truss (fed t r))
+truss-fed : (controllers : List ControllerState) (k : ℕ) (t : TrussState) (r : Reply)
+    → slice_get controllers k ≡ Some (Truss t) → slice_get (with_fed k r controllers) k ≡ Some (Truss (fed t r))
 unfolding after_reply
 truss-fed controllers k t r at = fed-own controllers k r (Truss t) at
 
@@ -79,18 +81,30 @@ Stays controllers h k t xs = Makes t xs × (slice_get (controllers_at controller
 abbrev Rest : List ControllerState → List Entry → ℕ → List Exchange → Type 0
 Rest controllers h k xs = (u : TrussState) → slice_get controllers k ≡ Some (Truss u) → Stays controllers h k u xs
 
-call-stays : (controllers : List ControllerState) (h : List Entry) (k by : ℕ) (t : TrussState) (c : Call) (r : Reply) (xs : List Exchange) (b : Bool) → (by == k) ≡ b → slice_get controllers k ≡ Some (Truss t) → call_by controllers by ≡ Some c → Rest (with_fed by r controllers) h k xs → Stays (with_fed by r controllers) h k t (cons_option (cond b (Some (record { call = c; reply = r })) None) xs)
+call-stays : (controllers : List ControllerState) (h : List Entry) (k by : ℕ) (t : TrussState) (c : Call) (r : Reply)
+    (xs : List Exchange) (b : Bool) → (by == k) ≡ b → slice_get controllers k ≡ Some (Truss t)
+    → call_by controllers by ≡ Some c → Rest (with_fed by r controllers) h k xs
+    → Stays (with_fed by r controllers) h k t (cons_option (cond b (Some (record { call = c; reply = r })) None) xs)
 call-stays controllers h k by t c r xs true is at calls rest =
     let same = eqb-true by k is in
     let next = truss-next controllers k t c at (subst (λ n. call_by controllers n ≡ Some c) same calls) in
-    let here = subst (λ n. slice_get (with_fed n r controllers) k ≡ Some (Truss (fed t r))) (sym same) (truss-fed controllers k t r at) in
+    let here =
+    subst (λ n. slice_get (with_fed n r controllers) k ≡ Some (Truss (fed t r))) (sym same)
+    (truss-fed controllers k t r at) in
     let it = rest (fed t r) here in
     ((next, it.0), it.1)
-call-stays controllers h k by t c r xs false is at calls rest = rest t (fed-other controllers by k r (eqb-false by k is) ∙ at)
+call-stays controllers h k by t c r xs false is at calls rest =
+    rest t (fed-other controllers by k r (eqb-false by k is) ∙ at)
 
-entry-stays : (controllers : List ControllerState) (s : TracedState) (h : List Entry) (k : ℕ) (t : TrussState) (actor : Actor) (it : Act) (xs : List Exchange) → slice_get controllers k ≡ Some (Truss t) → FollowsAt controllers s (record { actor = actor; act = it }) → Rest (controllers_after controllers (record { actor = actor; act = it })) h k xs → Stays (controllers_after controllers (record { actor = actor; act = it })) h k t (cons_option (exchange_in k actor it) xs)
+entry-stays : (controllers : List ControllerState) (s : TracedState) (h : List Entry) (k : ℕ) (t : TrussState)
+    (actor : Actor) (it : Act) (xs : List Exchange) → slice_get controllers k ≡ Some (Truss t)
+    → FollowsAt controllers s (record { actor = actor; act = it })
+    → Rest (controllers_after controllers (record { actor = actor; act = it })) h k xs
+    → Stays (controllers_after controllers (record { actor = actor; act = it })) h k t
+    (cons_option (exchange_in k actor it) xs)
 unfolding FollowsAt controllers_after
-entry-stays controllers s h k t (Controller by) (act.Call c r) xs at follows rest = call-stays controllers h k by t c r xs (by == k) refl at follows rest
+entry-stays controllers s h k t (Controller by) (act.Call c r) xs at follows rest =
+    call-stays controllers h k by t c r xs (by == k) refl at follows rest
 entry-stays controllers s h k t (Controller by) (act.Turn did) xs at follows rest = rest t at
 entry-stays controllers s h k t (Controller by) (act.Tick moment) xs at follows rest = rest t at
 entry-stays controllers s h k t (Lwp p l) it xs at follows rest = rest t at
@@ -102,15 +116,19 @@ exchanges-none : (k : ℕ) → exchanges k [] ≡ []
 unfolding exchanges
 exchanges-none k = refl
 
-exchanges-cons : (k : ℕ) (e : Entry) (h : List Entry) → exchanges k (e ∷ h) ≡ cons_option (exchange_of k e) (exchanges k h)
+exchanges-cons : (k : ℕ) (e : Entry) (h : List Entry)
+    → exchanges k (e ∷ h) ≡ cons_option (exchange_of k e) (exchanges k h)
 unfolding exchanges
 exchanges-cons k e h = refl
 
-truss-stays : (h : List Entry) (controllers : List ControllerState) (s : TracedState) (k : ℕ) (t : TrussState) → slice_get controllers k ≡ Some (Truss t) → Follows controllers s h → Stays controllers h k t (exchanges k h)
+truss-stays : (h : List Entry) (controllers : List ControllerState) (s : TracedState) (k : ℕ) (t : TrussState)
+    → slice_get controllers k ≡ Some (Truss t) → Follows controllers s h → Stays controllers h k t (exchanges k h)
 truss-stays [] controllers s k t at follows = subst (Stays controllers [] k t) (sym (exchanges-none k)) (tt, at)
 truss-stays (e ∷ h) controllers s k t at follows =
-    let rest : Rest (controllers_after controllers e) h k (exchanges k h) = λ u here. truss-stays h (controllers_after controllers e) (after s e) k u here follows.1 in
-    subst (Stays controllers (e ∷ h) k t) (sym (exchanges-cons k e h)) (entry-stays controllers s h k t e.actor e.act (exchanges k h) at follows.0 rest)
+    let rest : Rest (controllers_after controllers e) h k (exchanges k h) =
+    λ u here. truss-stays h (controllers_after controllers e) (after s e) k u here follows.1 in
+    subst (Stays controllers (e ∷ h) k t) (sym (exchanges-cons k e h))
+    (entry-stays controllers s h k t e.actor e.act (exchanges k h) at follows.0 rest)
 
 -- ---- what a run keeps of it
 
@@ -121,22 +139,33 @@ none-held k (suc n) (suc number) = none-held k n number
 
 pub nothing-held : (k : ℕ) (s : TracedState) → s.opens ≡ nothing_open → HasNothingOpen k s
 unfolding handle_of nothing_open
-nothing-held k s none = record { none = λ number. ap (λ (opens : Places). own k (slice_get opens number)) none ∙ none-held k handle_limit number }
+nothing-held k s none =
+    record {
+      none = λ number. ap (λ (opens : Places). own k (slice_get opens number)) none
+          ∙ none-held k handle_limit number;
+    }
 
 -- what is asked of the forks of a history is so of a front of it
 named-front : (o : Options) (before later : List Entry) → NamesNoChild o (before ++ later) → NamesNoChild o before
 named-front o before later named = record {
-  none = λ follow b l parent id place pid turned is made at. named.none follow b (l ++ later) parent id place pid turned (ap (λ g. g ++ later) is ∙ append_assoc b (turn_entry parent id turned ∷ l) later) made at;
+  none =
+      λ follow b l parent id place pid turned is made at. named.none follow b (l ++ later) parent id place pid turned
+      (ap (λ g. g ++ later) is ∙ append_assoc b (turn_entry parent id turned ∷ l) later) made at;
 }
 
-forks-front : (k : ℕ) (o : Options) (before later : List Entry) → LeavesForks k o (before ++ later) → LeavesForks k o before
+forks-front : (k : ℕ) (o : Options) (before later : List Entry) → LeavesForks k o (before ++ later)
+    → LeavesForks k o before
 forks-front k o before later forks = record {
-  each = λ follow b between behind l parent id turned by pid lwp handle own_lwp own_handle file own_file mode own_mode is made writes own_writes.
+  each =
+      λ follow b between behind l parent id turned by pid lwp handle own_lwp own_handle file own_file mode own_mode is made writes own_writes.
       let own : Entry = granted k pid own_lwp own_file own_mode own_handle in
       let other : Entry = granted by pid lwp file mode handle in
-      forks.each follow b between behind (l ++ later) parent id turned by pid lwp handle own_lwp own_handle file own_file mode own_mode
-      (ap (λ g. g ++ later) is ∙ append_assoc b (turn_entry parent id turned ∷ (between ++ other ∷ (behind ++ own ∷ l))) later
-      ∙ ap (λ g. b ++ turn_entry parent id turned ∷ g) (append_assoc between (other ∷ (behind ++ own ∷ l)) later ∙ ap (λ g. between ++ other ∷ g) (append_assoc behind (own ∷ l) later)))
+      forks.each follow b between behind
+      (l ++ later) parent id turned by pid lwp handle own_lwp own_handle file own_file mode own_mode
+      (ap (λ g. g ++ later) is
+      ∙ append_assoc b (turn_entry parent id turned ∷ (between ++ other ∷ (behind ++ own ∷ l))) later
+      ∙ ap (λ g. b ++ turn_entry parent id turned ∷ g) (append_assoc between (other ∷ (behind ++ own ∷ l)) later
+      ∙ ap (λ g. between ++ other ∷ g) (append_assoc behind (own ∷ l) later)))
       made writes own_writes;
 }
 
@@ -146,27 +175,38 @@ module _ (n k : ℕ) (o : Options) (first : TracedState) (h : List Entry) (run :
     lawful = run.lawful;
     nothing_open = run.nothing_open;
     legal = front-legal n first before later (subst (IsLegal n first) is run.legal);
-    makes = makes-front (first_truss o) (exchanges k before) (exchanges k later) (subst (Makes (first_truss o)) (ap (exchanges k) is ∙ exchanges-both k before later) run.makes);
+    makes =
+        makes-front (first_truss o) (exchanges k before) (exchanges k later)
+        (subst (Makes (first_truss o)) (ap (exchanges k) is ∙ exchanges-both k before later) run.makes);
   }
 
-  entry-run : (before later : List Entry) (e : Entry) → h ≡ before ++ e ∷ later → IsTrussRun n k o first (before ++ e ∷ [])
+  entry-run : (before later : List Entry) (e : Entry) → h ≡ before ++ e ∷ later
+      → IsTrussRun n k o first (before ++ e ∷ [])
   entry-run before later e is = front-run (before ++ e ∷ []) later (is ∙ sym (append_assoc before (e ∷ []) later))
 
   -- ---- the watch of a process ends for a reason
 
-  let-go : (before later : List Entry) (e : Entry) (pid : ℕ) → h ≡ before ++ e ∷ later → watches (truss_at k o before) pid ≡ true → watches (truss_at k o (before ++ e ∷ [])) pid ≡ false → IsLetGo k pid first before e
+  let-go : (before later : List Entry) (e : Entry) (pid : ℕ) → h ≡ before ++ e ∷ later
+      → watches (truss_at k o before) pid ≡ true → watches (truss_at k o (before ++ e ∷ [])) pid ≡ false
+      → IsLetGo k pid first before e
   let-go before later e pid is on off = watched-let n k o pid first before e (entry-run before later e is) on off
 
   -- ---- it begins by an opening
 
-  opens : (before later : List Entry) (pid : ℕ) → h ≡ before ++ later → HasOpened k o pid before ⊎ HasFollowed k pid before → watches (truss_at k o before) pid ≡ true
+  opens : (before later : List Entry) (pid : ℕ) → h ≡ before ++ later
+      → HasOpened k o pid before ⊎ HasFollowed k pid before → watches (truss_at k o before) pid ≡ true
   opens before later pid is (inl opened) = opened-watches n k o pid first before (front-run before later is) opened
-  opens before later pid is (inr followed) = followed-watches n k o pid first before (front-run before later is) followed
+  opens before later pid is (inr followed) =
+      followed-watches n k o pid first before (front-run before later is) followed
 
-  begins : (before later : List Entry) (e : Entry) (pid : ℕ) → h ≡ before ++ e ∷ later → watches (truss_at k o before) pid ≡ false → watches (truss_at k o (before ++ e ∷ [])) pid ≡ true → HasOpened k o pid (before ++ e ∷ []) ⊎ HasFollowed k pid (before ++ e ∷ [])
+  begins : (before later : List Entry) (e : Entry) (pid : ℕ) → h ≡ before ++ e ∷ later
+      → watches (truss_at k o before) pid ≡ false → watches (truss_at k o (before ++ e ∷ [])) pid ≡ true
+      → HasOpened k o pid (before ++ e ∷ []) ⊎ HasFollowed k pid (before ++ e ∷ [])
   begins before later e pid is off on = watched-opened n k o pid first before e (entry-run before later e is) off on
 
-  newborn : IsReached first → HasBytes h → (before later : List Entry) (e : Entry) (pid : ℕ) → NamesNoChild o h → LeavesForks k o h → h ≡ before ++ e ∷ later → watches (truss_at k o before) pid ≡ false → HasFollowed k pid (before ++ e ∷ []) → IsNewborn o pid first (before ++ e ∷ [])
+  newborn : IsReached first → HasBytes h → (before later : List Entry) (e : Entry) (pid : ℕ) → NamesNoChild o h
+      → LeavesForks k o h → h ≡ before ++ e ∷ later → watches (truss_at k o before) pid ≡ false
+      → HasFollowed k pid (before ++ e ∷ []) → IsNewborn o pid first (before ++ e ∷ [])
   newborn reached bytes before later e pid named forks is off followed =
       let it = entry-run before later e is in
       let split : h ≡ (before ++ e ∷ []) ++ later = is ∙ sym (append_assoc before (e ∷ []) later) in
@@ -180,11 +220,17 @@ module _ (n k : ℕ) (o : Options) (first : TracedState) (h : List Entry) (run :
         silent = followed-silent n k o pid first before e reached it those none_named left off followed;
       }
 
-  was-let : (pid : ℕ) → watches (truss_at k o h) pid ≡ false → (later before : List Entry) → h ≡ before ++ later → watches (truss_at k o before) pid ≡ true → WasLetGo k pid first before later
-  was-let pid over [] before is on = absurd (false≢true (sym over ∙ ap (λ g. watches (truss_at k o g) pid) (is ∙ append-nil before) ∙ on))
-  was-let pid over (e ∷ later) before is on = by (watches (truss_at k o (before ++ e ∷ [])) pid) refl (was-let pid over later (before ++ e ∷ []) (is ∙ sym (append_assoc before (e ∷ []) later)))
+  was-let : (pid : ℕ) → watches (truss_at k o h) pid ≡ false → (later before : List Entry) → h ≡ before ++ later
+      → watches (truss_at k o before) pid ≡ true → WasLetGo k pid first before later
+  was-let pid over [] before is on =
+      absurd (false≢true (sym over ∙ ap (λ g. watches (truss_at k o g) pid) (is ∙ append-nil before) ∙ on))
+  was-let pid over (e ∷ later) before is on =
+      by (watches (truss_at k o (before ++ e ∷ [])) pid) refl (was-let pid over later (before ++ e ∷ []) (is
+      ∙ sym (append_assoc before (e ∷ []) later)))
     where
-      by : (b : Bool) → watches (truss_at k o (before ++ e ∷ [])) pid ≡ b → (watches (truss_at k o (before ++ e ∷ [])) pid ≡ true → WasLetGo k pid first (before ++ e ∷ []) later) → WasLetGo k pid first before (e ∷ later)
+      by : (b : Bool) → watches (truss_at k o (before ++ e ∷ [])) pid ≡ b
+          → (watches (truss_at k o (before ++ e ∷ [])) pid ≡ true → WasLetGo k pid first (before ++ e ∷ []) later)
+          → WasLetGo k pid first before (e ∷ later)
       by true still go =
           let w = go still in
           record {
@@ -204,29 +250,40 @@ module _ (n k : ℕ) (o : Options) (first : TracedState) (h : List Entry) (run :
 
   -- ---- what a poll named
 
-  soon : (before between later : List Exchange) (x : Exchange) (place : ℕ) → exchanges k h ≡ before ++ x ∷ (between ++ later)
+  soon : (before between later : List Exchange) (x : Exchange) (place : ℕ)
+      → exchanges k h ≡ before ++ x ∷ (between ++ later)
       → PollNames (truss_after (first_truss o) before) x.reply place
       → All (IsNoEndOf (traced_at (truss_after (first_truss o) before) place)) between
       → length between ≤ calls_meanwhile (truss_after (truss_after (first_truss o) before) (x ∷ between)).leaving place
   soon before between later x place is =
       let t = truss_after (first_truss o) before in
-      let makes : Makes t (x ∷ (between ++ later)) = makes-rest (first_truss o) before (x ∷ (between ++ later)) (subst (Makes (first_truss o)) is run.makes) in
+      let makes : Makes t (x ∷ (between ++ later)) =
+      makes-rest (first_truss o) before (x ∷ (between ++ later)) (subst (Makes (first_truss o)) is run.makes) in
       polled-soon t x between place (makes.0, makes-front (fed t x.reply) between later makes.1)
 
   -- ---- the children of forks
 
   children : o.follow ≡ true → HandlesChildren k o h
   children follow = record {
-    follows = λ before later x place child is reads. read-followed o (exchanges k h) before later x place child follow run.makes is reads;
-    frees = λ before later x child is reads. read-freed o (exchanges k h) before later x child follow run.makes is reads;
+    follows =
+        λ before later x place child is reads. read-followed o
+        (exchanges k h) before later x place child follow run.makes is reads;
+    frees =
+        λ before later x child is reads. read-freed o (exchanges k h) before later x child follow run.makes is reads;
     leaves_none = λ before later child is left. never-left n k child first h before later run.legal is left;
-    keeps_none = λ before later child parent base reports due is kept. never-kept n k child first h before later parent base reports due run.legal is kept;
+    keeps_none =
+        λ before later child parent base reports due is kept. never-kept n k child first h before later parent base reports due run.legal is kept;
   }
 
   -- ---- what is released
 
   control-of : (pid number : ℕ) (s : TracedState) → IsFileOf k s pid number Ctl WriteExcl → HasControl k pid number s
-  control-of pid number s file = record { held = record { controller = k; pid = pid; lwp = 0; file = Ctl; mode = WriteExcl }; there = file.is; of = refl; control = refl }
+  control-of pid number s file = record {
+    held = record { controller = k; pid = pid; lwp = 0; file = Ctl; mode = WriteExcl };
+    there = file.is;
+    of = refl;
+    control = refl;
+  }
 
   releases : Releases k o first h
   releases =
@@ -235,12 +292,18 @@ module _ (n k : ℕ) (o : Options) (first : TracedState) (h : List Entry) (run :
       record {
         each = truss-releases n k o first h run;
         traced = traced-set n k o first h run;
-        traced_control = λ place within. control-of (traced_at (truss_at k o h) place).pid (traced_at (truss_at k o h) place).control (state_after first h) (files.control place within);
+        traced_control =
+            λ place within. control-of (traced_at (truss_at k o h) place).pid
+            (traced_at (truss_at k o h) place).control (state_after first h) (files.control place within);
         freed = freed-set n k o first h run;
-        freed_control = λ pid control is. control-of pid control (state_after first h) (freed-file k (truss_at k o h) (state_after first h) files pid control (Free control) is refl);
+        freed_control =
+            λ pid control is. control-of pid control (state_after first h)
+            (freed-file k (truss_at k o h) (state_after first h) files pid control (Free control) is refl);
       }
 
-  stays-set : (before later : List Entry) (e : Entry) (number : ℕ) (held : Held) → h ≡ before ++ e ∷ later → handle_of (state_after first before).opens k number ≡ Some held → is_control held.file ≡ true → modes_set k o held.pid before ≡ released → modes_set k o held.pid (before ++ e ∷ []) ≡ released
+  stays-set : (before later : List Entry) (e : Entry) (number : ℕ) (held : Held) → h ≡ before ++ e ∷ later
+      → handle_of (state_after first before).opens k number ≡ Some held → is_control held.file ≡ true
+      → modes_set k o held.pid before ≡ released → modes_set k o held.pid (before ++ e ∷ []) ≡ released
   stays-set before later e number held is =
       let it = entry-run before later e is in
       set-stays n k o first before e it number held
@@ -257,10 +320,17 @@ module _ (n k : ℕ) (o : Options) (first : TracedState) (h : List Entry) (run :
         lets_go = λ before later pid is on. was-let pid (finished-watches-none k o pid h finished) later before is on;
       }
 
-pub truss-kept : (controllers : List ControllerState) (n : ℕ) (first : TracedState) (h : List Entry) (k : ℕ) (o : Options) → IsReached first → HasBytes h → slice_get controllers k ≡ Some (Truss (first_truss o)) → HasNothingOpen k first → IsLegal n first h → Follows controllers first h → IsTrussKept controllers first h k o
+pub truss-kept : (controllers : List ControllerState) (n : ℕ) (first : TracedState) (h : List Entry) (k : ℕ)
+    (o : Options) → IsReached first → HasBytes h → slice_get controllers k ≡ Some (Truss (first_truss o))
+    → HasNothingOpen k first → IsLegal n first h → Follows controllers first h → IsTrussKept controllers first h k o
 truss-kept controllers n first h k o reached bytes at none legal follows =
     let stays = truss-stays h controllers first k (first_truss o) at follows in
-    let run : IsTrussRun n k o first h = record { lawful = reached.lawful; nothing_open = none; legal = legal; makes = stays.0 } in
+    let run : IsTrussRun n k o first h = record {
+      lawful = reached.lawful;
+      nothing_open = none;
+      legal = legal;
+      makes = stays.0;
+    } in
     record {
       makes = stays.0;
       truss = stays.1;

@@ -35,7 +35,8 @@ pub readable-bytes : (line : List ℕ) (x : Unit {0}) → readable line ≡ Ok x
 unfolding readable is_ascii
 readable-bytes line x e =
     let ascii = passed _ (is_ascii line) x e in
-    All-weaker (λ b. nat_lt b 128 ≡ true) IsByte (λ b low. let is = ltb-true b 128 low in omega arith) line (AllPass-from_list_all (λ b. nat_lt b 128) line ascii)
+    All-weaker (λ b. nat_lt b 128 ≡ true) IsByte (λ b low. let is = ltb-true b 128 low in omega arith) line
+    (AllPass-from_list_all (λ b. nat_lt b 128) line ascii)
 
 -- so have its words
 word-bytes : (line : List ℕ) → All IsByte line → (w : Word) → All IsByte (text_of line w)
@@ -58,11 +59,13 @@ name_byte b h = grind (arith, nat_tests)
 pub is_name-range : (name : List ℕ) → is_name name ≡ true → IsShortName name
 unfolding is_name
 is_name-range name h =
-    let p = and_parts (is_letter (slice_index name 0) && nat_le (length name) name_limit) (list_all is_name_byte name) h in
+    let p =
+    and_parts (is_letter (slice_index name 0) && nat_le (length name) name_limit) (list_all is_name_byte name) h in
     let q = and_parts (is_letter (slice_index name 0)) (nat_le (length name) name_limit) p.0 in
     record {
       short = leb-true (length name) name_limit q.1;
-      bytes = All-weaker (λ b. is_name_byte b ≡ true) IsByte name_byte name (AllPass-from_list_all is_name_byte name p.1);
+      bytes =
+          All-weaker (λ b. is_name_byte b ≡ true) IsByte name_byte name (AllPass-from_list_all is_name_byte name p.1);
     }
 
 pub name_of-range : (word : List ℕ) → IfSome (name_of word) IsShortName
@@ -75,8 +78,10 @@ unfolding digit_of
 digit-below b =
     let P : Option ℕ → Type 0 = λ o. IfSome o (λ n. n < 16) in
     by_cond (leb 48 b && leb b 57) P _ _ (λ is. let le = leb-true b 57 (and_parts (leb 48 b) _ is).1 in omega arith)
-    (λ _. by_cond (leb 97 b && leb b 102) P _ _ (λ is. let le = leb-true b 102 (and_parts (leb 97 b) _ is).1 in omega arith)
-    (λ _. by_cond (leb 65 b && leb b 70) P _ _ (λ is. let le = leb-true b 70 (and_parts (leb 65 b) _ is).1 in omega arith) (λ _. tt)))
+    (λ _. by_cond (leb 97 b && leb b 102) P _ _
+    (λ is. let le = leb-true b 102 (and_parts (leb 97 b) _ is).1 in omega arith)
+    (λ _. by_cond (leb 65 b && leb b 70) P _ _
+    (λ is. let le = leb-true b 70 (and_parts (leb 65 b) _ is).1 in omega arith) (λ _. tt)))
 
 abbrev IfBytes : Option (List ℕ) → Type 0
 IfBytes o = IfSome o (All IsByte)
@@ -86,7 +91,8 @@ in_front b None small h = tt
 in_front b (Some bytes) small h = All-cons IsByte b bytes small h
 
 -- the byte of two digits
-pair : (high low : Option ℕ) (others : Option (List ℕ)) → IfSome high (λ n. n < 16) → IfSome low (λ n. n < 16) → IfBytes others → IfBytes (option_and_then (λ x. option_and_then (λ y. before (x * 16 + y) others) low) high)
+pair : (high low : Option ℕ) (others : Option (List ℕ)) → IfSome high (λ n. n < 16) → IfSome low (λ n. n < 16)
+    → IfBytes others → IfBytes (option_and_then (λ x. option_and_then (λ y. before (x * 16 + y) others) low) high)
 pair None low others h l o = tt
 pair (Some x) None others h l o = tt
 pair (Some x) (Some y) others h l o = in_front (x * 16 + y) others (omega (arith, h, l)) o
@@ -99,7 +105,8 @@ mutual
   between-bytes (b ∷ bs) small =
       let rest = All-tail IsByte b bs small in
       by_cond (eqb b 92) IfBytes _ _ (λ _. escaped-bytes bs rest)
-      (λ _. by_cond (eqb b 34) IfBytes _ _ (λ _. tt) (λ _. in_front b (bytes_between bs) (All-head IsByte b bs small) (between-bytes bs rest)))
+      (λ _. by_cond (eqb b 34) IfBytes _ _ (λ _. tt)
+      (λ _. in_front b (bytes_between bs) (All-head IsByte b bs small) (between-bytes bs rest)))
 
   escaped-bytes : (bs : List ℕ) → All IsByte bs → IfBytes (escaped_bytes bs)
   escaped-bytes [] small = tt
@@ -114,9 +121,13 @@ mutual
   hex-bytes [] small = tt
   hex-bytes (h ∷ []) small = tt
   hex-bytes (h ∷ l ∷ bs) small =
-      pair (digit_of h) (digit_of l) (bytes_between bs) (digit-below h) (digit-below l) (between-bytes bs (All-tail IsByte l bs (All-tail IsByte h (l ∷ bs) small)))
+      pair (digit_of h) (digit_of l) (bytes_between bs) (digit-below h) (digit-below l)
+      (between-bytes bs (All-tail IsByte l bs (All-tail IsByte h (l ∷ bs) small)))
 
 pub quoted-bytes : (word : List ℕ) → All IsByte word → IfSome (quoted_bytes word) (All IsByte)
 unfolding quoted_bytes
 quoted-bytes word small =
-    by_cond (leb 2 (length word) && eqb (slice_index word 0) 34 && eqb (slice_index word (length word - 1)) 34) IfBytes (bytes_between (take (length word - 2) (drop 1 word))) None (λ _. between-bytes (take (length word - 2) (drop 1 word)) (All-take IsByte (length word - 2) (drop 1 word) (All-drop IsByte 1 word small))) (λ _. tt)
+    by_cond (leb 2 (length word) && eqb (slice_index word 0) 34 && eqb (slice_index word (length word - 1)) 34) IfBytes
+    (bytes_between (take (length word - 2) (drop 1 word))) None
+    (λ _. between-bytes (take (length word - 2) (drop 1 word))
+    (All-take IsByte (length word - 2) (drop 1 word) (All-drop IsByte 1 word small))) (λ _. tt)

@@ -39,7 +39,8 @@ use Rattle.pr_truss_laws.proofs.OverLemmas.{stays-made, stays-over}
 
 -- where an answer does not refuse the poll, the handle is ready
 abbrev FindsReady : TracedState → ℕ → ℕ → Option Answer → Type 0
-FindsReady s k number o = (a : Answer) → o ≡ Some a → refusal_in step.AwaitEnd a.reply ≡ None → is_polled_ready s k number ≡ true
+FindsReady s k number o =
+    (a : Answer) → o ≡ Some a → refusal_in step.AwaitEnd a.reply ≡ None → is_polled_ready s k number ≡ true
 
 refused-finds : (s t : TracedState) (k number : ℕ) (e : Errno) → FindsReady s k number (Some (refused t e))
 unfolding refusal_in is_passed_over
@@ -50,7 +51,8 @@ refused-finds s t k number e a is accepted =
     refusal_of None = None
     refusal_of (Some x) = refusal_in step.AwaitEnd x.reply
 
-ready-finds : (s : TracedState) (k number : ℕ) (b : Bool) → is_polled_ready s k number ≡ b → FindsReady s k number (ready_answer s (cond b (Some number) None))
+ready-finds : (s : TracedState) (k number : ℕ) (b : Bool) → is_polled_ready s k number ≡ b
+    → FindsReady s k number (ready_answer s (cond b (Some number) None))
 ready-finds s k number true here a is accepted = here
 ready-finds s k number false here a is accepted = absurd (none-some a is)
 
@@ -59,8 +61,10 @@ unfolding answer_to poll_answer
 poll-finds s k number =
     let found : Option Answer = ready_answer s (find (is_polled_ready s k) (number ∷ [])) in
     let interrupted : Option Answer = Some (interrupted_answer s k) in
-    choice (FindsReady s k number) (not (list_all (is_open_by s.opens k) (number ∷ []))) (Some (refused s Badf)) (cond (is_interrupted s k) interrupted found) (λ shut. refused-finds s s k number Badf) (λ listed.
-    choice (FindsReady s k number) (is_interrupted s k) interrupted found (λ seen. refused-finds s (with_interrupt_seen k s) k number Intr) (λ unseen.
+    choice (FindsReady s k number) (not (list_all (is_open_by s.opens k) (number ∷ []))) (Some (refused s Badf))
+    (cond (is_interrupted s k) interrupted found) (λ shut. refused-finds s s k number Badf) (λ listed.
+    choice (FindsReady s k number) (is_interrupted s k) interrupted found
+    (λ seen. refused-finds s (with_interrupt_seen k s) k number Intr) (λ unseen.
     ready-finds s k number (is_polled_ready s k number) refl))
 
 none-there : (o : Option TracedProcess) → is_none o ≡ true → o ≡ None
@@ -68,7 +72,8 @@ none-there None is = refl
 none-there (Some p) is = cc
 
 -- a handle of a file that is no control file is ready where its process does not live
-polled-gone : (s : TracedState) (k number : ℕ) (h : Held) → is_control h.file ≡ false → handle_of s.opens k number ≡ Some h → is_polled_ready s k number ≡ true → live_process s.system h.pid ≡ None
+polled-gone : (s : TracedState) (k number : ℕ) (h : Held) → is_control h.file ≡ false
+    → handle_of s.opens k number ≡ Some h → is_polled_ready s k number ≡ true → live_process s.system h.pid ≡ None
 unfolding is_polled_ready is_handle_ready
 polled-gone s k number h plain stands ready =
     let here : is_held_ready s.system (Some h) ≡ true = ap (is_held_ready s.system) (sym stands) ∙ ready in
@@ -85,11 +90,13 @@ not-live p = by p.ended
     by (Some status) is = refl
 
 -- whoever reads of a process that does not live reads of one that has ended
-read-ended : (s : TracedSystem) (pid : ℕ) (bytes : List ℕ) → file_read s pid 0 0 read_limit file.Psinfo ≡ reply.Bytes bytes → live_process s pid ≡ None → HasEnded pid s
+read-ended : (s : TracedSystem) (pid : ℕ) (bytes : List ℕ)
+    → file_read s pid 0 0 read_limit file.Psinfo ≡ reply.Bytes bytes → live_process s pid ≡ None → HasEnded pid s
 unfolding file_read read_process live_process
 read-ended s pid bytes reads none = by (process_of s pid) refl reads
   where
-    by : (o : Option TracedProcess) → process_of s pid ≡ o → of_process s pid 0 0 read_limit file.Psinfo o ≡ reply.Bytes bytes → HasEnded pid s
+    by : (o : Option TracedProcess) → process_of s pid ≡ o
+        → of_process s pid 0 0 read_limit file.Psinfo o ≡ reply.Bytes bytes → HasEnded pid s
     by None there it = absurd (cc)
     by (Some p) there it = record { zombie = p; there = there; ended = not-live p (rw there at none) }
 
@@ -106,15 +113,20 @@ pub record IsAwaited (pid : ℕ) (next : Step) (s : TracedState) : Type 0 where
   pub gone : next ≡ step.ReadFile → IsGone pid s.system
 
 module _ (n k pid : ℕ) where
-  others-await : (s : TracedState) (e : Entry) (next : Step) → IsLegalEntry n s e → IsAwaited pid next s → IsAwaited pid next (entry_after s e)
+  others-await : (s : TracedState) (e : Entry) (next : Step) → IsLegalEntry n s e → IsAwaited pid next s
+      → IsAwaited pid next (entry_after s e)
   others-await s e next legal it = record {
     lawful = history-state n s (e ∷ []) it.lawful (legal, tt);
     gone = λ reads.
         let was = it.gone reads in
-        record { made = stays-made n s e pid it.lawful legal was.made; none = stays-over n s e pid it.lawful legal was.made was.none };
+        record {
+          made = stays-made n s e pid it.lawful legal was.made;
+          none = stays-over n s e pid it.lawful legal was.made was.none;
+        };
   }
 
-  opened-await : (s : TracedState) (a : Answer) → answer_to s k (call.Open pid 0 (file_of Pwait) mode.Read) ≡ Some a → IsAwaited pid step.OpenFile s → IsAwaited pid (step_after Pwait step.OpenFile) a.state
+  opened-await : (s : TracedState) (a : Answer) → answer_to s k (call.Open pid 0 (file_of Pwait) mode.Read) ≡ Some a
+      → IsAwaited pid step.OpenFile s → IsAwaited pid (step_after Pwait step.OpenFile) a.state
   unfolding step_after after_in_pwait
   opened-await s a given it = record {
     lawful = call-state s it.lawful k (call.Open pid 0 (file_of Pwait) mode.Read) a given;
@@ -122,20 +134,28 @@ module _ (n k pid : ℕ) where
   }
 
   -- a handle names a process that was made, and the poll leaves the system
-  polled-await : (s : TracedState) (a : Answer) (number : ℕ) → Stands s.opens number (held_by_tool k Pwait pid) → answer_to s k (call.Poll (number ∷ [])) ≡ Some a → refusal_in step.AwaitEnd a.reply ≡ None → IsAwaited pid step.AwaitEnd s → IsAwaited pid step.ReadFile a.state
+  polled-await : (s : TracedState) (a : Answer) (number : ℕ) → Stands s.opens number (held_by_tool k Pwait pid)
+      → answer_to s k (call.Poll (number ∷ [])) ≡ Some a → refusal_in step.AwaitEnd a.reply ≡ None
+      → IsAwaited pid step.AwaitEnd s → IsAwaited pid step.ReadFile a.state
   unfolding file_of
   polled-await s a number stands given accepted it =
       let held : Held = held_by_tool k Pwait pid in
-      let same : s.system ≡ a.state.system = sym (ap (λ (x : TracedState). x.system) (looking-stays s k (call.Poll (number ∷ [])) a refl given)) in
-      let made : pid < s.system.made = All-at (IsOfMade s.system.made) s.opens number (Some held) (handle-at s.opens k number held stands) it.lawful.handles in
-      let none : live_process s.system pid ≡ None = polled-gone s k number held refl stands (poll-finds s k number a given accepted) in
+      let same : s.system ≡ a.state.system =
+      sym (ap (λ (x : TracedState). x.system) (looking-stays s k (call.Poll (number ∷ [])) a refl given)) in
+      let made : pid < s.system.made =
+      All-at (IsOfMade s.system.made) s.opens number (Some held)
+      (handle-at s.opens k number held stands) it.lawful.handles in
+      let none : live_process s.system pid ≡ None =
+      polled-gone s k number held refl stands (poll-finds s k number a given accepted) in
       let gone : IsGone pid s.system = record { made = made; none = none } in
       record {
         lawful = call-state s it.lawful k (call.Poll (number ∷ [])) a given;
         gone = λ reads. subst (IsGone pid) same gone;
       }
 
-  read-await : (s : TracedState) (bytes : List ℕ) → file_read s.system pid 0 0 read_limit (file_of Pwait) ≡ reply.Bytes bytes → IsAwaited pid step.ReadFile s → HasEnded pid s.system
+  read-await : (s : TracedState) (bytes : List ℕ)
+      → file_read s.system pid 0 0 read_limit (file_of Pwait) ≡ reply.Bytes bytes → IsAwaited pid step.ReadFile s
+      → HasEnded pid s.system
   unfolding file_of
   read-await s bytes reads it = let gone = it.gone refl in read-ended s.system pid bytes reads gone.none
 

@@ -41,8 +41,11 @@ OfTool Q (Truss t) = ⊥
 OfTool Q (Tool t) = Q t
 
 module _ (n k : ℕ) (first : TracedState) (Q : List Entry → ToolState → Type 0)
-    (by_others : (h : List Entry) (t : ToolState) (actor : Actor) (it : Act) → IsLegalEntry n (state_after first h) (record { actor = actor; act = it }) → IsOther k actor it → Q h t → Q (h ++ (record { actor = actor; act = it }) ∷ []) t)
-    (by_calls : (h : List Entry) (t : ToolState) (c : Call) (a : Answer) → next_call_of t ≡ Some c → answer_to (state_after first h) k c ≡ Some a → Q h t → Q (h ++ call_entry k c a.reply ∷ []) (fed t a.reply)) where
+    (by_others : (h : List Entry) (t : ToolState) (actor : Actor) (it : Act) → IsLegalEntry n (state_after first h)
+    (record { actor = actor; act = it }) → IsOther k actor it → Q h t
+    → Q (h ++ (record { actor = actor; act = it }) ∷ []) t)
+    (by_calls : (h : List Entry) (t : ToolState) (c : Call) (a : Answer) → next_call_of t ≡ Some c → answer_to
+    (state_after first h) k c ≡ Some a → Q h t → Q (h ++ call_entry k c a.reply ∷ []) (fed t a.reply)) where
   P : List Entry → ControllerState → Type 0
   P h c = OfTool (Q h) c
 
@@ -58,58 +61,86 @@ module _ (n k : ℕ) (first : TracedState) (Q : List Entry → ToolState → Typ
   calls-core h (Truss t) c a next given q = absurd q
   calls-core h (Tool t) c a next given q = by_calls h t c a next given q
 
-  tool-keeps : (controllers : List ControllerState) (h : List Entry) (t u : ToolState) → IsLegal n first h → Follows controllers first h → slice_get controllers k ≡ Some (Tool t) → slice_get (controllers_at controllers h) k ≡ Some (Tool u) → Q [] t → Q h u
+  tool-keeps : (controllers : List ControllerState) (h : List Entry) (t u : ToolState) → IsLegal n first h
+      → Follows controllers first h → slice_get controllers k ≡ Some (Tool t)
+      → slice_get (controllers_at controllers h) k ≡ Some (Tool u) → Q [] t → Q h u
   unfolding P
-  tool-keeps controllers h t u legal follows begins ends q = protocol-keeps n k first P others-core calls-core controllers h (Tool t) (Tool u) legal follows begins ends q
+  tool-keeps controllers h t u legal follows begins ends q =
+      protocol-keeps n k first P others-core calls-core controllers h (Tool t) (Tool u) legal follows begins ends q
 
 -- ---- what is so of a tool at the end
 
 -- when it has finished, and was not refused, this is so of the history and of what it printed
 abbrev LawOf : ℕ → ℕ → ToolKind → ℕ → TracedState → (List Entry → List ℕ → Type 0) → Type 0
 LawOf n k kind pid first IsSo =
-    (controllers : List ControllerState) (h : List Entry) (t : ToolState) (programs : List Program) → slice_get controllers k ≡ Some (Tool (first_tool kind pid)) → IsLegal n first h → Follows controllers first h → slice_get (controllers_at controllers h) k ≡ Some (Tool t)
+    (controllers : List ControllerState) (h : List Entry) (t : ToolState) (programs : List Program)
+    → slice_get controllers k ≡ Some (Tool (first_tool kind pid)) → IsLegal n first h → Follows controllers first h
+    → slice_get (controllers_at controllers h) k ≡ Some (Tool t)
     → has_ended t ≡ true → t.refusal ≡ None → IsSo h (printed t programs)
 
 abbrev Law : ℕ → ℕ → ToolKind → ℕ → TracedState → Type 0
 Law n k kind pid first = LawOf n k kind pid first (IsOfOneState k kind pid first)
 
 -- It is the text of one state, and this is known of that state.
-pub record IsOfKnownState (k : ℕ) (kind : ToolKind) (pid : ℕ) (first : TracedState) (Shown : TracedSystem → Type 0) (h : List Entry) (text : List ℕ) : Type 0 where
+pub record IsOfKnownState (k : ℕ) (kind : ToolKind) (pid : ℕ) (first : TracedState) (Shown : TracedSystem → Type 0)
+    (h : List Entry) (text : List ℕ) : Type 0 where
   pub one : IsOfOneState k kind pid first h text
   pub known : Shown (state_after first one.before).system
 
-of-read : (k : ℕ) (kind : ToolKind) (pid : ℕ) (first : TracedState) (h : List Entry) (t : ToolState) (programs : List Program) → reads_once kind ≡ true → has_ended t ≡ true → t.refusal ≡ None → HasRead k kind pid first h t → IsOfOneState k kind pid first h (printed t programs)
+of-read : (k : ℕ) (kind : ToolKind) (pid : ℕ) (first : TracedState) (h : List Entry) (t : ToolState)
+    (programs : List Program) → reads_once kind ≡ true → has_ended t ≡ true → t.refusal ≡ None
+    → HasRead k kind pid first h t → IsOfOneState k kind pid first h (printed t programs)
 of-read k kind pid first h t programs once ended accepted has =
-    of-one-state k kind pid first (read-back kind pid) h (printed t programs) has.bytes (text-read k kind pid first h t programs once has ended accepted) has.showed
+    of-one-state k kind pid first (read-back kind pid) h (printed t programs) has.bytes
+    (text-read k kind pid first h t programs once has ended accepted) has.showed
 
 -- a tool that opens one file shows a state of which this is known
-known-law : (n k : ℕ) (kind : ToolKind) (pid : ℕ) (first : TracedState) (Known : Step → TracedState → Type 0) (Shown : TracedSystem → Type 0) → reads_once kind ≡ true → IsReader kind → stages.Keeps n k kind pid Known Shown → Known step.OpenFile first
+known-law : (n k : ℕ) (kind : ToolKind) (pid : ℕ) (first : TracedState) (Known : Step → TracedState → Type 0)
+    (Shown : TracedSystem → Type 0) → reads_once kind ≡ true → IsReader kind → stages.Keeps n k kind pid Known Shown
+    → Known step.OpenFile first
     → LawOf n k kind pid first (IsOfKnownState k kind pid first Shown)
 unfolding of-read of-one-state
 known-law n k kind pid first Known Shown once reader keeps begun controllers h t programs begins legal follows ends ended accepted =
-    let stage = tool-keeps n k first (stages.Stage n k kind pid first reader Known Shown keeps) (stages.others-stage n k kind pid first reader Known Shown keeps) (λ h t c a next given q. stages.called-stage n k kind pid first reader Known Shown keeps h c a given t next q)
+    let stage =
+    tool-keeps n k first (stages.Stage n k kind pid first reader Known Shown keeps)
+    (stages.others-stage n k kind pid first reader Known Shown keeps)
+    (λ h t c a next given q. stages.called-stage n k kind pid first reader Known Shown keeps h c a given t next q)
     controllers h (first_tool kind pid) t legal follows begins ends (stages.at_first refl begun) in
     let it = stages.ended-stage n k kind pid first reader Known Shown keeps h t ended accepted stage in
     record { one = of-read k kind pid first h t programs once ended accepted it.has; known = it.shown }
 
 -- where no more is known
 no-more : (n k : ℕ) (kind : ToolKind) (pid : ℕ) → stages.Keeps n k kind pid (λ next s. Unit {0}) (λ s. Unit {0})
-no-more n k kind pid = record { others = λ s e next legal it. tt; opened = λ s a given it. tt; awaited = λ s a number stands given accepted it. tt; read = λ s bytes reads it. tt }
+no-more n k kind pid = record {
+  others = λ s e next legal it. tt;
+  opened = λ s a given it. tt;
+  awaited = λ s a number stands given accepted it. tt;
+  read = λ s bytes reads it. tt;
+}
 
-reader-law : (n k : ℕ) (kind : ToolKind) (pid : ℕ) (first : TracedState) → reads_once kind ≡ true → IsReader kind → Law n k kind pid first
+reader-law : (n k : ℕ) (kind : ToolKind) (pid : ℕ) (first : TracedState) → reads_once kind ≡ true → IsReader kind
+    → Law n k kind pid first
 reader-law n k kind pid first once reader controllers h t programs begins legal follows ends ended accepted =
-    (known-law n k kind pid first (λ next s. Unit {0}) (λ s. Unit {0}) once reader (no-more n k kind pid) tt controllers h t programs begins legal follows ends ended accepted).one
+    (known-law n k kind pid first (λ next s. Unit {0}) (λ s. Unit {0}) once reader
+    (no-more n k kind pid) tt controllers h t programs begins legal follows ends ended accepted).one
 
 quiet-law : (n k : ℕ) (kind : ToolKind) (pid : ℕ) (first : TracedState) → other.IsQuiet kind → Law n k kind pid first
 quiet-law n k kind pid first quiet controllers h t programs begins legal follows ends ended accepted =
-    let stage = tool-keeps n k first (other.QuietStage k kind pid first quiet) (λ h t actor it legal apart q. other.others-quiet k kind pid first quiet h (record { actor = actor; act = it }) t q) (λ h t c a next given q. other.called-quiet k kind pid first quiet h t c a q)
+    let stage =
+    tool-keeps n k first (other.QuietStage k kind pid first quiet)
+    (λ h t actor it legal apart q. other.others-quiet k kind pid first quiet h
+    (record { actor = actor; act = it }) t q)
+    (λ h t c a next given q. other.called-quiet k kind pid first quiet h t c a q)
     controllers h (first_tool kind pid) t legal follows begins ends (other.at_first refl) in
     let silent = other.ended-quiet k kind pid first quiet h t programs ended accepted stage in
     of-one-state k kind pid first (read-back kind pid) h (printed t programs) [] silent.text silent.showed
 
 tree-law : (n k pid : ℕ) (first : TracedState) → reads_once Ptree ≡ true → Law n k Ptree pid first
 tree-law n k pid first once controllers h t programs begins legal follows ends ended accepted =
-    let stage = tool-keeps n k first (other.TreeStage k pid first) (λ h t actor it legal apart q. other.others-tree k pid first h (record { actor = actor; act = it }) t q) (λ h t c a next given q. other.called-tree k pid first h t c a next given q)
+    let stage =
+    tool-keeps n k first (other.TreeStage k pid first)
+    (λ h t actor it legal apart q. other.others-tree k pid first h (record { actor = actor; act = it }) t q)
+    (λ h t c a next given q. other.called-tree k pid first h t c a next given q)
     controllers h (first_tool Ptree pid) t legal follows begins ends (other.at_first refl) in
     of-read k Ptree pid first h t programs once ended accepted (other.ended-tree k pid first h t ended stage)
 
@@ -117,23 +148,63 @@ tree-law n k pid first once controllers h t programs begins legal follows ends e
 
 pflags-reads : IsReader Pflags
 unfolding first_step after after_in_reader file_of way_out bytes_shown IsToolRead
-pflags-reads = record { starts = refl; opens = inl refl; reads = refl; plain = refl; leaves = λ p. refl; shows = λ pid s. refl; finds = λ k pid s c it. it }
+pflags-reads = record {
+  starts = refl;
+  opens = inl refl;
+  reads = refl;
+  plain = refl;
+  leaves = λ p. refl;
+  shows = λ pid s. refl;
+  finds = λ k pid s c it. it;
+}
 
 psig-reads : IsReader Psig
 unfolding first_step after after_in_reader file_of way_out bytes_shown IsToolRead
-psig-reads = record { starts = refl; opens = inl refl; reads = refl; plain = refl; leaves = λ p. refl; shows = λ pid s. refl; finds = λ k pid s c it. it }
+psig-reads = record {
+  starts = refl;
+  opens = inl refl;
+  reads = refl;
+  plain = refl;
+  leaves = λ p. refl;
+  shows = λ pid s. refl;
+  finds = λ k pid s c it. it;
+}
 
 pmap-reads : IsReader Pmap
 unfolding first_step after after_in_reader file_of way_out bytes_shown IsToolRead
-pmap-reads = record { starts = refl; opens = inl refl; reads = refl; plain = refl; leaves = λ p. refl; shows = λ pid s. refl; finds = λ k pid s c it. it }
+pmap-reads = record {
+  starts = refl;
+  opens = inl refl;
+  reads = refl;
+  plain = refl;
+  leaves = λ p. refl;
+  shows = λ pid s. refl;
+  finds = λ k pid s c it. it;
+}
 
 pfiles-reads : IsReader Pfiles
 unfolding first_step after after_in_reader file_of way_out bytes_shown IsToolRead
-pfiles-reads = record { starts = refl; opens = inl refl; reads = refl; plain = refl; leaves = λ p. refl; shows = λ pid s. refl; finds = λ k pid s c it. it }
+pfiles-reads = record {
+  starts = refl;
+  opens = inl refl;
+  reads = refl;
+  plain = refl;
+  leaves = λ p. refl;
+  shows = λ pid s. refl;
+  finds = λ k pid s c it. it;
+}
 
 pwait-reads : IsReader Pwait
 unfolding first_step after after_in_pwait file_of way_out bytes_shown IsToolRead
-pwait-reads = record { starts = refl; opens = inr (refl, refl); reads = refl; plain = refl; leaves = λ p. refl; shows = λ pid s. refl; finds = λ k pid s c it. it }
+pwait-reads = record {
+  starts = refl;
+  opens = inr (refl, refl);
+  reads = refl;
+  plain = refl;
+  leaves = λ p. refl;
+  shows = λ pid s. refl;
+  finds = λ k pid s c it. it;
+}
 
 pstop-quiet : other.IsQuiet Pstop
 unfolding first_step bytes_shown text_of IsToolRead
@@ -155,7 +226,11 @@ kind-law n k Prun pid first once = quiet-law n k Prun pid first prun-quiet
 kind-law n k Pwait pid first once = reader-law n k Pwait pid first once pwait-reads
 kind-law n k Ptree pid first once = tree-law n k pid first once
 
-pub tool-of-one-state : (controllers : List ControllerState) (n k : ℕ) (kind : ToolKind) (pid : ℕ) (first : TracedState) (h : List Entry) (t : ToolState) (programs : List Program) → reads_once kind ≡ true → slice_get controllers k ≡ Some (Tool (first_tool kind pid)) → IsLegal n first h → Follows controllers first h → slice_get (controllers_at controllers h) k ≡ Some (Tool t) → has_ended t ≡ true → t.refusal ≡ None → IsOfOneState k kind pid first h (printed t programs)
+pub tool-of-one-state : (controllers : List ControllerState) (n k : ℕ) (kind : ToolKind) (pid : ℕ)
+    (first : TracedState) (h : List Entry) (t : ToolState) (programs : List Program) → reads_once kind ≡ true
+    → slice_get controllers k ≡ Some (Tool (first_tool kind pid)) → IsLegal n first h → Follows controllers first h
+    → slice_get (controllers_at controllers h) k ≡ Some (Tool t) → has_ended t ≡ true → t.refusal ≡ None
+    → IsOfOneState k kind pid first h (printed t programs)
 tool-of-one-state controllers n k kind pid first h t programs once begins legal follows ends ended accepted =
     kind-law n k kind pid first once controllers h t programs begins legal follows ends ended accepted
 
@@ -165,20 +240,32 @@ tool-of-one-state controllers n k kind pid first h t programs once begins legal 
 abbrev pub EndsIfAwaited : ToolKind → ℕ → TracedSystem → Type 0
 EndsIfAwaited kind pid s = kind ≡ Pwait → HasEnded pid s
 
-not-awaited : (n k : ℕ) (kind : ToolKind) (pid : ℕ) (first : TracedState) → kind ≢ Pwait → Law n k kind pid first → LawOf n k kind pid first (IsOfKnownState k kind pid first (EndsIfAwaited kind pid))
+not-awaited : (n k : ℕ) (kind : ToolKind) (pid : ℕ) (first : TracedState) → kind ≢ Pwait → Law n k kind pid first
+    → LawOf n k kind pid first (IsOfKnownState k kind pid first (EndsIfAwaited kind pid))
 not-awaited n k kind pid first other law controllers h t programs begins legal follows ends ended accepted =
-    record { one = law controllers h t programs begins legal follows ends ended accepted; known = λ is. absurd (other is) }
+    record {
+      one = law controllers h t programs begins legal follows ends ended accepted;
+      known = λ is. absurd (other is);
+    }
 
-awaited-law : (n k pid : ℕ) (first : TracedState) → reads_once Pwait ≡ true → IsLawful first → LawOf n k Pwait pid first (IsOfKnownState k Pwait pid first (EndsIfAwaited Pwait pid))
+awaited-law : (n k pid : ℕ) (first : TracedState) → reads_once Pwait ≡ true → IsLawful first
+    → LawOf n k Pwait pid first (IsOfKnownState k Pwait pid first (EndsIfAwaited Pwait pid))
 awaited-law n k pid first once lawful controllers h t programs begins legal follows ends ended accepted =
-    let it = known-law n k Pwait pid first (IsAwaited pid) (HasEnded pid) once pwait-reads (pwait-keeps n k pid) (first-awaited n k pid first lawful) controllers h t programs begins legal follows ends ended accepted in
+    let it =
+    known-law n k Pwait pid first (IsAwaited pid) (HasEnded pid) once pwait-reads (pwait-keeps n k pid)
+    (first-awaited n k pid first lawful) controllers h t programs begins legal follows ends ended accepted in
     record { one = it.one; known = λ is. it.known }
 
-ended-law : (n k : ℕ) (kind : ToolKind) (pid : ℕ) (first : TracedState) → reads_once kind ≡ true → IsLawful first → LawOf n k kind pid first (IsOfKnownState k kind pid first (EndsIfAwaited kind pid))
+ended-law : (n k : ℕ) (kind : ToolKind) (pid : ℕ) (first : TracedState) → reads_once kind ≡ true → IsLawful first
+    → LawOf n k kind pid first (IsOfKnownState k kind pid first (EndsIfAwaited kind pid))
 ended-law n k Pwait pid first once lawful = awaited-law n k pid first once lawful
 ended-law n k kind pid first once lawful = not-awaited n k kind pid first (λ is. cc) (kind-law n k kind pid first once)
 
 -- from a lawful state
-pub tool-of-known-state : (controllers : List ControllerState) (n k : ℕ) (kind : ToolKind) (pid : ℕ) (first : TracedState) (h : List Entry) (t : ToolState) (programs : List Program) → IsLawful first → reads_once kind ≡ true → slice_get controllers k ≡ Some (Tool (first_tool kind pid)) → IsLegal n first h → Follows controllers first h → slice_get (controllers_at controllers h) k ≡ Some (Tool t) → has_ended t ≡ true → t.refusal ≡ None → IsOfKnownState k kind pid first (EndsIfAwaited kind pid) h (printed t programs)
+pub tool-of-known-state : (controllers : List ControllerState) (n k : ℕ) (kind : ToolKind) (pid : ℕ)
+    (first : TracedState) (h : List Entry) (t : ToolState) (programs : List Program) → IsLawful first
+    → reads_once kind ≡ true → slice_get controllers k ≡ Some (Tool (first_tool kind pid)) → IsLegal n first h
+    → Follows controllers first h → slice_get (controllers_at controllers h) k ≡ Some (Tool t) → has_ended t ≡ true
+    → t.refusal ≡ None → IsOfKnownState k kind pid first (EndsIfAwaited kind pid) h (printed t programs)
 tool-of-known-state controllers n k kind pid first h t programs lawful once begins legal follows ends ended accepted =
     ended-law n k kind pid first once lawful controllers h t programs begins legal follows ends ended accepted

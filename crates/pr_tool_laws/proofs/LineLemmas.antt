@@ -46,23 +46,31 @@ pub descriptor-shown : (d : FdEntry) → IsFdEntry d → files.descriptor_line (
 unfolding files.descriptor_line files.target_text files.file_text descriptor_line
 descriptor-shown d is = of d.kind
   where
-    of : (k : FdKind) → codes " " ++ decimal d.descriptor ++ codes ": " ++ files.target_text (fd_entry_words_of (record d { kind = k })) ++ line_end ≡ descriptor_line (record d { kind = k })
+    of : (k : FdKind)
+        → codes " " ++ decimal d.descriptor ++ codes ": " ++ files.target_text
+        (fd_entry_words_of (record d { kind = k })) ++ line_end ≡ descriptor_line (record d { kind = k })
     of File = rw (name-shown d.name is.name) refl
     of PipeReader = refl
     of PipeWriter = refl
 
-process-shown : (depth : ℕ) (p : ListEntry) → IsListEntry p → trees.process_line depth (list_entry_words_of p) ≡ process_line depth p
+process-shown : (depth : ℕ) (p : ListEntry) → IsListEntry p
+    → trees.process_line depth (list_entry_words_of p) ≡ process_line depth p
 unfolding trees.process_line process_line
 process-shown depth p is = rw (name-shown p.program is.program) refl
 
 -- a branch, where what stands below is the same
-branch-shown : (depth parent : ℕ) (below below' : ℕ → List ℕ) → ((id : ℕ) → below id ≡ below' id) → (p : ListEntry) → IsListEntry p → trees.branch_lines depth parent below (list_entry_words_of p) ≡ branch_text depth parent below' p
+branch-shown : (depth parent : ℕ) (below below' : ℕ → List ℕ) → ((id : ℕ) → below id ≡ below' id) → (p : ListEntry)
+    → IsListEntry p → trees.branch_lines depth parent below (list_entry_words_of p) ≡ branch_text depth parent below' p
 unfolding trees.branch_lines branch_text
 branch-shown depth parent below below' same p is = rw (process-shown depth p is, same p.id) refl
 
-pub below-shown : (levels depth : ℕ) (processes : List ListEntry) (parent : ℕ) → All IsListEntry processes → trees.lines_below levels depth (map list_entry_words_of processes) parent ≡ text_below levels depth processes parent
+pub below-shown : (levels depth : ℕ) (processes : List ListEntry) (parent : ℕ) → All IsListEntry processes
+    → trees.lines_below levels depth
+    (map list_entry_words_of processes) parent ≡ text_below levels depth processes parent
 unfolding trees.lines_below text_below
 below-shown zero depth processes parent all = refl
 below-shown (suc levels) depth processes parent all =
-    lines-alike list_entry_words_of (trees.branch_lines depth parent (trees.lines_below levels (deeper depth) (map list_entry_words_of processes))) (branch_text depth parent (text_below levels (deeper depth) processes)) IsListEntry
+    lines-alike list_entry_words_of
+    (trees.branch_lines depth parent (trees.lines_below levels (deeper depth) (map list_entry_words_of processes)))
+    (branch_text depth parent (text_below levels (deeper depth) processes)) IsListEntry
     (branch-shown depth parent _ _ (λ id. below-shown levels (deeper depth) processes id all)) processes all

@@ -42,15 +42,20 @@ module _ (k pid : ℕ) (first : TracedState) where
   unfolding next_call_of call_of first_tool first_step
   list-call = refl
 
-  list-fed : (bytes : List ℕ) → fed (first_tool Ptree pid) (reply.Bytes bytes) ≡ having_read Ptree pid nothing_open (take (record_room Ptree) bytes)
+  list-fed : (bytes : List ℕ)
+      → fed (first_tool Ptree pid) (reply.Bytes bytes) ≡ having_read Ptree pid nothing_open
+      (take (record_room Ptree) bytes)
   unfolding fed refusal_in accepted advanced with_record with_next bytes_in first_tool first_step after after_in_ptree
   list-fed bytes = refl
 
-  tree-shown : (s : TracedState) → bytes_shown Ptree pid s.system ≡ Some (take (record_room Ptree) (list_bytes (list_of s.system)))
+  tree-shown : (s : TracedState)
+      → bytes_shown Ptree pid s.system ≡ Some (take (record_room Ptree) (list_bytes (list_of s.system)))
   unfolding bytes_shown
   tree-shown s = refl
 
-  list-read : (h : List Entry) (c : Call) (a : Answer) → next_call_of (first_tool Ptree pid) ≡ Some c → answer_to (state_after first h) k c ≡ Some a → HasRead k Ptree pid first (h ++ call_entry k c a.reply ∷ []) (fed (first_tool Ptree pid) a.reply)
+  list-read : (h : List Entry) (c : Call) (a : Answer) → next_call_of (first_tool Ptree pid) ≡ Some c
+      → answer_to (state_after first h) k c ≡ Some a
+      → HasRead k Ptree pid first (h ++ call_entry k c a.reply ∷ []) (fed (first_tool Ptree pid) a.reply)
   unfolding answer_to IsToolRead
   list-read h c a next given =
       let s = state_after first h in
@@ -65,11 +70,15 @@ module _ (k pid : ℕ) (first : TracedState) where
         showed = showed-here k Ptree pid first h c a.reply (take (record_room Ptree) bytes) same (tree-shown s);
       }
 
-  pub called-tree : (h : List Entry) (t : ToolState) (c : Call) (a : Answer) → next_call_of t ≡ Some c → answer_to (state_after first h) k c ≡ Some a → TreeStage h t → TreeStage (h ++ call_entry k c a.reply ∷ []) (fed t a.reply)
+  pub called-tree : (h : List Entry) (t : ToolState) (c : Call) (a : Answer) → next_call_of t ≡ Some c
+      → answer_to (state_after first h) k c ≡ Some a → TreeStage h t
+      → TreeStage (h ++ call_entry k c a.reply ∷ []) (fed t a.reply)
   called-tree h t c a next given (at_first same) =
-      let Q : ToolState → Type 0 = λ u. next_call_of u ≡ Some c → TreeStage (h ++ call_entry k c a.reply ∷ []) (fed u a.reply) in
+      let Q : ToolState → Type 0 =
+      λ u. next_call_of u ≡ Some c → TreeStage (h ++ call_entry k c a.reply ∷ []) (fed u a.reply) in
       subst Q (sym same) (λ its. has_read (list-read h c a its given)) next
-  called-tree h t c a next given (has_read has) = has_read (read-goes-on k Ptree pid first h (call_entry k c a.reply) t a.reply has)
+  called-tree h t c a next given (has_read has) =
+      has_read (read-goes-on k Ptree pid first h (call_entry k c a.reply) t a.reply has)
 
   pub ended-tree : (h : List Entry) (t : ToolState) → has_ended t ≡ true → TreeStage h t → HasRead k Ptree pid first h t
   ended-tree h t ended (at_first same) = absurd (still-going t call.List (ap next_call_of same ∙ list-call) ended)
@@ -93,10 +102,14 @@ module _ (k : ℕ) (kind : ToolKind) (pid : ℕ) (first : TracedState) (quiet : 
   others-quiet h e t (at_first same) = at_first same
   others-quiet h e t (has_called is showed) = has_called is (showed-still k kind pid first h e [] showed)
 
-  pub called-quiet : (h : List Entry) (t : ToolState) (c : Call) (a : Answer) → QuietStage h t → QuietStage (h ++ call_entry k c a.reply ∷ []) (fed t a.reply)
+  pub called-quiet : (h : List Entry) (t : ToolState) (c : Call) (a : Answer) → QuietStage h t
+      → QuietStage (h ++ call_entry k c a.reply ∷ []) (fed t a.reply)
   unfolding first_tool
   called-quiet h t c a (at_first same) =
-      has_called (fed-kind t a.reply ∙ ap (λ (u : ToolState). u.kind) same) (showed-here k kind pid first h c a.reply [] (quiet.calls k pid (state_after first h) c) (quiet.shows pid (state_after first h)))
+      has_called (fed-kind t a.reply
+      ∙ ap (λ (u : ToolState). u.kind) same)
+      (showed-here k kind pid first h c a.reply [] (quiet.calls k pid (state_after first h) c)
+      (quiet.shows pid (state_after first h)))
   called-quiet h t c a (has_called is showed) =
       has_called (fed-kind t a.reply ∙ is) (showed-still k kind pid first h (call_entry k c a.reply) [] showed)
 
@@ -109,10 +122,13 @@ module _ (k : ℕ) (kind : ToolKind) (pid : ℕ) (first : TracedState) (quiet : 
     pub showed : Showed k kind pid first h []
     pub text : printed t programs ≡ text_made kind pid []
 
-  pub ended-quiet : (h : List Entry) (t : ToolState) (programs : List Program) → has_ended t ≡ true → t.refusal ≡ None → QuietStage h t → IsSilent h t programs
+  pub ended-quiet : (h : List Entry) (t : ToolState) (programs : List Program) → has_ended t ≡ true → t.refusal ≡ None
+      → QuietStage h t → IsSilent h t programs
   unfolding text_made
   ended-quiet h t programs ended accepted (at_first same) = absurd (starting t same ended)
   ended-quiet h t programs ended accepted (has_called is showed) = record {
     showed = showed;
-    text = text-printed k kind pid first t programs ended accepted ∙ ap (text_of t programs) is ∙ quiet.says t programs ∙ sym (quiet.says _ []);
+    text =
+        text-printed k kind pid first t programs ended accepted ∙ ap (text_of t programs) is ∙ quiet.says t programs
+        ∙ sym (quiet.says _ []);
   }

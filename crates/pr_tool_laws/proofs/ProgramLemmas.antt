@@ -57,7 +57,8 @@ process-same s pid f = refl
 
 -- ---- ends
 
-ended-same : (s : TracedSystem) (pid : ℕ) (p : TracedProcess) (status : ℕ) → Same s (with_this_ended traced pid p status s)
+ended-same : (s : TracedSystem) (pid : ℕ) (p : TracedProcess) (status : ℕ)
+    → Same s (with_this_ended traced pid p status s)
 unfolding with_this_ended with_parent_signalled with_process
 ended-same s pid p status = either-same (p.parent == 0) s _ _ refl refl
 
@@ -69,13 +70,17 @@ live_ended-same s pid status = by (live_process s pid)
     by None = refl
     by (Some p) = ended-same s pid p status
 
-generated-same : (s : TracedSystem) (pid : ℕ) (target : Option ℕ) (g : Sig) (info : Info) → Same s (generated traced pid target g info s)
+generated-same : (s : TracedSystem) (pid : ℕ) (target : Option ℕ) (g : Sig) (info : Info)
+    → Same s (generated traced pid target g info s)
 unfolding generated
-generated-same s pid target g info = either-same (is_kill g) s _ _ (live_ended-same s pid (signal_number g)) (process-same s pid (signalled target g info))
+generated-same s pid target g info =
+    either-same (is_kill g) s _ _ (live_ended-same s pid (signal_number g))
+    (process-same s pid (signalled target g info))
 
 lwp_ended-same : (s : TracedSystem) (pid : ℕ) (p : TracedProcess) (id : ℕ) → Same s (with_lwp_ended traced pid p id s)
 unfolding with_lwp_ended
-lwp_ended-same s pid p id = either-same (length p.lwps == 1) s _ _ (ended-same s pid p 0) (process-same s pid (without_lwp id))
+lwp_ended-same s pid p id =
+    either-same (length p.lwps == 1) s _ _ (ended-same s pid p 0) (process-same s pid (without_lwp id))
 
 -- ---- beginnings
 
@@ -93,7 +98,8 @@ child-same s birth pid p l args = refl
 module _ (pid : ℕ) (p : TracedProcess) (id : ℕ) (l : TracedLwp) where
   changed-same : (c : Change) (s : TracedSystem) → Same s (changed traced pid p id l c s)
   unfolding changed with_process with_reaped
-  changed-same (signals target g info) s = either-same (is_kill g && (target == pid)) s _ _ refl (generated-same s target None g info)
+  changed-same (signals target g info) s =
+      either-same (is_kill g && (target == pid)) s _ _ refl (generated-same s target None g info)
   changed-same (signals_itself g info) s = either-same (is_kill g) s _ _ refl (generated-same s pid (Some id) g info)
   changed-same (forks birth args) s = either-same (s.made == pid) s _ _ refl (child-same s birth pid p l args)
   changed-same (reaps child) s = either-same (child == pid) s _ _ refl refl
@@ -103,7 +109,8 @@ module _ (pid : ℕ) (p : TracedProcess) (id : ℕ) (l : TracedLwp) where
   unfolding all_changed
   all_changed-same [] s = refl
   all_changed-same (c ∷ cs) s =
-      next-same s (changed traced pid p id l c s) (all_changed traced pid p id l cs (changed traced pid p id l c s)) (changed-same c s) (all_changed-same cs (changed traced pid p id l c s))
+      next-same s (changed traced pid p id l c s) (all_changed traced pid p id l cs (changed traced pid p id l c s))
+      (changed-same c s) (all_changed-same cs (changed traced pid p id l c s))
 
   ending-same : (how : Ending) (s : TracedSystem) → Same s (ended traced pid p id how s)
   unfolding ended
@@ -156,7 +163,9 @@ call-same s by c t (edit.sends {pid = pid} {g = g} is) = generated-same s.system
 
 -- ---- histories
 
-entry-same : (n : ℕ) (s : TracedState) (actor : Actor) (it : Act) → IsLawful s → IsLegalEntry n s (record { actor = actor; act = it }) → Same s.system (after s (record { actor = actor; act = it })).system
+entry-same : (n : ℕ) (s : TracedState) (actor : Actor) (it : Act) → IsLawful s
+    → IsLegalEntry n s (record { actor = actor; act = it })
+    → Same s.system (after s (record { actor = actor; act = it })).system
 unfolding IsLegalEntry after
 entry-same n s (Controller by) (act.Call c r) lawful legal =
     let a : Answer = record { state = legal.1.0; reply = r } in
@@ -169,10 +178,12 @@ entry-same n s (Lwp pid id) (act.Turn turned) lawful legal =
 entry-same n s Clock (act.Tick moment) lawful legal = refl
 entry-same n s _ _ lawful legal = absurd legal
 
-pub history-same : (n : ℕ) (s : TracedState) (h : List Entry) → IsLawful s → IsLegal n s h → (state_after s h).system.programs ≡ s.system.programs
+pub history-same : (n : ℕ) (s : TracedState) (h : List Entry) → IsLawful s → IsLegal n s h
+    → (state_after s h).system.programs ≡ s.system.programs
 history-same n s [] lawful legal = refl
 history-same n s (e ∷ h) lawful legal =
-    next-same s.system (after s e).system (state_after (after s e) h).system (entry-same n s e.actor e.act lawful legal.0)
+    next-same s.system (after s e).system (state_after (after s e) h).system
+    (entry-same n s e.actor e.act lawful legal.0)
     (history-same n (after s e) h (history-state n s (e ∷ []) lawful (legal.0, tt)) legal.1)
 
 -- ---- the first state
@@ -189,6 +200,10 @@ spawns-same (place ∷ spawns) s =
     by (Some program) = spawned-same s program false
 
 -- A system has the programs that it began with.
-pub first-same : (n : ℕ) (programs : List Program) (files : List StoredFile) (spawns : List ℕ) (h : List Entry) → IsStart programs files spawns → IsLegal n (first_state programs files spawns) h → (state_after (first_state programs files spawns) h).system.programs ≡ programs
+pub first-same : (n : ℕ) (programs : List Program) (files : List StoredFile) (spawns : List ℕ) (h : List Entry)
+    → IsStart programs files spawns → IsLegal n (first_state programs files spawns) h
+    → (state_after (first_state programs files spawns) h).system.programs ≡ programs
 unfolding first_state bare_system
-first-same n programs files spawns h start legal = history-same n (first_state programs files spawns) h (first-lawful programs files spawns start) legal ∙ spawns-same spawns (bare_system programs files)
+first-same n programs files spawns h start legal =
+    history-same n (first_state programs files spawns) h (first-lawful programs files spawns start) legal
+    ∙ spawns-same spawns (bare_system programs files)

@@ -25,11 +25,13 @@ use Rattle.pr_tool_laws.proofs.StandingLemmas.{IsOther}
 
 -- ---- the controllers after a call
 
-pub fed-own : (controllers : List ControllerState) (k : ℕ) (r : Reply) (core : ControllerState) → slice_get controllers k ≡ Some core → slice_get (with_fed k r controllers) k ≡ Some (after_reply core r)
+pub fed-own : (controllers : List ControllerState) (k : ℕ) (r : Reply) (core : ControllerState)
+    → slice_get controllers k ≡ Some core → slice_get (with_fed k r controllers) k ≡ Some (after_reply core r)
 unfolding with_fed
 fed-own controllers k r core found = rw found (slice_get-set_same controllers k core (after_reply core r) found)
 
-pub fed-other : (controllers : List ControllerState) (j k : ℕ) (r : Reply) → j ≢ k → slice_get (with_fed j r controllers) k ≡ slice_get controllers k
+pub fed-other : (controllers : List ControllerState) (j k : ℕ) (r : Reply) → j ≢ k
+    → slice_get (with_fed j r controllers) k ≡ slice_get controllers k
 unfolding with_fed
 fed-other controllers j k r other = of (slice_get controllers j)
   where
@@ -42,53 +44,84 @@ fed-other controllers j k r other = of (slice_get controllers j)
 module _ (n k : ℕ) (first : TracedState) (P : List Entry → ControllerState → Type 0) where
   -- what others do keeps it
   abbrev pub KeptByOthers : Type 0
-  KeptByOthers = (h : List Entry) (c : ControllerState) (actor : Actor) (it : Act) → IsLegalEntry n (state_after first h) (record { actor = actor; act = it }) → IsOther k actor it → P h c → P (h ++ (record { actor = actor; act = it }) ∷ []) c
+  KeptByOthers =
+      (h : List Entry) (c : ControllerState) (actor : Actor) (it : Act)
+      → IsLegalEntry n (state_after first h) (record { actor = actor; act = it }) → IsOther k actor it → P h c
+      → P (h ++ (record { actor = actor; act = it }) ∷ []) c
 
   -- its own calls keep it
   abbrev pub KeptByCalls : Type 0
-  KeptByCalls = (h : List Entry) (c : ControllerState) (call : Call) (a : Answer) → next_call c ≡ Some call → answer_to (state_after first h) k call ≡ Some a → P h c → P (h ++ call_entry k call a.reply ∷ []) (after_reply c a.reply)
+  KeptByCalls =
+      (h : List Entry) (c : ControllerState) (call : Call) (a : Answer) → next_call c ≡ Some call
+      → answer_to (state_after first h) k call ≡ Some a → P h c
+      → P (h ++ call_entry k call a.reply ∷ []) (after_reply c a.reply)
 
   module _ (by_others : KeptByOthers) (by_calls : KeptByCalls) where
-    own-entry : (h : List Entry) (controllers : List ControllerState) (c : Call) (r : Reply) → IsLegalEntry n (state_after first h) (call_entry k c r) → call_by controllers k ≡ Some c → (o : Option ControllerState) → slice_get controllers k ≡ o → IfSome o (P h) → IfSome (slice_get (with_fed k r controllers) k) (P (h ++ call_entry k c r ∷ []))
+    own-entry : (h : List Entry) (controllers : List ControllerState) (c : Call) (r : Reply)
+        → IsLegalEntry n (state_after first h) (call_entry k c r) → call_by controllers k ≡ Some c
+        → (o : Option ControllerState) → slice_get controllers k ≡ o → IfSome o (P h)
+        → IfSome (slice_get (with_fed k r controllers) k) (P (h ++ call_entry k c r ∷ []))
     unfolding IsLegalEntry call_by
-    own-entry h controllers c r legal calls None found p = absurd (none-some c (ap (option_and_then next_call) (sym found) ∙ calls))
+    own-entry h controllers c r legal calls None found p =
+        absurd (none-some c (ap (option_and_then next_call) (sym found) ∙ calls))
     own-entry h controllers c r legal calls (Some core) found p =
         let next : next_call core ≡ Some c = ap (option_and_then next_call) (sym found) ∙ calls in
         let kept = by_calls h core c (record { state = legal.1.0; reply = r }) next legal.1.1 p in
         subst (λ o. IfSome o (P (h ++ call_entry k c r ∷ []))) (sym (fed-own controllers k r core found)) kept
 
-    others-entry : (h : List Entry) (actor : Actor) (it : Act) → IsLegalEntry n (state_after first h) (record { actor = actor; act = it }) → IsOther k actor it → (o : Option ControllerState) → IfSome o (P h) → IfSome o (P (h ++ (record { actor = actor; act = it }) ∷ []))
+    others-entry : (h : List Entry) (actor : Actor) (it : Act)
+        → IsLegalEntry n (state_after first h) (record { actor = actor; act = it }) → IsOther k actor it
+        → (o : Option ControllerState) → IfSome o (P h) → IfSome o (P (h ++ (record { actor = actor; act = it }) ∷ []))
     others-entry h actor it legal other None p = tt
     others-entry h actor it legal other (Some core) p = by_others h core actor it legal other p
 
-    entry-keeps : (h : List Entry) (controllers : List ControllerState) (actor : Actor) (it : Act) → IsLegalEntry n (state_after first h) (record { actor = actor; act = it }) → FollowsAt controllers (state_after first h) (record { actor = actor; act = it })
-        → IfSome (slice_get controllers k) (P h) → IfSome (slice_get (controllers_after controllers (record { actor = actor; act = it })) k) (P (h ++ (record { actor = actor; act = it }) ∷ []))
+    entry-keeps : (h : List Entry) (controllers : List ControllerState) (actor : Actor) (it : Act)
+        → IsLegalEntry n (state_after first h) (record { actor = actor; act = it })
+        → FollowsAt controllers (state_after first h) (record { actor = actor; act = it })
+        → IfSome (slice_get controllers k) (P h)
+        → IfSome (slice_get (controllers_after controllers (record { actor = actor; act = it })) k)
+        (P (h ++ (record { actor = actor; act = it }) ∷ []))
     unfolding controllers_after FollowsAt
     entry-keeps h controllers (Controller j) (act.Call c r) legal follows p = of (cases_eq j k)
       where
         of : (j ≡ k) ⊎ (j ≢ k) → IfSome (slice_get (with_fed j r controllers) k) (P (h ++ call_entry j c r ∷ []))
         of (inl same) =
-            let Q : ℕ → Type 0 = λ i. IsLegalEntry n (state_after first h) (call_entry i c r) → call_by controllers i ≡ Some c → IfSome (slice_get (with_fed i r controllers) k) (P (h ++ call_entry i c r ∷ [])) in
-            subst Q (sym same) (λ own calls. own-entry h controllers c r own calls (slice_get controllers k) refl p) legal follows
+            let Q : ℕ → Type 0 =
+            λ i. IsLegalEntry n (state_after first h) (call_entry i c r) → call_by controllers i ≡ Some c
+            → IfSome (slice_get (with_fed i r controllers) k) (P (h ++ call_entry i c r ∷ [])) in
+            subst Q (sym same)
+            (λ own calls. own-entry h controllers c r own calls (slice_get controllers k) refl p) legal follows
         of (inr other) =
-            subst (λ o. IfSome o (P (h ++ call_entry j c r ∷ []))) (sym (fed-other controllers j k r other)) (others-entry h (Controller j) (act.Call c r) legal other (slice_get controllers k) p)
-    entry-keeps h controllers (Controller j) (act.Turn t) legal follows p = others-entry h (Controller j) (act.Turn t) legal tt (slice_get controllers k) p
-    entry-keeps h controllers (Controller j) (act.Tick m) legal follows p = others-entry h (Controller j) (act.Tick m) legal tt (slice_get controllers k) p
-    entry-keeps h controllers (Lwp pid id) it legal follows p = others-entry h (Lwp pid id) it legal tt (slice_get controllers k) p
+            subst (λ o. IfSome o (P (h ++ call_entry j c r ∷ []))) (sym (fed-other controllers j k r other))
+            (others-entry h (Controller j) (act.Call c r) legal other (slice_get controllers k) p)
+    entry-keeps h controllers (Controller j) (act.Turn t) legal follows p =
+        others-entry h (Controller j) (act.Turn t) legal tt (slice_get controllers k) p
+    entry-keeps h controllers (Controller j) (act.Tick m) legal follows p =
+        others-entry h (Controller j) (act.Tick m) legal tt (slice_get controllers k) p
+    entry-keeps h controllers (Lwp pid id) it legal follows p =
+        others-entry h (Lwp pid id) it legal tt (slice_get controllers k) p
     entry-keeps h controllers Clock it legal follows p = others-entry h Clock it legal tt (slice_get controllers k) p
 
-    history-keeps : (h rest : List Entry) (controllers : List ControllerState) → IsLegal n (state_after first h) rest → Follows controllers (state_after first h) rest → IfSome (slice_get controllers k) (P h) → IfSome (slice_get (controllers_at controllers rest) k) (P (h ++ rest))
-    history-keeps h [] controllers legal follows p = subst (λ g. IfSome (slice_get controllers k) (P g)) (sym (append-nil h)) p
+    history-keeps : (h rest : List Entry) (controllers : List ControllerState) → IsLegal n (state_after first h) rest
+        → Follows controllers (state_after first h) rest → IfSome (slice_get controllers k) (P h)
+        → IfSome (slice_get (controllers_at controllers rest) k) (P (h ++ rest))
+    history-keeps h [] controllers legal follows p =
+        subst (λ g. IfSome (slice_get controllers k) (P g)) (sym (append-nil h)) p
     history-keeps h (e ∷ rest) controllers legal follows p =
         let kept = entry-keeps h controllers e.actor e.act legal.0 follows.0 p in
-        let state : after (state_after first h) e ≡ state_after first (h ++ e ∷ []) = sym (state_after-push first h e) in
+        let state : after (state_after first h) e ≡ state_after first (h ++ e ∷ []) =
+        sym (state_after-push first h e) in
         let whole : (h ++ e ∷ []) ++ rest ≡ h ++ e ∷ rest = append_assoc h (e ∷ []) rest in
         let controllers' : List ControllerState = controllers_after controllers e in
-        let all = history-keeps (h ++ e ∷ []) rest controllers' (subst (λ s. IsLegal n s rest) state legal.1) (subst (λ s. Follows controllers' s rest) state follows.1) kept in
+        let all =
+        history-keeps (h ++ e ∷ []) rest controllers' (subst (λ s. IsLegal n s rest) state legal.1)
+        (subst (λ s. Follows controllers' s rest) state follows.1) kept in
         subst (λ g. IfSome (slice_get (controllers_at controllers' rest) k) (P g)) whole all
 
     -- it is so of the controller at the end, if it was so at first
-    pub protocol-keeps : (controllers : List ControllerState) (h : List Entry) (core last : ControllerState) → IsLegal n first h → Follows controllers first h → slice_get controllers k ≡ Some core → slice_get (controllers_at controllers h) k ≡ Some last → P [] core → P h last
+    pub protocol-keeps : (controllers : List ControllerState) (h : List Entry) (core last : ControllerState)
+        → IsLegal n first h → Follows controllers first h → slice_get controllers k ≡ Some core
+        → slice_get (controllers_at controllers h) k ≡ Some last → P [] core → P h last
     protocol-keeps controllers h core last legal follows at_first at_last p =
         let begins : IfSome (slice_get controllers k) (P []) = subst (λ o. IfSome o (P [])) (sym at_first) p in
         subst (λ o. IfSome o (P h)) at_last (history-keeps [] h controllers legal follows begins)

@@ -54,7 +54,8 @@ module _ (pid : ℕ) (lwps : List LwpStatus) (few : length lwps ≤ lwp_limit) (
   pub lwps-length : length bytes ≡ 8 + 264 * length lwps
   unfolding lstatus_bytes
   lwps-length =
-      let all : length (words_bytes (entries_words words)) ≡ 8 * 33 * length lwps = length-entries lwpstatus_words_of 33 (λ _. refl) lwps in
+      let all : length (words_bytes (entries_words words)) ≡ 8 * 33 * length lwps =
+      length-entries lwpstatus_words_of 33 (λ _. refl) lwps in
       let front = length-words_bytes (length words ∷ entries_words words) in
       let rest = length-words_bytes (entries_words words) in
       omega arith
@@ -81,29 +82,40 @@ module _ (pid : ℕ) (lwps : List LwpStatus) (few : length lwps ≤ lwp_limit) (
   pub lwps-back : lwps_in bytes ≡ Some words
   unfolding lwps_in lstatus_bytes
   lwps-back =
-      let behind : drop 8 bytes ≡ words_bytes (entries_words words) = behind-number (length words) (entries_words words) in
-      let back = entries-back lwpstatus_words_of lwpstatus_ranges (λ _. refl) lwpstatus_take IsLwpStatus lwpstatus-ranged lwps fields in
+      let behind : drop 8 bytes ≡ words_bytes (entries_words words) =
+      behind-number (length words) (entries_words words) in
+      let back =
+      entries-back lwpstatus_words_of lwpstatus_ranges
+      (λ _. refl) lwpstatus_take IsLwpStatus lwpstatus-ranged lwps fields in
       rw (lwps-counted, lwps-places, behind) back
 
   pub pflags-shown : flags.pflags_text pid bytes ≡ lwps_text pid lwps
   unfolding flags.pflags_text lwps_text
   pflags-shown =
-      ap (λ o. header pid ++ flags.lwp_lines o) lwps-back ∙ ap (λ lines. header pid ++ lines) (lines-alike lwpstatus_words_of flags.lwp_line lwp_line IsLwpStatus lwp-shown lwps fields)
+      ap (λ o. header pid ++ flags.lwp_lines o) lwps-back
+      ∙ ap (λ lines. header pid ++ lines)
+      (lines-alike lwpstatus_words_of flags.lwp_line lwp_line IsLwpStatus lwp-shown lwps fields)
 
 -- ---- psig
 
-pub psig-shown : (pid : ℕ) (dispositions : List ℕ) → length dispositions ≡ signal_count → All IsWord dispositions → sigs.psig_text pid (sigact_bytes dispositions) ≡ dispositions_text pid dispositions
+pub psig-shown : (pid : ℕ) (dispositions : List ℕ) → length dispositions ≡ signal_count → All IsWord dispositions
+    → sigs.psig_text pid (sigact_bytes dispositions) ≡ dispositions_text pid dispositions
 unfolding sigs.psig_text sigact_bytes dispositions_text
 psig-shown pid dispositions whole fit =
     let size : length (words_bytes dispositions) ≡ 312 = length-words_bytes dispositions ∙ omega arith in
     let back : front_words 39 (words_bytes dispositions) ≡ dispositions =
-    ap (front_words 39) (sym (append-nil (words_bytes dispositions))) ∙ ap (λ (n : ℕ). front_words n (words_bytes dispositions ++ [])) (sym whole) ∙ front_words-words_bytes dispositions [] fit in
-    ap (λ whole. header pid ++ cond whole (sigs.signal_lines signals (front_words 39 (words_bytes dispositions))) []) (eq-eqb _ _ size)
+    ap (front_words 39) (sym (append-nil (words_bytes dispositions)))
+    ∙ ap (λ (n : ℕ). front_words n (words_bytes dispositions ++ [])) (sym whole)
+    ∙ front_words-words_bytes dispositions [] fit in
+    ap (λ whole. header pid ++ cond whole (sigs.signal_lines signals (front_words 39 (words_bytes dispositions))) [])
+    (eq-eqb _ _ size)
     ∙ ap (λ words. header pid ++ sigs.signal_lines signals words) back
 
 -- ---- records that are lists of entries
 
-module _ {T : Type 0} (f : T → List ℕ) (ranges : List Range) (some : 0 < 8 * length ranges) (size : (x : T) → length (f x) ≡ length ranges) (take_words : TakeWords ranges) (P : T → Type 0) (ranged : (x : T) → P x → AreRanged ranges (f x)) where
+module _ {T : Type 0} (f : T → List ℕ) (ranges : List Range) (some : 0 < 8 * length ranges)
+    (size : (x : T) → length (f x) ≡ length ranges) (take_words : TakeWords ranges) (P : T → Type 0)
+    (ranged : (x : T) → P x → AreRanged ranges (f x)) where
   all-back : (xs : List T) → All P xs → entries_in ranges (words_bytes (entries_words (map f xs))) ≡ Some (map f xs)
   unfolding entries_in
   all-back xs all =
@@ -111,7 +123,8 @@ module _ {T : Type 0} (f : T → List ℕ) (ranges : List Range) (some : 0 < 8 *
       let whole : (length (words_bytes (entries_words (map f xs))) % (8 * length ranges) == 0) ≡ true =
       eq-eqb _ _ (ap (λ (n : ℕ). n % (8 * length ranges)) many ∙ mul-mod_right (8 * length ranges) (length xs)) in
       let places : length (words_bytes (entries_words (map f xs))) / (8 * length ranges) ≡ length xs =
-      ap (λ (n : ℕ). n / (8 * length ranges)) (many ∙ mul_comm (8 * length ranges) (length xs) ∙ sym (add-zero (length xs * (8 * length ranges)))) ∙ div-mul-add (length xs) (8 * length ranges) 0 some in
+      ap (λ (n : ℕ). n / (8 * length ranges)) (many ∙ mul_comm (8 * length ranges) (length xs)
+      ∙ sym (add-zero (length xs * (8 * length ranges)))) ∙ div-mul-add (length xs) (8 * length ranges) 0 some in
       rw (whole, places) (entries-back f ranges size take_words P ranged xs all)
 
 -- ---- pmap
@@ -119,15 +132,20 @@ module _ {T : Type 0} (f : T → List ℕ) (ranges : List Range) (some : 0 < 8 *
 module _ (pid : ℕ) (mappings : List MapEntry) (fields : All IsMapEntry mappings) where
   mappings-back : entries_in map_entry_ranges (map_bytes mappings) ≡ Some (map map_entry_words_of mappings)
   unfolding map_bytes
-  mappings-back = all-back map_entry_words_of map_entry_ranges (omega arith) (λ _. refl) map_entry_take IsMapEntry map_entry-ranged mappings fields
+  mappings-back =
+      all-back map_entry_words_of map_entry_ranges (omega arith)
+      (λ _. refl) map_entry_take IsMapEntry map_entry-ranged mappings fields
 
   pub pmap-shown : maps.pmap_text pid (map_bytes mappings) ≡ mappings_text pid mappings
   unfolding maps.pmap_text mappings_text
   pmap-shown =
       let words = map map_entry_words_of mappings in
-      let lines : flat_map maps.mapping_line words ≡ flat_map mapping_line mappings = lines-alike map_entry_words_of maps.mapping_line mapping_line IsMapEntry mapping-shown mappings fields in
-      let total : sum_by maps.units words ≡ sum_by units mappings = fold-map (λ a ws. a + maps.units ws) map_entry_words_of 0 mappings in
-      ap (λ o. header pid ++ maps.mapping_lines o) mappings-back ∙ ap (λ front. header pid ++ (front ++ maps.total_line (sum_by maps.units words))) lines
+      let lines : flat_map maps.mapping_line words ≡ flat_map mapping_line mappings =
+      lines-alike map_entry_words_of maps.mapping_line mapping_line IsMapEntry mapping-shown mappings fields in
+      let total : sum_by maps.units words ≡ sum_by units mappings =
+      fold-map (λ a ws. a + maps.units ws) map_entry_words_of 0 mappings in
+      ap (λ o. header pid ++ maps.mapping_lines o) mappings-back
+      ∙ ap (λ front. header pid ++ (front ++ maps.total_line (sum_by maps.units words))) lines
       ∙ ap (λ (n : ℕ). header pid ++ (flat_map mapping_line mappings ++ maps.total_line n)) total
 
 -- ---- pfiles
@@ -136,34 +154,48 @@ kind-below : (w : ℕ) → a_file_kind w ≡ true → w ≤ 3
 kind-below w ok = leb-true w 3 (and_parts (leb 1 w) (leb w 3) ok).1
 
 fd_entry_take : TakeWords fd_entry_ranges
-fd_entry_take = (below-word _ (omega arith), ((λ w ok. let low = kind-below w ok in omega arith), (below-word _ (omega arith), (any-word, (any-word, (any-word, (any-word, (any-word, tt))))))))
+fd_entry_take = (
+  below-word _ (omega arith),
+  (
+    (λ w ok. let low = kind-below w ok in omega arith),
+    (below-word _ (omega arith), (any-word, (any-word, (any-word, (any-word, (any-word, tt)))))),
+  ),
+)
 
 module _ (pid : ℕ) (descriptors : List FdEntry) (fields : All IsFdEntry descriptors) where
   descriptors-back : entries_in fd_entry_ranges (fds_bytes descriptors) ≡ Some (map fd_entry_words_of descriptors)
   unfolding fds_bytes
-  descriptors-back = all-back fd_entry_words_of fd_entry_ranges (omega arith) (λ _. refl) fd_entry_take IsFdEntry fd_entry-ranged descriptors fields
+  descriptors-back =
+      all-back fd_entry_words_of fd_entry_ranges (omega arith)
+      (λ _. refl) fd_entry_take IsFdEntry fd_entry-ranged descriptors fields
 
   pub pfiles-shown : files.pfiles_text pid (fds_bytes descriptors) ≡ descriptors_text pid descriptors
   unfolding files.pfiles_text descriptors_text
   pfiles-shown =
       ap (λ o. header pid ++ files.descriptor_lines o) descriptors-back
-      ∙ ap (λ lines. header pid ++ lines) (lines-alike fd_entry_words_of files.descriptor_line descriptor_line IsFdEntry descriptor-shown descriptors fields)
+      ∙ ap (λ lines. header pid ++ lines)
+      (lines-alike fd_entry_words_of files.descriptor_line descriptor_line IsFdEntry descriptor-shown descriptors fields)
 
 -- ---- ptree
 
 list_entry_take : TakeWords list_entry_ranges
-list_entry_take = (below-word _ (omega arith), (below-word _ (omega arith), (any-word, (any-word, (any-word, (any-word, tt))))))
+list_entry_take =
+    (below-word _ (omega arith), (below-word _ (omega arith), (any-word, (any-word, (any-word, (any-word, tt))))))
 
-module _ (processes : List ListEntry) (fields : All IsListEntry processes) (rising : trees.ids_rise 0 (map list_entry_words_of processes) ≡ true) where
+module _ (processes : List ListEntry) (fields : All IsListEntry processes)
+    (rising : trees.ids_rise 0 (map list_entry_words_of processes) ≡ true) where
   processes-back : entries_in list_entry_ranges (list_bytes processes) ≡ Some (map list_entry_words_of processes)
   unfolding list_bytes
-  processes-back = all-back list_entry_words_of list_entry_ranges (omega arith) (λ _. refl) list_entry_take IsListEntry list_entry-ranged processes fields
+  processes-back =
+      all-back list_entry_words_of list_entry_ranges (omega arith)
+      (λ _. refl) list_entry_take IsListEntry list_entry-ranged processes fields
 
   pub ptree-shown : trees.ptree_text (list_bytes processes) ≡ tree_text processes
   unfolding trees.ptree_text trees.tree_text tree_text
   ptree-shown =
       let words = map list_entry_words_of processes in
-      ap trees.tree_lines processes-back ∙ rw (rising, length-map processes list_entry_words_of) (below-shown (length processes) 0 processes 0 fields)
+      ap trees.tree_lines processes-back
+      ∙ rw (rising, length-map processes list_entry_words_of) (below-shown (length processes) 0 processes 0 fields)
 
 -- ---- pwait
 
@@ -172,5 +204,6 @@ unfolding waits.pwait_text psinfo_bytes end_text
 pwait-shown pid p is same =
     let back : record_read psinfo_ranges (words_bytes (psinfo_words_of p) ++ []) ≡ Ok (psinfo_words_of p) =
     record-back psinfo_words_of psinfo_ranges (λ _. refl) psinfo_take IsPsinfo psinfo-ranged p [] is in
-    ap (λ bytes. waits.end_line_in pid (record_read psinfo_ranges bytes)) (sym (append-nil (words_bytes (psinfo_words_of p)))) ∙ ap (waits.end_line_in pid) back
+    ap (λ bytes. waits.end_line_in pid (record_read psinfo_ranges bytes))
+    (sym (append-nil (words_bytes (psinfo_words_of p)))) ∙ ap (waits.end_line_in pid) back
     ∙ ap (λ (n : ℕ). waits.end_line n p.wait_status) (sym same)

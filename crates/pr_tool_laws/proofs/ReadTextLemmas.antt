@@ -29,18 +29,26 @@ use Rattle.pr_tool_laws.specs.ToolTexts.{tool_text}
 -- What a tool makes of one read is the text of what stands in the state.
 
 -- a record that is no longer than a read is read whole
-pub whole-read : (kind : ToolKind) (bytes : List ℕ) → length bytes ≤ read_limit → length bytes ≤ record_room kind → take (record_room kind) (part_read bytes 0 read_limit) ≡ bytes
+pub whole-read : (kind : ToolKind) (bytes : List ℕ) → length bytes ≤ read_limit → length bytes ≤ record_room kind
+    → take (record_room kind) (part_read bytes 0 read_limit) ≡ bytes
 unfolding part_read
-whole-read kind bytes fits room = ap (take (record_room kind)) (take_all read_limit bytes fits) ∙ take_all (record_room kind) bytes room
+whole-read kind bytes fits room =
+    ap (take (record_room kind)) (take_all read_limit bytes fits) ∙ take_all (record_room kind) bytes room
 
 -- the same of what a file gives
-module _ (kind : ToolKind) (pid : ℕ) (line : TracedProcess → List ℕ) (record_of : TracedProcess → List ℕ) (reply_of : Option TracedProcess → Option (List ℕ))
-    (gives : (p : TracedProcess) → reply_of (Some p) ≡ Some (part_read (record_of p) 0 read_limit)) (none : reply_of None ≡ None) (room : record_room kind ≡ read_limit) where
-  file-shown : (o : Option TracedProcess) → IfSome o (λ p. (length (record_of p) ≤ read_limit) × (text_made kind pid (record_of p) ≡ line p)) → option_map (text_made kind pid) (option_map (take (record_room kind)) (reply_of o)) ≡ option_map line o
+module _ (kind : ToolKind) (pid : ℕ) (line : TracedProcess → List ℕ) (record_of : TracedProcess → List ℕ)
+    (reply_of : Option TracedProcess → Option (List ℕ))
+    (gives : (p : TracedProcess) → reply_of (Some p) ≡ Some (part_read (record_of p) 0 read_limit))
+    (none : reply_of None ≡ None) (room : record_room kind ≡ read_limit) where
+  file-shown : (o : Option TracedProcess)
+      → IfSome o (λ p. (length (record_of p) ≤ read_limit) × (text_made kind pid (record_of p) ≡ line p))
+      → option_map (text_made kind pid) (option_map (take (record_room kind)) (reply_of o)) ≡ option_map line o
   file-shown None is = ap (λ r. option_map (text_made kind pid) (option_map (take (record_room kind)) r)) none
   file-shown (Some p) is =
-      let whole : take (record_room kind) (part_read (record_of p) 0 read_limit) ≡ record_of p = whole-read kind (record_of p) is.0 (omega (arith, room, is.0)) in
-      ap (λ r. option_map (text_made kind pid) (option_map (take (record_room kind)) r)) (gives p) ∙ ap (λ bytes. Some (text_made kind pid bytes)) whole ∙ ap (λ text. Some text) is.1
+      let whole : take (record_room kind) (part_read (record_of p) 0 read_limit) ≡ record_of p =
+      whole-read kind (record_of p) is.0 (omega (arith, room, is.0)) in
+      ap (λ r. option_map (text_made kind pid) (option_map (take (record_room kind)) r)) (gives p)
+      ∙ ap (λ bytes. Some (text_made kind pid bytes)) whole ∙ ap (λ text. Some text) is.1
 
 -- ---- a row a tool
 
@@ -48,13 +56,15 @@ module _ (kind : ToolKind) (pid : ℕ) (line : TracedProcess → List ℕ) (reco
 abbrev IsShownAs : ToolKind → ℕ → List ℕ → List ℕ → Type 0
 IsShownAs kind pid bytes text = (length bytes ≤ read_limit) × (text_made kind pid bytes ≡ text)
 
-lwps-shown : (pid : ℕ) (p : TracedProcess) → AreLwpsRead p → IsShownAs Pflags pid (lstatus_bytes (lstatus_of p)) (lwps_text pid (lstatus_of p))
+lwps-shown : (pid : ℕ) (p : TracedProcess) → AreLwpsRead p
+    → IsShownAs Pflags pid (lstatus_bytes (lstatus_of p)) (lwps_text pid (lstatus_of p))
 unfolding text_made text_of first_tool
 lwps-shown pid p are =
     let size = lwps-length pid (lstatus_of p) are.few are.fields in
     (omega (arith, size, are.few), pflags-shown pid (lstatus_of p) are.few are.fields)
 
-dispositions-shown : (pid : ℕ) (p : TracedProcess) → AreDispositionsRead p → IsShownAs Psig pid (sigact_bytes p.dispositions) (dispositions_text pid p.dispositions)
+dispositions-shown : (pid : ℕ) (p : TracedProcess) → AreDispositionsRead p
+    → IsShownAs Psig pid (sigact_bytes p.dispositions) (dispositions_text pid p.dispositions)
 unfolding text_made text_of first_tool sigact_bytes
 dispositions-shown pid p are =
     let size = length-words_bytes p.dispositions in
@@ -65,7 +75,8 @@ mappings-shown : (pid : ℕ) (s : TracedSystem) (p : TracedProcess) → AreMappi
 unfolding text_made text_of first_tool
 mappings-shown pid s p are = (are.few, pmap-shown pid (map_of s p) are.fields)
 
-descriptors-shown : (pid : ℕ) (s : TracedSystem) (p : TracedProcess) → AreDescriptorsRead s p → IsShownAs Pfiles pid (fds_bytes (fds_of s.files p)) (descriptors_text pid (fds_of s.files p))
+descriptors-shown : (pid : ℕ) (s : TracedSystem) (p : TracedProcess) → AreDescriptorsRead s p
+    → IsShownAs Pfiles pid (fds_bytes (fds_of s.files p)) (descriptors_text pid (fds_of s.files p))
 unfolding text_made text_of first_tool fds_bytes
 descriptors-shown pid s p are =
     let size = length-entries fd_entry_words_of 8 (λ _. refl) (fds_of s.files p) in
@@ -80,7 +91,8 @@ end-shown pid s p is =
 
 -- ---- the ids of processes rise, also without process 0
 
-rise-after : (es : List (ℕ × TracedProcess)) (least low : ℕ) → least < low → rises_from low es ≡ true → ids_rise least (map list_entry_words_of (list_entries es)) ≡ true
+rise-after : (es : List (ℕ × TracedProcess)) (least low : ℕ) → least < low → rises_from low es ≡ true
+    → ids_rise least (map list_entry_words_of (list_entries es)) ≡ true
 unfolding ids_rise list_entry_of
 rise-after [] least low below rising = refl
 rise-after (e ∷ es) least low below rising =
@@ -89,7 +101,8 @@ rise-after (e ∷ es) least low below rising =
     let more : nat_lt least e.0 ≡ true = lt-ltb least e.0 (omega arith) in
     rw (there, more) (rise-after es e.0 (e.0 + 1) (omega arith) (rises_from-tail low e es rising))
 
-list-rises : (es : List (ℕ × TracedProcess)) → IsRising es → ids_rise 0 (map list_entry_words_of (list_entries es)) ≡ true
+list-rises : (es : List (ℕ × TracedProcess)) → IsRising es
+    → ids_rise 0 (map list_entry_words_of (list_entries es)) ≡ true
 unfolding ids_rise list_entry_of
 list-rises [] rising = refl
 list-rises (e ∷ es) rising = of (cases_eq e.0 0)
@@ -105,12 +118,15 @@ tree-shown : (pid : ℕ) (s : TracedSystem) → AreProcessesRead s → text_read
 unfolding text_read bytes_shown tool_text text_made text_of first_tool list_bytes list_of record_room
 tree-shown pid s are =
     let size = length-entries list_entry_words_of 6 (λ _. refl) (list_of s) in
-    let whole : take (record_room Ptree) (list_bytes (list_of s)) ≡ list_bytes (list_of s) = take_all (record_room Ptree) (list_bytes (list_of s)) (omega (arith, size, are.few)) in
-    ap (λ bytes. Some (ptree_text bytes)) whole ∙ ap (λ text. Some text) (ptree-shown (list_of s) are.fields (list-rises s.processes are.rising))
+    let whole : take (record_room Ptree) (list_bytes (list_of s)) ≡ list_bytes (list_of s) =
+    take_all (record_room Ptree) (list_bytes (list_of s)) (omega (arith, size, are.few)) in
+    ap (λ bytes. Some (ptree_text bytes)) whole
+    ∙ ap (λ text. Some text) (ptree-shown (list_of s) are.fields (list-rises s.processes are.rising))
 
 -- ---- all tools
 
-made-quiet : (kind : ToolKind) (pid : ℕ) → text_of (record (first_tool kind pid) { bytes = [] }) [] kind ≡ [] → text_made kind pid [] ≡ []
+made-quiet : (kind : ToolKind) (pid : ℕ) → text_of (record (first_tool kind pid) { bytes = [] }) [] kind ≡ []
+    → text_made kind pid [] ≡ []
 unfolding text_made
 made-quiet kind pid quiet = quiet
 
@@ -122,13 +138,16 @@ prun-shown : (pid : ℕ) → text_made Prun pid [] ≡ []
 unfolding text_of
 prun-shown pid = made-quiet Prun pid refl
 
-pub read-back : (kind : ToolKind) (pid : ℕ) (s : TracedSystem) → IsReadBack kind pid s → text_read kind pid s ≡ tool_text kind pid s
+pub read-back : (kind : ToolKind) (pid : ℕ) (s : TracedSystem) → IsReadBack kind pid s
+    → text_read kind pid s ≡ tool_text kind pid s
 unfolding text_read bytes_shown tool_text IsReadBack file_of file_read read_process file_reply bytes_in record_room
 read-back Pflags pid s good =
-    file-shown Pflags pid (λ p. lwps_text pid (lstatus_of p)) (λ p. lstatus_bytes (lstatus_of p)) (λ o. bytes_in (of_process s pid 0 0 read_limit file.Lstatus o)) (λ p. refl) refl refl
+    file-shown Pflags pid (λ p. lwps_text pid (lstatus_of p)) (λ p. lstatus_bytes (lstatus_of p))
+    (λ o. bytes_in (of_process s pid 0 0 read_limit file.Lstatus o)) (λ p. refl) refl refl
     (live_process s pid) (IfSome_then (live_process s pid) good (lwps-shown pid))
 read-back Psig pid s good =
-    file-shown Psig pid (λ p. dispositions_text pid p.dispositions) (λ p. sigact_bytes p.dispositions) (λ o. bytes_in (of_process s pid 0 0 read_limit file.Sigact o)) (λ p. refl) refl refl
+    file-shown Psig pid (λ p. dispositions_text pid p.dispositions) (λ p. sigact_bytes p.dispositions)
+    (λ o. bytes_in (of_process s pid 0 0 read_limit file.Sigact o)) (λ p. refl) refl refl
     (live_process s pid) (IfSome_then (live_process s pid) good (dispositions-shown pid))
 read-back Pstack pid s good = absurd good
 read-back Pmap pid s good =
@@ -136,7 +155,8 @@ read-back Pmap pid s good =
     (λ o. bytes_in (of_process s pid 0 0 read_limit file.Map o)) (λ p. refl) refl refl
     (live_process s pid) (IfSome_then (live_process s pid) good (mappings-shown pid s))
 read-back Pfiles pid s good =
-    file-shown Pfiles pid (λ p. descriptors_text pid (fds_of s.files p)) (λ p. fds_bytes (fds_of s.files p)) (λ o. bytes_in (of_process s pid 0 0 read_limit file.Fds o)) (λ p. refl) refl refl
+    file-shown Pfiles pid (λ p. descriptors_text pid (fds_of s.files p)) (λ p. fds_bytes (fds_of s.files p))
+    (λ o. bytes_in (of_process s pid 0 0 read_limit file.Fds o)) (λ p. refl) refl refl
     (live_process s pid) (IfSome_then (live_process s pid) good (descriptors-shown pid s))
 read-back Pstop pid s good = ap (λ text. Some text) (pstop-shown pid)
 read-back Prun pid s good = ap (λ text. Some text) (prun-shown pid)

@@ -30,11 +30,13 @@ use Rattle.pr_tool_laws.specs.Reads.{IsToolRead, ReadsFile, bytes_shown, record_
 
 -- a tool that has opened the file of its record
 abbrev pub with_file : ToolKind → ℕ → Step → ℕ → ToolState
-with_file kind pid next number = record (first_tool kind pid) { opened = record nothing_open { file = Some number }; step = next }
+with_file kind pid next number =
+    record (first_tool kind pid) { opened = record nothing_open { file = Some number }; step = next }
 
 -- a step of a tool with its file open: it reads, or it waits and then reads
 abbrev pub IsWithFile : ToolKind → Step → Type 0
-IsWithFile kind next = (next ≡ step.ReadFile) ⊎ ((next ≡ step.AwaitEnd) × (step_after kind step.AwaitEnd ≡ step.ReadFile))
+IsWithFile kind next =
+    (next ≡ step.ReadFile) ⊎ ((next ≡ step.AwaitEnd) × (step_after kind step.AwaitEnd ≡ step.ReadFile))
 
 -- how such a tool goes on
 pub record IsReader (kind : ToolKind) : Type 0 where
@@ -62,13 +64,15 @@ lwp-read : (p : TracedProcess) (id from len : ℕ) (o : Option TracedLwp) → Is
 lwp-read p id from len None = tt
 lwp-read p id from len (Some l) = tt
 
-file-read : (s : TracedSystem) (pid : ℕ) (p : TracedProcess) (id from len : ℕ) (f : File) → IsRead (file_reply s pid p id from len f)
+file-read : (s : TracedSystem) (pid : ℕ) (p : TracedProcess) (id from len : ℕ) (f : File)
+    → IsRead (file_reply s pid p id from len f)
 unfolding file_reply
 file-read s pid p id from len file.Mem = none-read (mapped_from (space_seen s p) from len)
 file-read s pid p id from len file.Lwpstatus = lwp-read p id from len (lwp_of p id)
 file-read s pid p id from len _ = tt
 
-process-read : (s : TracedSystem) (pid id from len : ℕ) (f : File) (o : Option TracedProcess) → IsRead (of_process s pid id from len f o)
+process-read : (s : TracedSystem) (pid id from len : ℕ) (f : File) (o : Option TracedProcess)
+    → IsRead (of_process s pid id from len f o)
 process-read s pid id from len f None = tt
 process-read s pid id from len f (Some p) = file-read s pid p id from len f
 
@@ -81,7 +85,9 @@ reply-read s pid id from len f = of ((len == 0) || nat_lt read_limit len)
     of false = process-read s pid id from len f (read_process s pid f)
 
 -- a handle of a file that is no control file reads that file
-pub handle-read : (s : TracedState) (number from len : ℕ) (h : Held) → is_control h.file ≡ false → Stands s.opens number h → read_reply s h.controller number from len ≡ file_read s.system h.pid h.lwp from len h.file
+pub handle-read : (s : TracedState) (number from len : ℕ) (h : Held) → is_control h.file ≡ false
+    → Stands s.opens number h
+    → read_reply s h.controller number from len ≡ file_read s.system h.pid h.lwp from len h.file
 unfolding read_reply
 handle-read s number from len h plain stands =
     ap (λ o. held_read s.system (readable o) from len) stands ∙ rw plain refl
@@ -93,7 +99,8 @@ module _ (kind : ToolKind) (pid : ℕ) (is : IsReader kind) where
   unfolding next_call_of call_of first_tool
   first-call = rw (is.starts) refl
 
-  pub read-call : (number : ℕ) → next_call_of (with_file kind pid step.ReadFile number) ≡ Some (call.Read number 0 read_limit)
+  pub read-call : (number : ℕ)
+      → next_call_of (with_file kind pid step.ReadFile number) ≡ Some (call.Read number 0 read_limit)
   unfolding next_call_of call_of
   read-call number = refl
 
@@ -106,24 +113,32 @@ module _ (kind : ToolKind) (pid : ℕ) (is : IsReader kind) where
   step-with-file t next (inl reads) = rw reads refl
   step-with-file t next (inr waits) = rw (waits.0) refl
 
-  pub opened-fed : (number : ℕ) → fed (first_tool kind pid) (reply.Handle number) ≡ with_file kind pid (step_after kind step.OpenFile) number
+  pub opened-fed : (number : ℕ)
+      → fed (first_tool kind pid) (reply.Handle number) ≡ with_file kind pid (step_after kind step.OpenFile) number
   unfolding fed refusal_in accepted advanced opened_in first_tool
   opened-fed number =
-      rw (is.starts) (step-with-file (record (first_tool kind pid) { opened = record nothing_open { file = Some number }; step = step.OpenFile }) (step_after kind step.OpenFile) is.opens)
+      rw (is.starts)
+      (step-with-file
+      (record (first_tool kind pid) { opened = record nothing_open { file = Some number }; step = step.OpenFile })
+      (step_after kind step.OpenFile) is.opens)
 
   pub open-refused : (e : Errno) → WasRefused (fed (first_tool kind pid) (reply.Fail e))
   unfolding first_tool is_passed_over
   open-refused e = refused-fed (first_tool kind pid) e (rw (is.starts) refl) (is.leaves (first_step kind))
 
-  pub read-fed : (number : ℕ) (bytes : List ℕ) → fed (with_file kind pid step.ReadFile number) (reply.Bytes bytes) ≡ having_read kind pid (record nothing_open { file = Some number }) (take (record_room kind) bytes)
+  pub read-fed : (number : ℕ) (bytes : List ℕ)
+      → fed (with_file kind pid step.ReadFile number) (reply.Bytes bytes) ≡ having_read kind pid
+      (record nothing_open { file = Some number }) (take (record_room kind) bytes)
   unfolding fed refusal_in accepted advanced with_record with_next bytes_in first_tool
   read-fed number bytes = rw (is.reads) refl
 
-  pub read-refused : (number : ℕ) (e : Errno) → WasRefused (fed (with_file kind pid step.ReadFile number) (reply.Fail e))
+  pub read-refused : (number : ℕ) (e : Errno)
+      → WasRefused (fed (with_file kind pid step.ReadFile number) (reply.Fail e))
   unfolding is_passed_over first_tool
   read-refused number e = refused-fed (with_file kind pid step.ReadFile number) e refl (is.leaves step.ReadFile)
 
-  pub bytes-given : (bytes : List ℕ) → option_map (take (record_room kind)) (bytes_in (reply.Bytes bytes)) ≡ Some (take (record_room kind) bytes)
+  pub bytes-given : (bytes : List ℕ)
+      → option_map (take (record_room kind)) (bytes_in (reply.Bytes bytes)) ≡ Some (take (record_room kind) bytes)
   unfolding bytes_in
   bytes-given bytes = refl
 
@@ -132,7 +147,9 @@ module _ (kind : ToolKind) (pid : ℕ) (is : IsReader kind) where
     pub accepted : refusal_in step.AwaitEnd r ≡ None
     pub reads : fed (with_file kind pid step.AwaitEnd number) r ≡ with_file kind pid step.ReadFile number
 
-  pub wait-fed : step_after kind step.AwaitEnd ≡ step.ReadFile → (number : ℕ) (r : Reply) → HasAwaited number r ⊎ WasRefused (fed (with_file kind pid step.AwaitEnd number) r)
+  pub wait-fed : step_after kind step.AwaitEnd ≡ step.ReadFile → (number : ℕ) (r : Reply)
+      → HasAwaited number r ⊎ WasRefused (fed (with_file kind pid step.AwaitEnd number) r)
   unfolding fed refusal_in accepted advanced with_next first_tool is_passed_over
-  wait-fed waits number (reply.Fail e) = inr (refused-fed (with_file kind pid step.AwaitEnd number) e refl (is.leaves step.AwaitEnd))
+  wait-fed waits number (reply.Fail e) =
+      inr (refused-fed (with_file kind pid step.AwaitEnd number) e refl (is.leaves step.AwaitEnd))
   wait-fed waits number _ = inl (record { accepted = refl; reads = rw waits refl })

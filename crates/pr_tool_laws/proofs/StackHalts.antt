@@ -28,7 +28,8 @@ pub record HaltsWith (pid : ℕ) (space : Space) (s : TracedSystem) : Type 0 whe
   pub each : (p : TracedProcess) → live_process s pid ≡ Some p → IsHalting p × (space_seen s p ≡ space)
 
 -- what is no call of a controller is an entry of another
-other-actor : (n : ℕ) (s : TracedState) (k : ℕ) (actor : Actor) (it : Act) → IsLegalEntry n s (record { actor = actor; act = it }) → IsOther k actor it → actor ≢ Controller k
+other-actor : (n : ℕ) (s : TracedState) (k : ℕ) (actor : Actor) (it : Act)
+    → IsLegalEntry n s (record { actor = actor; act = it }) → IsOther k actor it → actor ≢ Controller k
 unfolding IsLegalEntry
 other-actor n s k (Controller j) (act.Call c r) legal other same = other (cc)
 other-actor n s k (Lwp pid id) (act.Turn turned) legal other same = cc

@@ -51,16 +51,23 @@ module _ (n k pid : ℕ) (first : TracedState) where
   calls-keep h (Script s) c a next given kept = absurd kept
   calls-keep h (Truss t) c a next given kept = absurd kept
   calls-keep h (Tool t) c a next given kept =
-      let same : a.state ≡ state_after first (h ++ call_entry k c a.reply ∷ []) = sym (state-called first h k c a given) in
+      let same : a.state ≡ state_after first (h ++ call_entry k c a.reply ∷ []) =
+      sym (state-called first h k c a given) in
       let stage = called-stage n k pid first h c a kept.0 given t next kept.1 in
       let lawful = call-state (state_after first h) kept.0 k c a given in
-      subst (λ (s : TracedState). IsLawful s × StackStage n k pid first (h ++ call_entry k c a.reply ∷ []) s (fed t a.reply)) same (lawful, stage)
+      subst (λ (s : TracedState). IsLawful s × StackStage n k pid first (h ++ call_entry k c a.reply ∷ []) s
+      (fed t a.reply)) same (lawful, stage)
 
 -- In the end it shows them, unless it was refused.
-pub shows-one-stack : (controllers : List ControllerState) (n k pid : ℕ) (s : TracedState) (h : List Entry) (t : ToolState) (programs : List Program) → IsLawful s → IsInRange s.system → HasBytes h
-    → slice_get controllers k ≡ Some (Tool (first_tool Pstack pid)) → IsLegal n s h → Follows controllers s h → slice_get (controllers_at controllers h) k ≡ Some (Tool t) → has_ended t ≡ true → t.refusal ≡ None
+pub shows-one-stack : (controllers : List ControllerState) (n k pid : ℕ) (s : TracedState) (h : List Entry)
+    (t : ToolState) (programs : List Program) → IsLawful s → IsInRange s.system → HasBytes h
+    → slice_get controllers k ≡ Some (Tool (first_tool Pstack pid)) → IsLegal n s h → Follows controllers s h
+    → slice_get (controllers_at controllers h) k ≡ Some (Tool t) → has_ended t ≡ true → t.refusal ≡ None
     → ShowsOneStack k pid programs s h (printed t programs)
 unfolding IsStackKept
 shows-one-stack controllers n k pid s h t programs lawful ranged bytes begins legal follows ends ended accepted =
-    let kept = protocol-keeps n k s (IsStackKept n k pid s) (others-keep n k pid s) (calls-keep n k pid s) controllers h (Tool (first_tool Pstack pid)) (Tool t) legal follows begins ends (lawful, at_first refl) in
-    shows n k pid s h t programs lawful ranged bytes legal ended accepted (ended-stage n k pid s h (state_after s h) t ended accepted kept.1)
+    let kept =
+    protocol-keeps n k s (IsStackKept n k pid s) (others-keep n k pid s) (calls-keep n k pid s) controllers h
+    (Tool (first_tool Pstack pid)) (Tool t) legal follows begins ends (lawful, at_first refl) in
+    shows n k pid s h t programs lawful ranged bytes legal ended accepted
+    (ended-stage n k pid s h (state_after s h) t ended accepted kept.1)

@@ -51,15 +51,21 @@ memory_of k pid = held_by k pid 0 file.Mem mode.Read
 
 -- ---- a handle more
 
-module _ (s : TracedState) (k : ℕ) (held : Held) (own : held.controller ≡ k) (r : Reply) (opens : Places) (granted : Opens s k held r opens) where
+module _ (s : TracedState) (k : ℕ) (held : Held) (own : held.controller ≡ k) (r : Reply) (opens : Places)
+    (granted : Opens s k held r opens) where
   pub new-stands : handle_of opens k granted.place ≡ Some held
   new-stands =
-      ap (λ (x : Places). handle_of x k granted.place) granted.is ∙ own-set s.opens k granted.place (Some held) None granted.free ∙ own-mine k held own
+      ap (λ (x : Places). handle_of x k granted.place) granted.is
+      ∙ own-set s.opens k granted.place (Some held) None granted.free ∙ own-mine k held own
 
-  pub old-stands : (number : ℕ) (old : Held) → handle_of s.opens k number ≡ Some old → handle_of opens k number ≡ Some old
+  pub old-stands : (number : ℕ) (old : Held) → handle_of s.opens k number ≡ Some old
+      → handle_of opens k number ≡ Some old
   old-stands number old stands =
-      let apart : granted.place ≢ number = λ same. none-some old (sym (own-free s.opens k granted.place granted.free) ∙ ap (handle_of s.opens k) same ∙ stands) in
-      ap (λ (x : Places). handle_of x k number) granted.is ∙ own-other s.opens k granted.place number (Some held) apart ∙ stands
+      let apart : granted.place ≢ number =
+      λ same. none-some old (sym (own-free s.opens k granted.place granted.free) ∙ ap (handle_of s.opens k) same
+      ∙ stands) in
+      ap (λ (x : Places). handle_of x k number) granted.is ∙ own-other s.opens k granted.place number (Some held) apart
+      ∙ stands
 
 -- ---- a request to stop
 
@@ -68,14 +74,19 @@ unfolding with_all_directed
 directed-memory p = record { space = refl }
 
 -- Where it is not refused, the process does nothing but stop from then on, and the wait for it has no end of its own.
-pub stop-halts : (s : TracedState) (k c pid : ℕ) (a : Answer) → handle_of s.opens k c ≡ Some (control_of k pid) → answer_to s k (call.Ctl c stop_bytes) ≡ Some a → ((e : Errno) → a.reply ≢ reply.Fail e)
+pub stop-halts : (s : TracedState) (k c pid : ℕ) (a : Answer) → handle_of s.opens k c ≡ Some (control_of k pid)
+    → answer_to s k (call.Ctl c stop_bytes) ≡ Some a → ((e : Errno) → a.reply ≢ reply.Fail e)
     → ((space : Space) × HaltsWith pid space a.state.system) × (until_in a.reply ≡ 0)
 unfolding message_answer until_in
 stop-halts s k c pid a stands given accepted = by (live_process s.system pid) refl
   where
-    by : (o : Option TracedProcess) → live_process s.system pid ≡ o → ((space : Space) × HaltsWith pid space a.state.system) × (until_in a.reply ≡ 0)
+    by : (o : Option TracedProcess) → live_process s.system pid ≡ o
+        → ((space : Space) × HaltsWith pid space a.state.system) × (until_in a.reply ≡ 0)
     by None none =
-        absurd (accepted Noent (ap (λ (x : Answer). x.reply) (ctl-is s k c (control_of k pid) stands refl stop_bytes a given) ∙ ap (λ (o : Option TracedProcess). (targeted_answer s.system (control_of k pid) o stop_bytes).reply) none))
+        absurd (accepted Noent
+        (ap (λ (x : Answer). x.reply) (ctl-is s k c (control_of k pid) stands refl stop_bytes a given)
+        ∙ ap (λ (o : Option TracedProcess).
+        (targeted_answer s.system (control_of k pid) o stop_bytes).reply) none))
     by (Some p) live =
         let later = stop-directs s k c (control_of k pid) stands refl p live a given accepted in
         let kept = directed-memory p in
@@ -84,27 +95,34 @@ stop-halts s k c pid a stands given accepted = by (live_process s.system pid) re
               let same : with_all_directed p ≡ q = same_Some (with_all_directed p) q (sym later ∙ there) in
               (subst IsHalting same (all-directed p), ap (λ (x : TracedProcess). x.space) (sym same) ∙ kept.space);
         } in
-        let taken = taken-unless s k c (control_of k pid) stands refl p live stop_bytes message.Stop a stop-reads given accepted in
+        let taken =
+        taken-unless s k c
+        (control_of k pid) stands refl p live stop_bytes message.Stop a stop-reads given accepted in
         ((space_seen s.system p, halts), ap (λ (x : Answer). until_in x.reply) taken.is)
 
 -- ---- a read
 
 -- of a file that is no control file
-pub read-answer : (s : TracedState) (number from len : ℕ) (held : Held) (a : Answer) → is_control held.file ≡ false → Stands s.opens number held → answer_to s held.controller (call.Read number from len) ≡ Some a
+pub read-answer : (s : TracedState) (number from len : ℕ) (held : Held) (a : Answer) → is_control held.file ≡ false
+    → Stands s.opens number held → answer_to s held.controller (call.Read number from len) ≡ Some a
     → a ≡ answered s (file_read s.system held.pid held.lwp from len held.file)
 unfolding answer_to
-read-answer s number from len held a plain stands given = sym (same_Some _ a given) ∙ ap (answered s) (handle-read s number from len held plain stands)
+read-answer s number from len held a plain stands given =
+    sym (same_Some _ a given) ∙ ap (answered s) (handle-read s number from len held plain stands)
 
 module _ (s : TracedSystem) (pid : ℕ) where
   pub status-gone : live_process s pid ≡ None → file_read s pid 0 0 read_limit file.Lstatus ≡ reply.Fail Noent
   unfolding file_read read_process
   status-gone none = ap (of_process s pid 0 0 read_limit file.Lstatus) none
 
-  pub status-there : (p : TracedProcess) → live_process s pid ≡ Some p → file_read s pid 0 0 read_limit file.Lstatus ≡ reply.Bytes (part_read (lstatus_bytes (lstatus_of p)) 0 read_limit)
+  pub status-there : (p : TracedProcess) → live_process s pid ≡ Some p
+      → file_read s pid 0 0 read_limit file.Lstatus ≡ reply.Bytes
+      (part_read (lstatus_bytes (lstatus_of p)) 0 read_limit)
   unfolding file_read read_process file_reply
   status-there p live = ap (of_process s pid 0 0 read_limit file.Lstatus) live
 
-  pub memory-gone : (from : ℕ) → live_process s pid ≡ None → file_read s pid 0 from short_read file.Mem ≡ reply.Fail Noent
+  pub memory-gone : (from : ℕ) → live_process s pid ≡ None
+      → file_read s pid 0 from short_read file.Mem ≡ reply.Fail Noent
   unfolding file_read read_process
   memory-gone from none = ap (of_process s pid 0 from short_read file.Mem) none
 
@@ -114,7 +132,8 @@ module _ (s : TracedSystem) (pid : ℕ) where
   memory-there from p live = ap (of_process s pid 0 from short_read file.Mem) live
 
 -- one read has the status of all lwps
-pub status-whole : (p : TracedProcess) → AreLwpsRead p → take read_limit (part_read (lstatus_bytes (lstatus_of p)) 0 read_limit) ≡ lstatus_bytes (lstatus_of p)
+pub status-whole : (p : TracedProcess) → AreLwpsRead p
+    → take read_limit (part_read (lstatus_bytes (lstatus_of p)) 0 read_limit) ≡ lstatus_bytes (lstatus_of p)
 unfolding record_room
 status-whole p are =
     let size = lwps-length 0 (lstatus_of p) are.few are.fields in

@@ -73,8 +73,21 @@ module _ (n k pid : ℕ) (first : TracedState) where
     pub still : IsHalting process
 
   -- its read now
-  abbrev pub seen-here : (h : List Entry) (c : Call) (r : Reply) (p : TracedProcess) → IsToolRead Pstack k pid (state_after first h) c → HasStopped k pid first h → live_process (state_after first h).system pid ≡ Some p → IsHalting p → Seen (h ++ call_entry k c r ∷ [])
-  seen-here h c r p reads stopped live still = record { process = p; before = h; call = c; reply = r; after = []; place = refl; reads = reads; stopped = stopped; live = live; still = still }
+  abbrev pub seen-here : (h : List Entry) (c : Call) (r : Reply) (p : TracedProcess)
+      → IsToolRead Pstack k pid (state_after first h) c → HasStopped k pid first h
+      → live_process (state_after first h).system pid ≡ Some p → IsHalting p → Seen (h ++ call_entry k c r ∷ [])
+  seen-here h c r p reads stopped live still = record {
+    process = p;
+    before = h;
+    call = c;
+    reply = r;
+    after = [];
+    place = refl;
+    reads = reads;
+    stopped = stopped;
+    live = live;
+    still = still;
+  }
 
   abbrev pub seen-still : (h : List Entry) (e : Entry) → Seen h → Seen (h ++ e ∷ [])
   seen-still h e seen = record {
@@ -125,7 +138,8 @@ module _ (n k pid : ℕ) (first : TracedState) where
   So h s notes step.ReadFirst = notes ≡ no_notes
   So h s notes step.Stop = notes.frames ≡ []
   So h s notes step.AwaitStop = (notes.frames ≡ []) × ((space : Space) × HaltsWith pid space s) × (notes.until ≡ 0)
-  So h s notes step.ReadFile = (notes.frames ≡ []) × ((space : Space) × HaltsWith pid space s) × HasStopped k pid first h
+  So h s notes step.ReadFile =
+      (notes.frames ≡ []) × ((space : Space) × HaltsWith pid space s) × HasStopped k pid first h
   So h s notes step.ReadText = Reads h s notes
   So h s notes step.ReadFrame = Walks h s notes
   So h s notes _ = ⊥
@@ -151,19 +165,30 @@ module _ (n k pid : ℕ) (first : TracedState) where
     pub read : HasFrames seen.process (memory_then seen) notes None
 
   pub still-read : (h : List Entry) (e : Entry) (t : ToolState) → HasReadAll h t → HasReadAll (h ++ e ∷ []) t
-  still-read h e t all = record { opened = all.opened; next = all.next; notes = all.notes; is = all.is; ends = all.ends; seen = seen-still h e all.seen; read = all.read }
+  still-read h e t all = record {
+    opened = all.opened;
+    next = all.next;
+    notes = all.notes;
+    is = all.is;
+    ends = all.ends;
+    seen = seen-still h e all.seen;
+    read = all.read;
+  }
 
   pub data StackStage (h : List Entry) (s : TracedState) (t : ToolState) : Type 0 where
     at_first : t ≡ first_tool Pstack pid → StackStage h s t
-    has_control : (control : ℕ) → t ≡ pstack_at pid (with_control control) step.OpenFile no_notes → Stands s.opens control (control_of k pid) → StackStage h s t
-    has_status : (control status : ℕ) → t ≡ pstack_at pid (with_status control status) step.OpenMemory no_notes → Stands s.opens control (control_of k pid) → Stands s.opens status (status_of k pid) → StackStage h s t
+    has_control : (control : ℕ) → t ≡ pstack_at pid (with_control control) step.OpenFile no_notes
+        → Stands s.opens control (control_of k pid) → StackStage h s t
+    has_status : (control status : ℕ) → t ≡ pstack_at pid (with_status control status) step.OpenMemory no_notes
+        → Stands s.opens control (control_of k pid) → Stands s.opens status (status_of k pid) → StackStage h s t
     goes : IsGoing h s t → StackStage h s t
     has_read : HasReadAll h t → StackStage h s t
     refused : IsSome t.refusal → StackStage h s t
 
   -- ---- what others do
 
-  module _ (h : List Entry) (s : TracedState) (lawful : IsLawful s) (actor : Actor) (it : Act) (legal : IsLegalEntry n s (record { actor = actor; act = it })) (other : IsOther k actor it) where
+  module _ (h : List Entry) (s : TracedState) (lawful : IsLawful s) (actor : Actor) (it : Act)
+      (legal : IsLegalEntry n s (record { actor = actor; act = it })) (other : IsOther k actor it) where
     abbrev entry : Entry
     entry = record { actor = actor; act = it }
 
@@ -173,8 +198,10 @@ module _ (n k pid : ℕ) (first : TracedState) where
     abbrev longer : List Entry
     longer = h ++ entry ∷ []
 
-    still-stands : (number : ℕ) (held : Held) → held.controller ≡ k → Stands s.opens number held → Stands next_state.opens number held
-    still-stands number held own stands = others-keep number held n s actor it legal (subst (λ (j : ℕ). IsOther j actor it) (sym own) other) stands
+    still-stands : (number : ℕ) (held : Held) → held.controller ≡ k → Stands s.opens number held
+        → Stands next_state.opens number held
+    still-stands number held own stands =
+        others-keep number held n s actor it legal (subst (λ (j : ℕ). IsOther j actor it) (sym own) other) stands
 
     -- the tool has the process open exclusively
     others-kept : (control : ℕ) → Stands s.opens control (control_of k pid) → (space : Space)
@@ -217,9 +244,11 @@ module _ (n k pid : ℕ) (first : TracedState) where
 
     pub others-stage : (t : ToolState) → StackStage h s t → StackStage longer next_state t
     others-stage t (at_first same) = at_first same
-    others-stage t (has_control control is stands) = has_control control is (still-stands control (control_of k pid) refl stands)
+    others-stage t (has_control control is stands) =
+        has_control control is (still-stands control (control_of k pid) refl stands)
     others-stage t (has_status control status is stands_control stands_status) =
-        has_status control status is (still-stands control (control_of k pid) refl stands_control) (still-stands status (status_of k pid) refl stands_status)
+        has_status control status is (still-stands control (control_of k pid) refl stands_control)
+        (still-stands status (status_of k pid) refl stands_status)
     others-stage t (goes g) = goes (record {
       control = g.control;
       status = g.status;

@@ -73,7 +73,8 @@ IsEnding next = (next ≡ step.Run) ⊎ (next ≡ step.Close)
 -- ---- refusals
 
 -- a refusal is no acceptance; and what is no refusal is one
-pub unless-refused : (t : ToolState) (r : Reply) → ((e : Errno) → is_passed_over t.step e ≡ false) → IsSome (fed t r).refusal ⊎ (((e : Errno) → r ≢ reply.Fail e) × (fed t r ≡ accepted t r t.step))
+pub unless-refused : (t : ToolState) (r : Reply) → ((e : Errno) → is_passed_over t.step e ≡ false)
+    → IsSome (fed t r).refusal ⊎ (((e : Errno) → r ≢ reply.Fail e) × (fed t r ≡ accepted t r t.step))
 unfolding fed refusal_in refused
 unless-refused t (reply.Fail e) counts = inl (rw (counts e) refl)
 unless-refused t _ counts = inr ((λ e same. cc), refl)
@@ -170,13 +171,15 @@ module _ (pid : ℕ) where
     unfolding next_call_of call_of
     text-call = refl
 
-    pub frame-call : (w : Walk) → notes.walk ≡ Some w → next_call_of (at step.ReadFrame) ≡ Some (call.Read memory w.frame short_read)
+    pub frame-call : (w : Walk) → notes.walk ≡ Some w
+        → next_call_of (at step.ReadFrame) ≡ Some (call.Read memory w.frame short_read)
     unfolding next_call_of call_of
     frame-call w is = rw is refl
 
   -- ---- what replies make of it
 
-  pub control-opened : (control : ℕ) → fed (first_tool Pstack pid) (reply.Handle control) ≡ pstack_at pid (with_control control) step.OpenFile no_notes
+  pub control-opened : (control : ℕ)
+      → fed (first_tool Pstack pid) (reply.Handle control) ≡ pstack_at pid (with_control control) step.OpenFile no_notes
   unfolding fed refusal_in accepted advanced with_next after after_in_pstack opened_in first_tool first_step nothing_open
   control-opened control = refl
 
@@ -185,24 +188,31 @@ module _ (pid : ℕ) where
   control-refused e = refused-now (first_tool Pstack pid) e refl
 
   module _ (notes : Notes) where
-    pub file-opened : (control status : ℕ) → fed (pstack_at pid (with_control control) step.OpenFile notes) (reply.Handle status) ≡ pstack_at pid (with_status control status) step.OpenMemory notes
+    pub file-opened : (control status : ℕ)
+        → fed (pstack_at pid (with_control control) step.OpenFile notes) (reply.Handle status) ≡ pstack_at pid
+        (with_status control status) step.OpenMemory notes
     unfolding fed refusal_in accepted advanced with_next after after_in_pstack opened_in
     file-opened control status = refl
 
-    pub memory-opened : (control status memory : ℕ) → fed (pstack_at pid (with_status control status) step.OpenMemory notes) (reply.Handle memory) ≡ pstack_at pid (with_memory control status memory) step.ReadFirst notes
+    pub memory-opened : (control status memory : ℕ)
+        → fed (pstack_at pid (with_status control status) step.OpenMemory notes) (reply.Handle memory) ≡ pstack_at pid
+        (with_memory control status memory) step.ReadFirst notes
     unfolding fed refusal_in accepted advanced with_next after after_in_pstack opened_in
     memory-opened control status memory = refl
 
     module _ (o : Opened) (r : Reply) where
-      pub looked : accepted (pstack_at pid o step.ReadFirst notes) r step.ReadFirst ≡ pstack_at pid o step.Stop (record notes { stood = process_stands (bytes_read r) })
+      pub looked : accepted (pstack_at pid o step.ReadFirst notes) r step.ReadFirst ≡ pstack_at pid o step.Stop
+          (record notes { stood = process_stands (bytes_read r) })
       unfolding accepted advanced with_next after after_in_pstack
       looked = refl
 
-      pub asked : accepted (pstack_at pid o step.Stop notes) r step.Stop ≡ pstack_at pid o step.AwaitStop (record notes { until = until_in r })
+      pub asked : accepted (pstack_at pid o step.Stop notes) r step.Stop ≡ pstack_at pid o step.AwaitStop
+          (record notes { until = until_in r })
       unfolding accepted advanced with_next after after_in_pstack
       asked = refl
 
-      pub waited : accepted (pstack_at pid o step.AwaitStop notes) r step.AwaitStop ≡ pstack_at pid o step.ReadFile notes
+      pub waited : accepted
+          (pstack_at pid o step.AwaitStop notes) r step.AwaitStop ≡ pstack_at pid o step.ReadFile notes
       unfolding accepted advanced with_next after after_in_pstack
       waited = refl
 
@@ -219,24 +229,32 @@ module _ (pid : ℕ) where
     first_of bytes = cond (nat_le short_read (length bytes)) (Some (take short_read bytes)) None
 
     module _ (o : Opened) where
-      pub status-read : (bytes : List ℕ) → fed (pstack_at pid o step.ReadFile notes) (reply.Bytes bytes) ≡ pstack_at pid o step.ReadText (record notes { bytes = take read_limit bytes })
+      pub status-read : (bytes : List ℕ)
+          → fed (pstack_at pid o step.ReadFile notes) (reply.Bytes bytes) ≡ pstack_at pid o step.ReadText
+          (record notes { bytes = take read_limit bytes })
       unfolding fed refusal_in accepted advanced with_next after after_in_pstack with_record record_room bytes_in
       status-read bytes = refl
 
       -- nothing that is not mapped is read, which is passed over
-      pub text-read : (bytes : List ℕ) → fed (pstack_at pid o step.ReadText notes) (unless_none bytes) ≡ with_walk (pstack_at pid o step.ReadText (record notes { first = first_of bytes })) (walk_in notes.bytes 8)
+      pub text-read : (bytes : List ℕ)
+          → fed (pstack_at pid o step.ReadText notes) (unless_none bytes) ≡ with_walk
+          (pstack_at pid o step.ReadText (record notes { first = first_of bytes })) (walk_in notes.bytes 8)
       unfolding fed refusal_in accepted advanced with_next after after_in_pstack with_first bytes_in is_passed_over is_unmapped
       text-read [] = refl
       text-read (b ∷ bytes) = refl
 
-      pub frame-read : (w : Walk) → notes.walk ≡ Some w → (bytes : List ℕ) → fed (pstack_at pid o step.ReadFrame notes) (unless_none bytes)
-          ≡ with_walk (pstack_at pid o step.ReadFrame (record notes { frames = with_frame room notes.frames w bytes })) (walk_after notes.bytes w bytes)
+      pub frame-read : (w : Walk) → notes.walk ≡ Some w → (bytes : List ℕ)
+          → fed (pstack_at pid o step.ReadFrame notes) (unless_none bytes)
+          ≡ with_walk (pstack_at pid o step.ReadFrame (record notes { frames = with_frame room notes.frames w bytes }))
+          (walk_after notes.bytes w bytes)
       unfolding fed refusal_in accepted with_answer frame_room bytes_in is_passed_over is_unmapped
       frame-read w is [] = rw is refl
       frame-read w is (b ∷ bytes) = rw is refl
 
     -- another frame comes next, or none
-    pub walks : (o : Opened) (next : Step) (w : Walk) → with_walk (pstack_at pid o next notes) (Some w) ≡ pstack_at pid o step.ReadFrame (record notes { walk = Some w })
+    pub walks : (o : Opened) (next : Step) (w : Walk)
+        → with_walk (pstack_at pid o next notes) (Some w) ≡ pstack_at pid o step.ReadFrame
+        (record notes { walk = Some w })
     unfolding with_walk
     walks o next w = refl
 
@@ -250,22 +268,28 @@ module _ (pid : ℕ) where
     unfolding with_walk with_run_next
     walked o next = of notes.stood
       where
-        of : (b : Bool) → Ends o (cond b (at_step (pstack_at pid o next (record notes { walk = None })) step.Close) (at_step (pstack_at pid o next (record notes { walk = None })) step.Run))
+        of : (b : Bool)
+            → Ends o
+            (cond b (at_step (pstack_at pid o next (record notes { walk = None })) step.Close)
+            (at_step (pstack_at pid o next (record notes { walk = None })) step.Run))
         of true = record { next = step.Close; ends = inr refl; is = refl }
         of false = record { next = step.Run; ends = inl refl; is = refl }
 
 -- a wait that was not refused is over
-pub wait-used : (handle until : ℕ) (bytes : List ℕ) (r : Reply) → ((e : Errno) → r ≢ reply.Fail e) → has_shape (call.CtlWait handle until bytes) r ≡ true → (used : ℕ) × (r ≡ reply.Used used)
+pub wait-used : (handle until : ℕ) (bytes : List ℕ) (r : Reply) → ((e : Errno) → r ≢ reply.Fail e)
+    → has_shape (call.CtlWait handle until bytes) r ≡ true → (used : ℕ) × (r ≡ reply.Used used)
 unfolding has_shape
 wait-used handle until bytes (reply.Used used) accepted shape = (used, refl)
 wait-used handle until bytes (reply.Fail e) accepted shape = absurd (accepted e refl)
 wait-used handle until bytes _ accepted shape = absurd (cc)
 
 -- a read of memory gives no more than was asked for
-pub memory-few : (handle from len : ℕ) (bytes : List ℕ) → has_shape (call.Read handle from len) (unless_none bytes) ≡ true → length bytes ≤ len
+pub memory-few : (handle from len : ℕ) (bytes : List ℕ)
+    → has_shape (call.Read handle from len) (unless_none bytes) ≡ true → length bytes ≤ len
 unfolding has_shape
 memory-few handle from len [] shape = omega arith
-memory-few handle from len (b ∷ bytes) shape = leb-true (length (b ∷ bytes)) len (or-false (nat_le (length (b ∷ bytes)) len) shape)
+memory-few handle from len (b ∷ bytes) shape =
+    leb-true (length (b ∷ bytes)) len (or-false (nat_le (length (b ∷ bytes)) len) shape)
   where
     or-false : (b : Bool) → (b || false) ≡ true → b ≡ true
     or-false true is = refl

@@ -32,13 +32,16 @@ use Rattle.pr_tool_laws.specs.Stacks.{first_instruction, returns_from, stack_tex
 
 module _ (program : Option Program) where
   -- the lines of an lwp's own frames
-  own-lines : (id : ℕ) (pcs : List ℕ) → flat_map (frame_line_of program id) (map (frame_at id) pcs) ≡ flat_map (frame_line program) pcs
+  own-lines : (id : ℕ) (pcs : List ℕ)
+      → flat_map (frame_line_of program id) (map (frame_at id) pcs) ≡ flat_map (frame_line program) pcs
   unfolding frame_line_of
   own-lines id [] = refl
-  own-lines id (pc ∷ pcs) = rw (eq-eqb id id refl) (ap (λ (text : List ℕ). frame_line program pc ++ text) (own-lines id pcs))
+  own-lines id (pc ∷ pcs) =
+      rw (eq-eqb id id refl) (ap (λ (text : List ℕ). frame_line program pc ++ text) (own-lines id pcs))
 
   -- another lwp's frames have no line there
-  no-lines : (id other : ℕ) (pcs : List ℕ) → other ≢ id → flat_map (frame_line_of program id) (map (frame_at other) pcs) ≡ []
+  no-lines : (id other : ℕ) (pcs : List ℕ) → other ≢ id
+      → flat_map (frame_line_of program id) (map (frame_at other) pcs) ≡ []
   unfolding frame_line_of
   no-lines id other [] differs = refl
   no-lines id other (pc ∷ pcs) differs = rw (ne_eqb other id differs) (no-lines id other pcs differs)
@@ -48,7 +51,9 @@ module _ (program : Option Program) where
     abbrev HaveNoLines : ℕ → List CallFrame → Type 0
     HaveNoLines low frames = (id : ℕ) → low ≤ id → flat_map (frame_line_of program id) frames ≡ []
 
-    lwp-lines : (l : LwpStatus) → flat_map (frame_line_of program l.id) (frames_of space l) ≡ flat_map (frame_line program) (returns_from space read_frames (fp_of l.regs))
+    lwp-lines : (l : LwpStatus)
+        → flat_map (frame_line_of program l.id) (frames_of space l) ≡ flat_map (frame_line program)
+        (returns_from space read_frames (fp_of l.regs))
     unfolding frames_of
     lwp-lines l = own-lines l.id (returns_from space read_frames (fp_of l.regs))
 
@@ -57,7 +62,8 @@ module _ (program : Option Program) where
     other-lines l id differs = no-lines id l.id (returns_from space read_frames (fp_of l.regs)) differs
 
     -- lwps of greater ids
-    later-lines : (es : List (ℕ × TracedLwp)) (id low : ℕ) → id < low → rises_from low es ≡ true → flat_map (frame_line_of program id) (all_frames space (statuses_of_lwps p es)) ≡ []
+    later-lines : (es : List (ℕ × TracedLwp)) (id low : ℕ) → id < low → rises_from low es ≡ true
+        → flat_map (frame_line_of program id) (all_frames space (statuses_of_lwps p es)) ≡ []
     unfolding lwpstatus_of
     later-lines [] id low below rises = refl
     later-lines (e ∷ es) id low below rises =
@@ -65,21 +71,31 @@ module _ (program : Option Program) where
         let l : LwpStatus = lwpstatus_of p e.0 e.1 in
         let own = other-lines l id (λ same. absurd (omega arith)) in
         let rest = later-lines es id (e.0 + 1) (omega arith) (rises_from-tail low e es rises) in
-        flat_map-append (frame_line_of program id) (frames_of space l) (all_frames space (statuses_of_lwps p es)) ∙ ap (λ (text : List ℕ). text ++ flat_map (frame_line_of program id) (all_frames space (statuses_of_lwps p es))) own ∙ rest
+        flat_map-append (frame_line_of program id) (frames_of space l) (all_frames space (statuses_of_lwps p es))
+        ∙ ap (λ (text : List ℕ). text ++ flat_map (frame_line_of program id)
+        (all_frames space (statuses_of_lwps p es))) own ∙ rest
 
     -- the text of an lwp, where the other frames are of lwps of lesser and of greater ids
-    lwp-text : (front back : List CallFrame) (l : LwpStatus) → flat_map (frame_line_of program l.id) front ≡ [] → flat_map (frame_line_of program l.id) back ≡ []
-        → tool.stack_text program (front ++ (frames_of space l ++ back)) (lwpstatus_words_of l) ≡ stack_text program space l
+    lwp-text : (front back : List CallFrame) (l : LwpStatus) → flat_map (frame_line_of program l.id) front ≡ []
+        → flat_map (frame_line_of program l.id) back ≡ []
+        → tool.stack_text program (front ++ (frames_of space l ++ back))
+        (lwpstatus_words_of l) ≡ stack_text program space l
     unfolding tool.stack_text stack_text
     lwp-text front back l before after =
         let lines = frame_line_of program l.id in
-        let all : flat_map lines (front ++ (frames_of space l ++ back)) ≡ flat_map (frame_line program) (returns_from space read_frames (fp_of l.regs)) =
-        flat_map-append lines front (frames_of space l ++ back) ∙ ap (λ (text : List ℕ). text ++ flat_map lines (frames_of space l ++ back)) before
-        ∙ flat_map-append lines (frames_of space l) back ∙ ap (λ (text : List ℕ). flat_map lines (frames_of space l) ++ text) after ∙ append-nil (flat_map lines (frames_of space l)) ∙ lwp-lines l in
+        let all : flat_map lines (front ++ (frames_of space l ++ back)) ≡ flat_map (frame_line program)
+        (returns_from space read_frames (fp_of l.regs)) =
+        flat_map-append lines front (frames_of space l ++ back)
+        ∙ ap (λ (text : List ℕ). text ++ flat_map lines (frames_of space l ++ back)) before
+        ∙ flat_map-append lines (frames_of space l) back
+        ∙ ap (λ (text : List ℕ). flat_map lines (frames_of space l) ++ text) after
+        ∙ append-nil (flat_map lines (frames_of space l)) ∙ lwp-lines l in
         ap (λ (text : List ℕ). lwp_label l.id ++ line_end ++ frame_line program (pc_of l.regs) ++ text) all
 
-    lwp-texts : (es : List (ℕ × TracedLwp)) (front : List CallFrame) (low : ℕ) → HaveNoLines low front → rises_from low es ≡ true
-        → flat_map (tool.stack_text program (front ++ all_frames space (statuses_of_lwps p es))) (map lwpstatus_words_of (statuses_of_lwps p es)) ≡ flat_map (stack_text program space) (statuses_of_lwps p es)
+    lwp-texts : (es : List (ℕ × TracedLwp)) (front : List CallFrame) (low : ℕ) → HaveNoLines low front
+        → rises_from low es ≡ true
+        → flat_map (tool.stack_text program (front ++ all_frames space (statuses_of_lwps p es)))
+        (map lwpstatus_words_of (statuses_of_lwps p es)) ≡ flat_map (stack_text program space) (statuses_of_lwps p es)
     unfolding lwpstatus_of
     lwp-texts [] front low none rises = refl
     lwp-texts (e ∷ es) front low none rises =
@@ -90,11 +106,16 @@ module _ (program : Option Program) where
         let words = map lwpstatus_words_of (statuses_of_lwps p es) in
         let own = lwp-text front back l (none e.0 from) (later-lines es e.0 (e.0 + 1) (omega arith) tail) in
         let none_more : HaveNoLines (e.0 + 1) (front ++ frames_of space l) = λ id above.
-        flat_map-append (frame_line_of program id) front (frames_of space l) ∙ ap (λ (text : List ℕ). text ++ flat_map (frame_line_of program id) (frames_of space l)) (none id (omega arith)) ∙ other-lines l id (λ same. absurd (omega arith)) in
+        flat_map-append (frame_line_of program id) front (frames_of space l)
+        ∙ ap (λ (text : List ℕ). text ++ flat_map (frame_line_of program id) (frames_of space l))
+        (none id (omega arith)) ∙ other-lines l id (λ same. absurd (omega arith)) in
         let rest = lwp-texts es (front ++ frames_of space l) (e.0 + 1) none_more tail in
-        let same : front ++ (frames_of space l ++ back) ≡ (front ++ frames_of space l) ++ back = sym (append_assoc front (frames_of space l) back) in
-        ap (λ (text : List ℕ). text ++ flat_map (tool.stack_text program (front ++ (frames_of space l ++ back))) words) own
-        ∙ ap (λ (text : List ℕ). stack_text program space l ++ text) (ap (λ (frames : List CallFrame). flat_map (tool.stack_text program frames) words) same ∙ rest)
+        let same : front ++ (frames_of space l ++ back) ≡ (front ++ frames_of space l) ++ back =
+        sym (append_assoc front (frames_of space l) back) in
+        ap (λ (text : List ℕ). text ++ flat_map
+        (tool.stack_text program (front ++ (frames_of space l ++ back))) words) own
+        ∙ ap (λ (text : List ℕ). stack_text program space l ++ text)
+        (ap (λ (frames : List CallFrame). flat_map (tool.stack_text program frames) words) same ∙ rest)
 
 -- ---- the text of a process
 
@@ -118,6 +139,8 @@ stacks-shown pid s p programs are rises =
 
 -- one read has all of it
 pub first-shown : (space : Space) → length (mapped_from space text_base short_read) ≤ short_read
-    → cond (nat_le short_read (length (mapped_from space text_base short_read))) (Some (take short_read (mapped_from space text_base short_read))) None ≡ first_instruction space
+    → cond (nat_le short_read (length (mapped_from space text_base short_read)))
+    (Some (take short_read (mapped_from space text_base short_read))) None ≡ first_instruction space
 first-shown space few =
-    ap (λ (bytes : List ℕ). cond (nat_le short_read (length (mapped_from space text_base short_read))) (Some bytes) None) (take_all short_read (mapped_from space text_base short_read) few)
+    ap (λ (bytes : List ℕ). cond (nat_le short_read (length (mapped_from space text_base short_read)))
+    (Some bytes) None) (take_all short_read (mapped_from space text_base short_read) few)

@@ -22,10 +22,13 @@ use Rattle.pr_tool_laws.proofs.EntryLemmas.{behind-number}
 front-word : (front more : List ℕ) (at : ℕ) → at + 8 ≤ length front → word_at (front ++ more) at ≡ word_at front at
 front-word front more at within =
     let rest = length-drop at front in
-    ap (λ (bytes : List ℕ). word_of (take 8 bytes)) (drop-append-le at front more (omega arith)) ∙ ap word_of (take-append-le 8 (drop at front) more (omega arith))
+    ap (λ (bytes : List ℕ). word_of (take 8 bytes)) (drop-append-le at front more (omega arith))
+    ∙ ap word_of (take-append-le 8 (drop at front) more (omega arith))
 
-module _ (lwps : List LwpStatus) (fields : All IsLwpStatus lwps) (i : ℕ) (l : LwpStatus) (there : slice_get lwps i ≡ Some l) where
-  status-word : (n : ℕ) → n < 33 → word_at (lstatus_bytes lwps) (8 + 264 * i + 8 * n) ≡ get_or (lwpstatus_words_of l) n 0
+module _ (lwps : List LwpStatus) (fields : All IsLwpStatus lwps) (i : ℕ) (l : LwpStatus)
+    (there : slice_get lwps i ≡ Some l) where
+  status-word : (n : ℕ) → n < 33
+      → word_at (lstatus_bytes lwps) (8 + 264 * i + 8 * n) ≡ get_or (lwpstatus_words_of l) n 0
   unfolding lstatus_bytes
   status-word n inside =
       let words = map lwpstatus_words_of lwps in
@@ -35,11 +38,15 @@ module _ (lwps : List LwpStatus) (fields : All IsLwpStatus lwps) (i : ℕ) (l : 
       let places : 8 + 264 * i + 8 * n ≡ 8 + (264 * i + 8 * n) = omega arith in
       let whole = words_bytes (length words ∷ entries_words words) in
       let along : drop (8 + 264 * i + 8 * n) whole ≡ drop (8 * n) (own ++ stands.more) =
-      ap (λ (k : ℕ). drop k whole) places ∙ sym (drop-drop (264 * i + 8 * n) 8 whole) ∙ ap (drop (264 * i + 8 * n)) (behind-number (length words) (entries_words words))
+      ap (λ (k : ℕ). drop k whole) places ∙ sym (drop-drop (264 * i + 8 * n) 8 whole)
+      ∙ ap (drop (264 * i + 8 * n)) (behind-number (length words) (entries_words words))
       ∙ sym (drop-drop (8 * n) (264 * i) all) ∙ ap (drop (8 * n)) stands.place in
-      let fit : All IsWord (lwpstatus_words_of l) = AreWords-ranged lwpstatus_ranges (lwpstatus_words_of l) lwpstatus_take (lwpstatus-ranged l (All-at IsLwpStatus lwps i l there fields)) refl in
+      let fit : All IsWord (lwpstatus_words_of l) =
+      AreWords-ranged lwpstatus_ranges (lwpstatus_words_of l) lwpstatus_take
+      (lwpstatus-ranged l (All-at IsLwpStatus lwps i l there fields)) refl in
       let size = length-words_bytes (lwpstatus_words_of l) in
-      ap (λ (bytes : List ℕ). word_of (take 8 bytes)) along ∙ front-word own stands.more (8 * n) (omega arith) ∙ word_at-words_bytes (lwpstatus_words_of l) n fit inside
+      ap (λ (bytes : List ℕ). word_of (take 8 bytes)) along ∙ front-word own stands.more (8 * n) (omega arith)
+      ∙ word_at-words_bytes (lwpstatus_words_of l) n fit inside
 
   pub status-id : word_at (lstatus_bytes lwps) (8 + 264 * i + 8) ≡ l.id
   status-id = status-word 1 (omega arith)

@@ -36,12 +36,15 @@ use Rattle.pr_truss_laws.proofs.OpensLemmas.{Opens, Refuses, open-opens, own-min
 
 -- ---- the state after a call
 
-pub state-called : (first : TracedState) (h : List Entry) (k : ℕ) (c : Call) (a : Answer) → answer_to (state_after first h) k c ≡ Some a → state_after first (h ++ call_entry k c a.reply ∷ []) ≡ a.state
+pub state-called : (first : TracedState) (h : List Entry) (k : ℕ) (c : Call) (a : Answer)
+    → answer_to (state_after first h) k c ≡ Some a → state_after first (h ++ call_entry k c a.reply ∷ []) ≡ a.state
 unfolding entry_after
-state-called first h k c a is = state_after-push first h (call_entry k c a.reply) ∙ ap (after_call (state_after first h)) is
+state-called first h k c a is =
+    state_after-push first h (call_entry k c a.reply) ∙ ap (after_call (state_after first h)) is
 
 -- an answer is the one that the machine gives
-pub same-answer : (s : TracedState) (k : ℕ) (c d : Call) (a b : Answer) → c ≡ d → answer_to s k c ≡ Some a → answer_to s k d ≡ Some b → b ≡ a
+pub same-answer : (s : TracedState) (k : ℕ) (c d : Call) (a b : Answer) → c ≡ d → answer_to s k c ≡ Some a
+    → answer_to s k d ≡ Some b → b ≡ a
 same-answer s k c d a b same given its = same_Some b a (sym its ∙ ap (answer_to s k) (sym same) ∙ given)
 
 -- what the handle of a tool stands for
@@ -50,11 +53,18 @@ held_by_tool k kind pid = record { controller = k; pid = pid; lwp = 0; file = fi
 
 -- What more is known of the states on the way of a tool, by the step that comes next, and of the state that it reads.
 -- Others keep it, and each of its own calls leads from what is known before it to what is known after it.
-pub record Keeps (n k : ℕ) (kind : ToolKind) (pid : ℕ) (Known : Step → TracedState → Type 0) (Shown : TracedSystem → Type 0) : Type 0 where
-  pub others : (s : TracedState) (e : Entry) (next : Step) → IsLegalEntry n s e → Known next s → Known next (entry_after s e)
-  pub opened : (s : TracedState) (a : Answer) → answer_to s k (call.Open pid 0 (file_of kind) mode.Read) ≡ Some a → Known step.OpenFile s → Known (step_after kind step.OpenFile) a.state
-  pub awaited : (s : TracedState) (a : Answer) (number : ℕ) → Stands s.opens number (held_by_tool k kind pid) → answer_to s k (call.Poll (number ∷ [])) ≡ Some a → refusal_in step.AwaitEnd a.reply ≡ None → Known step.AwaitEnd s → Known step.ReadFile a.state
-  pub read : (s : TracedState) (bytes : List ℕ) → file_read s.system pid 0 0 read_limit (file_of kind) ≡ reply.Bytes bytes → Known step.ReadFile s → Shown s.system
+pub record Keeps (n k : ℕ) (kind : ToolKind) (pid : ℕ) (Known : Step → TracedState → Type 0)
+    (Shown : TracedSystem → Type 0) : Type 0 where
+  pub others : (s : TracedState) (e : Entry) (next : Step) → IsLegalEntry n s e → Known next s
+      → Known next (entry_after s e)
+  pub opened : (s : TracedState) (a : Answer) → answer_to s k (call.Open pid 0 (file_of kind) mode.Read) ≡ Some a
+      → Known step.OpenFile s → Known (step_after kind step.OpenFile) a.state
+  pub awaited : (s : TracedState) (a : Answer) (number : ℕ) → Stands s.opens number (held_by_tool k kind pid)
+      → answer_to s k (call.Poll (number ∷ [])) ≡ Some a → refusal_in step.AwaitEnd a.reply ≡ None
+      → Known step.AwaitEnd s → Known step.ReadFile a.state
+  pub read : (s : TracedState) (bytes : List ℕ)
+      → file_read s.system pid 0 0 read_limit (file_of kind) ≡ reply.Bytes bytes → Known step.ReadFile s
+      → Shown s.system
 
 module _ (n k : ℕ) (kind : ToolKind) (pid : ℕ) (first : TracedState) (reader : IsReader kind)
     (Known : Step → TracedState → Type 0) (Shown : TracedSystem → Type 0) (keeps : Keeps n k kind pid Known Shown) where
@@ -82,7 +92,8 @@ module _ (n k : ℕ) (kind : ToolKind) (pid : ℕ) (first : TracedState) (reader
 
   -- ---- what others do
 
-  still-known : (h : List Entry) (e : Entry) (next : Step) → IsLegalEntry n (state_after first h) e → Known next (state_after first h) → Known next (state_after first (h ++ e ∷ []))
+  still-known : (h : List Entry) (e : Entry) (next : Step) → IsLegalEntry n (state_after first h) e
+      → Known next (state_after first h) → Known next (state_after first (h ++ e ∷ []))
   still-known h e next legal known =
       subst (Known next) (sym (state_after-push first h e)) (keeps.others (state_after first h) e next legal known)
 
@@ -91,15 +102,26 @@ module _ (n k : ℕ) (kind : ToolKind) (pid : ℕ) (first : TracedState) (reader
   unfolding read-still showed-still
   still-shown h e t it = record { has = read-still k kind pid first h e t it.has; shown = it.shown }
 
-  pub others-stage : (h : List Entry) (t : ToolState) (actor : Actor) (it : Act) → IsLegalEntry n (state_after first h) (record { actor = actor; act = it }) → IsOther k actor it → Stage h t → Stage (h ++ (record { actor = actor; act = it }) ∷ []) t
-  others-stage h t actor it legal other (at_first same known) = at_first same (still-known h (record { actor = actor; act = it }) step.OpenFile legal known)
+  pub others-stage : (h : List Entry) (t : ToolState) (actor : Actor) (it : Act)
+      → IsLegalEntry n (state_after first h) (record { actor = actor; act = it }) → IsOther k actor it → Stage h t
+      → Stage (h ++ (record { actor = actor; act = it }) ∷ []) t
+  others-stage h t actor it legal other (at_first same known) =
+      at_first same (still-known h (record { actor = actor; act = it }) step.OpenFile legal known)
   others-stage h t actor it legal other (with_its_file holds) =
       let e : Entry = record { actor = actor; act = it } in
       let kept = others-keep holds.number held n (state_after first h) actor it legal other holds.stands in
       let stands : Stands (state_after first (h ++ e ∷ [])).opens holds.number held =
       ap (λ (s : TracedState). handle_of s.opens k holds.number) (state_after-push first h e) ∙ kept in
-      with_its_file (record { next = holds.next; number = holds.number; at = holds.at; is = holds.is; stands = stands; known = still-known h e holds.next legal holds.known })
-  others-stage h t actor it legal other (has_shown has) = has_shown (still-shown h (record { actor = actor; act = it }) t has)
+      with_its_file (record {
+        next = holds.next;
+        number = holds.number;
+        at = holds.at;
+        is = holds.is;
+        stands = stands;
+        known = still-known h e holds.next legal holds.known;
+      })
+  others-stage h t actor it legal other (has_shown has) =
+      has_shown (still-shown h (record { actor = actor; act = it }) t has)
   others-stage h t actor it legal other (refused was) = refused was
 
   -- ---- its own calls
@@ -112,18 +134,28 @@ module _ (n k : ℕ) (kind : ToolKind) (pid : ℕ) (first : TracedState) (reader
     known-after next known = subst (Known next) (sym (state-called first h k c a given)) known
 
     -- the handle that it was granted stands there
-    granted-stage : Known (step_after kind step.OpenFile) a.state → Opens (state_after first h) k held a.reply a.state.opens → Stage longer (fed (first_tool kind pid) a.reply)
+    granted-stage : Known (step_after kind step.OpenFile) a.state
+        → Opens (state_after first h) k held a.reply a.state.opens → Stage longer (fed (first_tool kind pid) a.reply)
     granted-stage known opens =
         let s = state_after first h in
         let next : fed (first_tool kind pid) a.reply ≡ with_file kind pid (step_after kind step.OpenFile) opens.place =
         ap (fed (first_tool kind pid)) opens.reply ∙ opened-fed kind pid reader opens.place in
         let stands : Stands a.state.opens opens.place held =
-        ap (λ (x : Places). handle_of x k opens.place) opens.is ∙ own-set s.opens k opens.place (Some held) None opens.free ∙ own-mine k held refl in
+        ap (λ (x : Places). handle_of x k opens.place) opens.is
+        ∙ own-set s.opens k opens.place (Some held) None opens.free ∙ own-mine k held refl in
         let there : Stands (state_after first longer).opens opens.place held =
         ap (λ (x : TracedState). handle_of x.opens k opens.place) (state-called first h k c a given) ∙ stands in
-        with_its_file (record { next = step_after kind step.OpenFile; number = opens.place; at = reader.opens; is = next; stands = there; known = known-after (step_after kind step.OpenFile) known })
+        with_its_file (record {
+          next = step_after kind step.OpenFile;
+          number = opens.place;
+          at = reader.opens;
+          is = next;
+          stands = there;
+          known = known-after (step_after kind step.OpenFile) known;
+        })
 
-    first-stage : Known step.OpenFile (state_after first h) → next_call_of (first_tool kind pid) ≡ Some c → Stage longer (fed (first_tool kind pid) a.reply)
+    first-stage : Known step.OpenFile (state_after first h) → next_call_of (first_tool kind pid) ≡ Some c
+        → Stage longer (fed (first_tool kind pid) a.reply)
     first-stage known next = of (open-opens (state_after first h) k pid 0 (file_of kind) mode.Read a answers)
       where
         same : c ≡ call.Open pid 0 (file_of kind) mode.Read
@@ -132,17 +164,24 @@ module _ (n k : ℕ) (kind : ToolKind) (pid : ℕ) (first : TracedState) (reader
         answers : answer_to (state_after first h) k (call.Open pid 0 (file_of kind) mode.Read) ≡ Some a
         answers = ap (answer_to (state_after first h) k) (sym same) ∙ given
 
-        of : Refuses (state_after first h) a.reply a.state.opens ⊎ Opens (state_after first h) k held a.reply a.state.opens → Stage longer (fed (first_tool kind pid) a.reply)
-        of (inl denied) = refused (subst (λ r. WasRefused (fed (first_tool kind pid) r)) (sym denied.reply) (open-refused kind pid reader denied.errno))
+        of : Refuses (state_after first h) a.reply a.state.opens ⊎ Opens
+            (state_after first h) k held a.reply a.state.opens → Stage longer (fed (first_tool kind pid) a.reply)
+        of (inl denied) =
+            refused (subst (λ r. WasRefused (fed (first_tool kind pid) r)) (sym denied.reply)
+            (open-refused kind pid reader denied.errno))
         of (inr opens) = granted-stage (keeps.opened (state_after first h) a answers known) opens
 
     -- what its read makes of it
-    read-stage : (number : ℕ) → Known step.ReadFile (state_after first h) → IsToolRead kind k pid (state_after first h) c → (q : Reply) → IsRead q → file_read (state_after first h).system pid 0 0 read_limit (file_of kind) ≡ q → a.reply ≡ q → Stage longer (fed (with_file kind pid step.ReadFile number) a.reply)
+    read-stage : (number : ℕ) → Known step.ReadFile (state_after first h)
+        → IsToolRead kind k pid (state_after first h) c → (q : Reply) → IsRead q
+        → file_read (state_after first h).system pid 0 0 read_limit (file_of kind) ≡ q → a.reply ≡ q
+        → Stage longer (fed (with_file kind pid step.ReadFile number) a.reply)
     unfolding showed-here
     read-stage number known own (reply.Bytes bytes) whole reads answers =
         let s = state_after first h in
         let shows : bytes_shown kind pid s.system ≡ Some (take (record_room kind) bytes) =
-        reader.shows pid s.system ∙ ap (λ r. option_map (take (record_room kind)) (bytes_in r)) reads ∙ bytes-given kind pid reader bytes in
+        reader.shows pid s.system ∙ ap (λ r. option_map (take (record_room kind)) (bytes_in r)) reads
+        ∙ bytes-given kind pid reader bytes in
         let has : HasRead k kind pid first longer (fed (with_file kind pid step.ReadFile number) a.reply) = record {
           opened = record nothing_open { file = Some number };
           bytes = take (record_room kind) bytes;
@@ -151,21 +190,38 @@ module _ (n k : ℕ) (kind : ToolKind) (pid : ℕ) (first : TracedState) (reader
         } in
         has_shown (record { has = has; shown = keeps.read s bytes reads known })
     read-stage number known own (reply.Fail e) whole reads answers =
-        refused (subst (λ r. WasRefused (fed (with_file kind pid step.ReadFile number) r)) (sym answers) (read-refused kind pid reader number e))
+        refused (subst (λ r. WasRefused (fed (with_file kind pid step.ReadFile number) r)) (sym answers)
+        (read-refused kind pid reader number e))
     read-stage number known own _ whole reads answers = absurd whole
 
-    reading-stage : (number : ℕ) → Stands (state_after first h).opens number held → Known step.ReadFile (state_after first h) → next_call_of (with_file kind pid step.ReadFile number) ≡ Some c → Stage longer (fed (with_file kind pid step.ReadFile number) a.reply)
+    reading-stage : (number : ℕ) → Stands (state_after first h).opens number held
+        → Known step.ReadFile (state_after first h) → next_call_of (with_file kind pid step.ReadFile number) ≡ Some c
+        → Stage longer (fed (with_file kind pid step.ReadFile number) a.reply)
     unfolding answer_to
     reading-stage number stands known next =
         let s = state_after first h in
         let same : c ≡ call.Read number 0 read_limit = same_Some _ _ (sym next ∙ read-call kind pid reader number) in
-        let answer = same-answer s k c (call.Read number 0 read_limit) a (answered s (read_reply s k number 0 read_limit)) same given refl in
+        let answer =
+        same-answer s k c (call.Read number 0 read_limit) a
+        (answered s (read_reply s k number 0 read_limit)) same given refl in
         let reads : a.reply ≡ file_read s.system pid 0 0 read_limit (file_of kind) =
         ap (λ (x : Answer). x.reply) (sym answer) ∙ handle-read s number 0 read_limit held reader.plain stands in
-        let own : IsToolRead kind k pid s c = reader.finds k pid s c (record { handle = number; held = held; is_read = same; there = stands; of = refl; file = refl }) in
-        read-stage number known own (file_read s.system pid 0 0 read_limit (file_of kind)) (reply-read s.system pid 0 0 read_limit (file_of kind)) refl reads
+        let own : IsToolRead kind k pid s c =
+        reader.finds k pid s c (record {
+          handle = number;
+          held = held;
+          is_read = same;
+          there = stands;
+          of = refl;
+          file = refl;
+        }) in
+        read-stage number known own (file_read s.system pid 0 0 read_limit (file_of kind))
+        (reply-read s.system pid 0 0 read_limit (file_of kind)) refl reads
 
-    waiting-stage : step_after kind step.AwaitEnd ≡ step.ReadFile → (number : ℕ) → Stands (state_after first h).opens number held → Known step.AwaitEnd (state_after first h) → next_call_of (with_file kind pid step.AwaitEnd number) ≡ Some c → Stage longer (fed (with_file kind pid step.AwaitEnd number) a.reply)
+    waiting-stage : step_after kind step.AwaitEnd ≡ step.ReadFile → (number : ℕ)
+        → Stands (state_after first h).opens number held → Known step.AwaitEnd (state_after first h)
+        → next_call_of (with_file kind pid step.AwaitEnd number) ≡ Some c
+        → Stage longer (fed (with_file kind pid step.AwaitEnd number) a.reply)
     waiting-stage waits number stands known next = of (wait-fed kind pid reader waits number a.reply)
       where
         same : c ≡ call.Poll (number ∷ [])
@@ -176,32 +232,47 @@ module _ (n k : ℕ) (kind : ToolKind) (pid : ℕ) (first : TracedState) (reader
 
         there : Stands (state_after first longer).opens number held
         there =
-            let kept : a.state.opens ≡ (state_after first h).opens = plain-leaves (state_after first h) k (call.Poll (number ∷ [])) a refl answers in
-            ap (λ (s : TracedState). handle_of s.opens k number) (state-called first h k c a given) ∙ ap (λ (x : Places). handle_of x k number) kept ∙ stands
+            let kept : a.state.opens ≡ (state_after first h).opens =
+            plain-leaves (state_after first h) k (call.Poll (number ∷ [])) a refl answers in
+            ap (λ (s : TracedState). handle_of s.opens k number) (state-called first h k c a given)
+            ∙ ap (λ (x : Places). handle_of x k number) kept ∙ stands
 
-        of : HasAwaited kind pid reader number a.reply ⊎ WasRefused (fed (with_file kind pid step.AwaitEnd number) a.reply) → Stage longer (fed (with_file kind pid step.AwaitEnd number) a.reply)
+        of : HasAwaited kind pid reader number a.reply ⊎ WasRefused
+            (fed (with_file kind pid step.AwaitEnd number) a.reply)
+            → Stage longer (fed (with_file kind pid step.AwaitEnd number) a.reply)
         of (inl awaited) = with_its_file (record {
           next = step.ReadFile;
           number = number;
           at = inl refl;
           is = awaited.reads;
           stands = there;
-          known = known-after step.ReadFile (keeps.awaited (state_after first h) a number stands answers awaited.accepted known);
+          known =
+              known-after step.ReadFile
+              (keeps.awaited (state_after first h) a number stands answers awaited.accepted known);
         })
         of (inr was) = refused was
 
-    holding-stage : (next : Step) (number : ℕ) → IsWithFile kind next → Stands (state_after first h).opens number held → Known next (state_after first h) → next_call_of (with_file kind pid next number) ≡ Some c → Stage longer (fed (with_file kind pid next number) a.reply)
+    holding-stage : (next : Step) (number : ℕ) → IsWithFile kind next → Stands (state_after first h).opens number held
+        → Known next (state_after first h) → next_call_of (with_file kind pid next number) ≡ Some c
+        → Stage longer (fed (with_file kind pid next number) a.reply)
     holding-stage next number (inl reads) stands =
-        let Q : Step → Type 0 = λ p. Known p (state_after first h) → next_call_of (with_file kind pid p number) ≡ Some c → Stage longer (fed (with_file kind pid p number) a.reply) in
+        let Q : Step → Type 0 =
+        λ p. Known p (state_after first h) → next_call_of (with_file kind pid p number) ≡ Some c
+        → Stage longer (fed (with_file kind pid p number) a.reply) in
         subst Q (sym reads) (reading-stage number stands)
     holding-stage next number (inr waits) stands =
-        let Q : Step → Type 0 = λ p. Known p (state_after first h) → next_call_of (with_file kind pid p number) ≡ Some c → Stage longer (fed (with_file kind pid p number) a.reply) in
+        let Q : Step → Type 0 =
+        λ p. Known p (state_after first h) → next_call_of (with_file kind pid p number) ≡ Some c
+        → Stage longer (fed (with_file kind pid p number) a.reply) in
         subst Q (sym waits.0) (waiting-stage waits.1 number stands)
 
     -- the state that it read stays the same one
     goes-on-shown : (t : ToolState) → HasShown h t → HasShown longer (fed t a.reply)
     unfolding read-goes-on showed-still
-    goes-on-shown t it = record { has = read-goes-on k kind pid first h (call_entry k c a.reply) t a.reply it.has; shown = it.shown }
+    goes-on-shown t it = record {
+      has = read-goes-on k kind pid first h (call_entry k c a.reply) t a.reply it.has;
+      shown = it.shown;
+    }
 
     pub called-stage : (t : ToolState) → next_call_of t ≡ Some c → Stage h t → Stage longer (fed t a.reply)
     called-stage t next (at_first same known) =
@@ -215,14 +286,18 @@ module _ (n k : ℕ) (kind : ToolKind) (pid : ℕ) (first : TracedState) (reader
 
   -- ---- the end
 
-  holding-call : (next : Step) (number : ℕ) → IsWithFile kind next → has_ended (with_file kind pid next number) ≡ true → ⊥
+  holding-call : (next : Step) (number : ℕ) → IsWithFile kind next → has_ended (with_file kind pid next number) ≡ true
+      → ⊥
   holding-call next number (inl reads) ended =
-      still-going (with_file kind pid step.ReadFile number) _ (read-call kind pid reader number) (subst (λ p. has_ended (with_file kind pid p number) ≡ true) reads ended)
+      still-going (with_file kind pid step.ReadFile number) _ (read-call kind pid reader number)
+      (subst (λ p. has_ended (with_file kind pid p number) ≡ true) reads ended)
   holding-call next number (inr waits) ended =
-      still-going (with_file kind pid step.AwaitEnd number) _ (wait-call kind pid reader number) (subst (λ p. has_ended (with_file kind pid p number) ≡ true) waits.0 ended)
+      still-going (with_file kind pid step.AwaitEnd number) _ (wait-call kind pid reader number)
+      (subst (λ p. has_ended (with_file kind pid p number) ≡ true) waits.0 ended)
 
   pub ended-stage : (h : List Entry) (t : ToolState) → has_ended t ≡ true → t.refusal ≡ None → Stage h t → HasShown h t
-  ended-stage h t ended accepted (at_first same known) = absurd (still-going t _ (ap next_call_of same ∙ first-call kind pid reader) ended)
+  ended-stage h t ended accepted (at_first same known) =
+      absurd (still-going t _ (ap next_call_of same ∙ first-call kind pid reader) ended)
   ended-stage h t ended accepted (with_its_file holds) =
       absurd (holding-call holds.next holds.number holds.at (subst (λ u. has_ended u ≡ true) holds.is ended))
   ended-stage h t ended accepted (has_shown has) = has

@@ -27,12 +27,15 @@ turn-keeps s None = refl
 turn-keeps s (Some t) = refl
 
 -- what others do leaves it
-pub others-keep : (number : ℕ) (h : Held) (n : ℕ) (s : TracedState) (actor : Actor) (it : Act) → IsLegalEntry n s (record { actor = actor; act = it }) → IsOther h.controller actor it → Stands s.opens number h → Stands (after s (record { actor = actor; act = it })).opens number h
+pub others-keep : (number : ℕ) (h : Held) (n : ℕ) (s : TracedState) (actor : Actor) (it : Act)
+    → IsLegalEntry n s (record { actor = actor; act = it }) → IsOther h.controller actor it → Stands s.opens number h
+    → Stands (after s (record { actor = actor; act = it })).opens number h
 unfolding IsLegalEntry after
 others-keep number h n s (Controller j) (act.Call c r) legal other stands =
     let a : Answer = record { state = legal.1.0; reply = r } in
     let is : answer_to s j c ≡ Some a = legal.1.1 in
-    ap (λ o. handle_of (after_call s o).opens h.controller number) is ∙ foreign-call s j h.controller c a other is number ∙ stands
+    ap (λ o. handle_of (after_call s o).opens h.controller number) is
+    ∙ foreign-call s j h.controller c a other is number ∙ stands
 others-keep number h n s (Lwp pid id) (act.Turn t) legal other stands =
     ap (λ opens. handle_of opens h.controller number) (turn-keeps s (turn_of s.system pid id)) ∙ stands
 others-keep number h n s Clock (act.Tick m) legal other stands = stands

@@ -49,21 +49,26 @@ unfolding fed accepted
 closing-fed t r closing = rw (closing, close-passes r) refl
 
 -- a refusal that is not passed over, of a tool that has nothing to set right
-pub refused-fed : (t : ToolState) (e : Errno) → is_passed_over t.step e ≡ false → way_out t.kind t.step ≡ step.Close → WasRefused (fed t (reply.Fail e))
+pub refused-fed : (t : ToolState) (e : Errno) → is_passed_over t.step e ≡ false → way_out t.kind t.step ≡ step.Close
+    → WasRefused (fed t (reply.Fail e))
 unfolding fed refusal_in refused
 refused-fed t e counts out = rw counts (record { closing = out; refusal = refl })
 
 pub refused-closes : (t : ToolState) (r : Reply) → WasRefused t → WasRefused (fed t r)
 unfolding with_closed
-refused-closes t r was = subst WasRefused (sym (closing-fed t r was.closing)) (record { closing = was.closing; refusal = was.refusal })
+refused-closes t r was =
+    subst WasRefused (sym (closing-fed t r was.closing)) (record { closing = was.closing; refusal = was.refusal })
 
-pub read-closes : (kind : ToolKind) (pid : ℕ) (opened : Opened) (bytes : List ℕ) (r : Reply) → fed (having_read kind pid opened bytes) r ≡ having_read kind pid (without_last opened) bytes
+pub read-closes : (kind : ToolKind) (pid : ℕ) (opened : Opened) (bytes : List ℕ) (r : Reply)
+    → fed (having_read kind pid opened bytes) r ≡ having_read kind pid (without_last opened) bytes
 unfolding with_closed
 read-closes kind pid opened bytes r = closing-fed (having_read kind pid opened bytes) r refl
 
 -- what stands at a place of a history stands there when the history is an entry longer
-pub place-still : (h before : List Entry) (d : Entry) (rest : List Entry) (e : Entry) → h ≡ before ++ d ∷ rest → h ++ e ∷ [] ≡ before ++ d ∷ (rest ++ e ∷ [])
-place-still h before d rest e place = ap (λ (g : List Entry). g ++ e ∷ []) place ∙ append_assoc before (d ∷ rest) (e ∷ [])
+pub place-still : (h before : List Entry) (d : Entry) (rest : List Entry) (e : Entry) → h ≡ before ++ d ∷ rest
+    → h ++ e ∷ [] ≡ before ++ d ∷ (rest ++ e ∷ [])
+place-still h before d rest e place =
+    ap (λ (g : List Entry). g ++ e ∷ []) place ∙ append_assoc before (d ∷ rest) (e ∷ [])
 
 module _ (k : ℕ) (kind : ToolKind) (pid : ℕ) (first : TracedState) where
   -- these bytes were read at a place in the history, by the read of this tool
@@ -76,10 +81,21 @@ module _ (k : ℕ) (kind : ToolKind) (pid : ℕ) (first : TracedState) where
     pub reads : IsToolRead kind k pid (state_after first before) call
     pub shows : bytes_shown kind pid (state_after first before).system ≡ Some bytes
 
-  unfoldable pub showed-here : (h : List Entry) (c : Call) (r : Reply) (bytes : List ℕ) → IsToolRead kind k pid (state_after first h) c → bytes_shown kind pid (state_after first h).system ≡ Some bytes → Showed (h ++ call_entry k c r ∷ []) bytes
-  showed-here h c r bytes reads shows = record { before = h; call = c; reply = r; after = []; place = refl; reads = reads; shows = shows }
+  unfoldable pub showed-here : (h : List Entry) (c : Call) (r : Reply) (bytes : List ℕ)
+      → IsToolRead kind k pid (state_after first h) c → bytes_shown kind pid (state_after first h).system ≡ Some bytes
+      → Showed (h ++ call_entry k c r ∷ []) bytes
+  showed-here h c r bytes reads shows = record {
+    before = h;
+    call = c;
+    reply = r;
+    after = [];
+    place = refl;
+    reads = reads;
+    shows = shows;
+  }
 
-  unfoldable pub showed-still : (h : List Entry) (e : Entry) (bytes : List ℕ) → Showed h bytes → Showed (h ++ e ∷ []) bytes
+  unfoldable pub showed-still : (h : List Entry) (e : Entry) (bytes : List ℕ) → Showed h bytes
+      → Showed (h ++ e ∷ []) bytes
   showed-still h e bytes showed = record {
     before = showed.before;
     call = showed.call;
@@ -97,9 +113,15 @@ module _ (k : ℕ) (kind : ToolKind) (pid : ℕ) (first : TracedState) where
     pub showed : Showed h bytes
 
   unfoldable pub read-still : (h : List Entry) (e : Entry) (t : ToolState) → HasRead h t → HasRead (h ++ e ∷ []) t
-  read-still h e t has = record { opened = has.opened; bytes = has.bytes; is = has.is; showed = showed-still h e has.bytes has.showed }
+  read-still h e t has = record {
+    opened = has.opened;
+    bytes = has.bytes;
+    is = has.is;
+    showed = showed-still h e has.bytes has.showed;
+  }
 
-  unfoldable pub read-goes-on : (h : List Entry) (e : Entry) (t : ToolState) (r : Reply) → HasRead h t → HasRead (h ++ e ∷ []) (fed t r)
+  unfoldable pub read-goes-on : (h : List Entry) (e : Entry) (t : ToolState) (r : Reply) → HasRead h t
+      → HasRead (h ++ e ∷ []) (fed t r)
   read-goes-on h e t r has = record {
     opened = without_last has.opened;
     bytes = has.bytes;
@@ -109,11 +131,14 @@ module _ (k : ℕ) (kind : ToolKind) (pid : ℕ) (first : TracedState) where
 
   -- ---- the text in the end
 
-  text-made : (opened : Opened) (bytes : List ℕ) (programs : List Program) → reads_once kind ≡ true → text_of (having_read kind pid opened bytes) programs kind ≡ text_made kind pid bytes
+  text-made : (opened : Opened) (bytes : List ℕ) (programs : List Program) → reads_once kind ≡ true
+      → text_of (having_read kind pid opened bytes) programs kind ≡ text_made kind pid bytes
   unfolding text_made text_of reads_once
   text-made opened bytes programs once = of kind once
     where
-      of : (other : ToolKind) → reads_once other ≡ true → text_of (having_read kind pid opened bytes) programs other ≡ text_of (record (first_tool kind pid) { bytes = bytes }) [] other
+      of : (other : ToolKind) → reads_once other ≡ true
+          → text_of (having_read kind pid opened bytes) programs other ≡ text_of
+          (record (first_tool kind pid) { bytes = bytes }) [] other
       of Pflags once = refl
       of Psig once = refl
       of Pstack once = absurd (cc)
@@ -124,21 +149,28 @@ module _ (k : ℕ) (kind : ToolKind) (pid : ℕ) (first : TracedState) where
       of Pwait once = refl
       of Ptree once = refl
 
-  pub text-printed : (t : ToolState) (programs : List Program) → has_ended t ≡ true → t.refusal ≡ None → printed t programs ≡ text_of t programs t.kind
+  pub text-printed : (t : ToolState) (programs : List Program) → has_ended t ≡ true → t.refusal ≡ None
+      → printed t programs ≡ text_of t programs t.kind
   unfolding printed
   text-printed t programs ended accepted = rw (ended, accepted) refl
 
-  pub text-read : (h : List Entry) (t : ToolState) (programs : List Program) (once : reads_once kind ≡ true) (has : HasRead h t) → has_ended t ≡ true → t.refusal ≡ None → printed t programs ≡ text_made kind pid has.bytes
+  pub text-read : (h : List Entry) (t : ToolState) (programs : List Program) (once : reads_once kind ≡ true)
+      (has : HasRead h t) → has_ended t ≡ true → t.refusal ≡ None → printed t programs ≡ text_made kind pid has.bytes
   unfolding first_tool
   text-read h t programs once has ended accepted =
-      text-printed t programs ended accepted ∙ ap (λ (u : ToolState). text_of u programs u.kind) has.is ∙ text-made has.opened has.bytes programs once
+      text-printed t programs ended accepted ∙ ap (λ (u : ToolState). text_of u programs u.kind) has.is
+      ∙ text-made has.opened has.bytes programs once
 
   -- the text that is made of what was read at a place; and what is read back is given
-  unfoldable pub of-one-state : ((s : TracedSystem) → IsReadBack kind pid s → text_read kind pid s ≡ tool_text kind pid s) → (h : List Entry) (text bytes : List ℕ) → text ≡ text_made kind pid bytes → Showed h bytes → IsOfOneState k kind pid first h text
+  unfoldable pub of-one-state :
+      ((s : TracedSystem) → IsReadBack kind pid s → text_read kind pid s ≡ tool_text kind pid s)
+      → (h : List Entry) (text bytes : List ℕ) → text ≡ text_made kind pid bytes → Showed h bytes
+      → IsOfOneState k kind pid first h text
   unfolding text_read
   of-one-state back h text bytes made showed =
       let at = (state_after first showed.before).system in
-      let read : text_read kind pid at ≡ Some text = ap (option_map (text_made kind pid)) showed.shows ∙ ap (λ (x : List ℕ). Some x) (sym made) in
+      let read : text_read kind pid at ≡ Some text =
+      ap (option_map (text_made kind pid)) showed.shows ∙ ap (λ (x : List ℕ). Some x) (sym made) in
       record {
         before = showed.before;
         call = showed.call;

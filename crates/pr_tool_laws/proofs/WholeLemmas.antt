@@ -62,7 +62,8 @@ entries-within files fd [] = omega arith
 entries-within files fd (None ∷ fds) = let rest = entries-within files (fd + 1) fds in omega arith
 entries-within files fd (Some place ∷ fds) = of (at_place files.opens place) (entries-within files (fd + 1) fds)
   where
-    of : (o : Option OpenFile) → length (fd_entries_from files (fd + 1) fds) ≤ length fds → length (fd_entry_before files fd o (fd_entries_from files (fd + 1) fds)) ≤ suc (length fds)
+    of : (o : Option OpenFile) → length (fd_entries_from files (fd + 1) fds) ≤ length fds
+        → length (fd_entry_before files fd o (fd_entries_from files (fd + 1) fds)) ≤ suc (length fds)
     of None rest = omega arith
     of (Some file) rest = omega arith
 
@@ -85,7 +86,8 @@ unfolding has_shape answer_to list_bytes
 list-within s h =
     let state : TracedState = record { system = s; opens = []; interrupted = 0 } in
     let shape = machine-shaped state 0 call.List (answered state (reply.Bytes (list_bytes (list_of s)))) h refl in
-    let short : length (list_bytes (list_of s)) ≤ list_limit = leb-true (length (list_bytes (list_of s))) list_limit shape in
+    let short : length (list_bytes (list_of s)) ≤ list_limit =
+    leb-true (length (list_bytes (list_of s))) list_limit shape in
     let bytes = length-entries list_entry_words_of 6 (λ _. refl) (list_of s) in
     omega (arith, bytes, short)
 
@@ -96,15 +98,21 @@ module _ (pid : ℕ) (s : TracedSystem) (lawful : IsLawfulSystem s) (ranged : Is
   all-ranged = records-range s lawful ranged
 
   -- what is so of the process of the tool, if there is one
-  of-process : (P : TracedProcess → Type 0) → ((p : TracedProcess) → IsLawfulProcess (pid, p) → HasRecordsInRange s pid p → P p) → (o : Option TracedProcess) → process_of s pid ≡ o → IfSome o P
+  of-process : (P : TracedProcess → Type 0)
+      → ((p : TracedProcess) → IsLawfulProcess (pid, p) → HasRecordsInRange s pid p → P p) → (o : Option TracedProcess)
+      → process_of s pid ≡ o → IfSome o P
   of-process P each None found = tt
-  of-process P each (Some p) found = each p (All-under IsLawfulProcess pid p s.processes lawful.processes found) (all-ranged.processes pid p found)
+  of-process P each (Some p) found =
+      each p (All-under IsLawfulProcess pid p s.processes lawful.processes found) (all-ranged.processes pid p found)
 
-  of-live : (P : TracedProcess → Type 0) → ((p : TracedProcess) → live_process s pid ≡ Some p → IsLawfulProcess (pid, p) → HasRecordsInRange s pid p → P p) → (o : Option TracedProcess) → live_process s pid ≡ o → IfSome o P
+  of-live : (P : TracedProcess → Type 0)
+      → ((p : TracedProcess) → live_process s pid ≡ Some p → IsLawfulProcess
+      (pid, p) → HasRecordsInRange s pid p → P p) → (o : Option TracedProcess) → live_process s pid ≡ o → IfSome o P
   of-live P each None live = tt
   of-live P each (Some p) live =
       let found = (found-live s pid p live).0 in
-      each p live (All-under IsLawfulProcess pid p s.processes lawful.processes found) (all-ranged.processes pid p found)
+      each p live (All-under IsLawfulProcess pid p s.processes lawful.processes found)
+      (all-ranged.processes pid p found)
 
   lwps-read : IfSome (live_process s pid) AreLwpsRead
   lwps-read =
@@ -115,7 +123,9 @@ module _ (pid : ℕ) (s : TracedSystem) (lawful : IsLawfulSystem s) (ranged : Is
 
   dispositions-read : IfSome (live_process s pid) AreDispositionsRead
   dispositions-read =
-      of-live AreDispositionsRead (λ p live own records. record { words = records.dispositions; whole = records.signals }) (live_process s pid) refl
+      of-live AreDispositionsRead
+      (λ p live own records. record { words = records.dispositions; whole = records.signals })
+      (live_process s pid) refl
 
   mappings-read : IfSome (live_process s pid) (AreMappingsRead s)
   mappings-read =
@@ -128,7 +138,10 @@ module _ (pid : ℕ) (s : TracedSystem) (lawful : IsLawfulSystem s) (ranged : Is
   descriptors-read =
       of-live (AreDescriptorsRead s) (λ p live own records. record {
         fields = records.descriptors;
-        few = let within = descriptors-within s.files p in let places = own.descriptors in omega (arith, within, places);
+        few =
+            let within = descriptors-within s.files p in
+            let places = own.descriptors in
+            omega (arith, within, places);
       }) (live_process s pid) refl
 
   psinfo-read : IfSome (process_of s pid) (λ p. IsPsinfo (psinfo_of s pid p))
@@ -148,25 +161,32 @@ module _ (pid : ℕ) (s : TracedSystem) (lawful : IsLawfulSystem s) (ranged : Is
 
 -- ---- the front of a history
 
-pub front-legal : (n : ℕ) (s : TracedState) (before rest : List Entry) → IsLegal n s (before ++ rest) → IsLegal n s before
+pub front-legal : (n : ℕ) (s : TracedState) (before rest : List Entry) → IsLegal n s (before ++ rest)
+    → IsLegal n s before
 front-legal n s [] rest legal = tt
 front-legal n s (e ∷ before) rest legal = (legal.0, front-legal n (after s e) before rest legal.1)
 
 pub front-bytes : (before rest : List Entry) → HasBytes (before ++ rest) → HasBytes before
 front-bytes [] rest bytes = All-nil IsEntryOfBytes
 front-bytes (e ∷ before) rest bytes =
-    All-cons IsEntryOfBytes e before (All-head IsEntryOfBytes e (before ++ rest) bytes) (front-bytes before rest (All-tail IsEntryOfBytes e (before ++ rest) bytes))
+    All-cons IsEntryOfBytes e before (All-head IsEntryOfBytes e (before ++ rest) bytes)
+    (front-bytes before rest (All-tail IsEntryOfBytes e (before ++ rest) bytes))
 
 -- ---- what a tool shows
 
 -- a text of one state is what stands there
-stands-there : (n k : ℕ) (kind : ToolKind) (pid : ℕ) (s : TracedState) (h : List Entry) (text : List ℕ) → IsLawful s → IsInRange s.system → HasBytes h → IsLegal n s h → reads_once kind ≡ true → IsOfKnownState k kind pid s (EndsIfAwaited kind pid) h text → ShowsOneState k kind pid s h text
+stands-there : (n k : ℕ) (kind : ToolKind) (pid : ℕ) (s : TracedState) (h : List Entry) (text : List ℕ) → IsLawful s
+    → IsInRange s.system → HasBytes h → IsLegal n s h → reads_once kind ≡ true
+    → IsOfKnownState k kind pid s (EndsIfAwaited kind pid) h text → ShowsOneState k kind pid s h text
 stands-there n k kind pid s h text lawful ranged bytes legal once of_known =
     let it : IsOfOneState k kind pid s h text = of_known.one in
-    let legal_before : IsLegal n s it.before = front-legal n s it.before _ (subst (λ (g : List Entry). IsLegal n s g) it.place legal) in
+    let legal_before : IsLegal n s it.before =
+    front-legal n s it.before _ (subst (λ (g : List Entry). IsLegal n s g) it.place legal) in
     let bytes_before : HasBytes it.before = front-bytes it.before _ (subst HasBytes it.place bytes) in
-    let system : IsLawfulSystem (state_after s it.before).system = (history-state n s it.before lawful legal_before).system in
-    let range : IsInRange (state_after s it.before).system = history-range n s it.before lawful ranged bytes_before legal_before in
+    let system : IsLawfulSystem (state_after s it.before).system =
+    (history-state n s it.before lawful legal_before).system in
+    let range : IsInRange (state_after s it.before).system =
+    history-range n s it.before lawful ranged bytes_before legal_before in
     record {
       before = it.before;
       call = it.call;
@@ -180,7 +200,11 @@ stands-there n k kind pid s h text lawful ranged bytes legal once of_known =
     }
 
 -- from a lawful state in range a tool shows what stands in one state
-pub tool-shows : (controllers : List ControllerState) (n k : ℕ) (kind : ToolKind) (pid : ℕ) (s : TracedState) (h : List Entry) (t : ToolState) (programs : List Program) → IsLawful s → IsInRange s.system → HasBytes h → reads_once kind ≡ true → slice_get controllers k ≡ Some (Tool (first_tool kind pid)) → IsLegal n s h → Follows controllers s h → slice_get (controllers_at controllers h) k ≡ Some (Tool t) → has_ended t ≡ true → t.refusal ≡ None → ShowsOneState k kind pid s h (printed t programs)
+pub tool-shows : (controllers : List ControllerState) (n k : ℕ) (kind : ToolKind) (pid : ℕ) (s : TracedState)
+    (h : List Entry) (t : ToolState) (programs : List Program) → IsLawful s → IsInRange s.system → HasBytes h
+    → reads_once kind ≡ true → slice_get controllers k ≡ Some (Tool (first_tool kind pid)) → IsLegal n s h
+    → Follows controllers s h → slice_get (controllers_at controllers h) k ≡ Some (Tool t) → has_ended t ≡ true
+    → t.refusal ≡ None → ShowsOneState k kind pid s h (printed t programs)
 tool-shows controllers n k kind pid s h t programs lawful ranged bytes once begins legal follows ends ended accepted =
     stands-there n k kind pid s h (printed t programs) lawful ranged bytes legal once
     (tool-of-known-state controllers n k kind pid s h t programs lawful once begins legal follows ends ended accepted)

@@ -27,7 +27,8 @@ use Rattle.pr_truss_laws.specs.Exchanges.{Closes, ClosesAll, Ends, Exchange, tru
 
 -- ---- truss on its way
 
-no-pid-fits : (o : Options) (p : Option ℕ) → Fits (opening_or (idle o) (idle o) p).traced (opening_or (idle o) (idle o) p).stage
+no-pid-fits : (o : Options) (p : Option ℕ)
+    → Fits (opening_or (idle o) (idle o) p).traced (opening_or (idle o) (idle o) p).stage
 no-pid-fits o None = refl
 no-pid-fits o (Some pid) = tt
 
@@ -39,7 +40,8 @@ pub first-fits : (o : Options) → Fits (first_truss o).traced (first_truss o).s
 unfolding first_truss
 first-fits o = program-fits o o.program
 
-pub after-fits : (xs : List Exchange) (s : TrussState) → Fits s.traced s.stage → Fits (truss_after s xs).traced (truss_after s xs).stage
+pub after-fits : (xs : List Exchange) (s : TrussState) → Fits s.traced s.stage
+    → Fits (truss_after s xs).traced (truss_after s xs).stage
 after-fits [] s f = f
 after-fits (x ∷ xs) s f = after-fits xs (fed s x.reply) (fed-fits s x.reply f)
 
@@ -57,9 +59,12 @@ ends-after (x ∷ xs) ys s e = ends-after xs ys (fed s x.reply) (ends-later s x 
 none-is : (c : Call) → Some c ≡ None → ⊥
 none-is c e = none-some c (sym e)
 
-nothing-in : (pid h : ℕ) (ts : List Traced) (stage : Stage) (s : TrussState) → call_of s stage ≡ None → Fits ts stage → sum_by (of_traced pid h) ts + of_stage pid h stage ≡ 0
+nothing-in : (pid h : ℕ) (ts : List Traced) (stage : Stage) (s : TrussState) → call_of s stage ≡ None → Fits ts stage
+    → sum_by (of_traced pid h) ts + of_stage pid h stage ≡ 0
 unfolding call_of
-nothing-in pid h ts Finished s e f = let none : sum_by (of_traced pid h) ts ≡ 0 = ap (sum_by (of_traced pid h)) f in omega arith
+nothing-in pid h ts Finished s e f =
+    let none : sum_by (of_traced pid h) ts ≡ 0 = ap (sum_by (of_traced pid h)) f in
+    omega arith
 nothing-in pid h ts _ s e f = absurd (none-is _ e)
 
 pub nothing-held : (pid h : ℕ) (s : TrussState) → Fits s.traced s.stage → next_call_of s ≡ None → held pid h s ≡ 0
@@ -68,9 +73,15 @@ nothing-held pid h s f e = nothing-in pid h s.traced s.stage s e f
 
 -- ---- each handle is closed
 
-goes-on : (s : TrussState) (pid h n m : ℕ) (r : Reply) (c : Call) → Changes s pid h r (Some c) n m → 1 ≤ n → (c ≡ call.Close h) ⊎ (1 ≤ m)
+goes-on : (s : TrussState) (pid h n m : ℕ) (r : Reply) (c : Call) → Changes s pid h r (Some c) n m → 1 ≤ n
+    → (c ≡ call.Close h) ⊎ (1 ≤ m)
 goes-on s pid h n m r (call.Open of id file mode) ch one = inr (omega arith)
-goes-on s pid h n m r (call.Close handle) ch one = elim (cases_Bool (handle == h)) [ inl same ↦ inl (ap call.Close (eqb-true handle h same)) | inr other ↦ inr (omega (arith, ch.less, no-unit (ch.of == pid) (handle == h) other)) ]
+goes-on s pid h n m r (call.Close handle) ch one =
+    elim (cases_Bool (handle == h)) [
+      | inl same ↦ inl (ap call.Close (eqb-true handle h same))
+      | inr other ↦ inr
+          (omega (arith, ch.less, no-unit (ch.of == pid) (handle == h) other))
+    ]
   where
     no-unit : (b c : Bool) → c ≡ false → unit (b && c) ≡ 0
     no-unit true c is = ap unit is
@@ -81,9 +92,15 @@ closes-more : (h : ℕ) (x : Exchange) (xs : List Exchange) → Closes h xs → 
 closes-more h x xs c = record { before = x ∷ c.before; reply = c.reply; after = c.after; is = ap (λ ys. x ∷ ys) c.is }
 
 closes-first : (h : ℕ) (x : Exchange) (xs : List Exchange) → x.call ≡ call.Close h → Closes h (x ∷ xs)
-closes-first h x xs is = record { before = []; reply = x.reply; after = xs; is = ap (λ c. record { call = c; reply = x.reply } ∷ xs) is }
+closes-first h x xs is = record {
+  before = [];
+  reply = x.reply;
+  after = xs;
+  is = ap (λ c. record { call = c; reply = x.reply } ∷ xs) is;
+}
 
-pub closes-later : (xs : List Exchange) (s : TrussState) (pid h : ℕ) → Fits s.traced s.stage → 1 ≤ held pid h s → Ends s xs → Closes h xs
+pub closes-later : (xs : List Exchange) (s : TrussState) (pid h : ℕ) → Fits s.traced s.stage → 1 ≤ held pid h s
+    → Ends s xs → Closes h xs
 closes-later [] s pid h f one e = absurd (omega (arith, nothing-held pid h s f e.finished, one))
 closes-later (x ∷ xs) s pid h f one e =
     let u : TrussState = fed s x.reply in
@@ -99,7 +116,9 @@ unfolding answer_of opened_in
 given-one pid h = ap unit (ap (λ b. b && (h == h)) (eq-eqb pid pid refl) ∙ eq-eqb h h refl)
 
 -- what an open gave is closed later
-granted-closes : (s : TrussState) (pid id h : ℕ) (file : File) (mode : Mode) (xs : List Exchange) → Fits s.traced s.stage → Ends s (record { call = call.Open pid id file mode; reply = reply.Handle h } ∷ xs) → Closes h xs
+granted-closes : (s : TrussState) (pid id h : ℕ) (file : File) (mode : Mode) (xs : List Exchange)
+    → Fits s.traced s.stage → Ends s (record { call = call.Open pid id file mode; reply = reply.Handle h } ∷ xs)
+    → Closes h xs
 granted-closes s pid id h file mode xs f e =
     let u : TrussState = fed s (reply.Handle h) in
     let all = fed-changes pid h (reply.Handle h) s f in
@@ -109,7 +128,11 @@ granted-closes s pid id h file mode xs f e =
 
 pub closes-all : (o : Options) (xs : List Exchange) → Ends (first_truss o) xs → ClosesAll xs
 closes-all o xs e = record {
-  each = λ before after pid id h file mode is. granted-closes (truss_after (first_truss o) before) pid id h file mode after (after-fits before (first_truss o) (first-fits o)) (ends-after before _ (first_truss o) (subst (Ends (first_truss o)) is e));
+  each =
+      λ before after pid id h file mode is. granted-closes
+      (truss_after (first_truss o) before) pid id h file mode after
+      (after-fits before (first_truss o) (first-fits o))
+      (ends-after before _ (first_truss o) (subst (Ends (first_truss o)) is e));
 }
 
 pub ruleset closings = (closes-all)

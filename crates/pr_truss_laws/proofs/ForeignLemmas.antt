@@ -85,9 +85,12 @@ module _ (s : TracedState) (by pid : ℕ) (lawful : IsLawful s) where
   ]
 
   module _ (p : TracedProcess) (stands : process_of s.system pid ≡ Some p) where
-    new-passes : (program : Program) (held : Bool) → Passes pid ByKill s.system (with_spawned traced program held s.system)
+    new-passes : (program : Program) (held : Bool)
+        → Passes pid ByKill s.system (with_spawned traced program held s.system)
     unfolding with_spawned
-    new-passes program held = let below = was-made pid s.system p lawful.system stands in made-passes pid ByKill (new_process traced program s.system.clock held) s.system (λ same. omega arith)
+    new-passes program held =
+        let below = was-made pid s.system p lawful.system stands in
+        made-passes pid ByKill (new_process traced program s.system.clock held) s.system (λ same. omega arith)
 
     edit-passes : (c : Call) (t : TracedState) → CallEdit s by c t
         → ((number : ℕ) → names c number ≡ true → Apart number) → Passes pid ByKill s.system t.system
@@ -107,7 +110,8 @@ module _ (s : TracedState) (by pid : ℕ) (lawful : IsLawful s) where
     edit-passes c t (edit.sends {pid = target} {g = g} is) apart =
         generated-passes pid ByKill target None g (killed_by 0) s.system refl
 
-    pub call-passes : (c : Call) (a : Answer) → ((number : ℕ) → names c number ≡ true → Apart number) → answer_to s by c ≡ Some a → Passes pid ByKill s.system a.state.system
+    pub call-passes : (c : Call) (a : Answer) → ((number : ℕ) → names c number ≡ true → Apart number)
+        → answer_to s by c ≡ Some a → Passes pid ByKill s.system a.state.system
     call-passes c a apart is = edit-passes c a.state (call-edit s by c a is) apart
 
 -- ---- other controllers
@@ -118,19 +122,30 @@ module _ (s : TracedState) (k number : ℕ) (h : Held) (lawful : IsLawful s) (mi
   there : slice_get s.opens number ≡ Some (Some h)
   there = handle-at s.opens k number h mine
 
-  writes-other : (by m : ℕ) (g : Held) → by ≢ k → handle_of s.opens by m ≡ Some g → is_writable g.mode ≡ true → g.pid ≢ h.pid
-  writes-other by m g other held writes same = elim (cases_Bool (number == m)) [ inl place ↦ other (own-controller (eqb-true number m place)) | inr not_same ↦ false≢true (sym (none-left s.opens number h there mode lawful.exclusive) ∙ still (eqb-false number m not_same)) ]
+  writes-other : (by m : ℕ) (g : Held) → by ≢ k → handle_of s.opens by m ≡ Some g → is_writable g.mode ≡ true
+      → g.pid ≢ h.pid
+  writes-other by m g other held writes same =
+      elim (cases_Bool (number == m)) [
+        | inl place ↦ other
+            (own-controller (eqb-true number m place))
+        | inr not_same ↦ false≢true
+            (sym (none-left s.opens number h there mode lawful.exclusive) ∙ still (eqb-false number m not_same))
+      ]
     where
       own-controller : number ≡ m → by ≡ k
       own-controller place =
-          let at : slice_get s.opens number ≡ Some (Some g) = subst (λ n. slice_get s.opens n ≡ Some (Some g)) (sym place) (handle-at s.opens by m g held) in
+          let at : slice_get s.opens number ≡ Some (Some g) =
+          subst (λ n. slice_get s.opens n ≡ Some (Some g)) (sym place) (handle-at s.opens by m g held) in
           let both : Some h ≡ Some g = same_Some (Some h) (Some g) (sym there ∙ at) in
-          sym (handle-controller s.opens by m g held) ∙ ap (λ (x : Held). x.controller) (sym (same_Some h g both)) ∙ handle-controller s.opens k number h mine
+          sym (handle-controller s.opens by m g held) ∙ ap (λ (x : Held). x.controller) (sym (same_Some h g both))
+          ∙ handle-controller s.opens k number h mine
 
       still : number ≢ m → has_writer h.pid (slice_set s.opens number None) ≡ true
       still apart =
-          let at : slice_get (slice_set s.opens number None) m ≡ Some (Some g) = slice_get-set_other s.opens number m None (λ same. apart (sym same)) ∙ handle-at s.opens by m g held in
-          any-at (is_writer h.pid) (slice_set s.opens number None) m (Some g) at (ap (λ b. b && is_writable g.mode) (eq-eqb g.pid h.pid same) ∙ writes)
+          let at : slice_get (slice_set s.opens number None) m ≡ Some (Some g) =
+          slice_get-set_other s.opens number m None (λ same. apart (sym same)) ∙ handle-at s.opens by m g held in
+          any-at (is_writer h.pid) (slice_set s.opens number None) m (Some g) at
+          (ap (λ b. b && is_writable g.mode) (eq-eqb g.pid h.pid same) ∙ writes)
 
   pub exclusive-sole : HasNoOtherWriter k h.pid s.opens
   exclusive-sole = record { none = writes-other }

@@ -35,15 +35,27 @@ use Rattle.pr_model.proofs.TurnLemmas.{turn-taken}
 -- ---- left alone
 
 -- an lwp of one list is one of another, where the lists are the same but for what pends
-pub lwp-alike : (es ds : List (ℕ × TracedLwp)) → map_each unsignalled es ≡ map_each unsignalled ds → (id : ℕ) (k : TracedLwp) → under id es ≡ Some k → (l : TracedLwp) × ((under id ds ≡ Some l) × (k ≡ record l { pending = k.pending }))
+pub lwp-alike : (es ds : List (ℕ × TracedLwp)) → map_each unsignalled es ≡ map_each unsignalled ds
+    → (id : ℕ) (k : TracedLwp) → under id es ≡ Some k
+    → (l : TracedLwp) × ((under id ds ≡ Some l) × (k ≡ record l { pending = k.pending }))
 lwp-alike es ds same id k there = by (under id ds) refl
   where
     alike : option_map unsignalled (under id ds) ≡ Some (unsignalled k)
-    alike = sym (under-map_each id unsignalled ds) ∙ ap (under id) (sym same) ∙ under-map_each id unsignalled es ∙ ap (option_map unsignalled) there
+    alike =
+        sym (under-map_each id unsignalled ds) ∙ ap (under id) (sym same) ∙ under-map_each id unsignalled es
+        ∙ ap (option_map unsignalled) there
 
-    by : (o : Option TracedLwp) → under id ds ≡ o → (l : TracedLwp) × ((under id ds ≡ Some l) × (k ≡ record l { pending = k.pending }))
+    by : (o : Option TracedLwp) → under id ds ≡ o
+        → (l : TracedLwp) × ((under id ds ≡ Some l) × (k ≡ record l { pending = k.pending }))
     by None is = absurd (none-some (unsignalled k) (ap (option_map unsignalled) (sym is) ∙ alike))
-    by (Some l) is = (l, (is, ap (λ (x : TracedLwp). record x { pending = k.pending }) (sym (same_Some (unsignalled l) (unsignalled k) (ap (option_map unsignalled) (sym is) ∙ alike)))))
+    by (Some l) is = (
+      l,
+      (
+        is,
+        ap (λ (x : TracedLwp). record x { pending = k.pending })
+            (sym (same_Some (unsignalled l) (unsignalled k) (ap (option_map unsignalled) (sym is) ∙ alike))),
+      ),
+    )
 
 -- with what others may change of a process, and with its memory, as another process has them
 abbrev as_in : TracedProcess → TracedProcess → TracedProcess
@@ -91,25 +103,50 @@ job-undisturbed g p =
 
 deletions-undisturbed : (g : Sig) (p : TracedProcess) → IsUndisturbed p (with_deletions g p)
 unfolding with_deletions
-deletions-undisturbed g p = elim (deleted_by g == 0) as (λ b. IsUndisturbed p (cond b p (without_job_stop g (without_pending (deleted_by g) p)))) [ true ↦ undisturbed-self p | false ↦ undisturbed-next p (without_pending (deleted_by g) p) _ (without-undisturbed (deleted_by g) p) (job-undisturbed g (without_pending (deleted_by g) p)) ]
+deletions-undisturbed g p =
+    elim (deleted_by g == 0) as
+    (λ b. IsUndisturbed p
+    (cond b p
+    (without_job_stop g
+    (without_pending (deleted_by g) p)))) [
+      | true ↦ undisturbed-self p
+      | false ↦ undisturbed-next p
+          (without_pending (deleted_by g) p) _ (without-undisturbed (deleted_by g) p)
+          (job-undisturbed g (without_pending (deleted_by g) p))
+    ]
 
 -- a change under an id that a view does not show
-map_each-hidden : {X Y : Type 0} (view : X → Y) (id : ℕ) (f : X → X) (es : List (ℕ × X)) → ((x : X) → view (f x) ≡ view x) → map_each view (change_under id f es) ≡ map_each view es
+map_each-hidden : {X Y : Type 0} (view : X → Y) (id : ℕ) (f : X → X) (es : List (ℕ × X))
+    → ((x : X) → view (f x) ≡ view x) → map_each view (change_under id f es) ≡ map_each view es
 map_each-hidden view id f [] hides = refl
 map_each-hidden view id f (e ∷ es) hides =
-    elim (e.0 == id) as (λ b. map_each view (cond b ((e.0, f e.1) ∷ es) (e ∷ change_under id f es)) ≡ (e.0, view e.1) ∷ map_each view es)
-    [ true ↦ ap (λ y. (e.0, y) ∷ map_each view es) (hides e.1) | false ↦ ap (λ ds. (e.0, view e.1) ∷ ds) (map_each-hidden view id f es hides) ]
+    elim (e.0 == id) as
+    (λ b. map_each view (cond b ((e.0, f e.1) ∷ es) (e ∷ change_under id f es)) ≡
+    (e.0, view e.1) ∷ map_each view es) [
+      | true ↦ ap (λ y. (e.0, y) ∷ map_each view es) (hides e.1)
+      | false ↦ ap (λ ds. (e.0, view e.1) ∷ ds)
+          (map_each-hidden view id f es hides)
+    ]
 
-pending-undisturbed : (target : Option ℕ) (g : Sig) (info : Info) (p : TracedProcess) → IsUndisturbed p (with_pending target g info p)
+pending-undisturbed : (target : Option ℕ) (g : Sig) (info : Info) (p : TracedProcess)
+    → IsUndisturbed p (with_pending target g info p)
 unfolding with_pending lwp_with_pending
 pending-undisturbed None g info p = undisturbed p (with_pending None g info p) refl (record { space = refl }) refl
 pending-undisturbed (Some own) g info p =
     undisturbed p (with_pending (Some own) g info p) refl (record { space = refl })
     (map_each-hidden unsignalled own (lwp_with_pending g info) p.lwps (λ l. refl))
 
-pub told-undisturbed : (target : Option ℕ) (g : Sig) (info : Info) (p : TracedProcess) → IsUndisturbed p (signalled target g info p)
+pub told-undisturbed : (target : Option ℕ) (g : Sig) (info : Info) (p : TracedProcess)
+    → IsUndisturbed p (signalled target g info p)
 unfolding signalled
-told-undisturbed target g info p = elim (is_none p.ended) as (λ b. IsUndisturbed p (cond b (with_pending target g info (with_deletions g p)) p)) [ true ↦ undisturbed-next p (with_deletions g p) _ (deletions-undisturbed g p) (pending-undisturbed target g info (with_deletions g p)) | false ↦ undisturbed-self p ]
+told-undisturbed target g info p =
+    elim (is_none p.ended) as
+    (λ b. IsUndisturbed p (cond b (with_pending target g info (with_deletions g p)) p)) [
+      | true ↦ undisturbed-next p
+          (with_deletions g p) _ (deletions-undisturbed g p)
+          (pending-undisturbed target g info (with_deletions g p))
+      | false ↦ undisturbed-self p
+    ]
 
 pub orphaned-undisturbed : (gone : ℕ) (p : TracedProcess) → IsUndisturbed p (orphaned gone p)
 unfolding orphaned
@@ -124,7 +161,8 @@ orphaned-undisturbed gone p =
 pub data Became (Ends : ℕ → Type 0) (before after : Option TracedProcess) : Type 0 where
   nobody : before ≡ None → after ≡ None → Became Ends before after
   left_alone : (p q : TracedProcess) → before ≡ Some p → after ≡ Some q → IsUndisturbed p q → Became Ends before after
-  has_ended : (z : TracedProcess) (status : ℕ) → after ≡ Some z → z.ended ≡ Some status → Ends status → Became Ends before after
+  has_ended : (z : TracedProcess) (status : ℕ) → after ≡ Some z → z.ended ≡ Some status → Ends status
+      → Became Ends before after
 
 became-same : (Ends : ℕ → Type 0) (o : Option TracedProcess) → Became Ends o o
 became-same Ends None = nobody refl refl
@@ -136,16 +174,23 @@ became-next Ends a b c (nobody none gone) (nobody gone' none') = nobody none non
 became-next Ends a b c (nobody none gone) (left_alone p q there later alone) = absurd (none-some p (sym gone ∙ there))
 became-next Ends a b c (left_alone p q there later alone) (nobody none gone) = absurd (none-some q (sym none ∙ later))
 became-next Ends a b c (left_alone p q there later alone) (left_alone p' q' there' later' alone') =
-    left_alone p q' there later' (undisturbed-next p q q' alone (subst (λ (x : TracedProcess). IsUndisturbed x q') (same_Some p' q (sym there' ∙ later)) alone'))
+    left_alone p q' there later'
+    (undisturbed-next p q q' alone (subst (λ (x : TracedProcess). IsUndisturbed x q') (same_Some p' q (sym there'
+    ∙ later)) alone'))
 became-next Ends a b c (has_ended z status there over such) (nobody none gone) = absurd (none-some z (sym none ∙ there))
 became-next Ends a b c (has_ended z status there over such) (left_alone p q there' later alone) =
-    has_ended q status later (ended-same p q alone ∙ ap (λ (x : TracedProcess). x.ended) (same_Some p z (sym there' ∙ there)) ∙ over) such
+    has_ended q status later (ended-same p q alone
+    ∙ ap (λ (x : TracedProcess). x.ended) (same_Some p z (sym there' ∙ there)) ∙ over) such
 
 -- a process that lives later was left alone
-pub became-alone : (Ends : ℕ → Type 0) (a b : Option TracedProcess) (q : TracedProcess) → Became Ends a b → b ≡ Some q → q.ended ≡ None → (p : TracedProcess) × ((a ≡ Some p) × IsUndisturbed p q)
+pub became-alone : (Ends : ℕ → Type 0) (a b : Option TracedProcess) (q : TracedProcess) → Became Ends a b → b ≡ Some q
+    → q.ended ≡ None → (p : TracedProcess) × ((a ≡ Some p) × IsUndisturbed p q)
 became-alone Ends a b q (nobody none gone) there live = absurd (none-some q (sym gone ∙ there))
-became-alone Ends a b q (left_alone p q' there' later alone) there live = (p, (there', subst (IsUndisturbed p) (same_Some q' q (sym later ∙ there)) alone))
-became-alone Ends a b q (has_ended z status later over such) there live = absurd (none-some status (sym live ∙ ap (λ (x : TracedProcess). x.ended) (same_Some q z (sym there ∙ later)) ∙ over))
+became-alone Ends a b q (left_alone p q' there' later alone) there live =
+    (p, (there', subst (IsUndisturbed p) (same_Some q' q (sym later ∙ there)) alone))
+became-alone Ends a b q (has_ended z status later over such) there live =
+    absurd (none-some status (sym live ∙ ap (λ (x : TracedProcess). x.ended) (same_Some q z (sym there ∙ later))
+    ∙ over))
 
 -- ---- systems
 
@@ -173,28 +218,42 @@ module _ (pid : ℕ) (Ends : ℕ → Type 0) where
   there-passes : (s u : TracedSystem) → process_of u pid ≡ process_of s pid → Passes s u
   there-passes s u same = subst (Became Ends (process_of s pid)) (sym same) (same-passes s)
 
-  mapped-became : (f : TracedProcess → TracedProcess) → ((x : TracedProcess) → IsUndisturbed x (f x)) → (o : Option TracedProcess) → Became Ends o (option_map f o)
+  mapped-became : (f : TracedProcess → TracedProcess) → ((x : TracedProcess) → IsUndisturbed x (f x))
+      → (o : Option TracedProcess) → Became Ends o (option_map f o)
   mapped-became f alone None = nobody refl refl
   mapped-became f alone (Some p) = left_alone p (f p) refl refl (alone p)
 
   -- a process that is changed
-  pub other-passes : (other : ℕ) (f : TracedProcess → TracedProcess) (s : TracedSystem) → other ≢ pid → Passes s (with_process other f s)
+  pub other-passes : (other : ℕ) (f : TracedProcess → TracedProcess) (s : TracedSystem) → other ≢ pid
+      → Passes s (with_process other f s)
   unfolding with_process
-  other-passes other f s differs = there-passes s (with_process other f s) (under-change_under_other other pid f differs s.processes)
+  other-passes other f s differs =
+      there-passes s (with_process other f s) (under-change_under_other other pid f differs s.processes)
 
-  any-passes : (other : ℕ) (f : TracedProcess → TracedProcess) (s : TracedSystem) → ((x : TracedProcess) → IsUndisturbed x (f x)) → Passes s (with_process other f s)
+  any-passes : (other : ℕ) (f : TracedProcess → TracedProcess) (s : TracedSystem)
+      → ((x : TracedProcess) → IsUndisturbed x (f x)) → Passes s (with_process other f s)
   unfolding with_process
-  any-passes other f s alone = elim (cases_Bool (other == pid)) [ inl same ↦ own (eqb-true other pid same) | inr not ↦ other-passes other f s (eqb-false other pid not) ]
+  any-passes other f s alone =
+      elim (cases_Bool (other == pid)) [
+        | inl same ↦ own (eqb-true other pid same)
+        | inr not ↦ other-passes other f s
+            (eqb-false other pid not)
+      ]
     where
       own : other ≡ pid → Passes s (with_process other f s)
-      own same = subst (λ n. Became Ends (process_of s pid) (under pid (change_under n f s.processes))) (sym same) (subst (Became Ends (process_of s pid)) (sym (under-change_under pid f s.processes)) (mapped-became f alone (process_of s pid)))
+      own same =
+          subst (λ n. Became Ends (process_of s pid) (under pid (change_under n f s.processes))) (sym same)
+          (subst (Became Ends (process_of s pid)) (sym (under-change_under pid f s.processes))
+          (mapped-became f alone (process_of s pid)))
 
-  told-passes : (other : ℕ) (target : Option ℕ) (g : Sig) (info : Info) (s : TracedSystem) → Passes s (with_process other (signalled target g info) s)
+  told-passes : (other : ℕ) (target : Option ℕ) (g : Sig) (info : Info) (s : TracedSystem)
+      → Passes s (with_process other (signalled target g info) s)
   told-passes other target g info s = any-passes other (signalled target g info) s (told-undisturbed target g info)
 
   parent-passes : (parent gone status : ℕ) (s : TracedSystem) → Passes s (with_parent_signalled parent gone status s)
   unfolding with_parent_signalled
-  parent-passes parent gone status s = either-passes (parent == 0) s s _ (same-passes s) (told-passes parent None Cld _ s)
+  parent-passes parent gone status s =
+      either-passes (parent == 0) s s _ (same-passes s) (told-passes parent None Cld _ s)
 
   pub made-passes : (p : TracedProcess) (s : TracedSystem) → s.made ≢ pid → Passes s (with_made p s)
   unfolding with_made
@@ -206,40 +265,61 @@ module _ (pid : ℕ) (Ends : ℕ → Type 0) where
 
   -- ---- a process that ends
 
-  zombie-became : (status : ℕ) → Ends status → (o : Option TracedProcess) → Became Ends o (option_map (orphaned pid) (option_map (zombie traced status) o))
+  zombie-became : (status : ℕ) → Ends status → (o : Option TracedProcess)
+      → Became Ends o (option_map (orphaned pid) (option_map (zombie traced status) o))
   unfolding zombie
   zombie-became status such None = nobody refl refl
-  zombie-became status such (Some p) = let z : TracedProcess = zombie traced status p in has_ended (orphaned pid z) status refl (ended-same z (orphaned pid z) (orphaned-undisturbed pid z)) such
+  zombie-became status such (Some p) =
+      let z : TracedProcess = zombie traced status p in
+      has_ended (orphaned pid z) status refl (ended-same z (orphaned pid z) (orphaned-undisturbed pid z)) such
 
   buried-own : (p : TracedProcess) (status : ℕ) (s : TracedSystem) → Ends status → Passes s (buried pid p status s)
   buried-own p status s such =
-      let is = under-map_each pid (orphaned pid) (change_under pid (zombie traced status) s.processes) ∙ ap (option_map (orphaned pid)) (under-change_under pid (zombie traced status) s.processes) in
+      let is =
+      under-map_each pid (orphaned pid) (change_under pid (zombie traced status) s.processes)
+      ∙ ap (option_map (orphaned pid)) (under-change_under pid (zombie traced status) s.processes) in
       subst (Became Ends (process_of s pid)) (sym is) (zombie-became status such (process_of s pid))
 
-  buried-other : (gone : ℕ) (p : TracedProcess) (status : ℕ) (s : TracedSystem) → gone ≢ pid → Passes s (buried gone p status s)
+  buried-other : (gone : ℕ) (p : TracedProcess) (status : ℕ) (s : TracedSystem) → gone ≢ pid
+      → Passes s (buried gone p status s)
   buried-other gone p status s other =
-      let is = under-map_each pid (orphaned gone) (change_under gone (zombie traced status) s.processes) ∙ ap (option_map (orphaned gone)) (under-change_under_other gone pid (zombie traced status) other s.processes) in
-      subst (Became Ends (process_of s pid)) (sym is) (mapped-became (orphaned gone) (orphaned-undisturbed gone) (process_of s pid))
+      let is =
+      under-map_each pid (orphaned gone) (change_under gone (zombie traced status) s.processes)
+      ∙ ap (option_map (orphaned gone))
+      (under-change_under_other gone pid (zombie traced status) other s.processes) in
+      subst (Became Ends (process_of s pid)) (sym is)
+      (mapped-became (orphaned gone) (orphaned-undisturbed gone) (process_of s pid))
 
-  pub end-passes : (gone : ℕ) (p : TracedProcess) (status : ℕ) (s : TracedSystem) → (gone ≡ pid → Ends status) → Passes s (with_this_ended traced gone p status s)
+  pub end-passes : (gone : ℕ) (p : TracedProcess) (status : ℕ) (s : TracedSystem) → (gone ≡ pid → Ends status)
+      → Passes s (with_this_ended traced gone p status s)
   unfolding with_this_ended
   end-passes gone p status s such =
       let b : TracedSystem = buried gone p status s in
-      let dies : Passes s b = elim (cases_Bool (gone == pid)) [ inl same ↦ own (eqb-true gone pid same) | inr not ↦ buried-other gone p status s (eqb-false gone pid not) ] in
+      let dies : Passes s b =
+      elim (cases_Bool (gone == pid)) [
+        | inl same ↦ own
+            (eqb-true gone pid same)
+        | inr not ↦ buried-other gone p status s (eqb-false gone pid not)
+      ] in
       next-passes s b (with_parent_signalled p.parent gone status b) dies (parent-passes p.parent gone status b)
     where
       own : gone ≡ pid → Passes s (buried gone p status s)
       own same = subst (λ n. Passes s (buried n p status s)) (sym same) (buried-own p status s (such same))
 
-  pub generated-passes : (target : ℕ) (own : Option ℕ) (g : Sig) (info : Info) (s : TracedSystem) → Ends (signal_number Kill) → Passes s (generated traced target own g info s)
+  pub generated-passes : (target : ℕ) (own : Option ℕ) (g : Sig) (info : Info) (s : TracedSystem)
+      → Ends (signal_number Kill) → Passes s (generated traced target own g info s)
   unfolding generated with_ended
   generated-passes target own g info s such = by (is_kill g) refl
     where
-      kill : (o : Option TracedProcess) → is_kill g ≡ true → Passes s (ended_if_live traced target (signal_number g) s o)
+      kill : (o : Option TracedProcess) → is_kill g ≡ true
+          → Passes s (ended_if_live traced target (signal_number g) s o)
       kill None is = same-passes s
       kill (Some p) is = end-passes target p (signal_number g) s (λ same. subst Ends (sym (kill-number g is)) such)
 
-      by : (b : Bool) → is_kill g ≡ b → Passes s (cond b (ended_if_live traced target (signal_number g) s (live_process s target)) (with_process target (signalled own g info) s))
+      by : (b : Bool) → is_kill g ≡ b
+          → Passes s
+          (cond b (ended_if_live traced target (signal_number g) s (live_process s target))
+          (with_process target (signalled own g info) s))
       by true is = kill (live_process s target) is
       by false is = told-passes target own g info s
 
@@ -248,13 +328,15 @@ module _ (pid : ℕ) (Ends : ℕ → Type 0) where
 module _ (pid : ℕ) where
   -- the process of this id, where it lives later, lived before and was left alone
   pub record Spares (s u : TracedSystem) : Type 0 where
-    pub from : (q : TracedProcess) → process_of u pid ≡ Some q → q.ended ≡ None → (p : TracedProcess) × ((process_of s pid ≡ Some p) × IsUndisturbed p q)
+    pub from : (q : TracedProcess) → process_of u pid ≡ Some q → q.ended ≡ None
+        → (p : TracedProcess) × ((process_of s pid ≡ Some p) × IsUndisturbed p q)
 
   abbrev Whatever : ℕ → Type 0
   Whatever status = Unit {0}
 
   spared : (s u : TracedSystem) → Passes pid Whatever s u → Spares s u
-  spared s u passes = record { from = λ q there live. became-alone Whatever (process_of s pid) (process_of u pid) q passes there live }
+  spared s u passes =
+      record { from = λ q there live. became-alone Whatever (process_of s pid) (process_of u pid) q passes there live }
 
   pub made-spares : (p : TracedProcess) (s : TracedSystem) → s.made ≢ pid → Spares s (with_made p s)
   made-spares p s new = spared s _ (made-passes pid Whatever p s new)
@@ -262,10 +344,12 @@ module _ (pid : ℕ) where
   pub reaped-spares : (gone : ℕ) (s : TracedSystem) → gone ≢ pid → Spares s (with_reaped gone s)
   reaped-spares gone s other = spared s _ (reaped-passes pid Whatever gone s other)
 
-  pub end-spares : (gone : ℕ) (p : TracedProcess) (status : ℕ) (s : TracedSystem) → Spares s (with_this_ended traced gone p status s)
+  pub end-spares : (gone : ℕ) (p : TracedProcess) (status : ℕ) (s : TracedSystem)
+      → Spares s (with_this_ended traced gone p status s)
   end-spares gone p status s = spared s _ (end-passes pid Whatever gone p status s (λ same. tt))
 
-  pub generated-spares : (target : ℕ) (own : Option ℕ) (g : Sig) (info : Info) (s : TracedSystem) → Spares s (generated traced target own g info s)
+  pub generated-spares : (target : ℕ) (own : Option ℕ) (g : Sig) (info : Info) (s : TracedSystem)
+      → Spares s (generated traced target own g info s)
   generated-spares target own g info s = spared s _ (generated-passes pid Whatever target own g info s tt)
 
 -- ---- a turn of an lwp of another process
@@ -293,17 +377,27 @@ module _ (pid acting : ℕ) (p : TracedProcess) (id : ℕ) (l : TracedLwp) (othe
       next-passes pid ByKill s shared (with_made child shared) (files-pass (with_all_shared s.files p.fds) s)
       (made-passes pid ByKill child shared new)
 
-  module _ (s : TracedSystem) (x : TracedProcess) (there : process_of s pid ≡ Some x) (live : x.ended ≡ None) (new : s.made ≢ pid) where
+  module _ (s : TracedSystem) (x : TracedProcess) (there : process_of s pid ≡ Some x) (live : x.ended ≡ None)
+      (new : s.made ≢ pid) where
     -- what is reaped is a zombie
     zombie-passes : (child : ℕ) → SuitsReaped s child → Passes pid ByKill s (with_reaped child s)
-    zombie-passes child suits = reaped-passes pid ByKill child s (λ same. none-some suits.status (sym live ∙ ap (λ (y : TracedProcess). y.ended) (same_Some x suits.zombie (sym there ∙ ap (process_of s) (sym same) ∙ suits.found)) ∙ suits.over))
+    zombie-passes child suits =
+        reaped-passes pid ByKill child s (λ same. none-some suits.status (sym live
+        ∙ ap (λ (y : TracedProcess). y.ended) (same_Some x suits.zombie (sym there ∙ ap (process_of s) (sym same)
+        ∙ suits.found)) ∙ suits.over))
 
-    change-passes : (c : Change) → SuitsChange acting p id l s c → Passes pid ByKill s (changed traced acting p id l c s)
+    change-passes : (c : Change) → SuitsChange acting p id l s c
+        → Passes pid ByKill s (changed traced acting p id l c s)
     unfolding changed
-    change-passes (files_are files fds) suits = next-passes pid ByKill s (record s { files = files }) (with_process acting (with_fds fds) (record s { files = files })) (files-pass files s) (changed-pass (with_fds fds) (record s { files = files }))
+    change-passes (files_are files fds) suits =
+        next-passes pid ByKill s (record s { files = files })
+        (with_process acting (with_fds fds) (record s { files = files })) (files-pass files s)
+        (changed-pass (with_fds fds) (record s { files = files }))
     change-passes (space_is space) suits = changed-pass _ s
-    change-passes (signals target g info) suits = unless-pass (is_kill g && (target == acting)) s _ (generated-passes pid ByKill target None g info s refl)
-    change-passes (signals_itself g info) suits = unless-pass (is_kill g) s _ (generated-passes pid ByKill acting (Some id) g info s refl)
+    change-passes (signals target g info) suits =
+        unless-pass (is_kill g && (target == acting)) s _ (generated-passes pid ByKill target None g info s refl)
+    change-passes (signals_itself g info) suits =
+        unless-pass (is_kill g) s _ (generated-passes pid ByKill acting (Some id) g info s refl)
     change-passes (takes_shared g) suits = changed-pass _ s
     change-passes (job_stops g) suits = changed-pass _ s
     change-passes (disposition_is g disposition) suits = changed-pass _ s
@@ -314,55 +408,76 @@ module _ (pid acting : ℕ) (p : TracedProcess) (id : ℕ) (l : TracedLwp) (othe
     change-passes _ suits = changed-pass _ s
 
     -- a first change, and what is stored after it
-    changes-pass : (cs : List Change) → SuitChanges acting p id l s cs → stores_after cs ≡ true → Passes pid ByKill s (all_changed traced acting p id l cs s)
+    changes-pass : (cs : List Change) → SuitChanges acting p id l s cs → stores_after cs ≡ true
+        → Passes pid ByKill s (all_changed traced acting p id l cs s)
     unfolding all_changed changed
     changes-pass [] suits stores = same-passes pid ByKill s
     changes-pass (c ∷ []) suits stores = change-passes c suits.0
-    changes-pass (c ∷ space_is space ∷ []) suits stores = let next : TracedSystem = changed traced acting p id l c s in next-passes pid ByKill s next (with_process acting (with_space space) next) (change-passes c suits.0) (changed-pass (with_space space) next)
+    changes-pass (c ∷ space_is space ∷ []) suits stores =
+        let next : TracedSystem = changed traced acting p id l c s in
+        next-passes pid ByKill s next (with_process acting (with_space space) next) (change-passes c suits.0)
+        (changed-pass (with_space space) next)
     changes-pass _ suits stores = absurd (false≢true stores)
 
     ending-passes : (how : Option Ending) (u : TracedSystem) → Passes pid ByKill u (ended_if traced acting p id l how u)
     unfolding ended with_lwp_ended
     ending-passes None u = same-passes pid ByKill u
     ending-passes (Some (ends_process status)) u = end-passes pid ByKill acting p status u (λ same. absurd (other same))
-    ending-passes (Some ends_lwp) u = either-passes pid ByKill (length p.lwps == 1) u _ _ (end-passes pid ByKill acting p 0 u (λ same. absurd (other same))) (changed-pass _ u)
+    ending-passes (Some ends_lwp) u =
+        either-passes pid ByKill (length p.lwps == 1) u _ _
+        (end-passes pid ByKill acting p 0 u (λ same. absurd (other same))) (changed-pass _ u)
 
-    transition-passes : (t : Transition) → SuitChanges acting p id l s t.changes → stores_after t.changes ≡ true → Passes pid ByKill s (after_transition traced acting p id l t s)
+    transition-passes : (t : Transition) → SuitChanges acting p id l s t.changes → stores_after t.changes ≡ true
+        → Passes pid ByKill s (after_transition traced acting p id l t s)
     unfolding after_transition with_lwp_of
     transition-passes t suits stores =
         let changes : TracedSystem = all_changed traced acting p id l t.changes s in
         let moves : TracedSystem = with_process acting (with_lwp id (moved traced t.move)) changes in
-        next-passes pid ByKill s moves (ended_if traced acting p id l t.ending moves) (next-passes pid ByKill s changes moves (changes-pass t.changes suits stores) (changed-pass _ changes)) (ending-passes t.ending moves)
+        next-passes pid ByKill s moves (ended_if traced acting p id l t.ending moves)
+        (next-passes pid ByKill s changes moves (changes-pass t.changes suits stores) (changed-pass _ changes))
+        (ending-passes t.ending moves)
 
-    settled-passes : (row : Row) → SuitChanges acting p id l s row.transition.changes → stores_after row.transition.changes ≡ true → Passes pid ByKill s (settled s acting p id l row).system
+    settled-passes : (row : Row) → SuitChanges acting p id l s row.transition.changes
+        → stores_after row.transition.changes ≡ true → Passes pid ByKill s (settled s acting p id l row).system
     unfolding settled
     settled-passes row suits stores =
         let made : TracedSystem = after_transition traced acting p id l row.transition s in
         let counted_one : TracedSystem = with_process acting (with_counted row.did row.begun) made in
-        next-passes pid ByKill s counted_one (with_process acting (after_meeting row.point id) counted_one) (next-passes pid ByKill s made counted_one (transition-passes row.transition suits stores) (changed-pass (with_counted row.did row.begun) made)) (changed-pass (after_meeting row.point id) counted_one)
+        next-passes pid ByKill s counted_one (with_process acting (after_meeting row.point id) counted_one)
+        (next-passes pid ByKill s made counted_one (transition-passes row.transition suits stores)
+        (changed-pass (with_counted row.did row.begun) made))
+        (changed-pass (after_meeting row.point id) counted_one)
 
 -- a process that stands was made
-pub was-made : (pid : ℕ) (s : TracedSystem) (p : TracedProcess) → IsLawfulSystem s → process_of s pid ≡ Some p → pid < s.made
+pub was-made : (pid : ℕ) (s : TracedSystem) (p : TracedProcess) → IsLawfulSystem s → process_of s pid ≡ Some p
+    → pid < s.made
 was-made pid s p h there = let it = All-under (IsNumberedBelow s.made) pid p s.processes h.numbered there in it.id
 
-pub turn-passes : (s : TracedSystem) (pid acting id : ℕ) (t : LwpTurn) (p : TracedProcess) → IsLawfulSystem s → live_process s pid ≡ Some p → acting ≢ pid → turn_of s acting id ≡ Some t → Passes pid ByKill s t.system
+pub turn-passes : (s : TracedSystem) (pid acting id : ℕ) (t : LwpTurn) (p : TracedProcess) → IsLawfulSystem s
+    → live_process s pid ≡ Some p → acting ≢ pid → turn_of s acting id ≡ Some t → Passes pid ByKill s t.system
 turn-passes s pid acting id t p h before other turn =
     let was = found-live s pid p before in
     let below = was-made pid s p h was.0 in
     let it = turn-taken s acting id t turn in
     let a = acting_in s acting id it.process it.lwp h it.live it.there in
     let suits = row-suits s acting it.process id it.lwp a in
-    subst (λ (v : LwpTurn). Passes pid ByKill s v.system) (sym it.is) (settled-passes pid acting it.process id it.lwp other s p was.0 was.1 (λ same. omega arith) (row_for s acting it.process id it.lwp) suits.changes (row-stores s acting it.process id it.lwp))
+    subst (λ (v : LwpTurn). Passes pid ByKill s v.system) (sym it.is)
+    (settled-passes pid acting it.process id it.lwp other s p was.0 was.1 (λ same. omega arith)
+    (row_for s acting it.process id it.lwp) suits.changes (row-stores s acting it.process id it.lwp))
 
 -- ---- live processes
 
 -- a process that lived and lives still was left alone
-pub passed-alone : (pid : ℕ) (Ends : ℕ → Type 0) (s u : TracedSystem) (p q : TracedProcess) → Passes pid Ends s u → live_process s pid ≡ Some p → live_process u pid ≡ Some q → IsUndisturbed p q
+pub passed-alone : (pid : ℕ) (Ends : ℕ → Type 0) (s u : TracedSystem) (p q : TracedProcess) → Passes pid Ends s u
+    → live_process s pid ≡ Some p → live_process u pid ≡ Some q → IsUndisturbed p q
 passed-alone pid Ends s u p q passes before after =
     let was = found-live s pid p before in
     let now = found-live u pid q after in
     let from = became-alone Ends (process_of s pid) (process_of u pid) q passes now.0 now.1 in
     subst (λ (x : TracedProcess). IsUndisturbed x q) (same_Some from.0 p (sym from.1.0 ∙ was.0)) from.1.1
 
-pub turn-leaves : (s : TracedSystem) (pid acting id : ℕ) (t : LwpTurn) (p q : TracedProcess) → IsLawfulSystem s → live_process s pid ≡ Some p → acting ≢ pid → turn_of s acting id ≡ Some t → live_process t.system pid ≡ Some q → IsUndisturbed p q
-turn-leaves s pid acting id t p q h before other turn after = passed-alone pid ByKill s t.system p q (turn-passes s pid acting id t p h before other turn) before after
+pub turn-leaves : (s : TracedSystem) (pid acting id : ℕ) (t : LwpTurn) (p q : TracedProcess) → IsLawfulSystem s
+    → live_process s pid ≡ Some p → acting ≢ pid → turn_of s acting id ≡ Some t → live_process t.system pid ≡ Some q
+    → IsUndisturbed p q
+turn-leaves s pid acting id t p q h before other turn after =
+    passed-alone pid ByKill s t.system p q (turn-passes s pid acting id t p h before other turn) before after

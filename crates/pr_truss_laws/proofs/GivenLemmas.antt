@@ -48,7 +48,10 @@ drop-none (x ∷ xs) (suc i) e = drop-none xs i e
 drop-some : (xs : List ℕ) (i x : ℕ) → slice_get xs i ≡ Some x → drop i xs ≡ x ∷ drop (i + 1) xs
 drop-some [] i x e = cc
 drop-some (y ∷ xs) zero x e = ap (λ z. z ∷ xs) (same_Some y x e)
-drop-some (y ∷ xs) (suc i) x e = let later = drop-some xs i x e in let next : suc i + 1 ≡ suc (i + 1) = omega arith in later ∙ ap (λ k. x ∷ drop k (y ∷ xs)) (sym next)
+drop-some (y ∷ xs) (suc i) x e =
+    let later = drop-some xs i x e in
+    let next : suc i + 1 ≡ suc (i + 1) = omega arith in
+    later ∙ ap (λ k. x ∷ drop k (y ∷ xs)) (sym next)
 
 -- ---- on the way to this state
 
@@ -68,7 +71,8 @@ module _ (f : TrussState) where
   told-none base o xs g = record { more = g.more; is = g.is; handled = tt }
 
   -- what is said of the processes after one whose opening was done
-  told-attached : (base : List Report) (o : Options) (pid : ℕ) (pids : List ℕ) (opening later : List Exchange) → IsWholeOpening o pid opening → Told base o pids later → Told base o (pid ∷ pids) (opening ++ later)
+  told-attached : (base : List Report) (o : Options) (pid : ℕ) (pids : List ℕ) (opening later : List Exchange)
+      → IsWholeOpening o pid opening → Told base o pids later → Told base o (pid ∷ pids) (opening ++ later)
   told-attached base o pid pids opening later whole t = record {
     more = t.more;
     is = t.is;
@@ -76,14 +80,30 @@ module _ (f : TrussState) where
   }
 
   -- and after one that was refused
-  told-refused : (base : List Report) (o : Options) (pid : ℕ) (pids : List ℕ) (errno : Errno) (opening closings later : List Exchange) → IsRefusedOpening o pid errno opening → All IsClose closings → Told (base ++ CannotTrace pid errno ∷ []) o pids later → Told base o (pid ∷ pids) (opening ++ (closings ++ later))
+  told-refused : (base : List Report) (o : Options) (pid : ℕ) (pids : List ℕ) (errno : Errno)
+      (opening closings later : List Exchange) → IsRefusedOpening o pid errno opening → All IsClose closings
+      → Told (base ++ CannotTrace pid errno ∷ []) o pids later
+      → Told base o (pid ∷ pids) (opening ++ (closings ++ later))
   told-refused base o pid pids errno opening closings later refused closes t = record {
     more = CannotTrace pid errno ∷ t.more;
     is = t.is ∙ append_assoc base (CannotTrace pid errno ∷ []) t.more;
-    handled = inr (inl (record { errno = errno; opening = opening; closings = closings; later = later; more = t.more; is = refl; refused = refused; closes = closes; reported = refl; next = t.handled }));
+    handled =
+        inr (inl (record {
+          errno = errno;
+          opening = opening;
+          closings = closings;
+          later = later;
+          more = t.more;
+          is = refl;
+          refused = refused;
+          closes = closes;
+          reported = refl;
+          next = t.handled;
+        }));
   }
 
-  told-left : (base : List Report) (o : Options) (pid : ℕ) (pids : List ℕ) (opening later : List Exchange) → IsRefusedOpening o pid Intr opening → Grown base f.reports → Told base o (pid ∷ pids) (opening ++ later)
+  told-left : (base : List Report) (o : Options) (pid : ℕ) (pids : List ℕ) (opening later : List Exchange)
+      → IsRefusedOpening o pid Intr opening → Grown base f.reports → Told base o (pid ∷ pids) (opening ++ later)
   told-left base o pid pids opening later stopped g = record {
     more = g.more;
     is = g.is;
@@ -91,26 +111,45 @@ module _ (f : TrussState) where
   }
 
   -- and of one on which truss is at work
-  told-begun : (base : List Report) (o : Options) (pid : ℕ) (pids : List ℕ) (xs : List Exchange) (next : Call) → due ≡ Some next → IsBegunOpening o pid next xs → f.reports ≡ base → Told base o (pid ∷ pids) xs
+  told-begun : (base : List Report) (o : Options) (pid : ℕ) (pids : List ℕ) (xs : List Exchange) (next : Call)
+      → due ≡ Some next → IsBegunOpening o pid next xs → f.reports ≡ base → Told base o (pid ∷ pids) xs
   told-begun base o pid pids xs next is begun none = record {
     more = [];
     is = none ∙ sym (append-nil base);
     handled = inr (inr (inr (inl (record { next = next; is = is; begun = begun; nothing = refl }))));
   }
 
-  told-broken : (base : List Report) (o : Options) (pid : ℕ) (pids : List ℕ) (errno : Errno) (opening closings : List Exchange) (handle : ℕ) → due ≡ Some (call.Close handle) → IsRefusedOpening o pid errno opening → All IsClose closings → f.reports ≡ base ++ CannotTrace pid errno ∷ [] → Told base o (pid ∷ pids) (opening ++ closings)
+  told-broken : (base : List Report) (o : Options) (pid : ℕ) (pids : List ℕ) (errno : Errno)
+      (opening closings : List Exchange) (handle : ℕ) → due ≡ Some (call.Close handle)
+      → IsRefusedOpening o pid errno opening → All IsClose closings
+      → f.reports ≡ base ++ CannotTrace pid errno ∷ [] → Told base o (pid ∷ pids) (opening ++ closings)
   told-broken base o pid pids errno opening closings handle next refused closes reported = record {
     more = CannotTrace pid errno ∷ [];
     is = reported;
-    handled = inr (inr (inr (inr (record { errno = errno; opening = opening; closings = closings; handle = handle; next = next; is = refl; refused = refused; closes = closes; reported = refl }))));
+    handled =
+        inr (inr (inr (inr (record {
+          errno = errno;
+          opening = opening;
+          closings = closings;
+          handle = handle;
+          next = next;
+          is = refl;
+          refused = refused;
+          closes = closes;
+          reported = refl;
+        }))));
   }
 
   abbrev pub pids_left : TrussState → List ℕ
   pids_left s = drop s.begun s.options.pids
 
   -- the same of a state that differs in neither
-  told-same : (s u : TrussState) (xs : List Exchange) → SameBase s u → Told u.reports u.options (pids_left u) xs → Told s.reports s.options (pids_left s) xs
-  told-same s u xs same t = subst (λ base. Told base s.options (pids_left s) xs) same.reports (subst (λ b. Told u.reports s.options (drop b s.options.pids) xs) same.begun (subst (λ (o : Options). Told u.reports o (drop u.begun o.pids) xs) same.options t))
+  told-same : (s u : TrussState) (xs : List Exchange) → SameBase s u → Told u.reports u.options (pids_left u) xs
+      → Told s.reports s.options (pids_left s) xs
+  told-same s u xs same t =
+      subst (λ base. Told base s.options (pids_left s) xs) same.reports
+      (subst (λ b. Told u.reports s.options (drop b s.options.pids) xs) same.begun
+      (subst (λ (o : Options). Told u.reports o (drop u.begun o.pids) xs) same.options t))
 
   -- ---- the opening of one process
 
@@ -125,18 +164,21 @@ module _ (f : TrussState) where
     control-due : Leads f at_control [] → Told s.reports s.options (pid ∷ pids_left s) []
     unfolding next_call_of call_of opening_calls
     control-due l =
-        told-begun s.reports s.options pid (pids_left s) [] (open_control pid) (ap next_call_of (sym l.last)) (record { calls = refl; granted = All-nil IsGranted }) (ap (λ (u : TrussState). u.reports) (sym l.last))
+        told-begun s.reports s.options pid (pids_left s) [] (open_control pid) (ap next_call_of (sym l.last))
+        (record { calls = refl; granted = All-nil IsGranted }) (ap (λ (u : TrussState). u.reports) (sym l.last))
 
     control-call : (x : Exchange) (xs : List Exchange) → Leads f at_control (x ∷ xs) → x.call ≡ open_control pid
     unfolding next_call_of call_of
     control-call x xs l = same_Some x.call (open_control pid) (sym l.makes.0)
 
-    control-answered : (x : Exchange) (xs : List Exchange) → Leads f at_control (x ∷ xs) → Leads f (with_control_answered at_control pid x.reply (answer_of x.reply)) xs
+    control-answered : (x : Exchange) (xs : List Exchange) → Leads f at_control (x ∷ xs)
+        → Leads f (with_control_answered at_control pid x.reply (answer_of x.reply)) xs
     unfolding fed with_reply
     control-answered x xs l = leads-later f at_control x xs l
 
     -- an opening whose first call was refused
-    refused-first : (x : Exchange) (errno : Errno) → x.call ≡ open_control pid → x.reply ≡ reply.Fail errno → IsRefusedOpening s.options pid errno (x ∷ [])
+    refused-first : (x : Exchange) (errno : Errno) → x.call ≡ open_control pid → x.reply ≡ reply.Fail errno
+        → IsRefusedOpening s.options pid errno (x ∷ [])
     refused-first x errno call is = record {
       before = [];
       call = x.call;
@@ -146,12 +188,17 @@ module _ (f : TrussState) where
     }
 
     -- one that was refused later
-    refused-later : (x : Exchange) (xs : List Exchange) (errno : Errno) (u : TrussState) → u.options ≡ s.options → x.call ≡ open_control pid → errno_in x.reply ≡ None → (d : Stopped f u (newly_traced pid (handle_in x.reply)) (Some OpenStatus) errno xs) → IsRefusedOpening s.options pid errno (x ∷ d.opening)
+    refused-later : (x : Exchange) (xs : List Exchange) (errno : Errno) (u : TrussState) → u.options ≡ s.options
+        → x.call ≡ open_control pid → errno_in x.reply ≡ None
+        → (d : Stopped f u (newly_traced pid (handle_in x.reply)) (Some OpenStatus) errno xs)
+        → IsRefusedOpening s.options pid errno (x ∷ d.opening)
     refused-later x xs errno u same call granted d = record {
       before = x ∷ d.before;
       call = d.call;
       last = ap (λ ys. x ∷ ys) d.last;
-      calls = begun-calls s.options pid x d.opening call (subst (λ o. Goes o (newly_traced pid (handle_in x.reply)) (Some OpenStatus) d.opening) same d.goes);
+      calls =
+          begun-calls s.options pid x d.opening call
+          (subst (λ o. Goes o (newly_traced pid (handle_in x.reply)) (Some OpenStatus) d.opening) same d.goes);
       granted = All-cons IsGranted x d.before (record { not_refused = granted }) d.granted;
     }
 
@@ -160,20 +207,27 @@ module _ (f : TrussState) where
 
     -- what comes after each shorter list
     abbrev pub Shorter : List Exchange → Type 0
-    Shorter xs = (ys : List Exchange) (u : TrussState) → length ys ≤ length xs → Leads f (with_next_opening u) ys → Told u.reports u.options (pids_left u) ys
+    Shorter xs =
+        (ys : List Exchange) (u : TrussState) → length ys ≤ length xs → Leads f (with_next_opening u) ys
+        → Told u.reports u.options (pids_left u) ys
 
-    refused-told : (x : Exchange) (xs : List Exchange) (errno : Errno) → Shorter xs → x.call ≡ open_control pid → x.reply ≡ reply.Fail errno → Leads f (with_refused_control at_control pid errno) xs → Goal (x ∷ xs)
+    refused-told : (x : Exchange) (xs : List Exchange) (errno : Errno) → Shorter xs → x.call ≡ open_control pid
+        → x.reply ≡ reply.Fail errno → Leads f (with_refused_control at_control pid errno) xs → Goal (x ∷ xs)
     unfolding with_refused_control
     refused-told x xs errno later call is l =
-        told-refused s.reports s.options pid (pids_left s) errno (x ∷ []) [] xs (refused-first x errno call is) (All-nil IsClose) (later xs (with_report at_control (CannotTrace pid errno)) (omega arith) l)
+        told-refused s.reports s.options pid (pids_left s) errno (x ∷ []) [] xs (refused-first x errno call is)
+        (All-nil IsClose) (later xs (with_report at_control (CannotTrace pid errno)) (omega arith) l)
 
-    left-told : (x : Exchange) (xs : List Exchange) → x.call ≡ open_control pid → x.reply ≡ reply.Fail Intr → Grown s.reports f.reports → Goal (x ∷ xs)
-    left-told x xs call is g = told-left s.reports s.options pid (pids_left s) (x ∷ []) xs (refused-first x Intr call is) g
+    left-told : (x : Exchange) (xs : List Exchange) → x.call ≡ open_control pid → x.reply ≡ reply.Fail Intr
+        → Grown s.reports f.reports → Goal (x ∷ xs)
+    left-told x xs call is g =
+        told-left s.reports s.options pid (pids_left s) (x ∷ []) xs (refused-first x Intr call is) g
 
     shorter-part : (a b xs : List Exchange) → xs ≡ a ++ b → length b ≤ length xs
     shorter-part a b xs is = omega (arith, ap length is, length-append a b)
 
-    module _ (x : Exchange) (xs : List Exchange) (later : Shorter xs) (call : x.call ≡ open_control pid) (granted : errno_in x.reply ≡ None) (g : Grown s.reports f.reports) where
+    module _ (x : Exchange) (xs : List Exchange) (later : Shorter xs) (call : x.call ≡ open_control pid)
+        (granted : errno_in x.reply ≡ None) (g : Grown s.reports f.reports) where
       abbrev pub opened : Traced
       opened = newly_traced pid (handle_in x.reply)
 
@@ -182,9 +236,16 @@ module _ (f : TrussState) where
 
       done-told : Done f with_one opened (Some OpenStatus) xs → Goal (x ∷ xs)
       done-told d =
-          let whole : IsWholeOpening s.options pid (x ∷ d.opening) = record { calls = whole-calls s.options pid x d.opening call d.goes; granted = All-cons IsGranted x d.opening (record { not_refused = granted }) d.granted } in
-          let rest = told-same s d.state d.later (record { options = d.same.options; begun = d.same.begun; reports = d.same.reports }) (later d.later d.state (shorter-part d.opening d.later xs d.is) d.ends) in
-          subst Goal (ap (λ ys. x ∷ ys) (sym d.is)) (told-attached s.reports s.options pid (pids_left s) (x ∷ d.opening) d.later whole rest)
+          let whole : IsWholeOpening s.options pid (x ∷ d.opening) = record {
+            calls = whole-calls s.options pid x d.opening call d.goes;
+            granted = All-cons IsGranted x d.opening (record { not_refused = granted }) d.granted;
+          } in
+          let rest =
+          told-same s d.state d.later
+          (record { options = d.same.options; begun = d.same.begun; reports = d.same.reports })
+          (later d.later d.state (shorter-part d.opening d.later xs d.is) d.ends) in
+          subst Goal (ap (λ ys. x ∷ ys) (sym d.is))
+          (told-attached s.reports s.options pid (pids_left s) (x ∷ d.opening) d.later whole rest)
 
       failed-told : Failed f with_one opened (Some OpenStatus) xs → Goal (x ∷ xs)
       unfolding newly_traced
@@ -193,25 +254,45 @@ module _ (f : TrussState) where
           let reported : TrussState = with_report d.state (CannotTrace pid d.errno) in
           let refused = refused-later x xs d.errno with_one refl call granted st in
           let is : x ∷ xs ≡ (x ∷ st.opening) ++ st.later = ap (λ ys. x ∷ ys) st.is in
-          let reports : reported.reports ≡ s.reports ++ CannotTrace pid d.errno ∷ [] = ap (λ rs. rs ++ CannotTrace pid d.errno ∷ []) d.same.reports in
+          let reports : reported.reports ≡ s.reports ++ CannotTrace pid d.errno ∷ [] =
+          ap (λ rs. rs ++ CannotTrace pid d.errno ∷ []) d.same.reports in
           subst Goal (sym is) (elim (closing-end f st.later reported d.place d.ends) [
             | closed c ↦
-                let base : SameBase (with_report s (CannotTrace pid d.errno)) c.state = record { options = c.same.options ∙ d.same.options; begun = c.same.begun ∙ d.same.begun; reports = c.same.reports ∙ reports } in
-                let short : length c.later ≤ length xs = omega (arith, shorter-part c.closings c.later st.later c.is, shorter-part st.opening st.later xs st.is) in
-                let rest = told-same (with_report s (CannotTrace pid d.errno)) c.state c.later base (later c.later c.state short c.ends) in
-                subst Goal (ap (λ ys. (x ∷ st.opening) ++ ys) (sym c.is)) (told-refused s.reports s.options pid (pids_left s) d.errno (x ∷ st.opening) c.closings c.later refused c.closes rest)
+                let base : SameBase (with_report s (CannotTrace pid d.errno)) c.state = record {
+                  options = c.same.options ∙ d.same.options;
+                  begun = c.same.begun ∙ d.same.begun;
+                  reports = c.same.reports ∙ reports;
+                } in
+                let short : length c.later ≤ length xs =
+                omega (arith, shorter-part c.closings c.later st.later c.is, shorter-part st.opening st.later xs st.is) in
+                let rest =
+                told-same (with_report s (CannotTrace pid d.errno)) c.state c.later base
+                (later c.later c.state short c.ends) in
+                subst Goal (ap (λ ys. (x ∷ st.opening) ++ ys) (sym c.is))
+                (told-refused s.reports s.options pid (pids_left s) d.errno
+                (x ∷ st.opening) c.closings c.later refused c.closes rest)
             | closing c ↦
-                told-broken s.reports s.options pid (pids_left s) d.errno (x ∷ st.opening) st.later c.handle c.due refused c.closes (c.reports ∙ reports)
+                told-broken s.reports s.options pid (pids_left s) d.errno
+                (x ∷ st.opening) st.later c.handle c.due refused c.closes (c.reports ∙ reports)
           ])
 
       stopped-told : Stopped f with_one opened (Some OpenStatus) Intr xs → Goal (x ∷ xs)
-      stopped-told d = subst Goal (ap (λ ys. x ∷ ys) (sym d.is)) (told-left s.reports s.options pid (pids_left s) (x ∷ d.opening) d.later (refused-later x xs Intr with_one refl call granted d) g)
+      stopped-told d =
+          subst Goal (ap (λ ys. x ∷ ys) (sym d.is))
+          (told-left s.reports s.options pid (pids_left s) (x ∷ d.opening) d.later
+          (refused-later x xs Intr with_one refl call granted d) g)
 
       end-told : OpeningEnd f with_one opened (Some OpenStatus) xs → Goal (x ∷ xs)
       end-told (done d) = done-told d
       end-told (failed d) = failed-told d
       end-told (left d) = stopped-told d
-      end-told (going d) = told-begun s.reports s.options pid (pids_left s) (x ∷ xs) d.next d.due (record { calls = next-calls s.options pid x xs d.next call d.goes; granted = All-cons IsGranted x xs (record { not_refused = granted }) d.granted }) d.reports
+      end-told (going d) =
+          told-begun s.reports s.options pid (pids_left s) (x ∷ xs) d.next d.due
+          (record {
+            calls = next-calls s.options pid x xs d.next call d.goes;
+            granted = All-cons IsGranted x xs
+                (record { not_refused = granted }) d.granted;
+          }) d.reports
 
       opened-at : (ts : List Traced) (t : Traced) → slice_index_or (ts ++ t ∷ []) (length ts) nobody ≡ t
       opened-at [] t = refl
@@ -219,18 +300,27 @@ module _ (f : TrussState) where
 
       accepted-told : Leads f (with_control at_control pid (handle_in x.reply)) xs → Goal (x ∷ xs)
       unfolding with_control
-      accepted-told l = end-told (opening-end f xs with_one opened (length s.traced) OpenStatus (omega (arith, length-append s.traced (opened ∷ []))) (opened-at s.traced opened) l)
+      accepted-told l =
+          end-told
+          (opening-end f xs with_one opened (length s.traced) OpenStatus
+          (omega (arith, length-append s.traced (opened ∷ []))) (opened-at s.traced opened) l)
 
-    answered-told : (x : Exchange) (xs : List Exchange) → Shorter xs → x.call ≡ open_control pid → Grown s.reports f.reports → (a : Answer) → IsAnswer x.reply a → Leads f (with_control_answered at_control pid x.reply a) xs → Goal (x ∷ xs)
+    answered-told : (x : Exchange) (xs : List Exchange) → Shorter xs → x.call ≡ open_control pid
+        → Grown s.reports f.reports → (a : Answer) → IsAnswer x.reply a
+        → Leads f (with_control_answered at_control pid x.reply a) xs → Goal (x ∷ xs)
     unfolding IsAnswer with_control_answered
     answered-told x xs later call g Accepted is l = accepted-told x xs later call is g l
     answered-told x xs later call g Interrupted is l = left-told x xs call is g
     answered-told x xs later call g Gone is l = refused-told x xs Noent later call is l
     answered-told x xs later call g (Refused errno) is l = refused-told x xs errno later call is l
 
-    control-told : (xs : List Exchange) → ((ys : List Exchange) (u : TrussState) → length ys < length xs → Leads f (with_next_opening u) ys → Told u.reports u.options (pids_left u) ys) → Leads f at_control xs → Goal xs
+    control-told : (xs : List Exchange)
+        → ((ys : List Exchange) (u : TrussState) → length ys < length xs → Leads f
+        (with_next_opening u) ys → Told u.reports u.options (pids_left u) ys) → Leads f at_control xs → Goal xs
     control-told [] later l = control-due l
-    control-told (x ∷ xs) later l = answered-told x xs (λ ys u short. later ys u (omega arith)) (control-call x xs l) (grown-at (x ∷ xs) l) (answer_of x.reply) (answer-is x.reply) (control-answered x xs l)
+    control-told (x ∷ xs) later l =
+        answered-told x xs (λ ys u short. later ys u (omega arith)) (control-call x xs l) (grown-at (x ∷ xs) l)
+        (answer_of x.reply) (answer-is x.reply) (control-answered x xs l)
 
   -- ---- the next process
 
@@ -241,20 +331,33 @@ module _ (f : TrussState) where
       (subst (λ base. Grown base (truss_after (with_next_opening s) xs).reports) same.reports
       (after-grown xs (with_next_opening s)))
 
-  opened-or : (xs : List Exchange) (s : TrussState) → Leads f (with_next_opening s) xs → Leads f (opening_or s (with_going_on s) (slice_get s.options.pids s.begun)) xs
+  opened-or : (xs : List Exchange) (s : TrussState) → Leads f (with_next_opening s) xs
+      → Leads f (opening_or s (with_going_on s) (slice_get s.options.pids s.begun)) xs
   unfolding with_next_opening
   opened-or xs s l = l
 
-  told-next : (n : ℕ) (xs : List Exchange) (s : TrussState) → length xs < n → Leads f (with_next_opening s) xs → Told s.reports s.options (pids_left s) xs
+  told-next : (n : ℕ) (xs : List Exchange) (s : TrussState) → length xs < n → Leads f (with_next_opening s) xs
+      → Told s.reports s.options (pids_left s) xs
   told-next zero xs s lt l = absurd (omega arith)
-  told-next (suc n) xs s lt l = by (slice_get s.options.pids s.begun) refl (λ ys u short. told-next n ys u (omega arith)) (next-grown xs s l) (opened-or xs s l)
+  told-next (suc n) xs s lt l =
+      by (slice_get s.options.pids s.begun) refl (λ ys u short. told-next n ys u (omega arith)) (next-grown xs s l)
+      (opened-or xs s l)
     where
-      by : (p : Option ℕ) → slice_get s.options.pids s.begun ≡ p → ((ys : List Exchange) (u : TrussState) → length ys < length xs → Leads f (with_next_opening u) ys → Told u.reports u.options (pids_left u) ys) → Grown s.reports f.reports → Leads f (opening_or s (with_going_on s) p) xs → Told s.reports s.options (pids_left s) xs
-      by None is later g k = subst (λ pids. Told s.reports s.options pids xs) (sym (drop-none s.options.pids s.begun is)) (told-none s.reports s.options xs g)
-      by (Some pid) is later g k = subst (λ pids. Told s.reports s.options pids xs) (sym (drop-some s.options.pids s.begun pid is)) (control-told (record s { begun = s.begun + 1 }) pid xs later k)
+      by : (p : Option ℕ) → slice_get s.options.pids s.begun ≡ p
+          → ((ys : List Exchange) (u : TrussState) → length ys < length xs → Leads f
+          (with_next_opening u) ys
+          → Told u.reports u.options (pids_left u) ys) → Grown s.reports f.reports → Leads f
+          (opening_or s (with_going_on s) p) xs → Told s.reports s.options (pids_left s) xs
+      by None is later g k =
+          subst (λ pids. Told s.reports s.options pids xs) (sym (drop-none s.options.pids s.begun is))
+          (told-none s.reports s.options xs g)
+      by (Some pid) is later g k =
+          subst (λ pids. Told s.reports s.options pids xs) (sym (drop-some s.options.pids s.begun pid is))
+          (control-told (record s { begun = s.begun + 1 }) pid xs later k)
 
   -- the first process of all, and each that follows it
-  pub told-first : (s : TrussState) (pid : ℕ) (xs : List Exchange) → Leads f (with_stage s (OpeningControl pid)) xs → Told s.reports s.options (pid ∷ pids_left s) xs
+  pub told-first : (s : TrussState) (pid : ℕ) (xs : List Exchange) → Leads f (with_stage s (OpeningControl pid)) xs
+      → Told s.reports s.options (pid ∷ pids_left s) xs
   told-first s pid xs l = control-told s pid xs (λ ys u short. told-next (length xs) ys u short) l
 
 -- ---- what the options name
@@ -266,13 +369,19 @@ led s xs makes = record { makes = makes; last = refl }
 abbrev pub due_after : TrussState → List Exchange → Option Call
 due_after s xs = next_call_of (truss_after s xs)
 
-pids-handled : (o : Options) (p : Option ℕ) → slice_get o.pids 0 ≡ p → (xs : List Exchange) → Makes (opening_or (idle o) (idle o) p) xs → AreHandled o (due_after (opening_or (idle o) (idle o) p) xs) o.pids (truss_after (opening_or (idle o) (idle o) p) xs).reports xs
-pids-handled o None is xs makes = subst (λ pids. AreHandled o (due_after (idle o) xs) pids (truss_after (idle o) xs).reports xs) (sym (empty-list o.pids is)) tt
+pids-handled : (o : Options) (p : Option ℕ) → slice_get o.pids 0 ≡ p → (xs : List Exchange)
+    → Makes (opening_or (idle o) (idle o) p) xs
+    → AreHandled o (due_after (opening_or (idle o) (idle o) p) xs) o.pids
+    (truss_after (opening_or (idle o) (idle o) p) xs).reports xs
+pids-handled o None is xs makes =
+    subst (λ pids. AreHandled o (due_after (idle o) xs) pids (truss_after (idle o) xs).reports xs)
+    (sym (empty-list o.pids is)) tt
 pids-handled o (Some pid) is xs makes =
     let s : TrussState = record (idle o) { begun = 1 } in
     let u : TrussState = with_stage s (OpeningControl pid) in
     let t = told-first (truss_after u xs) s pid xs (led u xs makes) in
-    subst (λ reports. AreHandled o (due_after u xs) o.pids reports xs) (sym t.is) (subst (λ pids. AreHandled o (due_after u xs) pids t.more xs) (sym (drop-some o.pids 0 pid is)) t.handled)
+    subst (λ reports. AreHandled o (due_after u xs) o.pids reports xs) (sym t.is)
+    (subst (λ pids. AreHandled o (due_after u xs) pids t.more xs) (sym (drop-some o.pids 0 pid is)) t.handled)
 
 module _ (o : Options) (program : List ℕ) where
   abbrev pub spawning : TrussState
@@ -305,35 +414,64 @@ module _ (o : Options) (program : List ℕ) where
   unfolding next_call_of call_of
   finished-none s = refl
 
-  spawn-is : (x : Exchange) (xs : List Exchange) (r : Reply) → x.call ≡ call.Spawn program true → x.reply ≡ r → xs ≡ [] → x ∷ xs ≡ record { call = call.Spawn program true; reply = r } ∷ []
-  spawn-is x xs r is answer none = ap (λ ys. x ∷ ys) none ∙ ap (λ c. record { call = c; reply = x.reply } ∷ []) is ∙ ap (λ a. record { call = call.Spawn program true; reply = a } ∷ []) answer
+  spawn-is : (x : Exchange) (xs : List Exchange) (r : Reply) → x.call ≡ call.Spawn program true → x.reply ≡ r → xs ≡ []
+      → x ∷ xs ≡ record { call = call.Spawn program true; reply = r } ∷ []
+  spawn-is x xs r is answer none =
+      ap (λ ys. x ∷ ys) none ∙ ap (λ c. record { call = c; reply = x.reply } ∷ []) is
+      ∙ ap (λ a. record { call = call.Spawn program true; reply = a } ∷ []) answer
 
-  start-refused : (x : Exchange) (xs : List Exchange) (errno : Errno) → x.call ≡ call.Spawn program true → x.reply ≡ reply.Fail errno → Makes (with_refused_start spawning program errno) xs → NotStarted program (truss_after (with_refused_start spawning program errno) xs).reports (x ∷ xs)
+  start-refused : (x : Exchange) (xs : List Exchange) (errno : Errno) → x.call ≡ call.Spawn program true
+      → x.reply ≡ reply.Fail errno → Makes (with_refused_start spawning program errno) xs
+      → NotStarted program (truss_after (with_refused_start spawning program errno) xs).reports (x ∷ xs)
   unfolding with_refused_start
   start-refused x xs errno made is makes =
       let u : TrussState = with_report spawning (CannotStart program errno) in
       let over = idle-on u refl refl in
       let none : xs ≡ [] = no-more (with_going_on u) xs (ap next_call_of over ∙ finished-none u) makes in
-      record { errno = errno; is = spawn-is x xs (reply.Fail errno) made is none; reported = ap (λ ys. (truss_after (with_going_on u) ys).reports) none ∙ ap (λ (v : TrussState). v.reports) over }
+      record {
+        errno = errno;
+        is = spawn-is x xs (reply.Fail errno) made is none;
+        reported = ap (λ ys. (truss_after (with_going_on u) ys).reports) none ∙ ap (λ (v : TrussState). v.reports) over;
+      }
 
-  start-left : (x : Exchange) (xs : List Exchange) → x.call ≡ call.Spawn program true → x.reply ≡ reply.Fail Intr → Makes (with_interrupt spawning) xs → LeftAtStart program (truss_after (with_interrupt spawning) xs).reports (x ∷ xs)
+  start-left : (x : Exchange) (xs : List Exchange) → x.call ≡ call.Spawn program true → x.reply ≡ reply.Fail Intr
+      → Makes (with_interrupt spawning) xs
+      → LeftAtStart program (truss_after (with_interrupt spawning) xs).reports (x ∷ xs)
   start-left x xs made is makes =
       let over = idle-left spawning refl in
-      let none : xs ≡ [] = no-more (with_interrupt spawning) xs (ap next_call_of over ∙ finished-none (record spawning { leaving = true })) makes in
-      record { is = spawn-is x xs (reply.Fail Intr) made is none; nothing = ap (λ ys. (truss_after (with_interrupt spawning) ys).reports) none ∙ ap (λ (v : TrussState). v.reports) over }
+      let none : xs ≡ [] =
+      no-more (with_interrupt spawning) xs (ap next_call_of over
+      ∙ finished-none (record spawning { leaving = true })) makes in
+      record {
+        is = spawn-is x xs (reply.Fail Intr) made is none;
+        nothing =
+            ap (λ ys. (truss_after (with_interrupt spawning) ys).reports) none
+            ∙ ap (λ (v : TrussState). v.reports) over;
+      }
 
-  started : (x : Exchange) (xs : List Exchange) → x.call ≡ call.Spawn program true → errno_in x.reply ≡ None → Makes (with_stage (idle o) (OpeningControl (pid_in x.reply))) xs
-      → Started o program (due_after (with_stage (idle o) (OpeningControl (pid_in x.reply))) xs) (truss_after (with_stage (idle o) (OpeningControl (pid_in x.reply))) xs).reports (x ∷ xs)
+  started : (x : Exchange) (xs : List Exchange) → x.call ≡ call.Spawn program true → errno_in x.reply ≡ None
+      → Makes (with_stage (idle o) (OpeningControl (pid_in x.reply))) xs
+      → Started o program (due_after (with_stage (idle o) (OpeningControl (pid_in x.reply))) xs)
+      (truss_after (with_stage (idle o) (OpeningControl (pid_in x.reply))) xs).reports (x ∷ xs)
   started x xs made granted makes =
       let s : TrussState = with_stage (idle o) (OpeningControl (pid_in x.reply)) in
       let t = told-first (truss_after s xs) (idle o) (pid_in x.reply) xs (led s xs makes) in
-      record { reply = x.reply; later = xs; is = ap (λ c. record { call = c; reply = x.reply } ∷ xs) made; granted = granted; handled = subst (λ reports. AreHandled o (due_after s xs) (pid_in x.reply ∷ o.pids) reports xs) (sym t.is) t.handled }
+      record {
+        reply = x.reply;
+        later = xs;
+        is = ap (λ c. record { call = c; reply = x.reply } ∷ xs) made;
+        granted = granted;
+        handled =
+            subst (λ reports. AreHandled o (due_after s xs) (pid_in x.reply ∷ o.pids) reports xs) (sym t.is) t.handled;
+      }
 
   -- what is said of the program where truss came from this state by these exchanges
   abbrev pub HandledFrom : TrussState → List Exchange → List Exchange → Type 0
   HandledFrom u xs all = IsHandledSoFar o (due_after u xs) (Some program) (truss_after u xs).reports all
 
-  start-answered : (x : Exchange) (xs : List Exchange) → x.call ≡ call.Spawn program true → (a : Answer) → IsAnswer x.reply a → Makes (with_start_answered spawning program x.reply a) xs → HandledFrom (with_start_answered spawning program x.reply a) xs (x ∷ xs)
+  start-answered : (x : Exchange) (xs : List Exchange) → x.call ≡ call.Spawn program true → (a : Answer)
+      → IsAnswer x.reply a → Makes (with_start_answered spawning program x.reply a) xs
+      → HandledFrom (with_start_answered spawning program x.reply a) xs (x ∷ xs)
   unfolding IsAnswer with_start_answered
   start-answered x xs made Accepted is makes = inl (started x xs made is makes)
   start-answered x xs made Interrupted is makes = inr (inr (inl (start-left x xs made is makes)))
@@ -348,18 +486,25 @@ module _ (o : Options) (program : List ℕ) where
   program-handled [] makes = inr (inr (inr starting))
   program-handled (x ∷ xs) makes =
       let rest = subst (λ (u : TrussState). Makes u xs) (answered-is x) makes.1 in
-      subst (λ (u : TrussState). HandledFrom u xs (x ∷ xs)) (sym (answered-is x)) (start-answered x xs (spawn-call x xs makes) (answer_of x.reply) (answer-is x.reply) rest)
+      subst (λ (u : TrussState). HandledFrom u xs (x ∷ xs)) (sym (answered-is x))
+      (start-answered x xs (spawn-call x xs makes) (answer_of x.reply) (answer-is x.reply) rest)
 
-first-handled : (o : Options) (p : Option (List ℕ)) (xs : List Exchange) → Makes (first_of_program o p) xs → IsHandledSoFar o (due_after (first_of_program o p) xs) p (truss_after (first_of_program o p) xs).reports xs
+first-handled : (o : Options) (p : Option (List ℕ)) (xs : List Exchange) → Makes (first_of_program o p) xs
+    → IsHandledSoFar o (due_after (first_of_program o p) xs) p (truss_after (first_of_program o p) xs).reports xs
 first-handled o None xs makes = pids-handled o (slice_get o.pids 0) refl xs makes
 first-handled o (Some program) xs makes = program-handled o program xs makes
 
-pub handled-so-far : (o : Options) (xs : List Exchange) → Makes (first_truss o) xs → IsHandledSoFar o (next_call_of (truss_after (first_truss o) xs)) o.program (truss_after (first_truss o) xs).reports xs
+pub handled-so-far : (o : Options) (xs : List Exchange) → Makes (first_truss o) xs
+    → IsHandledSoFar o (next_call_of (truss_after (first_truss o) xs)) o.program
+    (truss_after (first_truss o) xs).reports xs
 unfolding first_truss
 handled-so-far o xs makes = first-handled o o.program xs makes
 
 -- Where truss has finished, no call is due.
-pub given-handled : (o : Options) (xs : List Exchange) → Ends (first_truss o) xs → IsHandled o o.program (truss_after (first_truss o) xs).reports xs
-given-handled o xs e = subst (λ next. IsHandledSoFar o next o.program (truss_after (first_truss o) xs).reports xs) e.finished (handled-so-far o xs e.makes)
+pub given-handled : (o : Options) (xs : List Exchange) → Ends (first_truss o) xs
+    → IsHandled o o.program (truss_after (first_truss o) xs).reports xs
+given-handled o xs e =
+    subst (λ next. IsHandledSoFar o next o.program (truss_after (first_truss o) xs).reports xs) e.finished
+    (handled-so-far o xs e.makes)
 
 pub ruleset given = (handled-so-far, given-handled)

@@ -24,7 +24,8 @@ use Rattle.pr_truss_laws.specs.Stills.{IsHalting, KeepsMemory, with_lwp_stopped}
 -- what becomes of such a process
 pub data HaltsOn (pid : ℕ) (p : TracedProcess) (s : TracedSystem) : Type 0 where
   goes_on : (q : TracedProcess) → live_process s pid ≡ Some q → IsHalting q → KeepsMemory p q → HaltsOn pid p s
-  killed : (z : TracedProcess) → live_process s pid ≡ None → process_of s pid ≡ Some z → z.ended ≡ Some (signal_number Kill) → HaltsOn pid p s
+  killed : (z : TracedProcess) → live_process s pid ≡ None → process_of s pid ≡ Some z
+      → z.ended ≡ Some (signal_number Kill) → HaltsOn pid p s
 
 -- where others left it alone
 pub outlasts-halts : (pid : ℕ) (p : TracedProcess) (s : TracedSystem) → IsHalting p → Outlasts pid p s → HaltsOn pid p s
@@ -53,7 +54,8 @@ module _ (n : ℕ) (s : TracedState) (k pid : ℕ) (lawful : IsLawful s) (sole :
   others-in : (actor : Actor) (it : Act) → IsLegalEntry n s (record { actor = actor; act = it })
       → actor ≢ Controller k → HaltsOn pid p (after s (record { actor = actor; act = it })).system
   unfolding IsLegalEntry after
-  others-in (Controller j) (act.Call c r) legal other = elsewhere (record { actor = Controller j; act = act.Call c r }) legal (λ id same. cc) other
+  others-in (Controller j) (act.Call c r) legal other =
+      elsewhere (record { actor = Controller j; act = act.Call c r }) legal (λ id same. cc) other
   others-in (Lwp acting id) (act.Turn turned) legal other = by (cases_eq acting pid)
     where
       t : LwpTurn
@@ -66,7 +68,8 @@ module _ (n : ℕ) (s : TracedState) (k pid : ℕ) (lawful : IsLawful s) (sole :
       by (inr differs) =
           elsewhere (record { actor = Lwp acting id; act = act.Turn turned }) legal (λ other_id same. differs (cc))
           (λ same. cc)
-  others-in Clock (act.Tick m) legal other = elsewhere (record { actor = Clock; act = act.Tick m }) legal (λ id same. cc) (λ same. cc)
+  others-in Clock (act.Tick m) legal other =
+      elsewhere (record { actor = Clock; act = act.Tick m }) legal (λ id same. cc) (λ same. cc)
   others-in _ _ legal other = absurd legal
 
   -- what others do, and what its own lwps do

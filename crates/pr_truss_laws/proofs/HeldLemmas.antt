@@ -26,7 +26,8 @@ is_this h (Some x) = x == h
 
 -- how many files of the process that it traces have this handle
 unfoldable pub handles_in : ℕ → Traced → ℕ
-handles_in h t = unit (t.control == h) + unit (is_this h t.status) + unit (is_this h t.lstatus) + unit (is_this h t.memory)
+handles_in h t =
+    unit (t.control == h) + unit (is_this h t.status) + unit (is_this h t.lstatus) + unit (is_this h t.memory)
 
 unfoldable pub of_traced : ℕ → ℕ → Traced → ℕ
 of_traced pid h t = cond (t.pid == pid) (handles_in h t) 0
@@ -106,10 +107,16 @@ pub grown-one : (base : List Report) (r : Report) → Grown base (base ++ r ∷ 
 grown-one base r = record { more = r ∷ []; is = refl }
 
 pub grown-more : (base now : List Report) (r : Report) → Grown base now → Grown base (now ++ r ∷ [])
-grown-more base now r g = record { more = g.more ++ r ∷ []; is = ap (λ rs. rs ++ r ∷ []) g.is ∙ append_assoc base g.more (r ∷ []) }
+grown-more base now r g = record {
+  more = g.more ++ r ∷ [];
+  is = ap (λ rs. rs ++ r ∷ []) g.is ∙ append_assoc base g.more (r ∷ []);
+}
 
 pub grown-all : (a b c : List Report) → Grown a b → Grown b c → Grown a c
-grown-all a b c p q = record { more = p.more ++ q.more; is = q.is ∙ ap (λ rs. rs ++ q.more) p.is ∙ append_assoc a p.more q.more }
+grown-all a b c p q = record {
+  more = p.more ++ q.more;
+  is = q.is ∙ ap (λ rs. rs ++ q.more) p.is ∙ append_assoc a p.more q.more;
+}
 
 -- ---- places
 
@@ -121,10 +128,12 @@ pub set-at : (ts : List Traced) (place : ℕ) (t : Traced) → place < length ts
 set-at ts place t within = get_or-set_same ts place t nobody within
 
 -- a process becomes another one that holds so much more
-pub set-sum : (f : Traced → ℕ) (ts : List Traced) (place k : ℕ) (t : Traced) → place < length ts → f t ≡ f (at_place ts place) + k → sum_by f (slice_set ts place t) ≡ sum_by f ts + k
+pub set-sum : (f : Traced → ℕ) (ts : List Traced) (place k : ℕ) (t : Traced) → place < length ts
+    → f t ≡ f (at_place ts place) + k → sum_by f (slice_set ts place t) ≡ sum_by f ts + k
 set-sum f ts place k t within more = omega (arith, sum_by-set f ts place t nobody within)
 
-pub remove-sum : (f : Traced → ℕ) (ts : List Traced) (place : ℕ) → place < length ts → sum_by f (remove ts place) + f (at_place ts place) ≡ sum_by f ts
+pub remove-sum : (f : Traced → ℕ) (ts : List Traced) (place : ℕ) → place < length ts
+    → sum_by f (remove ts place) + f (at_place ts place) ≡ sum_by f ts
 remove-sum f ts place within = sum_by-remove f ts place nobody within
 
 pub append-sum : (f : Traced → ℕ) (ts : List Traced) (t : Traced) → sum_by f (ts ++ t ∷ []) ≡ sum_by f ts + f t

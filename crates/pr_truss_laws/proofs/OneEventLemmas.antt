@@ -24,11 +24,15 @@ use Rattle.pr_truss_laws.specs.Stills.{HasOneEvent, IsQuiet, StandsOnEvent, is_m
 
 -- ---- lists under rising ids
 
-pub under-above : {X : Type 0} (low other : ℕ) (x : X) (es : List (ℕ × X)) → rises_from low es ≡ true → under other es ≡ Some x → low ≤ other
+pub under-above : {X : Type 0} (low other : ℕ) (x : X) (es : List (ℕ × X)) → rises_from low es ≡ true
+    → under other es ≡ Some x → low ≤ other
 under-above {X} low other x es rises at = All-under (λ (e : ℕ × X). low ≤ e.0) other x es (ids-above low es rises) at
 
-pub under-later : {X : Type 0} (low other : ℕ) (x : X) (e : ℕ × X) (es : List (ℕ × X)) → rises_from low (e ∷ es) ≡ true → under other es ≡ Some x → under other (e ∷ es) ≡ Some x
-under-later low other x e es rises at = let above = under-above (e.0 + 1) other x es (rises_from-tail low e es rises) at in rw (ne_eqb e.0 other (λ same. absurd (omega arith))) at
+pub under-later : {X : Type 0} (low other : ℕ) (x : X) (e : ℕ × X) (es : List (ℕ × X)) → rises_from low (e ∷ es) ≡ true
+    → under other es ≡ Some x → under other (e ∷ es) ≡ Some x
+under-later low other x e es rises at =
+    let above = under-above (e.0 + 1) other x es (rises_from-tail low e es rises) at in
+    rw (ne_eqb e.0 other (λ same. absurd (omega arith))) at
 
 pub under-first : {X : Type 0} (e : ℕ × X) (es : List (ℕ × X)) → under e.0 (e ∷ es) ≡ Some e.1
 under-first e es = rw (eq-eqb e.0 e.0 refl) refl
@@ -37,26 +41,47 @@ both : (a b : Bool) → a ≡ true → b ≡ true → (a && b) ≡ true
 both true b p q = q
 both false b p q = p
 
-all-of : {X : Type 0} (f : ℕ × X → Bool) (low : ℕ) (es : List (ℕ × X)) → rises_from low es ≡ true → ((other : ℕ) (x : X) → under other es ≡ Some x → f (other, x) ≡ true) → list_all f es ≡ true
+all-of : {X : Type 0} (f : ℕ × X → Bool) (low : ℕ) (es : List (ℕ × X)) → rises_from low es ≡ true
+    → ((other : ℕ) (x : X) → under other es ≡ Some x → f (other, x) ≡ true) → list_all f es ≡ true
 all-of f low [] rises each = refl
-all-of f low (e ∷ es) rises each = both (f e) (list_all f es) (each e.0 e.1 (under-first e es)) (all-of f (e.0 + 1) es (rises_from-tail low e es rises) (λ other x at. each other x (under-later low other x e es rises at)))
+all-of f low (e ∷ es) rises each =
+    both (f e) (list_all f es) (each e.0 e.1 (under-first e es))
+    (all-of f (e.0 + 1) es (rises_from-tail low e es rises)
+    (λ other x at. each other x (under-later low other x e es rises at)))
 
-pub all-others : {X : Type 0} (f : ℕ × X → Bool) (low id : ℕ) (es : List (ℕ × X)) → rises_from low es ≡ true → ((other : ℕ) (x : X) → other ≢ id → under other es ≡ Some x → f (other, x) ≡ true) → list_all f (without_id id es) ≡ true
+pub all-others : {X : Type 0} (f : ℕ × X → Bool) (low id : ℕ) (es : List (ℕ × X)) → rises_from low es ≡ true
+    → ((other : ℕ) (x : X) → other ≢ id → under other es ≡ Some x → f (other, x) ≡ true)
+    → list_all f (without_id id es) ≡ true
 all-others f low id [] rises each = refl
-all-others {X} f low id (e ∷ es) rises each = by (e.0 == id) refl (all-others f (e.0 + 1) id es tail (λ other x differs at. each other x differs (under-later low other x e es rises at)))
+all-others {X} f low id (e ∷ es) rises each =
+    by (e.0 == id) refl
+    (all-others f (e.0 + 1) id es tail
+    (λ other x differs at. each other x differs (under-later low other x e es rises at)))
   where
     tail : rises_from (e.0 + 1) es ≡ true
     tail = rises_from-tail low e es rises
 
-    by : (b : Bool) → (e.0 == id) ≡ b → list_all f (without_id id es) ≡ true → list_all f (cond b es (e ∷ without_id id es)) ≡ true
-    by true is rest = all-of f (e.0 + 1) es tail (λ other x at. let above = under-above (e.0 + 1) other x es tail at in let same = eqb-true e.0 id is in each other x (λ o. absurd (omega arith)) (under-later low other x e es rises at))
-    by false is rest = both (f e) (list_all f (without_id id es)) (each e.0 e.1 (eqb-false e.0 id is) (under-first e es)) rest
+    by : (b : Bool) → (e.0 == id) ≡ b → list_all f (without_id id es) ≡ true
+        → list_all f (cond b es (e ∷ without_id id es)) ≡ true
+    by true is rest =
+        all-of f (e.0 + 1) es tail
+        (λ other x at. let above = under-above
+        (e.0 + 1) other x es tail at in let same =
+        eqb-true e.0 id is in each other x (λ o. absurd (omega arith))
+        (under-later low other x e es rises at))
+    by false is rest =
+        both (f e) (list_all f (without_id id es)) (each e.0 e.1 (eqb-false e.0 id is) (under-first e es)) rest
 
-any-here : {X : Type 0} (f : ℕ × X → Bool) (id : ℕ) (x : X) (e : ℕ × X) (es : List (ℕ × X)) → f (id, x) ≡ true → (under id es ≡ Some x → list_any f es ≡ true) → (b : Bool) → (e.0 == id) ≡ b → cond b (Some e.1) (under id es) ≡ Some x → (f e || list_any f es) ≡ true
-any-here f id x e es is later true same found = rw (ap (λ y. f (e.0, y)) (same_Some e.1 x found) ∙ ap (λ n. f (n, x)) (eqb-true e.0 id same) ∙ is) refl
-any-here f id x e es is later false differs found = elim (f e) as (λ b. (b || list_any f es) ≡ true) [ true ↦ refl | false ↦ later found ]
+any-here : {X : Type 0} (f : ℕ × X → Bool) (id : ℕ) (x : X) (e : ℕ × X) (es : List (ℕ × X)) → f (id, x) ≡ true
+    → (under id es ≡ Some x → list_any f es ≡ true) → (b : Bool) → (e.0 == id) ≡ b
+    → cond b (Some e.1) (under id es) ≡ Some x → (f e || list_any f es) ≡ true
+any-here f id x e es is later true same found =
+    rw (ap (λ y. f (e.0, y)) (same_Some e.1 x found) ∙ ap (λ n. f (n, x)) (eqb-true e.0 id same) ∙ is) refl
+any-here f id x e es is later false differs found =
+    elim (f e) as (λ b. (b || list_any f es) ≡ true) [ true ↦ refl | false ↦ later found ]
 
-any-under : {X : Type 0} (f : ℕ × X → Bool) (id : ℕ) (x : X) (es : List (ℕ × X)) → under id es ≡ Some x → f (id, x) ≡ true → list_any f es ≡ true
+any-under : {X : Type 0} (f : ℕ × X → Bool) (id : ℕ) (x : X) (es : List (ℕ × X)) → under id es ≡ Some x
+    → f (id, x) ≡ true → list_any f es ≡ true
 any-under f id x [] at is = absurd (none-some x at)
 any-under f id x (e ∷ es) at is = any-here f id x e es is (λ found. any-under f id x es found is) (e.0 == id) refl at
 
@@ -85,7 +110,8 @@ pub or-some : {X : Type 0} (a b : Option X) → is_some a ≡ true → is_some (
 or-some None b is = cc
 or-some (Some x) b is = refl
 
-find-here : {X : Type 0} (f : X → Bool) (x : X) (xs : List X) → (list_any f xs ≡ true → is_some (find f xs) ≡ true) → (b : Bool) → (b || list_any f xs) ≡ true → is_some (cond b (Some x) (find f xs)) ≡ true
+find-here : {X : Type 0} (f : X → Bool) (x : X) (xs : List X) → (list_any f xs ≡ true → is_some (find f xs) ≡ true)
+    → (b : Bool) → (b || list_any f xs) ≡ true → is_some (cond b (Some x) (find f xs)) ≡ true
 find-here f x xs later true is = refl
 find-here f x xs later false is = later is
 
@@ -93,17 +119,22 @@ find-some : {X : Type 0} (f : X → Bool) (xs : List X) → list_any f xs ≡ tr
 find-some f [] is = cc
 find-some f (x ∷ xs) is = find-here f x xs (find-some f xs) (f x) is
 
-module _ (p : TracedProcess) (id : ℕ) (rises : IsRising p.lwps) (no_agent : has_agent p ≡ false) (one : HasOneEvent p id) where
+module _ (p : TracedProcess) (id : ℕ) (rises : IsRising p.lwps) (no_agent : has_agent p ≡ false)
+    (one : HasOneEvent p id) where
   in-third : is_some (first_in_class p.job_stop 3 p.lwps) ≡ true
   unfolding first_in_class
-  in-third = find-some (is_in_class p.job_stop 3) p.lwps (any-under (is_in_class p.job_stop 3) id one.lwp p.lwps one.there (eq-eqb (class_of p.job_stop one.lwp) 3 (event-class one.lwp p.job_stop one.stands)))
+  in-third =
+      find-some (is_in_class p.job_stop 3) p.lwps
+      (any-under (is_in_class p.job_stop 3) id one.lwp p.lwps one.there
+      (eq-eqb (class_of p.job_stop one.lwp) 3 (event-class one.lwp p.job_stop one.stands)))
 
   has-representative : is_some (representative p) ≡ true
   unfolding representative
   has-representative =
       let c : ℕ → Option (ℕ × TracedLwp) = λ k. first_in_class p.job_stop k p.lwps in
       let two : Option (ℕ × TracedLwp) = option_or (option_or (agent_of p) (c 1)) (c 2) in
-      or-some (option_or (option_or two (c 3)) (c 4)) (c 5) (or-some (option_or two (c 3)) (c 4) (some-or two (c 3) in-third))
+      or-some (option_or (option_or two (c 3)) (c 4)) (c 5)
+      (or-some (option_or two (c 3)) (c 4) (some-or two (c 3) in-third))
 
   agent-none : (o : Option TracedLwp) → is_some o ≡ false → o ≡ None
   agent-none None is = refl
@@ -113,23 +144,31 @@ module _ (p : TracedProcess) (id : ℕ) (rises : IsRising p.lwps) (no_agent : ha
   unfolding class_of
   leads e is =
       let first = representative-leads p e rises (agent-none (lwp_of p agent_id) no_agent) is in
-      elim (cases_Bool (e.0 == id)) [ inl same ↦ eqb-true e.0 id same | inr not_same ↦ absurd (too-great first (eqb-false e.0 id not_same)) ]
+      elim (cases_Bool (e.0 == id)) [
+        | inl same ↦ eqb-true e.0 id same
+        | inr not_same ↦ absurd
+            (too-great first (eqb-false e.0 id not_same))
+      ]
     where
       too-great : IsFirstOfClasses p e → e.0 ≢ id → ⊥
       too-great first differs =
-          let before : IsBefore p.job_stop e (id, one.lwp) = All-under (IsBefore p.job_stop e) id one.lwp p.lwps first.first one.there in
+          let before : IsBefore p.job_stop e (id, one.lwp) =
+          All-under (IsBefore p.job_stop e) id one.lwp p.lwps first.first one.there in
           let low = run-class (shown p.job_stop e.1) (one.others e.0 e.1 differs first.stands) in
           omega (arith, before.class, event-class one.lwp p.job_stop one.stands, low)
 
   -- the representative is the lwp that stands on the event
   found : (e : ℕ × TracedLwp) → representative p ≡ Some e → e.1 ≡ one.lwp
-  found e is = same_Some e.1 one.lwp (sym (representative-stands p e rises is) ∙ ap (λ n. lwp_of p n) (leads e is) ∙ one.there)
+  found e is =
+      same_Some e.1 one.lwp (sym (representative-stands p e rises is) ∙ ap (λ n. lwp_of p n) (leads e is) ∙ one.there)
 
   on-event : (e : ℕ × TracedLwp) → representative p ≡ Some e → has_event_stop e.1 ≡ true
   on-event e is = ap has_event_stop (found e is) ∙ ap (λ o. is_some o) one.stands.is
 
   others-run : (e : ℕ × TracedLwp) → representative p ≡ Some e → others_let_run p e.0 ≡ true
-  others-run e is = all-others (shows_run p.job_stop) 0 e.0 p.lwps rises (λ other k differs at. one.others other k (λ same. differs (same ∙ sym (leads e is))) at)
+  others-run e is =
+      all-others (shows_run p.job_stop) 0 e.0 p.lwps rises
+      (λ other k differs at. one.others other k (λ same. differs (same ∙ sym (leads e is))) at)
 
   with-found : {P : Type 0} → ((e : ℕ × TracedLwp) → representative p ≡ Some e → P) → P
   with-found {P} f = by (representative p) refl has-representative

@@ -38,7 +38,11 @@ pub record SameBase (s u : TrussState) : Type 0 where
   pub reports : u.reports ≡ s.reports
 
 pub same-base : (s u v : TrussState) → SameBase s u → SameBase u v → SameBase s v
-same-base s u v p q = record { options = q.options ∙ p.options; begun = q.begun ∙ p.begun; reports = q.reports ∙ p.reports }
+same-base s u v p q = record {
+  options = q.options ∙ p.options;
+  begun = q.begun ∙ p.begun;
+  reports = q.reports ∙ p.reports;
+}
 
 pub ends-later : (s : TrussState) (x : Exchange) (xs : List Exchange) → Ends s (x ∷ xs) → Ends (fed s x.reply) xs
 ends-later s x xs ends = record { makes = ends.makes.1; finished = ends.finished }
@@ -62,7 +66,8 @@ module _ (f : TrussState) where
     pub same : SameBase s state
     pub ends : Leads (with_next_opening state) later
 
-  pub record Stopped (s : TrussState) (t : Traced) (step : Option OpeningStep) (errno : Errno) (xs : List Exchange) : Type 0 where
+  pub record Stopped (s : TrussState) (t : Traced) (step : Option OpeningStep) (errno : Errno)
+      (xs : List Exchange) : Type 0 where
     pub opening : List Exchange
     pub later : List Exchange
     pub is : xs ≡ opening ++ later
@@ -109,19 +114,29 @@ module _ (f : TrussState) where
       opening = x ∷ d.opening;
       later = d.later;
       is = ap (λ ys. x ∷ ys) d.is;
-      goes = (call, subst (λ o. GoesToEnd o (learnt t x.reply step) (step_after s.options x.reply step) d.opening) same.options d.goes);
+      goes = (
+        call,
+        subst
+            (λ o. GoesToEnd o (learnt t x.reply step)
+            (step_after s.options x.reply step) d.opening) same.options d.goes,
+      );
       granted = All-granted d.opening d.granted;
       state = d.state;
       same = same-base s u d.state same d.same;
       ends = d.ends;
     }
 
-    stopped-more : (errno : Errno) → Stopped u (learnt t x.reply step) (step_after s.options x.reply step) errno xs → Stopped s t (Some step) errno (x ∷ xs)
+    stopped-more : (errno : Errno) → Stopped u (learnt t x.reply step) (step_after s.options x.reply step) errno xs
+        → Stopped s t (Some step) errno (x ∷ xs)
     stopped-more errno d = record {
       opening = x ∷ d.opening;
       later = d.later;
       is = ap (λ ys. x ∷ ys) d.is;
-      goes = (call, subst (λ o. Goes o (learnt t x.reply step) (step_after s.options x.reply step) d.opening) same.options d.goes);
+      goes = (
+        call,
+        subst
+            (λ o. Goes o (learnt t x.reply step) (step_after s.options x.reply step) d.opening) same.options d.goes,
+      );
       before = x ∷ d.before;
       call = d.call;
       last = ap (λ ys. x ∷ ys) d.last;
@@ -132,12 +147,18 @@ module _ (f : TrussState) where
     going-more d = record {
       next = d.next;
       due = d.due;
-      goes = (call, subst (λ o. Goes o (learnt t x.reply step) (step_after s.options x.reply step) (xs ++ record { call = d.next; reply = reply.Done } ∷ [])) same.options d.goes);
+      goes = (
+        call,
+        subst
+            (λ o. Goes o (learnt t x.reply step) (step_after s.options x.reply step)
+            (xs ++ record { call = d.next; reply = reply.Done } ∷ [])) same.options d.goes,
+      );
       granted = All-granted xs d.granted;
       reports = d.reports ∙ same.reports;
     }
 
-    end-more : OpeningEnd u (learnt t x.reply step) (step_after s.options x.reply step) xs → OpeningEnd s t (Some step) (x ∷ xs)
+    end-more : OpeningEnd u (learnt t x.reply step) (step_after s.options x.reply step) xs
+        → OpeningEnd s t (Some step) (x ∷ xs)
     unfolding stopped-more
     end-more (done d) = done (done-more d)
     end-more (left d) = left (stopped-more Intr d)
@@ -148,7 +169,10 @@ module _ (f : TrussState) where
       state = d.state;
       place = d.place;
       same = same-base s u d.state same d.same;
-      ends = subst (λ pid. Leads (with_stage (with_report d.state (CannotTrace pid d.errno)) (Closing d.place OpenNext)) d.stopped.later) (learnt-pid t x.reply step) d.ends;
+      ends =
+          subst (λ pid. Leads
+          (with_stage (with_report d.state (CannotTrace pid d.errno)) (Closing d.place OpenNext)) d.stopped.later)
+          (learnt-pid t x.reply step) d.ends;
     })
 
   same-self : (s : TrussState) → SameBase s s
@@ -159,7 +183,8 @@ module _ (f : TrussState) where
   goes-none o u (Some next) = tt
 
   -- the call that was refused
-  stopped-here : (s : TrussState) (t : Traced) (step : OpeningStep) (x : Exchange) (xs : List Exchange) (errno : Errno) → x.call ≡ opening_call s.options t step → x.reply ≡ reply.Fail errno → Stopped s t (Some step) errno (x ∷ xs)
+  stopped-here : (s : TrussState) (t : Traced) (step : OpeningStep) (x : Exchange) (xs : List Exchange) (errno : Errno)
+      → x.call ≡ opening_call s.options t step → x.reply ≡ reply.Fail errno → Stopped s t (Some step) errno (x ∷ xs)
   stopped-here s t step x xs errno call is = record {
     opening = x ∷ [];
     later = xs;
@@ -172,7 +197,8 @@ module _ (f : TrussState) where
   }
 
   -- nothing more to be done: the opening is whole
-  done-none : (s u : TrussState) (t : Traced) (xs : List Exchange) → SameBase s u → Leads (with_next_opening u) xs → OpeningEnd s t None xs
+  done-none : (s u : TrussState) (t : Traced) (xs : List Exchange) → SameBase s u → Leads (with_next_opening u) xs
+      → OpeningEnd s t None xs
   done-none s u t xs same ends = done (record {
     opening = [];
     later = xs;
@@ -187,16 +213,21 @@ module _ (f : TrussState) where
   pub leads-later : (s : TrussState) (x : Exchange) (xs : List Exchange) → Leads s (x ∷ xs) → Leads (fed s x.reply) xs
   leads-later s x xs l = record { makes = l.makes.1; last = l.last }
 
-  next-call : (s : TrussState) (place : ℕ) (step : OpeningStep) (x : Exchange) (xs : List Exchange) → Leads (with_stage s (Opening place step)) (x ∷ xs) → x.call ≡ opening_call s.options (traced_at s place) step
+  next-call : (s : TrussState) (place : ℕ) (step : OpeningStep) (x : Exchange) (xs : List Exchange)
+      → Leads (with_stage s (Opening place step)) (x ∷ xs) → x.call ≡ opening_call s.options (traced_at s place) step
   unfolding next_call_of call_of
-  next-call s place step x xs ends = same_Some x.call (opening_call s.options (traced_at s place) step) (sym ends.makes.0)
+  next-call s place step x xs ends =
+      same_Some x.call (opening_call s.options (traced_at s place) step) (sym ends.makes.0)
 
-  step-answered : (s : TrussState) (place : ℕ) (step : OpeningStep) (x : Exchange) (xs : List Exchange) → Leads (with_stage s (Opening place step)) (x ∷ xs) → Leads (with_step_answered (with_stage s (Opening place step)) place step x.reply (answer_of x.reply)) xs
+  step-answered : (s : TrussState) (place : ℕ) (step : OpeningStep) (x : Exchange) (xs : List Exchange)
+      → Leads (with_stage s (Opening place step)) (x ∷ xs)
+      → Leads (with_step_answered (with_stage s (Opening place step)) place step x.reply (answer_of x.reply)) xs
   unfolding fed with_reply
   step-answered s place step x xs ends = leads-later (with_stage s (Opening place step)) x xs ends
 
   -- no more calls were made
-  going-here : (s : TrussState) (t : Traced) (place : ℕ) (step : OpeningStep) → traced_at s place ≡ t → Leads (with_stage s (Opening place step)) [] → Going s t (Some step) []
+  going-here : (s : TrussState) (t : Traced) (place : ℕ) (step : OpeningStep) → traced_at s place ≡ t
+      → Leads (with_stage s (Opening place step)) [] → Going s t (Some step) []
   unfolding next_call_of call_of
   going-here s t place step at ends = record {
     next = opening_call s.options t step;
@@ -207,13 +238,18 @@ module _ (f : TrussState) where
   }
 
   -- the process at a place, after it became another one
-  pub traced-there : (s : TrussState) (place : ℕ) (t : Traced) → place < length s.traced → traced_at (with_traced s place t) place ≡ t
+  pub traced-there : (s : TrussState) (place : ℕ) (t : Traced) → place < length s.traced
+      → traced_at (with_traced s place t) place ≡ t
   traced-there s place t within = get_or-set_same s.traced place t nobody within
 
-  pub traced-count : (s : TrussState) (place : ℕ) (t : Traced) → place < length s.traced → place < length (with_traced s place t).traced
+  pub traced-count : (s : TrussState) (place : ℕ) (t : Traced) → place < length s.traced
+      → place < length (with_traced s place t).traced
   traced-count s place t within = omega (arith, length-set s.traced place t)
 
-  failed-here : (s : TrussState) (t : Traced) (place : ℕ) (step : OpeningStep) (x : Exchange) (xs : List Exchange) (errno : Errno) → x.call ≡ opening_call s.options t step → x.reply ≡ reply.Fail errno → traced_at s place ≡ t → Leads (with_refused_step (with_stage s (Opening place step)) place errno) xs → OpeningEnd s t (Some step) (x ∷ xs)
+  failed-here : (s : TrussState) (t : Traced) (place : ℕ) (step : OpeningStep) (x : Exchange) (xs : List Exchange)
+      (errno : Errno) → x.call ≡ opening_call s.options t step → x.reply ≡ reply.Fail errno → traced_at s place ≡ t
+      → Leads (with_refused_step (with_stage s (Opening place step)) place errno) xs
+      → OpeningEnd s t (Some step) (x ∷ xs)
   unfolding with_refused_step stopped-here
   failed-here s t place step x xs errno call is at ends = failed (record {
     errno = errno;
@@ -221,37 +257,60 @@ module _ (f : TrussState) where
     state = with_stage s (Opening place step);
     place = place;
     same = record { options = refl; begun = refl; reports = refl };
-    ends = subst (λ (u : Traced). Leads (with_stage (with_report s (CannotTrace u.pid errno)) (Closing place OpenNext)) xs) at ends;
+    ends =
+        subst (λ (u : Traced). Leads
+        (with_stage (with_report s (CannotTrace u.pid errno)) (Closing place OpenNext)) xs) at ends;
   })
 
   -- what comes after a call that was granted, if each next step ends so
-  accepted : (s : TrussState) (t : Traced) (place : ℕ) (step : OpeningStep) (x : Exchange) (xs : List Exchange) → place < length s.traced → traced_at s place ≡ t
-      → ((u : TrussState) (v : Traced) (next : OpeningStep) → place < length u.traced → traced_at u place ≡ v → Leads (with_stage u (Opening place next)) xs → OpeningEnd u v (Some next) xs)
+  accepted : (s : TrussState) (t : Traced) (place : ℕ) (step : OpeningStep) (x : Exchange) (xs : List Exchange)
+      → place < length s.traced → traced_at s place ≡ t
+      → ((u : TrussState) (v : Traced) (next : OpeningStep) → place < length u.traced → traced_at u place ≡ v → Leads
+      (with_stage u (Opening place next)) xs → OpeningEnd u v (Some next) xs)
       → Leads (with_step_done (with_stage s (Opening place step)) place x.reply step) xs
       → x.call ≡ opening_call s.options t step → errno_in x.reply ≡ None → OpeningEnd s t (Some step) (x ∷ xs)
   unfolding with_step_done
   accepted s t place step x xs within at later ends call granted =
       let u : TrussState = with_traced (with_stage s (Opening place step)) place (learnt t x.reply step) in
       let same : SameBase s u = record { options = refl; begun = refl; reports = refl } in
-      let goes_on : Leads (at_step u place (step_after s.options x.reply step)) xs = subst (λ (v : Traced). Leads (at_step (with_traced (with_stage s (Opening place step)) place (learnt v x.reply step)) place (step_after s.options x.reply step)) xs) at ends in
-      let rest : (next : Option OpeningStep) → Leads (at_step u place next) xs → OpeningEnd u (learnt t x.reply step) next xs =
-      λ next. elim next as (λ n. Leads (at_step u place n) xs → OpeningEnd u (learnt t x.reply step) n xs) [ None ↦ λ e. done-none u u (learnt t x.reply step) xs (same-self u) e | Some n ↦ λ e. later u (learnt t x.reply step) n (traced-count s place (learnt t x.reply step) within) (traced-there s place (learnt t x.reply step) within) e ] in
+      let goes_on : Leads (at_step u place (step_after s.options x.reply step)) xs =
+      subst (λ (v : Traced). Leads
+      (at_step (with_traced (with_stage s (Opening place step)) place (learnt v x.reply step)) place
+      (step_after s.options x.reply step)) xs) at ends in
+      let rest : (next : Option OpeningStep) → Leads (at_step u place next) xs
+      → OpeningEnd u (learnt t x.reply step) next xs =
+      λ next. elim next as
+      (λ n. Leads (at_step u place n) xs → OpeningEnd u (learnt t x.reply step) n xs) [
+        | None ↦ λ e. done-none u u
+            (learnt t x.reply step) xs (same-self u) e
+        | Some n ↦ λ e. later u (learnt t x.reply step) n
+            (traced-count s place (learnt t x.reply step) within)
+            (traced-there s place (learnt t x.reply step) within) e
+      ] in
       end-more s u t step x xs call granted same (rest (step_after s.options x.reply step) goes_on)
 
-  answered : (s : TrussState) (t : Traced) (place : ℕ) (step : OpeningStep) (x : Exchange) (xs : List Exchange) → place < length s.traced → traced_at s place ≡ t
-      → ((u : TrussState) (v : Traced) (next : OpeningStep) → place < length u.traced → traced_at u place ≡ v → Leads (with_stage u (Opening place next)) xs → OpeningEnd u v (Some next) xs)
-      → (a : Answer) → IsAnswer x.reply a → Leads (with_step_answered (with_stage s (Opening place step)) place step x.reply a) xs
+  answered : (s : TrussState) (t : Traced) (place : ℕ) (step : OpeningStep) (x : Exchange) (xs : List Exchange)
+      → place < length s.traced → traced_at s place ≡ t
+      → ((u : TrussState) (v : Traced) (next : OpeningStep) → place < length u.traced → traced_at u place ≡ v → Leads
+      (with_stage u (Opening place next)) xs → OpeningEnd u v (Some next) xs)
+      → (a : Answer) → IsAnswer x.reply a
+      → Leads (with_step_answered (with_stage s (Opening place step)) place step x.reply a) xs
       → x.call ≡ opening_call s.options t step → OpeningEnd s t (Some step) (x ∷ xs)
   unfolding IsAnswer with_step_answered
-  answered s t place step x xs within at later Accepted is ends call = accepted s t place step x xs within at later ends call is
+  answered s t place step x xs within at later Accepted is ends call =
+      accepted s t place step x xs within at later ends call is
   answered s t place step x xs within at later Interrupted is ends call = left (stopped-here s t step x xs Intr call is)
   answered s t place step x xs within at later Gone is ends call = failed-here s t place step x xs Noent call is at ends
-  answered s t place step x xs within at later (Refused errno) is ends call = failed-here s t place step x xs errno call is at ends
+  answered s t place step x xs within at later (Refused errno) is ends call =
+      failed-here s t place step x xs errno call is at ends
 
-  pub opening-end : (xs : List Exchange) (s : TrussState) (t : Traced) (place : ℕ) (step : OpeningStep) → place < length s.traced → traced_at s place ≡ t → Leads (with_stage s (Opening place step)) xs → OpeningEnd s t (Some step) xs
+  pub opening-end : (xs : List Exchange) (s : TrussState) (t : Traced) (place : ℕ) (step : OpeningStep)
+      → place < length s.traced → traced_at s place ≡ t → Leads (with_stage s (Opening place step)) xs
+      → OpeningEnd s t (Some step) xs
   opening-end [] s t place step within at ends = going (going-here s t place step at ends)
   opening-end (x ∷ xs) s t place step within at ends =
-      answered s t place step x xs within at (λ u v next. opening-end xs u v place next) (answer_of x.reply) (answer-is x.reply) (step-answered s place step x xs ends)
+      answered s t place step x xs within at (λ u v next. opening-end xs u v place next) (answer_of x.reply)
+      (answer-is x.reply) (step-answered s place step x xs ends)
       (subst (λ (u : Traced). x.call ≡ opening_call s.options u step) at (next-call s place step x xs ends))
 
   -- ---- closing
@@ -286,15 +345,23 @@ module _ (f : TrussState) where
     reports = ap (λ (u : TrussState). u.reports) (sym ends.last);
   }
 
-  close-call : (s : TrussState) (place : ℕ) (x : Exchange) (xs : List Exchange) → Leads (with_stage s (Closing place OpenNext)) (x ∷ xs) → IsClose x
+  close-call : (s : TrussState) (place : ℕ) (x : Exchange) (xs : List Exchange)
+      → Leads (with_stage s (Closing place OpenNext)) (x ∷ xs) → IsClose x
   unfolding next_call_of call_of
-  close-call s place x xs ends = record { handle = last_handle (traced_at s place); is = same_Some x.call (call.Close (last_handle (traced_at s place))) (sym ends.makes.0) }
+  close-call s place x xs ends = record {
+    handle = last_handle (traced_at s place);
+    is = same_Some x.call (call.Close (last_handle (traced_at s place))) (sym ends.makes.0);
+  }
 
-  close-answered : (s : TrussState) (place : ℕ) (x : Exchange) (xs : List Exchange) → Leads (with_stage s (Closing place OpenNext)) (x ∷ xs) → Leads (closed_or_removed (with_stage s (Closing place OpenNext)) place OpenNext (without_last (traced_at s place))) xs
+  close-answered : (s : TrussState) (place : ℕ) (x : Exchange) (xs : List Exchange)
+      → Leads (with_stage s (Closing place OpenNext)) (x ∷ xs)
+      → Leads (closed_or_removed (with_stage s (Closing place OpenNext)) place OpenNext
+      (without_last (traced_at s place))) xs
   unfolding fed with_reply with_closed
   close-answered s place x xs ends = leads-later (with_stage s (Closing place OpenNext)) x xs ends
 
-  closed-more : (s u : TrussState) (x : Exchange) (xs : List Exchange) → IsClose x → SameBase s u → ClosingEnd u xs → ClosingEnd s (x ∷ xs)
+  closed-more : (s u : TrussState) (x : Exchange) (xs : List Exchange) → IsClose x → SameBase s u → ClosingEnd u xs
+      → ClosingEnd s (x ∷ xs)
   closed-more s u x xs close same (closed c) = closed (record {
     closings = x ∷ c.closings;
     later = c.later;
@@ -304,9 +371,16 @@ module _ (f : TrussState) where
     same = same-base s u c.state same c.same;
     ends = c.ends;
   })
-  closed-more s u x xs close same (closing c) = closing (record { handle = c.handle; due = c.due; closes = All-cons IsClose x xs close c.closes; reports = c.reports ∙ same.reports })
+  closed-more s u x xs close same (closing c) =
+      closing (record {
+        handle = c.handle;
+        due = c.due;
+        closes = All-cons IsClose x xs close c.closes;
+        reports = c.reports ∙ same.reports;
+      })
 
-  closed-last : (s u : TrussState) (x : Exchange) (xs : List Exchange) → IsClose x → SameBase s u → Leads (after_closing u OpenNext) xs → Closed s (x ∷ xs)
+  closed-last : (s u : TrussState) (x : Exchange) (xs : List Exchange) → IsClose x → SameBase s u
+      → Leads (after_closing u OpenNext) xs → Closed s (x ∷ xs)
   unfolding after_closing
   closed-last s u x xs close same ends = record {
     closings = x ∷ [];
@@ -318,14 +392,20 @@ module _ (f : TrussState) where
     ends = ends;
   }
 
-  closed-answered : (s : TrussState) (place : ℕ) (x : Exchange) (xs : List Exchange) → IsClose x → ((u : TrussState) → Leads (with_stage u (Closing place OpenNext)) xs → ClosingEnd u xs)
-      → (left : Option Traced) → Leads (closed_or_removed (with_stage s (Closing place OpenNext)) place OpenNext left) xs → ClosingEnd s (x ∷ xs)
-  closed-answered s place x xs close later None ends = closed (closed-last s (without_traced (with_stage s (Closing place OpenNext)) place) x xs close (record { options = refl; begun = refl; reports = refl }) ends)
+  closed-answered : (s : TrussState) (place : ℕ) (x : Exchange) (xs : List Exchange) → IsClose x
+      → ((u : TrussState) → Leads (with_stage u (Closing place OpenNext)) xs → ClosingEnd u xs)
+      → (left : Option Traced)
+      → Leads (closed_or_removed (with_stage s (Closing place OpenNext)) place OpenNext left) xs → ClosingEnd s (x ∷ xs)
+  closed-answered s place x xs close later None ends =
+      closed (closed-last s (without_traced (with_stage s (Closing place OpenNext)) place) x xs close
+      (record { options = refl; begun = refl; reports = refl }) ends)
   closed-answered s place x xs close later (Some t) ends =
       let u : TrussState = with_traced s place t in
       closed-more s u x xs close (record { options = refl; begun = refl; reports = refl }) (later u ends)
 
-  pub closing-end : (xs : List Exchange) (s : TrussState) (place : ℕ) → Leads (with_stage s (Closing place OpenNext)) xs → ClosingEnd s xs
+  pub closing-end : (xs : List Exchange) (s : TrussState) (place : ℕ)
+      → Leads (with_stage s (Closing place OpenNext)) xs → ClosingEnd s xs
   closing-end [] s place ends = closing (closes-here s place ends)
   closing-end (x ∷ xs) s place ends =
-      closed-answered s place x xs (close-call s place x xs ends) (λ u. closing-end xs u place) (without_last (traced_at s place)) (close-answered s place x xs ends)
+      closed-answered s place x xs (close-call s place x xs ends) (λ u. closing-end xs u place)
+      (without_last (traced_at s place)) (close-answered s place x xs ends)

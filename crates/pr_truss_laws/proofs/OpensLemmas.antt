@@ -25,11 +25,14 @@ use Rattle.pr_file.proofs.PlaceLemmas.{slice_get-set_other, slice_get-set_same}
 -- ---- one handle more, and one less
 
 -- the handles of a controller, where another one stands at a place
-pub own-other : (opens : Places) (k place number : ℕ) (o : Option Held) → place ≢ number → handle_of (slice_set opens place o) k number ≡ handle_of opens k number
+pub own-other : (opens : Places) (k place number : ℕ) (o : Option Held) → place ≢ number
+    → handle_of (slice_set opens place o) k number ≡ handle_of opens k number
 unfolding handle_of
-own-other opens k place number o other = ap (own k) (slice_get-set_other opens place number o (λ same. other (sym same)))
+own-other opens k place number o other =
+    ap (own k) (slice_get-set_other opens place number o (λ same. other (sym same)))
 
-pub own-set : (opens : Places) (k place : ℕ) (o x : Option Held) → slice_get opens place ≡ Some x → handle_of (slice_set opens place o) k place ≡ own k (Some o)
+pub own-set : (opens : Places) (k place : ℕ) (o x : Option Held) → slice_get opens place ≡ Some x
+    → handle_of (slice_set opens place o) k place ≡ own k (Some o)
 unfolding handle_of
 own-set opens k place o x at = ap (own k) (slice_get-set_same opens place x o at)
 
@@ -52,7 +55,8 @@ own-controller k (Some (Some g)) h is = by (g.controller == k) refl is
     by true its e = ap (λ (x : Held). x.controller) (sym (same_Some g h e)) ∙ eqb-true g.controller k its
     by false its e = absurd (none-some h e)
 
-pub handle-controller : (opens : Places) (k number : ℕ) (h : Held) → handle_of opens k number ≡ Some h → h.controller ≡ k
+pub handle-controller : (opens : Places) (k number : ℕ) (h : Held) → handle_of opens k number ≡ Some h
+    → h.controller ≡ k
 unfolding handle_of
 handle-controller opens k number h is = own-controller k (slice_get opens number) h is
 
@@ -87,25 +91,63 @@ pub record ClosesOne (s : TracedState) (by number : ℕ) (h : Held) (a : Answer)
 abbrev pub held_by : ℕ → ℕ → ℕ → File → Mode → Held
 held_by by pid id file mode = record { controller = by; pid = pid; lwp = id; file = file; mode = mode }
 
-open-does : (s : TracedState) (by : ℕ) (h : Held) → (refusal : Option Errno) → open_refusal s h.pid h.lwp h.file h.mode ≡ refusal → (a : Answer) → open_unless s h refusal ≡ a → Refuses s a.reply a.state.opens ⊎ Opens s by h a.reply a.state.opens
+open-does : (s : TracedState) (by : ℕ) (h : Held) → (refusal : Option Errno)
+    → open_refusal s h.pid h.lwp h.file h.mode ≡ refusal → (a : Answer) → open_unless s h refusal ≡ a
+    → Refuses s a.reply a.state.opens ⊎ Opens s by h a.reply a.state.opens
 unfolding with_opened
-open-does s by h (Some e) is a at = inl (record { errno = e; reply = ap (λ (x : Answer). x.reply) (sym at); is = ap (λ (x : Answer). x.state.opens) (sym at) })
+open-does s by h (Some e) is a at =
+    inl (record {
+      errno = e;
+      reply = ap (λ (x : Answer). x.reply) (sym at);
+      is = ap (λ (x : Answer). x.state.opens) (sym at);
+    })
 open-does s by h None is a at = by_place (position is_none s.opens) refl at
   where
-    by_place : (p : Option ℕ) → position is_none s.opens ≡ p → opened s h p ≡ a → Refuses s a.reply a.state.opens ⊎ Opens s by h a.reply a.state.opens
-    by_place None there e = inl (record { errno = _; reply = ap (λ (x : Answer). x.reply) (sym e); is = ap (λ (x : Answer). x.state.opens) (sym e) })
-    by_place (Some place) there e = inr (record { place = place; reply = ap (λ (x : Answer). x.reply) (sym e); free = free-at s.opens place there; allowed = is; is = ap (λ (x : Answer). x.state.opens) (sym e) })
+    by_place : (p : Option ℕ) → position is_none s.opens ≡ p → opened s h p ≡ a
+        → Refuses s a.reply a.state.opens ⊎ Opens s by h a.reply a.state.opens
+    by_place None there e =
+        inl (record {
+          errno = _;
+          reply = ap (λ (x : Answer). x.reply) (sym e);
+          is = ap (λ (x : Answer). x.state.opens) (sym e);
+        })
+    by_place (Some place) there e =
+        inr (record {
+          place = place;
+          reply = ap (λ (x : Answer). x.reply) (sym e);
+          free = free-at s.opens place there;
+          allowed = is;
+          is = ap (λ (x : Answer). x.state.opens) (sym e);
+        })
 
-pub open-opens : (s : TracedState) (by pid id : ℕ) (file : File) (mode : Mode) (a : Answer) → answer_to s by (call.Open pid id file mode) ≡ Some a → Refuses s a.reply a.state.opens ⊎ Opens s by (held_by by pid id file mode) a.reply a.state.opens
+pub open-opens : (s : TracedState) (by pid id : ℕ) (file : File) (mode : Mode) (a : Answer)
+    → answer_to s by (call.Open pid id file mode) ≡ Some a
+    → Refuses s a.reply a.state.opens ⊎ Opens s by (held_by by pid id file mode) a.reply a.state.opens
 unfolding answer_to open_answer
-open-opens s by pid id file mode a is = open-does s by (held_by by pid id file mode) (open_refusal s pid id file mode) refl a (same_Some _ a is)
+open-opens s by pid id file mode a is =
+    open-does s by (held_by by pid id file mode) (open_refusal s pid id file mode) refl a (same_Some _ a is)
 
-close-does : (s : TracedState) (by number : ℕ) → (o : Option Held) → handle_of s.opens by number ≡ o → (a : Answer) → close_held s number o ≡ a → NotOpen s by number a ⊎ ((h : Held) × ClosesOne s by number h a)
+close-does : (s : TracedState) (by number : ℕ) → (o : Option Held) → handle_of s.opens by number ≡ o → (a : Answer)
+    → close_held s number o ≡ a → NotOpen s by number a ⊎ ((h : Held) × ClosesOne s by number h a)
 unfolding with_closed
-close-does s by number None is a at = inl (record { none = is; is = ap (λ (x : Answer). x.state.opens) (sym at); system = ap (λ (x : Answer). x.state.system) (sym at) })
-close-does s by number (Some h) is a at = inr (h, record { held = is; state = ap (λ (x : Answer). x.state) (sym at); is = ap (λ (x : Answer). x.state.opens) (sym at) })
+close-does s by number None is a at =
+    inl (record {
+      none = is;
+      is = ap (λ (x : Answer). x.state.opens) (sym at);
+      system = ap (λ (x : Answer). x.state.system) (sym at);
+    })
+close-does s by number (Some h) is a at =
+    inr (
+      h,
+      record {
+        held = is;
+        state = ap (λ (x : Answer). x.state) (sym at);
+        is = ap (λ (x : Answer). x.state.opens) (sym at);
+      },
+    )
 
-pub close-closes : (s : TracedState) (by number : ℕ) (a : Answer) → answer_to s by (call.Close number) ≡ Some a → NotOpen s by number a ⊎ ((h : Held) × ClosesOne s by number h a)
+pub close-closes : (s : TracedState) (by number : ℕ) (a : Answer) → answer_to s by (call.Close number) ≡ Some a
+    → NotOpen s by number a ⊎ ((h : Held) × ClosesOne s by number h a)
 unfolding answer_to close_answer
 close-closes s by number a is = close-does s by number (handle_of s.opens by number) refl a (same_Some _ a is)
 
@@ -154,20 +196,32 @@ plain-leaves s by c a keeps is = edit-leaves s by c a.state (call-edit s by c a 
 
 -- ---- the handles of another controller stay
 
-foreign-open : (s : TracedState) (by k : ℕ) (h : Held) (r : Reply) (opens : Places) → by ≢ k → h.controller ≡ by → Opens s by h r opens → (number : ℕ) → handle_of opens k number ≡ handle_of s.opens k number
+foreign-open : (s : TracedState) (by k : ℕ) (h : Held) (r : Reply) (opens : Places) → by ≢ k → h.controller ≡ by
+    → Opens s by h r opens → (number : ℕ) → handle_of opens k number ≡ handle_of s.opens k number
 foreign-open s by k h r opens other owner o number =
-    elim (cases_Bool (o.place == number)) [ inl same ↦ here (eqb-true o.place number same) | inr not ↦ ap (λ p. handle_of p k number) o.is ∙ own-other s.opens k o.place number (Some h) (eqb-false o.place number not) ]
+    elim (cases_Bool (o.place == number)) [
+      | inl same ↦ here (eqb-true o.place number same)
+      | inr not ↦ ap
+          (λ p. handle_of p k number) o.is ∙ own-other s.opens k o.place number (Some h) (eqb-false o.place number not)
+    ]
   where
     at-place : handle_of opens k o.place ≡ handle_of s.opens k o.place
-    at-place = ap (λ p. handle_of p k o.place) o.is ∙ own-set s.opens k o.place (Some h) None o.free ∙ own-foreign k h (λ e. other (sym owner ∙ e)) ∙ sym (own-free s.opens k o.place o.free)
+    at-place =
+        ap (λ p. handle_of p k o.place) o.is ∙ own-set s.opens k o.place (Some h) None o.free
+        ∙ own-foreign k h (λ e. other (sym owner ∙ e)) ∙ sym (own-free s.opens k o.place o.free)
 
     here : o.place ≡ number → handle_of opens k number ≡ handle_of s.opens k number
     here same = subst (λ n. handle_of opens k n ≡ handle_of s.opens k n) same at-place
 
-foreign-close : (s : TracedState) (by k number : ℕ) (h : Held) (a : Answer) → by ≢ k → ClosesOne s by number h a → (m : ℕ) → handle_of a.state.opens k m ≡ handle_of s.opens k m
+foreign-close : (s : TracedState) (by k number : ℕ) (h : Held) (a : Answer) → by ≢ k → ClosesOne s by number h a
+    → (m : ℕ) → handle_of a.state.opens k m ≡ handle_of s.opens k m
 unfolding handle_of
 foreign-close s by k number h a other c m =
-    elim (cases_Bool (number == m)) [ inl same ↦ here (eqb-true number m same) | inr not ↦ ap (λ p. handle_of p k m) c.is ∙ own-other s.opens k number m None (eqb-false number m not) ]
+    elim (cases_Bool (number == m)) [
+      | inl same ↦ here (eqb-true number m same)
+      | inr not ↦ ap
+          (λ p. handle_of p k m) c.is ∙ own-other s.opens k number m None (eqb-false number m not)
+    ]
   where
     there : slice_get s.opens number ≡ Some (Some h)
     there = handle-at s.opens by number h c.held
@@ -176,14 +230,26 @@ foreign-close s by k number h a other c m =
     owner = handle-controller s.opens by number h c.held
 
     at-place : handle_of a.state.opens k number ≡ handle_of s.opens k number
-    at-place = ap (λ p. handle_of p k number) c.is ∙ own-set s.opens k number None (Some h) there ∙ sym (ap (own k) there ∙ own-foreign k h (λ e. other (sym owner ∙ e)))
+    at-place =
+        ap (λ p. handle_of p k number) c.is ∙ own-set s.opens k number None (Some h) there
+        ∙ sym (ap (own k) there ∙ own-foreign k h (λ e. other (sym owner ∙ e)))
 
     here : number ≡ m → handle_of a.state.opens k m ≡ handle_of s.opens k m
     here same = subst (λ n. handle_of a.state.opens k n ≡ handle_of s.opens k n) same at-place
 
-pub foreign-call : (s : TracedState) (by k : ℕ) (c : Call) (a : Answer) → by ≢ k → answer_to s by c ≡ Some a → (number : ℕ) → handle_of a.state.opens k number ≡ handle_of s.opens k number
+pub foreign-call : (s : TracedState) (by k : ℕ) (c : Call) (a : Answer) → by ≢ k → answer_to s by c ≡ Some a
+    → (number : ℕ) → handle_of a.state.opens k number ≡ handle_of s.opens k number
 foreign-call s by k (call.Open pid id file mode) a other is number =
-    elim (open-opens s by pid id file mode a is) [ inl refused ↦ ap (λ p. handle_of p k number) refused.is | inr opened ↦ foreign-open s by k (held_by by pid id file mode) a.reply a.state.opens other refl opened number ]
+    elim (open-opens s by pid id file mode a is) [
+      | inl refused ↦ ap
+          (λ p. handle_of p k number) refused.is
+      | inr opened ↦ foreign-open s by k
+          (held_by by pid id file mode) a.reply a.state.opens other refl opened number
+    ]
 foreign-call s by k (call.Close m) a other is number =
-    elim (close-closes s by m a is) [ inl refused ↦ ap (λ p. handle_of p k number) refused.is | inr closed ↦ foreign-close s by k m closed.0 a other closed.1 number ]
+    elim (close-closes s by m a is) [
+      | inl refused ↦ ap
+          (λ p. handle_of p k number) refused.is
+      | inr closed ↦ foreign-close s by k m closed.0 a other closed.1 number
+    ]
 foreign-call s by k c a other is number = ap (λ p. handle_of p k number) (plain-leaves s by c a refl is)

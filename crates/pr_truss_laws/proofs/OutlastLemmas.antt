@@ -29,18 +29,24 @@ use Rattle.pr_truss_laws.specs.Stills.{IsUndisturbed}
 -- A live process after something that others did: it lives, and was left alone; or SIGKILL ended it.
 pub data Outlasts (pid : ℕ) (p : TracedProcess) (s : TracedSystem) : Type 0 where
   lives : (q : TracedProcess) → live_process s pid ≡ Some q → IsUndisturbed p q → Outlasts pid p s
-  killed : (z : TracedProcess) → live_process s pid ≡ None → process_of s pid ≡ Some z → z.ended ≡ Some (signal_number Kill) → Outlasts pid p s
+  killed : (z : TracedProcess) → live_process s pid ≡ None → process_of s pid ≡ Some z
+      → z.ended ≡ Some (signal_number Kill) → Outlasts pid p s
 
 -- whether what stands under an id lives
-there-lives : (s : TracedSystem) (pid : ℕ) (q : TracedProcess) → process_of s pid ≡ Some q → q.ended ≡ None → live_process s pid ≡ Some q
+there-lives : (s : TracedSystem) (pid : ℕ) (q : TracedProcess) → process_of s pid ≡ Some q → q.ended ≡ None
+    → live_process s pid ≡ Some q
 unfolding live_process
-there-lives s pid q there live = ap (option_and_then if_live) there ∙ ap (λ (o : Option ℕ). cond (is_none o) (Some q) None) live
+there-lives s pid q there live =
+    ap (option_and_then if_live) there ∙ ap (λ (o : Option ℕ). cond (is_none o) (Some q) None) live
 
-there-ended : (s : TracedSystem) (pid : ℕ) (z : TracedProcess) (status : ℕ) → process_of s pid ≡ Some z → z.ended ≡ Some status → live_process s pid ≡ None
+there-ended : (s : TracedSystem) (pid : ℕ) (z : TracedProcess) (status : ℕ) → process_of s pid ≡ Some z
+    → z.ended ≡ Some status → live_process s pid ≡ None
 unfolding live_process
-there-ended s pid z status there over = ap (option_and_then if_live) there ∙ ap (λ (o : Option ℕ). cond (is_none o) (Some z) None) over
+there-ended s pid z status there over =
+    ap (option_and_then if_live) there ∙ ap (λ (o : Option ℕ). cond (is_none o) (Some z) None) over
 
-pub outlasts : (s u : TracedSystem) (pid : ℕ) (p : TracedProcess) → live_process s pid ≡ Some p → Passes pid ByKill s u → Outlasts pid p u
+pub outlasts : (s u : TracedSystem) (pid : ℕ) (p : TracedProcess) → live_process s pid ≡ Some p → Passes pid ByKill s u
+    → Outlasts pid p u
 outlasts s u pid p before passes = by passes
   where
     was : (process_of s pid ≡ Some p) × (p.ended ≡ None)
@@ -49,15 +55,19 @@ outlasts s u pid p before passes = by passes
     by : Became ByKill (process_of s pid) (process_of u pid) → Outlasts pid p u
     by (nobody none gone) = absurd (none-some p (sym none ∙ was.0))
     by (left_alone x q there later alone) =
-        let own : IsUndisturbed p q = subst (λ (y : TracedProcess). IsUndisturbed y q) (same_Some x p (sym there ∙ was.0)) alone in
+        let own : IsUndisturbed p q =
+        subst (λ (y : TracedProcess). IsUndisturbed y q) (same_Some x p (sym there ∙ was.0)) alone in
         lives q (there-lives u pid q later (ended-same p q own ∙ was.1)) own
-    by (has_ended z status there over such) = killed z (there-ended u pid z status there over) there (over ∙ ap (λ n. Some n) such)
+    by (has_ended z status there over such) =
+        killed z (there-ended u pid z status there over) there (over ∙ ap (λ n. Some n) such)
 
 -- ---- entries of others
 
 -- a turn of an lwp of another process
-pub others-turn : (s : TracedSystem) (pid other id : ℕ) (t : LwpTurn) (p : TracedProcess) → IsLawfulSystem s → live_process s pid ≡ Some p → other ≢ pid → turn_of s other id ≡ Some t → Outlasts pid p t.system
-others-turn s pid other id t p lawful before differs turn = outlasts s t.system pid p before (turn-passes s pid other id t p lawful before differs turn)
+pub others-turn : (s : TracedSystem) (pid other id : ℕ) (t : LwpTurn) (p : TracedProcess) → IsLawfulSystem s
+    → live_process s pid ≡ Some p → other ≢ pid → turn_of s other id ≡ Some t → Outlasts pid p t.system
+others-turn s pid other id t p lawful before differs turn =
+    outlasts s t.system pid p before (turn-passes s pid other id t p lawful before differs turn)
 
 -- a call of another controller, where at most one has the process open for writing
 pub others-call : (s : TracedState) (k pid by : ℕ) (c : Call) (a : Answer) (p : TracedProcess) → IsLawful s
@@ -67,19 +77,24 @@ others-call s k pid by c a p lawful sole other is before =
     outlasts s.system a.state.system pid p before (foreign-passes s k pid lawful sole by c a p other is before)
 
 -- a call that writes to no handle of the process and closes none
-pub own-call-elsewhere : (s : TracedState) (k pid : ℕ) (c : Call) (a : Answer) (p : TracedProcess) → IsLawful s → ((m : ℕ) (g : Held) → names c m ≡ true → handle_of s.opens k m ≡ Some g → g.pid ≢ pid) → answer_to s k c ≡ Some a → live_process s.system pid ≡ Some p → Outlasts pid p a.state.system
+pub own-call-elsewhere : (s : TracedState) (k pid : ℕ) (c : Call) (a : Answer) (p : TracedProcess) → IsLawful s
+    → ((m : ℕ) (g : Held) → names c m ≡ true → handle_of s.opens k m ≡ Some g → g.pid ≢ pid) → answer_to s k c ≡ Some a
+    → live_process s.system pid ≡ Some p → Outlasts pid p a.state.system
 own-call-elsewhere s k pid c a p lawful apart is before =
     let was = found-live s.system pid p before in
-    outlasts s.system a.state.system pid p before (call-passes s k pid lawful p was.0 c a (λ m named g held writes. apart m g named held) is)
+    outlasts s.system a.state.system pid p before
+    (call-passes s k pid lawful p was.0 c a (λ m named g held writes. apart m g named held) is)
 
 -- a tick of the clock
 pub ticked-processes : (s : TracedState) → (with_system ticked s).system.processes ≡ s.system.processes
 ticked-processes s = refl
 
-pub ticked-process : (s : TracedState) (pid : ℕ) → process_of (with_system ticked s).system pid ≡ process_of s.system pid
+pub ticked-process : (s : TracedState) (pid : ℕ)
+    → process_of (with_system ticked s).system pid ≡ process_of s.system pid
 ticked-process s pid = refl
 
-pub ticked-live : (s : TracedState) (pid : ℕ) → live_process (with_system ticked s).system pid ≡ live_process s.system pid
+pub ticked-live : (s : TracedState) (pid : ℕ)
+    → live_process (with_system ticked s).system pid ≡ live_process s.system pid
 unfolding live_process
 ticked-live s pid = refl
 

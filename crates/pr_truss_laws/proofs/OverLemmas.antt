@@ -70,10 +70,13 @@ call-grows s by c t (edit.sends {pid = pid} {g = g} is) = generated-grows s.syst
 pub turn-grows : (s : TracedSystem) (acting id : ℕ) (t : LwpTurn) → turn_of s acting id ≡ Some t → Grows s t.system
 turn-grows s acting id t turn =
     let it = turn-taken s acting id t turn in
-    subst (λ (v : LwpTurn). Grows s v.system) (sym it.is) (settled-grows acting it.process id it.lwp s (row_for s acting it.process id it.lwp))
+    subst (λ (v : LwpTurn). Grows s v.system) (sym it.is)
+    (settled-grows acting it.process id it.lwp s (row_for s acting it.process id it.lwp))
 
 -- no entry makes it less
-entry-grows : (n : ℕ) (s : TracedState) (actor : Actor) (it : Act) → IsLawful s → IsLegalEntry n s (record { actor = actor; act = it }) → Grows s.system (after s (record { actor = actor; act = it })).system
+entry-grows : (n : ℕ) (s : TracedState) (actor : Actor) (it : Act) → IsLawful s
+    → IsLegalEntry n s (record { actor = actor; act = it })
+    → Grows s.system (after s (record { actor = actor; act = it })).system
 unfolding IsLegalEntry after
 entry-grows n s (Controller by) (act.Call c r) lawful legal =
     let a : Answer = record { state = legal.1.0; reply = r } in
@@ -87,7 +90,8 @@ entry-grows n s Clock (act.Tick moment) lawful legal = same-grows s.system
 entry-grows n s _ _ lawful legal = absurd legal
 
 -- an id that was given out stays given out
-pub stays-made : (n : ℕ) (s : TracedState) (e : Entry) (pid : ℕ) → IsLawful s → IsLegalEntry n s e → pid < s.system.made → pid < (after s e).system.made
+pub stays-made : (n : ℕ) (s : TracedState) (e : Entry) (pid : ℕ) → IsLawful s → IsLegalEntry n s e
+    → pid < s.system.made → pid < (after s e).system.made
 stays-made n s e pid lawful legal made = let more = entry-grows n s e.actor e.act lawful legal in omega arith
 
 -- ---- a process that does not live, whose id was given out
@@ -110,15 +114,26 @@ module _ (pid : ℕ) where
       by false is = refl
 
   -- among rising ids it is enough that nothing that lives is found under this one
-  over-from : (low : ℕ) (es : List (ℕ × TracedProcess)) → rises_from low es ≡ true → option_and_then if_live (under pid es) ≡ None → All (IsOverAt pid) es
+  over-from : (low : ℕ) (es : List (ℕ × TracedProcess)) → rises_from low es ≡ true
+      → option_and_then if_live (under pid es) ≡ None → All (IsOverAt pid) es
   over-from low [] rises none = All-nil (IsOverAt pid)
-  over-from low (e ∷ es) rises none = elim (cases_Bool (e.0 == pid)) [ inl same ↦ here (eqb-true e.0 pid same) (rw same at none) | inr differs ↦ All-cons (IsOverAt pid) e es (record { over = λ is. absurd (eqb-false e.0 pid differs is) }) (over-from (e.0 + 1) es tail (rw differs at none)) ]
+  over-from low (e ∷ es) rises none =
+      elim (cases_Bool (e.0 == pid)) [
+        | inl same ↦ here (eqb-true e.0 pid same)
+            (rw same at none)
+        | inr differs ↦ All-cons (IsOverAt pid) e es
+            (record { over = λ is. absurd (eqb-false e.0 pid differs is) })
+            (over-from (e.0 + 1) es tail (rw differs at none))
+      ]
     where
       tail : rises_from (e.0 + 1) es ≡ true
       tail = rises_from-tail low e es rises
 
       here : e.0 ≡ pid → if_live e.1 ≡ None → All (IsOverAt pid) (e ∷ es)
-      here same none = All-cons (IsOverAt pid) e es (record { over = λ is. not-live e.1 none }) (All-weaker (λ (d : ℕ × TracedProcess). e.0 + 1 ≤ d.0) (IsOverAt pid) (λ d above. record { over = λ is. absurd (omega arith) }) es (ids-above (e.0 + 1) es tail))
+      here same none =
+          All-cons (IsOverAt pid) e es (record { over = λ is. not-live e.1 none })
+          (All-weaker (λ (d : ℕ × TracedProcess). e.0 + 1 ≤ d.0) (IsOverAt pid)
+          (λ d above. record { over = λ is. absurd (omega arith) }) es (ids-above (e.0 + 1) es tail))
 
   pub over-now : (s : TracedSystem) → IsLawfulSystem s → pid < s.made → live_process s pid ≡ None → IsOver pid s
   unfolding live_process
@@ -130,51 +145,85 @@ module _ (pid : ℕ) where
     where
       by : (x : Option TracedProcess) → process_of s pid ≡ x → option_and_then if_live x ≡ None
       by None there = refl
-      by (Some p) there = let it = All-under (IsOverAt pid) pid p s.processes o.none there in ap (λ b. cond b (Some p) None) (it.over refl)
+      by (Some p) there =
+          let it = All-under (IsOverAt pid) pid p s.processes o.none there in
+          ap (λ b. cond b (Some p) None) (it.over refl)
 
   -- a process that lives is another one
-  over-other : (s : TracedSystem) (other : ℕ) (p : TracedProcess) → IsOver pid s → live_process s other ≡ Some p → other ≢ pid
-  over-other s other p o live same = none-some p (sym (over-none s o) ∙ subst (λ n. live_process s n ≡ Some p) same live)
+  over-other : (s : TracedSystem) (other : ℕ) (p : TracedProcess) → IsOver pid s → live_process s other ≡ Some p
+      → other ≢ pid
+  over-other s other p o live same =
+      none-some p (sym (over-none s o) ∙ subst (λ n. live_process s n ≡ Some p) same live)
 
   -- ---- a process is changed: another one, or any one by a signal that pends
 
   -- only the processes, and how many were made, matter
   files-over : (s t : TracedSystem) → t.made ≡ s.made → t.processes ≡ s.processes → IsOver pid s → IsOver pid t
-  files-over s t made processes o = record { made = omega arith; none = subst (All (IsOverAt pid)) (sym processes) o.none }
+  files-over s t made processes o = record {
+    made = omega arith;
+    none = subst (All (IsOverAt pid)) (sym processes) o.none;
+  }
 
-  change-over : (other : ℕ) (f : TracedProcess → TracedProcess) (s : TracedSystem) → other ≢ pid → IsOver pid s → IsOver pid (with_process other f s)
+  change-over : (other : ℕ) (f : TracedProcess → TracedProcess) (s : TracedSystem) → other ≢ pid → IsOver pid s
+      → IsOver pid (with_process other f s)
   unfolding with_process
-  change-over other f s differs o = record { made = o.made; none = All-change_under (IsOverAt pid) other f s.processes (λ x found it. record { over = λ same. absurd (differs same) }) o.none }
+  change-over other f s differs o = record {
+    made = o.made;
+    none =
+        All-change_under (IsOverAt pid) other f s.processes
+        (λ x found it. record { over = λ same. absurd (differs same) }) o.none;
+  }
 
-  told-over : (other : ℕ) (target : Option ℕ) (g : Sig) (info : Info) (s : TracedSystem) → IsOver pid s → IsOver pid (with_process other (signalled target g info) s)
+  told-over : (other : ℕ) (target : Option ℕ) (g : Sig) (info : Info) (s : TracedSystem) → IsOver pid s
+      → IsOver pid (with_process other (signalled target g info) s)
   unfolding with_process
   told-over other target g info s o = record {
     made = o.made;
-    none = All-change_under (IsOverAt pid) other (signalled target g info) s.processes (λ x found it. record { over = λ same. ap (λ (e : Option ℕ). is_none e) (ended-same x (signalled target g info x) (told-undisturbed target g info x)) ∙ it.over same }) o.none;
+    none =
+        All-change_under (IsOverAt pid) other (signalled target g info) s.processes
+        (λ x found it. record {
+          over = λ same. ap (λ (e : Option ℕ). is_none e)
+              (ended-same x (signalled target g info x) (told-undisturbed target g info x)) ∙ it.over same;
+        }) o.none;
   }
 
   -- ---- processes end, are made and are reaped
 
-  parent-over : (parent gone status : ℕ) (s : TracedSystem) → IsOver pid s → IsOver pid (with_parent_signalled parent gone status s)
+  parent-over : (parent gone status : ℕ) (s : TracedSystem) → IsOver pid s
+      → IsOver pid (with_parent_signalled parent gone status s)
   unfolding with_parent_signalled
-  parent-over parent gone status s o = choice (IsOver pid) (parent == 0) _ _ (λ none. o) (λ some. told-over parent None Cld _ s o)
+  parent-over parent gone status s o =
+      choice (IsOver pid) (parent == 0) _ _ (λ none. o) (λ some. told-over parent None Cld _ s o)
 
-  buried-over : (gone : ℕ) (p : TracedProcess) (status : ℕ) (s : TracedSystem) → IsOver pid s → IsOver pid (buried gone p status s)
+  buried-over : (gone : ℕ) (p : TracedProcess) (status : ℕ) (s : TracedSystem) → IsOver pid s
+      → IsOver pid (buried gone p status s)
   unfolding zombie
   buried-over gone p status s o =
-      let dead : All (IsOverAt pid) (change_under gone (zombie traced status) s.processes) = All-change_under (IsOverAt pid) gone (zombie traced status) s.processes (λ x found it. record { over = λ same. refl }) o.none in
+      let dead : All (IsOverAt pid) (change_under gone (zombie traced status) s.processes) =
+      All-change_under (IsOverAt pid) gone (zombie traced status) s.processes
+      (λ x found it. record { over = λ same. refl }) o.none in
       record {
         made = o.made;
-        none = All-map_each (IsOverAt pid) (IsOverAt pid) (orphaned gone) (λ e it. record { over = λ same. ap (λ (x : Option ℕ). is_none x) (ended-same e.1 (orphaned gone e.1) (orphaned-undisturbed gone e.1)) ∙ it.over same }) (change_under gone (zombie traced status) s.processes) dead;
+        none =
+            All-map_each (IsOverAt pid) (IsOverAt pid) (orphaned gone)
+            (λ e it. record {
+              over = λ same. ap (λ (x : Option ℕ). is_none x)
+                  (ended-same e.1 (orphaned gone e.1) (orphaned-undisturbed gone e.1))
+                  ∙ it.over same;
+            }) (change_under gone (zombie traced status) s.processes) dead;
       }
 
-  end-over : (gone : ℕ) (p : TracedProcess) (status : ℕ) (s : TracedSystem) → IsOver pid s → IsOver pid (with_this_ended traced gone p status s)
+  end-over : (gone : ℕ) (p : TracedProcess) (status : ℕ) (s : TracedSystem) → IsOver pid s
+      → IsOver pid (with_this_ended traced gone p status s)
   unfolding with_this_ended
   end-over gone p status s o = parent-over p.parent gone status (buried gone p status s) (buried-over gone p status s o)
 
-  generated-over : (target : ℕ) (own : Option ℕ) (g : Sig) (info : Info) (s : TracedSystem) → IsOver pid s → IsOver pid (generated traced target own g info s)
+  generated-over : (target : ℕ) (own : Option ℕ) (g : Sig) (info : Info) (s : TracedSystem) → IsOver pid s
+      → IsOver pid (generated traced target own g info s)
   unfolding generated with_ended
-  generated-over target own g info s o = choice (IsOver pid) (is_kill g) _ _ (λ kill. ends (live_process s target)) (λ other. told-over target own g info s o)
+  generated-over target own g info s o =
+      choice (IsOver pid) (is_kill g) _ _ (λ kill. ends (live_process s target))
+      (λ other. told-over target own g info s o)
     where
       ends : (x : Option TracedProcess) → IsOver pid (ended_if_live traced target (signal_number g) s x)
       ends None = o
@@ -182,7 +231,12 @@ module _ (pid : ℕ) where
 
   made-over : (p : TracedProcess) (s : TracedSystem) → IsOver pid s → IsOver pid (with_made p s)
   unfolding with_made
-  made-over p s o = let below : pid < s.made = o.made in record { made = omega arith; none = All-inserted (IsOverAt pid) s.made p s.processes (record { over = λ same. absurd (omega arith) }) o.none }
+  made-over p s o =
+      let below : pid < s.made = o.made in
+      record {
+        made = omega arith;
+        none = All-inserted (IsOverAt pid) s.made p s.processes (record { over = λ same. absurd (omega arith) }) o.none;
+      }
 
   reaped-over : (gone : ℕ) (s : TracedSystem) → IsOver pid s → IsOver pid (with_reaped gone s)
   unfolding with_reaped
@@ -191,7 +245,8 @@ module _ (pid : ℕ) where
   -- ---- a turn of an lwp of another process
 
   module _ (acting : ℕ) (p : TracedProcess) (id : ℕ) (l : TracedLwp) (other : acting ≢ pid) where
-    acting-over : (f : TracedProcess → TracedProcess) (s : TracedSystem) → IsOver pid s → IsOver pid (with_process acting f s)
+    acting-over : (f : TracedProcess → TracedProcess) (s : TracedSystem) → IsOver pid s
+        → IsOver pid (with_process acting f s)
     acting-over f s o = change-over acting f s other o
 
     unless-over : (b : Bool) (s t : TracedSystem) → IsOver pid s → IsOver pid t → IsOver pid (cond b s t)
@@ -206,10 +261,14 @@ module _ (pid : ℕ) where
 
     changed-over : (c : Change) (s : TracedSystem) → IsOver pid s → IsOver pid (changed traced acting p id l c s)
     unfolding changed
-    changed-over (files_are files fds) s o = let filed : TracedSystem = record s { files = files } in acting-over (with_fds fds) filed (files-over s filed refl refl o)
+    changed-over (files_are files fds) s o =
+        let filed : TracedSystem = record s { files = files } in
+        acting-over (with_fds fds) filed (files-over s filed refl refl o)
     changed-over (space_is space) s o = acting-over _ s o
-    changed-over (signals target g info) s o = unless-over (is_kill g && (target == acting)) s _ o (generated-over target None g info s o)
-    changed-over (signals_itself g info) s o = unless-over (is_kill g) s _ o (generated-over acting (Some id) g info s o)
+    changed-over (signals target g info) s o =
+        unless-over (is_kill g && (target == acting)) s _ o (generated-over target None g info s o)
+    changed-over (signals_itself g info) s o =
+        unless-over (is_kill g) s _ o (generated-over acting (Some id) g info s o)
     changed-over (takes_shared g) s o = acting-over _ s o
     changed-over (job_stops g) s o = acting-over _ s o
     changed-over (disposition_is g disposition) s o = acting-over _ s o
@@ -219,34 +278,43 @@ module _ (pid : ℕ) where
     changed-over (reaps child) s o = unless-over (child == acting) s _ o (reaped-over child s o)
     changed-over _ s o = acting-over _ s o
 
-    all_changed-over : (cs : List Change) (s : TracedSystem) → IsOver pid s → IsOver pid (all_changed traced acting p id l cs s)
+    all_changed-over : (cs : List Change) (s : TracedSystem) → IsOver pid s
+        → IsOver pid (all_changed traced acting p id l cs s)
     unfolding all_changed
     all_changed-over [] s o = o
     all_changed-over (c ∷ cs) s o = all_changed-over cs (changed traced acting p id l c s) (changed-over c s o)
 
-    ending-over : (how : Option Ending) (s : TracedSystem) → IsOver pid s → IsOver pid (ended_if traced acting p id l how s)
+    ending-over : (how : Option Ending) (s : TracedSystem) → IsOver pid s
+        → IsOver pid (ended_if traced acting p id l how s)
     unfolding ended with_lwp_ended
     ending-over None s o = o
     ending-over (Some (ends_process status)) s o = end-over acting p status s o
-    ending-over (Some ends_lwp) s o = choice (IsOver pid) (length p.lwps == 1) _ _ (λ last. end-over acting p 0 s o) (λ more. acting-over _ s o)
+    ending-over (Some ends_lwp) s o =
+        choice (IsOver pid) (length p.lwps == 1) _ _ (λ last. end-over acting p 0 s o) (λ more. acting-over _ s o)
 
-    transition-over : (t : Transition) (s : TracedSystem) → IsOver pid s → IsOver pid (after_transition traced acting p id l t s)
+    transition-over : (t : Transition) (s : TracedSystem) → IsOver pid s
+        → IsOver pid (after_transition traced acting p id l t s)
     unfolding after_transition with_lwp_of
     transition-over t s o =
         let changes : TracedSystem = all_changed traced acting p id l t.changes s in
-        ending-over t.ending (with_process acting (with_lwp id (moved traced t.move)) changes) (acting-over (with_lwp id (moved traced t.move)) changes (all_changed-over t.changes s o))
+        ending-over t.ending (with_process acting (with_lwp id (moved traced t.move)) changes)
+        (acting-over (with_lwp id (moved traced t.move)) changes (all_changed-over t.changes s o))
 
     settled-over : (row : Row) (s : TracedSystem) → IsOver pid s → IsOver pid (settled s acting p id l row).system
     unfolding settled
     settled-over row s o =
         let made : TracedSystem = after_transition traced acting p id l row.transition s in
         let counted_one : TracedSystem = with_process acting (with_counted row.did row.begun) made in
-        acting-over (after_meeting row.point id) counted_one (acting-over (with_counted row.did row.begun) made (transition-over row.transition s o))
+        acting-over (after_meeting row.point id) counted_one
+        (acting-over (with_counted row.did row.begun) made (transition-over row.transition s o))
 
-  pub turn-over : (s : TracedSystem) (acting id : ℕ) (t : LwpTurn) → IsOver pid s → turn_of s acting id ≡ Some t → IsOver pid t.system
+  pub turn-over : (s : TracedSystem) (acting id : ℕ) (t : LwpTurn) → IsOver pid s → turn_of s acting id ≡ Some t
+      → IsOver pid t.system
   turn-over s acting id t o turn =
       let it = turn-taken s acting id t turn in
-      subst (λ (v : LwpTurn). IsOver pid v.system) (sym it.is) (settled-over acting it.process id it.lwp (over-other s acting it.process o it.live) (row_for s acting it.process id it.lwp) s o)
+      subst (λ (v : LwpTurn). IsOver pid v.system) (sym it.is)
+      (settled-over acting it.process id it.lwp (over-other s acting it.process o it.live)
+      (row_for s acting it.process id it.lwp) s o)
 
   -- ---- a call of a controller
 
@@ -255,7 +323,8 @@ module _ (pid : ℕ) where
   message-over s target p m tail t other o message.nothing = o
   message-over s target p m tail t other o (message.a_process f edits) = change-over target f s other o
   message-over s target p m tail t other o message.an_end = end-over target p (signal_number Kill) s o
-  message-over s target p m tail t other o (message.a_signal own g is room) = generated-over target own g by_controller s o
+  message-over s target p m tail t other o (message.a_signal own g is room) =
+      generated-over target own g by_controller s o
 
   closed-over : (s : TracedSystem) (target : ℕ) (t : TracedSystem) → IsOver pid s → CloseEdit s target t → IsOver pid t
   closed-over s target t o edit.nothing = o
@@ -263,7 +332,8 @@ module _ (pid : ℕ) where
   closed-over s target t o (edit.releases p live spares mode) =
       change-over target released s (over-other s target p o live) o
 
-  spawned-over : (s : TracedSystem) (program : Program) (held : Bool) → IsOver pid s → IsOver pid (with_spawned traced program held s)
+  spawned-over : (s : TracedSystem) (program : Program) (held : Bool) → IsOver pid s
+      → IsOver pid (with_spawned traced program held s)
   unfolding with_spawned
   spawned-over s program held o = made-over (new_process traced program s.clock held) s o
 
@@ -284,7 +354,9 @@ module _ (pid : ℕ) where
 
   -- ---- every entry
 
-  entry-over : (n : ℕ) (s : TracedState) (actor : Actor) (it : Act) → IsLawful s → IsLegalEntry n s (record { actor = actor; act = it }) → IsOver pid s.system → IsOver pid (after s (record { actor = actor; act = it })).system
+  entry-over : (n : ℕ) (s : TracedState) (actor : Actor) (it : Act) → IsLawful s
+      → IsLegalEntry n s (record { actor = actor; act = it }) → IsOver pid s.system
+      → IsOver pid (after s (record { actor = actor; act = it })).system
   unfolding IsLegalEntry after
   entry-over n s (Controller by) (act.Call c r) lawful legal o =
       let a : Answer = record { state = legal.1.0; reply = r } in
@@ -297,5 +369,8 @@ module _ (pid : ℕ) where
   entry-over n s Clock (act.Tick moment) lawful legal o = files-over s.system _ refl refl o
   entry-over n s _ _ lawful legal o = absurd legal
 
-pub stays-over : (n : ℕ) (s : TracedState) (e : Entry) (pid : ℕ) → IsLawful s → IsLegalEntry n s e → pid < s.system.made → live_process s.system pid ≡ None → live_process (after s e).system pid ≡ None
-stays-over n s e pid lawful legal made none = over-none pid (after s e).system (entry-over pid n s e.actor e.act lawful legal (over-now pid s.system lawful.system made none))
+pub stays-over : (n : ℕ) (s : TracedState) (e : Entry) (pid : ℕ) → IsLawful s → IsLegalEntry n s e
+    → pid < s.system.made → live_process s.system pid ≡ None → live_process (after s e).system pid ≡ None
+stays-over n s e pid lawful legal made none =
+    over-none pid (after s e).system
+    (entry-over pid n s e.actor e.act lawful legal (over-now pid s.system lawful.system made none))

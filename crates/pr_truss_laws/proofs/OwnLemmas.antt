@@ -112,7 +112,8 @@ pub record Owns (k : ℕ) (t : TrussState) (s : TracedState) : Type 0 where
   pub modes : (m : ℕ) (g : Held) → handle_of s.opens k m ≡ Some g → IsExclusive g.file g.mode
 
 -- a handle of a state with the same handles
-same-owns : (k : ℕ) (t : TrussState) (s u : TracedState) → ((m : ℕ) → handle_of u.opens k m ≡ handle_of s.opens k m) → Owns k t s → Owns k t u
+same-owns : (k : ℕ) (t : TrussState) (s u : TracedState) → ((m : ℕ) → handle_of u.opens k m ≡ handle_of s.opens k m)
+    → Owns k t s → Owns k t u
 same-owns k t s u same o = record {
   fits = o.fits;
   counts = λ pid h. o.counts pid h ∙ ap (owned pid) (sym (same h));
@@ -123,7 +124,8 @@ same-owns k t s u same o = record {
 
 module _ (k : ℕ) (t : TrussState) (s : TracedState) (o : Owns k t s) where
   -- what is remembered after the reply
-  changed : (pid h : ℕ) (r : Reply) (c : Call) → next_call_of t ≡ Some c → (n : ℕ) × ((held pid h (fed t r) ≡ n) × Changes t pid h r (Some c) (held pid h t) n)
+  changed : (pid h : ℕ) (r : Reply) (c : Call) → next_call_of t ≡ Some c
+      → (n : ℕ) × ((held pid h (fed t r) ≡ n) × Changes t pid h r (Some c) (held pid h t) n)
   changed pid h r c is =
       let all = fed-changes pid h r t o.fits in
       (held pid h (fed t r), (refl, subst (λ x. Changes t pid h r x (held pid h t) (held pid h (fed t r))) is all))
@@ -139,18 +141,24 @@ module _ (k : ℕ) (t : TrussState) (s : TracedState) (o : Owns k t s) where
   unfolding answer_of
   fail-gives e of handle pid h = no-gift e of handle pid h
 
-  handle-gives : (place of pid h : ℕ) → gives (answer_of (reply.Handle place)) of (handle_in (reply.Handle place)) pid h ≡ unit ((of == pid) && (place == h))
+  handle-gives : (place of pid h : ℕ)
+      → gives (answer_of (reply.Handle place)) of (handle_in (reply.Handle place)) pid h ≡ unit
+      ((of == pid) && (place == h))
   unfolding answer_of opened_in
   handle-gives place of pid h = refl
 
   -- an open that was refused
-  refused-owns : (pid id : ℕ) (f : File) (mode : Mode) (a : Answer) → next_call_of t ≡ Some (call.Open pid id f mode) → Refuses s a.reply a.state.opens → Owns k (fed t a.reply) a.state
+  refused-owns : (pid id : ℕ) (f : File) (mode : Mode) (a : Answer) → next_call_of t ≡ Some (call.Open pid id f mode)
+      → Refuses s a.reply a.state.opens → Owns k (fed t a.reply) a.state
   refused-owns pid id f mode a next ref = record {
     fits = fits-on a.reply;
     counts = λ p h.
         let c = changed p h a.reply (call.Open pid id f mode) next in
-        let none : gives (answer_of a.reply) pid (handle_in a.reply) p h ≡ 0 = ap (λ r. gives (answer_of r) pid (handle_in a.reply) p h) ref.reply ∙ fail-gives ref.errno pid (handle_in a.reply) p h in
-        c.1.0 ∙ c.1.1 ∙ ap (λ n. held p h t + n) none ∙ plus-none (held p h t) ∙ o.counts p h ∙ ap (λ (opens : Places). owned p (handle_of opens k h)) (sym ref.is);
+        let none : gives (answer_of a.reply) pid (handle_in a.reply) p h ≡ 0 =
+        ap (λ r. gives (answer_of r) pid (handle_in a.reply) p h) ref.reply
+        ∙ fail-gives ref.errno pid (handle_in a.reply) p h in
+        c.1.0 ∙ c.1.1 ∙ ap (λ n. held p h t + n) none ∙ plus-none (held p h t) ∙ o.counts p h
+        ∙ ap (λ (opens : Places). owned p (handle_of opens k h)) (sym ref.is);
     modes = λ m g is. o.modes m g (ap (λ (opens : Places). handle_of opens k m) (sym ref.is) ∙ is);
   }
     where
@@ -168,46 +176,68 @@ module _ (k : ℕ) (t : TrussState) (s : TracedState) (o : Owns k t s) where
   and-false true c is = ap unit is
   and-false false c is = refl
 
-  module _ (pid id : ℕ) (f : File) (mode : Mode) (a : Answer) (next : next_call_of t ≡ Some (call.Open pid id f mode)) (new : Opens s k (held_by k pid id f mode) a.reply a.state.opens) where
+  module _ (pid id : ℕ) (f : File) (mode : Mode) (a : Answer) (next : next_call_of t ≡ Some (call.Open pid id f mode))
+      (new : Opens s k (held_by k pid id f mode) a.reply a.state.opens) where
     mine : Held
     mine = held_by k pid id f mode
 
     handle-new : handle_of a.state.opens k new.place ≡ Some (held_by k pid id f mode)
-    handle-new = ap (λ (opens : Places). handle_of opens k new.place) new.is ∙ own-set s.opens k new.place (Some (held_by k pid id f mode)) None new.free ∙ own-mine k (held_by k pid id f mode) refl
+    handle-new =
+        ap (λ (opens : Places). handle_of opens k new.place) new.is
+        ∙ own-set s.opens k new.place (Some (held_by k pid id f mode)) None new.free
+        ∙ own-mine k (held_by k pid id f mode) refl
 
     handle-old : (h : ℕ) → new.place ≢ h → handle_of a.state.opens k h ≡ handle_of s.opens k h
-    handle-old h other = ap (λ (opens : Places). handle_of opens k h) new.is ∙ own-other s.opens k new.place h (Some (held_by k pid id f mode)) other
+    handle-old h other =
+        ap (λ (opens : Places). handle_of opens k h) new.is
+        ∙ own-other s.opens k new.place h (Some (held_by k pid id f mode)) other
 
     was-free : handle_of s.opens k new.place ≡ None
     was-free = own-free s.opens k new.place new.free
 
-    new-gives : (p h : ℕ) → gives (answer_of a.reply) pid (handle_in a.reply) p h ≡ unit ((pid == p) && (new.place == h))
+    new-gives : (p h : ℕ)
+        → gives (answer_of a.reply) pid (handle_in a.reply) p h ≡ unit ((pid == p) && (new.place == h))
     new-gives p h = ap (λ r. gives (answer_of r) pid (handle_in r) p h) new.reply ∙ handle-gives new.place pid p h
 
     opened-count : (p h : ℕ) → held p h (fed t a.reply) ≡ owned p (handle_of a.state.opens k h)
     opened-count p h =
         let c = changed p h a.reply (call.Open pid id f mode) next in
-        let all : held p h (fed t a.reply) ≡ held p h t + unit ((pid == p) && (new.place == h)) = c.1.0 ∙ c.1.1 ∙ ap (λ n. held p h t + n) (new-gives p h) in
+        let all : held p h (fed t a.reply) ≡ held p h t + unit ((pid == p) && (new.place == h)) =
+        c.1.0 ∙ c.1.1 ∙ ap (λ n. held p h t + n) (new-gives p h) in
         elim (cases_Bool (new.place == h)) [ inl same ↦ all ∙ here same | inr not ↦ all ∙ there not ]
       where
-        here : (new.place == h) ≡ true → held p h t + unit ((pid == p) && (new.place == h)) ≡ owned p (handle_of a.state.opens k h)
+        here : (new.place == h) ≡ true
+            → held p h t + unit ((pid == p) && (new.place == h)) ≡ owned p (handle_of a.state.opens k h)
         here same =
             let is : new.place ≡ h = eqb-true new.place h same in
-            let before : held p h t ≡ 0 = o.counts p h ∙ ap (owned p) (subst (λ n. handle_of s.opens k n ≡ None) is was-free) in
-            let after_it : owned p (handle_of a.state.opens k h) ≡ unit (pid == p) = ap (owned p) (subst (λ n. handle_of a.state.opens k n ≡ Some (held_by k pid id f mode)) is handle-new) in
+            let before : held p h t ≡ 0 =
+            o.counts p h ∙ ap (owned p) (subst (λ n. handle_of s.opens k n ≡ None) is was-free) in
+            let after_it : owned p (handle_of a.state.opens k h) ≡ unit (pid == p) =
+            ap (owned p)
+            (subst (λ n. handle_of a.state.opens k n ≡ Some (held_by k pid id f mode)) is handle-new) in
             omega (arith, before, after_it, and-true (pid == p) (new.place == h) same)
 
-        there : (new.place == h) ≡ false → held p h t + unit ((pid == p) && (new.place == h)) ≡ owned p (handle_of a.state.opens k h)
+        there : (new.place == h) ≡ false
+            → held p h t + unit ((pid == p) && (new.place == h)) ≡ owned p (handle_of a.state.opens k h)
         there not =
-            let old : owned p (handle_of a.state.opens k h) ≡ owned p (handle_of s.opens k h) = ap (owned p) (handle-old h (eqb-false new.place h not)) in
+            let old : owned p (handle_of a.state.opens k h) ≡ owned p (handle_of s.opens k h) =
+            ap (owned p) (handle-old h (eqb-false new.place h not)) in
             omega (arith, o.counts p h, old, and-false (pid == p) (new.place == h) not)
 
     opened-modes : (m : ℕ) (g : Held) → handle_of a.state.opens k m ≡ Some g → IsExclusive g.file g.mode
-    opened-modes m g is = elim (cases_Bool (new.place == m)) [ inl same ↦ here (eqb-true new.place m same) | inr not ↦ o.modes m g (sym (handle-old m (eqb-false new.place m not)) ∙ is) ]
+    opened-modes m g is =
+        elim (cases_Bool (new.place == m)) [
+          | inl same ↦ here (eqb-true new.place m same)
+          | inr not ↦ o.modes m g
+              (sym (handle-old m (eqb-false new.place m not)) ∙ is)
+        ]
       where
         here : new.place ≡ m → IsExclusive g.file g.mode
         here same =
-            let found : held_by k pid id f mode ≡ g = same_Some (held_by k pid id f mode) g (sym (subst (λ n. handle_of a.state.opens k n ≡ Some (held_by k pid id f mode)) same handle-new) ∙ is) in
+            let found : held_by k pid id f mode ≡ g =
+            same_Some (held_by k pid id f mode) g
+            (sym (subst (λ n. handle_of a.state.opens k n ≡ Some (held_by k pid id f mode)) same handle-new)
+            ∙ is) in
             subst (λ (x : Held). IsExclusive x.file x.mode) found (subst OpensExclusively next (next-excl t))
 
     opened-owns : Owns k (fed t a.reply) a.state
@@ -219,7 +249,12 @@ module _ (k : ℕ) (t : TrussState) (s : TracedState) (o : Owns k t s) where
     owned-some p (Some g) one = (g, refl)
 
     owned-pid : (p : ℕ) (g : Held) → 1 ≤ owned p (Some g) → g.pid ≡ p
-    owned-pid p g one = elim (cases_Bool (g.pid == p)) [ inl same ↦ eqb-true g.pid p same | inr not ↦ absurd (omega (arith, one, ap unit not)) ]
+    owned-pid p g one =
+        elim (cases_Bool (g.pid == p)) [
+          | inl same ↦ eqb-true g.pid p same
+          | inr not ↦ absurd
+              (omega (arith, one, ap unit not))
+        ]
 
     -- the handle was open
     was-open : (of : ℕ) → 1 ≤ held of number t → 1 ≤ owned of (handle_of s.opens k number)
@@ -238,52 +273,87 @@ module _ (k : ℕ) (t : TrussState) (s : TracedState) (o : Owns k t s) where
     module _ (h0 : Held) (one : ClosesOne s k number h0 a) where
       handle-gone : handle_of a.state.opens k number ≡ None
       unfolding handle_of
-      handle-gone = ap (λ (opens : Places). handle_of opens k number) one.is ∙ own-set s.opens k number None (Some h0) (handle-at s.opens k number h0 one.held)
+      handle-gone =
+          ap (λ (opens : Places). handle_of opens k number) one.is
+          ∙ own-set s.opens k number None (Some h0) (handle-at s.opens k number h0 one.held)
 
       handle-kept : (h : ℕ) → number ≢ h → handle_of a.state.opens k h ≡ handle_of s.opens k h
-      handle-kept h other = ap (λ (opens : Places). handle_of opens k h) one.is ∙ own-other s.opens k number h None other
+      handle-kept h other =
+          ap (λ (opens : Places). handle_of opens k h) one.is ∙ own-other s.opens k number h None other
 
       closed-count : (p h : ℕ) → held p h (fed t a.reply) ≡ owned p (handle_of a.state.opens k h)
       closed-count p h =
           let c = changed p h a.reply (call.Close number) next in
-          elim (cases_Bool (number == h)) [ inl same ↦ c.1.0 ∙ here c.0 c.1.1 same | inr not ↦ c.1.0 ∙ there c.0 c.1.1 not ]
+          elim (cases_Bool (number == h)) [
+            | inl same ↦ c.1.0 ∙ here c.0 c.1.1 same
+            | inr not ↦ c.1.0
+                ∙ there c.0 c.1.1 not
+          ]
         where
-          here : (n : ℕ) → Gives t p h number (held p h t) n → (number == h) ≡ true → n ≡ owned p (handle_of a.state.opens k h)
+          here : (n : ℕ) → Gives t p h number (held p h t) n → (number == h) ≡ true
+              → n ≡ owned p (handle_of a.state.opens k h)
           here n g same =
               let is : number ≡ h = eqb-true number h same in
-              let its : h0.pid ≡ g.of = owned-pid g.of h0 (subst (λ x. 1 ≤ owned g.of x) one.held (was-open g.of g.remembered)) in
-              let before : held p h t ≡ unit (g.of == p) = o.counts p h ∙ ap (owned p) (subst (λ n. handle_of s.opens k n ≡ Some h0) is one.held) ∙ ap (λ x. unit (x == p)) its in
-              let gone : owned p (handle_of a.state.opens k h) ≡ 0 = ap (owned p) (subst (λ n. handle_of a.state.opens k n ≡ None) is handle-gone) in
+              let its : h0.pid ≡ g.of =
+              owned-pid g.of h0 (subst (λ x. 1 ≤ owned g.of x) one.held (was-open g.of g.remembered)) in
+              let before : held p h t ≡ unit (g.of == p) =
+              o.counts p h ∙ ap (owned p) (subst (λ n. handle_of s.opens k n ≡ Some h0) is one.held)
+              ∙ ap (λ x. unit (x == p)) its in
+              let gone : owned p (handle_of a.state.opens k h) ≡ 0 =
+              ap (owned p) (subst (λ n. handle_of a.state.opens k n ≡ None) is handle-gone) in
               omega (arith, g.less, before, gone, and-true (g.of == p) (number == h) same)
 
-          there : (n : ℕ) → Gives t p h number (held p h t) n → (number == h) ≡ false → n ≡ owned p (handle_of a.state.opens k h)
+          there : (n : ℕ) → Gives t p h number (held p h t) n → (number == h) ≡ false
+              → n ≡ owned p (handle_of a.state.opens k h)
           there n g not =
-              let old : owned p (handle_of a.state.opens k h) ≡ owned p (handle_of s.opens k h) = ap (owned p) (handle-kept h (eqb-false number h not)) in
+              let old : owned p (handle_of a.state.opens k h) ≡ owned p (handle_of s.opens k h) =
+              ap (owned p) (handle-kept h (eqb-false number h not)) in
               omega (arith, g.less, o.counts p h, old, and-false (g.of == p) (number == h) not)
 
       closed-modes : (m : ℕ) (g : Held) → handle_of a.state.opens k m ≡ Some g → IsExclusive g.file g.mode
-      closed-modes m g is = elim (cases_Bool (number == m)) [ inl same ↦ absurd (none-some g (sym (subst (λ n. handle_of a.state.opens k n ≡ None) (eqb-true number m same) handle-gone) ∙ is)) | inr not ↦ o.modes m g (sym (handle-kept m (eqb-false number m not)) ∙ is) ]
+      closed-modes m g is =
+          elim (cases_Bool (number == m)) [
+            | inl same ↦ absurd
+                (none-some g (sym (subst (λ n. handle_of a.state.opens k n ≡ None) (eqb-true number m same) handle-gone)
+                ∙ is))
+            | inr not ↦ o.modes m g (sym (handle-kept m (eqb-false number m not)) ∙ is)
+          ]
 
       closed-owns : Owns k (fed t a.reply) a.state
       closed-owns = record { fits = fits-on a.reply; counts = closed-count; modes = closed-modes }
 
-  plain-owns : (c : Call) (a : Answer) → next_call_of t ≡ Some c → keeps_handles c ≡ true → ((pid h n m : ℕ) → Changes t pid h a.reply (Some c) n m → m ≡ n) → answer_to s k c ≡ Some a → Owns k (fed t a.reply) a.state
+  plain-owns : (c : Call) (a : Answer) → next_call_of t ≡ Some c → keeps_handles c ≡ true
+      → ((pid h n m : ℕ) → Changes t pid h a.reply (Some c) n m → m ≡ n) → answer_to s k c ≡ Some a
+      → Owns k (fed t a.reply) a.state
   plain-owns c a next keeps same is =
       let opens = plain-leaves s k c a keeps is in
       record {
         fits = fits-on a.reply;
-        counts = λ p h. let ch = changed p h a.reply c next in ch.1.0 ∙ same p h (held p h t) ch.0 ch.1.1 ∙ o.counts p h ∙ ap (λ (x : Places). owned p (handle_of x k h)) (sym opens);
+        counts =
+            λ p h. let ch =
+            changed p h a.reply c next in ch.1.0 ∙ same p h (held p h t) ch.0 ch.1.1 ∙ o.counts p h
+            ∙ ap (λ (x : Places). owned p (handle_of x k h)) (sym opens);
         modes = λ m g e. o.modes m g (ap (λ (x : Places). handle_of x k m) (sym opens) ∙ e);
       }
 
-  pub call-owns : (c : Call) (a : Answer) → next_call_of t ≡ Some c → answer_to s k c ≡ Some a → Owns k (fed t a.reply) a.state
-  call-owns (call.Open pid id f mode) a next is = elim (open-opens s k pid id f mode a is) [ inl ref ↦ refused-owns pid id f mode a next ref | inr new ↦ opened-owns pid id f mode a next new ]
-  call-owns (call.Close number) a next is = elim (close-closes s k number a is) [ inl none ↦ absurd (not-open number a next none) | inr one ↦ closed-owns number a next one.0 one.1 ]
+  pub call-owns : (c : Call) (a : Answer) → next_call_of t ≡ Some c → answer_to s k c ≡ Some a
+      → Owns k (fed t a.reply) a.state
+  call-owns (call.Open pid id f mode) a next is =
+      elim (open-opens s k pid id f mode a is) [ inl ref ↦ refused-owns pid id f mode a next ref | inr new ↦ opened-owns pid id f mode a next new ]
+  call-owns (call.Close number) a next is =
+      elim (close-closes s k number a is) [
+        | inl none ↦ absurd
+            (not-open number a next none)
+        | inr one ↦ closed-owns number a next one.0 one.1
+      ]
   call-owns (call.Ctl handle bytes) a next is = plain-owns (call.Ctl handle bytes) a next refl (λ pid h n m e. e) is
-  call-owns (call.CtlWait handle until bytes) a next is = plain-owns (call.CtlWait handle until bytes) a next refl (λ pid h n m e. e) is
-  call-owns (call.Read handle from len) a next is = plain-owns (call.Read handle from len) a next refl (λ pid h n m e. e) is
+  call-owns (call.CtlWait handle until bytes) a next is =
+      plain-owns (call.CtlWait handle until bytes) a next refl (λ pid h n m e. e) is
+  call-owns (call.Read handle from len) a next is =
+      plain-owns (call.Read handle from len) a next refl (λ pid h n m e. e) is
   call-owns (call.Poll handles) a next is = plain-owns (call.Poll handles) a next refl (λ pid h n m e. e) is
-  call-owns (call.Interrupt controller) a next is = plain-owns (call.Interrupt controller) a next refl (λ pid h n m e. e) is
+  call-owns (call.Interrupt controller) a next is =
+      plain-owns (call.Interrupt controller) a next refl (λ pid h n m e. e) is
   call-owns (call.Spawn program held) a next is = plain-owns (call.Spawn program held) a next refl (λ pid h n m e. e) is
   call-owns (call.Kill pid sig) a next is = plain-owns (call.Kill pid sig) a next refl (λ p h n m e. e) is
   call-owns (call.Until moment) a next is = plain-owns (call.Until moment) a next refl (λ pid h n m e. e) is
@@ -302,12 +372,21 @@ opens-turn : (s : TracedState) (t : Option LwpTurn) → (after_turn s t).opens �
 opens-turn s None = refl
 opens-turn s (Some t) = refl
 
-entry-stays : (k : ℕ) (t : TrussState) (s u : TracedState) (rest : List Exchange) → Owns k t s → ((m : ℕ) → handle_of u.opens k m ≡ handle_of s.opens k m) → Makes t rest → Goes k t u rest rest
-entry-stays k t s u rest o same makes = record { truss = t; owns = same-owns k t s u same o; makes = makes; same = refl }
+entry-stays : (k : ℕ) (t : TrussState) (s u : TracedState) (rest : List Exchange) → Owns k t s
+    → ((m : ℕ) → handle_of u.opens k m ≡ handle_of s.opens k m) → Makes t rest → Goes k t u rest rest
+entry-stays k t s u rest o same makes = record {
+  truss = t;
+  owns = same-owns k t s u same o;
+  makes = makes;
+  same = refl;
+}
 
-call-goes : (n k : ℕ) (t : TrussState) (s : TracedState) (by : ℕ) (c : Call) (r : Reply) (rest : List Exchange) → Owns k t s → IsLegalEntry n s (record { actor = Controller by; act = act.Call c r }) → (mine : Bool) → (by == k) ≡ mine
+call-goes : (n k : ℕ) (t : TrussState) (s : TracedState) (by : ℕ) (c : Call) (r : Reply) (rest : List Exchange)
+    → Owns k t s → IsLegalEntry n s (record { actor = Controller by; act = act.Call c r }) → (mine : Bool)
+    → (by == k) ≡ mine
     → Makes t (cons_option (cond mine (Some (record { call = c; reply = r })) None) rest)
-    → Goes k t (after s (record { actor = Controller by; act = act.Call c r })) (cons_option (cond mine (Some (record { call = c; reply = r })) None) rest) rest
+    → Goes k t (after s (record { actor = Controller by; act = act.Call c r }))
+    (cons_option (cond mine (Some (record { call = c; reply = r })) None) rest) rest
 unfolding IsLegalEntry after
 call-goes n k t s by c r rest o legal true is makes =
     let a : Answer = record { state = legal.1.0; reply = r } in
@@ -320,14 +399,22 @@ call-goes n k t s by c r rest o legal true is makes =
     }
 call-goes n k t s by c r rest o legal false is makes =
     let a : Answer = record { state = legal.1.0; reply = r } in
-    entry-stays k t s (after_call s (answer_to s by c)) rest o (λ m. ap (λ x. handle_of (after_call s x).opens k m) legal.1.1 ∙ foreign-call s by k c a (eqb-false by k is) legal.1.1 m) makes
+    entry-stays k t s (after_call s (answer_to s by c)) rest o
+    (λ m. ap (λ x. handle_of (after_call s x).opens k m) legal.1.1
+    ∙ foreign-call s by k c a (eqb-false by k is) legal.1.1 m) makes
 
-entry-goes : (n k : ℕ) (t : TrussState) (s : TracedState) (actor : Actor) (did : Act) (rest : List Exchange) → Owns k t s → IsLegalEntry n s (record { actor = actor; act = did }) → Makes t (cons_option (exchange_in k actor did) rest) → Goes k t (after s (record { actor = actor; act = did })) (cons_option (exchange_in k actor did) rest) rest
+entry-goes : (n k : ℕ) (t : TrussState) (s : TracedState) (actor : Actor) (did : Act) (rest : List Exchange)
+    → Owns k t s → IsLegalEntry n s (record { actor = actor; act = did })
+    → Makes t (cons_option (exchange_in k actor did) rest)
+    → Goes k t (after s (record { actor = actor; act = did })) (cons_option (exchange_in k actor did) rest) rest
 unfolding IsLegalEntry after
-entry-goes n k t s (Controller by) (act.Call c r) rest o legal makes = call-goes n k t s by c r rest o legal (by == k) refl makes
+entry-goes n k t s (Controller by) (act.Call c r) rest o legal makes =
+    call-goes n k t s by c r rest o legal (by == k) refl makes
 entry-goes n k t s (Controller by) (act.Turn did) rest o legal makes = absurd legal
 entry-goes n k t s (Controller by) (act.Tick moment) rest o legal makes = absurd legal
-entry-goes n k t s (Lwp p l) (act.Turn did) rest o legal makes = entry-stays k t s (after_turn s (turn_of s.system p l)) rest o (λ m. ap (λ x. handle_of x k m) (opens-turn s (turn_of s.system p l))) makes
+entry-goes n k t s (Lwp p l) (act.Turn did) rest o legal makes =
+    entry-stays k t s (after_turn s (turn_of s.system p l)) rest o
+    (λ m. ap (λ x. handle_of x k m) (opens-turn s (turn_of s.system p l))) makes
 entry-goes n k t s (Lwp p l) (act.Call c r) rest o legal makes = absurd legal
 entry-goes n k t s (Lwp p l) (act.Tick moment) rest o legal makes = absurd legal
 entry-goes n k t s Clock (act.Tick moment) rest o legal makes = entry-stays k t s _ rest o (λ m. refl) makes
@@ -336,11 +423,13 @@ entry-goes n k t s Clock (act.Turn did) rest o legal makes = absurd legal
 
 -- ---- histories
 
-history-makes : (k : ℕ) (t : TrussState) (e : Entry) (h : List Entry) → Makes t (exchanges k (e ∷ h)) → Makes t (cons_option (exchange_of k e) (exchanges k h))
+history-makes : (k : ℕ) (t : TrussState) (e : Entry) (h : List Entry) → Makes t (exchanges k (e ∷ h))
+    → Makes t (cons_option (exchange_of k e) (exchanges k h))
 unfolding exchanges
 history-makes k t e h makes = makes
 
-history-same : (k : ℕ) (t : TrussState) (e : Entry) (h : List Entry) → truss_after t (exchanges k (e ∷ h)) ≡ truss_after t (cons_option (exchange_of k e) (exchanges k h))
+history-same : (k : ℕ) (t : TrussState) (e : Entry) (h : List Entry)
+    → truss_after t (exchanges k (e ∷ h)) ≡ truss_after t (cons_option (exchange_of k e) (exchanges k h))
 unfolding exchanges
 history-same k t e h = refl
 
@@ -348,11 +437,13 @@ no-exchange : (k : ℕ) (t : TrussState) → truss_after t (exchanges k []) ≡ 
 unfolding exchanges
 no-exchange k t = refl
 
-pub history-owns : (h : List Entry) (n k : ℕ) (t : TrussState) (s : TracedState) → Owns k t s → IsLegal n s h → Makes t (exchanges k h) → Owns k (truss_after t (exchanges k h)) (state_after s h)
+pub history-owns : (h : List Entry) (n k : ℕ) (t : TrussState) (s : TracedState) → Owns k t s → IsLegal n s h
+    → Makes t (exchanges k h) → Owns k (truss_after t (exchanges k h)) (state_after s h)
 history-owns [] n k t s o legal makes = subst (λ (u : TrussState). Owns k u s) (sym (no-exchange k t)) o
 history-owns (e ∷ h) n k t s o legal makes =
     let g = entry-goes n k t s e.actor e.act (exchanges k h) o legal.0 (history-makes k t e h makes) in
-    subst (λ (u : TrussState). Owns k u (state_after (after s e) h)) (sym (history-same k t e h ∙ g.same)) (history-owns h n k g.truss (after s e) g.owns legal.1 g.makes)
+    subst (λ (u : TrussState). Owns k u (state_after (after s e) h)) (sym (history-same k t e h
+    ∙ g.same)) (history-owns h n k g.truss (after s e) g.owns legal.1 g.makes)
 
 -- ---- the first and the last state
 
@@ -382,7 +473,14 @@ owned-none None zero_each = refl
 owned-none (Some g) zero_each = absurd (omega (arith, zero_each g.pid, ap unit (eq-eqb g.pid g.pid refl)))
 
 last-open : (k : ℕ) (t : TrussState) (s : TracedState) → Owns k t s → next_call_of t ≡ None → HasNothingOpen k s
-last-open k t s o finished = record { none = λ m. owned-none (handle_of s.opens k m) (λ pid. sym (o.counts pid m) ∙ nothing-held pid m t o.fits finished) }
+last-open k t s o finished =
+    record {
+      none = λ m. owned-none (handle_of s.opens k m) (λ pid. sym (o.counts pid m)
+          ∙ nothing-held pid m t o.fits finished);
+    }
 
-pub nothing-open : (n k : ℕ) (o : Options) (s : TracedState) (h : List Entry) → HasNothingOpen k s → IsLegal n s h → Ends (first_truss o) (exchanges k h) → HasNothingOpen k (state_after s h)
-nothing-open n k o s h none legal ends = last-open k (truss_after (first_truss o) (exchanges k h)) (state_after s h) (history-owns h n k (first_truss o) s (first-owns k o s none) legal ends.makes) ends.finished
+pub nothing-open : (n k : ℕ) (o : Options) (s : TracedState) (h : List Entry) → HasNothingOpen k s → IsLegal n s h
+    → Ends (first_truss o) (exchanges k h) → HasNothingOpen k (state_after s h)
+nothing-open n k o s h none legal ends =
+    last-open k (truss_after (first_truss o) (exchanges k h)) (state_after s h)
+    (history-owns h n k (first_truss o) s (first-owns k o s none) legal ends.makes) ends.finished

@@ -38,7 +38,8 @@ use Rattle.pr_model.proofs.TurnLemmas.{turn-taken}
 -- an lwp has the marks of an earlier one, or none
 pub data Carries (p : TracedProcess) (id : ℕ) (k : TracedLwp) : Type 0 where
   new : HasNoStop k → Carries p id k
-  old : (l : TracedLwp) → lwp_of p id ≡ Some l → k.control.stop ≡ l.control.stop → k.control.directed ≡ l.control.directed → Carries p id k
+  old : (l : TracedLwp) → lwp_of p id ≡ Some l → k.control.stop ≡ l.control.stop
+      → k.control.directed ≡ l.control.directed → Carries p id k
 
 pub record GoesOn (p q : TracedProcess) : Type 0 where
   pub ended : q.ended ≡ p.ended
@@ -49,7 +50,11 @@ same-settings : (p : TracedProcess) → HasSameSettings p p
 same-settings p = record { control = refl }
 
 next-settings : (p q r : TracedProcess) → HasSameSettings p q → HasSameSettings q r → HasSameSettings p r
-next-settings p q r one two = record { control = two.control ∙ ap (λ (c : TracedControl). record c { areas = r.control.areas; usage = r.control.usage }) one.control }
+next-settings p q r one two =
+    record {
+      control = two.control
+          ∙ ap (λ (c : TracedControl). record c { areas = r.control.areas; usage = r.control.usage }) one.control;
+    }
 
 goes_on-self : (p : TracedProcess) → GoesOn p p
 goes_on-self p = record { ended = refl; settings = same-settings p; lwps = λ id k there. old k there refl refl }
@@ -72,52 +77,94 @@ goes_on-next p q r one two = record {
 goes_on-undisturbed : (p q : TracedProcess) → IsUndisturbed p q → GoesOn p q
 goes_on-undisturbed p q u = record {
   ended = ap (λ (x : TracedProcess). x.ended) u.rest;
-  settings = record { control = ap (λ (x : TracedProcess). x.control) u.rest ∙ sym (ap (λ (c : TracedControl). record p.control { areas = c.areas; usage = c.usage }) (ap (λ (x : TracedProcess). x.control) u.rest)) };
-  lwps = λ id k there. let l = u.each id k there in old l.0 l.1.0 (ap (λ (x : TracedLwp). x.control.stop) l.1.1) (ap (λ (x : TracedLwp). x.control.directed) l.1.1);
+  settings =
+      record {
+        control = ap (λ (x : TracedProcess). x.control) u.rest
+            ∙ sym (ap (λ (c : TracedControl). record p.control { areas = c.areas; usage = c.usage })
+            (ap (λ (x : TracedProcess). x.control) u.rest));
+      };
+  lwps =
+      λ id k there. let l =
+      u.each id k there in old l.0 l.1.0 (ap (λ (x : TracedLwp). x.control.stop) l.1.1)
+      (ap (λ (x : TracedLwp). x.control.directed) l.1.1);
 }
 
 -- where neither the settings nor the lwps change
 goes_on-same : (p q : TracedProcess) → q.ended ≡ p.ended → q.control ≡ p.control → q.lwps ≡ p.lwps → GoesOn p q
 goes_on-same p q ended control lwps = record {
   ended = ended;
-  settings = record { control = control ∙ sym (ap (λ (c : TracedControl). record p.control { areas = c.areas; usage = c.usage }) control) };
+  settings =
+      record {
+        control = control
+            ∙ sym (ap (λ (c : TracedControl). record p.control { areas = c.areas; usage = c.usage }) control);
+      };
   lwps = λ id k there. old k (ap (under id) (sym lwps) ∙ there) refl refl;
 }
 
 -- where one lwp changes, but for its stop and its directive
-carried : (f : TracedLwp → TracedLwp) → ((l : TracedLwp) → (f l).control.stop ≡ l.control.stop) → ((l : TracedLwp) → (f l).control.directed ≡ l.control.directed) → (p : TracedProcess) (id : ℕ) (k : TracedLwp) → (o : Option TracedLwp) → lwp_of p id ≡ o → option_map f o ≡ Some k → Carries p id k
+carried : (f : TracedLwp → TracedLwp) → ((l : TracedLwp) → (f l).control.stop ≡ l.control.stop)
+    → ((l : TracedLwp) → (f l).control.directed ≡ l.control.directed) → (p : TracedProcess) (id : ℕ) (k : TracedLwp)
+    → (o : Option TracedLwp) → lwp_of p id ≡ o → option_map f o ≡ Some k → Carries p id k
 carried f stop mark p id k None there is = absurd (none-some k is)
-carried f stop mark p id k (Some l) there is = old l there (ap (λ (x : TracedLwp). x.control.stop) (sym (same_Some (f l) k is)) ∙ stop l) (ap (λ (x : TracedLwp). x.control.directed) (sym (same_Some (f l) k is)) ∙ mark l)
+carried f stop mark p id k (Some l) there is =
+    old l there (ap (λ (x : TracedLwp). x.control.stop) (sym (same_Some (f l) k is))
+    ∙ stop l) (ap (λ (x : TracedLwp). x.control.directed) (sym (same_Some (f l) k is)) ∙ mark l)
 
-goes_on-lwp : (target : ℕ) (f : TracedLwp → TracedLwp) → ((l : TracedLwp) → (f l).control.stop ≡ l.control.stop) → ((l : TracedLwp) → (f l).control.directed ≡ l.control.directed) → (p : TracedProcess) → GoesOn p (with_lwp target f p)
+goes_on-lwp : (target : ℕ) (f : TracedLwp → TracedLwp) → ((l : TracedLwp) → (f l).control.stop ≡ l.control.stop)
+    → ((l : TracedLwp) → (f l).control.directed ≡ l.control.directed) → (p : TracedProcess)
+    → GoesOn p (with_lwp target f p)
 unfolding with_lwp
 goes_on-lwp target f stop mark p = record {
   ended = refl;
   settings = record { control = refl };
-  lwps = λ id k there. elim (cases_Bool (target == id)) [ inl same ↦ own id k (eqb-true target id same) there | inr not_same ↦ old k (sym (under-change_under_other target id f (eqb-false target id not_same) p.lwps) ∙ there) refl refl ];
+  lwps =
+      λ id k there. elim
+      (cases_Bool (target == id)) [
+        | inl same ↦ own id k (eqb-true target id same) there
+        | inr not_same ↦ old k
+            (sym (under-change_under_other target id f (eqb-false target id not_same) p.lwps) ∙ there) refl refl
+      ];
 }
   where
     own : (id : ℕ) (k : TracedLwp) → target ≡ id → under id (change_under target f p.lwps) ≡ Some k → Carries p id k
-    own id k same there = carried f stop mark p id k (lwp_of p id) refl (sym (under-change_under id f p.lwps) ∙ subst (λ n. under id (change_under n f p.lwps) ≡ Some k) same there)
+    own id k same there =
+        carried f stop mark p id k (lwp_of p id) refl (sym (under-change_under id f p.lwps)
+        ∙ subst (λ n. under id (change_under n f p.lwps) ≡ Some k) same there)
 
 -- ---- what changes make of the process itself
 
-new-carries : (p : TracedProcess) (id : ℕ) (regs : List ℕ) (held : ℕ) → Carries p id (new_lwp traced regs held (no_marks false))
+new-carries : (p : TracedProcess) (id : ℕ) (regs : List ℕ) (held : ℕ)
+    → Carries p id (new_lwp traced regs held (no_marks false))
 unfolding new_lwp no_marks
 new-carries p id regs held = new (record { no_stop = refl; not_directed = refl })
 
 goes_on-new : (fresh held : ℕ) (regs : List ℕ) (p : TracedProcess) → GoesOn p (with_new_lwp traced fresh regs held p)
 unfolding with_new_lwp traced
-goes_on-new fresh held regs p = elim (is_some (lwp_of p fresh)) as (λ b. GoesOn p (cond b p (record p { next_lwp = fresh + 1; lwps = inserted fresh (new_lwp traced regs held (no_marks false)) p.lwps }))) [ true ↦ goes_on-self p | false ↦ record { ended = refl; settings = record { control = refl }; lwps = λ id k there. elim (cases_Bool (fresh == id)) [ inl same ↦ own id k (eqb-true fresh id same) there | inr not_same ↦ old k (sym (under-inserted_other fresh id (new_lwp traced regs held (no_marks false)) (eqb-false fresh id not_same) p.lwps) ∙ there) refl refl ] } ]
+goes_on-new fresh held regs p = elim (is_some (lwp_of p fresh)) as
+    (λ b. GoesOn p
+    (cond b p
+    (record p {
+      next_lwp = fresh + 1;
+      lwps = inserted fresh
+          (new_lwp traced regs held
+          (no_marks false)) p.lwps;
+    }))) [ true ↦ goes_on-self p | false ↦ record { ended = refl; settings = record { control = refl }; lwps = λ id k there. elim (cases_Bool (fresh == id)) [ inl same ↦ own id k (eqb-true fresh id same) there | inr not_same ↦ old k (sym (under-inserted_other fresh id (new_lwp traced regs held (no_marks false)) (eqb-false fresh id not_same) p.lwps) ∙ there) refl refl ] } ]
   where
-    own : (id : ℕ) (k : TracedLwp) → fresh ≡ id → under id (inserted fresh (new_lwp traced regs held (no_marks false)) p.lwps) ≡ Some k → Carries p id k
+    own : (id : ℕ) (k : TracedLwp) → fresh ≡ id
+        → under id (inserted fresh (new_lwp traced regs held (no_marks false)) p.lwps) ≡ Some k → Carries p id k
     own id k same there =
-        let is : new_lwp traced regs held (no_marks false) ≡ k = same_Some _ k (sym (under-inserted fresh (new_lwp traced regs held (no_marks false)) p.lwps) ∙ subst (λ n. under n (inserted fresh (new_lwp traced regs held (no_marks false)) p.lwps) ≡ Some k) (sym same) there) in
+        let is : new_lwp traced regs held (no_marks false) ≡ k =
+        same_Some _ k (sym (under-inserted fresh (new_lwp traced regs held (no_marks false)) p.lwps)
+        ∙ subst (λ n. under n (inserted fresh (new_lwp traced regs held (no_marks false)) p.lwps) ≡ Some k)
+        (sym same) there) in
         subst (Carries p id) is (new-carries p id regs held)
 
 module _ (id : ℕ) (l : TracedLwp) where
   -- a process that runs another program keeps the one lwp, which made the call, with its marks
-  goes_on-program : (program : _) (p : TracedProcess) → ((k : TracedLwp) → lwp_of p id ≡ Some k → (k.control.stop ≡ l.control.stop) × (k.control.directed ≡ l.control.directed)) → is_some (lwp_of p id) ≡ true → GoesOn p (with_program traced id l program p)
+  goes_on-program : (program : _) (p : TracedProcess)
+      → ((k : TracedLwp) → lwp_of p id ≡ Some k → (k.control.stop ≡ l.control.stop) ×
+      (k.control.directed ≡ l.control.directed)) → is_some (lwp_of p id) ≡ true → GoesOn p
+      (with_program traced id l program p)
   unfolding with_program traced exec_control started
   goes_on-program program p marks stands = record {
     ended = refl;
@@ -125,12 +172,20 @@ module _ (id : ℕ) (l : TracedLwp) where
     lwps = λ own k there. by own k (id == own) refl there;
   }
     where
-      found : (o : Option TracedLwp) → lwp_of p id ≡ o → is_some o ≡ true → (k : TracedLwp) → k.control ≡ l.control → Carries p id k
+      found : (o : Option TracedLwp) → lwp_of p id ≡ o → is_some o ≡ true → (k : TracedLwp) → k.control ≡ l.control
+          → Carries p id k
       found None there some k same = cc
-      found (Some m) there some k same = let its = marks m there in old m there (ap (λ (c : LwpControl). c.stop) same ∙ sym its.0) (ap (λ (c : LwpControl). c.directed) same ∙ sym its.1)
+      found (Some m) there some k same =
+          let its = marks m there in
+          old m there (ap (λ (c : LwpControl). c.stop) same ∙ sym its.0) (ap (λ (c : LwpControl). c.directed) same
+          ∙ sym its.1)
 
-      by : (own : ℕ) (k : TracedLwp) (b : Bool) → (id == own) ≡ b → cond b (Some (started traced l)) None ≡ Some k → Carries p own k
-      by own k true is e = subst (λ n. Carries p n k) (eqb-true id own is) (found (lwp_of p id) refl stands k (ap (λ (x : TracedLwp). x.control) (sym (same_Some (started traced l) k e))))
+      by : (own : ℕ) (k : TracedLwp) (b : Bool) → (id == own) ≡ b → cond b (Some (started traced l)) None ≡ Some k
+          → Carries p own k
+      by own k true is e =
+          subst (λ n. Carries p n k) (eqb-true id own is)
+          (found (lwp_of p id) refl stands k
+          (ap (λ (x : TracedLwp). x.control) (sym (same_Some (started traced l) k e))))
       by own k false is e = absurd (none-some k e)
 
 -- ---- systems
@@ -138,7 +193,8 @@ module _ (id : ℕ) (l : TracedLwp) where
 module _ (pid : ℕ) where
   -- the process of this id, where it lives later, lived before and went on
   pub record Carried (s u : TracedSystem) : Type 0 where
-    pub from : (q : TracedProcess) → process_of u pid ≡ Some q → q.ended ≡ None → (p : TracedProcess) × ((process_of s pid ≡ Some p) × GoesOn p q)
+    pub from : (q : TracedProcess) → process_of u pid ≡ Some q → q.ended ≡ None
+        → (p : TracedProcess) × ((process_of s pid ≡ Some p) × GoesOn p q)
 
   carried-same : (s : TracedSystem) → Carried s s
   carried-same s = record { from = λ q there live. (q, (there, goes_on-self q)) }
@@ -152,29 +208,40 @@ module _ (pid : ℕ) where
   }
 
   carried-spared : (s u : TracedSystem) → Spares pid s u → Carried s u
-  carried-spared s u sp = record { from = λ q there live. let a = sp.from q there live in (a.0, (a.1.0, goes_on-undisturbed a.0 q a.1.1)) }
+  carried-spared s u sp =
+      record { from = λ q there live. let a = sp.from q there live in (a.0, (a.1.0, goes_on-undisturbed a.0 q a.1.1)) }
 
   carried-if : (b : Bool) (s u v : TracedSystem) → Carried s u → Carried s v → Carried s (cond b u v)
   carried-if true s u v p q = p
   carried-if false s u v p q = q
 
-  mapped-on : (f : TracedProcess → TracedProcess) (o : Option TracedProcess) (q : TracedProcess) → ((x : TracedProcess) → o ≡ Some x → GoesOn x (f x)) → option_map f o ≡ Some q → (p : TracedProcess) × ((o ≡ Some p) × GoesOn p q)
+  mapped-on : (f : TracedProcess → TracedProcess) (o : Option TracedProcess) (q : TracedProcess)
+      → ((x : TracedProcess) → o ≡ Some x → GoesOn x (f x)) → option_map f o ≡ Some q
+      → (p : TracedProcess) × ((o ≡ Some p) × GoesOn p q)
   mapped-on f None q goes is = absurd (none-some q is)
   mapped-on f (Some p) q goes is = (p, (refl, subst (GoesOn p) (same_Some (f p) q is) (goes p refl)))
 
-  own-carried : (f : TracedProcess → TracedProcess) (s : TracedSystem) → ((x : TracedProcess) → process_of s pid ≡ Some x → GoesOn x (f x)) → Carried s (with_process pid f s)
+  own-carried : (f : TracedProcess → TracedProcess) (s : TracedSystem)
+      → ((x : TracedProcess) → process_of s pid ≡ Some x → GoesOn x (f x)) → Carried s (with_process pid f s)
   unfolding with_process
-  own-carried f s goes = record { from = λ q there live. mapped-on f (process_of s pid) q goes (sym (under-change_under pid f s.processes) ∙ there) }
+  own-carried f s goes =
+      record {
+        from = λ q there live. mapped-on f (process_of s pid) q goes (sym (under-change_under pid f s.processes)
+            ∙ there);
+      }
 
   files-carried : (files : FileTable) (s : TracedSystem) → Carried s (record s { files = files })
   files-carried files s = record { from = λ q there live. (q, (there, goes_on-self q)) }
 
   module _ (p : TracedProcess) (id : ℕ) (l : TracedLwp) where
-    program-carried : (program : Program) (s : TracedSystem) → SuitsProgram s pid id l program → Carried s (with_process pid (with_program traced id l program) s)
+    program-carried : (program : Program) (s : TracedSystem) → SuitsProgram s pid id l program
+        → Carried s (with_process pid (with_program traced id l program) s)
     program-carried program s suits = own-carried (with_program traced id l program) s (λ x there.
         let same : suits.process ≡ x = same_Some suits.process x (sym suits.found ∙ there) in
         let stands : lwp_of x id ≡ Some l = subst (λ (y : TracedProcess). lwp_of y id ≡ Some l) same suits.there in
-        goes_on-program id l program x (λ k at. let is : k ≡ l = same_Some k l (sym at ∙ stands) in (ap (λ (y : TracedLwp). y.control.stop) is, ap (λ (y : TracedLwp). y.control.directed) is)) (ap (λ o. is_some o) stands))
+        goes_on-program id l program x (λ k at. let is : k ≡ l = same_Some k l (sym at
+        ∙ stands) in (ap (λ (y : TracedLwp). y.control.stop) is, ap (λ (y : TracedLwp). y.control.directed) is))
+        (ap (λ o. is_some o) stands))
 
     child-carried : (birth : Birth) (args : List ℕ) (s : TracedSystem)
         → Carried s (cond (s.made == pid) s (with_child traced birth pid p l args s))
@@ -200,24 +267,42 @@ module _ (pid : ℕ) where
         by true is = carried-same s
         by false is = carried-spared s _ (reaped-spares pid child s (eqb-false child pid is))
 
-    change-carries : (c : Change) (s : TracedSystem) → SuitsChange pid p id l s c → Carried s (changed traced pid p id l c s)
+    change-carries : (c : Change) (s : TracedSystem) → SuitsChange pid p id l s c
+        → Carried s (changed traced pid p id l c s)
     unfolding changed with_fds with_space with_shared_taken with_job_stop with_disposition_of with_held resumed with_suspended
-    change-carries (files_are files fds) s suits = carried-next s (record s { files = files }) _ (files-carried files s) (own-carried (with_fds fds) (record s { files = files }) (λ x at. goes_on-same x (with_fds fds x) refl refl refl))
-    change-carries (space_is space) s suits = own-carried (with_space space) s (λ x at. goes_on-same x (with_space space x) refl refl refl)
-    change-carries (signals target g info) s suits = carried-if (is_kill g && (target == pid)) s s _ (carried-same s) (carried-spared s _ (generated-spares pid target None g info s))
-    change-carries (signals_itself g info) s suits = carried-if (is_kill g) s s _ (carried-same s) (carried-spared s _ (generated-spares pid pid (Some id) g info s))
-    change-carries (takes_shared g) s suits = own-carried (with_shared_taken g) s (λ x at. goes_on-same x (with_shared_taken g x) refl refl refl)
-    change-carries (job_stops g) s suits = own-carried (with_job_stop g) s (λ x at. goes_on-same x (with_job_stop g x) refl refl refl)
-    change-carries (disposition_is g d) s suits = own-carried (with_disposition_of g d) s (λ x at. goes_on-same x (with_disposition_of g d x) refl refl refl)
-    change-carries (held_is held) s suits = own-carried (with_lwp id (with_held held)) s (λ x at. goes_on-lwp id (with_held held) (λ k. refl) (λ k. refl) x)
-    change-carries (resumes frame frames) s suits = own-carried (with_lwp id (resumed frame frames)) s (λ x at. goes_on-lwp id (resumed frame frames) (λ k. refl) (λ k. refl) x)
+    change-carries (files_are files fds) s suits =
+        carried-next s (record s { files = files }) _ (files-carried files s)
+        (own-carried (with_fds fds) (record s { files = files })
+        (λ x at. goes_on-same x (with_fds fds x) refl refl refl))
+    change-carries (space_is space) s suits =
+        own-carried (with_space space) s (λ x at. goes_on-same x (with_space space x) refl refl refl)
+    change-carries (signals target g info) s suits =
+        carried-if (is_kill g && (target == pid)) s s _ (carried-same s)
+        (carried-spared s _ (generated-spares pid target None g info s))
+    change-carries (signals_itself g info) s suits =
+        carried-if (is_kill g) s s _ (carried-same s) (carried-spared s _ (generated-spares pid pid (Some id) g info s))
+    change-carries (takes_shared g) s suits =
+        own-carried (with_shared_taken g) s (λ x at. goes_on-same x (with_shared_taken g x) refl refl refl)
+    change-carries (job_stops g) s suits =
+        own-carried (with_job_stop g) s (λ x at. goes_on-same x (with_job_stop g x) refl refl refl)
+    change-carries (disposition_is g d) s suits =
+        own-carried (with_disposition_of g d) s (λ x at. goes_on-same x (with_disposition_of g d x) refl refl refl)
+    change-carries (held_is held) s suits =
+        own-carried (with_lwp id (with_held held)) s (λ x at. goes_on-lwp id (with_held held) (λ k. refl) (λ k. refl) x)
+    change-carries (resumes frame frames) s suits =
+        own-carried (with_lwp id (resumed frame frames)) s
+        (λ x at. goes_on-lwp id (resumed frame frames) (λ k. refl) (λ k. refl) x)
     change-carries (forks birth args) s suits = child-carried birth args s
     change-carries (reaps child) s suits = reaped-carried child s
     change-carries (becomes program) s suits = program-carried program s suits
-    change-carries (makes_lwp fresh regs held) s suits = own-carried (with_new_lwp traced fresh regs held) s (λ x at. goes_on-new fresh held regs x)
-    change-carries (suspends target suspended) s suits = own-carried (with_lwp target (with_suspended suspended)) s (λ x at. goes_on-lwp target (with_suspended suspended) (λ k. refl) (λ k. refl) x)
+    change-carries (makes_lwp fresh regs held) s suits =
+        own-carried (with_new_lwp traced fresh regs held) s (λ x at. goes_on-new fresh held regs x)
+    change-carries (suspends target suspended) s suits =
+        own-carried (with_lwp target (with_suspended suspended)) s
+        (λ x at. goes_on-lwp target (with_suspended suspended) (λ k. refl) (λ k. refl) x)
 
-    pub changes-carry : (cs : List Change) (s : TracedSystem) → SuitChanges pid p id l s cs → Carried s (all_changed traced pid p id l cs s)
+    pub changes-carry : (cs : List Change) (s : TracedSystem) → SuitChanges pid p id l s cs
+        → Carried s (all_changed traced pid p id l cs s)
     unfolding all_changed
     changes-carry [] s suits = carried-same s
     changes-carry (c ∷ cs) s suits =
@@ -226,7 +311,9 @@ module _ (pid : ℕ) where
 
     -- ---- the move, the end, the counts
 
-    moved-stop : (m : Move) (k : TracedLwp) → is_stop m ≡ false → ((moved traced m k).control.stop ≡ k.control.stop) × ((moved traced m k).control.directed ≡ k.control.directed)
+    moved-stop : (m : Move) (k : TracedLwp) → is_stop m ≡ false
+        → ((moved traced m k).control.stop ≡ k.control.stop) ×
+        ((moved traced m k).control.directed ≡ k.control.directed)
     unfolding moved traced fault_posted fault_incurred step_taken call_over
     moved-stop stops k not_stop = cc
     moved-stop _ k not_stop = (refl, refl)
@@ -237,41 +324,73 @@ module _ (pid : ℕ) where
     goes_on-without x rises = record {
       ended = refl;
       settings = record { control = refl };
-      lwps = λ own k there. elim (cases_Bool (id == own)) [ inl same ↦ absurd (none-some k (sym (under-without_id 0 own x.lwps rises) ∙ subst (λ n. under own (without_id n x.lwps) ≡ Some k) (eqb-true id own same) there)) | inr not_same ↦ old k (sym (under-without_id_other id own (eqb-false id own not_same) x.lwps) ∙ there) refl refl ];
+      lwps =
+          λ own k there. elim
+          (cases_Bool (id == own)) [
+            | inl same ↦ absurd (none-some k (sym (under-without_id 0 own x.lwps rises)
+                ∙ subst (λ n. under own (without_id n x.lwps) ≡ Some k)
+                (eqb-true id own same) there))
+            | inr not_same ↦ old k
+                (sym (under-without_id_other id own (eqb-false id own not_same) x.lwps) ∙ there) refl refl
+          ];
     }
 
-    ended-carries : (how : Option Ending) (s : TracedSystem) → ((x : TracedProcess) (e : Ending) → how ≡ Some e → process_of s pid ≡ Some x → IsRising x.lwps) → Carried s (ended_if traced pid p id l how s)
+    ended-carries : (how : Option Ending) (s : TracedSystem)
+        → ((x : TracedProcess) (e : Ending) → how ≡ Some e → process_of s pid ≡ Some x → IsRising x.lwps)
+        → Carried s (ended_if traced pid p id l how s)
     unfolding ended with_lwp_ended
     ended-carries None s rises = carried-same s
     ended-carries (Some (ends_process status)) s rises = carried-spared s _ (end-spares pid pid p status s)
-    ended-carries (Some ends_lwp) s rises = carried-if (length p.lwps == 1) s _ _ (carried-spared s _ (end-spares pid pid p 0 s)) (own-carried (without_lwp id) s (λ x at. goes_on-without x (rises x ends_lwp refl at)))
+    ended-carries (Some ends_lwp) s rises =
+        carried-if (length p.lwps == 1) s _ _ (carried-spared s _ (end-spares pid pid p 0 s))
+        (own-carried (without_lwp id) s (λ x at. goes_on-without x (rises x ends_lwp refl at)))
 
     -- what ends its lwp changes nothing else
-    end-rises : (t : Transition) (s : TracedSystem) → IsLawfulSystem s → SuitsTransition s pid p id l t → (x : TracedProcess) (e : Ending) → t.ending ≡ Some e → process_of (with_lwp_of pid id (moved traced t.move) (all_changed traced pid p id l t.changes s)) pid ≡ Some x → IsRising x.lwps
+    end-rises : (t : Transition) (s : TracedSystem) → IsLawfulSystem s → SuitsTransition s pid p id l t
+        → (x : TracedProcess) (e : Ending) → t.ending ≡ Some e
+        → process_of
+        (with_lwp_of pid id (moved traced t.move) (all_changed traced pid p id l t.changes s)) pid ≡ Some x
+        → IsRising x.lwps
     unfolding all_changed
     end-rises t s h suits x e is at =
         let alone = suits.alone e is in
-        let same : with_lwp_of pid id (moved traced t.move) (all_changed traced pid p id l t.changes s) ≡ s = ap (λ cs. with_lwp_of pid id (moved traced t.move) (all_changed traced pid p id l cs s)) alone.0 ∙ ap (λ m. with_lwp_of pid id (moved traced m) s) alone.1 ∙ stayed pid id s in
-        let own = All-under IsLawfulProcess pid x s.processes h.processes (ap (λ (v : TracedSystem). process_of v pid) (sym same) ∙ at) in
+        let same : with_lwp_of pid id (moved traced t.move) (all_changed traced pid p id l t.changes s) ≡ s =
+        ap (λ cs. with_lwp_of pid id (moved traced t.move) (all_changed traced pid p id l cs s)) alone.0
+        ∙ ap (λ m. with_lwp_of pid id (moved traced m) s) alone.1 ∙ stayed pid id s in
+        let own =
+        All-under IsLawfulProcess pid x s.processes h.processes
+        (ap (λ (v : TracedSystem). process_of v pid) (sym same) ∙ at) in
         own.rising
 
-    pub row-carries : (row : Row) (s : TracedSystem) → IsLawfulSystem s → is_stop row.transition.move ≡ false → SuitsTransition s pid p id l row.transition → Carried s (with_process pid (with_counted row.did row.begun) (after_transition traced pid p id l row.transition s))
+    pub row-carries : (row : Row) (s : TracedSystem) → IsLawfulSystem s → is_stop row.transition.move ≡ false
+        → SuitsTransition s pid p id l row.transition
+        → Carried s
+        (with_process pid (with_counted row.did row.begun) (after_transition traced pid p id l row.transition s))
     unfolding after_transition with_lwp_of with_counted
     row-carries row s h not_stop suits =
         let t : Transition = row.transition in
         let changes : TracedSystem = all_changed traced pid p id l t.changes s in
         let moves : TracedSystem = with_process pid (with_lwp id (moved traced t.move)) changes in
         let ends : TracedSystem = ended_if traced pid p id l t.ending moves in
-        let one = carried-next s changes moves (changes-carry t.changes s suits.changes) (own-carried (with_lwp id (moved traced t.move)) changes (λ x at. goes_on-lwp id (moved traced t.move) (λ k. (moved-stop t.move k not_stop).0) (λ k. (moved-stop t.move k not_stop).1) x)) in
+        let one =
+        carried-next s changes moves (changes-carry t.changes s suits.changes)
+        (own-carried (with_lwp id (moved traced t.move)) changes
+        (λ x at. goes_on-lwp id (moved traced t.move) (λ k. (moved-stop t.move k not_stop).0)
+        (λ k. (moved-stop t.move k not_stop).1) x)) in
         let two = carried-next s moves ends one (ended-carries t.ending moves (end-rises t s h suits)) in
         carried-next s ends _ two (own-carried (with_counted row.did row.begun) ends (λ x at. counted-on row x))
       where
         counted-on : (r : Row) (x : TracedProcess) → GoesOn x (with_counted r.did r.begun x)
-        counted-on r x = record { ended = refl; settings = record { control = refl }; lwps = λ own k there. old k there refl refl }
+        counted-on r x = record {
+          ended = refl;
+          settings = record { control = refl };
+          lwps = λ own k there. old k there refl refl;
+        }
 
 -- ---- the point that was met
 
-pub traced-same : (p q : TracedProcess) → HasSameSettings p q → (pt : Point) → is_traced q.control pt ≡ is_traced p.control pt
+pub traced-same : (p q : TracedProcess) → HasSameSettings p q → (pt : Point)
+    → is_traced q.control pt ≡ is_traced p.control pt
 unfolding is_traced
 traced-same p q same (Signal g) = ap (λ (c : TracedControl). is_traced c (Signal g)) same.control
 traced-same p q same (Fault f) = ap (λ (c : TracedControl). is_traced c (Fault f)) same.control
@@ -283,7 +402,9 @@ quiet-on p q g quiet = record { each = λ id k there. by id k (g.lwps id k there
   where
     by : (id : ℕ) (k : TracedLwp) → Carries p id k → HasNoStop k
     by id k (new none) = none
-    by id k (old l there stop mark) = let n = quiet.each id l there in record { no_stop = stop ∙ n.no_stop; not_directed = mark ∙ n.not_directed }
+    by id k (old l there stop mark) =
+        let n = quiet.each id l there in
+        record { no_stop = stop ∙ n.no_stop; not_directed = mark ∙ n.not_directed }
 
 -- an lwp that was directed will stop
 or-true : (a : Bool) → (a || true) ≡ true
@@ -294,13 +415,15 @@ directed-stops : (l : TracedLwp) → will_stop (directed l) ≡ true
 unfolding directed
 directed-stops l = by (is_some l.control.stop) refl
   where
-    by : (b : Bool) → is_some l.control.stop ≡ b → will_stop (cond b l (record l { control = record l.control { directed = true } })) ≡ true
+    by : (b : Bool) → is_some l.control.stop ≡ b
+        → will_stop (cond b l (record l { control = record l.control { directed = true } })) ≡ true
     by true is = rw is refl
     by false is = or-true (is_some l.control.stop || l.suspended)
 
 pub all-directed : (x : TracedProcess) → IsHalting (with_all_directed x)
 unfolding with_all_directed
-all-directed x = record { each = λ id k there. by (under id x.lwps) k (sym (under-map_each id directed x.lwps) ∙ there) }
+all-directed x =
+    record { each = λ id k there. by (under id x.lwps) k (sym (under-map_each id directed x.lwps) ∙ there) }
   where
     by : (o : Option TracedLwp) (k : TracedLwp) → option_map directed o ≡ Some k → will_stop k ≡ true
     by None k is = absurd (none-some k is)
@@ -319,7 +442,8 @@ module _ (pt : Point) (id : ℕ) (x : TracedProcess) where
   halted : TracedProcess
   halted = with_all_directed (with_lwp id (stopped_at pt) x)
 
-  stop-is : has_flags x.control.modes async_mode ≡ false → with_stop_at pt id x ≡ with_all_directed (with_lwp id (stopped_at pt) x)
+  stop-is : has_flags x.control.modes async_mode ≡ false
+      → with_stop_at pt id x ≡ with_all_directed (with_lwp id (stopped_at pt) x)
   unfolding with_stop_at with_others_directed with_lwp
   stop-is off = rw off refl
 
@@ -327,9 +451,12 @@ module _ (pt : Point) (id : ℕ) (x : TracedProcess) where
   unfolding with_all_directed with_lwp
   halted-on g = record { control = refl }
 
-  halted-stands : (l : TracedLwp) → lwp_of (with_all_directed (with_lwp id (stopped_at pt) x)) id ≡ Some l → StandsOnEvent l
+  halted-stands : (l : TracedLwp) → lwp_of (with_all_directed (with_lwp id (stopped_at pt) x)) id ≡ Some l
+      → StandsOnEvent l
   unfolding with_all_directed with_lwp
-  halted-stands l there = by (lwp_of x id) (ap (option_map directed) (sym (under-change_under id (stopped_at pt) x.lwps)) ∙ sym (under-map_each id directed (change_under id (stopped_at pt) x.lwps)) ∙ there)
+  halted-stands l there =
+      by (lwp_of x id) (ap (option_map directed) (sym (under-change_under id (stopped_at pt) x.lwps))
+      ∙ sym (under-map_each id directed (change_under id (stopped_at pt) x.lwps)) ∙ there)
     where
       by : (o : Option TracedLwp) → option_map directed (option_map (stopped_at pt) o) ≡ Some l → StandsOnEvent l
       by None is = absurd (none-some l is)
@@ -339,9 +466,11 @@ module _ (pt : Point) (id : ℕ) (x : TracedProcess) where
 
 pub data AfterTurn (p : TracedProcess) (id : ℕ) (stop : Bool) (q : TracedProcess) : Type 0 where
   quiet : stop ≡ false → IsQuiet q → HasSameSettings p q → AfterTurn p id stop q
-  met : stop ≡ true → IsHalting q → HasSameSettings p q → ((l : TracedLwp) → lwp_of q id ≡ Some l → StandsOnEvent l) → AfterTurn p id stop q
+  met : stop ≡ true → IsHalting q → HasSameSettings p q → ((l : TracedLwp) → lwp_of q id ≡ Some l → StandsOnEvent l)
+      → AfterTurn p id stop q
 
-after-point : (p x : TracedProcess) (id : ℕ) (point : Option Point) → GoesOn p x → IsQuiet p → has_flags p.control.modes async_mode ≡ false → AfterTurn p id (meets p.control point) (after_meeting point id x)
+after-point : (p x : TracedProcess) (id : ℕ) (point : Option Point) → GoesOn p x → IsQuiet p
+    → has_flags p.control.modes async_mode ≡ false → AfterTurn p id (meets p.control point) (after_meeting point id x)
 unfolding after_meeting
 after-point p x id None g still off = quiet refl (quiet-on p x g still) g.settings
 after-point p x id (Some pt) g still off = by (is_traced x.control pt) refl
@@ -352,32 +481,58 @@ after-point p x id (Some pt) g still off = by (is_traced x.control pt) refl
     off-too : has_flags x.control.modes async_mode ≡ false
     off-too = ap (λ (c : TracedControl). has_flags c.modes async_mode) g.settings.control ∙ off
 
-    by : (b : Bool) → is_traced x.control pt ≡ b → AfterTurn p id (is_traced p.control pt) (cond b (with_stop_at pt id x) x)
+    by : (b : Bool) → is_traced x.control pt ≡ b
+        → AfterTurn p id (is_traced p.control pt) (cond b (with_stop_at pt id x) x)
     by false is = quiet (sym same ∙ is) (quiet-on p x g still) g.settings
     by true is =
         let h : TracedProcess = with_all_directed (with_lwp id (stopped_at pt) x) in
         subst (λ (q : TracedProcess). AfterTurn p id (is_traced p.control pt) q) (sym (stop-is pt id x off-too))
-        (met (sym same ∙ is) (all-directed (with_lwp id (stopped_at pt) x)) (next-settings p x h g.settings (halted-on pt id x (goes_on-self x))) (halted-stands pt id x))
+        (met (sym same
+        ∙ is) (all-directed (with_lwp id (stopped_at pt) x))
+        (next-settings p x h g.settings (halted-on pt id x (goes_on-self x))) (halted-stands pt id x))
 
-module _ (s : TracedSystem) (pid : ℕ) (p : TracedProcess) (id : ℕ) (t : LwpTurn) (h : IsLawfulSystem s) (live : live_process s pid ≡ Some p) (still : IsQuiet p) (off : has_flags p.control.modes async_mode ≡ false) (turn : turn_of s pid id ≡ Some t) where
+module _ (s : TracedSystem) (pid : ℕ) (p : TracedProcess) (id : ℕ) (t : LwpTurn) (h : IsLawfulSystem s)
+    (live : live_process s pid ≡ Some p) (still : IsQuiet p) (off : has_flags p.control.modes async_mode ≡ false)
+    (turn : turn_of s pid id ≡ Some t) where
   -- no lwp of a quiet process stops as directed
-  no-request : (l : TracedLwp) (tr : Transition) → lwp_of p id ≡ Some l → SuitsTransition s pid p id l tr → is_stop tr.move ≡ false
-  no-request l tr there suits = elim (cases_Bool (is_stop tr.move)) [ inl is ↦ absurd (false≢true (sym (let n = still.each id l there in n.not_directed) ∙ (suits.stop is).0)) | inr not_stop ↦ not_stop ]
+  no-request : (l : TracedLwp) (tr : Transition) → lwp_of p id ≡ Some l → SuitsTransition s pid p id l tr
+      → is_stop tr.move ≡ false
+  no-request l tr there suits =
+      elim (cases_Bool (is_stop tr.move)) [
+        | inl is ↦ absurd
+            (false≢true (sym (let n = still.each id l there in n.not_directed)
+            ∙ (suits.stop is).0))
+        | inr not_stop ↦ not_stop
+      ]
 
   meeting-ended : (point : Option Point) (x : TracedProcess) → (after_meeting point id x).ended ≡ x.ended
   unfolding after_meeting with_stop_at with_others_directed with_lwp with_all_directed
   meeting-ended None x = refl
-  meeting-ended (Some pt) x = elim (is_traced x.control pt) as (λ b. (cond b (with_stop_at pt id x) x).ended ≡ x.ended) [ true ↦ elim (has_flags x.control.modes async_mode) as (λ b. (cond b (with_lwp id (stopped_at pt) x) (with_all_directed (with_lwp id (stopped_at pt) x))).ended ≡ x.ended) [ true ↦ refl | false ↦ refl ] | false ↦ refl ]
+  meeting-ended (Some pt) x =
+      elim (is_traced x.control pt) as
+      (λ b. (cond b (with_stop_at pt id x) x).ended ≡ x.ended) [
+        | true ↦ elim
+            (has_flags x.control.modes async_mode) as
+            (λ b. (cond b (with_lwp id (stopped_at pt) x)
+            (with_all_directed
+            (with_lwp id
+            (stopped_at pt) x))).ended ≡ x.ended) [ true ↦ refl | false ↦ refl ]
+        | false ↦ refl
+      ]
 
   -- the system before the point is looked at
   counted_system : TracedLwp → Row → TracedSystem
-  counted_system l row = with_process pid (with_counted row.did row.begun) (after_transition traced pid p id l row.transition s)
+  counted_system l row =
+      with_process pid (with_counted row.did row.begun) (after_transition traced pid p id l row.transition s)
 
-  carried-before : (l : TracedLwp) (row : Row) → lwp_of p id ≡ Some l → SuitsTransition s pid p id l row.transition → Carried pid s (counted_system l row)
+  carried-before : (l : TracedLwp) (row : Row) → lwp_of p id ≡ Some l → SuitsTransition s pid p id l row.transition
+      → Carried pid s (counted_system l row)
   unfolding counted_system
   carried-before l row there suits = row-carries pid p id l row s h (no-request l row.transition there suits) suits
 
-  from-point : (l : TracedLwp) (row : Row) (q x : TracedProcess) → lwp_of p id ≡ Some l → SuitsTransition s pid p id l row.transition → process_of (counted_system l row) pid ≡ Some x → after_meeting row.point id x ≡ q → q.ended ≡ None → AfterTurn p id (meets p.control row.point) q
+  from-point : (l : TracedLwp) (row : Row) (q x : TracedProcess) → lwp_of p id ≡ Some l
+      → SuitsTransition s pid p id l row.transition → process_of (counted_system l row) pid ≡ Some x
+      → after_meeting row.point id x ≡ q → q.ended ≡ None → AfterTurn p id (meets p.control row.point) q
   from-point l row q x there suits at is over =
       let c = carried-before l row there suits in
       let a = c.from x at (sym (meeting-ended row.point x) ∙ ap (λ (y : TracedProcess). y.ended) is ∙ over) in
@@ -385,31 +540,45 @@ module _ (s : TracedSystem) (pid : ℕ) (p : TracedProcess) (id : ℕ) (t : LwpT
       let g : GoesOn p x = subst (λ (y : TracedProcess). GoesOn y x) (same_Some a.0 p (sym a.1.0 ∙ was.0)) a.1.1 in
       subst (AfterTurn p id (meets p.control row.point)) is (after-point p x id row.point g still off)
 
-  by-place : (l : TracedLwp) (row : Row) (q : TracedProcess) → lwp_of p id ≡ Some l → SuitsTransition s pid p id l row.transition → (o : Option TracedProcess) → process_of (counted_system l row) pid ≡ o → option_map (after_meeting row.point id) o ≡ Some q → q.ended ≡ None → AfterTurn p id (meets p.control row.point) q
+  by-place : (l : TracedLwp) (row : Row) (q : TracedProcess) → lwp_of p id ≡ Some l
+      → SuitsTransition s pid p id l row.transition → (o : Option TracedProcess)
+      → process_of (counted_system l row) pid ≡ o → option_map (after_meeting row.point id) o ≡ Some q → q.ended ≡ None
+      → AfterTurn p id (meets p.control row.point) q
   by-place l row q there suits None at is over = absurd (none-some q is)
-  by-place l row q there suits (Some x) at is over = from-point l row q x there suits at (same_Some (after_meeting row.point id x) q is) over
+  by-place l row q there suits (Some x) at is over =
+      from-point l row q x there suits at (same_Some (after_meeting row.point id x) q is) over
 
-  settled-found : (l : TracedLwp) (row : Row) (q : TracedProcess) → process_of (settled s pid p id l row).system pid ≡ Some q → option_map (after_meeting row.point id) (process_of (counted_system l row) pid) ≡ Some q
+  settled-found : (l : TracedLwp) (row : Row) (q : TracedProcess)
+      → process_of (settled s pid p id l row).system pid ≡ Some q
+      → option_map (after_meeting row.point id) (process_of (counted_system l row) pid) ≡ Some q
   unfolding settled with_process counted_system
-  settled-found l row q at = sym (under-change_under pid (after_meeting row.point id) (counted_system l row).processes) ∙ at
+  settled-found l row q at =
+      sym (under-change_under pid (after_meeting row.point id) (counted_system l row).processes) ∙ at
 
   settled-stop : (l : TracedLwp) (row : Row) → (settled s pid p id l row).turned.stop ≡ meets p.control row.point
   unfolding settled
   settled-stop l row = refl
 
-  settled-after : (l : TracedLwp) (row : Row) (q : TracedProcess) → lwp_of p id ≡ Some l → SuitsTransition s pid p id l row.transition → live_process (settled s pid p id l row).system pid ≡ Some q → AfterTurn p id (settled s pid p id l row).turned.stop q
+  settled-after : (l : TracedLwp) (row : Row) (q : TracedProcess) → lwp_of p id ≡ Some l
+      → SuitsTransition s pid p id l row.transition → live_process (settled s pid p id l row).system pid ≡ Some q
+      → AfterTurn p id (settled s pid p id l row).turned.stop q
   settled-after l row q there suits after =
       let now = found-live (settled s pid p id l row).system pid q after in
-      subst (λ b. AfterTurn p id b q) (sym (settled-stop l row)) (by-place l row q there suits (process_of (counted_system l row) pid) refl (settled-found l row q now.0) now.1)
+      subst (λ b. AfterTurn p id b q) (sym (settled-stop l row))
+      (by-place l row q there suits (process_of (counted_system l row) pid) refl
+      (settled-found l row q now.0) now.1)
 
   turn-after : (q : TracedProcess) → live_process t.system pid ≡ Some q → AfterTurn p id t.turned.stop q
   turn-after q after =
       let it = turn-taken s pid id t turn in
       let same : it.process ≡ p = same_Some it.process p (sym it.live ∙ live) in
       let there : lwp_of p id ≡ Some it.lwp = subst (λ (y : TracedProcess). lwp_of y id ≡ Some it.lwp) same it.there in
-      let is : t ≡ settled s pid p id it.lwp (row_for s pid p id it.lwp) = it.is ∙ ap (λ (y : TracedProcess). settled s pid y id it.lwp (row_for s pid y id it.lwp)) same in
+      let is : t ≡ settled s pid p id it.lwp (row_for s pid p id it.lwp) =
+      it.is ∙ ap (λ (y : TracedProcess). settled s pid y id it.lwp (row_for s pid y id it.lwp)) same in
       let suits = row-suits s pid p id it.lwp (acting s pid id p it.lwp h live there) in
-      subst (λ (v : LwpTurn). AfterTurn p id v.turned.stop q) (sym is) (settled-after it.lwp (row_for s pid p id it.lwp) q there suits (ap (λ (v : LwpTurn). live_process v.system pid) (sym is) ∙ after))
+      subst (λ (v : LwpTurn). AfterTurn p id v.turned.stop q) (sym is)
+      (settled-after it.lwp (row_for s pid p id it.lwp) q there suits
+      (ap (λ (v : LwpTurn). live_process v.system pid) (sym is) ∙ after))
 
   pub quiet-stays : (q : TracedProcess) → live_process t.system pid ≡ Some q → t.turned.stop ≡ false → IsQuiet q
   quiet-stays q after stop = by (turn-after q after)
@@ -425,7 +594,8 @@ module _ (s : TracedSystem) (pid : ℕ) (p : TracedProcess) (id : ℕ) (t : LwpT
       by (quiet is its same) = absurd (false≢true (sym is ∙ stop))
       by (met is halting same stands) = halting
 
-  pub quiet-stands : (q : TracedProcess) (l : TracedLwp) → live_process t.system pid ≡ Some q → t.turned.stop ≡ true → lwp_of q id ≡ Some l → StandsOnEvent l
+  pub quiet-stands : (q : TracedProcess) (l : TracedLwp) → live_process t.system pid ≡ Some q → t.turned.stop ≡ true
+      → lwp_of q id ≡ Some l → StandsOnEvent l
   quiet-stands q l after stop there = by (turn-after q after)
     where
       by : AfterTurn p id t.turned.stop q → StandsOnEvent l

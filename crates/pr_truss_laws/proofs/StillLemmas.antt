@@ -34,11 +34,13 @@ still-held : (p : TracedProcess) (id : ℕ) (l : TracedLwp) → stands_still l �
 unfolding is_held_back
 still-held p id l still = or-middle (has_event_stop l) l.suspended _ still
 
-still-waits : (s : TracedSystem) (pid : ℕ) (p : TracedProcess) (id : ℕ) (l : TracedLwp) → stands_still l ≡ true → may_turn s pid p id l ≡ false
+still-waits : (s : TracedSystem) (pid : ℕ) (p : TracedProcess) (id : ℕ) (l : TracedLwp) → stands_still l ≡ true
+    → may_turn s pid p id l ≡ false
 unfolding may_turn
 still-waits s pid p id l still = rw (still-held p id l still) refl
 
-module _ (s : TracedSystem) (pid : ℕ) (p : TracedProcess) (live : live_process s pid ≡ Some p) (frozen : IsFrozen p) where
+module _ (s : TracedSystem) (pid : ℕ) (p : TracedProcess) (live : live_process s pid ≡ Some p)
+    (frozen : IsFrozen p) where
   no-move-in : (id : ℕ) (o : Option TracedLwp) → lwp_of p id ≡ o → may_turn_in s pid id p o ≡ false
   no-move-in id None there = refl
   no-move-in id (Some l) there = still-waits s pid p id l (frozen.each id l there)
@@ -61,13 +63,16 @@ pub if-live-none : (q : TracedProcess) → q.ended ≡ None → if_live q ≡ So
 if-live-none q is = rw is refl
 
 -- a live process that is changed under its id
-pub live-changed : (s : TracedSystem) (pid : ℕ) (f : TracedProcess → TracedProcess) (p : TracedProcess) → live_process s pid ≡ Some p → (f p).ended ≡ p.ended → live_process (with_process pid f s) pid ≡ Some (f p)
+pub live-changed : (s : TracedSystem) (pid : ℕ) (f : TracedProcess → TracedProcess) (p : TracedProcess)
+    → live_process s pid ≡ Some p → (f p).ended ≡ p.ended → live_process (with_process pid f s) pid ≡ Some (f p)
 unfolding live_process with_process
 live-changed s pid f p live same =
     let found = found-live s pid p live in
-    ap (option_and_then if_live) (under-change_under pid f s.processes ∙ ap (option_map f) found.0) ∙ if-live-none (f p) (same ∙ found.1)
+    ap (option_and_then if_live) (under-change_under pid f s.processes ∙ ap (option_map f) found.0)
+    ∙ if-live-none (f p) (same ∙ found.1)
 
-pub row-directed : (s : TracedSystem) (pid : ℕ) (p : TracedProcess) (id : ℕ) (l : TracedLwp) → l.control.directed ≡ true → row_for s pid p id l ≡ requested_row
+pub row-directed : (s : TracedSystem) (pid : ℕ) (p : TracedProcess) (id : ℕ) (l : TracedLwp)
+    → l.control.directed ≡ true → row_for s pid p id l ≡ requested_row
 unfolding row_for
 row-directed s pid p id l is = rw is refl
 
@@ -76,21 +81,40 @@ must-be-directed : (a b : Bool) → (a || b) ≡ true → a ≡ false → b ≡ 
 must-be-directed true b is not_a = cc
 must-be-directed false b is not_a = is
 
-may-not-still : (s : TracedSystem) (pid : ℕ) (p : TracedProcess) (id : ℕ) (l : TracedLwp) → may_turn s pid p id l ≡ true → stands_still l ≡ false
-may-not-still s pid p id l may = elim (cases_Bool (stands_still l)) [ inl still ↦ absurd (false≢true (sym (still-waits s pid p id l still) ∙ may)) | inr not ↦ not ]
+may-not-still : (s : TracedSystem) (pid : ℕ) (p : TracedProcess) (id : ℕ) (l : TracedLwp)
+    → may_turn s pid p id l ≡ true → stands_still l ≡ false
+may-not-still s pid p id l may =
+    elim (cases_Bool (stands_still l)) [
+      | inl still ↦ absurd (false≢true (sym (still-waits s pid p id l still)
+          ∙ may))
+      | inr not ↦ not
+    ]
 
 -- what the turn of a directed lwp makes of the system
-pub stop-settled : (s : TracedSystem) (pid : ℕ) (p : TracedProcess) (id : ℕ) (l : TracedLwp) → settled s pid p id l requested_row ≡ record { system = with_process pid (after_meeting None id) (with_process pid (with_counted Stopped false) (with_lwp_of pid id stopped_lwp s)); turned = record { did = Stopped; stop = false } }
+pub stop-settled : (s : TracedSystem) (pid : ℕ) (p : TracedProcess) (id : ℕ) (l : TracedLwp)
+    → settled s pid p id l requested_row ≡ record {
+      system =
+          with_process pid (after_meeting None id)
+          (with_process pid (with_counted Stopped false) (with_lwp_of pid id stopped_lwp s));
+      turned = record { did = Stopped; stop = false };
+    }
 unfolding settled requested_row after_transition requested moved all_changed traced
 stop-settled s pid p id l = refl
 
 module _ (s : TracedSystem) (pid : ℕ) (p : TracedProcess) (live : live_process s pid ≡ Some p) where
-  pub stopped-live : (id : ℕ) → live_process (with_process pid (after_meeting None id) (with_process pid (with_counted Stopped false) (with_lwp_of pid id stopped_lwp s))) pid ≡ Some (with_lwp_stopped id p)
+  pub stopped-live : (id : ℕ)
+      → live_process
+      (with_process pid (after_meeting None id)
+      (with_process pid (with_counted Stopped false) (with_lwp_of pid id stopped_lwp s))) pid ≡ Some
+      (with_lwp_stopped id p)
   unfolding with_lwp_of with_lwp with_counted after_meeting
   stopped-live id =
       let one = live-changed s pid (with_lwp id stopped_lwp) p live refl in
-      let two = live-changed (with_process pid (with_lwp id stopped_lwp) s) pid (with_counted Stopped false) (with_lwp id stopped_lwp p) one refl in
-      live-changed (with_process pid (with_counted Stopped false) (with_process pid (with_lwp id stopped_lwp) s)) pid (after_meeting None id) (with_counted Stopped false (with_lwp id stopped_lwp p)) two refl
+      let two =
+      live-changed (with_process pid (with_lwp id stopped_lwp) s) pid (with_counted Stopped false)
+      (with_lwp id stopped_lwp p) one refl in
+      live-changed (with_process pid (with_counted Stopped false) (with_process pid (with_lwp id stopped_lwp) s)) pid
+      (after_meeting None id) (with_counted Stopped false (with_lwp id stopped_lwp p)) two refl
 
   stopped-lwps : (id : ℕ) → (with_lwp_stopped id p).lwps ≡ change_under id stopped_lwp p.lwps
   unfolding with_lwp with_counted
@@ -101,30 +125,57 @@ module _ (s : TracedSystem) (pid : ℕ) (p : TracedProcess) (live : live_process
   stopped-stops l = refl
 
   stopped-halting : (id : ℕ) → IsHalting p → IsHalting (with_lwp_stopped id p)
-  stopped-halting id h = record { each = λ other l there. elim (cases_Bool (id == other)) [ inl same ↦ own other l (eqb-true id other same) there | inr not ↦ h.each other l (sym (ap (under other) (stopped-lwps id) ∙ under-change_under_other id other stopped_lwp (eqb-false id other not) p.lwps) ∙ there) ] }
+  stopped-halting id h =
+      record {
+        each = λ other l there. elim
+            (cases_Bool (id == other)) [
+              | inl same ↦ own other l (eqb-true id other same) there
+              | inr not ↦ h.each other l
+                  (sym (ap (under other) (stopped-lwps id)
+                  ∙ under-change_under_other id other stopped_lwp (eqb-false id other not) p.lwps) ∙ there)
+            ];
+      }
     where
       mapped : (o : Option TracedLwp) (l : TracedLwp) → option_map stopped_lwp o ≡ Some l → will_stop l ≡ true
       mapped None l is = absurd (none-some l is)
       mapped (Some x) l is = subst (λ y. will_stop y ≡ true) (same_Some (stopped_lwp x) l is) (stopped-stops x)
 
-      own : (other : ℕ) (l : TracedLwp) → id ≡ other → lwp_of (with_lwp_stopped id p) other ≡ Some l → will_stop l ≡ true
-      own other l same there = mapped (lwp_of p id) l (sym (under-change_under id stopped_lwp p.lwps) ∙ ap (under id) (sym (stopped-lwps id)) ∙ subst (λ n. lwp_of (with_lwp_stopped id p) n ≡ Some l) (sym same) there)
+      own : (other : ℕ) (l : TracedLwp) → id ≡ other → lwp_of (with_lwp_stopped id p) other ≡ Some l
+          → will_stop l ≡ true
+      own other l same there =
+          mapped (lwp_of p id) l (sym (under-change_under id stopped_lwp p.lwps)
+          ∙ ap (under id) (sym (stopped-lwps id))
+          ∙ subst (λ n. lwp_of (with_lwp_stopped id p) n ≡ Some l) (sym same) there)
 
   module _ (halting : IsHalting p) (id : ℕ) (t : LwpTurn) where
-    halting-row : (l : TracedLwp) → lwp_of p id ≡ Some l → may_turn s pid p id l ≡ true → row_for s pid p id l ≡ requested_row
-    halting-row l there may = row-directed s pid p id l (must-be-directed (stands_still l) l.control.directed (halting.each id l there) (may-not-still s pid p id l may))
+    halting-row : (l : TracedLwp) → lwp_of p id ≡ Some l → may_turn s pid p id l ≡ true
+        → row_for s pid p id l ≡ requested_row
+    halting-row l there may =
+        row-directed s pid p id l
+        (must-be-directed (stands_still l) l.control.directed (halting.each id l there)
+        (may-not-still s pid p id l may))
 
-    by-test : (l : TracedLwp) → lwp_of p id ≡ Some l → (b : Bool) → may_turn s pid p id l ≡ b → cond b (Some (settled s pid p id l (row_for s pid p id l))) None ≡ Some t → t ≡ settled s pid p id l requested_row
+    by-test : (l : TracedLwp) → lwp_of p id ≡ Some l → (b : Bool) → may_turn s pid p id l ≡ b
+        → cond b (Some (settled s pid p id l (row_for s pid p id l))) None ≡ Some t
+        → t ≡ settled s pid p id l requested_row
     by-test l there true may is = sym (same_Some _ _ is) ∙ ap (settled s pid p id l) (halting-row l there may)
     by-test l there false may is = absurd (none-some t is)
 
-    by-lwp : (o : Option TracedLwp) → lwp_of p id ≡ o → turn_of_lwp s pid id p o ≡ Some t → (l : TracedLwp) × (t ≡ settled s pid p id l requested_row)
+    by-lwp : (o : Option TracedLwp) → lwp_of p id ≡ o → turn_of_lwp s pid id p o ≡ Some t
+        → (l : TracedLwp) × (t ≡ settled s pid p id l requested_row)
     by-lwp None there is = absurd (none-some t is)
     by-lwp (Some l) there is = (l, by-test l there (may_turn s pid p id l) refl is)
 
-    halting-turn : turn_of s pid id ≡ Some t → t ≡ record { system = with_process pid (after_meeting None id) (with_process pid (with_counted Stopped false) (with_lwp_of pid id stopped_lwp s)); turned = record { did = Stopped; stop = false } }
+    halting-turn : turn_of s pid id ≡ Some t → t ≡ record {
+      system =
+          with_process pid (after_meeting None id)
+          (with_process pid (with_counted Stopped false) (with_lwp_of pid id stopped_lwp s));
+      turned = record { did = Stopped; stop = false };
+    }
     unfolding turn_of
-    halting-turn is = let its = by-lwp (lwp_of p id) refl (ap (turn_of_process s pid id) (sym live) ∙ is) in its.1 ∙ stop-settled s pid p id its.0
+    halting-turn is =
+        let its = by-lwp (lwp_of p id) refl (ap (turn_of_process s pid id) (sym live) ∙ is) in
+        its.1 ∙ stop-settled s pid p id its.0
 
     pub halting-did : turn_of s pid id ≡ Some t → t.turned ≡ record { did = Stopped; stop = false }
     halting-did is = ap (λ (x : LwpTurn). x.turned) (halting-turn is)

@@ -84,17 +84,27 @@ module _ (t : FileTable) (fds : Descriptors) (space : Space) where
   unfolding read_effect
   read-stores fd at size = by (read_fd t fds fd size).bytes refl
     where
-      by : (r : Result (List ℕ) FileNo) → (read_fd t fds fd size).bytes ≡ r → Stores (read_effect t fds space fd at size)
-      by (Ok bytes) is = rw is (either (is_none (open_for_reading t fds fd)) _ _ refl (either (ltb transfer_limit size) _ _ refl (either (can_write space at size) _ _ refl refl)))
-      by (Err why) is = rw is (either (is_none (open_for_reading t fds fd)) _ _ refl (either (ltb transfer_limit size) _ _ refl (either (can_write space at size) _ _ (refusal-stores why) refl)))
+      by : (r : Result (List ℕ) FileNo) → (read_fd t fds fd size).bytes ≡ r
+          → Stores (read_effect t fds space fd at size)
+      by (Ok bytes) is =
+          rw is (either (is_none (open_for_reading t fds fd)) _ _ refl
+          (either (ltb transfer_limit size) _ _ refl (either (can_write space at size) _ _ refl refl)))
+      by (Err why) is =
+          rw is (either (is_none (open_for_reading t fds fd)) _ _ refl
+          (either (ltb transfer_limit size) _ _ refl
+          (either (can_write space at size) _ _ (refusal-stores why) refl)))
 
   write-stores : (fd at size : ℕ) → Stores (write_effect t fds space fd at size)
   unfolding write_effect
   write-stores fd at size = by (bytes_for prot_read space at size) refl
     where
-      by : (r : Result (List ℕ) BadByte) → bytes_for prot_read space at size ≡ r → Stores (write_effect t fds space fd at size)
-      by (Ok bytes) is = rw is (either (is_none (open_for_writing t fds fd)) _ _ refl (either (ltb transfer_limit size) _ _ refl (file-stores _)))
-      by (Err bad) is = rw is (either (is_none (open_for_writing t fds fd)) _ _ refl (either (ltb transfer_limit size) _ _ refl refl))
+      by : (r : Result (List ℕ) BadByte) → bytes_for prot_read space at size ≡ r
+          → Stores (write_effect t fds space fd at size)
+      by (Ok bytes) is =
+          rw is (either (is_none (open_for_writing t fds fd)) _ _ refl
+          (either (ltb transfer_limit size) _ _ refl (file-stores _)))
+      by (Err bad) is =
+          rw is (either (is_none (open_for_writing t fds fd)) _ _ refl (either (ltb transfer_limit size) _ _ refl refl))
 
   open-stores : (at flags : ℕ) → Stores (open_effect t fds space at flags)
   unfolding open_effect
@@ -132,7 +142,8 @@ wait-stores : (space : Space) (c : Children) (at : ℕ) → Stores (wait_effect 
 unfolding wait_effect
 wait-stores space no_child at = refl
 wait-stores space all_live at = refl
-wait-stores space (first_zombie child status) at = either (eqb at 0) _ _ refl (either (can_write space at word_size) _ _ refl refl)
+wait-stores space (first_zombie child status) at =
+    either (eqb at 0) _ _ refl (either (can_write space at word_size) _ _ refl refl)
 
 send-stores : (own target number : ℕ) (info : Info) (life : Life) → Stores (send_effect own target number info life)
 unfolding send_effect sent_effect
@@ -143,7 +154,8 @@ send-stores own target number info life = by (sending target number life)
     by sends_nothing = refl
     by (sends g) = either (is_kill g && eqb target own) _ _ refl refl
 
-sigaction-stores : (dispositions : List ℕ) (number disposition : ℕ) → Stores (sigaction_effect dispositions number disposition)
+sigaction-stores : (dispositions : List ℕ) (number disposition : ℕ)
+    → Stores (sigaction_effect dispositions number disposition)
 unfolding sigaction_effect
 sigaction-stores dispositions number disposition = by (signal_of_number number) refl
   where
@@ -164,16 +176,21 @@ module _ (s : TracedSystem) (p : TracedProcess) (id : ℕ) where
   unfolding exec_effect
   exec-stores at = by (path_at p.space at) refl
     where
-      named : (name : List ℕ) (o : Option Program) → path_at p.space at ≡ Ok name → program_named s.programs name ≡ o → Stores (exec_effect s p id at)
+      named : (name : List ℕ) (o : Option Program) → path_at p.space at ≡ Ok name → program_named s.programs name ≡ o
+          → Stores (exec_effect s p id at)
       named name None is found = rw (is, found) (either (eqb id agent_id) _ _ refl refl)
-      named name (Some program) is found = rw (is, found) (either (eqb id agent_id) _ _ refl (either (total_has_room s (mapped_size (first_space program)) (size_of p)) _ _ refl refl))
+      named name (Some program) is found =
+          rw (is, found)
+          (either (eqb id agent_id) _ _ refl
+          (either (total_has_room s (mapped_size (first_space program)) (size_of p)) _ _ refl refl))
 
       by : (r : Result (List ℕ) Errno) → path_at p.space at ≡ r → Stores (exec_effect s p id at)
       by (Err e) is = rw is (either (eqb id agent_id) _ _ refl refl)
       by (Ok name) is = named name (program_named s.programs name) is refl
 
   big-stores : (value : ℕ) (space : Space) → Stores (unless_too_big s p value space)
-  big-stores value space = either (leb (mapped_size space) mapping_limit && total_has_room s (mapped_size space) (size_of p)) _ _ refl refl
+  big-stores value space =
+      either (leb (mapped_size space) mapping_limit && total_has_room s (mapped_size space) (size_of p)) _ _ refl refl
 
   mmap-stores : (len prot : ℕ) → Stores (mmap_effect s p len prot)
   unfolding mmap_effect
@@ -181,15 +198,21 @@ module _ (s : TracedSystem) (p : TracedProcess) (id : ℕ) where
     where
       by : (o : Option ℕ) → gap_in (rounded len) p.space ≡ o → Stores (mmap_effect s p len prot)
       by None is = rw is (either (eqb len 0 || (ltb mapping_limit len || ltb prot_limit prot)) _ _ refl refl)
-      by (Some at) is = rw is (either (eqb len 0 || (ltb mapping_limit len || ltb prot_limit prot)) _ _ refl (big-stores at (with_mapping (zeros_at at (rounded len) prot Mapped) p.space)))
+      by (Some at) is =
+          rw is (either (eqb len 0 || (ltb mapping_limit len || ltb prot_limit prot)) _ _ refl
+          (big-stores at (with_mapping (zeros_at at (rounded len) prot Mapped) p.space)))
 
 module _ (s : TracedSystem) (pid : ℕ) (p : TracedProcess) (id : ℕ) (l : TracedLwp) where
   call-stores : (since : ℕ) (call : Sysno) (args : List ℕ) → Stores (call_effect s pid p id l since call args)
   unfolding call_effect exit_effect fork_effect dup_effect lseek_effect brk_effect munmap_effect mprotect_effect sigmask_effect sleep_effect lwp_create_effect lwp_suspend_effect lwp_continue_effect
   call-stores since sys.Exit args = refl
-  call-stores since sys.Fork args = either (eqb id agent_id) _ _ refl (either (leb process_limit s.made) _ _ refl (either (total_has_room s (size_of p) 0) _ _ refl refl))
-  call-stores since sys.Read args = read-stores s.files p.fds p.space (slice_index args 0) (slice_index args 1) (slice_index args 2)
-  call-stores since sys.Write args = write-stores s.files p.fds p.space (slice_index args 0) (slice_index args 1) (slice_index args 2)
+  call-stores since sys.Fork args =
+      either (eqb id agent_id) _ _ refl
+      (either (leb process_limit s.made) _ _ refl (either (total_has_room s (size_of p) 0) _ _ refl refl))
+  call-stores since sys.Read args =
+      read-stores s.files p.fds p.space (slice_index args 0) (slice_index args 1) (slice_index args 2)
+  call-stores since sys.Write args =
+      write-stores s.files p.fds p.space (slice_index args 0) (slice_index args 1) (slice_index args 2)
   call-stores since sys.Open args = open-stores s.files p.fds p.space (slice_index args 0) (slice_index args 1)
   call-stores since sys.Close args = close-stores s.files p.fds p.space (slice_index args 0)
   call-stores since sys.Wait args = wait-stores p.space (children_of s pid) (slice_index args 0)
@@ -199,23 +222,36 @@ module _ (s : TracedSystem) (pid : ℕ) (p : TracedProcess) (id : ℕ) (l : Trac
   call-stores since sys.Pipe args = pipe-stores s.files p.fds p.space (slice_index args 0)
   call-stores since sys.Dup args = file-stores _
   call-stores since sys.Lseek args = file-stores _
-  call-stores since sys.Kill args = send-stores pid (slice_index args 0) (slice_index args 1) (killed_by pid) (life_of s (slice_index args 0))
+  call-stores since sys.Kill args =
+      send-stores pid (slice_index args 0) (slice_index args 1) (killed_by pid) (life_of s (slice_index args 0))
   call-stores since sys.Sigaction args = sigaction-stores p.dispositions (slice_index args 0) (slice_index args 1)
   call-stores since sys.Sigmask args = either (ltb (slice_index args 0) _) _ _ refl refl
   call-stores since sys.Pause args = refl
   call-stores since sys.Sigreturn args = sigreturn-stores l.frames
-  call-stores since sys.Brk args = either (ltb (slice_index args 0) heap_base || ltb break_limit (slice_index args 0)) _ _ refl (big-stores s p id 0 (with_break (slice_index args 0) p.space))
+  call-stores since sys.Brk args =
+      either (ltb (slice_index args 0) heap_base || ltb break_limit (slice_index args 0)) _ _ refl
+      (big-stores s p id 0 (with_break (slice_index args 0) p.space))
   call-stores since sys.Mmap args = mmap-stores s p id (slice_index args 0) (slice_index args 1)
-  call-stores since sys.Munmap args = either (list_any (is_mapped_range (slice_index args 0) (rounded (slice_index args 1))) p.space) _ _ refl refl
-  call-stores since sys.Mprotect args = either (has_range (slice_index args 0) (rounded (slice_index args 1)) p.space && leb (slice_index args 2) prot_limit) _ _ refl refl
+  call-stores since sys.Munmap args =
+      either (list_any (is_mapped_range (slice_index args 0) (rounded (slice_index args 1))) p.space) _ _ refl refl
+  call-stores since sys.Mprotect args =
+      either (has_range (slice_index args 0) (rounded (slice_index args 1)) p.space && leb
+      (slice_index args 2) prot_limit) _ _ refl refl
   call-stores since sys.Time args = refl
-  call-stores since sys.Sleep args = either (ltb sleep_limit (slice_index args 0)) _ _ refl (either (leb (since + slice_index args 0) s.clock) _ _ refl refl)
-  call-stores since sys.LwpCreate args = either (eqb id agent_id) _ _ refl (either (leb lwp_limit (length p.lwps) || ltb last_lwp p.next_lwp) _ _ refl refl)
+  call-stores since sys.Sleep args =
+      either (ltb sleep_limit (slice_index args 0)) _ _ refl
+      (either (leb (since + slice_index args 0) s.clock) _ _ refl refl)
+  call-stores since sys.LwpCreate args =
+      either (eqb id agent_id) _ _ refl
+      (either (leb lwp_limit (length p.lwps) || ltb last_lwp p.next_lwp) _ _ refl refl)
   call-stores since sys.LwpExit args = refl
-  call-stores since sys.LwpSuspend args = either (can_be_named p (slice_index args 0)) _ _ (either (eqb (slice_index args 0) id) _ _ refl refl) refl
+  call-stores since sys.LwpSuspend args =
+      either (can_be_named p (slice_index args 0)) _ _ (either (eqb (slice_index args 0) id) _ _ refl refl) refl
   call-stores since sys.LwpContinue args = either (can_be_named p (slice_index args 0)) _ _ refl refl
   call-stores since sys.Fstat args = fstat-stores s.files p.fds p.space (slice_index args 0) (slice_index args 1)
-  call-stores since sys.Sigqueue args = send-stores pid (slice_index args 0) (slice_index args 1) (queued_by pid (slice_index args 2)) (life_of s (slice_index args 0))
+  call-stores since sys.Sigqueue args =
+      send-stores pid (slice_index args 0) (slice_index args 1) (queued_by pid (slice_index args 2))
+      (life_of s (slice_index args 0))
 
   -- ---- the rows
 
@@ -233,16 +269,20 @@ module _ (s : TracedSystem) (pid : ℕ) (p : TracedProcess) (id : ℕ) (l : Trac
 
   executed-stores : (e : InstructionEffect) → StoresRow (executed_row p l e)
   unfolding executed_row ran_row entered_row incurred_row watched_row ran entered incurred trapped
-  executed-stores (instruction.runs regs store) = either-row l.control.step _ _ (store-stores store) (store-stores store)
+  executed-stores (instruction.runs regs store) =
+      either-row l.control.step _ _ (store-stores store) (store-stores store)
   executed-stores (instruction.calls call regs) = refl
   executed-stores (instruction.faults f address) = refl
   executed-stores (instruction.runs_into_watch address regs store) = store-stores store
 
   handler-stores : (c : Current) (handler : ℕ) → StoresRow (handler_row l c handler)
   unfolding handler_row handled
-  handler-stores c handler = choice (λ (t : Transition). stores_after t.changes ≡ true) (ltb (length l.frames) frame_limit) _ _ (λ room. refl) (λ full. refl)
+  handler-stores c handler =
+      choice (λ (t : Transition). stores_after t.changes ≡ true) (ltb (length l.frames) frame_limit) _ _ (λ room. refl)
+      (λ full. refl)
 
-  performed-stores : (woken : Bool) (call : Sysno) (args : List ℕ) (since : ℕ) (effect : Effect) → Stores effect → StoresRow (performed_row woken call args since effect)
+  performed-stores : (woken : Bool) (call : Sysno) (args : List ℕ) (since : ℕ) (effect : Effect) → Stores effect
+      → StoresRow (performed_row woken call args since effect)
   unfolding performed_row performed
   performed-stores woken call args since (does result changes) stores = stores
   performed-stores woken call args since sleeps stores = refl

@@ -74,12 +74,14 @@ module _ (regs : List ℕ) where
   fault-on false (Hole address) = tt
   fault-on false (NotAllowed address) = tt
 
-  trapped-on : (exec data_hit : Option ℕ) (new : List ℕ) (store : Option Store) → MovesOn regs (trapped_after exec data_hit new store)
+  trapped-on : (exec data_hit : Option ℕ) (new : List ℕ) (store : Option Store)
+      → MovesOn regs (trapped_after exec data_hit new store)
   trapped-on (Some address) data_hit new store = tt
   trapped-on None (Some address) new store = tt
   trapped-on None None new store = tt
 
-  watched-on : (exec : Option ℕ) (hit : Option (ℕ × Bool)) (new : List ℕ) (store : Option Store) → MovesOn regs (unless_watched exec hit new store)
+  watched-on : (exec : Option ℕ) (hit : Option (ℕ × Bool)) (new : List ℕ) (store : Option Store)
+      → MovesOn regs (unless_watched exec hit new store)
   watched-on exec None new store = trapped-on exec None new store
   watched-on exec (Some h) new store = by h.1 refl
     where
@@ -88,21 +90,26 @@ module _ (regs : List ℕ) where
       by false is = rw is tt
 
   module _ (space : Space) (areas : List Area) where
-    load-on : (exec : Option ℕ) (load : Load) (at size : ℕ) → MovesOn regs (load_effect space areas exec regs load at size)
+    load-on : (exec : Option ℕ) (load : Load) (at size : ℕ)
+        → MovesOn regs (load_effect space areas exec regs load at size)
     unfolding load_effect
     load-on exec load at size = by (bytes_for prot_read space at size) refl
       where
-        by : (r : Result (List ℕ) BadByte) → bytes_for prot_read space at size ≡ r → MovesOn regs (load_effect space areas exec regs load at size)
+        by : (r : Result (List ℕ) BadByte) → bytes_for prot_read space at size ≡ r
+            → MovesOn regs (load_effect space areas exec regs load at size)
         by (Err bad) is = rw is (fault-on (is_stack_load load) bad)
         by (Ok bytes) is = rw is (watched-on exec (hit_in watch_read areas at size) (loaded load regs bytes) None)
 
-    store-on : (exec : Option ℕ) (stack : Bool) (new : List ℕ) (store : Store) → MovesOn regs (store_effect space areas exec stack new store)
+    store-on : (exec : Option ℕ) (stack : Bool) (new : List ℕ) (store : Store)
+        → MovesOn regs (store_effect space areas exec stack new store)
     unfolding store_effect
     store-on exec stack new store = by (bytes_for prot_write space store.at (length store.bytes)) refl
       where
-        by : (r : Result (List ℕ) BadByte) → bytes_for prot_write space store.at (length store.bytes) ≡ r → MovesOn regs (store_effect space areas exec stack new store)
+        by : (r : Result (List ℕ) BadByte) → bytes_for prot_write space store.at (length store.bytes) ≡ r
+            → MovesOn regs (store_effect space areas exec stack new store)
         by (Err bad) is = rw is (fault-on stack bad)
-        by (Ok old) is = rw is (watched-on exec (hit_in watch_write areas store.at (length store.bytes)) new (Some store))
+        by (Ok old) is =
+            rw is (watched-on exec (hit_in watch_write areas store.at (length store.bytes)) new (Some store))
 
     executed-on : (exec : Option ℕ) (d : Decoded) → MovesOn regs (executed space areas exec regs d)
     unfolding executed
@@ -116,7 +123,8 @@ module _ (regs : List ℕ) where
     instruction-on exec None = tt
     instruction-on exec (Some i) = executed-on exec (decoded i regs)
 
-    fetched-on : (hit : Option (ℕ × Bool)) (bytes : List ℕ) → MovesOn regs (unless_exec_watched space areas hit regs bytes)
+    fetched-on : (hit : Option (ℕ × Bool)) (bytes : List ℕ)
+        → MovesOn regs (unless_exec_watched space areas hit regs bytes)
     fetched-on None bytes = instruction-on None (instruction_in bytes)
     fetched-on (Some h) bytes = by h.1 refl
       where
@@ -142,7 +150,8 @@ module _ (q : TracedProcess) (id : ℕ) (k : TracedLwp) where
   named : (call : Sysno) → named_call (syscall_number call) call ≡ Some call
   named call = ap (λ b. cond b (Some call) None) (eq-eqb (syscall_number call) (syscall_number call) refl)
 
-  entry-told : (call : Sysno) → k.control.stop ≡ Some (stop.SysEntry call) → k.phase ≡ phase.Entered call → event_shown (lwpstatus_of q id k) ≡ Some (Entered call (arguments k.regs))
+  entry-told : (call : Sysno) → k.control.stop ≡ Some (stop.SysEntry call) → k.phase ≡ phase.Entered call
+      → event_shown (lwpstatus_of q id k) ≡ Some (Entered call (arguments k.regs))
   unfolding event_shown lwpstatus_of shown reason_shown what_shown call_in arguments_in
   entry-told call stops at = rw (stops, at) (ap (option_map (λ c. Entered c (arguments k.regs))) (named call))
 
@@ -154,11 +163,16 @@ module _ (q : TracedProcess) (id : ℕ) (k : TracedLwp) where
   exit-told call args (Error e) stops at is = rw (stops, at) (ap (option_map (λ c. Left c args (Err e))) (named call))
   exit-told call args Ended stops at is = cc
 
-  signal-told : (g : Sig) (c : Current) → k.control.stop ≡ Some (stop.Signalled g) → k.current ≡ Some c → event_shown (lwpstatus_of q id k) ≡ Some (Received g (class_of (disposition_of q.dispositions c.signal)) c.info)
+  signal-told : (g : Sig) (c : Current) → k.control.stop ≡ Some (stop.Signalled g) → k.current ≡ Some c
+      → event_shown (lwpstatus_of q id k) ≡ Some (Received g (class_of (disposition_of q.dispositions c.signal)) c.info)
   unfolding event_shown lwpstatus_of shown reason_shown what_shown disposition_in info_in
-  signal-told g c stops at = rw (stops, at) (ap (option_map (λ (x : Sig). Received x (class_of (disposition_of q.dispositions c.signal)) c.info)) (signal_of_number-number g))
+  signal-told g c stops at =
+      rw (stops, at)
+      (ap (option_map (λ (x : Sig). Received x (class_of (disposition_of q.dispositions c.signal)) c.info))
+      (signal_of_number-number g))
 
-  fault-told : (f : Flt) → k.control.stop ≡ Some (stop.Faulted f) → event_shown (lwpstatus_of q id k) ≡ Some (Incurred f (pc_of k.regs))
+  fault-told : (f : Flt) → k.control.stop ≡ Some (stop.Faulted f)
+      → event_shown (lwpstatus_of q id k) ≡ Some (Incurred f (pc_of k.regs))
   unfolding event_shown lwpstatus_of shown reason_shown what_shown
   fault-told f stops = rw stops (ap (option_map (λ (x : Flt). Incurred x (pc_of k.regs))) (fault_of_number-number f))
 
@@ -178,16 +192,23 @@ KeepsDispositions _ p q = Unit {0}
 
 module _ (p : TracedProcess) (l : TracedLwp) where
   abbrev pub TellsRow : Row → Type 0
-  TellsRow row = (pt : Point) (y k : TracedLwp) (q : TracedProcess) (id : ℕ) → row.point ≡ Some pt → MoveShows row.transition.move y k → k.control.stop ≡ Some (stop_at pt) → KeepsDispositions row.transition.changes p q → has_ended row.did ≡ false → (row.transition.ending ≡ None) × TellsItsEvent p l row.did q id k
+  TellsRow row =
+      (pt : Point) (y k : TracedLwp) (q : TracedProcess) (id : ℕ) → row.point ≡ Some pt
+      → MoveShows row.transition.move y k → k.control.stop ≡ Some (stop_at pt)
+      → KeepsDispositions row.transition.changes p q → has_ended row.did ≡ false
+      → (row.transition.ending ≡ None) × TellsItsEvent p l row.did q id k
 
   quiet-tells : (row : Row) → row.point ≡ None → TellsRow row
   quiet-tells row none pt y k q id is f stops kept lives = absurd (none-some pt (sym none ∙ is))
 
   -- the stop of the point that a row met
-  met-stop : (own pt : Point) (k : TracedLwp) → Some own ≡ Some pt → k.control.stop ≡ Some (stop_at pt) → k.control.stop ≡ Some (stop_at own)
+  met-stop : (own pt : Point) (k : TracedLwp) → Some own ≡ Some pt → k.control.stop ≡ Some (stop_at pt)
+      → k.control.stop ≡ Some (stop_at own)
   met-stop own pt k is stops = stops ∙ ap (λ x. Some (stop_at x)) (sym (same_Some own pt is))
 
-  finished-logs : (woken : Bool) (call : Sysno) (args : List ℕ) (result : Res) (k : TracedLwp) → arguments_in l.regs l.phase ≡ args → is_result result ≡ true → event_of p l (Some k) (finished woken call result) ≡ Some (exit call args result)
+  finished-logs : (woken : Bool) (call : Sysno) (args : List ℕ) (result : Res) (k : TracedLwp)
+      → arguments_in l.regs l.phase ≡ args → is_result result ≡ true
+      → event_of p l (Some k) (finished woken call result) ≡ Some (exit call args result)
   unfolding event_of
   finished-logs true call args (Value v) k same is = ap (λ a. Some (exit call a (Value v))) same
   finished-logs true call args (Error e) k same is = ap (λ a. Some (exit call a (Error e))) same
@@ -196,43 +217,63 @@ module _ (p : TracedProcess) (l : TracedLwp) where
   finished-logs false call args (Error e) k same is = ap (λ a. Some (exit call a (Error e))) same
   finished-logs false call args Ended k same is = cc
 
-  told-exit : (call : Sysno) (args : List ℕ) (result : Res) → told (exit call args result) ≡ option_map (Left call args) (result_told result)
+  told-exit : (call : Sysno) (args : List ℕ) (result : Res)
+      → told (exit call args result) ≡ option_map (Left call args) (result_told result)
   unfolding told
   told-exit call args result = refl
 
-  left-phase : (call : Sysno) (args : List ℕ) (result : Res) (y k : TracedLwp) → MoveShows (move.leaves call args result) y k → k.phase ≡ phase.Exiting call args result
+  left-phase : (call : Sysno) (args : List ℕ) (result : Res) (y k : TracedLwp)
+      → MoveShows (move.leaves call args result) y k → k.phase ≡ phase.Exiting call args result
   unfolding moved traced
   left-phase call args result y k f = f.phase_is
 
-  exit-tells : (woken : Bool) (call : Sysno) (args : List ℕ) (result : Res) (row : Row) → row.did ≡ finished woken call result → row.point ≡ Some (Exit call) → row.transition.move ≡ move.leaves call args result → row.transition.ending ≡ None → arguments_in l.regs l.phase ≡ args → is_result result ≡ true → TellsRow row
+  exit-tells : (woken : Bool) (call : Sysno) (args : List ℕ) (result : Res) (row : Row)
+      → row.did ≡ finished woken call result → row.point ≡ Some (Exit call)
+      → row.transition.move ≡ move.leaves call args result → row.transition.ending ≡ None
+      → arguments_in l.regs l.phase ≡ args → is_result result ≡ true → TellsRow row
   exit-tells woken call args result row did point move ending same is pt y k q id met f stops kept lives = (
     ending,
     record {
       event = exit call args result;
       logged = ap (event_of p l (Some k)) did ∙ finished-logs woken call args result k same is;
-      tells = exit-told q id k call args result (met-stop (Exit call) pt k (sym point ∙ met) stops) (left-phase call args result y k (subst (λ m. MoveShows m y k) move f)) is ∙ sym (told-exit call args result);
+      tells =
+          exit-told q id k call args result (met-stop (Exit call) pt k (sym point
+          ∙ met) stops) (left-phase call args result y k (subst (λ m. MoveShows m y k) move f)) is
+          ∙ sym (told-exit call args result);
     },
   )
 
-  interrupted-tells : (woken : Bool) (call : Sysno) (args : List ℕ) → arguments_in l.regs l.phase ≡ args → TellsRow (interrupted_row woken call args)
+  interrupted-tells : (woken : Bool) (call : Sysno) (args : List ℕ) → arguments_in l.regs l.phase ≡ args
+      → TellsRow (interrupted_row woken call args)
   unfolding interrupted_row interrupted
-  interrupted-tells woken call args same = exit-tells woken call args (Error Intr) (interrupted_row woken call args) refl refl refl refl same refl
+  interrupted-tells woken call args same =
+      exit-tells woken call args (Error Intr) (interrupted_row woken call args) refl refl refl refl same refl
 
   ended-finished : (woken : Bool) (call : Sysno) → has_ended (finished woken call Ended) ≡ true
   ended-finished true call = refl
   ended-finished false call = refl
 
-  performed-tells : (woken : Bool) (call : Sysno) (args : List ℕ) (since : ℕ) (effect : Effect) → arguments_in l.regs l.phase ≡ args → TellsRow (performed_row woken call args since effect)
+  performed-tells : (woken : Bool) (call : Sysno) (args : List ℕ) (since : ℕ) (effect : Effect)
+      → arguments_in l.regs l.phase ≡ args → TellsRow (performed_row woken call args since effect)
   unfolding performed_row performed
-  performed-tells woken call args since (does (Value v) changes) same = exit-tells woken call args (Value v) (performed_row woken call args since (does (Value v) changes)) refl refl refl refl same refl
-  performed-tells woken call args since (does (Error e) changes) same = exit-tells woken call args (Error e) (performed_row woken call args since (does (Error e) changes)) refl refl refl refl same refl
-  performed-tells woken call args since (does Ended changes) same = λ pt y k q id met f stops kept lives. absurd (false≢true (sym lives ∙ ended-finished woken call))
+  performed-tells woken call args since (does (Value v) changes) same =
+      exit-tells woken call args (Value v)
+      (performed_row woken call args since (does (Value v) changes)) refl refl refl refl same refl
+  performed-tells woken call args since (does (Error e) changes) same =
+      exit-tells woken call args (Error e)
+      (performed_row woken call args since (does (Error e) changes)) refl refl refl refl same refl
+  performed-tells woken call args since (does Ended changes) same =
+      λ pt y k q id met f stops kept lives. absurd (false≢true (sym lives ∙ ended-finished woken call))
   performed-tells woken call args since sleeps same = quiet-tells (performed_row woken call args since sleeps) refl
-  performed-tells woken call args since (ends how) same = quiet-tells (performed_row woken call args since (ends how)) refl
+  performed-tells woken call args since (ends how) same =
+      quiet-tells (performed_row woken call args since (ends how)) refl
 
   -- ---- signals
 
-  took-tells : (g : Sig) (c : Current) (own : Bool) (row : Row) → c.signal ≡ g → row.did ≡ Took g → row.point ≡ Some (Signal g) → row.transition.move ≡ move.takes c own → row.transition.ending ≡ None → ((x : TracedProcess) → KeepsDispositions row.transition.changes p x → x.dispositions ≡ p.dispositions) → TellsRow row
+  took-tells : (g : Sig) (c : Current) (own : Bool) (row : Row) → c.signal ≡ g → row.did ≡ Took g
+      → row.point ≡ Some (Signal g) → row.transition.move ≡ move.takes c own → row.transition.ending ≡ None
+      → ((x : TracedProcess) → KeepsDispositions row.transition.changes p x → x.dispositions ≡ p.dispositions)
+      → TellsRow row
   unfolding event_of told moved info_in
   took-tells g c own row sig did point takes ending keeps pt y k q id met f stops kept lives =
       let holds : k.current ≡ Some c = (subst (λ m. MoveShows m y k) takes f).current_is in
@@ -240,22 +281,30 @@ module _ (p : TracedProcess) (l : TracedLwp) where
         ending,
         record {
           event = signal g (disposition_of p.dispositions g) c.info;
-          logged = ap (event_of p l (Some k)) did ∙ ap (λ o. Some (signal g (disposition_of p.dispositions g) (info_in o))) holds;
-          tells = signal-told q id k g c (met-stop (Signal g) pt k (sym point ∙ met) stops) holds ∙ ap (λ d. Some (Received g (class_of (disposition_of d c.signal)) c.info)) same ∙ ap (λ x. Some (Received g (class_of (disposition_of p.dispositions x)) c.info)) sig;
+          logged =
+              ap (event_of p l (Some k)) did
+              ∙ ap (λ o. Some (signal g (disposition_of p.dispositions g) (info_in o))) holds;
+          tells =
+              signal-told q id k g c (met-stop (Signal g) pt k (sym point ∙ met) stops) holds
+              ∙ ap (λ d. Some (Received g (class_of (disposition_of d c.signal)) c.info)) same
+              ∙ ap (λ x. Some (Received g (class_of (disposition_of p.dispositions x)) c.info)) sig;
         },
       )
 
   own-tells : (g : Sig) → TellsRow (own_taken_row l g)
   unfolding own_taken_row own_taken
-  own-tells g = took-tells g (current_of g l.pending) true (own_taken_row l g) refl refl refl refl refl (λ x keeps. keeps)
+  own-tells g =
+      took-tells g (current_of g l.pending) true (own_taken_row l g) refl refl refl refl refl (λ x keeps. keeps)
 
   shared-tells : (g : Sig) → TellsRow (shared_taken_row p g)
   unfolding shared_taken_row shared_taken
-  shared-tells g = took-tells g (current_of g p.pending) false (shared_taken_row p g) refl refl refl refl refl (λ x keeps. keeps)
+  shared-tells g =
+      took-tells g (current_of g p.pending) false (shared_taken_row p g) refl refl refl refl refl (λ x keeps. keeps)
 
   -- ---- faults
 
-  fault-tells : (f : Flt) (row : Row) → row.did ≡ Faulted f → row.point ≡ Some (Fault f) → row.transition.ending ≡ None → TellsRow row
+  fault-tells : (f : Flt) (row : Row) → row.did ≡ Faulted f → row.point ≡ Some (Fault f) → row.transition.ending ≡ None
+      → TellsRow row
   unfolding event_of told
   fault-tells f row did point ending pt y k q id met fol stops kept lives = (
     ending,
@@ -271,12 +320,15 @@ module _ (p : TracedProcess) (l : TracedLwp) where
   entered-tells : (call : Sysno) (regs : List ℕ) → regs ≡ moved_on l.regs → TellsRow (entered_row call regs)
   unfolding entered_row entered event_of told moved traced moved_on
   entered-tells call regs on pt y k q id met f stops kept lives =
-      let args : arguments k.regs ≡ arguments l.regs = ap arguments f.regs_are ∙ ap arguments on ∙ arguments-pc l.regs (address_at (pc_of l.regs) 16) in (
+      let args : arguments k.regs ≡ arguments l.regs =
+      ap arguments f.regs_are ∙ ap arguments on ∙ arguments-pc l.regs (address_at (pc_of l.regs) 16) in (
         refl,
         record {
           event = entry call (arguments l.regs);
           logged = refl;
-          tells = entry-told q id k call (met-stop (Entry call) pt k met stops) f.phase_is ∙ ap (λ a. Some (Entered call a)) args;
+          tells =
+              entry-told q id k call (met-stop (Entry call) pt k met stops) f.phase_is
+              ∙ ap (λ a. Some (Entered call a)) args;
         },
       )
 
@@ -287,7 +339,8 @@ module _ (p : TracedProcess) (l : TracedLwp) where
   ran-tells : (regs : List ℕ) (store : Option Store) → TellsRow (ran_row p l regs store)
   unfolding ran_row trapped
   ran-tells regs store =
-      let traps : Row = instruction_row (Faulted Trace) (Some (Fault Trace)) (trapped Trace (pc_of regs) p.space regs store) in
+      let traps : Row =
+      instruction_row (Faulted Trace) (Some (Fault Trace)) (trapped Trace (pc_of regs) p.space regs store) in
       let goes : Row = instruction_row Ran None (ran p.space regs store) in
       either-tells l.control.step traps goes (fault-tells Trace traps refl refl refl) (quiet-tells goes refl)
 
@@ -296,7 +349,8 @@ module _ (p : TracedProcess) (l : TracedLwp) where
   executed-tells (runs regs store) on = ran-tells regs store
   executed-tells (calls call regs) on = entered-tells call regs on
   executed-tells (faults f address) on = fault-tells f (incurred_row f address) refl refl refl
-  executed-tells (runs_into_watch address regs store) on = fault-tells Watch (watched_row address p regs store) refl refl refl
+  executed-tells (runs_into_watch address regs store) on =
+      fault-tells Watch (watched_row address p regs store) refl refl refl
 
   returned-tells : (call : Sysno) → TellsRow (returned_row p l call)
   unfolding returned_row trapped

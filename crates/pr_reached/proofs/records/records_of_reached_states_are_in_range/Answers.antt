@@ -13,12 +13,16 @@ use Rattle.pr_reached.specs.ByteHistories.{HasBytes}
 use Rattle.pr_reached.specs.InRange.{IsInRange}
 use Rattle.std.proofs.Common.{ℕ, List}
 
-later : (n : ℕ) (s : TracedState) (h : List Entry) → IsLawful s → IsInRange s.system → HasBytes h → IsLegal n s h → AreRecordsInRange (state_after s h).system
-later n s h lawful ranged bytes legal = records-range (state_after s h).system (history-state n s h lawful legal).system (history-range n s h lawful ranged bytes legal)
+later : (n : ℕ) (s : TracedState) (h : List Entry) → IsLawful s → IsInRange s.system → HasBytes h → IsLegal n s h
+    → AreRecordsInRange (state_after s h).system
+later n s h lawful ranged bytes legal =
+    records-range (state_after s h).system (history-state n s h lawful legal).system
+    (history-range n s h lawful ranged bytes legal)
 
 pub returns : goal.returns
 returns c = record {
   later = later;
   first = λ n programs files spawns h start ranged bytes legal.
-      later n (first_state programs files spawns) h (first-lawful programs files spawns start) (first-state-range programs files spawns ranged) bytes legal;
+      later n (first_state programs files spawns) h (first-lawful programs files spawns start)
+      (first-state-range programs files spawns ranged) bytes legal;
 }

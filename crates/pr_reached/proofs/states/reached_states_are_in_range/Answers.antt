@@ -7,5 +7,6 @@ pub returns : goal.returns
 returns c = record {
   later = history-range;
   first = λ n programs files spawns h start ranged bytes legal.
-      history-range n (first_state programs files spawns) h (first-lawful programs files spawns start) (first-state-range programs files spawns ranged) bytes legal;
+      history-range n (first_state programs files spawns) h (first-lawful programs files spawns start)
+      (first-state-range programs files spawns ranged) bytes legal;
 }

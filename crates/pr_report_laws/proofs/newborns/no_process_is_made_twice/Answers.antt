@@ -1,4 +1,4 @@
-use Rattle.pr_report_laws.proofs.MadeOnce.{forked-once, not-both, spawned-once}
+use Rattle.pr_report_laws.proofs.Machine.MadeOnce.{forked-once, not-both, spawned-once}
 use Rattle.pr_report_laws.proofs.newborns.no_process_is_made_twice.Goals as goal
 
 pub returns-clause-forked : goal.returns-clause-forked

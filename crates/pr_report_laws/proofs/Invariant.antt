@@ -1,0 +1,24 @@
+-- How a process stands that truss traces, before each entry of a history, and how much of it is shown.
+pub mod AnsweredReads
+pub mod ChildSteps
+pub mod CloseSteps
+pub mod EntrySteps
+pub mod EventSteps
+pub mod HistoryLaw
+pub mod HistorySteps
+pub mod LeaveSteps
+pub mod OpeningRuns
+pub mod OpeningSteps
+pub mod OtherSteps
+pub mod OwnCallSteps
+pub mod OwnCalls
+pub mod OwnChild
+pub mod OwnSteps
+pub mod PollSteps
+pub mod Positions
+pub mod RunSteps
+pub mod StandLemmas
+pub mod Standing
+pub mod StatusSteps
+pub mod TextSteps
+pub mod UnreadLaws

@@ -1,0 +1,159 @@
+use Rattle.std.proofs.Common.{◌≡◌, ◌==◌, ◌-◌, ◌%◌, ◌^◌, ℕ, suc, Bool, true, false, List, [], ◌∷◌, ◌++◌, cond, None, Some, ◌⊎◌}
+use Rattle.pr_line.specs.Selections.{is_selected}
+use Rattle.pr_line.specs.declared.events.Event.{Event}
+use Rattle.pr_line.specs.declared.options.Options.{Options}
+use Rattle.pr_model.specs.State.{TracedLwp, TracedProcess, TracedState, has_agent, live_process, lwp_of}
+use Rattle.pr_model.specs.Stops.{has_event_stop}
+use Rattle.pr_num.specs.Control.{async_mode, has_flags, klc_mode}
+use Rattle.pr_num.specs.Sets.{without_number}
+use Rattle.pr_num.specs.Signals.{signal_number}
+use Rattle.pr_num.specs.declared.signals.Sig.TheVariants.{Kill}
+use Rattle.pr_truss.specs.Messages.{traced_entries, traced_exits, traced_faults, traced_signals}
+use Rattle.pr_truss.specs.Trusses.{TrussState, traced_at}
+use Rattle.pr_truss.specs.declared.stages.AfterClosing.TheVariants.{RunParent}
+use Rattle.pr_truss.specs.declared.stages.ChildStep.{ChildStep}
+use Rattle.pr_truss.specs.declared.stages.OpeningStep.{OpeningStep}
+use Rattle.pr_truss.specs.declared.stages.OpeningStep.TheVariants as opening
+use Rattle.pr_truss.specs.declared.stages.Stage.{Stage}
+use Rattle.pr_truss.specs.declared.stages.Stage.TheVariants.{Opening, ReadingStatus, ReadingText, OpeningChildControl, OpeningChild, Running, Closing}
+use Rattle.pr_truss_laws.specs.Stills.{IsHalting, IsQuiet}
+use Rattle.pr_report_laws.proofs.Invariant.Positions.{HasEvent, IsAtBirth, IsTracedBy, Waits, met_in}
+use Rattle.pr_report_laws.specs.Shown.{LwpEvent, shown}
+use Rattle.pr_report_laws.specs.Watching.{is_away, place_of, watches}
+
+-- How a process stands, and how much of it is shown, wherever truss and the machine have come to: what holds before
+-- each
+-- entry of a history. `base` is what was selected so far.
+
+-- ---- what is missing
+
+-- All that was selected is shown, or one event is missing, and this is why.
+pub record Accounted (Why : Type 0) (base so_far : List LwpEvent) : Type 0 where
+  pub missing : List LwpEvent
+  pub is : base ≡ so_far ++ missing
+  pub few : (missing ≡ []) ⊎ ((event : LwpEvent) × ((missing ≡ event ∷ []) × Why))
+
+-- an event of an lwp that is still to be shown, if it is selected
+abbrev pub unread : Options → ℕ → Event → List LwpEvent
+unread o id event = cond (is_selected o event) (record { id = id; event = event } ∷ []) []
+
+-- ---- what a stage of truss has to do with a process at a place
+
+-- truss has read the stop of the process, and has not run it yet
+abbrev pub has_read : Stage → ℕ → Bool
+has_read (ReadingText at lwp from len) place = at == place
+has_read (OpeningChildControl parent child) place = parent == place
+has_read (OpeningChild parent at step) place = parent == place
+has_read (Running at) place = at == place
+has_read (Closing at (RunParent parent)) place = parent == place
+has_read _ place = false
+
+-- a poll named the process
+abbrev pub is_named : Stage → ℕ → Bool
+is_named (ReadingStatus at) place = at == place
+is_named _ place = false
+
+-- ---- the opening of a process
+
+-- neither PR_ASYNC nor PR_KLC is set
+pub record IsSpared (p : TracedProcess) : Type 0 where
+  pub directs : has_flags p.control.modes async_mode ≡ false
+  pub spares : has_flags p.control.modes klc_mode ≡ false
+
+-- an lwp of a process stands on an event of interest
+pub record HasStop (p : TracedProcess) : Type 0 where
+  pub id : ℕ
+  pub lwp : TracedLwp
+  pub there : lwp_of p id ≡ Some lwp
+  pub stops : has_event_stop lwp ≡ true
+
+-- A process after the wait for its stop: nothing moves in it; and unless an agent stands there, it is frozen, and some
+-- lwp
+-- of it stands on an event of interest.
+pub record IsAttached (p : TracedProcess) : Type 0 where
+  pub spared : IsSpared p
+  pub halting : IsHalting p
+  pub stops : has_agent p ≡ false → HasStop p
+  pub waits : has_agent p ≡ false → Waits p (met_in p)
+
+-- the same once truss knows how many stops are old: the first of them is run with the opening
+pub record IsCounted (p : TracedProcess) (old : ℕ) : Type 0 where
+  pub attached : IsAttached p
+  pub counts : has_agent p ≡ false → old ≡ met_in p - 1
+
+-- the traced sets, one after another
+pub record HasSignals (o : Options) (p : TracedProcess) (old : ℕ) : Type 0 where
+  pub counted : IsCounted p old
+  pub signals : p.control.traced_signals ≡ without_number (traced_signals o) (signal_number Kill)
+
+pub record HasFaults (o : Options) (p : TracedProcess) (old : ℕ) : Type 0 where
+  pub before : HasSignals o p old
+  pub faults : p.control.traced_faults ≡ traced_faults o % 2 ^ 64
+
+pub record HasEntries (o : Options) (p : TracedProcess) (old : ℕ) : Type 0 where
+  pub before : HasFaults o p old
+  pub entries : p.control.traced_entries ≡ traced_entries o
+
+pub record HasExits (o : Options) (p : TracedProcess) (old : ℕ) : Type 0 where
+  pub before : HasEntries o p old
+  pub exits : p.control.traced_exits ≡ traced_exits o
+
+-- what holds of a live process before a step of its opening, where truss counts so many stops as old
+unfoldable pub Opened : Options → OpeningStep → TracedProcess → ℕ → Type 0
+Opened o opening.SetRelease p old = IsSpared p
+Opened o opening.Stop p old = IsSpared p
+Opened o (opening.AwaitStop until) p old = IsSpared p × IsHalting p
+Opened o opening.ReadLwps p old = IsAttached p
+Opened o opening.TraceSignals p old = IsCounted p old
+Opened o opening.TraceFaults p old = HasSignals o p old
+Opened o opening.TraceEntries p old = HasFaults o p old
+Opened o opening.TraceExits p old = HasEntries o p old
+Opened o opening.Follow p old = HasExits o p old
+Opened o opening.Start p old = HasExits o p old
+Opened o opening.OpenStatus p old = Unit {0}
+Opened o opening.OpenLstatus p old = Unit {0}
+Opened o opening.OpenMemory p old = Unit {0}
+Opened o opening.ClearModes p old = Unit {0}
+
+-- what holds of a process that truss opens, by the step that it comes to
+pub record Prepares (o : Options) (pid : ℕ) (t : TrussState) (s : TracedState) : Type 0 where
+  pub opened : (place : ℕ) (step : OpeningStep) (p : TracedProcess) → t.stage ≡ Opening place step
+      → (traced_at t place).pid ≡ pid → live_process s.system pid ≡ Some p → Opened o step p (traced_at t place).old
+  pub until : (place until : ℕ) → t.stage ≡ Opening place (opening.AwaitStop until) → until ≡ 0
+  pub child : (parent place : ℕ) (step : ChildStep) (p : TracedProcess) → t.stage ≡ OpeningChild parent place step
+      → (traced_at t place).pid ≡ pid → live_process s.system pid ≡ Some p → IsAtBirth o p
+  pub new : (parent place : ℕ) (step : ChildStep) → t.stage ≡ OpeningChild parent place step
+      → (traced_at t place).old ≡ 0
+
+-- ---- a process that is watched
+
+-- How a live process stands that truss watches at a place, where it counts so many stops as old.
+pub data Position (o : Options) (stage : Stage) (place old : ℕ) (p : TracedProcess)
+    (base so_far : List LwpEvent) : Type 0 where
+  -- truss has read the stop
+  stop_read : has_read stage place ≡ true → Waits p (suc old) → base ≡ so_far → Position o stage place old p base so_far
+  -- old stops
+  old_stops : (n : ℕ) → has_read stage place ≡ false → old ≡ suc n → Waits p (suc n) → base ≡ so_far
+      → Position o stage place old p base so_far
+  -- no stop
+  goes : has_read stage place ≡ false → is_named stage place ≡ false → old ≡ 0 → IsQuiet p → base ≡ so_far
+      → Position o stage place old p base so_far
+  -- an event that is not read yet
+  has_event : (id : ℕ) (event : Event) → has_read stage place ≡ false → old ≡ 0 → HasEvent p id event
+      → (is_named stage place ≡ true → Waits p 1) → base ≡ so_far ++ unread o id event
+      → Position o stage place old p base so_far
+
+-- ---- all
+
+-- How the process of an id stands with truss. Why is why an event may be missing.
+pub data Standing (Why : Type 0) (o : Options) (pid : ℕ) (t : TrussState) (s : TracedState)
+    (base : List LwpEvent) : Type 0 where
+  -- it is not watched
+  apart : watches t pid ≡ false → Accounted Why base (shown pid t) → Standing Why o pid t s base
+  -- it has ended, and truss has not learnt that yet
+  over : watches t pid ≡ true → live_process s.system pid ≡ None → Accounted Why base (shown pid t)
+      → Standing Why o pid t s base
+  -- it lives
+  lives : (place : ℕ) (p : TracedProcess) → place_of t pid ≡ Some place → (traced_at t place).attached ≡ true
+      → is_away t.leaving t.stage place ≡ false → live_process s.system pid ≡ Some p → IsTracedBy o p
+      → Position o t.stage place (traced_at t place).old p base (shown pid t) → Standing Why o pid t s base

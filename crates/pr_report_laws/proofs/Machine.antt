@@ -1,0 +1,23 @@
+-- What the machine does to a process, whoever the controllers are.
+pub mod CallResults
+pub mod ControlLaws
+pub mod ControlSteps
+pub mod EventStopLemmas
+pub mod EventTurns
+pub mod ForkRows
+pub mod ForkTurns
+pub mod FrameLaws
+pub mod GoneLaws
+pub mod MadeOnce
+pub mod NewBorn
+pub mod OpeningFacts
+pub mod OpeningSets
+pub mod OwnTurnLaws
+pub mod PollLaws
+pub mod RecordLaws
+pub mod RunLaws
+pub mod SettingLaws
+pub mod StayingLwps
+pub mod StoppedLaws
+pub mod TracedPoints
+pub mod TurnSettings

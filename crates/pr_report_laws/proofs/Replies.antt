@@ -1,0 +1,23 @@
+-- What a reply makes of truss, whatever the machine is.
+pub mod Carries
+pub mod Elsewhere
+pub mod Leaving
+pub mod Moves
+pub mod NextStages
+pub mod OpeningCalls
+pub mod OpeningParts
+pub mod OptionLemmas
+pub mod Orderly
+pub mod OwnLooks
+pub mod OwnOpens
+pub mod OwnRuns
+pub mod Places
+pub mod ShownGrows
+pub mod StageChanges
+pub mod StageReplies
+pub mod StopsOver
+pub mod StopsRead
+pub mod TextReports
+pub mod TracedPlaces
+pub mod Unwatched
+pub mod WatchedPlaces

@@ -1,0 +1,459 @@
+use Rattle.std.proofs.Common.{◌≡◌, ◌≢◌, ◌==◌, ◌<◌, ℕ, Bool, true, false, cond, None, Some, Option, List, [], ◌∷◌, ◌++◌, length, refl, sym, subst, ap, ◌∙◌, arith, inl, inr}
+use Rattle.std.proofs.lemmas.Bool.{cases_Bool, eq-eqb, eqb-false, eqb-true, false≢true}
+use Rattle.std.proofs.lemmas.List.{append-nil}
+use Rattle.std.proofs.lemmas.List.Elements.{All-cons, All-head, All-nil, All-tail}
+use Rattle.std.proofs.lemmas.Option.{none-some, same_Some}
+use Rattle.std.specs.List.{slice_get}
+use Rattle.pr_line.specs.declared.options.Options.{Options}
+use Rattle.pr_model.specs.Calls.{Answer, answer_to}
+use Rattle.pr_model.specs.Lawful.{IsLawful}
+use Rattle.pr_model.specs.Legal.{IsLegal, IsLegalEntry, after, after_call, state_after}
+use Rattle.pr_model.specs.State.{TracedProcess, TracedState, live_process}
+use Rattle.pr_model.specs.declared.calls.Call.{Call}
+use Rattle.pr_model.specs.declared.calls.Call.TheVariants as call
+use Rattle.pr_model.specs.declared.calls.File.TheVariants as file
+use Rattle.pr_model.specs.declared.calls.Mode.TheVariants.{WriteExcl}
+use Rattle.pr_model.specs.declared.calls.Reply.{Reply}
+use Rattle.pr_model.specs.declared.calls.Reply.TheVariants.{Handle}
+use Rattle.pr_model.specs.declared.events.Act.{Act}
+use Rattle.pr_model.specs.declared.events.Act.TheVariants as act
+use Rattle.pr_model.specs.declared.events.Actor.{Actor}
+use Rattle.pr_model.specs.declared.events.Actor.TheVariants.{Controller, Lwp, Clock}
+use Rattle.pr_model.specs.declared.events.Entry.{Entry}
+use Rattle.pr_reached.proofs.HistoryRanges.{history-range}
+use Rattle.pr_reached.specs.ByteHistories.{HasBytes, IsEntryOfBytes}
+use Rattle.pr_reached.specs.InRange.{IsInRange}
+use Rattle.pr_reached.specs.Reached.{IsReached}
+use Rattle.pr_truss.specs.Feeding.{fed}
+use Rattle.pr_truss.specs.NextCalls.{call_of, next_call_of}
+use Rattle.pr_truss.specs.Trusses.{TrussState, first_of_program, first_truss, idle, opening_or, traced_at}
+use Rattle.pr_truss.specs.declared.processes.Traced.{Traced}
+use Rattle.pr_truss.specs.declared.stages.Stage.{Stage}
+use Rattle.pr_truss.specs.declared.stages.Stage.TheVariants.{Spawning, OpeningControl, OpeningChildControl}
+use Rattle.pr_truss_laws.proofs.HeldLemmas.{Fits}
+use Rattle.pr_truss_laws.proofs.OwnLemmas.{first-owns}
+use Rattle.pr_truss_laws.specs.Exchanges.{Exchange, Makes, exchange_in, exchange_of, exchanges, truss_after}
+use Rattle.pr_truss_laws.specs.Runs.{IsTrussRun}
+use Rattle.pr_report_laws.proofs.UnopenedChildren.Claims.{Claims, KeepsChildren, IsFree, IsSet, Names, claim_of, opened, stands, watched}
+use Rattle.pr_report_laws.proofs.UnopenedChildren.Claims as claims
+use Rattle.pr_report_laws.proofs.UnopenedChildren.ClaimCalls.{call-follows}
+use Rattle.pr_report_laws.proofs.UnopenedChildren.ClaimEntries.{entry-follows}
+use Rattle.pr_report_laws.proofs.UnopenedChildren.ClaimFed.{fed-comes}
+use Rattle.pr_report_laws.proofs.UnopenedChildren.ClaimRuns.{call_entry}
+use Rattle.pr_report_laws.proofs.UnopenedChildren.ClaimStands.{IsStanding}
+use Rattle.pr_report_laws.proofs.Files.FileLaws.{HasFiles}
+use Rattle.pr_report_laws.proofs.Files.FileSteps.{MakesNext, entry-lawful, first-files, makes-next}
+use Rattle.pr_report_laws.proofs.Invariant.UnreadLaws.{truss-reports}
+use Rattle.pr_report_laws.proofs.Files.WatchHistories.{uninterrupted}
+use Rattle.pr_report_laws.proofs.Machine.ForkTurns.{LeavesChildren}
+use Rattle.pr_report_laws.proofs.Invariant.HistoryLaw.{BirthsFrom, OpensAtBirth, after-next, first-is, first-prepares, no-exchanges, reads-back}
+use Rattle.pr_report_laws.proofs.Invariant.HistorySteps.{Holds, IsBorn, entry-holds}
+use Rattle.pr_report_laws.proofs.Replies.Leaving.{IsLeaving, fed-leaving, first-leaving}
+use Rattle.pr_report_laws.proofs.Machine.NewBorn.{untouched-now}
+use Rattle.pr_report_laws.proofs.Replies.OwnLooks.{IsCall, ReadsBack}
+use Rattle.pr_report_laws.proofs.Invariant.StandLemmas.{Leaves}
+use Rattle.pr_report_laws.proofs.Invariant.Standing.{apart}
+use Rattle.pr_report_laws.specs.Births.{LeavesForks, NamesNoChild, granted, IsNeverFollowed}
+use Rattle.pr_report_laws.proofs.Invariant.Positions.{IsAtBirth}
+use Rattle.pr_report_laws.specs.Reported.{IsReported}
+use Rattle.pr_report_laws.specs.Shown.{LwpEvent, shown}
+use Rattle.pr_report_laws.specs.Watching.{told_of, with_exchange}
+
+-- Where truss opens the child of a fork, the child stands at its birth.
+
+-- ---- what holds before an entry
+
+-- what holds for a process, whatever may be missing of it
+pub record Holding (k : ℕ) (o : Options) (pid : ℕ) (t : TrussState) (s : TracedState) : Type 1 where
+  pub K : Type 0
+  pub so_far : List LwpEvent
+  pub holds : Holds K k o pid t s so_far
+
+-- what holds for all of them, and for the children of forks
+pub record Going (k : ℕ) (o : Options) (t : TrussState) (s : TracedState) (h : List Entry) : Type 1 where
+  pub each : (pid : ℕ) → Holding k o pid t s
+  pub leaves : IsLeaving t
+  pub children : t.leaving ≡ false → KeepsChildren k o t s h
+
+-- where truss leaves its processes it opens none by its id
+names-leaving : (o : Options) (ts : List Traced) (leaving : Bool) (stage : Stage) → Leaves leaving stage
+    → leaving ≡ true → Names o ts stage
+names-leaving o ts leaving (Spawning program) goes is = absurd (false≢true (sym goes ∙ is))
+names-leaving o ts leaving (OpeningControl pid) goes is = absurd (false≢true (sym goes ∙ is))
+names-leaving o ts leaving _ goes is = tt
+
+-- the rest of a history leaves the children of forks to truss too
+pub forks-later : (k : ℕ) (o : Options) (e : Entry) (h : List Entry) → LeavesChildren k o (e ∷ h) → LeavesChildren k o h
+forks-later k o e h forks = (
+  record {
+    each =
+        λ follow before between behind later parent id turned by pid lwp handle own_lwp own_handle opened_file own_file mode own_mode is.
+        forks.0.each follow
+        (e ∷ before) between behind later parent id turned by pid lwp handle own_lwp own_handle opened_file own_file mode own_mode (ap (λ (es : List Entry). e ∷ es) is);
+  },
+  record {
+    none = λ follow before later parent id place pid turned is. forks.1.none follow
+        (e ∷ before) later parent id place pid turned (ap (λ (es : List Entry). e ∷ es) is);
+  },
+)
+
+-- the entry of a call of truss, by what it learns
+abbrev pub entry_by : Actor → Act → Entry
+entry_by actor it = record { actor = actor; act = it }
+
+pub entry-of : (k : ℕ) (actor : Actor) (it : Act) (x : Exchange) → exchange_in k actor it ≡ Some x
+    → entry_by actor it ≡ entry_by (Controller k) (act.Call x.call x.reply)
+entry-of k (Controller by) (act.Call c r) x is = own (by == k) refl is
+  where
+    own : (mine : Bool) → (by == k) ≡ mine → cond mine (Some (record { call = c; reply = r })) None ≡ Some x
+        → entry_by (Controller by) (act.Call c r) ≡ entry_by (Controller k) (act.Call x.call x.reply)
+    own true same e =
+        ap (λ n. entry_by (Controller n) (act.Call c r)) (eqb-true by k same)
+        ∙ ap (λ (y : Exchange). entry_by (Controller k) (act.Call y.call y.reply)) (same_Some _ x e)
+    own false same e = absurd (none-some x e)
+entry-of k _ _ x is = absurd (none-some x is)
+
+module _ (n k : ℕ) (o : Options) (t : TrussState) (s : TracedState) (h : List Entry) where
+  -- ---- where truss opens a child
+
+  -- the entry in which its control file is opened
+  pub child-granted : (e : Entry) (x : Exchange) (pid handle parent : ℕ) → MakesNext t (exchange_of k e)
+      → exchange_of k e ≡ Some x → t.stage ≡ OpeningChildControl parent pid → x.reply ≡ Handle handle
+      → e ≡ granted k pid 0 file.Ctl WriteExcl handle
+  unfolding next_call_of call_of
+  child-granted e x pid handle parent next is at given =
+      let makes : next_call_of t ≡ Some x.call = subst (MakesNext t) is next in
+      let calls : call.Open pid 0 file.Ctl WriteExcl ≡ x.call = same_Some _ x.call (ap (call_of t) (sym at) ∙ makes) in
+      entry-of k e.actor e.act x is ∙ ap (λ (c : Call). entry_by (Controller k) (act.Call c x.reply)) (sym calls)
+      ∙ ap (λ (r : Reply). entry_by (Controller k) (act.Call (call.Open pid 0 file.Ctl WriteExcl) r)) given
+
+  born-now : (e : Entry) → Going k o t s (e ∷ h) → MakesNext t (exchange_of k e) → (pid : ℕ) → IsBorn k o pid t s e
+  born-now e g next pid =
+      record {
+        child = λ x handle parent p is at given live. at-birth handle parent p
+            (child-granted e x pid handle parent next is at given) at live;
+      }
+    where
+      at-birth : (handle parent : ℕ) (p : TracedProcess) → e ≡ granted k pid 0 file.Ctl WriteExcl handle
+          → t.stage ≡ OpeningChildControl parent pid → live_process s.system pid ≡ Some p → IsAtBirth o p
+      at-birth handle parent p entry at live =
+          let w = g.each 0 in
+          let holds = w.holds in
+          let files = holds.files in
+          let st = files.stands in
+          let stays : t.leaving ≡ false = subst (Leaves t.leaving) at st.leaves in
+          let f = g.children stays in
+          let owns = holds.owns in
+          let within : parent < length t.traced = subst (Fits t.traced) at owns.fits in
+          let claim : Claims o t.traced t.stage s.system (traced_at t parent).pid pid =
+          claims.reads parent within refl (ap (λ (x : Stage). claim_of o x parent) at
+          ∙ ap (λ b. cond b (Some pid) None) (eq-eqb parent parent refl)) in
+          let new = f.born (traced_at t parent).pid pid claim in
+          let untouched = untouched-now k o s h pid 0 handle file.Ctl WriteExcl e entry refl new in
+          let is = untouched.born p live in
+          is.birth
+
+  -- ---- what an entry leaves
+
+  pub stand : (e : Entry) → Going k o t s (e ∷ h) → (pid : ℕ) → IsStanding o pid t s
+  stand e g pid =
+      let x = g.each pid in
+      let holds = x.holds in
+      record { Why = _; so_far = x.so_far; standing = holds.standing; prepares = holds.prepares }
+
+  module _ (e : Entry) (g : Going k o t s (e ∷ h)) (reads : (pid : ℕ) → ReadsBack pid s) (legal : IsLegalEntry n s e)
+      (next : MakesNext t (exchange_of k e)) where
+    w : Holding k o 0 t s
+    w = g.each 0
+
+    later : IsLawful (after s e)
+    later = let holds = w.holds in entry-lawful n s e holds.lawful legal
+
+    each-later : (pid : ℕ) → Holding k o pid (told_of k t e) (after s e)
+    each-later pid =
+        let x = g.each pid in
+        record {
+          K = _;
+          so_far = _;
+          holds =
+              entry-holds x.K n k o pid t s x.so_far x.holds (uninterrupted k s) (reads pid) e
+              (born-now e g next pid) legal next;
+        }
+
+  -- a call of truss
+  module _ (c : Call) (a : Answer) (g : Going k o t s (call_entry k c a ∷ h)) (reads : (pid : ℕ) → ReadsBack pid s)
+      (legal : IsLegalEntry n s (call_entry k c a)) (next : MakesNext t (Some (record { call = c; reply = a.reply })))
+      (answer : answer_to s k c ≡ Some a) where
+    own-exchange : exchange_of k (call_entry k c a) ≡ Some (record { call = c; reply = a.reply })
+    own-exchange = ap (λ b. cond b (Some (record { call = c; reply = a.reply })) None) (eq-eqb k k refl)
+
+    own-next : MakesNext t (exchange_of k (call_entry k c a))
+    own-next = subst (MakesNext t) (sym own-exchange) next
+
+    pub own-after : after s (call_entry k c a) ≡ a.state
+    unfolding after
+    own-after = ap (after_call s) answer
+
+    told-is : told_of k t (call_entry k c a) ≡ fed t a.reply
+    told-is = ap (with_exchange t) own-exchange
+
+    pub is-call : (pid : ℕ) → IsCall k o pid t s c a
+    is-call pid =
+        let x = g.each pid in
+        let holds = x.holds in
+        let y = each-later (call_entry k c a) g reads legal own-next pid in
+        let after_it = y.holds in
+        record {
+          next = next;
+          answer = answer;
+          lawful = holds.lawful;
+          later = subst IsLawful own-after after_it.lawful;
+          fit = holds.fit;
+          owns = holds.owns;
+          files = holds.files;
+          files_later =
+              subst (HasFiles k (fed t a.reply)) own-after
+              (subst (λ (u : TrussState). HasFiles k u (after s (call_entry k c a))) told-is after_it.files);
+          options = holds.options;
+          reads = reads pid;
+        }
+
+    own-names : Names t.options t.traced t.stage
+    own-names = elim (cases_Bool t.leaving) [
+      | inl leaving ↦ let x =
+          g.each 0 in let holds =
+          x.holds in let files =
+          holds.files in let st =
+          files.stands in names-leaving t.options t.traced t.leaving t.stage st.leaves leaving
+      | inr stays ↦ let f =
+          g.children stays in let x =
+          g.each 0 in let holds =
+          x.holds in subst (λ (y : Options). Names y t.traced t.stage) (sym holds.options) f.names
+    ]
+
+    -- truss that does not leave its processes did not leave them before
+    pub own-stays : (fed t a.reply).leaving ≡ false → t.leaving ≡ false
+    own-stays on =
+        let x = g.each 0 in
+        let holds = x.holds in
+        let owns = holds.owns in
+        let comes = fed-comes t a.reply g.leaves owns.fits own-names on in
+        comes.stays
+
+    own-follows : (fed t a.reply).leaving ≡ false → KeepsChildren k o (fed t a.reply) (after s (call_entry k c a)) h
+    own-follows on =
+        let stays = own-stays on in
+        subst (λ (v : TracedState). KeepsChildren k o (fed t a.reply) v h) (sym own-after)
+        (call-follows n k o t s c a
+        (record {
+          call = is-call;
+          stands = stand
+              (call_entry k c a) g;
+          legal =
+              legal;
+          later = own-after;
+          stays = stays;
+        }) g.leaves h (g.children stays) on)
+
+  -- an entry that is no call of truss
+  others-follow : (e : Entry) (g : Going k o t s (e ∷ h)) → LeavesChildren k o (e ∷ h) → IsLegalEntry n s e
+      → e.actor ≢ Controller k → t.leaving ≡ false → KeepsChildren k o t (after s e) h
+  others-follow e g leaves legal others stays =
+      let x = g.each 0 in
+      let holds = x.holds in
+      entry-follows n k o t s e h holds.lawful holds.fit holds.files (stand e g) stays legal
+      (entry-lawful n s e holds.lawful legal) others leaves (g.children stays)
+
+  -- ---- any entry
+
+  module _ (reads : (pid : ℕ) → ReadsBack pid s) where
+    call-follow : (by : ℕ) (c : Call) (r : Reply) (mine : Bool) → (by == k) ≡ mine
+        → Going k o t s (record { actor = Controller by; act = act.Call c r } ∷ h)
+        → LeavesChildren k o (record { actor = Controller by; act = act.Call c r } ∷ h)
+        → IsLegalEntry n s (record { actor = Controller by; act = act.Call c r })
+        → MakesNext t (cond mine (Some (record { call = c; reply = r })) None)
+        → (with_exchange t (cond mine (Some (record { call = c; reply = r })) None)).leaving ≡ false
+        → KeepsChildren k o (with_exchange t (cond mine (Some (record { call = c; reply = r })) None))
+        (after s (record { actor = Controller by; act = act.Call c r })) h
+    unfolding IsLegalEntry
+    call-follow by c r false is g forks legal next on =
+        others-follow (record { actor = Controller by; act = act.Call c r }) g forks legal
+        (λ same. eqb-false by k is (of-controller by k same)) on
+      where
+        of-controller : (x y : ℕ) → Controller x ≡ Controller y → x ≡ y
+        of-controller x y same = cc
+    call-follow by c r true is g forks legal next on =
+        subst (λ b. Going k o t s (record { actor = Controller b; act = act.Call c r } ∷ h) → IsLegalEntry n s
+        (record { actor = Controller b; act = act.Call c r })
+        → answer_to s b c ≡ Some (record { state = legal.1.0; reply = r })
+        → KeepsChildren k o (fed t r) (after s (record { actor = Controller b; act = act.Call c r })) h)
+        (sym (eqb-true by k is))
+        (λ g' l answer. own-follows c
+        (record { state = legal.1.0; reply = r }) g' reads l next answer on) g legal legal.1.1
+
+    actor-follow : (actor : Actor) (it : Act) → Going k o t s (record { actor = actor; act = it } ∷ h)
+        → LeavesChildren k o (record { actor = actor; act = it } ∷ h)
+        → IsLegalEntry n s (record { actor = actor; act = it }) → MakesNext t (exchange_in k actor it)
+        → (with_exchange t (exchange_in k actor it)).leaving ≡ false
+        → KeepsChildren k o (with_exchange t (exchange_in k actor it)) (after s (record { actor = actor; act = it })) h
+    unfolding IsLegalEntry
+    actor-follow (Controller by) (act.Call c r) g forks legal next on =
+        call-follow by c r (by == k) refl g forks legal next on
+    actor-follow (Lwp pid id) it g forks legal next on =
+        others-follow (record { actor = Lwp pid id; act = it }) g forks legal (λ same. cc) on
+    actor-follow Clock it g forks legal next on =
+        others-follow (record { actor = Clock; act = it }) g forks legal (λ same. cc) on
+    actor-follow (Controller by) (act.Turn did) g forks legal next on = absurd legal
+    actor-follow (Controller by) (act.Tick moment) g forks legal next on = absurd legal
+
+    told-leaves : (x : Option Exchange) → IsLeaving t → IsLeaving (with_exchange t x)
+    told-leaves None leaves = leaves
+    told-leaves (Some x) leaves = fed-leaving t x.reply leaves
+
+    pub going-on : (e : Entry) → Going k o t s (e ∷ h) → LeavesChildren k o (e ∷ h) → IsLegalEntry n s e
+        → MakesNext t (exchange_of k e) → Going k o (told_of k t e) (after s e) h
+    going-on e g forks legal next = record {
+      each = each-later e g reads legal next;
+      leaves = told-leaves (exchange_of k e) g.leaves;
+      children = λ on. actor-follow e.actor e.act g forks legal next on;
+    }
+
+-- ---- histories
+
+-- what was asked of the first entry, and of those after it
+births-join : (k : ℕ) (o : Options) (pid : ℕ) (t : TrussState) (s : TracedState) (e : Entry) (h : List Entry)
+    → IsBorn k o pid t s e → BirthsFrom k o pid (told_of k t e) (after s e) h → BirthsFrom k o pid t s (e ∷ h)
+births-join k o pid t s e h now rest = record { child = by }
+  where
+    first-is-it : {e' : Entry} {xs ys : List Entry} → e' ∷ xs ≡ e ∷ ys → e' ≡ e
+    first-is-it same = cc
+
+    by : (before later : List Entry) (x : Entry) (made : Exchange) (handle parent : ℕ) (p : TracedProcess)
+        → e ∷ h ≡ before ++ x ∷ later → exchange_of k x ≡ Some made
+        → (truss_after t (exchanges k before)).stage ≡ OpeningChildControl parent pid
+        → made.reply ≡ Handle handle → live_process (state_after s before).system pid ≡ Some p → IsAtBirth o p
+    by [] later x made handle parent p is own stage given live =
+        let same : x ≡ e = cc in
+        now.child made handle parent p (ap (exchange_of k) (sym same)
+        ∙ own) (ap (λ (u : TrussState). u.stage) (sym (no-exchanges k t)) ∙ stage) given live
+    by (b ∷ before) later x made handle parent p is own stage given live =
+        let same : b ≡ e = cc in
+        let tail : h ≡ before ++ x ∷ later = cc in
+        rest.child before later x made handle parent p tail own
+        (ap (λ (u : TrussState). u.stage) (sym (after-next k t e before)
+        ∙ ap (λ (y : Entry). truss_after t (exchanges k (y ∷ before))) (sym same)) ∙ stage) given
+        (ap (λ (y : Entry). live_process (state_after (after s y) before).system pid) (sym same) ∙ live)
+
+history-births : (n k : ℕ) (o : Options) (h : List Entry) (t : TrussState) (s : TracedState) → Going k o t s h
+    → IsLegal n s h → Makes t (exchanges k h) → IsInRange s.system → HasBytes h → LeavesChildren k o h → (pid : ℕ)
+    → BirthsFrom k o pid t s h
+history-births n k o [] t s g legal makes range bytes forks pid =
+    record { child = λ before later e x handle parent p is own stage given live. absurd (nothing before later e is) }
+  where
+    nothing : (before later : List Entry) (e : Entry) → [] ≡ before ++ e ∷ later → ⊥
+    nothing [] later e is = cc
+    nothing (b ∷ before) later e is = cc
+history-births n k o (e ∷ h) t s g legal makes range bytes forks pid =
+    let first = makes-next k t e h makes in
+    let w = g.each 0 in
+    let holds = w.holds in
+    births-join k o pid t s e h (born-now n k o t s h e g first.0 pid)
+    (history-births n k o h (told_of k t e) (after s e)
+    (going-on n k o t s h (λ of. reads-back of s holds.lawful range) e g forks legal.0 first.0) legal.1 first.1
+    (history-range n s (e ∷ []) holds.lawful range
+    (All-cons IsEntryOfBytes e [] (All-head IsEntryOfBytes e h bytes) (All-nil IsEntryOfBytes)) (legal.0, tt))
+    (All-tail IsEntryOfBytes e h bytes) (forks-later k o e h forks) pid)
+
+-- ---- the first state
+
+opening-traced : (o : Options) (x : Option ℕ) → (opening_or (idle o) (idle o) x).traced ≡ []
+opening-traced o None = refl
+opening-traced o (Some pid) = refl
+
+program-traced : (o : Options) (x : Option (List ℕ)) → (first_of_program o x).traced ≡ []
+program-traced o None = opening-traced o (slice_get o.pids 0)
+program-traced o (Some program) = refl
+
+pub first-traced : (o : Options) → (first_truss o).traced ≡ []
+unfolding first_truss
+first-traced o = program-traced o o.program
+
+none-names : (o : Options) (ts : List Traced) (stage : Stage) → ts ≡ [] → Names o ts stage
+none-names o ts (Spawning program) none = none
+none-names o ts (OpeningControl pid) none = inr none
+none-names o ts _ none = tt
+
+-- truss that traces no process yet
+pub first-follows : (k : ℕ) (o : Options) (t : TrussState) (s : TracedState) (h : List Entry) → t.traced ≡ []
+    → KeepsChildren k o t s h
+first-follows k o t s h none = record {
+  flags = λ follow place x p live. nowhere place (set-there place x);
+  born = λ pid c claim. unclaimed pid c claim;
+  one = λ pid other c x y. unclaimed pid c x;
+  names = none-names o t.traced t.stage none;
+}
+  where
+    nowhere : {X : Type 0} (place : ℕ) → place < length t.traced → X
+    nowhere place within = absurd (omega (arith, ap (λ (ts : List Traced). length ts) none))
+
+    set-there : (place : ℕ) → IsSet t.traced t.stage place → place < length t.traced
+    set-there place (watched within on here) = within
+    set-there place (opened within its) = within
+
+    unclaimed : {X : Type 0} (pid c : ℕ) → Claims o t.traced t.stage s.system pid c → X
+    unclaimed pid c (claims.reads place within same is) = nowhere place within
+    unclaimed pid c (stands place free same follow p live forked) = nowhere place free.within
+
+-- Where fork makes none of the processes that the options name, and no other controller opens a child of a fork for
+-- writing before truss does, truss opens each child at its birth.
+pub births : (n k : ℕ) (o : Options) (s : TracedState) (h : List Entry) → IsReached s → IsTrussRun n k o s h
+    → HasBytes h → NamesNoChild o h → LeavesForks k o h → (pid : ℕ) → OpensAtBirth k o pid s h
+births n k o s h reached run bytes named forks pid =
+    let b = history-births n k o h (first_truss o) s
+    (record {
+      each = λ pid.
+          let first = first-is o pid in
+          record {
+            K = ⊥;
+            so_far = [];
+            holds = record {
+              lawful = run.lawful;
+              fit = reached.fit;
+              owns = first-owns k o s run.nothing_open;
+              files = first-files k o s;
+              options = first.options;
+              prepares = first-prepares o pid s (first_truss o) first;
+              standing =
+                  apart first.nobody (record {
+                    missing = [];
+                    is = sym (append-nil (shown pid (first_truss o)) ∙ first.nothing);
+                    few = inl refl;
+                  });
+            };
+          };
+      leaves = first-leaving o;
+      children = λ stays. first-follows k o (first_truss o) s h (first-traced o);
+    }) run.legal run.makes reached.in_range bytes (forks, named) pid in
+    record { child = λ before later e x handle parent p is own stage given live. b.child before later e x handle parent p is own stage given live }
+
+-- Then truss has shown of each process exactly the selected events that came while it watched the process.
+pub births-report : (n k : ℕ) (o : Options) (pid : ℕ) (s : TracedState) (h : List Entry) → IsReached s
+    → IsTrussRun n k o s h → HasBytes h → NamesNoChild o h → LeavesForks k o h → IsReported k o pid s h
+births-report n k o pid s h reached run bytes named forks =
+    truss-reports n k o pid s h reached run bytes (births n k o s h reached run bytes named forks pid)
+
+-- A process of which truss never got hold as a child asks for nothing of the kind.
+pub unfollowed-births : (k : ℕ) (o : Options) (pid : ℕ) (s : TracedState) (h : List Entry) → IsNeverFollowed k o pid h
+    → OpensAtBirth k o pid s h
+unfollowed-births k o pid s h unfollowed =
+    record {
+      child = λ before later e opening handle parent p is own stage given live. absurd
+          (unfollowed.none before later e opening handle parent is own stage given);
+    }
+
+pub unfollowed-report : (n k : ℕ) (o : Options) (pid : ℕ) (s : TracedState) (h : List Entry) → IsReached s
+    → IsTrussRun n k o s h → HasBytes h → IsNeverFollowed k o pid h → IsReported k o pid s h
+unfollowed-report n k o pid s h reached run bytes unfollowed =
+    truss-reports n k o pid s h reached run bytes (unfollowed-births k o pid s h unfollowed)
+
+pub ruleset reports = (births-report, unfollowed-report)
