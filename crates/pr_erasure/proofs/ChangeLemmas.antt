@@ -48,7 +48,8 @@ module _ (pid : ℕ) (p : TracedProcess) (id : ℕ) (l : TracedLwp) where
   pub changed-erased : (c : Change) → IsProper c → (s : TracedSystem)
       → erased_system (changed traced pid p id l c s) ≡ changed untraced pid (erased_process p) id (erased_lwp l) c
       (erased_system s)
-  unfolding changed erased_system erased_process erased_lwp with_fds with_space with_shared_taken with_job_stop with_disposition_of with_held resumed with_suspended
+  unfolding changed erased_system erased_process erased_lwp with_fds with_space with_shared_taken with_job_stop
+      with_disposition_of with_held resumed with_suspended
   changed-erased (files_are files fds) sent s =
       with_process-erased (record s { files = files }) pid (with_fds fds) (with_fds fds) (λ x found. refl)
   changed-erased (space_is space) sent s =

@@ -114,7 +114,8 @@ with_made-erased p s =
 
 new_process-erased : (program : Program) (clock : ℕ) (held : Bool)
     → erased_process (new_process traced program clock held) ≡ new_process untraced program clock false
-unfolding erased_process erased_lwp erased_phase erased_pending new_process bare_process first_lwp new_lwp traced untraced
+unfolding erased_process erased_lwp erased_phase erased_pending new_process bare_process first_lwp new_lwp traced
+    untraced
 new_process-erased program clock held = refl
 
 pub with_spawned-erased : (program : Program) (held : Bool) (s : TracedSystem)
@@ -157,7 +158,13 @@ pub with_program-erased : (id : ℕ) (l : TracedLwp) (program : Program) (p : Tr
 unfolding erased_process with_program traced untraced
 with_program-erased id l program p =
     ap (λ x. record
-    (erased_process p) { program = program.name; space = first_space program; dispositions = map uncaught p.dispositions; lwps = (id, x) ∷ [] }) (started-erased l)
+    (erased_process p) {
+      program = program.name;
+      space = first_space program;
+      dispositions = map uncaught
+          p.dispositions;
+      lwps = (id, x) ∷ [];
+    }) (started-erased l)
 
 new_lwp-erased : (regs : List ℕ) (held : ℕ)
     → erased_lwp (new_lwp traced regs held (no_marks false)) ≡ new_lwp untraced regs held tt

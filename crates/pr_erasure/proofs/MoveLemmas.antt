@@ -28,7 +28,8 @@ seen_in l pending phase = record {
 -- what is made of an lwp: a line a move
 pub moved-erased : (move : Move) (l : TracedLwp) → Fits move l.phase
     → erased_lwp (moved traced move l) ≡ moved untraced move (erased_lwp l)
-unfolding erased_lwp erased_phase erased_pending moved traced untraced fault_incurred fault_posted fault_pending unchanged seen_in
+unfolding erased_lwp erased_phase erased_pending moved traced untraced fault_incurred fault_posted fault_pending
+    unchanged seen_in
 moved-erased stays l fits = refl
 moved-erased stops l fits = refl
 moved-erased (posts f address) l fits = sym (ap (seen_in l (λ phase. erased_pending phase l.pending)) fits)

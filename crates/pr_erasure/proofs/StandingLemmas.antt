@@ -92,7 +92,10 @@ module _ (id : ℕ) (phase : Phase) where
   keeps-job g p k =
       elim (ends_job_stop g) as
       (λ b. Keeps id phase
-      (cond b (record p { job_stop = None }) p)) [ true ↦ record { lwp = k.lwp; there = k.there; same = k.same } | false ↦ k ]
+      (cond b (record p { job_stop = None }) p)) [
+        | true ↦ record { lwp = k.lwp; there = k.there; same = k.same }
+        | false ↦ k
+      ]
 
   keeps-deletions : (g : Sig) (p : TracedProcess) → Keeps id phase p → Keeps id phase (with_deletions g p)
   unfolding with_deletions
@@ -122,7 +125,11 @@ module _ (id : ℕ) (phase : Phase) where
   keeps-orphaned pid p k =
       elim (eqb p.parent pid) as
       (λ b. Keeps id phase
-      (cond b (record p { parent = 0 }) p)) [ true ↦ record { lwp = k.lwp; there = k.there; same = k.same } | false ↦ k ]
+      (cond b (record p { parent = 0 }) p)) [
+        | true ↦ record { lwp = k.lwp; there = k.there; same = k.same }
+        | false ↦
+            k
+      ]
 
 held-stays : (held : ℕ) (x : TracedLwp) → (with_held held x).phase ≡ x.phase
 unfolding with_held

@@ -277,7 +277,8 @@ module _ (pid : ℕ) (p : TracedProcess) (id : ℕ) (l : TracedLwp) (lu : IsUnto
 
   changed-keeps : (c : Change) → IsProper c → (s : TracedSystem) → IsUntouched s
       → IsUntouched (changed traced pid p id l c s)
-  unfolding changed with_fds with_space with_shared_taken with_job_stop with_disposition_of with_held resumed with_suspended with_child with_reaped
+  unfolding changed with_fds with_space with_shared_taken with_job_stop with_disposition_of with_held resumed
+      with_suspended with_child with_reaped
   changed-keeps (files_are files fds) proper s u =
       process-keeps pid (with_fds fds) (same_parts (with_fds fds) (λ x. refl) (λ x. refl)) _
       (record { processes = u.processes })

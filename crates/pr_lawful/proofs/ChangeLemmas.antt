@@ -274,7 +274,15 @@ program-lawful s pid id l program user h suits =
         rising = rw (le-leb 0 id (omega arith)) refl;
         lwps =
             All-cons (IsLawfulLwp suits.process.next_lwp) (id, started traced l) []
-            (record { id = lwp.id; held = lwp.held; frames = All-nil IsLawfulFrame; few_frames = omega arith; pending = lwp.pending; current = lwp.current }) (All-nil (IsLawfulLwp suits.process.next_lwp));
+            (record {
+              id = lwp.id;
+              held = lwp.held;
+              frames = All-nil IsLawfulFrame;
+              few_frames = omega arith;
+              pending
+                  = lwp.pending;
+              current = lwp.current;
+            }) (All-nil (IsLawfulLwp suits.process.next_lwp));
         next_lwp = it.next_lwp;
         few_lwps = omega arith;
         descriptors = it.descriptors;

@@ -446,8 +446,20 @@ module _ (s : TracedSystem) (pid : ℕ) (p : TracedProcess) (id : ℕ) (l : Trac
       choice Suits (eqb id agent_id) _ _ (λ agent. tt) (λ other.
       choice Suits (leb process_limit s.made) _ _ (λ full. tt) (λ room.
       choice Suits (total_has_room s (size_of p) 0) _ _
-      (λ fits.
-      (record { found = a.found; live = a.live; room = leb-false process_limit s.made room; mapped = let limit = leb-true _ _ fits in omega arith; held = own-lwp.held; frames = own-lwp.frames; few_frames = own-lwp.few_frames }, tt))
+      (λ fits. (
+        record {
+          found = a.found;
+          live = a.live;
+          room = leb-false process_limit s.made room;
+          mapped = let limit =
+              leb-true _ _ fits in omega arith;
+          held = own-lwp.held;
+          frames = own-lwp.frames;
+          few_frames =
+              own-lwp.few_frames;
+        },
+        tt,
+      ))
       (λ big. tt)))
 
   exec-suits : (at : ℕ) → Suits (exec_effect s p id at)
@@ -464,8 +476,20 @@ module _ (s : TracedSystem) (pid : ℕ) (p : TracedProcess) (id : ℕ) (l : Trac
       run name (Some program) is found =
           rw (is, found) (choice Suits (eqb id agent_id) _ _ (λ agent. tt) (λ other.
           choice Suits (total_has_room s (mapped_size (first_space program)) (size_of p)) _ _
-          (λ fits.
-          (record { process = p; found = a.found; live = a.live; mapped = leb-true _ _ fits; heap_place = program-leaves program (named name program found); small = program-small program (named name program found); there = a.there }, tt)) (λ big. tt)))
+          (λ fits. (
+            record {
+              process = p;
+              found = a.found;
+              live = a.live;
+              mapped = leb-true _ _ fits;
+              heap_place =
+                  program-leaves program (named name program found);
+              small = program-small program (named name program
+                  found);
+              there = a.there;
+            },
+            tt,
+          )) (λ big. tt)))
 
       by : (r : Result (List ℕ) Errno) → path_at p.space at ≡ r → Suits (exec_effect s p id at)
       by (Err e) is = rw is (choice Suits (eqb id agent_id) _ _ (λ agent. tt) (λ other. tt))
@@ -565,8 +589,19 @@ module _ (s : TracedSystem) (pid : ℕ) (p : TracedProcess) (id : ℕ) (l : Trac
   create-suits pc sp r1 =
       choice Suits (eqb id agent_id) _ _ (λ agent. tt) (λ other.
       choice Suits (leb lwp_limit (length p.lwps) || ltb last_lwp p.next_lwp) _ _ (λ full. tt) (λ room.
-      let parts = or_parts (leb lwp_limit (length p.lwps)) (ltb last_lwp p.next_lwp) room in
-      (record { process = p; found = a.found; live = a.live; next = refl; last = ltb-false last_lwp p.next_lwp parts.1; few = leb-false lwp_limit (length p.lwps) parts.0; holdable = own-lwp.held }, tt)))
+      let parts = or_parts (leb lwp_limit (length p.lwps)) (ltb last_lwp p.next_lwp) room in (
+        record {
+          process = p;
+          found = a.found;
+          live = a.live;
+          next = refl;
+          last = ltb-false last_lwp p.next_lwp
+              parts.1;
+          few = leb-false lwp_limit (length p.lwps) parts.0;
+          holdable = own-lwp.held;
+        },
+        tt,
+      )))
 
   suspend-suits : (other : ℕ) → Suits (lwp_suspend_effect p id other)
   unfolding lwp_suspend_effect Suits

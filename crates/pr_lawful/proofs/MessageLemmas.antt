@@ -167,7 +167,14 @@ module _ (pid : ℕ) (p : TracedProcess) (live : p.ended ≡ None) where
           rising = rises_from-inserted 0 agent_id (agent_lwp regs) p.lwps (omega arith) it.rising none;
           lwps =
               All-inserted (IsLawfulLwp p.next_lwp) agent_id (agent_lwp regs) p.lwps
-              (record { id = inr refl; held = holdable-holdable all_signals; frames = All-nil IsLawfulFrame; few_frames = omega arith; pending = no-infos; current = tt }) it.lwps;
+              (record {
+                id = inr refl;
+                held = holdable-holdable all_signals;
+                frames = All-nil IsLawfulFrame;
+                few_frames = omega arith;
+                pending = no-infos;
+                current = tt;
+              }) it.lwps;
           next_lwp = it.next_lwp;
           few_lwps = omega arith;
           descriptors = it.descriptors;

@@ -361,7 +361,8 @@ module _ (opens : Places) where
 
     changed-released : (c : Change) (s : TracedSystem) → SuitsChange pid p id l s c → AllReleased s
         → AllReleased (changed traced pid p id l c s)
-    unfolding changed with_fds with_space with_shared_taken with_job_stop with_disposition_of with_held resumed with_suspended with_reaped
+    unfolding changed with_fds with_space with_shared_taken with_job_stop with_disposition_of with_held resumed
+        with_suspended with_reaped
     changed-released (files_are files fds) s suits all =
         calms (record s { files = files }) pid (with_fds fds) (λ x. same_parts x (with_fds fds x) refl refl refl) all
     changed-released (space_is space) s suits all =

@@ -71,7 +71,8 @@ module _ (programs : List Program) (files : List StoredFile) (spawns : List ℕ)
   alone = record { system = bare_system programs files; opens = nothing_open; interrupted = 0 }
 
   alone-lawful : IsLawful alone
-  unfolding alone bare_system nothing_open total_size size_of system_process bare_process has_flags common_word traced nothing_set
+  unfolding alone bare_system nothing_open total_size size_of system_process bare_process has_flags common_word traced
+      nothing_set
   alone-lawful = record {
     system = record {
       rising = refl;

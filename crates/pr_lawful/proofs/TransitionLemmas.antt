@@ -74,7 +74,10 @@ moved-keeps (move.takes c own) suits =
       pending =
           elim own as
           (λ b. IsLawfulPending
-          (cond b (without_one c.signal l.pending) l.pending)) [ true ↦ taken-infos c.signal l.pending it.pending | false ↦ it.pending ];
+          (cond b (without_one c.signal l.pending) l.pending)) [
+            | true ↦ taken-infos c.signal l.pending it.pending
+            | false ↦ it.pending
+          ];
       current = suits;
     }
 moved-keeps move.drops suits =

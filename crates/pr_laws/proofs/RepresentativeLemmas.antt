@@ -125,7 +125,11 @@ module _ (job : Option Sig) (es : List (ℕ × TracedLwp)) (rises : IsRising es)
       → (FromClass (suc k) → later ≡ Some e → Leads e) → option_or (first_in_class job k es) later ≡ Some e → Leads e
   either k e later all rest found =
       elim (first_in_class job k es) as
-      (λ o. first_in_class job k es ≡ o → option_or o later ≡ Some e → Leads e) [ Some d ↦ λ here f. first-leads k e all (here ∙ f) | None ↦ λ none f. rest (none-in k all none) f ] refl found
+      (λ o. first_in_class job k es ≡ o → option_or o later ≡ Some e → Leads e) [
+        | Some d ↦ λ here f. first-leads k e
+            all (here ∙ f)
+        | None ↦ λ none f. rest (none-in k all none) f
+      ] refl found
 
   chosen-leads : (e : ℕ × TracedLwp) → under agent_id es ≡ None → chosen job es ≡ Some e → Leads e
   unfolding chosen

@@ -151,7 +151,8 @@ module _ (id : ℕ) where
 
     module _ (p : TracedProcess) (l : TracedLwp) (none : IsStopless l) where
       change-calm : (c : Change) (s : TracedSystem) → AreCalm s → AreCalm (changed traced pid p id l c s)
-      unfolding changed with_fds with_space with_shared_taken with_job_stop with_disposition_of with_held resumed with_suspended with_child with_made with_reaped with_program started
+      unfolding changed with_fds with_space with_shared_taken with_job_stop with_disposition_of with_held resumed
+          with_suspended with_child with_made with_reaped with_program started
       change-calm (files_are files fds) s h =
           changed-calm pid (with_fds fds) (record s { files = files }) (λ x it. record { lwp = it.lwp })
           (record { process = h.process })

@@ -100,7 +100,16 @@ child-control : (c : TracedControl) → IsControlInRange c → IsControlInRange 
 unfolding child_control
 child-control c h =
     choice IsControlInRange (has_flags c.modes fork_mode) _ _
-    (λ forks. record { signals = h.signals; faults = h.faults; entries = h.entries; exits = h.exits; modes = omega arith; areas = All-nil IsAreaInRange; few_areas = omega arith }) (λ alone. nothing-set)
+    (λ forks. record {
+      signals = h.signals;
+      faults = h.faults;
+      entries = h.entries;
+      exits = h.exits;
+      modes = omega
+          arith;
+      areas = All-nil IsAreaInRange;
+      few_areas = omega arith;
+    }) (λ alone. nothing-set)
 
 forked_lwp-range : (birth : Birth) (args : List ℕ) (c : TracedControl) (l : TracedLwp) → AreArguments args
     → IsLwpInRange l → IsLwpInRange (forked_lwp traced birth args c l)

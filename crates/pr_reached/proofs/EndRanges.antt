@@ -157,7 +157,17 @@ orphaned-keeps : (gone : ℕ) → KeepsProcess (orphaned gone)
 unfolding orphaned
 orphaned-keeps gone x h =
     choice IsProcessInRange (x.parent == gone) _ _
-    (λ is. record { program = h.program; made_at = h.made_at; ended = h.ended; space = h.space; dispositions = h.dispositions; pending = h.pending; lwps = h.lwps; control = h.control }) (λ apart. h)
+    (λ is. record {
+      program = h.program;
+      made_at = h.made_at;
+      ended = h.ended;
+      space = h.space;
+      dispositions =
+          h.dispositions;
+      pending = h.pending;
+      lwps = h.lwps;
+      control = h.control;
+    }) (λ apart. h)
 
 parent_told-range : (parent pid status : ℕ) (s : TracedSystem) → IsWord status → IsInRange s
     → IsInRange (with_parent_signalled parent pid status s)

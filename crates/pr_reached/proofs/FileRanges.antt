@@ -250,7 +250,11 @@ module _ (t : FileTable) (fds : Descriptors) (h : AreFilesInRange t) where
       by (Some found) is =
           rw is (choice IsFileEffect (is_some (pipe_of found.1.target)) _ _ (λ pipe. refused-range _) (λ file.
           choice IsFileEffect (leb offset file_size_limit) _ _
-          (λ within. record { files = with_opens t _ h; answer = let small = leb-true offset file_size_limit within in omega arith }) (λ past. refused-range _)))
+          (λ within. record {
+            files = with_opens t _ h;
+            answer = let small = leb-true offset file_size_limit within in
+                omega arith;
+          }) (λ past. refused-range _)))
 
   -- ---- read
 

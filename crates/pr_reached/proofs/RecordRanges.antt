@@ -50,7 +50,16 @@ flag-le false bit = omega arith
 
 marks-below : (m : LwpMarks) → lwp_flags_of m < 2 ^ 6
 marks-below m =
-    omega (arith, flag-le m.stopped 1, flag-le m.on_event 2, flag-le m.directed 4, flag-le m.step 8, flag-le m.asleep 16, flag-le m.agent 32)
+    omega (
+      arith,
+      flag-le m.stopped 1,
+      flag-le m.on_event 2,
+      flag-le m.directed 4,
+      flag-le m.step 8,
+      flag-le m.asleep
+          16,
+      flag-le m.agent 32,
+    )
 
 stop-below : (x : Stop) → what_of_stop x < signal_count + 1
 stop-below stop.Requested = omega arith

@@ -83,11 +83,13 @@ unfolding message_code operands nth_word word_bytes word_of message_read one_wor
 run-begins = read-passive (spelling (message.Run 0) []) (message.Run 0) refl refl refl
 
 follow-begins : BeginsPassively (spelling (message.Set fork_mode) [])
-unfolding message_code operands nth_word word_bytes word_of message_read one_word is_passive_message has_flags common_word
+unfolding message_code operands nth_word word_bytes word_of message_read one_word is_passive_message has_flags
+    common_word
 follow-begins = read-passive (spelling (message.Set fork_mode) []) (message.Set fork_mode) refl refl refl
 
 release-begins : BeginsPassively (spelling (message.Set rlc_mode) [])
-unfolding message_code operands nth_word word_bytes word_of message_read one_word is_passive_message has_flags common_word
+unfolding message_code operands nth_word word_bytes word_of message_read one_word is_passive_message has_flags
+    common_word
 release-begins = read-passive (spelling (message.Set rlc_mode) []) (message.Set rlc_mode) refl refl refl
 
 -- these whatever their operand

@@ -274,7 +274,13 @@ range_controller : (d : Draft) (plan : Plan) → IsPlanOfBytes plan → IsDraftI
 unfolding with_controller
 range_controller d plan p s =
     if_ok IsDraftInRange (nat_lt (length d.controllers) controller_limit) _ _
-    (λ _. record { programs = s.programs; files = s.files; controllers = All-push IsPlanOfBytes d.controllers plan s.controllers p; lines = s.lines }) (λ _. tt)
+    (λ _. record {
+      programs = s.programs;
+      files = s.files;
+      controllers = All-push IsPlanOfBytes d.controllers plan
+          s.controllers p;
+      lines = s.lines;
+    }) (λ _. tt)
 
 range_truss : (d : Draft) (options : Options) → IsDraftInRange d → IfOk (with_truss d options) IsDraftInRange
 unfolding with_truss IsCoreOfBytes controller_of

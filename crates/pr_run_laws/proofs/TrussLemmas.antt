@@ -157,7 +157,8 @@ forks-front : (k : ℕ) (o : Options) (before later : List Entry) → LeavesFork
     → LeavesForks k o before
 forks-front k o before later forks = record {
   each =
-      λ follow b between behind l parent id turned by pid lwp handle own_lwp own_handle file own_file mode own_mode is made writes own_writes.
+      λ follow b between behind l parent id turned by pid lwp handle own_lwp own_handle file own_file mode own_mode is
+      made writes own_writes.
       let own : Entry = granted k pid own_lwp own_file own_mode own_handle in
       let other : Entry = granted by pid lwp file mode handle in
       forks.each follow b between behind
@@ -272,7 +273,8 @@ module _ (n k : ℕ) (o : Options) (first : TracedState) (h : List Entry) (run :
         λ before later x child is reads. read-freed o (exchanges k h) before later x child follow run.makes is reads;
     leaves_none = λ before later child is left. never-left n k child first h before later run.legal is left;
     keeps_none =
-        λ before later child parent base reports due is kept. never-kept n k child first h before later parent base reports due run.legal is kept;
+        λ before later child parent base reports due is kept. never-kept n k child first h before later parent base
+        reports due run.legal is kept;
   }
 
   -- ---- what is released

@@ -100,7 +100,8 @@ known-law : (n k : ℕ) (kind : ToolKind) (pid : ℕ) (first : TracedState) (Kno
     → Known step.OpenFile first
     → LawOf n k kind pid first (IsOfKnownState k kind pid first Shown)
 unfolding of-read of-one-state
-known-law n k kind pid first Known Shown once reader keeps begun controllers h t programs begins legal follows ends ended accepted =
+known-law n k kind pid first Known Shown once reader keeps begun controllers h t programs begins legal follows ends
+    ended accepted =
     let stage =
     tool-keeps n k first (stages.Stage n k kind pid first reader Known Shown keeps)
     (stages.others-stage n k kind pid first reader Known Shown keeps)

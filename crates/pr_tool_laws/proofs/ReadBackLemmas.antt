@@ -174,7 +174,8 @@ module _ (pid : ℕ) (descriptors : List FdEntry) (fields : All IsFdEntry descri
   pfiles-shown =
       ap (λ o. header pid ++ files.descriptor_lines o) descriptors-back
       ∙ ap (λ lines. header pid ++ lines)
-      (lines-alike fd_entry_words_of files.descriptor_line descriptor_line IsFdEntry descriptor-shown descriptors fields)
+      (lines-alike fd_entry_words_of files.descriptor_line descriptor_line IsFdEntry descriptor-shown descriptors
+      fields)
 
 -- ---- ptree
 

@@ -180,7 +180,8 @@ module _ (pid : ℕ) where
 
   pub control-opened : (control : ℕ)
       → fed (first_tool Pstack pid) (reply.Handle control) ≡ pstack_at pid (with_control control) step.OpenFile no_notes
-  unfolding fed refusal_in accepted advanced with_next after after_in_pstack opened_in first_tool first_step nothing_open
+  unfolding fed refusal_in accepted advanced with_next after after_in_pstack opened_in first_tool first_step
+      nothing_open
   control-opened control = refl
 
   pub control-refused : (e : Errno) → IsSome (fed (first_tool Pstack pid) (reply.Fail e)).refusal
@@ -239,7 +240,8 @@ module _ (pid : ℕ) where
       pub text-read : (bytes : List ℕ)
           → fed (pstack_at pid o step.ReadText notes) (unless_none bytes) ≡ with_walk
           (pstack_at pid o step.ReadText (record notes { first = first_of bytes })) (walk_in notes.bytes 8)
-      unfolding fed refusal_in accepted advanced with_next after after_in_pstack with_first bytes_in is_passed_over is_unmapped
+      unfolding fed refusal_in accepted advanced with_next after after_in_pstack with_first bytes_in is_passed_over
+          is_unmapped
       text-read [] = refl
       text-read (b ∷ bytes) = refl
 

@@ -252,7 +252,9 @@ module _ (s : TracedSystem) (pid : ℕ) (p : TracedProcess) (id : ℕ) (l : Trac
       let st = stages s pid p id l h live there row suits-row pt met not_stop ending q now.0 in
       let k_is = lwp-stopped s pid p id l h live there row suits-row pt met not_stop ending q now.1 st stop k at in
       let kept =
-      kept-by s pid p id l h live there row suits-row pt met not_stop ending q now.1 st stop row.transition.changes st.before st.found (same-dispositions s pid p id l h live there row suits-row pt met not_stop ending q now.1 st stop) in
+      kept-by s pid p id l h live there row suits-row pt met not_stop ending q now.1 st stop row.transition.changes
+      st.before st.found (same-dispositions s pid p id l h live there row suits-row pt met not_stop ending q now.1
+      st stop) in
       (row-tells p l s pid id pt k_is.earlier k q id met k_is.follows k_is.stopped kept lives).1
 
   row-met : (o : Option Point) → row.point ≡ o → meets p.control o ≡ true → has_ended row.did ≡ false

@@ -264,7 +264,12 @@ module _ (f : TrussState) where
                   reports = c.same.reports ∙ reports;
                 } in
                 let short : length c.later ≤ length xs =
-                omega (arith, shorter-part c.closings c.later st.later c.is, shorter-part st.opening st.later xs st.is) in
+                omega (
+                  arith,
+                  shorter-part c.closings c.later st.later c.is,
+                  shorter-part st.opening st.later xs
+                      st.is,
+                ) in
                 let rest =
                 told-same (with_report s (CannotTrace pid d.errno)) c.state c.later base
                 (later c.later c.state short c.ends) in

@@ -60,7 +60,27 @@ OneLess t (Some u) = files u + 1 ≡ files t
 
 one-less-fields : (pid control : ℕ) (status lstatus memory : Option ℕ) (attached : Bool) (old : ℕ) (seen : Bool)
     → OneLess
-    (record { pid = pid; control = control; status = status; lstatus = lstatus; memory = memory; attached = attached; old = old; seen = seen }) (without_last (record { pid = pid; control = control; status = status; lstatus = lstatus; memory = memory; attached = attached; old = old; seen = seen }))
+    (record {
+      pid = pid;
+      control = control;
+      status = status;
+      lstatus = lstatus;
+      memory = memory;
+      attached = attached;
+      old = old;
+      seen = seen;
+    }) (without_last
+    (record {
+      pid = pid;
+      control = control;
+      status = status;
+      lstatus = lstatus;
+      memory = memory;
+      attached =
+          attached;
+      old = old;
+      seen = seen;
+    }))
 unfolding files without_last
 one-less-fields pid control status lstatus (Some m) attached old seen = omega arith
 one-less-fields pid control status (Some l) None attached old seen = omega arith
@@ -73,7 +93,27 @@ one-less t = one-less-fields t.pid t.control t.status t.lstatus t.memory t.attac
 -- the file that is closed first is one of them
 last-fields : (pid control : ℕ) (status lstatus memory : Option ℕ) (attached : Bool) (old : ℕ) (seen : Bool)
     → IsNoFileOf
-    (record { pid = pid; control = control; status = status; lstatus = lstatus; memory = memory; attached = attached; old = old; seen = seen }) (last_handle (record { pid = pid; control = control; status = status; lstatus = lstatus; memory = memory; attached = attached; old = old; seen = seen })) → ⊥
+    (record {
+      pid = pid;
+      control = control;
+      status = status;
+      lstatus = lstatus;
+      memory = memory;
+      attached = attached;
+      old = old;
+      seen = seen;
+    }) (last_handle
+    (record {
+      pid = pid;
+      control = control;
+      status = status;
+      lstatus = lstatus;
+      memory = memory;
+      attached =
+          attached;
+      old = old;
+      seen = seen;
+    })) → ⊥
 unfolding last_handle
 last-fields pid control status lstatus (Some m) attached old seen free = free.memory refl
 last-fields pid control status (Some l) None attached old seen free = free.lstatus refl

@@ -339,7 +339,11 @@ module _ (k : ℕ) (t : TrussState) (s : TracedState) (o : Owns k t s) where
   pub call-owns : (c : Call) (a : Answer) → next_call_of t ≡ Some c → answer_to s k c ≡ Some a
       → Owns k (fed t a.reply) a.state
   call-owns (call.Open pid id f mode) a next is =
-      elim (open-opens s k pid id f mode a is) [ inl ref ↦ refused-owns pid id f mode a next ref | inr new ↦ opened-owns pid id f mode a next new ]
+      elim (open-opens s k pid id f mode a is) [
+        | inl ref ↦ refused-owns pid id f mode a next ref
+        | inr new ↦
+            opened-owns pid id f mode a next new
+      ]
   call-owns (call.Close number) a next is =
       elim (close-closes s k number a is) [
         | inl none ↦ absurd

@@ -148,7 +148,22 @@ goes_on-new fresh held regs p = elim (is_some (lwp_of p fresh)) as
       lwps = inserted fresh
           (new_lwp traced regs held
           (no_marks false)) p.lwps;
-    }))) [ true ↦ goes_on-self p | false ↦ record { ended = refl; settings = record { control = refl }; lwps = λ id k there. elim (cases_Bool (fresh == id)) [ inl same ↦ own id k (eqb-true fresh id same) there | inr not_same ↦ old k (sym (under-inserted_other fresh id (new_lwp traced regs held (no_marks false)) (eqb-false fresh id not_same) p.lwps) ∙ there) refl refl ] } ]
+    }))) [
+      | true ↦ goes_on-self p
+      | false ↦ record {
+        ended = refl;
+        settings = record { control = refl };
+        lwps = λ
+            id k there. elim (cases_Bool (fresh == id)) [
+              | inl same ↦ own id k (eqb-true fresh id same) there
+              | inr
+                  not_same ↦ old k (sym
+                  (under-inserted_other fresh id (new_lwp traced regs held (no_marks false)) (eqb-false fresh id
+                  not_same)
+                  p.lwps) ∙ there) refl refl
+            ];
+      }
+    ]
   where
     own : (id : ℕ) (k : TracedLwp) → fresh ≡ id
         → under id (inserted fresh (new_lwp traced regs held (no_marks false)) p.lwps) ≡ Some k → Carries p id k
@@ -269,7 +284,8 @@ module _ (pid : ℕ) where
 
     change-carries : (c : Change) (s : TracedSystem) → SuitsChange pid p id l s c
         → Carried s (changed traced pid p id l c s)
-    unfolding changed with_fds with_space with_shared_taken with_job_stop with_disposition_of with_held resumed with_suspended
+    unfolding changed with_fds with_space with_shared_taken with_job_stop with_disposition_of with_held resumed
+        with_suspended
     change-carries (files_are files fds) s suits =
         carried-next s (record s { files = files }) _ (files-carried files s)
         (own-carried (with_fds fds) (record s { files = files })

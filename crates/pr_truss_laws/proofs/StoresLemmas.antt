@@ -204,7 +204,8 @@ module _ (s : TracedSystem) (p : TracedProcess) (id : ℕ) where
 
 module _ (s : TracedSystem) (pid : ℕ) (p : TracedProcess) (id : ℕ) (l : TracedLwp) where
   call-stores : (since : ℕ) (call : Sysno) (args : List ℕ) → Stores (call_effect s pid p id l since call args)
-  unfolding call_effect exit_effect fork_effect dup_effect lseek_effect brk_effect munmap_effect mprotect_effect sigmask_effect sleep_effect lwp_create_effect lwp_suspend_effect lwp_continue_effect
+  unfolding call_effect exit_effect fork_effect dup_effect lseek_effect brk_effect munmap_effect mprotect_effect
+      sigmask_effect sleep_effect lwp_create_effect lwp_suspend_effect lwp_continue_effect
   call-stores since sys.Exit args = refl
   call-stores since sys.Fork args =
       either (eqb id agent_id) _ _ refl

@@ -141,7 +141,11 @@ call-open k s (call.Open pid id f mode) a is =
           (held_by k pid id f mode) a.reply new
     ]
 call-open k s (call.Close number) a is =
-    elim (close-closes s k number a is) [ inl none ↦ same-open k s a.state none.is | inr one ↦ closed-open k s number one.0 a one.1 ]
+    elim (close-closes s k number a is) [
+      | inl none ↦ same-open k s a.state none.is
+      | inr one ↦ closed-open k s number
+          one.0 a one.1
+    ]
 call-open k s c a is = same-open k s a.state (plain-leaves s k c a refl is)
 
 -- ---- what an open was granted

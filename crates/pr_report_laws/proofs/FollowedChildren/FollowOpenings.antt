@@ -115,7 +115,16 @@ ClosesFirst u None = handles_of u ≡ last_handle u ∷ []
 ClosesFirst u (Some v) = handles_of u ≡ last_handle u ∷ handles_of v
 
 first-fields : (pid control : ℕ) (status lstatus memory : Option ℕ) (attached : Bool) (old : ℕ) (seen : Bool)
-    → let u : Traced = record { pid = pid; control = control; status = status; lstatus = lstatus; memory = memory; attached = attached; old = old; seen = seen } in ClosesFirst u (without_last u)
+    → let u : Traced = record {
+      pid = pid;
+      control = control;
+      status = status;
+      lstatus = lstatus;
+      memory = memory;
+      attached = attached;
+      old = old;
+      seen = seen;
+    } in ClosesFirst u (without_last u)
 unfolding last_handle without_last
 first-fields pid control status lstatus (Some m) attached old seen = refl
 first-fields pid control status (Some l) None attached old seen = refl

@@ -401,8 +401,10 @@ pub child-start-own : (Why : Type 0) (o : Options) (pid : ℕ) (t : TrussState) 
     → ((p : TracedProcess) → live_process s.system pid ≡ Some p → IsAtBirth o p → IsLetGo o pid r s')
     → (live_process s.system pid ≡ None → IsGone pid r s') → Stands Why o pid (fed t r) s' base
 child-start-own Why o pid t r s s' base parent place stage before at standing prepares whole starts stays_over =
-    subst (λ u. Stands Why o pid u s' base) (sym (start-fed Why o pid t r base parent place stage before))
-    (own-started Why o pid t r base parent place stage before s s' standing prepares whole starts stays_over at, started-prepares Why o pid t r base parent place stage before s' (answer_of r))
+    subst (λ u. Stands Why o pid u s' base) (sym (start-fed Why o pid t r base parent place stage before)) (
+      own-started Why o pid t r base parent place stage before s s' standing prepares whole starts stays_over at,
+      started-prepares Why o pid t r base parent place stage before s' (answer_of r),
+    )
 
 -- What the machine does with the PCRUN of the child, of which nothing is missing while it lives.
 pub record Starts (o : Options) (pid : ℕ) (t : TrussState) (r : Reply) (s s' : TracedState)
@@ -431,4 +433,5 @@ child-start-stands Why o pid t r s s' base parent place stage before standing pr
     own-stands : place_of t pid ≡ Some place → Stands Why o pid (fed t r) s' base
     own-stands at =
         let m = own at in
-        child-start-own Why o pid t r s s' base parent place stage before at standing prepares m.whole m.starts m.stays_over
+        child-start-own Why o pid t r s s' base parent place stage before at standing prepares m.whole m.starts
+        m.stays_over

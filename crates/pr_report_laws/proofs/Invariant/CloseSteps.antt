@@ -182,8 +182,11 @@ module _ (Why : Type 0) (o : Options) (pid : ℕ) (t : TrussState) (s : TracedSt
   -- it held none any more
   removed-stands : (u : TrussState) → ClosesNext t u place → IsOrderly u → shown pid u ≡ shown pid t
       → opens u.stage ≡ false → Stands Why o pid u s base
-  removed-stands u f after shows none =
-      (removed-standing t place next stage before u f Why o pid s base after shows standing, prepares-none o pid u s none)
+  removed-stands u f after shows none = (
+    removed-standing t place next stage before u f Why o pid s base after shows standing,
+    prepares-none o pid u s
+        none,
+  )
 
   comes-stands : (u : TrussState) → ComesNext (without_traced t place) u → IsOrderly u
       → ((q : ℕ) → has_read (Closing place next) q ≡ false) → Stands Why o pid u s base

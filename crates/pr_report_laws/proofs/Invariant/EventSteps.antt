@@ -181,7 +181,8 @@ module _ (K : Type 0) (n k : ℕ) (o : Options) (pid : ℕ) (first : TracedState
         let y = a in
         let w : HoldsUnread pid t p = unread-holds K o pid t s base event missing g.standing p live in
         subst (λ (u : TracedState). HaltsOn pid p u.system) (sym y.later)
-        (own-halts k t s x.call y.answer g.lawful g.owns g.files makes y.is pid w.place w.at w.here w.unread p live halting)
+        (own-halts k t s x.call y.answer g.lawful g.owns g.files makes y.is pid w.place w.at w.here w.unread p live
+        halting)
 
     own-unread : (event : LwpEvent) → base ++ selected_of o pid t s e ≡ shown pid (told_of k t e) ++ event ∷ []
         → HasCome k o pid first (past ++ e ∷ []) (shown pid (told_of k t e)) event (after s e)

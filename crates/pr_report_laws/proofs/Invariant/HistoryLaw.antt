@@ -364,5 +364,8 @@ first-along n k o pid s h reached run bytes births =
       range = reached.in_range;
       bytes = bytes;
       births =
-          record { child = λ before later e x handle parent p is own stage reply live. births.child before later e x handle parent p is own stage reply live };
+          record {
+            child = λ before later e x handle parent p is own stage reply live. births.child before later e x
+                handle parent p is own stage reply live;
+          };
     }

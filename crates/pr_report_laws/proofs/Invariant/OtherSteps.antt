@@ -189,7 +189,8 @@ module _ (o : Options) (pid : ℕ) (t : TrussState) (s u : TracedState)
   }
 
   pub standing-on : (Why Next : Type 0) (base : List LwpEvent) → (Why → Next)
-      → ((p z : TracedProcess) → watches t pid ≡ true → live_process s.system pid ≡ Some p → live_process u.system pid ≡ None → process_of u.system pid ≡ Some z → z.ended ≡ Some (signal_number Kill) → Next)
+      → ((p z : TracedProcess) → watches t pid ≡ true → live_process s.system pid ≡ Some p → live_process u.system pid
+      ≡ None → process_of u.system pid ≡ Some z → z.ended ≡ Some (signal_number Kill) → Next)
       → Standing Why o pid t s base → Standing Next o pid t u base
   standing-on Why Next base more kills (apart not_watched a) =
       apart not_watched (accounted-why Why Next base (shown pid t) more a)

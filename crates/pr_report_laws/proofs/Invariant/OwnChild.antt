@@ -199,10 +199,12 @@ module _ (k : ℕ) (o : Options) (pid : ℕ) (t : TrussState) (s : TracedState) 
         let stopped = waits-stopped p rises born.traced.no_agent 0 born.waits in
         let accepted =
         run-granted s k (traced_at t place).control
-        (held_by k pid 0 Ctl WriteExcl) own-held refl p live a i.lawful.system born.traced.no_agent stopped run-answer in
+        (held_by k pid 0 Ctl WriteExcl) own-held refl p live a i.lawful.system born.traced.no_agent stopped run-answer
+        in
         let ran =
         run-accepted s k (traced_at t place).control
-        (held_by k pid 0 Ctl WriteExcl) own-held refl p live o 1 a rises born.traced born.waits stopped run-answer accepted in
+        (held_by k pid 0 Ctl WriteExcl) own-held refl p live o 1 a rises born.traced born.waits stopped run-answer
+        accepted in
         record {
           accepted = accepted;
           process = ran.process;

@@ -138,7 +138,11 @@ module _ (t : TrussState) (at : ℕ) (l : LwpStatus) (from len : ℕ) (r : Reply
 
         over-standing : Standing Why o pid t s base → Standing Why o pid u s base
         over-standing w =
-            elim (cases_Bool t.leaving) [ inl leaving ↦ left-standing leaving w | inr stays ↦ carries-standing Why o pid t u s s base at (stays-carries stays) w ]
+            elim (cases_Bool t.leaving) [
+              | inl leaving ↦ left-standing leaving w
+              | inr stays ↦ carries-standing Why o
+                  pid t u s s base at (stays-carries stays) w
+            ]
 
       own-standing : (traced_at t at).pid ≡ pid → (a : Answer) → (a ≡ Interrupted → ⊥) → Standing Why o pid t s base
           → Standing Why o pid (after_text told at l a) s base

@@ -314,7 +314,11 @@ truss-reports n k o pid s h reached run bytes births =
           event = one.0;
           one = one.1.0;
           cause =
-              elim one.1.1 [ inl on ↦ inl on | inr cause ↦ elim cause [ inl never ↦ absurd never | inr killed ↦ inr killed ] ];
+              elim one.1.1 [
+                | inl on ↦ inl on
+                | inr cause ↦ elim cause
+                    [ inl never ↦ absurd never | inr killed ↦ inr killed ]
+              ];
           unread =
               history-unread n k o pid s h one.0 g (r.is
               ∙ ap (λ (xs : List LwpEvent). shown pid (truss_after (first_truss o) (exchanges k h)) ++ xs) one.1.0);

@@ -71,7 +71,8 @@ release-reads = read-as (spelling (message.Set rlc_mode) []) (message.Set rlc_mo
 
 added : (a b c d e f g h p q r t u v w x : ℕ) → p ≡ a → q ≡ b * 256 + p → r ≡ c * 65536 + q → t ≡ d * 16777216 + r
     → u ≡ e * 4294967296 + t → v ≡ f * 1099511627776 + u → w ≡ g * 281474976710656 + v → x ≡ h * 72057594037927936 + w
-    → a + b * 256 + c * 65536 + d * 16777216 + e * 4294967296 + f * 1099511627776 + g * 281474976710656 + h * 72057594037927936 ≡ x
+    → a + b * 256 + c * 65536 + d * 16777216 + e * 4294967296 + f * 1099511627776 + g * 281474976710656 + h *
+    72057594037927936 ≡ x
 added a b c d e f g h p q r t u v w x at_0 at_1 at_2 at_3 at_4 at_5 at_6 at_7 = omega arith
 
 -- of a number that is no word its bytes have the lowest bits

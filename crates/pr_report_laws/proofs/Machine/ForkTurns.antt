@@ -337,7 +337,8 @@ module _ (o : Options) (s : TracedState) (pid id : ℕ) (p : TracedProcess) (t :
             left = record {
               each =
                   λ before between behind other lwp handle own_lwp own_handle opened_file own_file mode own_mode rest.
-                  leaves.0.each follow [] before between behind pid id t.turned other c lwp handle own_lwp own_handle opened_file own_file mode own_mode
+                  leaves.0.each follow [] before between behind pid id t.turned other c lwp handle own_lwp own_handle
+                  opened_file own_file mode own_mode
                   (ap (λ (es : List Entry). record { actor = Lwp pid id; act = Turn t.turned } ∷ es) rest) forked-did;
             };
           });

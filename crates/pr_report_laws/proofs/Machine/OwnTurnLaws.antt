@@ -112,7 +112,10 @@ unfolding directed
 directed-stop l =
     elim (has_event_stop l) as
     (λ b. (cond b l
-    (record l { control = record l.control { directed = true } })).control.stop ≡ l.control.stop) [ true ↦ refl | false ↦ refl ]
+    (record l { control = record l.control { directed = true } })).control.stop ≡ l.control.stop) [
+      | true ↦ refl
+      | false ↦ refl
+    ]
 
 module _ (id : ℕ) where
   own-changed : (f : TracedLwp → TracedLwp) (x : TracedProcess) → OthersGoOn id x → OthersGoOn id (with_lwp id f x)

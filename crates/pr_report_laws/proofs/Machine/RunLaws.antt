@@ -244,7 +244,8 @@ module _ (p : TracedProcess) (rises : IsRising p.lwps) (no_agent : has_agent p â
 -- ---- the call of truss
 
 first-run : first_message (spelling (message.Run 0) []) â‰¡ Ok (message.Run 0, 16)
-unfolding first_message message_read message_code operands nth_word word_bytes word_of one_word in_columns bad_operand with_tail encoded_length unpadded_length operand_count tail_length
+unfolding first_message message_read message_code operands nth_word word_bytes word_of one_word in_columns bad_operand
+    with_tail encoded_length unpadded_length operand_count tail_length
 first-run = refl
 
 -- the system process has no lwp that could stop

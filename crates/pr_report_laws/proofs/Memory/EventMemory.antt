@@ -326,7 +326,8 @@ module _ (n k : ℕ) (o : Options) (s : TracedState) (h : List Entry) (run : IsT
         by w =
             let same : w.status ≡ l =
             same-status k o m.before m.later e m.reply
-            (call.Read m.handle from len) own its.1.1.0 w.place w.status w.address w.size w.stage earlier later pid l text m.reported
+            (call.Read m.handle from len) own its.1.1.0 w.place w.status w.address w.size w.stage earlier later pid l
+            text m.reported
             (ap (λ (es : List Entry). (truss_at k o es).reports) (sym m.is) ∙ reports) in
             let knows : Knows k o pid s m.before reached now (selected_in k o pid s m.before) = its.0 in
             let r : ReadsIts k o pid s m.before reached l now =

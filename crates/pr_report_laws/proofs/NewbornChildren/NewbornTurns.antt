@@ -156,7 +156,11 @@ module _ (n k : ℕ) (o : Options) (t : TrussState) (s : TracedState) (h : List 
         | entries.claimed x ↦ was stays x
         | entries.made id actor next born ↦
             elim (claims-forked n k o t s e h holds.lawful holds.fit holds.files (stand n k o t s h e g) stays legal
-            (entry-lawful n s e holds.lawful legal) others pid c claim) [ inl x ↦ was stays x | inr fork ↦ new next fork ]
+            (entry-lawful n s e holds.lawful legal) others pid c claim) [
+              | inl x ↦ was stays x
+              | inr fork ↦ new next
+                  fork
+            ]
       ]
 
   -- a call of truss

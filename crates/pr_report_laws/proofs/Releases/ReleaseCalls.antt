@@ -150,7 +150,8 @@ module _ (n k pid : ℕ) (t : TrussState) (s : TracedState) (c : Call) (a : Answ
 
     -- it goes to the process, or it misses it
     ctl-modes : (M : Modes)
-        → ((p : TracedProcess) → live_process s.system P ≡ Some p → live_process a.state.system P ≡ Some q → HasModes m p → HasModes M q) → HasModes (cond (P == pid) M m) q
+        → ((p : TracedProcess) → live_process s.system P ≡ Some p → live_process a.state.system P ≡ Some q → HasModes
+        m p → HasModes M q) → HasModes (cond (P == pid) M m) q
     ctl-modes M effect = by (P == pid) refl
       where
         by : (b : Bool) → (P == pid) ≡ b → HasModes (cond b M m) q
@@ -167,7 +168,8 @@ module _ (n k pid : ℕ) (t : TrussState) (s : TracedState) (c : Call) (a : Answ
 
     -- one that leaves the flags
     ctl-plain :
-        ((p : TracedProcess) → live_process s.system P ≡ Some p → live_process a.state.system P ≡ Some q → HasSameFlags p q) → HasModes m q
+        ((p : TracedProcess) → live_process s.system P ≡ Some p → live_process a.state.system P ≡ Some q →
+        HasSameFlags p q) → HasModes m q
     ctl-plain effect =
         both (P == pid) m q (ctl-modes m (λ p live then_ has. flags-keep m p q (effect p live then_) has))
 

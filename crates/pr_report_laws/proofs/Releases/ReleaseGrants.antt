@@ -21,11 +21,13 @@ use Rattle.pr_truss_laws.proofs.TakenLemmas.{ctl-is}
 -- Truss is granted the modes of each live process but process 0.
 
 clear-whole : first_message (spelling (message.Unset all_modes) []) ≡ Ok (message.Unset all_modes, 16)
-unfolding first_message message_code operands nth_word word_bytes word_of message_read one_word in_columns bad_operand with_tail encoded_length unpadded_length tail_length operand_count
+unfolding first_message message_code operands nth_word word_bytes word_of message_read one_word in_columns bad_operand
+    with_tail encoded_length unpadded_length tail_length operand_count
 clear-whole = refl
 
 release-whole : first_message (spelling (message.Set rlc_mode) []) ≡ Ok (message.Set rlc_mode, 16)
-unfolding first_message message_code operands nth_word word_bytes word_of message_read one_word in_columns bad_operand with_tail encoded_length unpadded_length tail_length operand_count
+unfolding first_message message_code operands nth_word word_bytes word_of message_read one_word in_columns bad_operand
+    with_tail encoded_length unpadded_length tail_length operand_count
 release-whole = refl
 
 module _ (s : TracedState) (k m : ℕ) (h : Held) (held : handle_of s.opens k m ≡ Some h) (control : h.file ≡ Ctl)

@@ -287,5 +287,14 @@ pub set-stays : (n k : ℕ) (o : Options) (s : TracedState) (before : List Entry
 set-stays n k o s before e run number held there control set =
     stays-told n k o s before e run held.pid number held there control refl set
 
-pub ruleset releasings =
-    (truss-modes, truss-spares, truss-releases, traced-set, freed-set, set-stays, traced-runs, traced-spares, traced-released)
+pub ruleset releasings = (
+  truss-modes,
+  truss-spares,
+  truss-releases,
+  traced-set,
+  freed-set,
+  set-stays,
+  traced-runs,
+  traced-spares,
+  traced-released,
+)

@@ -167,7 +167,8 @@ module _ (n k pid : ℕ) (t : TrussState) (s : TracedState) (m : Modes) (r : Rea
       subst (KeepsModes k pid (modes_next pid t a.reply m t.stage)) (sym own_after)
       (record {
         modes = λ number g q there control of now.
-            call-modes n k pid t s c a m r.lawful legal own_after r.owns r.files next answer keeps number g q there control of now;
+            call-modes n k pid t s c a m r.lawful legal own_after r.owns r.files next answer keeps number g q there
+            control of now;
       })
 
   -- ---- any entry

@@ -157,7 +157,8 @@ module _ (k : ℕ) (o : Options) (pid : ℕ) (t : TrussState) (s : TracedState) 
     pub opening-comes : Prepares o pid t s → Comes Why o pid (fed t a.reply) a.state base
     opening-comes prepares =
         let went =
-        opening-goes Why o pid t s base k c a i.next i.answer i.owns i.files later place step at i.lawful i.fit i.options i.reads.lwps (λ why. why.over) prepares step-stood in
+        opening-goes Why o pid t s base k c a i.next i.answer i.owns i.files later place step at i.lawful i.fit
+        i.options i.reads.lwps (λ why. why.over) prepares step-stood in
         record { standing = went.0; prepares = went.1 }
 
   -- ---- the control file of a child
@@ -176,6 +177,7 @@ module _ (k : ℕ) (o : Options) (pid : ℕ) (t : TrussState) (s : TracedState) 
       let went =
       opening-child-stands Why o pid t a.reply a.state base parent of at
       (never-interrupted s k (open_control of) a refl answer)
-      (λ accepted own p live. let handle = granted-handle s k of 0 Ctl WriteExcl a answer accepted in birth handle.0 p own handle.1 (ap (λ (x : TracedSystem). live_process x pid) (sym system) ∙ live))
+      (λ accepted own p live. let handle = granted-handle s k of 0 Ctl WriteExcl a answer accepted in birth handle.0 p
+      own handle.1 (ap (λ (x : TracedSystem). live_process x pid) (sym system) ∙ live))
       (call-order k o pid t s c a i K Ends leaves base standing) later (unnamed (open_control of) same (λ m. refl)) in
       record { standing = went.0; prepares = went.1 }

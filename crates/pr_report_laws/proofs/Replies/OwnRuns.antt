@@ -58,7 +58,8 @@ use Rattle.pr_report_laws.specs.Watching.{place_of, watches}
 -- How truss runs its processes, leaves them and closes their files.
 
 first-unfollow : first_message (spelling (message.Unset fork_mode) []) ≡ Ok (message.Unset fork_mode, 16)
-unfolding first_message message_read message_code operands nth_word word_bytes word_of one_word in_columns bad_operand with_tail encoded_length unpadded_length operand_count tail_length
+unfolding first_message message_read message_code operands nth_word word_bytes word_of one_word in_columns bad_operand
+    with_tail encoded_length unpadded_length operand_count tail_length
 first-unfollow = refl
 
 module _ (k : ℕ) (o : Options) (pid : ℕ) (t : TrussState) (s : TracedState) (c : Call) (a : Answer)

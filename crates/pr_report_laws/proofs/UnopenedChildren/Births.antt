@@ -87,9 +87,11 @@ pub forks-later : (k : ℕ) (o : Options) (e : Entry) (h : List Entry) → Leave
 forks-later k o e h forks = (
   record {
     each =
-        λ follow before between behind later parent id turned by pid lwp handle own_lwp own_handle opened_file own_file mode own_mode is.
+        λ follow before between behind later parent id turned by pid lwp handle own_lwp own_handle opened_file
+        own_file mode own_mode is.
         forks.0.each follow
-        (e ∷ before) between behind later parent id turned by pid lwp handle own_lwp own_handle opened_file own_file mode own_mode (ap (λ (es : List Entry). e ∷ es) is);
+        (e ∷ before) between behind later parent id turned by pid lwp handle own_lwp own_handle opened_file own_file
+        mode own_mode (ap (λ (es : List Entry). e ∷ es) is);
   },
   record {
     none = λ follow before later parent id place pid turned is. forks.1.none follow
@@ -434,7 +436,10 @@ births n k o s h reached run bytes named forks pid =
       leaves = first-leaving o;
       children = λ stays. first-follows k o (first_truss o) s h (first-traced o);
     }) run.legal run.makes reached.in_range bytes (forks, named) pid in
-    record { child = λ before later e x handle parent p is own stage given live. b.child before later e x handle parent p is own stage given live }
+    record {
+      child = λ before later e x handle parent p is own stage given live. b.child before later e x handle
+          parent p is own stage given live;
+    }
 
 -- Then truss has shown of each process exactly the selected events that came while it watched the process.
 pub births-report : (n k : ℕ) (o : Options) (pid : ℕ) (s : TracedState) (h : List Entry) → IsReached s

@@ -3,4 +3,5 @@ use Rattle.pr_report_laws.proofs.newborns.a_followed_child_does_nothing_before_i
 
 pub returns-clause-not_started : goal.returns-clause-not_started
 returns-clause-not_started c =
-    λ n k by o pid s before e reached run bytes named forks off followed. followed-unstarted n k o pid s before e reached run bytes named forks off followed by
+    λ n k by o pid s before e reached run bytes named forks off followed. followed-unstarted n k o pid s before e
+    reached run bytes named forks off followed by

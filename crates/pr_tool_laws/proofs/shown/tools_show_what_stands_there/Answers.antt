@@ -8,7 +8,8 @@ pub returns : goal.returns
 returns c = record {
   later = tool-shows;
   first =
-      λ programs files spawns controllers n k kind pid h t labels start ranged bytes once begins legal follows ends ended accepted.
+      λ programs files spawns controllers n k kind pid h t labels start ranged bytes once begins legal follows ends
+      ended accepted.
       tool-shows controllers n k kind pid (first_state programs files spawns) h t labels
       (first-lawful programs files spawns start)
       (first-state-range programs files spawns ranged) bytes once begins legal follows ends ended accepted;

@@ -8,7 +8,8 @@ pub returns : goal.returns
 returns c = record {
   later = shows-one-stack;
   first =
-      λ programs files spawns controllers n k pid h t labels start ranged bytes begins legal follows ends ended accepted.
+      λ programs files spawns controllers n k pid h t labels start ranged bytes begins legal follows ends ended
+      accepted.
       shows-one-stack controllers n k pid (first_state programs files spawns) h t labels
       (first-lawful programs files spawns start)
       (first-state-range programs files spawns ranged) bytes begins legal follows ends ended accepted;

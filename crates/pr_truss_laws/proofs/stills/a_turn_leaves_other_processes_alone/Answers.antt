@@ -3,4 +3,5 @@ use Rattle.pr_truss_laws.proofs.stills.a_turn_leaves_other_processes_alone.Goals
 
 pub returns : goal.returns
 returns c =
-    λ s pid other id t p q lawful before differs turn after. turn-leaves s pid other id t p q lawful before differs turn after
+    λ s pid other id t p q lawful before differs turn after. turn-leaves s pid other id t p q lawful before differs
+    turn after
