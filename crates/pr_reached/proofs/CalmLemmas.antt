@@ -18,8 +18,7 @@ use Rattle.pr_model.specs.Machines.{no_marks, traced}
 use Rattle.pr_model.specs.Signals.{generated, is_kill}
 use Rattle.pr_model.specs.State.{TracedLwp, TracedProcess, TracedSystem, live_process, lwp_of, process_of, with_lwp, with_process}
 
--- An lwp that stands on no event stands on none after the changes that a turn makes beside its lwp, whoever they are
--- of.
+-- An lwp that stands on no event stands on none after the changes that a turn makes beside its lwp, whoever they are of.
 
 -- ---- what holds of the thing under an id, where there is one
 
@@ -29,33 +28,40 @@ pub record There {X : Type 0} (P : X → Type 0) (o : Option X) : Type 0 where
 pub is_there : {X : Type 0} (P : X → Type 0) (x : X) → P x → There P (Some x)
 is_there P x h = record { holds = λ y is. subst P (same_Some x y is) h }
 
-pub mapped-there : {X : Type 0} (P : X → Type 0) (f : X → X) (o : Option X) → ((x : X) → o ≡ Some x → P (f x))
-    → There P (option_map f o)
+pub mapped-there : {X : Type 0} (P : X → Type 0) (f : X → X) (o : Option X) → ((x : X) → o ≡ Some x → P (f x)) → There
+    P (option_map f o)
 mapped-there P f None keeps = record { holds = λ y is. absurd (none-some y is) }
 mapped-there P f (Some x) keeps = is_there P (f x) (keeps x refl)
 
 module _ {X : Type 0} (P : X → Type 0) (id : ℕ) where
-  changed-there : (other : ℕ) (f : X → X) (es : List (ℕ × X)) → ((x : X) → P x → P (f x)) → There P (under id es)
-      → There P (under id (change_under other f es))
+  changed-there : (other : ℕ) (f : X → X) (es : List (ℕ × X)) → ((x : X) → P x → P (f x)) → There P (under id es) →
+      There P (under id (change_under other f es))
   changed-there other f es keeps h = elim (cases_Bool (other == id)) [
-    | inl same ↦ subst (λ n. There P (under id (change_under n f es))) (sym (eqb-true other id same))
-        (subst (There P) (sym (under-change_under id f es))
-        (mapped-there P f (under id es) (λ x is. keeps x (h.holds x is))))
+    | inl same ↦ subst (λ n. There P (under id (change_under n f es))) (sym (eqb-true other id same)) (subst (There P)
+        (sym (under-change_under id f es)) (mapped-there P f (under id es) (λ x is. keeps x (h.holds x is))))
     | inr apart ↦ subst (There P) (sym (under-change_under_other other id f (eqb-false other id apart) es)) h
   ]
 
-  each-there : (f : X → X) (es : List (ℕ × X)) → ((x : X) → P x → P (f x)) → There P (under id es)
-      → There P (under id (map_each f es))
-  each-there f es keeps h =
-      subst (There P) (sym (under-map_each id f es)) (mapped-there P f (under id es) (λ x is. keeps x (h.holds x is)))
+  each-there : (f : X → X) (es : List (ℕ × X)) → ((x : X) → P x → P (f x)) → There P (under id es) → There P (under id
+      (map_each f es))
+  each-there f es keeps h = subst (There P) (sym (under-map_each id f es)) (mapped-there P f (under id es)
+      (λ x is. keeps x (h.holds x is)))
 
-  more-there : (other : ℕ) (x : X) (es : List (ℕ × X)) → P x → There P (under id es)
-      → There P (under id (inserted other x es))
+  more-there : (other : ℕ) (x : X) (es : List (ℕ × X)) → P x → There P (under id es) → There P (under id
+      (inserted other x es))
   more-there other x es new h = elim (cases_Bool (other == id)) [
-    | inl same ↦ subst (λ n. There P (under id (inserted n x es))) (sym (eqb-true other id same))
-        (subst (There P) (sym (under-inserted id x es)) (is_there P x new))
+    | inl same ↦ subst (λ n. There P (under id (inserted n x es))) (sym (eqb-true other id same)) (subst (There P)
+        (sym (under-inserted id x es)) (is_there P x new))
     | inr apart ↦ subst (There P) (sym (under-inserted_other other id x (eqb-false other id apart) es)) h
   ]
+
+-- what holds of the lwp of an id in a process, where there is one, and in the process of an id
+module _ (P : TracedLwp → Type 0) (id : ℕ) where
+  pub record HasLwp (x : TracedProcess) : Type 0 where
+    pub lwp : There P (lwp_of x id)
+
+  pub record HaveLwp (pid : ℕ) (s : TracedSystem) : Type 0 where
+    pub process : There HasLwp (process_of s pid)
 
 -- ---- processes
 
@@ -64,37 +70,40 @@ abbrev pub IsStopless : TracedLwp → Type 0
 IsStopless l = l.control.stop ≡ None
 
 module _ (id : ℕ) where
-  -- the lwp of this id, where there is one
-  pub record IsCalm (x : TracedProcess) : Type 0 where
-    pub lwp : There IsStopless (lwp_of x id)
+  abbrev pub IsCalm : TracedProcess → Type 0
+  IsCalm x = HasLwp IsStopless id x
 
   abbrev KeepsCalm : (TracedProcess → TracedProcess) → Type 0
   KeepsCalm f = (x : TracedProcess) → IsCalm x → IsCalm (f x)
 
-  one-calm : (other : ℕ) (f : TracedLwp → TracedLwp) → ((l : TracedLwp) → (f l).control.stop ≡ l.control.stop)
-      → KeepsCalm (with_lwp other f)
+  one-calm : (other : ℕ) (f : TracedLwp → TracedLwp) → ((l : TracedLwp) → (f l).control.stop ≡ l.control.stop) →
+      KeepsCalm (with_lwp other f)
   unfolding with_lwp
-  one-calm other f same x h =
-      record { lwp = changed-there IsStopless id other f x.lwps (λ l none. same l ∙ none) h.lwp }
+  one-calm other f same x h = record {
+    lwp = changed-there IsStopless id other f x.lwps (λ l none. same l ∙ none)
+        h.lwp;
+  }
 
   pending-calm : (target : Option ℕ) (g : Sig) (info : Info) → KeepsCalm (with_pending target g info)
   unfolding with_pending lwp_with_pending
   pending-calm None g info x h = record { lwp = h.lwp }
-  pending-calm (Some own) g info x h =
-      record { lwp = changed-there IsStopless id own (lwp_with_pending g info) x.lwps (λ l none. none) h.lwp }
+  pending-calm (Some own) g info x h = record {
+    lwp = changed-there IsStopless id own (lwp_with_pending g info) x.lwps
+        (λ l none. none) h.lwp;
+  }
 
   deletions-calm : (g : Sig) → KeepsCalm (with_deletions g)
   unfolding with_deletions without_job_stop without_pending lwp_without_pending
   deletions-calm g x h =
       let lwps = each-there IsStopless id (lwp_without_pending (deleted_by g)) x.lwps (λ l none. none) h.lwp in
-      choice IsCalm (deleted_by g == 0) _ _ (λ nothing. h)
-      (λ some. choice IsCalm (ends_job_stop g) _ _ (λ ends. record { lwp = lwps }) (λ stays. record { lwp = lwps }))
+      choice IsCalm (deleted_by g == 0) _ _ (λ nothing. h) (λ some. choice IsCalm (ends_job_stop g) _ _
+      (λ ends. record { lwp = lwps }) (λ stays. record { lwp = lwps }))
 
   signalled-calm : (target : Option ℕ) (g : Sig) (info : Info) → KeepsCalm (signalled target g info)
   unfolding signalled
   signalled-calm target g info x h =
-      choice IsCalm (is_none x.ended) _ _
-      (λ live. pending-calm target g info (with_deletions g x) (deletions-calm g x h)) (λ over. h)
+      choice IsCalm (is_none x.ended) _ _ (λ live. pending-calm target g info (with_deletions g x)
+      (deletions-calm g x h)) (λ over. h)
 
   zombie-calm : (status : ℕ) → KeepsCalm (zombie traced status)
   unfolding zombie bare_process
@@ -109,41 +118,43 @@ module _ (id : ℕ) where
   new-calm new held regs x h =
       choice IsCalm (is_some (lwp_of x new)) _ _ (λ stands. h)
       (λ free. record {
-        lwp = more-there IsStopless id new
-            (new_lwp traced regs held (no_marks false)) x.lwps refl h.lwp;
+        lwp = more-there IsStopless id new (new_lwp traced regs held (no_marks false)) x.lwps refl
+            h.lwp;
       })
 
   -- ---- systems
 
   module _ (pid : ℕ) where
-    -- the lwp of these ids
-    pub record AreCalm (s : TracedSystem) : Type 0 where
-      pub process : There IsCalm (process_of s pid)
+    abbrev pub AreCalm : TracedSystem → Type 0
+    AreCalm s = HaveLwp IsStopless id pid s
 
-    changed-calm : (other : ℕ) (f : TracedProcess → TracedProcess) (s : TracedSystem) → KeepsCalm f → AreCalm s
-        → AreCalm (with_process other f s)
+    changed-calm : (other : ℕ) (f : TracedProcess → TracedProcess) (s : TracedSystem) → KeepsCalm f → AreCalm s →
+        AreCalm (with_process other f s)
     unfolding with_process
-    changed-calm other f s keeps h = record { process = changed-there IsCalm pid other f s.processes keeps h.process }
+    changed-calm other f s keeps h = record {
+      process = changed-there (HasLwp IsStopless id) pid other f s.processes
+          keeps h.process;
+    }
 
-    ended-calm : (gone : ℕ) (p : TracedProcess) (status : ℕ) (s : TracedSystem) → AreCalm s
-        → AreCalm (with_this_ended traced gone p status s)
+    ended-calm : (gone : ℕ) (p : TracedProcess) (status : ℕ) (s : TracedSystem) → AreCalm s → AreCalm (with_this_ended
+        traced gone p status s)
     unfolding with_this_ended with_parent_signalled
     ended-calm gone p status s h =
-        let dies = changed-there IsCalm pid gone (zombie traced status) s.processes (zombie-calm status) h.process in
-        let gone_on =
-        each-there IsCalm pid (orphaned gone) (change_under gone (zombie traced status) s.processes)
-        (orphaned-calm gone) dies in
-        choice AreCalm (p.parent == 0) _ _ (λ first. record { process = gone_on })
-        (λ other. changed-calm p.parent (signalled None Cld (of_child gone status)) _
-        (signalled-calm None Cld (of_child gone status)) (record { process = gone_on }))
+        let dies = changed-there (HasLwp IsStopless id) pid gone (zombie traced status) s.processes (zombie-calm
+        status) h.process in
+        let gone_on = each-there (HasLwp IsStopless id) pid (orphaned gone) (change_under gone (zombie traced status)
+        s.processes) (orphaned-calm gone) dies in
+        choice AreCalm (p.parent == 0) _ _ (λ first. record { process = gone_on }) (λ other. changed-calm p.parent
+        (signalled None Cld (of_child gone status)) _ (signalled-calm None Cld (of_child gone status)) (record
+        { process = gone_on }))
 
-    ended_if_live-calm : (gone status : ℕ) (s : TracedSystem) (o : Option TracedProcess) → AreCalm s
-        → AreCalm (ended_if_live traced gone status s o)
+    ended_if_live-calm : (gone status : ℕ) (s : TracedSystem) (o : Option TracedProcess) → AreCalm s → AreCalm
+        (ended_if_live traced gone status s o)
     ended_if_live-calm gone status s None h = h
     ended_if_live-calm gone status s (Some p) h = ended-calm gone p status s h
 
-    generated-calm : (other : ℕ) (target : Option ℕ) (g : Sig) (info : Info) (s : TracedSystem) → AreCalm s
-        → AreCalm (generated traced other target g info s)
+    generated-calm : (other : ℕ) (target : Option ℕ) (g : Sig) (info : Info) (s : TracedSystem) → AreCalm s → AreCalm
+        (generated traced other target g info s)
     unfolding generated with_ended
     generated-calm other target g info s h =
         choice AreCalm (is_kill g) _ _ (λ kill. ended_if_live-calm other (signal_number g) s (live_process s other) h)
@@ -153,49 +164,43 @@ module _ (id : ℕ) where
       change-calm : (c : Change) (s : TracedSystem) → AreCalm s → AreCalm (changed traced pid p id l c s)
       unfolding changed with_fds with_space with_shared_taken with_job_stop with_disposition_of with_held resumed
           with_suspended with_child with_made with_reaped with_program started
-      change-calm (files_are files fds) s h =
-          changed-calm pid (with_fds fds) (record s { files = files }) (λ x it. record { lwp = it.lwp })
-          (record { process = h.process })
+      change-calm (files_are files fds) s h = changed-calm pid (with_fds fds) (record s { files = files }) (λ x it.
+          record { lwp = it.lwp }) (record { process = h.process })
       change-calm (space_is space) s h = changed-calm pid (with_space space) s (λ x it. record { lwp = it.lwp }) h
-      change-calm (signals target g info) s h =
-          choice AreCalm (is_kill g && (target == pid)) _ _ (λ itself. h)
-          (λ other. generated-calm target None g info s h)
-      change-calm (signals_itself g info) s h =
-          choice AreCalm (is_kill g) _ _ (λ kill. h) (λ other. generated-calm pid (Some id) g info s h)
+      change-calm (signals target g info) s h = choice AreCalm (is_kill g && (target == pid)) _ _ (λ itself. h) (λ
+          other. generated-calm target None g info s h)
+      change-calm (signals_itself g info) s h = choice AreCalm (is_kill g) _ _ (λ kill. h) (λ other. generated-calm
+          pid (Some id) g info s h)
       change-calm (takes_shared g) s h = changed-calm pid (with_shared_taken g) s (λ x it. record { lwp = it.lwp }) h
       change-calm (job_stops g) s h = changed-calm pid (with_job_stop g) s (λ x it. record { lwp = it.lwp }) h
-      change-calm (disposition_is g d) s h =
-          changed-calm pid (with_disposition_of g d) s (λ x it. record { lwp = it.lwp }) h
-      change-calm (held_is held) s h =
-          changed-calm pid (with_lwp id (with_held held)) s (one-calm id (with_held held) (λ k. refl)) h
-      change-calm (resumes frame frames) s h =
-          changed-calm pid (with_lwp id (resumed frame frames)) s (one-calm id (resumed frame frames) (λ k. refl)) h
+      change-calm (disposition_is g d) s h = changed-calm pid (with_disposition_of g d) s (λ x it. record
+          { lwp = it.lwp }) h
+      change-calm (held_is held) s h = changed-calm pid (with_lwp id (with_held held)) s (one-calm id (with_held held)
+          (λ k. refl)) h
+      change-calm (resumes frame frames) s h = changed-calm pid (with_lwp id (resumed frame frames)) s (one-calm id
+          (resumed frame frames) (λ k. refl)) h
       change-calm (forks birth args) s h =
-          choice AreCalm (s.made == pid) _ _ (λ own. h)
-          (λ apart. record {
-            process = subst (There IsCalm)
-                (sym (under-inserted_other s.made pid _ (eqb-false s.made pid apart) s.processes)) h.process;
+          choice AreCalm (s.made == pid) _ _ (λ own. h) (λ apart. record {
+            process = subst (There (HasLwp IsStopless id)) (sym
+                (under-inserted_other s.made pid _ (eqb-false s.made pid apart) s.processes)) h.process;
           })
       change-calm (reaps child) s h =
-          choice AreCalm (child == pid) _ _ (λ own. h)
-          (λ apart. record {
-            process = subst (There IsCalm)
-                (sym (under-without_id_other child pid (eqb-false child pid apart) s.processes)) h.process;
+          choice AreCalm (child == pid) _ _ (λ own. h) (λ apart. record {
+            process = subst (There (HasLwp IsStopless id)) (sym
+                (under-without_id_other child pid (eqb-false child pid apart) s.processes)) h.process;
           })
       change-calm (becomes program) s h =
-          changed-calm pid (with_program traced id l program) s
-          (λ x it. record {
-            lwp = more-there IsStopless id id (started traced l) [] none
-                (record { holds = λ k is. absurd (none-some k is) });
+          changed-calm pid (with_program traced id l program) s (λ x it. record {
+            lwp = more-there IsStopless id id (started traced l) [] none (record
+                { holds = λ k is. absurd (none-some k is) });
           }) h
-      change-calm (makes_lwp new regs held) s h =
-          changed-calm pid (with_new_lwp traced new regs held) s (new-calm new held regs) h
-      change-calm (suspends other suspended) s h =
-          changed-calm pid (with_lwp other (with_suspended suspended)) s
+      change-calm (makes_lwp new regs held) s h = changed-calm pid (with_new_lwp traced new regs held) s (new-calm new
+          held regs) h
+      change-calm (suspends other suspended) s h = changed-calm pid (with_lwp other (with_suspended suspended)) s
           (one-calm other (with_suspended suspended) (λ k. refl)) h
 
-      pub changes-calm : (cs : List Change) (s : TracedSystem) → AreCalm s
-          → AreCalm (all_changed traced pid p id l cs s)
+      pub changes-calm : (cs : List Change) (s : TracedSystem) → AreCalm s → AreCalm (all_changed traced pid p id l cs
+          s)
       unfolding all_changed
       changes-calm [] s h = h
       changes-calm (c ∷ cs) s h = changes-calm cs (changed traced pid p id l c s) (change-calm c s h)

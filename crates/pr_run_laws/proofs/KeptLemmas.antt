@@ -12,9 +12,8 @@ use Rattle.pr_model.specs.Legal.{IsLegal}
 use Rattle.pr_model.specs.declared.events.Entry.{Entry}
 use Rattle.pr_model.specs.declared.tools.ToolKind.{ToolKind}
 use Rattle.pr_model.specs.declared.tools.ToolKind.TheVariants.{Pstack}
-use Rattle.pr_lawful.proofs.StartLemmas.{first-lawful}
-use Rattle.pr_reached.proofs.HistoryRanges.{first-state-range}
 use Rattle.pr_reached.proofs.ReachedLemmas.{first-reached}
+use Rattle.pr_reached.specs.Reached.{IsReached}
 use Rattle.pr_scen.specs.Scenarios.{Scenario, script_in, scripts_of}
 use Rattle.pr_scen.specs.declared.plans.Plan.{Plan}
 use Rattle.pr_scen.specs.declared.plans.Plan.TheVariants as plan
@@ -25,7 +24,7 @@ use Rattle.pr_tool_laws.proofs.ProgramLemmas.{first-same}
 use Rattle.pr_tool_laws.proofs.StackLaw.{shows-one-stack}
 use Rattle.pr_tool_laws.proofs.WholeLemmas.{tool-shows}
 use Rattle.pr_tools.specs.Tools.{first_tool}
-use Rattle.pr_world.specs.ControllerStates.{Tool, Truss}
+use Rattle.pr_world.specs.Cores.{Tool, Truss}
 use Rattle.pr_world.specs.Protocol.{Follows}
 use Rattle.pr_world.specs.Runs.{CameFrom, IsFresh, IsMachineRun, IsTold, LedFrom}
 use Rattle.pr_world.specs.Worlds.{WorldState}
@@ -53,20 +52,24 @@ controllers-tracers : (plans : List Plan) → flat_map script_in plans ≡ [] �
 unfolding controller_of IsTracer
 controllers-tracers [] none = All-nil IsTracer
 controllers-tracers (plan.Script script ∷ plans) none = absurd (cc)
-controllers-tracers (plan.Truss options ∷ plans) none =
-    All-cons IsTracer (controller_of (plan.Truss options)) (map controller_of plans) tt (controllers-tracers plans none)
-controllers-tracers (plan.Tool kind pid ∷ plans) none =
-    All-cons IsTracer (controller_of (plan.Tool kind pid)) (map controller_of plans) tt (controllers-tracers plans none)
+controllers-tracers (plan.Truss options ∷ plans) none = All-cons IsTracer (controller_of (plan.Truss options)) (map
+    controller_of plans) tt (controllers-tracers plans none)
+controllers-tracers (plan.Tool kind pid ∷ plans) none = All-cons IsTracer (controller_of (plan.Tool kind pid)) (map
+    controller_of plans) tt (controllers-tracers plans none)
 
 -- without scripts a history that follows the protocol is passive, and so tracing is transparent in it
-transparent-tracers : (s : Scenario) (h : List Entry) → IsLegal (length (controllers_of s)) (first_state_of s) h
-    → Follows (controllers_of s) (first_state_of s) h → scripts_of s ≡ [] → IsTransparent (first_state_of s) h
+transparent-tracers : (s : Scenario) (h : List Entry) → IsLegal (length (controllers_of s)) (first_state_of s) h →
+    Follows (controllers_of s) (first_state_of s) h → scripts_of s ≡ [] → IsTransparent (first_state_of s) h
 transparent-tracers s h legal follows none =
     let n = length (controllers_of s) in
-    let passive =
-    tracers-passive (controllers_of s) n (first_state_of s) h
-    (controllers-tracers s.controllers none) legal follows in
+    let passive = tracers-passive (controllers_of s) n (first_state_of s) h (controllers-tracers s.controllers none)
+    legal follows in
     transparent-first n s.programs (files_of s) s.spawns h legal passive
+
+-- ---- the first state
+
+state-reached : (s : Scenario) → IsScenarioInRange s → IsReached (first_state_of s)
+state-reached s range = first-reached s.programs (files_of s) s.spawns range.start range.range
 
 -- ---- trusses
 
@@ -74,56 +77,52 @@ first-held : (s : Scenario) (k : ℕ) → HasNothingOpen k (first_state_of s)
 unfolding first_state
 first-held s k = nothing-held k (first_state_of s) refl
 
-truss-first : (s : Scenario) (k : ℕ) (o : Options) → slice_get s.controllers k ≡ Some (plan.Truss o)
-    → slice_get (controllers_of s) k ≡ Some (Truss (first_truss o))
+truss-first : (s : Scenario) (k : ℕ) (o : Options) → slice_get s.controllers k ≡ Some (plan.Truss o) → slice_get
+    (controllers_of s) k ≡ Some (Truss (first_truss o))
 unfolding controller_of
 truss-first s k o at = slice_get-map controller_of s.controllers k ∙ ap (option_map controller_of) at
 
-trusses-kept : (s : Scenario) (h : List Entry) → IsScenarioInRange s
-    → IsLegal (length (controllers_of s)) (first_state_of s) h → Follows (controllers_of s) (first_state_of s) h
-    → (k : ℕ) (o : Options) → slice_get s.controllers k ≡ Some (plan.Truss o)
-    → IsTrussKept (controllers_of s) (first_state_of s) h k o
+trusses-kept : (s : Scenario) (h : List Entry) → IsScenarioInRange s → IsLegal (length (controllers_of s))
+    (first_state_of s) h → Follows (controllers_of s) (first_state_of s) h → (k : ℕ) (o : Options) → slice_get
+    s.controllers k ≡ Some (plan.Truss o) → IsTrussKept (controllers_of s) (first_state_of s) h k o
 trusses-kept s h range legal follows k o at =
-    truss-kept (controllers_of s) (length (controllers_of s)) (first_state_of s) h k o
-    (first-reached s.programs (files_of s) s.spawns range.start range.range)
+    truss-kept (controllers_of s) (length (controllers_of s)) (first_state_of s) h k o (state-reached s range)
     (follows-bytes (controllers_of s) (length (controllers_of s)) (first_state_of s) h range.bytes legal follows)
     (truss-first s k o at) (first-held s k) legal follows
 
 -- ---- tools
 
-tool-first : (s : Scenario) (k : ℕ) (kind : ToolKind) (pid : ℕ) → slice_get s.controllers k ≡ Some (plan.Tool kind pid)
-    → slice_get (controllers_of s) k ≡ Some (Tool (first_tool kind pid))
+tool-first : (s : Scenario) (k : ℕ) (kind : ToolKind) (pid : ℕ) → slice_get s.controllers k ≡ Some (plan.Tool kind
+    pid) → slice_get (controllers_of s) k ≡ Some (Tool (first_tool kind pid))
 unfolding controller_of
 tool-first s k kind pid at = slice_get-map controller_of s.controllers k ∙ ap (option_map controller_of) at
 
-tools-kept : (s : Scenario) (h : List Entry) → IsScenarioInRange s
-    → IsLegal (length (controllers_of s)) (first_state_of s) h → Follows (controllers_of s) (first_state_of s) h
-    → (k : ℕ) (kind : ToolKind) (pid : ℕ) → slice_get s.controllers k ≡ Some (plan.Tool kind pid)
-    → IsToolKept (controllers_of s) (first_state_of s) h k kind pid
+tools-kept : (s : Scenario) (h : List Entry) → IsScenarioInRange s → IsLegal (length (controllers_of s))
+    (first_state_of s) h → Follows (controllers_of s) (first_state_of s) h → (k : ℕ) (kind : ToolKind) (pid : ℕ) →
+    slice_get s.controllers k ≡ Some (plan.Tool kind pid) → IsToolKept (controllers_of s) (first_state_of s) h k kind
+    pid
 tools-kept s h range legal follows k kind pid at = record {
   shows = λ t programs ends ended accepted once.
       let n = length (controllers_of s) in
-      tool-shows (controllers_of s) n k kind pid (first_state_of s) h t programs
-      (first-lawful s.programs (files_of s) s.spawns range.start)
-      (first-state-range s.programs (files_of s) s.spawns range.range)
-      (follows-bytes (controllers_of s) n (first_state_of s) h range.bytes legal follows) once
-      (tool-first s k kind pid at) legal follows ends ended accepted;
+      let reached = state-reached s range in
+      tool-shows (controllers_of s) n k kind pid (first_state_of s) h t programs reached.lawful reached.in_range
+      (follows-bytes (controllers_of s) n (first_state_of s) h range.bytes legal follows) once (tool-first s k kind
+      pid at) legal follows ends ended accepted;
   stack = λ t programs ends ended accepted same.
       let n = length (controllers_of s) in
-      let begins : slice_get (controllers_of s) k ≡ Some (Tool (first_tool Pstack pid)) =
-      tool-first s k kind pid at ∙ ap (λ (which : ToolKind). Some (Tool (first_tool which pid))) same in
-      shows-one-stack (controllers_of s) n k pid (first_state_of s) h t programs
-      (first-lawful s.programs (files_of s) s.spawns range.start)
-      (first-state-range s.programs (files_of s) s.spawns range.range)
-      (follows-bytes (controllers_of s) n
-      (first_state_of s) h range.bytes legal follows) begins legal follows ends ended accepted;
+      let reached = state-reached s range in
+      let begins : slice_get (controllers_of s) k ≡ Some (Tool (first_tool Pstack pid)) = tool-first s k kind pid at ∙
+      ap (λ (which : ToolKind). Some (Tool (first_tool which pid))) same in
+      shows-one-stack (controllers_of s) n k pid (first_state_of s) h t programs reached.lawful reached.in_range
+      (follows-bytes (controllers_of s) n (first_state_of s) h range.bytes legal follows) begins legal follows ends
+      ended accepted;
 }
 
 -- ---- runs
 
 -- the entries by which a world was led to from the first one are a run of the machine
-led-run : (s : Scenario) (w : WorldState) (led : LedFrom (first_world s) w)
-    → IsMachineRun (controllers_of s) led.entries w.kernel.machine (first_state_of s)
+led-run : (s : Scenario) (w : WorldState) (led : LedFrom (first_world s) w) → IsMachineRun (controllers_of s)
+    led.entries w.kernel.machine (first_state_of s)
 unfolding first_world kernel_of
 led-run s w led = led.machine
 
@@ -137,18 +136,18 @@ led-kept s w range led =
     let kept : IsKept s led.entries = record {
       legal = run.legal;
       follows = run.follows;
-      transparent =
-          transparent-first (length (controllers_of s)) s.programs (files_of s) s.spawns led.entries run.legal;
+      transparent = transparent-first (length (controllers_of s)) s.programs (files_of s) s.spawns led.entries
+          run.legal;
       transparent_without_scripts = transparent-tracers s led.entries run.legal run.follows;
       trusses = trusses-kept s led.entries range run.legal run.follows;
       tools = tools-kept s led.entries range run.legal run.follows;
-      programs =
-          first-same (length (controllers_of s)) s.programs (files_of s) s.spawns led.entries range.start run.legal;
+      programs = first-same (length (controllers_of s)) s.programs (files_of s) s.spawns led.entries range.start
+          run.legal;
     } in
     subst (IsKept s) (sym (led-history s w led)) kept
 
-pub came-kept : (s : Scenario) (w : WorldState) → IsScenarioInRange s → CameFrom (first_world s) w
-    → IsKept s w.kernel.history
+pub came-kept : (s : Scenario) (w : WorldState) → IsScenarioInRange s → CameFrom (first_world s) w → IsKept s
+    w.kernel.history
 came-kept s w range came = led-kept s w range came.led
 
 pub run-kept : (s : Scenario) (n : ℕ) → IsScenarioInRange s → IsKept s (history_after n s)
