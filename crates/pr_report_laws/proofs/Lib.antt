@@ -3,8 +3,8 @@ pub mod Replies
 pub mod Files
 pub mod Invariant
 pub mod Memory
-pub mod Attachments
+pub mod Watching
 pub mod UnopenedChildren
 pub mod FollowedChildren
 pub mod NewbornChildren
-pub mod Releases
+pub mod Releasing

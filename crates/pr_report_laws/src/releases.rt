@@ -24,7 +24,7 @@ ghost use Rattle.pr_truss_laws.specs.Runs.{IsTrussRun};
 /// In a legal history of a lawful state, in which a truss with nothing open makes its calls: as long as truss has the
 /// control file of a process open, the process, if it lives, has its PR_RLC and its PR_KLC as truss has set them,
 /// whatever others do.
-#[tactic(auto, using(crate::proofs::Releases::ReleaseLaws::releasings))]
+#[tactic(auto, using(crate::proofs::Releasing::ReleaseLaws::releasings))]
 pub fn the_modes_stay_as_truss_has_set_them()
     ensures { (n k : ℕ) (o : Options) (s : TracedState) (h : List Entry) → IsTrussRun n k o s h
         → (number : ℕ) (held : Held) (p : TracedProcess) → handle_of (state_after s h).opens k number ≡ Some held
@@ -33,7 +33,7 @@ pub fn the_modes_stay_as_truss_has_set_them()
 {}
 
 /// So a live process of which truss has the control file open does not have PR_KLC: truss kills none by closing it.
-#[tactic(auto, using(crate::proofs::Releases::ReleaseLaws::releasings))]
+#[tactic(auto, using(crate::proofs::Releasing::ReleaseLaws::releasings))]
 pub fn truss_kills_nothing_that_it_closes()
     ensures { (n k : ℕ) (o : Options) (s : TracedState) (h : List Entry) → IsTrussRun n k o s h
         → (number : ℕ) (held : Held) (p : TracedProcess) → handle_of (state_after s h).opens k number ≡ Some held
@@ -43,7 +43,7 @@ pub fn truss_kills_nothing_that_it_closes()
 
 /// And each process of which truss has set PR_RLC is released when truss closes its control file: nothing of it is
 /// traced or watched right then, and no lwp of it stands on an event, is directed to stop, or has a mark.
-#[tactic(auto, using(crate::proofs::Releases::ReleaseLaws::releasings))]
+#[tactic(auto, using(crate::proofs::Releasing::ReleaseLaws::releasings))]
 pub fn what_truss_has_set_is_released()
     ensures { (n k : ℕ) (o : Options) (s : TracedState) (h : List Entry) → IsTrussRun n k o s h
         → (number : ℕ) (held : Held) (p : TracedProcess) → (a : Answer)
@@ -55,7 +55,7 @@ pub fn what_truss_has_set_is_released()
 
 /// In such a history truss has set the modes of each process that it traces: of one that is attached, until all its
 /// files are closed; and of one that it opens, from the step on that sets PR_RLC.
-#[tactic(auto, using(crate::proofs::Releases::ReleaseLaws::releasings))]
+#[tactic(auto, using(crate::proofs::Releasing::ReleaseLaws::releasings))]
 pub fn truss_sets_the_modes_of_what_it_traces()
     ensures { (n k : ℕ) (o : Options) (s : TracedState) (h : List Entry) → IsTrussRun n k o s h → (place : ℕ)
         → place < length (truss_at k o h).traced → has_set_at (truss_at k o h) place ≡ true
@@ -63,7 +63,7 @@ pub fn truss_sets_the_modes_of_what_it_traces()
 {}
 
 /// It has set those of a child that it sets free, where the child lives when its control file is closed next.
-#[tactic(auto, using(crate::proofs::Releases::ReleaseLaws::releasings))]
+#[tactic(auto, using(crate::proofs::Releasing::ReleaseLaws::releasings))]
 pub fn truss_sets_the_modes_of_what_it_sets_free()
     ensures { (n k : ℕ) (o : Options) (s : TracedState) (h : List Entry) → IsTrussRun n k o s h
         → (pid control : ℕ) (p : TracedProcess) → (truss_at k o h).stage ≡ FreeingChild pid (Free control) → pid ≢ 0
@@ -71,7 +71,7 @@ pub fn truss_sets_the_modes_of_what_it_sets_free()
 {}
 
 /// In such a history what truss has set stays so: one entry more leaves it, where truss has the control file open.
-#[tactic(auto, using(crate::proofs::Releases::ReleaseLaws::releasings))]
+#[tactic(auto, using(crate::proofs::Releasing::ReleaseLaws::releasings))]
 pub fn what_truss_has_set_stays_set()
     ensures { (n k : ℕ) (o : Options) (s : TracedState) (before : List Entry) (e : Entry)
         → IsTrussRun n k o s (before ++ e ∷ []) → (number : ℕ) (held : Held)
@@ -81,7 +81,7 @@ pub fn what_truss_has_set_stays_set()
 
 /// A process that truss traces and of which it has set the modes, if it lives, has PR_RLC, and has no PR_KLC; and it is
 /// released when truss closes its control file.
-#[tactic(auto, using(crate::proofs::Releases::ReleaseLaws::releasings))]
+#[tactic(auto, using(crate::proofs::Releasing::ReleaseLaws::releasings))]
 pub fn what_truss_traces_is_released()
     ensures runs { (n k : ℕ) (o : Options) (s : TracedState) (h : List Entry) → IsTrussRun n k o s h → (place : ℕ)
         → place < length (truss_at k o h).traced → (p : TracedProcess) → has_set_at (truss_at k o h) place ≡ true
@@ -101,7 +101,7 @@ pub fn what_truss_traces_is_released()
 {}
 
 /// A live process other than process 0 refuses neither of the two messages by which truss sets its modes.
-#[tactic(auto, using(crate::proofs::Releases::ReleaseGrants::grants))]
+#[tactic(auto, using(crate::proofs::Releasing::ReleaseGrants::grants))]
 pub fn truss_is_granted_the_modes()
     ensures cleared { (k number : ℕ) (s : TracedState) (held : Held) (p : TracedProcess) (a : Answer)
         → handle_of s.opens k number ≡ Some held → held.file ≡ Ctl → live_process s.system held.pid ≡ Some p

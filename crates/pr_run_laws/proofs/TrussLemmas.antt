@@ -20,10 +20,10 @@ use Rattle.pr_model.specs.declared.events.Entry.{Entry}
 use Rattle.pr_model.specs.declared.handles.Held.{Held}
 use Rattle.pr_reached.specs.ByteHistories.{HasBytes}
 use Rattle.pr_reached.specs.Reached.{IsReached}
-use Rattle.pr_report_laws.proofs.Attachments.BeginLaws.{finished-watches-none, followed-watches, opened-watches}
-use Rattle.pr_report_laws.proofs.Attachments.BeginsOnlyLaws.{watched-opened}
+use Rattle.pr_report_laws.proofs.Watching.BeginLaws.{finished-watches-none, followed-watches, opened-watches}
+use Rattle.pr_report_laws.proofs.Watching.BeginsOnlyLaws.{watched-opened}
 use Rattle.pr_report_laws.proofs.UnopenedChildren.Births.{births-report, unfollowed-report}
-use Rattle.pr_report_laws.proofs.Attachments.EndLaws.{watched-let}
+use Rattle.pr_report_laws.proofs.Watching.EndLaws.{watched-let}
 use Rattle.pr_report_laws.proofs.Memory.EventMemory.{left-memories, unfollowed-memories}
 use Rattle.pr_report_laws.proofs.Files.FileLaws.{HasFiles, IsFileOf}
 use Rattle.pr_report_laws.proofs.Files.FileUses.{freed-file}
@@ -32,8 +32,8 @@ use Rattle.pr_report_laws.proofs.FollowedChildren.FollowLaws.{read-followed}
 use Rattle.pr_report_laws.proofs.FollowedChildren.FreedLaws.{read-freed}
 use Rattle.pr_report_laws.proofs.Memory.MemoryReads.{read-texts}
 use Rattle.pr_report_laws.proofs.NewbornChildren.NewbornLaws.{followed-forked, followed-rests, followed-silent, followed-unstarted}
-use Rattle.pr_report_laws.proofs.Releases.ReleaseLaws.{freed-set, set-stays, traced-set}
-use Rattle.pr_report_laws.proofs.Releases.ReleaseSteps.{truss-releases}
+use Rattle.pr_report_laws.proofs.Releasing.ReleaseLaws.{freed-set, set-stays, traced-set}
+use Rattle.pr_report_laws.proofs.Releasing.ReleaseSteps.{truss-releases}
 use Rattle.pr_report_laws.proofs.Files.WatchHistories.{exchanges-both, makes-front, makes-rest, run-reaches}
 use Rattle.pr_tool_laws.proofs.WholeLemmas.{front-bytes, front-legal}
 use Rattle.pr_report_laws.specs.Births.{LeavesForks, NamesNoChild, granted}

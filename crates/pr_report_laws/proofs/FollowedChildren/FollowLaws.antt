@@ -25,7 +25,7 @@ use Rattle.pr_truss_laws.proofs.ClosesLemmas.{after-fits, after-grown, first-fit
 use Rattle.pr_truss_laws.proofs.FitLemmas.{fed-fits}
 use Rattle.pr_truss_laws.proofs.HeldLemmas.{Fits, Grown}
 use Rattle.pr_truss_laws.specs.Exchanges.{Exchange, IsGranted, Makes, errno_in, truss_after}
-use Rattle.pr_report_laws.proofs.Attachments.BeginLaws.{at-options}
+use Rattle.pr_report_laws.proofs.Watching.BeginLaws.{at-options}
 use Rattle.pr_report_laws.proofs.FollowedChildren.FollowForks.{fork-comes}
 use Rattle.pr_report_laws.proofs.FollowedChildren.FollowOpenings.{Broken, ChildEnd, IsAt, Runs, awaited-call, begun-calls, child-end, failed, runs-now, stopped, unfinished, whole}
 use Rattle.pr_report_laws.proofs.FollowedChildren.FollowUnseen.{Stays, reached-fresh}

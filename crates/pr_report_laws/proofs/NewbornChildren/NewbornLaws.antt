@@ -29,8 +29,8 @@ use Rattle.pr_truss_laws.proofs.OwnLemmas.{first-owns}
 use Rattle.pr_truss_laws.specs.Exchanges.{Exchange, IsGranted, Makes, calls_in, exchange_of, exchanges, truss_after, truss_at}
 use Rattle.pr_truss_laws.specs.Given.{reply_at}
 use Rattle.pr_truss_laws.specs.Runs.{IsTrussRun}
-use Rattle.pr_report_laws.proofs.Attachments.BeginLaws.{BeginsChild, child-begins, followed-watches, freed-closes, freed-fed-again, given-opens, next-call}
-use Rattle.pr_report_laws.proofs.Attachments.BeginsOnlyLaws.{stays-off}
+use Rattle.pr_report_laws.proofs.Watching.BeginLaws.{BeginsChild, child-begins, followed-watches, freed-closes, freed-fed-again, given-opens, next-call}
+use Rattle.pr_report_laws.proofs.Watching.BeginsOnlyLaws.{stays-off}
 use Rattle.pr_report_laws.proofs.UnopenedChildren.Births.{Going, first-follows, first-traced}
 use Rattle.pr_report_laws.proofs.UnopenedChildren.Claims.{Claims}
 use Rattle.pr_report_laws.proofs.UnopenedChildren.Claims as claims

@@ -31,8 +31,8 @@ use Rattle.pr_truss_laws.proofs.ForeignLemmas.{exclusive-sole}
 use Rattle.pr_truss_laws.proofs.OutlastLemmas.{Outlasts, killed, lives, others-entry}
 use Rattle.pr_truss_laws.proofs.OverLemmas.{stays-over}
 use Rattle.pr_truss_laws.specs.Runs.{IsTrussRun}
-use Rattle.pr_report_laws.proofs.Releases.ReleaseCalls.{KeepsModes, call-modes}
-use Rattle.pr_report_laws.proofs.Releases.ReleaseModes.{HasSameFlags, alone-flags, flags-keep, settings-flags}
+use Rattle.pr_report_laws.proofs.Releasing.ReleaseCalls.{KeepsModes, call-modes}
+use Rattle.pr_report_laws.proofs.Releasing.ReleaseModes.{HasSameFlags, alone-flags, flags-keep, settings-flags}
 use Rattle.pr_report_laws.proofs.Machine.TurnSettings.{turn-settings}
 use Rattle.pr_report_laws.proofs.Files.WatchHistories.{Reaches, entry-reaches, first-reaches}
 use Rattle.pr_report_laws.specs.Releases.{HasModes, Modes, modes_after, modes_next, modes_set, released, spared}

@@ -47,11 +47,11 @@ use Rattle.pr_report_laws.proofs.Files.FileUses as uses
 use Rattle.pr_report_laws.proofs.Files.FileUses.{freed_control}
 use Rattle.pr_report_laws.proofs.Files.KeepLemmas.{FreedIs, Grants, IsCalm, Keeps}
 use Rattle.pr_truss_laws.proofs.OverLemmas.{stays-over}
-use Rattle.pr_report_laws.proofs.Releases.ReleaseGrants.{release-granted}
+use Rattle.pr_report_laws.proofs.Releasing.ReleaseGrants.{release-granted}
 use Rattle.pr_report_laws.proofs.Replies.StageChanges.{Comes, How, IsFree, Opens, StaysAt, at, child_goes, child_starts, free, goes, less, no, starts}
 use Rattle.pr_report_laws.proofs.Replies.StageReplies.{fed-comes}
 use Rattle.pr_report_laws.proofs.Invariant.StandLemmas.{IsAttached, Stands, StandsAt}
-use Rattle.pr_report_laws.proofs.Releases.ReleaseSteps.{modes_told}
+use Rattle.pr_report_laws.proofs.Releasing.ReleaseSteps.{modes_told}
 use Rattle.pr_report_laws.proofs.Files.WatchHistories.{IsAnswered, Reaches, answered-calm, entry-reaches, exchange-answered}
 use Rattle.pr_report_laws.specs.Releases.{Modes, if_accepted, modes_next, released, spared}
 use Rattle.pr_report_laws.specs.Watching.{is_away, told_of, with_exchange}

@@ -45,8 +45,8 @@ use Rattle.pr_report_laws.proofs.Files.FileUses.{stage_place}
 use Rattle.pr_truss_laws.proofs.OutlastLemmas.{Outlasts, killed, lives, outlasts}
 use Rattle.pr_report_laws.proofs.Replies.OwnOpens.{open-stays}
 use Rattle.pr_truss_laws.proofs.OverLemmas.{stays-over}
-use Rattle.pr_report_laws.proofs.Releases.ReleaseModes.{HasSameFlags, alone-flags, clear-accepted, clear-refused, entries-keep, exits-keep, faults-keep, flags-keep, follow-keep, release-accepted, release-refused, run-keep, signals-keep, stop-keep, unfollow-keep}
-use Rattle.pr_report_laws.proofs.Releases.ReleaseStays.{not-allowed}
+use Rattle.pr_report_laws.proofs.Releasing.ReleaseModes.{HasSameFlags, alone-flags, clear-accepted, clear-refused, entries-keep, exits-keep, faults-keep, flags-keep, follow-keep, release-accepted, release-refused, run-keep, signals-keep, stop-keep, unfollow-keep}
+use Rattle.pr_report_laws.proofs.Releasing.ReleaseStays.{not-allowed}
 use Rattle.pr_report_laws.specs.Releases.{HasModes, Modes, released, if_accepted, modes_next, spared}
 
 -- A call of truss leaves the modes of each process as truss has set them.

@@ -31,10 +31,10 @@ use Rattle.pr_report_laws.proofs.UnopenedChildren.Births.{first-traced}
 use Rattle.pr_report_laws.proofs.Files.FileSteps.{MakesNext, makes-next}
 use Rattle.pr_report_laws.proofs.Invariant.HistoryLaw.{IsFirst, after-next, first-is, no-exchanges}
 use Rattle.pr_report_laws.proofs.Replies.Leaving.{IsLeaving, first-leaving, leaves}
-use Rattle.pr_report_laws.proofs.Releases.ReleaseFreed.{HasFreed, entry-freed}
-use Rattle.pr_report_laws.proofs.Releases.ReleaseMarks.{HasSet, fed-set}
-use Rattle.pr_report_laws.proofs.Releases.ReleaseStays.{released-stays}
-use Rattle.pr_report_laws.proofs.Releases.ReleaseSteps.{modes-later, modes-none, modes_told, truss-modes, truss-releases}
+use Rattle.pr_report_laws.proofs.Releasing.ReleaseFreed.{HasFreed, entry-freed}
+use Rattle.pr_report_laws.proofs.Releasing.ReleaseMarks.{HasSet, fed-set}
+use Rattle.pr_report_laws.proofs.Releasing.ReleaseStays.{released-stays}
+use Rattle.pr_report_laws.proofs.Releasing.ReleaseSteps.{modes-later, modes-none, modes_told, truss-modes, truss-releases}
 use Rattle.pr_report_laws.proofs.Files.WatchHistories.{exchange-answered, exchanges-push, run-front, run-last, run-next, run-reaches, Reaches, entry-reaches, first-reaches}
 use Rattle.pr_report_laws.specs.Releases.{HasModes, Modes, has_set_at, is_child_past, is_opened_past, is_past, modes_after, modes_next, modes_set, released, spared}
 use Rattle.pr_report_laws.specs.Watching.{told_of, with_exchange}
