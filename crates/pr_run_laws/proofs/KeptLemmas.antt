@@ -24,7 +24,7 @@ use Rattle.pr_tool_laws.proofs.ProgramLemmas.{first-same}
 use Rattle.pr_tool_laws.proofs.StackLaw.{shows-one-stack}
 use Rattle.pr_tool_laws.proofs.WholeLemmas.{tool-shows}
 use Rattle.pr_tools.specs.Tools.{first_tool}
-use Rattle.pr_world.specs.Cores.{Tool, Truss}
+use Rattle.pr_world.specs.ControllerStates.{Tool, Truss}
 use Rattle.pr_world.specs.Protocol.{Follows}
 use Rattle.pr_world.specs.Runs.{CameFrom, IsFresh, IsMachineRun, IsTold, LedFrom}
 use Rattle.pr_world.specs.Worlds.{WorldState}

@@ -15,7 +15,7 @@ ghost use Rattle.pr_tool_laws.specs.ShownStates.{ShowsOneState};
 ghost use Rattle.pr_tool_laws.specs.ToolTexts.{reads_once};
 ghost use Rattle.pr_tools.specs.Tools.{ToolState, first_tool, has_ended, printed};
 ghost use Rattle.pr_world.specs.ControllerStates.{ControllerState};
-ghost use Rattle.pr_world.specs.Cores as cores;
+ghost use Rattle.pr_world.specs.ControllerStates as cores;
 ghost use Rattle.pr_world.specs.Protocol.{Follows, controllers_at};
 
 /// In a lawful system in range what a tool other than pstack reads has its fields in their ranges, and one read has all

@@ -13,7 +13,7 @@ ghost use Rattle.pr_reached.specs.InRange.{IsInRange, IsStartInRange};
 ghost use Rattle.pr_tool_laws.specs.Stacks.{ShowsOneStack};
 ghost use Rattle.pr_tools.specs.Tools.{ToolState, first_tool, has_ended, printed};
 ghost use Rattle.pr_world.specs.ControllerStates.{ControllerState};
-ghost use Rattle.pr_world.specs.Cores as cores;
+ghost use Rattle.pr_world.specs.ControllerStates as cores;
 ghost use Rattle.pr_world.specs.Protocol.{Follows, controllers_at};
 
 /// In a legal history that follows the protocol of its controllers, from a lawful state in range or from a first state,

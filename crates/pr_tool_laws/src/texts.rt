@@ -9,7 +9,7 @@ ghost use Rattle.pr_tool_laws.specs.Reads.{text_read};
 ghost use Rattle.pr_tool_laws.specs.ToolTexts.{reads_once, tool_text};
 ghost use Rattle.pr_tools.specs.Tools.{ToolState, first_tool, has_ended, printed};
 ghost use Rattle.pr_world.specs.ControllerStates.{ControllerState};
-ghost use Rattle.pr_world.specs.Cores as cores;
+ghost use Rattle.pr_world.specs.ControllerStates as cores;
 ghost use Rattle.pr_world.specs.Protocol.{Follows, controllers_at};
 
 /// In a legal history in which each controller makes the calls that come after the replies that it got, a tool other
