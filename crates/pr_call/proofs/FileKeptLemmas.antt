@@ -1,4 +1,4 @@
-use Rattle.std.proofs.Common.{◌≡◌, ◌+◌, ℕ, false, Option, Some, None, List, Result, Ok, Err, OnErr, cond, is_ok, is_some, is_none, length, position, eqb, leb, ltb, inl, inr, refl, sym, ap}
+use Rattle.std.proofs.Common.{◌≡◌, ◌+◌, ℕ, true, false, Option, Some, None, List, Result, Ok, Err, OnErr, cond, is_ok, is_some, is_none, length, position, eqb, leb, ltb, inl, inr, refl, sym, ap, subst}
 use Rattle.std.proofs.lemmas.Bool.{cases_Bool}
 use Rattle.pr_num.specs.Limits.{file_size_limit, pipe_size_limit}
 use Rattle.pr_num.specs.Files.{FileTable, Descriptors, pipe_of}
@@ -10,6 +10,8 @@ use Rattle.pr_parts.specs.FileTables.{open_of}
 use Rattle.pr_parts.specs.FileTransfers.{has_reader, has_writer, pipe_bytes, read_fd, read_file, read_pipe, write_fd, write_file, write_pipe}
 use Rattle.pr_parts.specs.declared.files.FileNo.{FileNo}
 use Rattle.pr_parts.specs.declared.files.FileNo.TheVariants.{NoMemory}
+use Rattle.pr_model.specs.FileCallRows.{file_effect}
+use Rattle.pr_call.specs.Effects.{may_lack_memory}
 use Rattle.pr_call.specs.FileAnswers.{lacks_memory}
 use Rattle.pr_call.specs.declared.answers.Refusal.TheVariants.{Files}
 
@@ -117,3 +119,17 @@ module _ {A : Type 0} (t : FileTable) (fds : Descriptors) (f : FileTable) (d : D
   pub unless-refused : (why : FileNo) → lacks_memory (Err (Files why)) ≡ false → record { files = f; fds = d; answer = Err why } ≡ unless_no_memory t fds (Err why) e → record { files = f; fds = d; answer = Err why } ≡ e
   unless-refused NoMemory other is = absurd (cc)
   unless-refused why other is = is
+
+  -- where memory ran out, the call would have been granted, or refused for want of memory by the definitions
+  pub lacking-by : (P : Result A FileNo → Type 0) → ((value : A) → P (Ok value)) → P (Err NoMemory) → (why : FileNo) → record { files = f; fds = d; answer = Err why } ≡ unless_no_memory t fds (Err why) e → lacks_memory (Err (Files why)) ≡ true → P e.answer
+  lacking-by P done none NoMemory is lacks = by e.answer refl is
+    where
+      by : (r : Result A FileNo) → e.answer ≡ r → record { files = f; fds = d; answer = Err NoMemory } ≡ cond (is_ok r) (refused t fds NoMemory) e → P e.answer
+      by (Ok value) at made = subst P (sym at) (done value)
+      by (Err other) at made = subst P (ap (λ (x : FileEffect A). x.answer) made) none
+  lacking-by P done none why is lacks = absurd (cc)
+
+-- the same of a call that gives a number
+pub lacking-file : (t : FileTable) (fds : Descriptors) (f : FileTable) (d : Descriptors) (e : FileEffect ℕ) (why : FileNo) → record { files = f; fds = d; answer = Err why } ≡ unless_no_memory t fds (Err why) e → lacks_memory (Err (Files why)) ≡ true → may_lack_memory (file_effect e) ≡ true
+unfolding file_effect
+lacking-file t fds f d e = lacking-by t fds f d e (λ r. may_lack_memory (file_effect (record { files = e.files; fds = e.fds; answer = r })) ≡ true) (λ value. refl) refl

@@ -13,7 +13,8 @@ use Rattle.pr_parts.specs.declared.files.FileNo.{FileNo}
 use Rattle.pr_model.specs.Changes.{fails, gives, files_are, space_is}
 use Rattle.pr_model.specs.FileCallRows.{file_effect, open_effect, pipe_effect, refusal_effect, word_size}
 use Rattle.pr_model.specs.MemoryCalls.{can_write, path_at}
-use Rattle.pr_call.proofs.FileKeptLemmas.{Keeps, unless-fds, unless-files, unless-refused}
+use Rattle.pr_call.proofs.FileKeptLemmas.{Keeps, lacking-by, lacking-file, unless-fds, unless-files, unless-refused}
+use Rattle.pr_call.specs.Effects.{may_lack_memory}
 use Rattle.pr_call.specs.FileAnswers.{lacks_memory}
 use Rattle.pr_call.specs.declared.answers.Refusal.TheVariants.{Files}
 
@@ -75,6 +76,10 @@ module _ (t : FileTable) (fds : Descriptors) (space : Space) (at flags : ℕ) wh
           let whole = unless-refused t fds f d (opened t fds name flags) why lacks is in
           rw (sym named, good, sym whole) refl
 
+      pub open-lacks : (why : FileNo) → record { files = f; fds = d; answer = Err why } ≡ unless_no_memory t fds (Err why) (opened t fds name flags) → lacks_memory (Err (Files why)) ≡ true → may_lack_memory (open_effect t fds space at flags) ≡ true
+      unfolding open_effect
+      open-lacks why is lacks = rw (sym named, good) (lacking-file t fds f d (opened t fds name flags) why is lacks)
+
 module _ (t : FileTable) (fds : Descriptors) (name : List ℕ) (flags : ℕ) (f : FileTable) (d : Descriptors) (why : FileNo) (is : record { files = f; fds = d; answer = Err why } ≡ unless_no_memory t fds (Err why) (opened t fds name flags)) where
   pub open-files : f ≡ t
   open-files = unless-files t fds f d (opened t fds name flags) why (opened-keeps t fds name flags) is
@@ -101,6 +106,10 @@ module _ (t : FileTable) (fds : Descriptors) (space : Space) (at : ℕ) where
     pipe-refused why is lacks =
         let whole = unless-refused t fds f d (piped t fds) why lacks is in
         rw (can, sym whole) refl
+
+    pub pipe-lacks : (why : FileNo) → record { files = f; fds = d; answer = Err why } ≡ unless_no_memory t fds (Err why) (piped t fds) → lacks_memory (Err (Files why)) ≡ true → may_lack_memory (pipe_effect t fds space at) ≡ true
+    unfolding pipe_effect
+    pipe-lacks why is lacks = lacking-by t fds f d (piped t fds) (λ r. (piped t fds).answer ≡ r → may_lack_memory (pipe_effect t fds space at) ≡ true) (λ value e. rw (can, e) refl) (λ e. rw (can, e) refl) why is lacks refl
 
 module _ (t : FileTable) (fds : Descriptors) (f : FileTable) (d : Descriptors) (why : FileNo) (is : record { files = f; fds = d; answer = Err why } ≡ unless_no_memory t fds (Err why) (piped t fds)) where
   pub pipe-files : f ≡ t

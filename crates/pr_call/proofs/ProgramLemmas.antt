@@ -14,7 +14,7 @@ use Rattle.pr_model.specs.Readers.{size_of, total_has_room}
 use Rattle.pr_model.specs.State.{TracedLwp, TracedProcess, TracedSystem, with_process}
 use Rattle.pr_model.specs.declared.events.Res.TheVariants.{Value, Error}
 use Rattle.pr_proc.specs.Refusals.{exec_refusal}
-use Rattle.pr_call.specs.Effects.{after_effect, outcome_of}
+use Rattle.pr_call.specs.Effects.{after_effect, may_lack_memory, outcome_of}
 use Rattle.pr_call.specs.Processes.{exec_found, exec_of}
 use Rattle.pr_call.specs.declared.requests.Performed.TheVariants as performed
 
@@ -89,6 +89,19 @@ module _ (s : TracedSystem) (p : TracedProcess) (x : Effect) where
 
   pub refuse-outcome : (place : ℕ) (e : Errno) → place < length s.programs → exec_found s p (slice_get s.programs place) ≡ x → ((g : Program) → slice_get s.programs place ≡ Some g → exec_refusal s p g ≡ Some e) → performed.Done (Error e) ≡ outcome_of x
   refuse-outcome place e within = refuse-told (slice_get s.programs place) e (some-at s.programs place within)
+
+  -- memory may run out where a program was found
+  lack-told : (o : Option Program) → IsSome o → exec_found s p o ≡ x → may_lack_memory x ≡ true
+  unfolding exec_found
+  lack-told None some is = absurd (cc)
+  lack-told (Some g) some is = ap may_lack_memory (sym is) ∙ by (total_has_room s (mapped_size (first_space g)) (size_of p))
+    where
+      by : (b : Bool) → may_lack_memory (cond b (gives 0 (becomes g ∷ [])) (fails Nomem)) ≡ true
+      by true = refl
+      by false = refl
+
+  pub run-lacks : (place : ℕ) → place < length s.programs → exec_found s p (slice_get s.programs place) ≡ x → may_lack_memory x ≡ true
+  run-lacks place within = lack-told (slice_get s.programs place) (some-at s.programs place within)
 
 -- a call that is refused leaves all as it was
 pub after-fails : (s : TracedSystem) (pid : ℕ) (p : TracedProcess) (id : ℕ) (l : TracedLwp) (e : Errno) (x : Effect) → fails e ≡ x → s ≡ after_effect pid p id l x s

@@ -1,11 +1,11 @@
-use Rattle.std.proofs.Common.{◌≡◌, ℕ, Option, Some, None, IsSome, refl, sym, ap, ◌∙◌}
+use Rattle.std.proofs.Common.{◌≡◌, ℕ, true, Option, Some, None, IsSome, refl, sym, ap, ◌∙◌}
 use Rattle.std.specs.Option.{ForSome}
 use Rattle.std.proofs.lemmas.Option.{same_Some}
 use Rattle.pr_model.specs.State.{TracedLwp, TracedProcess, TracedSystem, live_process, lwp_of}
 use Rattle.pr_model.specs.Statuses.{arguments_in}
 use Rattle.pr_model.specs.declared.lwps.Phase.{Phase}
 use Rattle.pr_model.specs.declared.lwps.Phase.TheVariants.{Entered, Asleep}
-use Rattle.pr_call.specs.Effects.{after_effect, effect_of, outcome_of}
+use Rattle.pr_call.specs.Effects.{after_effect, effect_of, may_lack_memory, outcome_of}
 use Rattle.pr_call.specs.Requests.{request_at, request_by, request_in, request_of}
 use Rattle.pr_call.specs.declared.requests.Performed.{Performed}
 use Rattle.pr_call.specs.declared.requests.Request.{Request}
@@ -79,6 +79,12 @@ module _ (s new : TracedSystem) (pid id : ℕ) (q r : Request) (asks : request_o
   asked-outcome outcome h p found l stands =
       let o = own s pid id q asks in
       h p (ap (live_process s) o.pid_is ∙ found) l (ap (lwp_of p) o.lwp_is ∙ stands) ∙ ap (λ x. outcome_of (effect_of s p l x)) same
+
+  pub asked-memory : ForSome (live_process s q.pid) (λ p. ForSome (lwp_of p q.lwp) (λ l. may_lack_memory (effect_of s p l q) ≡ true)) → ForSome (live_process s pid) (λ p. ForSome (lwp_of p id) (λ l. may_lack_memory (effect_of s p l r) ≡ true))
+  asked-memory h p found l stands =
+      let o = own s pid id q asks in
+      ap (λ x. may_lack_memory (effect_of s p l x)) (sym same)
+      ∙ h p (ap (live_process s) o.pid_is ∙ found) l (ap (lwp_of p) o.lwp_is ∙ stands)
 
 -- it is the one that the lwp of its ids makes
 pub asked-own : (s : TracedSystem) (pid id : ℕ) (r : Request) → request_of s pid id ≡ Some r → request_of s r.pid r.lwp ≡ Some r

@@ -1,4 +1,5 @@
 use Rattle.std.specs.Prelude.{◌-◌, ℕ, Bool, true, false, List, [], ◌∷◌, Option, Some, None, length, slice_get, take}
+use Rattle.pr_num.specs.declared.errnos.Errno.TheVariants.{Nomem}
 use Rattle.pr_num.specs.declared.syscalls.Sysno.{Sysno}
 use Rattle.pr_num.specs.declared.syscalls.Sysno.TheVariants.{Fork, Write, Open, Exec, Pipe, Brk, Mmap, LwpCreate, Exit, Getpid, Getppid, Sigaction, Sigmask, Pause, Sigreturn, Time, Sleep, LwpExit, LwpSuspend, LwpContinue}
 use Rattle.pr_model.specs.CallEffects.{call_effect}
@@ -6,6 +7,7 @@ use Rattle.pr_model.specs.Changes as changes
 use Rattle.pr_model.specs.Changes.{all_changed, ended, with_disposition_of, with_held, with_suspended, resumed}
 use Rattle.pr_model.specs.Machines.{traced}
 use Rattle.pr_model.specs.State.{TracedSystem, TracedProcess, TracedLwp, with_lwp}
+use Rattle.pr_model.specs.declared.events.Res.TheVariants.{Value, Error}
 use Rattle.pr_model.specs.declared.frames.Frame.{Frame}
 use Rattle.pr_call.specs.declared.requests.Change.{Change}
 use Rattle.pr_call.specs.declared.requests.Change.TheVariants.{Held, Disposition, Resumed, Suspended}
@@ -97,6 +99,17 @@ is_plain LwpExit = true
 is_plain LwpSuspend = true
 is_plain LwpContinue = true
 is_plain _ = false
+
+-- whether a call answers a value
+abbrev pub is_granted : changes.Effect → Bool
+is_granted (changes.does (Value value) made) = true
+is_granted _ = false
+
+-- whether memory may run out in a call: it is granted, or refused because too much would be mapped (ENOMEM)
+abbrev pub may_lack_memory : changes.Effect → Bool
+may_lack_memory (changes.does (Value value) made) = true
+may_lack_memory (changes.does (Error Nomem) made) = true
+may_lack_memory _ = false
 
 -- whether a call takes memory
 abbrev pub takes_memory : Sysno → Bool

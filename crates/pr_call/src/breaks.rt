@@ -1,8 +1,8 @@
 //! brk(2).
-ghost use Rattle.std.specs.Prelude.{◌≡◌, ℕ, All, IfNone, IfOk, IsSome, OnErr, OnOk};
+ghost use Rattle.std.specs.Prelude.{◌≡◌, true, ℕ, All, IfNone, IfOk, IsSome, OnErr, OnOk};
 ghost use Rattle.std.specs.Option.{ForSome};
 ghost use Rattle.pr_call.specs.Breaks.{CanStand, break_meant};
-ghost use Rattle.pr_call.specs.Effects.{after_effect, outcome_of};
+ghost use Rattle.pr_call.specs.Effects.{after_effect, is_granted, outcome_of};
 ghost use Rattle.pr_model.specs.Lawful.{IsLawfulSystem};
 ghost use Rattle.pr_model.specs.MemoryCalls.{brk_effect};
 ghost use Rattle.pr_model.specs.State.{TracedLwp, live_process};
@@ -46,14 +46,15 @@ fn move_break(alloc: Global, space: &mut Space, end: u64) -> Result<(), NoMemory
     }
 }
 
-/// brk(2) by a live process: its break comes to an address. EINVAL, ENOMEM. Where memory runs out, the system stays as it
-/// is.
+/// brk(2) by a live process: its break comes to an address. EINVAL, ENOMEM. Memory runs out only where neither comes,
+/// and the system then stays as it is.
 #[tactic(auto, using(pr_proc::proofs::LifeLemmas::life_laws, pr_num::proofs::ByIdLaws::by_id_laws))]
 pub fn brk(alloc: Global, sys: &mut Sys, pid: u32, end: u64) -> Result<Performed, NoMemory>
     requires lawful { IsLawfulSystem sys.old }
     requires live { IsSome (live_process sys.old pid) }
     ensures system { IfOk result (λ outcome. ForSome (live_process sys.old pid) (λ p. (id : ℕ) (l : TracedLwp) → sys.new ≡ after_effect pid p id l (brk_effect sys.old p end) sys.old)) }
     ensures outcome { IfOk result (λ outcome. ForSome (live_process sys.old pid) (λ p. outcome ≡ outcome_of (brk_effect sys.old p end))) }
+    ensures memory { OnErr result (ForSome (live_process sys.old pid) (λ p. is_granted (brk_effect sys.old p end) ≡ true)) }
     ensures err { OnErr result (sys.new ≡ sys.old) }
 {
     match refusal_of(sys, live(sys, pid).unwrap(), end) {

@@ -1,7 +1,7 @@
 //! The system calls on files and pipes as an lwp of a live process makes them.
-ghost use Rattle.std.specs.Prelude.{◌≡◌, IfOk, IsSome, OnErr};
+ghost use Rattle.std.specs.Prelude.{◌≡◌, true, IfOk, IsSome, OnErr};
 ghost use Rattle.std.specs.Option.{ForSome};
-ghost use Rattle.pr_call.specs.Effects.{after_effect, outcome_of};
+ghost use Rattle.pr_call.specs.Effects.{after_effect, may_lack_memory, outcome_of};
 ghost use Rattle.pr_model.specs.FileCallRows.{close_effect, dup_effect, fstat_effect, lseek_effect, open_effect, pipe_effect};
 ghost use Rattle.pr_model.specs.Lawful.{IsLawfulSystem};
 ghost use Rattle.pr_model.specs.State.{TracedLwp, live_process};
@@ -60,7 +60,7 @@ pub fn fstat(sys: &mut Sys, pid: u32, id: u32, fd: u64, at: u64) -> Performed
     settle(sys, pid, id, answer)
 }
 
-/// open(2). EFAULT, EINVAL, ENOENT, EMFILE, ENFILE. Where memory runs out, the system stays as it is.
+/// open(2). EFAULT, EINVAL, ENOENT, EMFILE, ENFILE. Memory runs out only where none of these comes, and the system then stays as it is.
 #[tactic(auto, using(pr_proc::proofs::LifeLemmas::life_laws))]
 pub fn open(
     alloc: Global,
@@ -73,6 +73,7 @@ pub fn open(
     requires live { IsSome (live_process sys.old pid) }
     ensures system { IfOk result (λ outcome. ForSome (live_process sys.old pid) (λ p. (l : TracedLwp) → sys.new ≡ after_effect pid p id l (open_effect sys.old.files p.fds p.space at flags) sys.old)) }
     ensures outcome { IfOk result (λ outcome. ForSome (live_process sys.old pid) (λ p. outcome ≡ outcome_of (open_effect sys.old.files p.fds p.space at flags))) }
+    ensures memory { OnErr result (ForSome (live_process sys.old pid) (λ p. may_lack_memory (open_effect sys.old.files p.fds p.space at flags) ≡ true)) }
     ensures err { OnErr result (sys.new ≡ sys.old) }
 {
     let process = sys.processes.get_mut(pid);
@@ -88,12 +89,13 @@ pub fn open(
     Ok(settle(sys, pid, id, answer))
 }
 
-/// pipe(2). EFAULT, EMFILE, ENFILE. Where memory runs out, the system stays as it is.
+/// pipe(2). EFAULT, EMFILE, ENFILE. Memory runs out only where none of these comes, and the system then stays as it is.
 #[tactic(auto, using(pr_proc::proofs::LifeLemmas::life_laws))]
 pub fn pipe(alloc: Global, sys: &mut Sys, pid: u32, id: u32, at: u64) -> Result<Performed, NoMemory>
     requires live { IsSome (live_process sys.old pid) }
     ensures system { IfOk result (λ outcome. ForSome (live_process sys.old pid) (λ p. (l : TracedLwp) → sys.new ≡ after_effect pid p id l (pipe_effect sys.old.files p.fds p.space at) sys.old)) }
     ensures outcome { IfOk result (λ outcome. ForSome (live_process sys.old pid) (λ p. outcome ≡ outcome_of (pipe_effect sys.old.files p.fds p.space at))) }
+    ensures memory { OnErr result (ForSome (live_process sys.old pid) (λ p. may_lack_memory (pipe_effect sys.old.files p.fds p.space at) ≡ true)) }
     ensures err { OnErr result (sys.new ≡ sys.old) }
 {
     let process = sys.processes.get_mut(pid);

@@ -1,8 +1,8 @@
 //! mmap(2).
-ghost use Rattle.std.specs.Prelude.{◌≡◌, ◌<◌, ◌≤◌, ◌+◌, ◌^◌, ℕ, None, IfOk, IsSome, OnErr, OnOk};
+ghost use Rattle.std.specs.Prelude.{◌≡◌, ◌<◌, ◌≤◌, ◌+◌, ◌^◌, true, ℕ, None, IfOk, IsSome, OnErr, OnOk};
 ghost use Rattle.std.specs.Option.{ForSome};
 ghost use Rattle.pr_num.specs.Limits.{mapping_limit};
-ghost use Rattle.pr_call.specs.Effects.{after_effect, outcome_of};
+ghost use Rattle.pr_call.specs.Effects.{after_effect, is_granted, outcome_of};
 ghost use Rattle.pr_call.specs.Maps.{CanMap, are_bad, can_grow, place_meant};
 ghost use Rattle.pr_mem.specs.Answers.{map_refusal};
 ghost use Rattle.pr_model.specs.MemoryCalls.{mmap_effect};
@@ -73,8 +73,8 @@ fn map(alloc: Global, space: &mut Space, at: u64, len: u64, prot: u64) -> Result
     }
 }
 
-/// mmap(2) by a live process gives the address of a new mapping. EINVAL, ENOMEM. Where memory runs out, the system stays
-/// as it is.
+/// mmap(2) by a live process gives the address of a new mapping. EINVAL, ENOMEM. Memory runs out only where neither
+/// comes, and the system then stays as it is.
 #[tactic(auto, using(pr_proc::proofs::LifeLemmas::life_laws, pr_num::proofs::ByIdLaws::by_id_laws))]
 pub fn mmap(
     alloc: Global,
@@ -86,6 +86,7 @@ pub fn mmap(
     requires { IsSome (live_process sys.old pid) }
     ensures system { IfOk result (λ outcome. ForSome (live_process sys.old pid) (λ p. (id : ℕ) (l : TracedLwp) → sys.new ≡ after_effect pid p id l (mmap_effect sys.old p len prot) sys.old)) }
     ensures outcome { IfOk result (λ outcome. ForSome (live_process sys.old pid) (λ p. outcome ≡ outcome_of (mmap_effect sys.old p len prot))) }
+    ensures memory { OnErr result (ForSome (live_process sys.old pid) (λ p. is_granted (mmap_effect sys.old p len prot) ≡ true)) }
     ensures err { OnErr result (sys.new ≡ sys.old) }
 {
     match place_for(sys, live(sys, pid).unwrap(), len, prot) {

@@ -1,7 +1,7 @@
 //! fork(2) and exec(2).
-ghost use Rattle.std.specs.Prelude.{◌≡◌, ◌<◌, Some, IfOk, IsSome, OnErr, length};
+ghost use Rattle.std.specs.Prelude.{◌≡◌, ◌<◌, Some, true, IfOk, IsSome, OnErr, length};
 ghost use Rattle.std.specs.Option.{ForSome};
-ghost use Rattle.pr_call.specs.Effects.{after_effect, outcome_of};
+ghost use Rattle.pr_call.specs.Effects.{after_effect, is_granted, may_lack_memory, outcome_of};
 ghost use Rattle.pr_call.specs.Processes.{target_effect};
 ghost use Rattle.pr_call.specs.Requests.{request_of};
 ghost use Rattle.pr_model.specs.Lawful.{IsLawfulSystem};
@@ -17,8 +17,8 @@ use pr_proc::{Sys, errno_of, exec, fork, live, program_named};
 use std::alloc::Global;
 
 /// fork(2) by an lwp of a live process, which makes this call, gives the child's id. ENOTSUP: by the agent; EAGAIN: as
-/// many processes were made as can be; ENOMEM: too much would be mapped. Where memory runs out, the system stays as it
-/// is.
+/// many processes were made as can be; ENOMEM: too much would be mapped. Memory runs out only where the call is
+/// granted, and the system then stays as it is.
 #[tactic(auto, using(crate::proofs::ForkLemmas::forking))]
 pub fn fork_by(alloc: Global, sys: &mut Sys, request: &Request) -> Result<Performed, NoMemory>
     requires lawful { IsLawfulSystem sys.old }
@@ -27,6 +27,7 @@ pub fn fork_by(alloc: Global, sys: &mut Sys, request: &Request) -> Result<Perfor
     requires asked { request_of sys.old request.now.pid request.now.lwp ≡ Some request.now }
     ensures system { IfOk result (λ outcome. ForSome (live_process sys.old request.now.pid) (λ p. ForSome (lwp_of p request.now.lwp) (λ l. sys.new ≡ after_effect request.now.pid p request.now.lwp l (fork_effect sys.old p request.now.lwp request.now.args) sys.old))) }
     ensures outcome { IfOk result (λ outcome. ForSome (live_process sys.old request.now.pid) (λ p. outcome ≡ outcome_of (fork_effect sys.old p request.now.lwp request.now.args))) }
+    ensures memory { OnErr result (ForSome (live_process sys.old request.now.pid) (λ p. is_granted (fork_effect sys.old p request.now.lwp request.now.args) ≡ true)) }
     ensures err { OnErr result (sys.new ≡ sys.old) }
 {
     let pid = request.pid;
@@ -63,8 +64,8 @@ fn target(sys: &Sys, pid: u32, id: u32, at: u64) -> Result<u32, Errno>
     Ok(place)
 }
 
-/// exec(2) by an lwp of a live process, of the program that a path names. ENOMEM: too much would be mapped. Where memory
-/// runs out, the system stays as it is.
+/// exec(2) by an lwp of a live process, of the program that a path names. ENOMEM: too much would be mapped. Memory
+/// runs out only where it is found, and the system then stays as it is.
 #[tactic(auto, using(crate::proofs::ProgramLemmas::running))]
 pub fn exec_by(
     alloc: Global,
@@ -77,6 +78,7 @@ pub fn exec_by(
     requires lwp { ForSome (live_process sys.old pid) (λ p. IsSome (lwp_of p id)) }
     ensures system { IfOk result (λ outcome. ForSome (live_process sys.old pid) (λ p. ForSome (lwp_of p id) (λ l. sys.new ≡ after_effect pid p id l (exec_effect sys.old p id at) sys.old))) }
     ensures outcome { IfOk result (λ outcome. ForSome (live_process sys.old pid) (λ p. outcome ≡ outcome_of (exec_effect sys.old p id at))) }
+    ensures memory { OnErr result (ForSome (live_process sys.old pid) (λ p. may_lack_memory (exec_effect sys.old p id at) ≡ true)) }
     ensures err { OnErr result (sys.new ≡ sys.old) }
 {
     let place = match target(sys, pid, id, at) {

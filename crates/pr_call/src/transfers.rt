@@ -2,7 +2,7 @@
 ghost use Rattle.std.specs.Prelude.{◌≡◌, ◌≤◌, [], ◌∷◌, true, false, is_some, length, IfNone, IfOk, IfSome, IsSome, OnErr};
 ghost use Rattle.std.specs.Option.{ForSome};
 ghost use Rattle.pr_num.specs.Limits.{transfer_limit};
-ghost use Rattle.pr_call.specs.Effects.{after_effect, outcome_of};
+ghost use Rattle.pr_call.specs.Effects.{after_effect, may_lack_memory, outcome_of};
 ghost use Rattle.pr_call.specs.FileAnswers.{answer_meant, lacks_memory};
 ghost use Rattle.pr_model.specs.Changes.{fails, files_are, is_over, space_is};
 ghost use Rattle.pr_model.specs.FileCallRows.{file_effect, read_effect, write_effect};
@@ -151,6 +151,7 @@ fn read_into(
 fn put(alloc: Global, files: &mut Files, fds: &Fds, fd: u64, bytes: &[u8]) -> Result<u64, Refusal>
     requires { length bytes.now ≤ transfer_limit }
     ensures effect { lacks_memory result ≡ false → answer_meant result (files_are files.new fds.now ∷ []) ≡ file_effect (write_fd files.old fds.now fd bytes.now) }
+    ensures memory { lacks_memory result ≡ true → may_lack_memory (file_effect (write_fd files.old fds.now fd bytes.now)) ≡ true }
     ensures files { OnErr result (files.new ≡ files.old) }
 {
     match files.write(alloc, fds, fd, bytes) {
@@ -172,6 +173,7 @@ fn drain(
     requires writable { is_some (open_for_writing files.old fds.now fd) ≡ true }
     requires within { length buffer.old ≤ transfer_limit }
     ensures effect { lacks_memory result ≡ false → answer_meant result (files_are files.new fds.now ∷ []) ≡ write_effect files.old fds.now space.now fd at (length buffer.old) }
+    ensures memory { lacks_memory result ≡ true → may_lack_memory (write_effect files.old fds.now space.now fd at (length buffer.old)) ≡ true }
     ensures files { OnErr result (files.new ≡ files.old) }
 {
     match space.read(at, buffer, PROT_READ) {
@@ -191,6 +193,7 @@ fn write_from(
     size: u64,
 ) -> Result<u64, Refusal>
     ensures effect { lacks_memory result ≡ false → answer_meant result (files_are files.new fds.now ∷ []) ≡ write_effect files.old fds.now space.now fd at size }
+    ensures memory { lacks_memory result ≡ true → may_lack_memory (write_effect files.old fds.now space.now fd at size) ≡ true }
     ensures files { OnErr result (files.new ≡ files.old) }
 {
     if let Some(error) = write_refusal(files, fds, space, fd, at, size) {
@@ -229,8 +232,8 @@ pub fn read(sys: &mut Sys, pid: u32, id: u32, fd: u64, at: u64, size: u64) -> Pe
 }
 
 /// write(2) by an lwp of the process of an id, with the same arguments. EBADF, EINVAL, EFAULT, ENOSPC; EPIPE, and
-/// SIGPIPE, where nothing can read a pipe any more; it sleeps where a pipe has no room for all bytes. Where memory runs
-/// out, the system stays as it is.
+/// SIGPIPE, where nothing can read a pipe any more; it sleeps where a pipe has no room for all bytes. Memory
+/// runs out only where none of these comes, and the system then stays as it is.
 #[tactic(auto, using(pr_proc::proofs::LifeLemmas::life_laws))]
 pub fn write(
     alloc: Global,
@@ -244,6 +247,7 @@ pub fn write(
     requires { IsSome (live_process sys.old pid) }
     ensures system { IfOk result (λ outcome. ForSome (live_process sys.old pid) (λ p. (l : TracedLwp) → sys.new ≡ after_effect pid p id l (write_effect sys.old.files p.fds p.space fd at size) sys.old)) }
     ensures outcome { IfOk result (λ outcome. ForSome (live_process sys.old pid) (λ p. outcome ≡ outcome_of (write_effect sys.old.files p.fds p.space fd at size))) }
+    ensures memory { OnErr result (ForSome (live_process sys.old pid) (λ p. may_lack_memory (write_effect sys.old.files p.fds p.space fd at size) ≡ true)) }
     ensures err { OnErr result (sys.new ≡ sys.old) }
 {
     let process = sys.processes.get_mut(pid);

@@ -1,4 +1,5 @@
 pub mod Kernels
+pub mod Memory
 pub mod Openings
 pub mod Orders
 pub mod Soundness

@@ -7,6 +7,8 @@ ghost use Rattle.pr_model.specs.ControlMessages.{control_answer, wait_reply};
 ghost use Rattle.pr_model.specs.Lawful.{IsLawfulSystem};
 ghost use Rattle.pr_ctl.specs.Memory.{begins_in_place};
 ghost use Rattle.pr_kern.specs.Kernels.{takes_no_memory};
+ghost use Rattle.pr_kern.specs.Memory.{may_lack_memory};
+ghost use Rattle.std.specs.Option.{ForSome};
 
 use crate::Machine;
 use crate::closes::close;
@@ -70,7 +72,8 @@ pub fn ready(state: &Machine, by: u32, call: &Call) -> bool
     }
 }
 
-/// Answers a call that is ready. Where memory runs out, the state is as it was.
+/// Answers a call that is ready. Where memory runs out, the state is as it was; in a spawn it runs out only where the
+/// reply could not have been a refusal but ENOMEM.
 #[tactic(auto, using(crate::proofs::WaitLemmas::wait_laws), unfolding(pr_model::specs::Calls::answer_to))]
 pub fn answer(state: &mut Machine, alloc: Global, by: u32, call: &Call) -> Result<Reply, NoMemory>
     requires by { by < controller_limit }
@@ -80,6 +83,7 @@ pub fn answer(state: &mut Machine, alloc: Global, by: u32, call: &Call) -> Resul
     ensures ok { IfOk result (λ reply. answer_to state.old by call.now ≡ Some (record { state = state.new; reply = reply })) }
     ensures err { OnErr result (state.new ≡ state.old) }
     ensures sure { takes_no_memory call.now ≡ true → IsOk result }
+    ensures memory { OnErr result (ForSome (answer_to state.old by call.now) (λ a. may_lack_memory call.now a.reply ≡ true)) }
 {
     match call {
         Call::Open {

@@ -1,5 +1,6 @@
 //! Processes that controllers make, and the list of those that there are.
-ghost use Rattle.std.specs.Prelude.{◌≡◌, ◌<◌, IfOk, OnErr, length, slice_get};
+ghost use Rattle.std.specs.Prelude.{◌≡◌, ◌<◌, true, IfOk, OnErr, length, slice_get};
+ghost use Rattle.pr_kern.specs.Memory.{may_lack_for_process};
 ghost use Rattle.pr_model.specs.Calls.{Answer, spawn_answer, spawn_found};
 ghost use Rattle.pr_model.specs.Lawful.{IsLawfulSystem};
 ghost use Rattle.pr_model.specs.Records.{list_of};
@@ -20,6 +21,7 @@ fn spawn_at(state: &mut Machine, alloc: Global, place: u32, held: bool) -> Resul
     requires lawful { IsLawfulSystem state.old.system }
     requires program { place < length state.old.system.programs }
     ensures ok { IfOk result (λ reply. (record { state = state.new; reply = reply }) ≡ spawn_found state.old held (slice_get state.old.system.programs place)) }
+    ensures memory { OnErr result (may_lack_for_process (spawn_found state.old held (slice_get state.old.system.programs place)).reply ≡ true) }
     ensures err { OnErr result (state.new ≡ state.old) }
 {
     match make_process(alloc, &mut state.system, place, held) {
@@ -32,8 +34,8 @@ fn spawn_at(state: &mut Machine, alloc: Global, place: u32, held: bool) -> Resul
 }
 
 /// Makes a process of the program of a name, under the next id, which is the reply; `held`: it is directed to stop
-/// before it runs (ENOENT for no such program, EAGAIN, ENOMEM, in this order). Where it is refused, and where memory
-/// runs out, the state is as it was.
+/// before it runs (ENOENT for no such program, EAGAIN, ENOMEM, in this order). Memory runs out only where neither ENOENT
+/// nor EAGAIN comes; then, and where it is refused, the state is as it was.
 #[tactic(auto, unfolding(pr_model::specs::Calls::spawn_answer))]
 pub fn spawn(
     state: &mut Machine,
@@ -43,6 +45,7 @@ pub fn spawn(
 ) -> Result<Reply, NoMemory>
     requires lawful { IsLawfulSystem state.old.system }
     ensures ok { IfOk result (λ reply. (record { state = state.new; reply = reply }) ≡ spawn_answer state.old program.now held) }
+    ensures memory { OnErr result (may_lack_for_process (spawn_answer state.old program.now held).reply ≡ true) }
     ensures err { OnErr result (state.new ≡ state.old) }
 {
     match program_named(&state.system, program.as_slice()) {

@@ -1,5 +1,5 @@
 //! Histories, read from their text.
-ghost use Rattle.std.specs.Prelude.{◌+◌, ◌<◌, ◌≤◌, ◌^◌, List, length, IfOk, IfErr};
+ghost use Rattle.std.specs.Prelude.{◌≡◌, ◌+◌, ◌*◌, ◌<◌, ◌≤◌, ◌^◌, List, [], length, IfOk, IfErr};
 ghost use Rattle.pr_model.specs.declared.events.Entry.{Entry as AnyEntry};
 ghost use Rattle.pr_plain.specs.Histories.{BeginsWith, Refuses};
 ghost use Rattle.pr_plain.specs.EntryReading.{or_line, next_entry, next_heading, entries_in, history_of};
@@ -10,6 +10,7 @@ use crate::entry_readers::{entry_in, heading_in};
 use crate::pieces::Pieces;
 use crate::refusals::{HistRefusal, Refused};
 use pr_model::{Entry, History};
+use pr_num::NoMemory;
 use std::alloc::Global;
 
 /// Room is kept for one entry in so many bytes of text: the line `0 1/1 ran` has so many, its newline counted.
@@ -56,20 +57,31 @@ fn next_heading(lines: &mut Pieces<'_>, line: u32) -> Result<u64, HistRefusal>
     heading_in(bytes).ok_or(HistRefusal::Line(line))
 }
 
-/// The entries of a history of so many, in lines that count from `first`.
+/// A history without entries, and with room for so many: for no more than a text has, whatever its heading says.
+fn empty_history(alloc: Global, room: usize, text: &[u8]) -> Result<History, NoMemory>
+    requires { room * 10 ≤ length text.now }
+    ensures { IfOk result (λ h. h.entries ≡ []) }
+{
+    prove!(room <= text.len());
+    let mut history = History::new(alloc);
+    history.reserve(room)?;
+    Ok(history)
+}
+
+/// The entries of a history of so many, in lines that count from `first`; `history` has none yet.
 #[tactic(auto, using(crate::proofs::EntryLoop::entries_read))]
 fn read_entries(
     alloc: Global,
     lines: &mut Pieces<'_>,
     count: u64,
     first: u32,
-    room: usize,
+    history: History,
 ) -> Result<History, HistRefusal>
-    requires { first + length lines.old < 2 ^ 32 }
+    requires lines { first + length lines.old < 2 ^ 32 }
+    requires empty { history.entries ≡ [] }
     ensures { Answers (λ h. h.entries) result (entries_in first count 0 lines.old) }
 {
-    let mut history = History::new(alloc);
-    history.reserve(room)?;
+    let mut history = history;
     for number in 0..count {
         let entry = next_entry(alloc, lines, first + number as u32, number)?;
         history.reserve(1)?;
@@ -87,7 +99,8 @@ fn read_text(alloc: Global, text: &[u8], first_line: u32) -> Result<History, His
     let mut lines = Pieces::of(text, b'\n');
     let count = next_heading(&mut lines, first_line)?;
     let room = count.min((text.len() / BYTES_PER_ENTRY) as u64) as usize;
-    read_entries(alloc, &mut lines, count, first_line + 1, room)
+    let history = empty_history(alloc, room, text)?;
+    read_entries(alloc, &mut lines, count, first_line + 1, history)
 }
 
 /// The history that a text begins with: a heading that tells how many entries there are, and each entry on a line of its

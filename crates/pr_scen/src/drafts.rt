@@ -1,6 +1,6 @@
 //! What was read of a scenario so far, and what one line or block more makes of it.
-ghost use Rattle.std.specs.Prelude.{◌≡◌, ◌≤◌, ◌<◌, ◌++◌, ◌^◌, None, length, option_map, slice_get, IfSome, OnOk, nat_le, replicate};
-ghost use Rattle.pr_num.specs.Limits.{mapping_limit, program_limit};
+ghost use Rattle.std.specs.Prelude.{◌≡◌, ◌+◌, ◌≤◌, ◌<◌, ◌++◌, ◌^◌, None, length, option_map, slice_get, IfSome, OnOk, nat_le, replicate};
+ghost use Rattle.pr_num.specs.Limits.{mapping_limit, program_limit, schedule_limit};
 ghost use Rattle.pr_text.specs.Reads.{Gives};
 ghost use Rattle.pr_model.specs.FirstState.{first_size};
 ghost use Rattle.pr_scen.specs.Drafts.{nothing, with_turns, with_file, with_process, with_spawn, with_controller, has_program, knows_program, with_truss, with_schedule, with_item, may_begin, with_program, with_line, call_added, script_line_added, with_script, made};
@@ -359,8 +359,9 @@ fn put_times(schedule: &mut Table<Actor>, actor: Actor, times: u64) -> Result<()
     Ok(())
 }
 
-/// Adds the actors of turns.
+/// Adds the actors of turns. They were counted before, so that the schedule never grows past its limit.
 fn put_turns(schedule: &mut Table<Actor>, turns: &[Turns]) -> Result<(), NoMemory>
+    requires { length schedule.old + turn_count turns.now ≤ schedule_limit }
     ensures { OnOk result (schedule.new ≡ schedule.old ++ actors_of turns.now) }
 {
     for t in turns {

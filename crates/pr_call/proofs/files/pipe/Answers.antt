@@ -1,5 +1,5 @@
 use Rattle.std.proofs.Common.{◌∙◌, sym}
-use Rattle.pr_call.proofs.OpenLemmas.{pipe-done, pipe-fds, pipe-files, pipe-refused}
+use Rattle.pr_call.proofs.OpenLemmas.{pipe-done, pipe-fds, pipe-files, pipe-lacks, pipe-refused}
 use Rattle.pr_call.proofs.files.pipe.Goals as goal
 
 pub returns-in-Ok-clause-effect : goal.returns-in-Ok-clause-effect
@@ -15,3 +15,7 @@ returns-in-Err-clause-files c = pipe-files _ _ _ _ _ c.in-Err.ensures
 
 pub returns-in-Err-clause-fds : goal.returns-in-Err-clause-fds
 returns-in-Err-clause-fds c = pipe-fds _ _ _ _ _ c.in-Err.ensures
+
+pub returns-in-Err-clause-memory : goal.returns-in-Err-clause-memory
+returns-in-Err-clause-memory c lacks =
+    pipe-lacks _ _ _ _ _ _ (sym c.can_write.ensures ∙ c.if-not-can_write.false) _ c.in-Err.ensures lacks

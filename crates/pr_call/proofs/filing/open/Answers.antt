@@ -1,11 +1,13 @@
-use Rattle.std.proofs.Common.{◌≡◌, ℕ, Result, OnErr, [], ◌∷◌, refl, ap, subst, sym, ◌∙◌}
+use Rattle.std.proofs.Common.{◌≡◌, ℕ, true, Result, OnErr, [], ◌∷◌, refl, ap, subst, sym, ◌∙◌}
+use Rattle.std.specs.Option.{ForSome}
 use Rattle.pr_num.specs.Files.{Descriptors}
 use Rattle.pr_num.specs.Spaces.{Space}
 use Rattle.pr_model.specs.Changes.{files_are}
 use Rattle.pr_model.specs.FileCallRows.{open_effect}
-use Rattle.pr_call.proofs.FilingLemmas.{done-outcome, files-done, lacking-kept, live-put, on_err, on_err_refl}
-use Rattle.pr_call.specs.Effects.{outcome_of}
+use Rattle.pr_call.proofs.FilingLemmas.{done-outcome, files-done, found-live, lacking-kept, live-put, on_err, on_err_refl}
+use Rattle.pr_call.specs.Effects.{may_lack_memory, outcome_of}
 use Rattle.pr_call.specs.FileAnswers.{answer_meant}
+use Rattle.pr_model.specs.State.{TracedProcess, live_process}
 use Rattle.pr_call.specs.declared.answers.Refusal.{Refusal}
 use Rattle.pr_call.proofs.filing.open.Goals as goal
 
@@ -27,3 +29,8 @@ returns-clause-outcome c p found =
 pub returns-in_err-answer-clause-err : goal.returns-in_err-answer-clause-err
 returns-in_err-answer-clause-err c =
     on_err _ (lacking-kept c.args.sys.now c.args.pid _ c.open-answer.result c.open-answer.new.files c.open-answer.new.fds c.get_mut-process.result.now.space (sym c.in_err-answer.ensures.lacks) c.get_mut-process.ensures.value c.open-answer.ensures.files c.open-answer.ensures.fds (on_err_refl c.open-answer.result _))
+
+pub returns-in_err-answer-clause-memory : goal.returns-in_err-answer-clause-memory
+returns-in_err-answer-clause-memory c =
+    let told : ForSome (live_process c.args.sys.now c.args.pid) (λ p. may_lack_memory (open_effect c.args.sys.now.files p.fds p.space c.args.at c.args.flags) ≡ true) = λ p found. subst (λ (x : TracedProcess). may_lack_memory (open_effect c.args.sys.now.files x.fds x.space c.args.at c.args.flags) ≡ true) (found-live c.args.sys.now c.args.pid _ p c.get_mut-process.ensures.value found) (c.open-answer.ensures.memory (sym c.in_err-answer.ensures.lacks)) in
+    on_err _ told

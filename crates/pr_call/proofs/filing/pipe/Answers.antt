@@ -1,11 +1,13 @@
-use Rattle.std.proofs.Common.{◌≡◌, ℕ, Result, OnErr, [], ◌∷◌, refl, ap, subst, sym, ◌∙◌}
+use Rattle.std.proofs.Common.{◌≡◌, ℕ, true, Result, OnErr, [], ◌∷◌, refl, ap, subst, sym, ◌∙◌}
+use Rattle.std.specs.Option.{ForSome}
 use Rattle.pr_num.specs.Files.{Descriptors}
 use Rattle.pr_num.specs.Spaces.{Space}
 use Rattle.pr_model.specs.Changes.{files_are, space_is}
 use Rattle.pr_model.specs.FileCallRows.{pipe_effect}
-use Rattle.pr_call.proofs.FilingLemmas.{both-done, done-outcome, lacking-kept, live-put, on_err}
-use Rattle.pr_call.specs.Effects.{outcome_of}
+use Rattle.pr_call.proofs.FilingLemmas.{both-done, done-outcome, found-live, lacking-kept, live-put, on_err}
+use Rattle.pr_call.specs.Effects.{may_lack_memory, outcome_of}
 use Rattle.pr_call.specs.FileAnswers.{answer_meant}
+use Rattle.pr_model.specs.State.{TracedProcess, live_process}
 use Rattle.pr_call.specs.declared.answers.Refusal.{Refusal}
 use Rattle.pr_call.proofs.filing.pipe.Goals as goal
 
@@ -27,3 +29,8 @@ returns-clause-outcome c p found =
 pub returns-in_err-answer-clause-err : goal.returns-in_err-answer-clause-err
 returns-in_err-answer-clause-err c =
     on_err _ (lacking-kept c.args.sys.now c.args.pid _ c.pipe-answer.result c.pipe-answer.new.files c.pipe-answer.new.fds c.pipe-answer.new.space (sym c.in_err-answer.ensures.lacks) c.get_mut-process.ensures.value c.pipe-answer.ensures.files c.pipe-answer.ensures.fds c.pipe-answer.ensures.space)
+
+pub returns-in_err-answer-clause-memory : goal.returns-in_err-answer-clause-memory
+returns-in_err-answer-clause-memory c =
+    let told : ForSome (live_process c.args.sys.now c.args.pid) (λ p. may_lack_memory (pipe_effect c.args.sys.now.files p.fds p.space c.args.at) ≡ true) = λ p found. subst (λ (x : TracedProcess). may_lack_memory (pipe_effect c.args.sys.now.files x.fds x.space c.args.at) ≡ true) (found-live c.args.sys.now c.args.pid _ p c.get_mut-process.ensures.value found) (c.pipe-answer.ensures.memory (sym c.in_err-answer.ensures.lacks)) in
+    on_err _ told

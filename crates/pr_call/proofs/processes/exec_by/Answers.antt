@@ -1,6 +1,11 @@
+use Rattle.std.proofs.Common.{◌≡◌, true}
+use Rattle.std.specs.Option.{ForSome}
+use Rattle.pr_model.specs.State.{live_process}
+use Rattle.pr_call.specs.Effects.{may_lack_memory}
 use Rattle.pr_model.specs.ProcessCalls.{exec_effect}
 use Rattle.pr_proc.specs.Refusals.{exec_refusal}
-use Rattle.pr_call.proofs.ProgramLemmas.{run-system, run-outcome, refuse-system, refuse-outcome}
+use Rattle.pr_call.proofs.FilingLemmas.{on_err}
+use Rattle.pr_call.proofs.ProgramLemmas.{run-lacks, run-system, run-outcome, refuse-system, refuse-outcome}
 use Rattle.pr_call.proofs.processes.exec_by.Goals as goal
 
 pub returns-in-Ok-exec-clause-system : goal.returns-in-Ok-exec-clause-system
@@ -18,3 +23,8 @@ returns-in_ok-error-in-Err-exec-clause-system c p found l stands =
 pub returns-in_ok-error-in-Err-exec-clause-outcome : goal.returns-in_ok-error-in-Err-exec-clause-outcome
 returns-in_ok-error-in-Err-exec-clause-outcome c p found =
     refuse-outcome c.args.sys.now p (exec_effect c.args.sys.now p c.args.id c.args.at) c.in-Ok.place c.in_ok-error-in-Err-exec.error c.in-Ok.ensures.within (c.in-Ok.ensures.effect p found) (λ g at. c.in_ok-error-in-Err-exec.ensures.ok (exec_refusal c.args.sys.now p g) (c.in-Err-exec.ensures.refused p found g at))
+
+pub returns-in_err-error-in-Err-exec-clause-memory : goal.returns-in_err-error-in-Err-exec-clause-memory
+returns-in_err-error-in-Err-exec-clause-memory c =
+    let told : ForSome (live_process c.args.sys.now c.args.pid) (λ p. may_lack_memory (exec_effect c.args.sys.now p c.args.id c.args.at) ≡ true) = λ p found. run-lacks c.args.sys.now p (exec_effect c.args.sys.now p c.args.id c.args.at) c.in-Ok.place c.in-Ok.ensures.within (c.in-Ok.ensures.effect p found) in
+    on_err _ told

@@ -1,3 +1,4 @@
+use Rattle.pr_call.proofs.FileKeptLemmas.{lacking-file}
 use Rattle.pr_call.proofs.TransferLemmas.{put-done, put-files, put-refused}
 use Rattle.pr_call.proofs.transfers.put.Goals as goal
 
@@ -9,3 +10,6 @@ returns-in-Err-clause-effect c some = put-refused c.args.files.now c.args.fds.no
 
 pub returns-in-Err-clause-files : goal.returns-in-Err-clause-files
 returns-in-Err-clause-files c = put-files c.args.files.now c.args.fds.now c.write.new.self c.args.fd c.args.bytes.now c.in-Err.why c.in-Err.ensures
+
+pub returns-in-Err-clause-memory : goal.returns-in-Err-clause-memory
+returns-in-Err-clause-memory c lacks = lacking-file c.args.files.now c.args.fds.now c.write.new.self c.args.fds.now _ c.in-Err.why c.in-Err.ensures lacks
