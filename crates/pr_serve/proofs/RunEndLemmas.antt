@@ -18,7 +18,7 @@ use Rattle.pr_serve.specs.Answers.{Answer, RunText, answer_of, answer_to, end_st
 use Rattle.pr_serve.specs.Ends.{EndsAs}
 use Rattle.pr_serve.specs.Histories.{HistoryIsKept, IsAfterMoves, RanOutEarly, in_rounds}
 use Rattle.pr_serve.specs.Inputs.{Took, scenario_of_input, taken_of}
-use Rattle.pr_serve.specs.Rows.{Ends, EndsRounds, GivesOne, IsThe, OneRanOut, RanOutAfter, RanOutReading, Reads}
+use Rattle.pr_serve.specs.Rows.{Ends, EndsRounds, GivesOne, IsThe, OneRanOut, RanOutAfter, RanOutReading, Reads, TellsEnd}
 use Rattle.pr_serve.specs.Statuses.{IsWhole}
 use Rattle.pr_serve.specs.declared.outcomes.Status.{Status}
 use Rattle.pr_serve.specs.declared.outcomes.Status.TheVariants.{Done, Usage, Refused, Spent, Stuck, ReadFailed, WriteFailed, OutOfMemory, NotLegal}
@@ -91,17 +91,18 @@ run_ended : (s : Scenario) → EndsAs s.turns (run_of s) (end_status (end_of (ru
 unfolding end_of
 run_ended s = ended (first_world s) s.turns (first-told s) (first-fresh s) (next_actor (run_of s)) refl
 
-run_given : (text : RunText) (s : Result Scenario ScenFault) (status : Status) → (IsWhole status → status ≡ (answer_of text s).status) → IfOk s (λ scenario. IsWhole status → EndsAs scenario.turns (run_of scenario) status)
+run_given : (text : RunText) (s : Result Scenario ScenFault) (status : Status) → (IsWhole status → status ≡ (answer_of text s).status) → IfOk s (λ scenario. TellsEnd scenario (answer_of text s) status)
 unfolding answer_of ran ran_so
 run_given text (Err fault) status is = tt
-run_given text (Ok s) status is = λ whole. subst (EndsAs s.turns (run_of s)) (sym (is whole)) (run_ended s)
+run_given text (Ok s) status is =
+    record { given = λ whole. subst (EndsAs s.turns (run_of s)) (sym (is whole)) (run_ended s); answered = run_ended s }
 
 runs-told : (text : RunText) (left : Option (List ℕ)) (status : Status) (h : List Entry) (w v : Option (List ℕ)) → (IsWhole status → IfSome left (λ input. GivesOne (IsThe (answer_to text) (taken_of scenario_limit input)) status h w v))
-    → EndsRounds left status
+    → EndsRounds text left status
 unfolding answer_to
 runs-told text None status h w v answers = tt
 runs-told text (Some left) status h w v answers = run_given text (scenario_of_input (taken_of scenario_limit left)) status (λ whole. let one = answers whole in one.given.status_is ∙ ap (λ (a : Answer). a.status) one.may)
 
 pub runs-scenario : (text : RunText) (old new : Ends) (status : Status) (h : List Entry) → Reads scenario_limit (IsThe (answer_to text)) in_rounds old new status h
-    → EndsRounds old.left status
+    → EndsRounds text old.left status
 runs-scenario text old new status h r = runs-told text old.left status h old.written new.written r.answers

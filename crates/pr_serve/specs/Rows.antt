@@ -6,7 +6,7 @@ use Rattle.pr_model.specs.declared.events.Entry.{Entry}
 use Rattle.pr_num.specs.Limits.{checked_limit, scenario_limit}
 use Rattle.pr_run_laws.specs.ScenarioRuns.{first_state_of, run_of}
 use Rattle.pr_scen.specs.Scenarios.{Scenario}
-use Rattle.pr_serve.specs.Answers.{Answer, MayAnswer, answer_to, check_of, explained, generated, judged, plain_shown, run_shown}
+use Rattle.pr_serve.specs.Answers.{Answer, MayAnswer, RunText, answer_to, check_of, explained, generated, judged, plain_shown, run_shown}
 use Rattle.pr_serve.specs.Checks.{checked_of_input}
 use Rattle.pr_serve.specs.Ends.{EndsAs}
 use Rattle.pr_serve.specs.Giving.{IsGiven, IsCutShort, RanOutLate, Responds}
@@ -163,16 +163,22 @@ pub record IsJudged (s : Scenario) (entries : List Entry) (old new : Ends) (stat
   pub judges : Judges (length s.controllers) (first_state_of s) entries first
   pub given : IsGiven (judged (length entries) first) status history old.written new.written
 
+-- The status of an answer that was given whole says how the run of the scenario ended, and so does that of the answer
+-- itself, also where its text was cut short by a write that failed or for memory, or never begun.
+pub record TellsEnd (s : Scenario) (answer : Answer) (status : Status) : Type 0 where
+  pub given : IsWhole status → EndsAs s.turns (run_of s) status
+  pub answered : EndsAs s.turns (run_of s) answer.status
+
 -- An input that is a scenario: its run is made in rounds, and the status says how that ended.
-abbrev pub EndsRounds : Option (List ℕ) → Status → Type 0
-EndsRounds left status =
-    IfSome left (λ input. IfOk (scenario_of_input (taken_of scenario_limit input)) (λ scenario. IsWhole status → EndsAs scenario.turns (run_of scenario) status))
+abbrev pub EndsRounds : RunText → Option (List ℕ) → Status → Type 0
+EndsRounds text left status =
+    IfSome left (λ input. IfOk (scenario_of_input (taken_of scenario_limit input)) (λ scenario. TellsEnd scenario (answer_to text (taken_of scenario_limit input)) status))
 
 -- What is done of an input, unless a read or a write failed or memory ran out: one that is a scenario is run, and the
 -- status says how that ended; one that is a scenario and a history is judged.
 abbrev pub DoesWork : Work → Ends → Ends → Status → List Entry → Type 0
-DoesWork (Runs showing) old new status history = EndsRounds old.left status
-DoesWork Strips old new status history = EndsRounds old.left status
+DoesWork (Runs showing) old new status history = EndsRounds (run_shown showing) old.left status
+DoesWork Strips old new status history = EndsRounds plain_shown old.left status
 DoesWork (Shares showing workers) old new status history =
     IfSome old.left (λ left. IfOk (scenario_of_input (taken_of scenario_limit left)) (λ scenario. IsWhole status → EndsRun scenario status history))
 DoesWork Checks old new status history =
