@@ -1,0 +1,50 @@
+"""What the tests of this folder share: which program they run, how a run is measured, and the count of what passed."""
+import os
+import subprocess
+import sys
+import tempfile
+
+TOP = os.path.dirname(os.path.dirname(os.path.abspath(__file__)))
+PROVED = os.path.join(TOP, "crates/proclab/out/proclab")
+
+
+class Ran:
+    """A run that has ended: its status, what it wrote, its seconds, and the most memory that it had, in KiB."""
+
+    def __init__(self, process, measured):
+        self.status = process.returncode
+        self.out = process.stdout
+        self.err = process.stderr
+        seconds, memory = measured.split()[-2:]
+        self.seconds = float(seconds)
+        self.memory = int(memory)
+
+
+def run(program, words, data, seconds=120):
+    """A run with this input, or None where it does not end in time."""
+    with tempfile.NamedTemporaryFile() as measured, tempfile.TemporaryFile() as source:
+        source.write(data)
+        source.seek(0)
+        command = ["/usr/bin/time", "-q", "-f", "%e %M", "-o", measured.name, program] + words
+        try:
+            process = subprocess.run(command, stdin=source, capture_output=True, timeout=seconds)
+        except subprocess.TimeoutExpired:
+            return None
+        return Ran(process, measured.read())
+
+
+class Checks:
+    """Counts checks, and prints those that fail, or all of them with what they measured."""
+
+    def __init__(self):
+        self.passed = self.failed = 0
+
+    def check(self, what, wrong, figures=""):
+        """One check: it passed where nothing is wrong."""
+        self.passed, self.failed = (self.passed, self.failed + 1) if wrong else (self.passed + 1, self.failed)
+        if wrong or figures:
+            print("%s: %s" % (what, ", ".join(part for part in [figures, wrong and "WRONG: " + wrong] if part)), flush=True)
+
+    def end(self):
+        print("%d passed, %d failed" % (self.passed, self.failed))
+        sys.exit(1 if self.failed else 0)

@@ -1,0 +1,199 @@
+#!/usr/bin/env python3
+"""Rivals: random scenarios in which two to six controllers (scripts, trusses, tools) open the same processes, stop,
+run and kill them and interrupt one another. Each is run by `run` and by `run -j 1`, `-j 4` and `-j 16`, and what was
+written is handed to `check`. A run passes where it ends within the given seconds with status 0, 3 or 4, writes
+nothing to standard error, and its history is legal to the last entry.
+
+A scenario is made of its seed alone. What fails is printed with its seed, and `--seed SEED --count 1` runs it again;
+`--show SEED` prints the scenario. With `--minutes M` it goes on to new seeds for so long. The last line is
+'N passed, M failed'; before it stand the figures of all runs.
+"""
+import argparse
+import collections
+import concurrent.futures
+import os
+import random
+import re
+import subprocess
+import sys
+import time
+
+TOP = os.path.dirname(os.path.dirname(os.path.abspath(__file__)))
+
+# Short programs that fork, sleep, wait for one another, send themselves signals, make lwps, and incur faults.
+PROGRAMS = {
+    "loop": "again:/sys getpid/jmp again",
+    "forks": "set r5, 1/set r4, 3/again:/sys fork/jz r0, child/set r1, 0/sys wait/sub r4, r5/jnz r4, again/set r1, 0"
+             "/sys exit/child:/sys getppid/set r1, 3/sys exit",
+    "pipes": "space ends, 16/space got, 16/set r1, ends/sys pipe/sys fork/set r6, ends/set r2, got/set r3, 4/jz r0, child"
+             "/ld r1, r6, 0/sys read/set r1, 0/sys wait/set r1, 0/sys exit/child:/ld r1, r6, 8/sys write/set r1, 1/sys exit",
+    "catches": "set r1, 16/set r2, handler/sys sigaction/set r1, 2/sys sigaction/set r5, 1/set r4, 3/again:/sys getpid"
+               "/mov r1, r0/set r2, 16/sys kill/sub r4, r5/jnz r4, again/sys pause/set r1, 0/sys exit/handler:/sys sigreturn",
+    "sleeps": "set r1, 5/sys sleep/set r1, 2/sys sleep/sys pause/set r1, 0/sys exit",
+    "lwps": "set r1, other/set r2, 0x700800/sys lwp_create/set r1, other/set r2, 0x700c00/sys lwp_create/mov r1, r0"
+            "/sys lwp_suspend/sys lwp_continue/sys getpid/sys lwp_exit/other:/sys getpid/set r1, 2/sys sleep/sys lwp_exit",
+    "faults": "set r1, 5/set r2, handler/sys sigaction/bpt/nop/set r1, 1/set r2, 0/div r1, r2/handler:/sys sigreturn",
+    "stops": "sys getpid/mov r4, r0/mov r1, r4/set r2, 24/sys kill/mov r1, r4/set r2, 34/set r3, 7/sys sigqueue"
+             "/set r1, 0/sys exit",
+}
+CALLS = ["exit", "fork", "read", "write", "wait", "getpid", "kill", "pause", "sleep", "lwp_create", "sigqueue"]
+SIGNALS = ["HUP", "INT", "TERM", "USR1", "CLD", "TSTP", "CONT", "TRAP", "STOP", "RT1"]
+FAULTS = ["FLTBPT", "FLTIZDIV", "FLTTRACE", "FLTWATCH", "FLTACCESS"]
+TOOLS = ["pflags", "psig", "pstack", "pmap", "pfiles", "pstop", "prun", "pwait"]
+READS = ["status", "lstatus", "psinfo", "map", "usage", "as", "sigact", "watch", "fds"]
+PIDS = [1, 1, 1, 2, 2, 3, 4]
+
+
+def some(rng, names):
+    return "+".join(rng.sample(names, rng.randint(1, 3)))
+
+
+def message(rng):
+    """A control message, as a script has it; those that stop and run come more often."""
+    number = rng.choice([2, 9, 15, 16, 18, 23, 24, 25, 33])
+    return rng.choices([
+        rng.choice(["stop", "dstop", "wstop", "stop", "dstop"]),
+        "run " + " ".join(rng.sample(["prcsig", "prcfault", "prstep", "prsabort", "prstop"], rng.choice([0, 0, 0, 1, 2]))),
+        "twstop %d" % rng.choice([1, 2, 10]),
+        rng.choice(["strace ", "shold "]) + rng.choice(["none", "all", some(rng, SIGNALS)]),
+        rng.choice(["sentry ", "sexit "]) + rng.choice(["none", "all", some(rng, CALLS)]),
+        "sfault " + rng.choice(["none", "all", some(rng, FAULTS)]),
+        rng.choice(["ssig", "kill", "unkill"]) + " %d" % number,
+        rng.choice(["set ", "unset "]) + some(rng, ["fork", "rlc", "klc", "async"]),
+        rng.choice(["csig", "cfault", "svaddr 0x10000", "agent 0 0 0 0 0 0 0 0 0x701000 0 0x10000"]),
+        rng.choice(["watch 0x80000 8 %d", "watch 0x10010 16 %d"]) % rng.choice([0, 1, 2, 4, 12]),
+        rng.choice(["read 0x80000 16", "write 0x80008 00ff", "raw 0500000000000000", "sreg 1 2 3 4 5 6 7 8 9 10 0x10000"]),
+    ], [8, 8, 2, 3, 4, 2, 2, 3, 1, 2, 1])[0].strip()
+
+
+def script_line(rng, controllers):
+    pid = rng.choice(PIDS)
+    return rng.choices([
+        "open c %d ctl %s" % (pid, rng.choice(["w", "w", "wx"])),
+        "open %s %d %s r" % (rng.choice("st"), pid, rng.choice(READS)),
+        "open l %d/%d %s" % (pid, rng.randint(1, 3), rng.choice(["lwpctl w", "lwpstatus r"])),
+        "write %s %s" % (rng.choice("cccl"), " ".join(message(rng) for _ in range(rng.choice([1, 1, 2, 3])))),
+        "read %s %d %d" % (rng.choice("stl"), rng.choice([0, 0, 104, 0x80000]), rng.choice([1, 344, 4096])),
+        "poll " + " ".join(rng.sample("cslt", rng.randint(1, 3))),
+        "interrupt %d" % rng.randrange(controllers),
+        "kill %d %d" % (pid, rng.choice([0, 2, 9, 15, 16, 18, 23, 25, 33])),
+        "spawn %s%s" % (rng.choice(list(PROGRAMS)), rng.choice(["", " held"])),
+        "until %d" % rng.randint(0, 12),
+        "list",
+        "close " + rng.choice("cstl"),
+    ], [5, 3, 2, 12, 4, 2, 3, 2, 1, 2, 1, 3])[0]
+
+
+def truss_line(rng):
+    words = [word for word in ["-f", "-c", "-l"] if rng.random() < 0.4]
+    words += rng.choice([[], ["-t", some(rng, CALLS)], ["-t", "!" + some(rng, CALLS)]])
+    words += rng.choice([[], ["-s", "!CLD"], ["-m", some(rng, FAULTS)]])
+    pids = "+".join(str(pid) for pid in sorted({rng.choice(PIDS) for _ in range(rng.randint(1, 3))}))
+    return " ".join(["truss"] + words + rng.choice([[rng.choice(list(PROGRAMS))], ["-p", pids], ["-p", pids]]))
+
+
+def controller(rng, controllers):
+    kind = rng.choice(["script", "script", "script", "truss", "truss", "tool"])
+    if kind == "truss":
+        return [truss_line(rng)]
+    if kind == "tool":
+        return [rng.choice(["tool ptree"] + ["tool %s %d" % (rng.choice(TOOLS), rng.choice(PIDS)) for _ in range(8)])]
+    lines = [script_line(rng, controllers) for _ in range(rng.randint(2, 25))]
+    return ["script", "open c %d ctl w" % rng.choice(PIDS)] + lines + ["end"]
+
+
+def scenario(seed):
+    rng = random.Random(seed)
+    lines = ["turns %d" % rng.choice([100, 400, 1000, 3000])]
+    for name, text in PROGRAMS.items():
+        lines += ["program " + name] + text.split("/") + ["end"]
+    lines += ["spawn " + rng.choice(list(PROGRAMS)) for _ in range(rng.randint(1, 3))]
+    controllers = rng.randint(2, 6)
+    for _ in range(controllers):
+        lines += controller(rng, controllers)
+    actors = ["c%d" % k for k in range(controllers)] + ["1/1", "1/1", "2/1", "1/2", "clock"]
+    for _ in range(rng.choice([0, 1, 2])):
+        lines.append("schedule " + " ".join("%s*%d" % (rng.choice(actors), rng.randint(1, 9)) for _ in range(8)))
+    return "\n".join(lines) + "\n"
+
+
+def proclab(program, words, text, seconds):
+    return subprocess.run([program] + words, input=text.encode(), capture_output=True, timeout=seconds)
+
+
+def judged(program, words, text, seconds):
+    """How a run and the judgement of its history went: what is wrong or None, its status, and what it wrote."""
+    try:
+        ran = proclab(program, words, text, seconds)
+        if ran.returncode not in (0, 3, 4) or ran.stderr:
+            return "status %d, %r, %r" % (ran.returncode, ran.stdout[:80], ran.stderr[:80]), ran.returncode, ""
+        out = ran.stdout.decode("ascii")
+        entries = re.match(r"history (\d+)\n", out).group(1)
+        verdict = proclab(program, ["check"], text + "%history\n" + out, 10 * seconds).stdout.decode("ascii")
+    except subprocess.TimeoutExpired as late:
+        return "no end within %d seconds: %s" % (late.timeout, late.cmd[1:]), None, ""
+    wrong = None if verdict == "legal %s\n" % entries else "check says %r of %s entries" % (verdict, entries)
+    return wrong, ran.returncode, out
+
+
+def try_seed(seed, options):
+    """What each way of running the scenario of a seed gave."""
+    text = scenario(seed)
+    ways = ([["run"]] if options.one else []) + [["run", "-j", n] for n in options.workers.split(",")]
+    return seed, [(words, judged(options.program, words, text, options.seconds)) for words in ways]
+
+
+def seeds(options):
+    end = time.monotonic() + 60 * options.minutes
+    seed = options.seed
+    while seed < options.seed + options.count or time.monotonic() < end:
+        yield seed
+        seed += 1
+
+
+def main():
+    parser = argparse.ArgumentParser(description=__doc__, formatter_class=argparse.RawDescriptionHelpFormatter)
+    parser.add_argument("--program", default=os.path.join(TOP, "crates/proclab/out/proclab"))
+    parser.add_argument("--seed", type=int, help="the first seed; by default the moment")
+    parser.add_argument("--count", type=int, default=500, help="how many scenarios")
+    parser.add_argument("--minutes", type=float, default=0, help="go on for at least so long")
+    parser.add_argument("--workers", default="1,4,16", help="the numbers after -j")
+    parser.add_argument("--no-run", dest="one", action="store_false", help="no run without -j")
+    parser.add_argument("--seconds", type=float, default=10, help="how long a run may take")
+    parser.add_argument("--show", type=int, metavar="SEED", help="print the scenario of a seed")
+    options = parser.parse_args()
+    if options.show is not None:
+        sys.stdout.write(scenario(options.show))
+        return 0
+    if options.seed is None:
+        options.seed = int(time.time())
+    print("seeds from %d on" % options.seed, flush=True)
+    statuses, refusals = collections.Counter(), collections.Counter()
+    scenarios = passed = failed = entries = 0
+    with concurrent.futures.ThreadPoolExecutor(os.cpu_count()) as pool:
+        waiting = collections.deque()
+        coming = seeds(options)
+        while True:
+            while len(waiting) < 2 * os.cpu_count() and (seed := next(coming, None)) is not None:
+                waiting.append(pool.submit(try_seed, seed, options))
+            if not waiting:
+                break
+            seed, results = waiting.popleft().result()
+            scenarios += 1
+            if scenarios % 500 == 0:
+                print("%d scenarios, %d runs passed, %d failed" % (scenarios, passed, failed), flush=True)
+            for words, (wrong, status, out) in results:
+                statuses[status] += 1
+                entries += int(out[8:out.index("\n")]) if out else 0
+                refusals.update(re.findall(r"-> fail (E\w+)", out))
+                passed, failed = (passed + 1, failed) if wrong is None else (passed, failed + 1)
+                if wrong is not None:
+                    print("seed %d, %s: %s" % (seed, " ".join(words), wrong), flush=True)
+    print("%d scenarios, %d entries; statuses %s; refused calls of controllers %s"
+          % (scenarios, entries, dict(statuses), dict(refusals.most_common())))
+    print("%d passed, %d failed" % (passed, failed))
+    return 1 if failed else 0
+
+
+if __name__ == "__main__":
+    sys.exit(main())
