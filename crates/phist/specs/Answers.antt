@@ -1,0 +1,69 @@
+-- What the program answers to an input, where nothing fails.
+use Rattle.std.specs.Prelude.{◌≡◌, ◌≤◌, ◌⊎◌, ℕ, List, [], Option, Some, None, Result, Ok, Err, codes, length}
+use Rattle.pr_hist.specs.Entries.{text_of}
+use Rattle.pr_hist.specs.Selections.{selected_text}
+use Rattle.pr_io.specs.Reading.{ReadsAll, CameAbove}
+use Rattle.pr_model.specs.declared.events.Entry.{Entry}
+use Rattle.pr_output.specs.Output.{refusal_text}
+use Rattle.pr_plain.specs.EntryReading.{history_of}
+use Rattle.phist.specs.declared.statuses.Status.{Status}
+use Rattle.phist.specs.declared.statuses.Status.TheVariants.{Done, Refused, Usage}
+use Rattle.phist.specs.declared.words.Work.{Work}
+use Rattle.phist.specs.declared.words.Work.TheVariants.{Tells, Selects, Explains}
+
+-- the status, and what is written
+pub record Answered : Type 0 where
+  pub status : Status
+  pub text : List ℕ
+
+-- the input is refused, at a line for a reason
+unfoldable pub refused_at : ℕ → List ℕ → Answered
+refused_at line kind = record { status = Refused; text = refusal_text line kind }
+
+-- what is told of a history: all of it, or a part
+unfoldable pub told_text : Work → List Entry → List ℕ
+told_text Tells es = text_of es
+told_text (Selects s) es = selected_text s es
+told_text Explains es = []
+
+-- the history is told in words
+unfoldable pub told : Work → List Entry → Answered
+told work es = record { status = Done; text = told_text work es }
+
+-- the answer to a history that was read, or to the first line that is wrong
+abbrev pub answer_of : Work → Result (List Entry) ℕ → Answered
+answer_of work (Err line) = refused_at line (codes "BadHistory")
+answer_of work (Ok es) = told work es
+
+-- The answer to an input; none: it had more bytes than it may have, for which line 0 stands. The lines of the input
+-- count from 1.
+unfoldable pub answer_to : Work → Option (List ℕ) → Answered
+answer_to work None = refused_at 0 (codes "TooLong")
+answer_to work (Some text) = answer_of work (history_of 1 text)
+
+-- how the program is called
+unfoldable pub usage_line : List ℕ
+usage_line = codes "usage: phist [-p PID | -c K | -l P/L] [-n FROM-TO]\n"
+
+unfoldable pub explained : Answered
+explained = record { status = Usage; text = usage_line }
+
+-- All that was left was read, and it is no more than an input may have.
+pub record TookAll (limit : ℕ) (old new : Option (List ℕ)) (input : List ℕ) : Type 0 where
+  pub read : ReadsAll old new input
+  pub within : length input ≤ limit
+
+-- All that was left was read, or, where there is no input, more than it may have.
+abbrev pub Took : ℕ → Option (List ℕ) → Option (List ℕ) → Option (List ℕ) → Type 0
+Took limit old new None = CameAbove limit old new
+Took limit old new (Some input) = TookAll limit old new input
+
+-- The answer to what was read.
+pub record Answers (work : Work) (limit : ℕ) (old new : Option (List ℕ)) (answer : Answered) : Type 0 where
+  pub input : Option (List ℕ)
+  pub took : Took limit old new input
+  pub is : answer ≡ answer_to work input
+
+-- the status of an answer to an input
+abbrev pub IsAnswerStatus : Status → Type 0
+IsAnswerStatus status = (status ≡ Done) ⊎ (status ≡ Refused)

@@ -1,0 +1,102 @@
+//! What is answered to an input.
+ghost use Rattle.std.specs.Prelude.{◌≡◌, ◌≢◌, ◌≤◌, Err, ◌+◌, ◌<◌, ◌^◌, ◌++◌, codes, length, IfOk, IfSome, OnOk};
+ghost use Rattle.pr_num.specs.Limits.{checked_limit};
+ghost use Rattle.pr_output.specs.Output.{refusal_text};
+ghost use Rattle.pr_plain.specs.EntryReading.{history_of};
+ghost use Rattle.phist.specs.Answers.{IsAnswerStatus, answer_of, answer_to, refused_at, told, told_text};
+
+use crate::inputs::Unread;
+use crate::statuses::Status;
+use crate::words::Work;
+use pr_hist::{Text, selected_text, text_of};
+use pr_model::History;
+use pr_num::{Bytes, NoMemory};
+use pr_plain::{HistRefusal, read_history};
+use std::alloc::Global;
+
+/// A status, and what is written.
+#[derive(Drop)]
+pub struct Answer {
+    pub status: Status,
+    pub text: Bytes,
+}
+
+/// The line of a refusal.
+#[tactic(auto, unfolding(pr_output::specs::Output::refusal_text))]
+fn write_refusal(text: &mut Text, line: u32, kind: &[u8]) -> Result<(), NoMemory>
+    ensures { OnOk result (text.new ≡ text.old ++ refusal_text line kind.now) }
+{
+    text.text(b"line ")?;
+    text.decimal(u64::from(line))?;
+    text.text(b": ")?;
+    text.text(kind)?;
+    text.text(b"\n")
+}
+
+/// The input is refused, at a line for a reason.
+#[tactic(auto, unfolding(crate::specs::Answers::refused_at))]
+fn refuse(alloc: Global, line: u32, kind: &[u8]) -> Result<Answer, NoMemory>
+    ensures answer { IfOk result (λ a. record { status = a.status; text = a.text } ≡ refused_at line kind.now) }
+    ensures status { IfOk result (λ a. IsAnswerStatus a.status) }
+{
+    let mut text = Text::new(alloc)?;
+    write_refusal(&mut text, line, kind)?;
+    Ok(Answer {
+        status: Status::Refused,
+        text: text.into_bytes(),
+    })
+}
+
+/// What is told of a history.
+#[tactic(auto, unfolding(crate::specs::Answers::told_text))]
+fn told_text(alloc: Global, work: Work, history: &History) -> Result<Bytes, NoMemory>
+    ensures { IfOk result (λ text. text ≡ told_text work history.now.entries) }
+{
+    match work {
+        Work::Tells => text_of(alloc, history),
+        Work::Selects(selection) => selected_text(alloc, selection, history),
+        Work::Explains => Ok(Bytes::new(alloc)),
+    }
+}
+
+/// The history in words.
+#[tactic(auto, unfolding(crate::specs::Answers::told))]
+fn tell(alloc: Global, work: Work, history: &History) -> Result<Answer, NoMemory>
+    ensures answer { IfOk result (λ a. record { status = a.status; text = a.text } ≡ told work history.now.entries) }
+    ensures status { IfOk result (λ a. IsAnswerStatus a.status) }
+{
+    let text = told_text(alloc, work, history)?;
+    Ok(Answer {
+        status: Status::Done,
+        text,
+    })
+}
+
+/// The answer to a text.
+fn answer_to_text(alloc: Global, work: Work, text: &[u8]) -> Result<Answer, Unread>
+    requires { length text.now ≤ checked_limit }
+    ensures memory { result ≢ Err Unread.Failed }
+    ensures status { IfOk result (λ a. IsAnswerStatus a.status) }
+    ensures answer { IfOk result (λ a.
+        record { status = a.status; text = a.text } ≡ answer_of work (history_of 1 text.now)) }
+{
+    match read_history(alloc, text, 1) {
+        Ok(history) => Ok(tell(alloc, work, &history)?),
+        Err(HistRefusal::Line(line)) => Ok(refuse(alloc, line, b"BadHistory")?),
+        Err(HistRefusal::NoMemory) => Err(Unread::NoMemory),
+    }
+}
+
+/// The answer to an input.
+#[tactic(auto, unfolding(crate::specs::Answers::answer_to))]
+pub fn answer_to(alloc: Global, work: Work, input: Option<Bytes>) -> Result<Answer, Unread>
+    requires { IfSome input (λ bytes. length bytes ≤ checked_limit) }
+    ensures memory { result ≢ Err Unread.Failed }
+    ensures status { IfOk result (λ a. IsAnswerStatus a.status) }
+    ensures answer { IfOk result (λ a. record { status = a.status; text = a.text } ≡ answer_to work input) }
+{
+    match input {
+        None => Ok(refuse(alloc, 0, b"TooLong")?),
+        Some(bytes) => answer_to_text(alloc, work, bytes.as_slice()),
+    }
+}

@@ -1,0 +1,60 @@
+//! The program `phist`: it reads the history that `proclab run` writes, and tells it in words.
+#![tactic(auto)]
+
+mod answers;
+mod inputs;
+mod statuses;
+mod telling;
+mod words;
+
+ghost use Rattle.std.specs.Prelude.{◌≡◌, ◌≢◌, drop, map, string_bytes, IfOk, IfErr, IsErr};
+ghost use Rattle.std.specs.IoError.{error_kind};
+ghost use Rattle.std.specs.Vec.Iter.{into_iter_items};
+ghost use Rattle.phist.specs.Words.{work_of};
+ghost use Rattle.std.specs.declared.io.ErrorKind.TheVariants.{OutOfMemory};
+
+use crate::statuses::{Status, number};
+use crate::telling::serve;
+use crate::words::{Work, work_of};
+use pr_io::{StdSink, StdSource};
+use std::alloc::{AllocError, Global};
+use std::env::Args;
+use std::io::ErrorKind;
+use std::process::ExitCode;
+use std::{env, io};
+
+// The words after the program's name, in their order.
+fn words_after_name(alloc: Global, arguments: Args) -> Result<Vec<String>, AllocError>
+    ensures { IfOk result (λ words. words.items ≡ drop 1 (into_iter_items arguments)) }
+{
+    arguments.skip(1).collect(alloc)
+}
+
+// What a program is asked for that was given these arguments, or was not for this error. An argument that is no text
+// asks for nothing.
+fn work_for(alloc: Global, given: io::Result<Args>) -> io::Result<Work>
+    ensures words { IfOk given (λ arguments.
+        IfOk result (λ work. work ≡ work_of (map string_bytes (drop 1 (into_iter_items arguments))))) }
+    ensures no_text { IfErr given (λ error.
+        error_kind error ≢ OutOfMemory → IfOk result (λ work. work ≡ Work.Explains)) }
+    ensures ran_out { IfErr given (λ error. error_kind error ≡ OutOfMemory → IsErr result) }
+    ensures memory { IfErr result (λ error. error_kind error ≡ OutOfMemory) }
+{
+    match given {
+        Ok(arguments) => {
+            let words = words_after_name(alloc, arguments)?;
+            Ok(work_of(&words))
+        }
+        Err(error) if error.kind() == ErrorKind::OutOfMemory => Err(error),
+        Err(_) => Ok(Work::Explains),
+    }
+}
+
+fn main(rt: HostRuntime) -> ExitCode {
+    let Ok(work) = work_for(rt.alloc(), env::args(&rt)) else {
+        return ExitCode::from(number(Status::OutOfMemory));
+    };
+    let mut source = StdSource::new(rt.stdin());
+    let mut sink = StdSink::new(rt.stdout());
+    ExitCode::from(number(serve(rt.alloc(), work, &mut source, &mut sink)))
+}

@@ -1,0 +1,86 @@
+//! A history, told from the source to the sink.
+ghost use Rattle.std.specs.Prelude.{◌≡◌, ◌≢◌, Err, IfOk};
+ghost use Rattle.pr_io.specs.Faults.{Rose};
+ghost use Rattle.pr_io.specs.Reading.{CameWithin};
+ghost use Rattle.pr_num.specs.Limits.{checked_limit};
+ghost use Rattle.phist.specs.Answers.{Answers, IsAnswerStatus, usage_line};
+ghost use Rattle.phist.specs.Telling.{EndsAs, Gives, IsExplained, TellsHistory, ends_of};
+
+use crate::answers::{Answer, answer_to};
+use crate::inputs::{Unread, take_input};
+use crate::statuses::Status;
+use crate::words::Work;
+use pr_io::{Sink, Source, write_all};
+use std::alloc::Global;
+
+/// How the program is called.
+#[tactic(auto, unfolding(crate::specs::Answers::usage_line))]
+fn usage_line() -> &'static [u8]
+    ensures { result.now ≡ usage_line }
+{
+    b"usage: phist [-p PID | -c K | -l P/L] [-n FROM-TO]\n"
+}
+
+/// Writes a text, and ends with a status. Takes no memory.
+fn put<K: Sink>(sink: &mut K, text: &[u8], status: Status) -> Status
+    requires { status ≢ Status.WriteFailed }
+    ensures given { Gives (record { status = status; text = text.now }) (K.written sink.old) (K.written sink.new)
+        (K.faults sink.old) (K.faults sink.new) result }
+    ensures status { result ≢ Status.WriteFailed → result ≡ status }
+{
+    match write_all(sink, text) {
+        Ok(()) => status,
+        Err(_) => Status::WriteFailed,
+    }
+}
+
+/// The answer to what the source has.
+fn answer_source<S: Source>(alloc: Global, work: Work, source: &mut S) -> Result<Answer, Unread>
+    ensures answer { IfOk result (λ a. Answers work checked_limit (S.left source.old) (S.left source.new)
+        (record { status = a.status; text = a.text })) }
+    ensures status { IfOk result (λ a. IsAnswerStatus a.status) }
+    ensures failed { result ≡ Err Unread.Failed → Rose (S.faults source.old) (S.faults source.new) }
+    ensures failed_within { result ≡ Err Unread.Failed
+        → CameWithin checked_limit (S.left source.old) (S.left source.new) }
+    ensures no_fault { result ≢ Err Unread.Failed → S.faults source.new ≡ S.faults source.old }
+{
+    let input = take_input(alloc, source)?;
+    answer_to(alloc, work, input)
+}
+
+/// Tells the history of the source in words, or names the first line that is wrong.
+fn tell<S: Source, K: Sink>(alloc: Global, work: Work, source: &mut S, sink: &mut K) -> Status
+    ensures { TellsHistory work (ends_of S.left S.faults K.written K.faults source.old sink.old)
+        (ends_of S.left S.faults K.written K.faults source.new sink.new) result }
+{
+    match answer_source(alloc, work, source) {
+        Ok(answer) => put(sink, answer.text.as_slice(), answer.status),
+        Err(Unread::Failed) => Status::ReadFailed,
+        Err(Unread::NoMemory) => Status::OutOfMemory,
+    }
+}
+
+/// Writes how the program is called.
+#[tactic(auto, unfolding(crate::specs::Answers::explained))]
+fn explain<S: Source, K: Sink>(source: &mut S, sink: &mut K) -> Status
+    ensures { IsExplained (ends_of S.left S.faults K.written K.faults source.old sink.old)
+        (ends_of S.left S.faults K.written K.faults source.new sink.new) result }
+{
+    let _ = source;
+    put(sink, usage_line(), Status::Usage)
+}
+
+/// Tells the history of the source in words, all of it or a part, or writes how the program is called.
+///
+/// Status 0: it was told, a block for each entry, in their order. Status 1: the words ask for nothing. Status 2: the
+/// first line that is wrong was named. Status 5, 6 and 7: a read or a write failed, or memory ran out.
+pub fn serve<S: Source, K: Sink>(alloc: Global, work: Work, source: &mut S, sink: &mut K) -> Status
+    ensures { EndsAs work (ends_of S.left S.faults K.written K.faults source.old sink.old)
+        (ends_of S.left S.faults K.written K.faults source.new sink.new) result }
+{
+    match work {
+        Work::Tells => tell(alloc, work, source, sink),
+        Work::Selects(_) => tell(alloc, work, source, sink),
+        Work::Explains => explain(source, sink),
+    }
+}

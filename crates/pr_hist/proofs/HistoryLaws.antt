@@ -1,0 +1,55 @@
+-- Histories in words grow by a block an entry, and handles are named while they are open.
+use Rattle.std.proofs.Common.{◌≡◌, ℕ, ◌+◌, List, [], ◌∷◌, ◌++◌, length, refl, sym, ap, ◌∙◌, append_assoc, arith}
+use Rattle.std.proofs.lemmas.List.{append-nil}
+use Rattle.pr_num.specs.ById.{IsRising, without_id}
+use Rattle.pr_num.proofs.ByIdLaws.{under-inserted, under-inserted_other, under-without_id, under-without_id_other}
+use Rattle.pr_model.specs.declared.calls.File.{File}
+use Rattle.pr_model.specs.declared.calls.Mode.{Mode}
+use Rattle.pr_model.specs.declared.events.Entry.{Entry}
+use Rattle.pr_hist.specs.Entries.{blocks, text_of, words_of}
+use Rattle.pr_hist.specs.Laws.{NamesClosed, NamesOpened, names_behind}
+use Rattle.pr_hist.specs.Names.{Names, closed, named, names_after, names_beyond, opened}
+
+-- the blocks of one entry more
+blocks-end : (n : ℕ) (names : Names) (es : List Entry) (e : Entry)
+    → blocks n names (es ++ e ∷ []) ≡ blocks n names es ++ words_of (n + length es) (names_behind names es) e
+unfolding blocks names_behind
+blocks-end n names [] e =
+    append-nil (words_of n names e) ∙ ap (λ k. words_of k names e) {x = n} {y = n + 0} (omega arith)
+blocks-end n names (d ∷ es) e =
+    ap (λ t. words_of n names d ++ t) (blocks-end (n + 1) (names_beyond names d.act) es e)
+    ∙ sym (append_assoc (words_of n names d) (blocks (n + 1) (names_beyond names d.act) es)
+    (words_of (n + 1 + length es) (names_behind (names_beyond names d.act) es) e))
+    ∙ ap (λ k. words_of n names d ++ blocks (n + 1) (names_beyond names d.act) es
+    ++ words_of k (names_behind (names_beyond names d.act) es) e)
+    {x = n + 1 + length es} {y = n + length (d ∷ es)} (omega arith)
+
+pub text_of-none : text_of [] ≡ []
+unfolding blocks
+text_of-none = refl
+
+pub text_of-end : (es : List Entry) (e : Entry)
+    → text_of (es ++ e ∷ []) ≡ text_of es ++ words_of (length es) (names_behind [] es) e
+text_of-end es e =
+    blocks-end 0 [] es e ∙ ap (λ k. text_of es ++ words_of k (names_behind [] es) e)
+    {x = 0 + length es} {y = length es} (omega arith)
+
+pub opens-named : (names : Names) (pid lwp : ℕ) (file : File) (mode : Mode) (h : ℕ)
+    → NamesOpened names pid lwp file mode h
+unfolding names_after opened named
+opens-named names pid lwp file mode h = record {
+  its_own = under-inserted h (record { pid = pid; lwp = lwp; file = file; mode = mode }) (without_id h names);
+  others = λ other apart.
+      under-inserted_other h other (record { pid = pid; lwp = lwp; file = file; mode = mode }) apart
+      (without_id h names)
+      ∙ under-without_id_other h other apart names;
+}
+
+pub closes-named : (names : Names) (h : ℕ) → IsRising names → NamesClosed names h
+unfolding names_after closed
+closes-named names h rising = record {
+  its_own = under-without_id 0 h names rising;
+  others = λ other apart. under-without_id_other h other apart names;
+}
+
+pub ruleset growing_text = (text_of-none, text_of-end)

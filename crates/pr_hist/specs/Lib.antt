@@ -1,0 +1,15 @@
+pub mod Calls
+pub mod Entries
+pub mod Fields
+pub mod Flags
+pub mod Laws
+pub mod Messages
+pub mod Names
+pub mod Phrases
+pub mod Records
+pub mod Refusals
+pub mod Selections
+pub mod Sets
+pub mod Texts
+pub mod Turns
+pub mod Values

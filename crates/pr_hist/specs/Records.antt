@@ -1,0 +1,51 @@
+-- What was read of a file: a record field by field, or bytes.
+use Rattle.std.specs.Prelude.{ℕ, zero, suc, ◌==◌, ◌+◌, ◌-◌, ◌*◌, ◌/◌, ◌%◌, ◌&&◌, ◌||◌, not, Bool, true, false, List, [], ◌++◌, codes, drop, length, if◌then◌else◌}
+use Rattle.pr_num.specs.Messages.{nth_word}
+use Rattle.pr_hist.specs.Fields.{field_kind, field_name, starts_record}
+use Rattle.pr_hist.specs.Texts.{bytes_text}
+use Rattle.pr_hist.specs.Values.{says_something, value_text}
+use Rattle.pr_hist.specs.declared.fields.Kind.{Kind}
+use Rattle.pr_hist.specs.declared.fields.Layout.{Layout}
+use Rattle.pr_hist.specs.declared.fields.Layout.TheVariants.{Raw}
+
+-- a field by name, where its word says something
+unfoldable pub field_text : List ℕ → Kind → ℕ → ℕ → List ℕ → List ℕ
+field_text name kind before w bytes =
+    if says_something kind w then codes " " ++ (name ++ (value_text kind before w bytes ++ codes ";")) else []
+
+-- the line on which a record stands
+unfoldable pub line_start : Bool → List ℕ
+line_start first = if first then codes "\n   " else []
+
+-- the word before the one at a place
+unfoldable pub word_before : List ℕ → ℕ → ℕ
+word_before bytes i = if i == 0 then 0 else nth_word bytes (i - 1)
+
+-- the word at a place of what was read, which begins with the word `from` of its file
+unfoldable pub word_text : Layout → ℕ → List ℕ → ℕ → List ℕ
+word_text layout from bytes i =
+    line_start (i == 0 || starts_record layout (from + i))
+    ++ field_text (field_name layout (from + i)) (field_kind layout (from + i))
+    (word_before bytes i) (nth_word bytes i) (drop (8 * i) bytes)
+
+-- the words at the places below one
+unfoldable pub words_text : Layout → ℕ → List ℕ → ℕ → List ℕ
+words_text layout from bytes zero = []
+words_text layout from bytes (suc i) = words_text layout from bytes i ++ word_text layout from bytes i
+
+-- bytes on a line of their own
+unfoldable pub raw_text : List ℕ → List ℕ
+raw_text bytes = if length bytes == 0 then [] else codes "\n    " ++ bytes_text bytes
+
+-- whether what was read is told field by field: whole words of a record
+abbrev pub is_raw : Layout → Bool
+is_raw Raw = true
+is_raw _ = false
+
+unfoldable pub has_fields : Layout → ℕ → List ℕ → Bool
+has_fields layout at bytes = not (is_raw layout) && (at % 8 == 0 && length bytes % 8 == 0)
+
+-- what was read of a file from a byte on
+unfoldable pub record_text : Layout → ℕ → List ℕ → List ℕ
+record_text layout at bytes =
+    if has_fields layout at bytes then words_text layout (at / 8) bytes (length bytes / 8) else raw_text bytes

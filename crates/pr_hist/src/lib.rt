@@ -1,0 +1,27 @@
+//! Histories in words: each entry is told as users of truss(1) and proc(4) would tell it.
+#![tactic(auto)]
+
+mod calls;
+mod entries;
+mod fields;
+mod flags;
+mod histories;
+mod laws;
+mod messages;
+mod names;
+mod phrases;
+mod records;
+mod refusals;
+mod replies;
+mod selections;
+mod sets;
+mod texts;
+mod turns;
+mod values;
+
+pub use entries::words_of;
+pub use histories::{selected_text, text_of};
+pub use laws::{a_text_grows_by_a_block, handles_are_named_while_open};
+pub use names::Known;
+pub use selections::{Selection, Who};
+pub use texts::Text;
