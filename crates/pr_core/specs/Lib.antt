@@ -1,0 +1,10 @@
+pub mod CoreBytes
+pub mod CoreRanges
+pub mod CoreReading
+pub mod CoreText
+pub mod CoreTools
+pub mod Cores
+pub mod GcoreStages
+pub mod Gcores
+pub mod Sections
+pub mod Snapshots
