@@ -17,8 +17,10 @@ pub mod OwnSteps
 pub mod PollSteps
 pub mod Positions
 pub mod RunSteps
+pub mod ShownTallies
 pub mod StandLemmas
 pub mod Standing
 pub mod StatusSteps
+pub mod Tallies
 pub mod TextSteps
 pub mod UnreadLaws

@@ -7,4 +7,6 @@ pub mod Watching
 pub mod UnopenedChildren
 pub mod FollowedChildren
 pub mod NewbornChildren
+pub mod Reading
 pub mod Releasing
+pub mod SeenChildren

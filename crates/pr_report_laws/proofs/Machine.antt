@@ -4,6 +4,7 @@ pub mod ControlLaws
 pub mod ControlSteps
 pub mod EventStopLemmas
 pub mod EventTurns
+pub mod EventOwners
 pub mod ForkRows
 pub mod ForkTurns
 pub mod FrameLaws
@@ -16,6 +17,7 @@ pub mod OwnTurnLaws
 pub mod PollLaws
 pub mod RecordLaws
 pub mod RunLaws
+pub mod SelectedPoints
 pub mod SettingLaws
 pub mod StayingLwps
 pub mod StoppedLaws

@@ -3,6 +3,7 @@ pub mod Carries
 pub mod Elsewhere
 pub mod Leaving
 pub mod Moves
+pub mod NewStops
 pub mod NextStages
 pub mod OpeningCalls
 pub mod OpeningParts
@@ -12,7 +13,7 @@ pub mod OwnLooks
 pub mod OwnOpens
 pub mod OwnRuns
 pub mod Places
-pub mod ShownGrows
+pub mod ShownReads
 pub mod StageChanges
 pub mod StageReplies
 pub mod StopsOver

@@ -10,3 +10,4 @@ pub mod ClaimRuns
 pub mod ClaimStands
 pub mod ClaimSteps
 pub mod Claims
+pub mod LeftChildren

@@ -1,5 +1,4 @@
-use Rattle.std.specs.Prelude.{◌≡◌, ◌≢◌, ◌<◌, ℕ, true, List, [], ◌∷◌, ◌++◌, Option, Some, None, All, length, map, option_and_then, slice_get, take}
-use Rattle.std.specs.List.{cons_option}
+use Rattle.std.specs.Prelude.{◌≡◌, ◌≢◌, ◌<◌, ℕ, true, List, [], ◌∷◌, ◌++◌, Option, Some, All, length, map, option_and_then, slice_get, take}
 use Rattle.pr_model.specs.Replies.{bytes_in, handle_in}
 use Rattle.pr_model.specs.declared.calls.Call.{Call}
 use Rattle.pr_model.specs.declared.calls.Call.TheVariants as call
@@ -14,7 +13,7 @@ use Rattle.pr_truss.specs.Trusses.{TrussState, traced_at}
 use Rattle.pr_truss.specs.declared.reports.Report.{Report}
 use Rattle.pr_truss.specs.declared.reports.Report.TheVariants.{CannotTrace}
 use Rattle.pr_truss.specs.declared.stages.Stage.TheVariants.{ReadingStatus}
-use Rattle.pr_truss_laws.specs.Exchanges.{Exchange, IsGranted, calls_in}
+use Rattle.pr_truss_laws.specs.Exchanges.{Exchange, IsGranted, calls_in, with_opened_by}
 use Rattle.pr_truss_laws.specs.Given.{reply_at}
 use Rattle.pr_report_laws.specs.Attachments.{child_calls}
 
@@ -34,16 +33,6 @@ pub record ReadsFork (t : TrussState) (r : Reply) (place child : ℕ) : Type 0 w
   pub made : child_of lwp ≡ Some child
 
 -- ---- what comes after the child
-
--- the handle that an open gave
-abbrev pub opened_by : Call → Reply → Option ℕ
-opened_by (call.Open pid id file mode) r = Some (handle_in r)
-opened_by _ r = None
-
--- the handles that these exchanges opened, the last one first, and then these
-abbrev pub with_opened_by : List ℕ → List Exchange → List ℕ
-with_opened_by handles [] = handles
-with_opened_by handles (x ∷ xs) = with_opened_by (cons_option (opened_by x.call x.reply) handles) xs
 
 -- These calls come next, in this order. Where the exchanges end before, the first of the others is due.
 abbrev pub ComeNext : Option Call → List Call → List Exchange → Type 0

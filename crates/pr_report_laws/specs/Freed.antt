@@ -1,5 +1,4 @@
-use Rattle.std.specs.Prelude.{◌≡◌, ◌≢◌, ◌≤◌, ℕ, false, List, [], ◌∷◌, ◌++◌, Option, Some, None, length, map, slice_get}
-use Rattle.std.specs.List.{cons_option}
+use Rattle.std.specs.Prelude.{◌≡◌, ◌≢◌, ◌≤◌, ℕ, false, List, ◌∷◌, ◌++◌, Option, Some, None, length, map, slice_get}
 use Rattle.pr_model.specs.Replies.{bytes_in, handle_in}
 use Rattle.pr_model.specs.declared.calls.Call.{Call}
 use Rattle.pr_model.specs.declared.calls.Call.TheVariants as call
@@ -20,6 +19,7 @@ use Rattle.pr_truss.specs.declared.reports.Report.TheVariants.{CannotTrace}
 use Rattle.pr_truss.specs.declared.stages.Stage.TheVariants.{ReadingLwps}
 use Rattle.pr_truss_laws.specs.Exchanges.{Exchange, errno_in}
 use Rattle.pr_truss_laws.specs.Given.{reply_at}
+use Rattle.pr_truss_laws.specs.Handles.{handles_of}
 use Rattle.pr_report_laws.specs.Follows.{ComeNext}
 
 -- What becomes of the child of a fork that truss(1) reads while it leaves a process, by its exchanges, its reports and
@@ -39,10 +39,6 @@ pub record ReadsLastFork (t : TrussState) (r : Reply) (child : ℕ) : Type 0 whe
   pub made : child_of lwp ≡ Some child
 
 -- ---- the calls
-
--- the handles of a process; the file that was opened last comes first
-abbrev pub handles_of : Traced → List ℕ
-handles_of t = cons_option t.memory (cons_option t.lstatus (cons_option t.status (t.control ∷ [])))
 
 -- its files are closed
 abbrev pub closing_calls : Traced → List Call

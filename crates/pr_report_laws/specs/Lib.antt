@@ -1,10 +1,17 @@
+pub mod AtBirth
 pub mod Attachments
 pub mod Births
 pub mod Follows
 pub mod Freed
+pub mod Grips
+pub mod Lineages
 pub mod Memories
+pub mod Named
 pub mod Newborn
+pub mod Reads
 pub mod Releases
 pub mod Reported
+pub mod SeenTo
 pub mod Shown
+pub mod Unfollowed
 pub mod Watching

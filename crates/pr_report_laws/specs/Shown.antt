@@ -1,4 +1,4 @@
-use Rattle.std.specs.Prelude.{◌==◌, ℕ, List, Option, Some, None, option_and_then, option_map, if◌then◌else◌}
+use Rattle.std.specs.Prelude.{◌==◌, ℕ, Bool, List, Option, Some, None, option_and_then, option_map, if◌then◌else◌}
 use Rattle.std.specs.List.{filter_map}
 use Rattle.pr_line.specs.Events.{event_of}
 use Rattle.pr_line.specs.Selections.{is_selected}
@@ -36,17 +36,21 @@ event_reported pid (report.Event of l text) = if of == pid then event_told l els
 unfoldable pub shown : ℕ → TrussState → List LwpEvent
 shown pid t = filter_map (event_reported pid) (all_reports t)
 
--- ---- selected
+-- ---- what is picked of a log
 
--- an event, if the options select it
-abbrev pub if_selected : Options → Event → Option Event
-if_selected o e = if is_selected o e then Some e else None
+-- an event, if it is one of those that are picked
+abbrev pub if_picked : (Event → Bool) → Event → Option Event
+if_picked picks e = if picks e then Some e else None
 
--- a logged event of a process, if it is told and the options select it
-unfoldable pub event_selected : Options → ℕ → Logged → Option LwpEvent
-event_selected o pid l =
-    if l.pid == pid then option_map (λ e. record { id = l.id; event = e }) (option_and_then (if_selected o) (told l.event)) else None
+-- a logged event of a process, if it is told and picked
+unfoldable pub event_picked : (Event → Bool) → ℕ → Logged → Option LwpEvent
+event_picked picks pid l =
+    if l.pid == pid then option_map (λ e. record { id = l.id; event = e }) (option_and_then (if_picked picks) (told l.event)) else None
 
--- of logged events those that the options select, of one process
-unfoldable pub selected : Options → ℕ → List Logged → List LwpEvent
-selected o pid logged = filter_map (event_selected o pid) logged
+-- of logged events those that are picked, of one process
+unfoldable pub picked : (Event → Bool) → ℕ → List Logged → List LwpEvent
+picked picks pid logged = filter_map (event_picked picks pid) logged
+
+-- those that the options select
+abbrev pub selected : Options → ℕ → List Logged → List LwpEvent
+selected o pid logged = picked (is_selected o) pid logged

@@ -3,24 +3,47 @@
 #![tactic(auto)]
 
 mod attachments;
+mod children;
 mod follows;
+mod grips;
+mod lineages;
 mod memories;
+mod named;
 mod newborns;
+mod reads;
 mod releases;
 mod reports;
+mod unfollowing;
 
 pub use attachments::{
     a_watched_process_is_let_go_for_a_reason, an_opened_process_is_watched,
     no_process_is_watched_at_first_or_at_last, only_an_opened_process_is_watched,
 };
+pub use children::no_child_is_left;
 pub use follows::{
     each_child_that_was_read_is_handled, each_child_that_was_read_while_leaving_is_set_free,
     no_freeing_of_a_child_is_interrupted, no_opening_of_a_child_is_interrupted,
 };
+pub use grips::{the_grip_of_a_process_is_the_watch_of_it, truss_gets_hold_of_a_process_once};
+pub use lineages::{
+    a_child_that_is_left_to_truss_does_nothing_before_it_is_watched,
+    each_process_is_left_to_truss_where_all_children_are,
+    the_grip_of_a_child_that_is_left_to_truss_is_the_watch_of_it,
+    the_text_of_an_event_is_that_of_its_moment_where_it_is_left_to_truss,
+    the_text_of_an_event_is_that_of_its_moment_where_truss_follows_at_the_birth,
+    truss_reads_the_traced_events_of_what_is_left_to_it,
+    truss_shows_the_selected_events_of_what_is_left_to_it,
+    truss_shows_the_selected_events_of_what_it_follows_at_its_birth,
+    what_is_left_to_truss_is_followed_at_its_birth, what_is_left_to_truss_was_left_to_it_before,
+};
 pub use memories::{
     the_text_of_an_event_is_that_of_its_moment, the_text_of_an_event_is_what_stood_in_memory,
 };
+pub use named::what_a_poll_named_is_run_or_closed_within_twelve_calls;
 pub use newborns::{a_followed_child_does_nothing_before_it_is_watched, no_process_is_made_twice};
+pub use reads::{
+    truss_reads_the_traced_events, truss_reads_the_traced_events_of_what_it_never_followed,
+};
 pub use releases::{
     the_modes_stay_as_truss_has_set_them, truss_is_granted_the_modes,
     truss_kills_nothing_that_it_closes, truss_sets_the_modes_of_what_it_sets_free,
@@ -30,3 +53,4 @@ pub use releases::{
 pub use reports::{
     truss_shows_the_selected_events, truss_shows_the_selected_events_of_what_it_never_followed,
 };
+pub use unfollowing::a_process_is_unfollowed_before_it_is_left;

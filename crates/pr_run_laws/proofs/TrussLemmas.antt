@@ -3,6 +3,10 @@ use Rattle.std.proofs.lemmas.Bool.{eqb-true, eqb-false, false≢true}
 use Rattle.std.proofs.lemmas.List.{append-nil}
 use Rattle.std.specs.List.{All, cons_option, slice_get}
 use Rattle.std.specs.Option.{option_and_then}
+use Rattle.pr_report_laws.proofs.Watching.Unfollowing.{left-unfollowed}
+use Rattle.pr_report_laws.specs.Shown.{LwpEvent}
+use Rattle.pr_report_laws.specs.Reported.{IsKilled, IsMissed, IsReported}
+use Rattle.pr_line.specs.Selections.{is_selected}
 use Rattle.pr_api.specs.Entries.{turn_entry}
 use Rattle.pr_line.specs.declared.options.Options.{Options}
 use Rattle.pr_model.specs.Handles.{handle_of, is_control, own}
@@ -22,21 +26,22 @@ use Rattle.pr_reached.specs.ByteHistories.{HasBytes}
 use Rattle.pr_reached.specs.Reached.{IsReached}
 use Rattle.pr_report_laws.proofs.Watching.BeginLaws.{finished-watches-none, followed-watches, opened-watches}
 use Rattle.pr_report_laws.proofs.Watching.BeginsOnlyLaws.{watched-opened}
-use Rattle.pr_report_laws.proofs.UnopenedChildren.Births.{births-report, unfollowed-report}
+use Rattle.pr_report_laws.proofs.UnopenedChildren.Births.{left-report, unfollowed-report}
 use Rattle.pr_report_laws.proofs.Watching.EndLaws.{watched-let}
-use Rattle.pr_report_laws.proofs.Memory.EventMemory.{left-memories, unfollowed-memories}
+use Rattle.pr_report_laws.proofs.Memory.EventMemory.{lineage-memories, unfollowed-memories}
+use Rattle.pr_report_laws.proofs.Reading.ReadLaws.{lineage-reads, unfollowed-reads}
+use Rattle.pr_report_laws.proofs.UnopenedChildren.LeftChildren.{left-front}
 use Rattle.pr_report_laws.proofs.Files.FileLaws.{HasFiles, IsFileOf}
 use Rattle.pr_report_laws.proofs.Files.FileUses.{freed-file}
 use Rattle.pr_report_laws.proofs.FollowedChildren.FollowCalm.{never-kept, never-left}
 use Rattle.pr_report_laws.proofs.FollowedChildren.FollowLaws.{read-followed}
 use Rattle.pr_report_laws.proofs.FollowedChildren.FreedLaws.{read-freed}
 use Rattle.pr_report_laws.proofs.Memory.MemoryReads.{read-texts}
-use Rattle.pr_report_laws.proofs.NewbornChildren.NewbornLaws.{followed-forked, followed-rests, followed-silent, followed-unstarted}
+use Rattle.pr_report_laws.proofs.NewbornChildren.NewbornLaws.{left-forked, left-rests, left-silent, left-unstarted}
 use Rattle.pr_report_laws.proofs.Releasing.ReleaseLaws.{freed-set, set-stays, traced-set}
 use Rattle.pr_report_laws.proofs.Releasing.ReleaseSteps.{truss-releases}
 use Rattle.pr_report_laws.proofs.Files.WatchHistories.{exchanges-both, makes-front, makes-rest, run-reaches}
 use Rattle.pr_tool_laws.proofs.WholeLemmas.{front-bytes, front-legal}
-use Rattle.pr_report_laws.specs.Births.{LeavesForks, NamesNoChild, granted}
 use Rattle.pr_report_laws.specs.Attachments.{HasFollowed, HasOpened, IsLetGo}
 use Rattle.pr_report_laws.specs.Releases.{modes_set, released}
 use Rattle.pr_report_laws.specs.Watching.{watches}
@@ -46,15 +51,18 @@ use Rattle.pr_truss.specs.Trusses.{TrussState, first_truss, traced_at}
 use Rattle.pr_truss.specs.declared.stages.FreeingStep.TheVariants.{Close as Free}
 use Rattle.pr_truss_laws.proofs.GivenLemmas.{given-handled, handled-so-far}
 use Rattle.pr_truss_laws.proofs.OwnLemmas.{nothing-open}
-use Rattle.pr_truss_laws.proofs.PolledLemmas.{polled-soon}
+use Rattle.pr_truss_laws.proofs.BusinessLemmas.{does-business}
+use Rattle.pr_report_laws.proofs.SeenChildren.NoneLeft.{none-left}
+use Rattle.pr_report_laws.proofs.Watching.NamedSoon.{soon-done}
+use Rattle.pr_report_laws.proofs.Watching.GripLaws.{grips-held}
+use Rattle.pr_report_laws.specs.Lineages.{IsLeftToTruss}
 use Rattle.pr_truss_laws.specs.Exchanges.{Ends, Exchange, Makes, exchange_in, exchange_of, exchanges, truss_after, truss_at}
 use Rattle.pr_truss_laws.specs.Handles.{HasNothingOpen}
-use Rattle.pr_truss_laws.specs.Polled.{IsNoEndOf, PollNames, calls_meanwhile}
 use Rattle.pr_truss_laws.specs.Runs.{IsTrussRun}
 use Rattle.pr_world.specs.Controllers.{after_reply, call_by, next_call, with_fed}
 use Rattle.pr_world.specs.ControllerStates.{ControllerState, Truss}
 use Rattle.pr_world.specs.Protocol.{Follows, FollowsAt, controllers_after, controllers_at}
-use Rattle.pr_run_laws.specs.TrussRuns.{HandlesChildren, HasControl, HasDone, IsNewborn, IsTrussKept, Releases, WasLetGo}
+use Rattle.pr_run_laws.specs.TrussRuns.{HandlesChildren, HasControl, HasDone, IsNewborn, IsTrussKept, Releases, WasLetGo, HasShownAll, IsLostByKill}
 use Rattle.pr_num.specs.Limits.{handle_limit}
 use Rattle.pr_tool_laws.proofs.ProtocolLemmas.{fed-other, fed-own}
 
@@ -145,31 +153,6 @@ nothing-held k s none =
           ∙ none-held k handle_limit number;
     }
 
--- what is asked of the forks of a history is so of a front of it
-named-front : (o : Options) (before later : List Entry) → NamesNoChild o (before ++ later) → NamesNoChild o before
-named-front o before later named = record {
-  none =
-      λ follow b l parent id place pid turned is made at. named.none follow b (l ++ later) parent id place pid turned
-      (ap (λ g. g ++ later) is ∙ append_assoc b (turn_entry parent id turned ∷ l) later) made at;
-}
-
-forks-front : (k : ℕ) (o : Options) (before later : List Entry) → LeavesForks k o (before ++ later)
-    → LeavesForks k o before
-forks-front k o before later forks = record {
-  each =
-      λ follow b between behind l parent id turned by pid lwp handle own_lwp own_handle file own_file mode own_mode is
-      made writes own_writes.
-      let own : Entry = granted k pid own_lwp own_file own_mode own_handle in
-      let other : Entry = granted by pid lwp file mode handle in
-      forks.each follow b between behind
-      (l ++ later) parent id turned by pid lwp handle own_lwp own_handle file own_file mode own_mode
-      (ap (λ g. g ++ later) is
-      ∙ append_assoc b (turn_entry parent id turned ∷ (between ++ other ∷ (behind ++ own ∷ l))) later
-      ∙ ap (λ g. b ++ turn_entry parent id turned ∷ g) (append_assoc between (other ∷ (behind ++ own ∷ l)) later
-      ∙ ap (λ g. between ++ other ∷ g) (append_assoc behind (own ∷ l) later)))
-      made writes own_writes;
-}
-
 module _ (n k : ℕ) (o : Options) (first : TracedState) (h : List Entry) (run : IsTrussRun n k o first h) where
   front-run : (before later : List Entry) → h ≡ before ++ later → IsTrussRun n k o first before
   front-run before later is = record {
@@ -205,20 +188,20 @@ module _ (n k : ℕ) (o : Options) (first : TracedState) (h : List Entry) (run :
       → HasOpened k o pid (before ++ e ∷ []) ⊎ HasFollowed k pid (before ++ e ∷ [])
   begins before later e pid is off on = watched-opened n k o pid first before e (entry-run before later e is) off on
 
-  newborn : IsReached first → HasBytes h → (before later : List Entry) (e : Entry) (pid : ℕ) → NamesNoChild o h
-      → LeavesForks k o h → h ≡ before ++ e ∷ later → watches (truss_at k o before) pid ≡ false
+  newborn : IsReached first → HasBytes h → (before later : List Entry) (e : Entry) (pid : ℕ)
+      → IsLeftToTruss k o pid first h → h ≡ before ++ e ∷ later → watches (truss_at k o before) pid ≡ false
       → HasFollowed k pid (before ++ e ∷ []) → IsNewborn o pid first (before ++ e ∷ [])
-  newborn reached bytes before later e pid named forks is off followed =
+  newborn reached bytes before later e pid left is off followed =
       let it = entry-run before later e is in
       let split : h ≡ (before ++ e ∷ []) ++ later = is ∙ sym (append_assoc before (e ∷ []) later) in
       let those : HasBytes (before ++ e ∷ []) = front-bytes (before ++ e ∷ []) later (subst HasBytes split bytes) in
-      let none_named = named-front o (before ++ e ∷ []) later (subst (NamesNoChild o) split named) in
-      let left = forks-front k o (before ++ e ∷ []) later (subst (LeavesForks k o) split forks) in
+      let its : IsLeftToTruss k o pid first (before ++ e ∷ []) =
+      left-front k o pid first (before ++ e ∷ []) later (subst (IsLeftToTruss k o pid first) split left) in
       record {
-        forked = followed-forked n k o pid first before e reached it those none_named left off followed;
-        unstarted = followed-unstarted n k o pid first before e reached it those none_named left off followed;
-        still = followed-rests n k o pid first before e reached it those none_named left off followed;
-        silent = followed-silent n k o pid first before e reached it those none_named left off followed;
+        forked = left-forked n k o pid first before e reached it those its off followed;
+        unstarted = left-unstarted n k o pid first before e reached it those its off followed;
+        still = left-rests n k o pid first before e reached it those its off followed;
+        silent = left-silent n k o pid first before e reached it those its off followed;
       }
 
   was-let : (pid : ℕ) → watches (truss_at k o h) pid ≡ false → (later before : List Entry) → h ≡ before ++ later
@@ -248,19 +231,6 @@ module _ (n k : ℕ) (o : Options) (first : TracedState) (h : List Entry) (run :
         is = refl;
         reason = subst (λ g. IsLetGo k pid first g e) (sym (append-nil before)) (let-go before later e pid is on off);
       }
-
-  -- ---- what a poll named
-
-  soon : (before between later : List Exchange) (x : Exchange) (place : ℕ)
-      → exchanges k h ≡ before ++ x ∷ (between ++ later)
-      → PollNames (truss_after (first_truss o) before) x.reply place
-      → All (IsNoEndOf (traced_at (truss_after (first_truss o) before) place)) between
-      → length between ≤ calls_meanwhile (truss_after (truss_after (first_truss o) before) (x ∷ between)).leaving place
-  soon before between later x place is =
-      let t = truss_after (first_truss o) before in
-      let makes : Makes t (x ∷ (between ++ later)) =
-      makes-rest (first_truss o) before (x ∷ (between ++ later)) (subst (Makes (first_truss o)) is run.makes) in
-      polled-soon t x between place (makes.0, makes-front (fed t x.reply) between later makes.1)
 
   -- ---- the children of forks
 
@@ -312,6 +282,26 @@ module _ (n k : ℕ) (o : Options) (first : TracedState) (h : List Entry) (run :
 
   -- ---- the end
 
+  -- what is watched no more lacks an event only where SIGKILL ended it
+  lost-by-kill : (pid : ℕ) (missing : List LwpEvent) → watches (truss_at k o h) pid ≡ false
+      → IsMissed (is_selected o) k o pid first h missing → IsLostByKill k o pid first h missing
+  lost-by-kill pid missing over m =
+      record { event = m.event; one = m.one; killed = by m.cause; unread = m.unread }
+    where
+      by : (watches (truss_at k o h) pid ≡ true) ⊎ IsKilled k pid (first_truss o) first h
+          → IsKilled k pid (first_truss o) first h
+      by (inl on) = absurd (false≢true (sym over ∙ on))
+      by (inr killed) = killed
+
+  shown-all : (pid : ℕ) → watches (truss_at k o h) pid ≡ false → IsReported k o pid first h
+      → HasShownAll k o pid first h
+  shown-all pid over r = record { missing = r.missing; is = r.is; few = by r.few }
+    where
+      by : (r.missing ≡ []) ⊎ IsMissed (is_selected o) k o pid first h r.missing
+          → (r.missing ≡ []) ⊎ IsLostByKill k o pid first h r.missing
+      by (inl none) = inl none
+      by (inr missed) = inr (lost-by-kill pid r.missing over missed)
+
   done : next_call_of (truss_at k o h) ≡ None → HasDone k o first h
   done finished =
       let ends : Ends (first_truss o) (exchanges k h) = record { makes = run.makes; finished = finished } in
@@ -320,6 +310,7 @@ module _ (n k : ℕ) (o : Options) (first : TracedState) (h : List Entry) (run :
         nothing_open = nothing-open n k o first h run.nothing_open run.legal ends;
         watches_none = λ pid. finished-watches-none k o pid h finished;
         lets_go = λ before later pid is on. was-let pid (finished-watches-none k o pid h finished) later before is on;
+        shows = λ pid reported. shown-all pid (finished-watches-none k o pid h finished) reported;
       }
 
 pub truss-kept : (controllers : List ControllerState) (n : ℕ) (first : TracedState) (h : List Entry) (k : ℕ)
@@ -336,19 +327,36 @@ truss-kept controllers n first h k o reached bytes at none legal follows =
     record {
       makes = stays.0;
       truss = stays.1;
-      shows = λ pid named forks. births-report n k o pid first h reached run bytes named forks;
-      shows_unfollowed = λ pid unfollowed. unfollowed-report n k o pid first h reached run bytes unfollowed;
-      texts = read-texts n k o first h run;
-      moments = λ pid named forks. left-memories n k o pid first h reached run bytes named forks;
-      moments_unfollowed = λ pid unfollowed. unfollowed-memories n k o pid first h reached run bytes unfollowed;
-      handled = handled-so-far o (exchanges k h) stays.0;
-      soon = soon n k o first h run;
-      children = children n k o first h run;
-      opens = opens n k o first h run;
-      begins = begins n k o first h run;
-      newborn = newborn n k o first h run reached bytes;
-      lets_go = let-go n k o first h run;
-      releases = λ before later is. releases n k o first before (front-run n k o first h run before later is);
-      stays_set = stays-set n k o first h run;
+      business = does-business o (exchanges k h) stays.0;
+      opens = record {
+        handled = handled-so-far o (exchanges k h) stays.0;
+        watched = opens n k o first h run;
+        begins = begins n k o first h run;
+        grips = λ pid. grips-held n k o pid first h reached run bytes;
+      };
+      shows = record {
+        reads = λ pid left. lineage-reads n k o pid first h reached run bytes left;
+        reads_unfollowed = λ pid unfollowed. unfollowed-reads n k o pid first h reached run bytes unfollowed;
+        shows = λ pid left. left-report n k o pid first h reached run bytes left;
+        shows_unfollowed = λ pid unfollowed. unfollowed-report n k o pid first h reached run bytes unfollowed;
+        texts = read-texts n k o first h run;
+        moments = λ pid left. lineage-memories n k o pid first h reached run bytes left;
+        moments_unfollowed = λ pid unfollowed. unfollowed-memories n k o pid first h reached run bytes unfollowed;
+      };
+      follows = record {
+        children = children n k o first h run;
+        newborn = newborn n k o first h run reached bytes;
+        leaves_none = λ follow finished. none-left n k o first h follow reached run bytes finished;
+      };
+      lets_go = record {
+        soon = soon-done n k o first h run;
+        unfollows = λ before later e pid is left.
+            left-unfollowed n k o pid first before e (entry-run n k o first h run before later e is) left;
+        lets_go = let-go n k o first h run;
+      };
+      releases = record {
+        releases = λ before later is. releases n k o first before (front-run n k o first h run before later is);
+        stays_set = stays-set n k o first h run;
+      };
       done = done n k o first h run;
     }

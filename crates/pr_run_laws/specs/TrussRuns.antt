@@ -1,6 +1,8 @@
 use Rattle.std.specs.Prelude.{◌≡◌, ◌≢◌, ◌<◌, ◌≤◌, ◌⊎◌, ◌++◌, ℕ, true, false, List, [], ◌∷◌, Option, Some, None, length}
 use Rattle.std.specs.Prelude.{slice_get}
 use Rattle.std.specs.List.{All}
+use Rattle.pr_report_laws.specs.Unfollowed.{HasUnfollowed}
+use Rattle.pr_line.specs.Selections.{is_selected}
 use Rattle.pr_line.specs.declared.options.Options.{Options}
 use Rattle.pr_model.specs.Events.{events_from}
 use Rattle.pr_model.specs.Handles.{handle_of, is_control}
@@ -18,7 +20,9 @@ use Rattle.pr_truss.specs.declared.processes.Traced.{Traced}
 use Rattle.pr_truss.specs.declared.reports.Report.{Report}
 use Rattle.pr_truss.specs.declared.stages.FreeingStep.TheVariants.{Close as Free}
 use Rattle.pr_truss.specs.declared.stages.Stage.TheVariants.{FreeingChild}
-use Rattle.pr_report_laws.specs.Births.{IsNeverFollowed, LeavesForks, NamesNoChild}
+use Rattle.pr_report_laws.specs.Births.{IsNeverFollowed}
+use Rattle.pr_report_laws.specs.Lineages.{IsLeftToTruss}
+use Rattle.pr_report_laws.specs.Reads.{HasRead}
 use Rattle.pr_report_laws.specs.Follows.{IsFollowedUp, IsLeftChild, ReadsFork}
 use Rattle.pr_report_laws.specs.Freed.{IsInterruptedFreeing, IsSetFree, ReadsLastFork}
 use Rattle.pr_report_laws.specs.Attachments.{HasFollowed, HasOpened, IsLetGo}
@@ -26,13 +30,16 @@ use Rattle.pr_laws.specs.LastCloses.{IsReleased}
 use Rattle.pr_report_laws.specs.Memories.{AreOfTheirEvents, HaveTheirTexts}
 use Rattle.pr_report_laws.specs.Newborn.{IsNoTurnOf, WasForked, WasSpawned}
 use Rattle.pr_report_laws.specs.Releases.{has_set_at, modes_set, released}
-use Rattle.pr_report_laws.specs.Reported.{IsReported}
-use Rattle.pr_report_laws.specs.Shown.{selected}
-use Rattle.pr_report_laws.specs.Watching.{watches}
+use Rattle.pr_report_laws.specs.Reported.{IsReported, IsKilled, IsUnread}
+use Rattle.pr_report_laws.specs.Shown.{selected, LwpEvent, shown}
+use Rattle.pr_report_laws.specs.Watching.{watches, events_watched}
 use Rattle.pr_truss_laws.specs.Exchanges.{Exchange, Makes, exchanges, truss_after, truss_at}
 use Rattle.pr_truss_laws.specs.Given.{IsHandled, IsHandledSoFar}
 use Rattle.pr_truss_laws.specs.Handles.{HasNothingOpen}
-use Rattle.pr_truss_laws.specs.Polled.{IsNoEndOf, PollNames, calls_meanwhile}
+use Rattle.pr_truss_laws.specs.Business.{DoesItsBusiness}
+use Rattle.pr_report_laws.specs.Grips.{HasGrips, IsLeftIn}
+use Rattle.pr_report_laws.specs.Named.{IsSoonDone}
+use Rattle.pr_report_laws.specs.SeenTo.{LeavesNoChild}
 use Rattle.pr_world.specs.ControllerStates.{ControllerState, Truss}
 use Rattle.pr_world.specs.Protocol.{controllers_at}
 
@@ -48,15 +55,33 @@ pub record WasLetGo (k pid : ℕ) (first : TracedState) (before later : List Ent
   pub is : later ≡ between ++ entry ∷ behind
   pub reason : IsLetGo k pid first (before ++ between) entry
 
+-- Of the selected events that came while truss watched a process just this last one is missing: SIGKILL ended the
+-- process while truss watched it, before a read of it gave truss an answer.
+pub record IsLostByKill (k : ℕ) (o : Options) (pid : ℕ) (first : TracedState) (h : List Entry)
+    (missing : List LwpEvent) : Type 0 where
+  pub event : LwpEvent
+  pub one : missing ≡ event ∷ []
+  pub killed : IsKilled k pid (first_truss o) first h
+  pub unread : IsUnread (is_selected o) k o pid first h event
+
+-- What a truss that has finished has shown of a process: all that was selected of its events while truss watched it,
+-- each once and in order, or all but the last one of a process that SIGKILL ended.
+pub record HasShownAll (k : ℕ) (o : Options) (pid : ℕ) (first : TracedState) (h : List Entry) : Type 0 where
+  pub missing : List LwpEvent
+  pub is : selected o pid (events_watched k pid (first_truss o) first h) ≡ shown pid (truss_at k o h) ++ missing
+  pub few : (missing ≡ []) ⊎ IsLostByKill k o pid first h missing
+
 -- A truss that has finished: each process that it was given was attached or its refusal is reported, unless it was
 -- interrupted before; it has nothing open, and it watches no process any more. Each process that it watched was let go:
--- it had ended, or truss had been interrupted.
+-- it had ended, or truss had been interrupted. Where the events of a process are shown at all, all are, but perhaps the
+-- last one of a process that SIGKILL ended.
 pub record HasDone (k : ℕ) (o : Options) (first : TracedState) (h : List Entry) : Type 0 where
   pub handled : IsHandled o o.program (truss_at k o h).reports (exchanges k h)
   pub nothing_open : HasNothingOpen k (state_after first h)
   pub watches_none : (pid : ℕ) → watches (truss_at k o h) pid ≡ false
   pub lets_go : (before later : List Entry) (pid : ℕ) → h ≡ before ++ later → watches (truss_at k o before) pid ≡ true
       → WasLetGo k pid first before later
+  pub shows : (pid : ℕ) → IsReported k o pid first h → HasShownAll k o pid first h
 
 -- ---- the children of forks
 
@@ -118,52 +143,88 @@ pub record Releases (k : ℕ) (o : Options) (first : TracedState) (h : List Entr
   pub freed_control : (pid control : ℕ) → (truss_at k o h).stage ≡ FreeingChild pid (Free control)
       → HasControl k pid control (state_after first h)
 
--- ---- all of it
+-- ---- what it opens
 
--- The controller of a number is a truss with these options, whose calls are those that it makes after the replies that
--- it got. Of each process it has shown what was selected of its events while it watched the process. Where it follows
--- children, this is said only of a process of which it never got hold as the child of a fork, or if fork makes none of
--- the processes that its options name, and if between a fork and the opening of its child no other controller is
--- granted a handle for writing of the child; and then a child does nothing before it is watched. The memory that stands
--- in the line of an event is that of the state in which truss read it, and on the same condition that of the state
--- right after the event, unless SIGKILL ended the process before truss read.
---
--- What truss was given it has handled in order, as far as it has come, and what a poll named it soon runs, or closes.
--- Truss watches a process right after it has opened it, begins to watch it in no other way, and lets it go for a reason
--- alone. Wherever it has come to, it releases the processes of which it has set PR_RLC when it closes their control
--- files; and what it has set so stays set while it has the control file open, also where the opening of the process is
--- broken off.
-pub record IsTrussKept (controllers : List ControllerState) (first : TracedState) (h : List Entry)
-    (k : ℕ) (o : Options) : Type 0 where
-  pub makes : Makes (first_truss o) (exchanges k h)
-  pub truss : slice_get (controllers_at controllers h) k ≡ Some (Truss (truss_at k o h))
-  pub shows : (pid : ℕ) → NamesNoChild o h → LeavesForks k o h → IsReported k o pid first h
-  pub shows_unfollowed : (pid : ℕ) → IsNeverFollowed k o pid h → IsReported k o pid first h
-  pub texts : HaveTheirTexts k o first h (truss_at k o h).reports
-  pub moments : (pid : ℕ) → NamesNoChild o h → LeavesForks k o h
-      → AreOfTheirEvents k o pid first h (truss_at k o h).reports
-  pub moments_unfollowed : (pid : ℕ) → IsNeverFollowed k o pid h
-      → AreOfTheirEvents k o pid first h (truss_at k o h).reports
+-- Truss opens, in their order, the processes that it was given, as far as it has come: each is attached, or its refusal
+-- is reported. It watches a process right after it has opened it, begins to watch one in no other way, gets hold of a
+-- process at most once, and from the wait of an opening on the process does nothing until it is watched.
+pub record OpensItsOwn (k : ℕ) (o : Options) (first : TracedState) (h : List Entry) : Type 0 where
   pub handled : IsHandledSoFar o (next_call_of (truss_at k o h)) o.program (truss_at k o h).reports (exchanges k h)
-  pub soon : (before between later : List Exchange) (x : Exchange) (place : ℕ)
-      → exchanges k h ≡ before ++ x ∷ (between ++ later)
-      → PollNames (truss_after (first_truss o) before) x.reply place
-      → All (IsNoEndOf (traced_at (truss_after (first_truss o) before) place)) between
-      → length between ≤ calls_meanwhile (truss_after (truss_after (first_truss o) before) (x ∷ between)).leaving place
-  pub children : o.follow ≡ true → HandlesChildren k o h
-  pub opens : (before later : List Entry) (pid : ℕ) → h ≡ before ++ later
+  pub watched : (before later : List Entry) (pid : ℕ) → h ≡ before ++ later
       → HasOpened k o pid before ⊎ HasFollowed k pid before → watches (truss_at k o before) pid ≡ true
   pub begins : (before later : List Entry) (e : Entry) (pid : ℕ) → h ≡ before ++ e ∷ later
       → watches (truss_at k o before) pid ≡ false → watches (truss_at k o (before ++ e ∷ [])) pid ≡ true
       → HasOpened k o pid (before ++ e ∷ []) ⊎ HasFollowed k pid (before ++ e ∷ [])
-  pub newborn : (before later : List Entry) (e : Entry) (pid : ℕ) → NamesNoChild o h → LeavesForks k o h
+  pub grips : (pid : ℕ) → HasGrips k o pid first h
+
+-- ---- what it shows
+
+-- Of each process truss has read the events that it traces and that came while it watched the process, each by a read of
+-- its own, and has shown those of them that the options select. Where it follows children, this is said only of a
+-- process of which it never got hold as the child of a fork, or that is left to truss: of this process, and of those that
+-- it descends from, no other controller was granted a handle for writing between the fork that made it and its opening.
+-- The memory that stands in the line of an event is that of the state in which truss read it, and on the same condition
+-- that of the state right after the event, unless SIGKILL ended the process before truss read.
+pub record ShowsItsEvents (k : ℕ) (o : Options) (first : TracedState) (h : List Entry) : Type 0 where
+  pub reads : (pid : ℕ) → IsLeftToTruss k o pid first h → HasRead k o pid first h
+  pub reads_unfollowed : (pid : ℕ) → IsNeverFollowed k o pid h → HasRead k o pid first h
+  pub shows : (pid : ℕ) → IsLeftToTruss k o pid first h → IsReported k o pid first h
+  pub shows_unfollowed : (pid : ℕ) → IsNeverFollowed k o pid h → IsReported k o pid first h
+  pub texts : HaveTheirTexts k o first h (truss_at k o h).reports
+  pub moments : (pid : ℕ) → IsLeftToTruss k o pid first h
+      → AreOfTheirEvents k o pid first h (truss_at k o h).reports
+  pub moments_unfollowed : (pid : ℕ) → IsNeverFollowed k o pid h
+      → AreOfTheirEvents k o pid first h (truss_at k o h).reports
+
+-- ---- what it follows
+
+-- With -f each child of a fork that truss reads is opened or set free, or its refusal is reported; a child that is left
+-- to truss does nothing before it is watched; and when truss has finished no child is left that a fork of a process
+-- made while truss watched that process.
+pub record FollowsItsChildren (k : ℕ) (o : Options) (first : TracedState) (h : List Entry) : Type 0 where
+  pub children : o.follow ≡ true → HandlesChildren k o h
+  pub newborn : (before later : List Entry) (e : Entry) (pid : ℕ) → IsLeftToTruss k o pid first h
       → h ≡ before ++ e ∷ later → watches (truss_at k o before) pid ≡ false → HasFollowed k pid (before ++ e ∷ [])
       → IsNewborn o pid first (before ++ e ∷ [])
+  pub leaves_none : o.follow ≡ true → next_call_of (truss_at k o h) ≡ None → LeavesNoChild k o first h
+
+-- ---- what it runs and lets go
+
+-- At most twelve calls after a poll has named a process truss runs it, or closes a file of it. It lets a process go for a
+-- reason alone: the process has ended, or truss was interrupted. Before its last look at a process that it leaves it has
+-- the children of that process followed no more.
+pub record LetsItsProcessesGo (k : ℕ) (o : Options) (first : TracedState) (h : List Entry) : Type 0 where
+  pub soon : IsSoonDone k first h
+  pub unfollows : (before later : List Entry) (e : Entry) (pid : ℕ) → h ≡ before ++ e ∷ later
+      → IsLeftIn k pid first before e → HasUnfollowed k pid (state_after first before) before
   pub lets_go : (before later : List Entry) (e : Entry) (pid : ℕ) → h ≡ before ++ e ∷ later
       → watches (truss_at k o before) pid ≡ true → watches (truss_at k o (before ++ e ∷ [])) pid ≡ false
       → IsLetGo k pid first before e
+
+-- ---- what it releases
+
+-- Wherever it has come to, truss releases the processes of which it has set PR_RLC when it closes their control files;
+-- and what it has set so stays set while it has the control file open, also where the opening of the process is broken
+-- off.
+pub record ReleasesItsProcesses (k : ℕ) (o : Options) (first : TracedState) (h : List Entry) : Type 0 where
   pub releases : (before later : List Entry) → h ≡ before ++ later → Releases k o first before
   pub stays_set : (before later : List Entry) (e : Entry) (number : ℕ) (held : Held) → h ≡ before ++ e ∷ later
       → handle_of (state_after first before).opens k number ≡ Some held → is_control held.file ≡ true
       → modes_set k o held.pid before ≡ released → modes_set k o held.pid (before ++ e ∷ []) ≡ released
+
+-- ---- all of it
+
+-- The controller of a number is a truss with these options, whose calls are those that it makes after the replies that
+-- it got: its own business alone. It opens, shows, follows, lets go and releases its processes as these say; and once it
+-- has finished nothing is left to do.
+pub record IsTrussKept (controllers : List ControllerState) (first : TracedState) (h : List Entry)
+    (k : ℕ) (o : Options) : Type 0 where
+  pub makes : Makes (first_truss o) (exchanges k h)
+  pub truss : slice_get (controllers_at controllers h) k ≡ Some (Truss (truss_at k o h))
+  pub business : DoesItsBusiness o (exchanges k h)
+  pub opens : OpensItsOwn k o first h
+  pub shows : ShowsItsEvents k o first h
+  pub follows : FollowsItsChildren k o first h
+  pub lets_go : LetsItsProcessesGo k o first h
+  pub releases : ReleasesItsProcesses k o first h
   pub done : next_call_of (truss_at k o h) ≡ None → HasDone k o first h

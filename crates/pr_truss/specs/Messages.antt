@@ -8,7 +8,7 @@ use Rattle.pr_num.specs.Messages.{spelling}
 use Rattle.pr_num.specs.Sets.{common_word, minus_word, with_number}
 use Rattle.pr_num.specs.Syscalls.{syscall_number}
 use Rattle.pr_num.specs.declared.messages.Message.{Message}
-use Rattle.pr_num.specs.declared.syscalls.Sysno.TheVariants.{Exit, Fork, LwpExit}
+use Rattle.pr_num.specs.declared.syscalls.Sysno.TheVariants.{Exit, Fork, LwpExit, Vfork}
 
 -- each message is a write of its own
 abbrev pub message_call : ℕ → Message → Call
@@ -35,7 +35,7 @@ traced_entries o = common_word o.calls ending_calls
 
 -- a set of calls with those that make a child
 unfoldable pub with_forks : ℕ → ℕ
-with_forks calls = with_number calls (syscall_number Fork)
+with_forks calls = with_number (with_number calls (syscall_number Fork)) (syscall_number Vfork)
 
 -- The calls that are traced at their exit: the other selected ones, and where children are followed those too that make
 -- them.

@@ -65,7 +65,7 @@ pub(crate) fn traced_entries(options: &Options) -> SysSet
 fn with_forks(calls: SysSet) -> SysSet
     ensures { result ≡ with_forks calls }
 {
-    calls.with(Sysno::Fork)
+    calls.with(Sysno::Fork).with(Sysno::Vfork)
 }
 
 /// The calls that are traced at their exit.

@@ -52,4 +52,4 @@ module _ (p q : TracedProcess) (alone : IsUndisturbed p q) where
       told-same id l k stop stands (a.1.1
       ∙ ap (λ (x : TracedLwp). record x { pending = k.pending }) (same_Some a.0 l (sym a.1.0 ∙ before)))
 
-pub ruleset alones = (alone-frozen, alone-halting, alone-quiet, alone-tells)
+pub ruleset alones = (alone-frozen, alone-halting, alone-quiet)

@@ -1,4 +1,4 @@
-use Rattle.std.proofs.Common.{◌≡◌, None, refl}
+use Rattle.std.proofs.Common.{◌≡◌, ◌≢◌, None, refl, sym, ap, subst, ◌∙◌}
 use Rattle.pr_model.specs.declared.calls.Reply.{Reply}
 use Rattle.pr_model.specs.declared.calls.Reply.TheVariants as reply
 use Rattle.pr_num.specs.declared.errnos.Errno.{Errno}
@@ -25,3 +25,24 @@ pub answer-is : (r : Reply) → IsAnswer r (answer_of r)
 unfolding IsAnswer answer_of
 answer-is (reply.Fail errno) = refusal-is errno
 answer-is _ = refl
+
+-- ---- a refusal that is no interrupt
+
+-- The reply refuses the call for this reason, which is no interrupt.
+pub record Refuses (r : Reply) (errno : Errno) : Type 0 where
+  pub is : r ≡ reply.Fail errno
+  pub not_interrupted : errno ≢ Intr
+
+pub gone-refuses : (r : Reply) → answer_of r ≡ Gone → Refuses r Noent
+unfolding IsAnswer
+gone-refuses r is =
+    record { is = subst (IsAnswer r) is (answer-is r); not_interrupted = λ (same : Noent ≡ Intr). cc }
+
+pub other-refuses : (r : Reply) (errno : Errno) → answer_of r ≡ Refused errno → Refuses r errno
+unfolding IsAnswer answer_of
+other-refuses r errno is =
+    let it : r ≡ reply.Fail errno = subst (IsAnswer r) is (answer-is r) in
+    record { is = it; not_interrupted = λ same. by (sym (ap answer_of (it ∙ ap reply.Fail same)) ∙ is) }
+  where
+    by : Interrupted ≡ Refused errno → ⊥
+    by e = cc

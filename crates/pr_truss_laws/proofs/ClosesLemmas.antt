@@ -17,10 +17,10 @@ use Rattle.pr_truss.specs.Trusses.{TrussState, first_of_program, first_truss, id
 use Rattle.pr_truss.specs.declared.processes.Traced.{Traced}
 use Rattle.pr_truss.specs.declared.stages.Stage.{Stage}
 use Rattle.pr_truss.specs.declared.stages.Stage.TheVariants.{Finished}
+use Rattle.pr_truss_laws.proofs.ExchangeLemmas.{ends-later}
 use Rattle.pr_truss_laws.proofs.FedLemmas.{Changes, fed-changes, gives}
 use Rattle.pr_truss_laws.proofs.FitLemmas.{fed-fits, fed-grown}
 use Rattle.pr_truss_laws.proofs.HeldLemmas.{Fits, Grown, grown-all, grown-same, held, of_stage, of_traced, unit}
-use Rattle.pr_truss_laws.proofs.OpeningLemmas.{ends-later}
 use Rattle.pr_truss_laws.specs.Exchanges.{Closes, ClosesAll, Ends, Exchange, truss_after}
 
 -- What truss was given open it closes before it has finished.

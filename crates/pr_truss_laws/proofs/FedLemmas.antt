@@ -27,7 +27,7 @@ use Rattle.pr_truss.specs.declared.stages.Stage.{Stage}
 use Rattle.pr_truss.specs.declared.stages.Stage.TheVariants.{Opening, OpeningChild, FreeingChild}
 use Rattle.pr_truss_laws.proofs.HeldLemmas.{Fits, IsFresh, IsFreshChild, append-sum, at_place, at-sum, handles_in, held, is_this, of_stage, of_traced, remove-sum, set-sum, unit}
 use Rattle.pr_truss_laws.proofs.ReplySteps as step
-use Rattle.pr_truss_laws.proofs.ReplySteps.{Closes, GoesOn, Looks, Reads, ReplyStep, Settles, StopOver, accepts}
+use Rattle.pr_truss_laws.proofs.ReplySteps.{Closes, GoesOn, Looks, Reads, ReplyStep, Settles, StopOver, accepts, refused-other}
 use Rattle.pr_truss_laws.proofs.FedSteps.{fed-step}
 use Rattle.pr_truss_laws.proofs.FitLemmas.{last-within, parent-within, reads-within}
 
@@ -302,8 +302,8 @@ module _ (pid h : ℕ) where
     settles-change stage opens u f (step.interrupts_child {parent = parent} {place = place} {now = now} is) =
         no-child parent place now _ (ap accepts is) (seen-sum s.traced parent (parent-within s.traced parent place f.0))
     settles-change stage opens u f (step.interrupts_run {place = place} is) = seen-sum s.traced place f
-    settles-change stage opens u f (step.refuses_control {pid = of} _ not) =
-        ungiven (Some (open_control of)) _ _ refl not refl
+    settles-change stage opens u f (step.refuses_control {pid = of} errno not) =
+        ungiven (Some (open_control of)) _ _ refl (refused-other r errno not) refl
     settles-change stage opens u f (step.ends_opening {place = place} {now = now} is _) =
         opening-change place f.0 now f.1 is
     settles-change stage opens u f (step.closed_next {place = place} is) = removed place f.0 is
@@ -335,11 +335,12 @@ module _ (pid h : ℕ) where
         record { of = of; remembered = freed-remembered s of control at; less = omega arith }
     closes-change stage place next u at (step.freed_none {pid = of} is) =
         ungiven (Some (open_control of)) _ _ refl (ap accepts is) refl
-    closes-change stage place next u at (step.refuses_free {pid = of} _ not) =
-        ungiven (Some (open_control of)) _ _ refl not refl
-    closes-change stage place next u at (step.refuses_opening {now = now} _ not) = not-opened place now _ not refl
-    closes-change stage place next u at (step.refuses_child {parent = parent} {now = now} _ not) =
-        no-child parent place now _ not refl
+    closes-change stage place next u at (step.refuses_free {pid = of} errno not) =
+        ungiven (Some (open_control of)) _ _ refl (refused-other r errno not) refl
+    closes-change stage place next u at (step.refuses_opening {now = now} errno not) =
+        not-opened place now _ (refused-other r errno not) refl
+    closes-change stage place next u at (step.refuses_child {parent = parent} {now = now} errno not) =
+        no-child parent place now _ (refused-other r errno not) refl
     closes-change stage place next u at _ = refl
 
     opened-sum : (of : ℕ) → answer_of r ≡ Accepted
@@ -364,8 +365,8 @@ module _ (pid h : ℕ) where
         opening-change place f.0 now f.1 is
     step-changes stage v at f (step.learns is (step.child_goes {parent = parent} {place = place} {now = now} _)) =
         child-change place (last-within s.traced parent place f.0) now f.1 is
-    step-changes stage v at f (step.returns (step.refuses_child_control {pid = of} _ not)) =
-        ungiven (Some (open_control of)) _ _ refl not refl
+    step-changes stage v at f (step.returns (step.refuses_child_control {pid = of} errno not)) =
+        ungiven (Some (open_control of)) _ _ refl (refused-other r errno not) refl
     step-changes stage v at f (step.returns (step.child_runs _)) = refl
     step-changes stage v at f (step.returns (step.child_closed {place = place} is)) = removed place f.0 is
     step-changes stage v at f (step.turns (step.frees {pid = of} is)) = omega (arith, given of 0 is)

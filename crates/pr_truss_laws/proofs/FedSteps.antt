@@ -29,7 +29,8 @@ use Rattle.pr_truss.specs.declared.stages.FreeingStep.TheVariants as freeing
 use Rattle.pr_truss.specs.declared.stages.OpeningStep.{OpeningStep}
 use Rattle.pr_truss.specs.declared.stages.Stage.{Stage}
 use Rattle.pr_truss.specs.declared.stages.Stage.TheVariants.{Spawning, OpeningControl, Opening, Polling, ReadingStatus, ReadingText, OpeningChildControl, OpeningChild, Running, Closing, Unfollowing, ReadingLwps, FreeingChild, Finished}
-use Rattle.pr_truss_laws.proofs.ReplySteps.{GoesOn, IsNew, Reads, ReplyStep, StopOver, accepts, leaving_now, old_less, seen_at, shown_at, shown_now, finishes, polls, unfollows, closes_first, opens_next, runs, leaves, opens_child, frees_child, new_given, interrupts_start, interrupts_control, interrupts_poll, interrupts_status, interrupts_opening, interrupts_text, interrupts_child_control, interrupts_child, interrupts_run, refuses_start, refuses_control, ends_opening, ran, closed_next, closed, reads_status, reads_none, reads_lwps, passes, passes_old, passes_event, shows, status_ended, text_ended, run_ended, left_ended, looked_last, freed_last, freed_none, refuses_free, refuses_opening, refuses_child, child_ended, opening_goes, child_goes, refuses_child_control, child_runs, child_closed, starts, polls_again, unfollowed, frees, has_finished, settles, looks, asks, closes, loses, opens, learns, returns, turns, is_named, shows_text, new_child, frees_on}
+use Rattle.pr_truss_laws.proofs.AnswerLemmas.{gone-refuses, other-refuses}
+use Rattle.pr_truss_laws.proofs.ReplySteps.{GoesOn, IsNew, Reads, ReplyStep, StopOver, leaving_now, old_less, seen_at, shown_at, shown_now, finishes, polls, unfollows, closes_first, opens_next, runs, leaves, opens_child, frees_child, new_given, interrupts_start, interrupts_control, interrupts_poll, interrupts_status, interrupts_opening, interrupts_text, interrupts_child_control, interrupts_child, interrupts_run, refuses_start, refuses_control, ends_opening, ran, closed_next, closed, reads_status, reads_none, reads_lwps, passes, passes_old, passes_event, shows, status_ended, text_ended, run_ended, left_ended, looked_last, freed_last, freed_none, refuses_free, refuses_opening, refuses_child, child_ended, opening_goes, child_goes, refuses_child_control, child_runs, child_closed, starts, polls_again, unfollowed, frees, has_finished, settles, looks, asks, closes, loses, opens, learns, returns, turns, is_named, shows_text, new_child, frees_on}
 
 -- What truss is when it was fed a reply is what one of the steps of replies makes of it.
 
@@ -150,15 +151,15 @@ module _ (s : TrussState) (r : Reply) where
   unfolding with_start_answered with_refused_start
   start-step program Accepted is = turns (starts is)
   start-step program Interrupted is = settles (interrupts_start is) (interrupt-on s)
-  start-step program Gone is = settles (refuses_start Noent (ap accepts is)) (goes-on _ false)
-  start-step program (Refused errno) is = settles (refuses_start errno (ap accepts is)) (goes-on _ false)
+  start-step program Gone is = settles (refuses_start Noent (gone-refuses r is)) (goes-on _ false)
+  start-step program (Refused errno) is = settles (refuses_start errno (other-refuses r errno is)) (goes-on _ false)
 
   control-step : (pid : ℕ) (a : Answer) → answer_of r ≡ a → To (OpeningControl pid) (with_control_answered s pid r a)
   unfolding with_control_answered with_control with_refused_control
   control-step pid Accepted is = opens is new_given
   control-step pid Interrupted is = settles (interrupts_control is) (interrupt-on s)
-  control-step pid Gone is = settles (refuses_control Noent (ap accepts is)) (opens-next _)
-  control-step pid (Refused errno) is = settles (refuses_control errno (ap accepts is)) (opens-next _)
+  control-step pid Gone is = settles (refuses_control Noent (gone-refuses r is)) (opens-next _)
+  control-step pid (Refused errno) is = settles (refuses_control errno (other-refuses r errno is)) (opens-next _)
 
   opening-step : (place : ℕ) (now : OpeningStep) (a : Answer) → answer_of r ≡ a
       → To (Opening place now) (with_step_answered s place now r a)
@@ -170,8 +171,8 @@ module _ (s : TrussState) (r : Reply) where
       by None none = settles (ends_opening is none) (opens-next _)
       by (Some next) some = learns is (opening_goes some)
   opening-step place now Interrupted is = settles (interrupts_opening is) (seen-on s place)
-  opening-step place now Gone is = closes (refuses_opening Noent (ap accepts is))
-  opening-step place now (Refused errno) is = closes (refuses_opening errno (ap accepts is))
+  opening-step place now Gone is = closes (refuses_opening Noent (gone-refuses r is))
+  opening-step place now (Refused errno) is = closes (refuses_opening errno (other-refuses r errno is))
 
   again-step : s.stage ≡ Polling → To Polling s
   again-step at = subst (To Polling) (sym (here s Polling at)) (turns polls_again)
@@ -215,8 +216,8 @@ module _ (s : TrussState) (r : Reply) where
   unfolding with_child_control_answered with_child_control with_refused_child
   child-control-step parent pid Accepted is = opens is new_child
   child-control-step parent pid Interrupted is = settles (interrupts_child_control is) (seen-on s parent)
-  child-control-step parent pid Gone is = returns (refuses_child_control Noent (ap accepts is))
-  child-control-step parent pid (Refused errno) is = returns (refuses_child_control errno (ap accepts is))
+  child-control-step parent pid Gone is = returns (refuses_child_control Noent (gone-refuses r is))
+  child-control-step parent pid (Refused errno) is = returns (refuses_child_control errno (other-refuses r errno is))
 
   -- before the last step
   child-answered : (parent place : ℕ) (now next : ChildStep) → child_step_after now ≡ Some next → (a : Answer)
@@ -227,8 +228,9 @@ module _ (s : TrussState) (r : Reply) where
       at_child_step (with_traced s place (child_learnt (traced_at s place) r now)) parent place in
       subst (λ o. To (OpeningChild parent place now) (v o)) (sym after) (learns is (child_goes after))
   child-answered parent place now next after Interrupted is = settles (interrupts_child is) (seen-on s parent)
-  child-answered parent place now next after Gone is = closes (refuses_child Noent (ap accepts is))
-  child-answered parent place now next after (Refused errno) is = closes (refuses_child errno (ap accepts is))
+  child-answered parent place now next after Gone is = closes (refuses_child Noent (gone-refuses r is))
+  child-answered parent place now next after (Refused errno) is =
+      closes (refuses_child errno (other-refuses r errno is))
 
   child-started : (parent place : ℕ) (a : Answer) → answer_of r ≡ a
       → To (OpeningChild parent place child.Start) (with_child_started s parent place a)
@@ -260,8 +262,8 @@ module _ (s : TrussState) (r : Reply) where
   unfolding with_freeing_begun with_refused_freeing
   free-step pid Accepted is = turns (frees is)
   free-step pid Interrupted is = closes (freed_none is)
-  free-step pid Gone is = closes (refuses_free Noent (ap accepts is))
-  free-step pid (Refused errno) is = closes (refuses_free errno (ap accepts is))
+  free-step pid Gone is = closes (refuses_free Noent (gone-refuses r is))
+  free-step pid (Refused errno) is = closes (refuses_free errno (other-refuses r errno is))
 
   freeing-step : (pid : ℕ) (now : FreeingStep) → To (FreeingChild pid now) (with_freeing_answered s pid now r)
   unfolding with_freeing_answered

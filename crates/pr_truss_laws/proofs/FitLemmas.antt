@@ -72,7 +72,7 @@ fed-grown s r = step-grown s r s.stage (fed s r) (fed-step s r)
 
 -- ---- the places are there
 
-at-last : (ts : List Traced) (t : Traced) → at_place (ts ++ t ∷ []) (length ts) ≡ t
+pub at-last : (ts : List Traced) (t : Traced) → at_place (ts ++ t ∷ []) (length ts) ≡ t
 at-last [] t = refl
 at-last (u ∷ ts) t = at-last ts t
 
@@ -114,7 +114,7 @@ bare-last ts of control =
     subst IsBare (sym (at-last ts (newly_traced of control))) (record { status = refl; lstatus = refl; memory = refl })
 
 -- what a step of an opening has opened, the next one does not open
-abbrev FreshNext : Traced → Option OpeningStep → Type 0
+abbrev pub FreshNext : Traced → Option OpeningStep → Type 0
 FreshNext t None = Unit {0}
 FreshNext t (Some now) = IsFresh t now
 
@@ -122,7 +122,7 @@ fresh-last : (b : Bool) (t : Traced) → FreshNext t (Some (cond b opening.Follo
 fresh-last true t = tt
 fresh-last false t = tt
 
-step-fresh : (o : Options) (t : Traced) (r : Reply) (now : OpeningStep) → IsFresh t now
+pub step-fresh : (o : Options) (t : Traced) (r : Reply) (now : OpeningStep) → IsFresh t now
     → FreshNext (learnt t r now) (step_after o r now)
 unfolding learnt step_after
 step-fresh o t r opening.OpenStatus f = record { lstatus = f.lstatus; memory = f.memory }
@@ -140,7 +140,7 @@ child-fresh t r child.OpenLstatus next f is = subst (IsFreshChild _) (same_Some 
 child-fresh t r child.OpenMemory next f is = subst (IsFreshChild _) (same_Some child.Start next is) tt
 child-fresh t r child.Start next f is = absurd (none-some next is)
 
-on-fits : (u v : TrussState) (given : Bool) → GoesOn u given v → Fits v.traced v.stage
+pub on-fits : (u v : TrussState) (given : Bool) → GoesOn u given v → Fits v.traced v.stage
 on-fits u v given (step.finishes none) = empty-list u.traced none
 on-fits u v given (step.unfollows on first attached) = slice_get_within u.traced 0 _ first
 on-fits u v given (step.closes_first on first attached) = (slice_get_within u.traced 0 _ first, tt)

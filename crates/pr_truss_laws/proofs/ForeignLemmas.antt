@@ -19,8 +19,6 @@ use Rattle.pr_model.specs.State.{TracedProcess, TracedState, TracedSystem, live_
 use Rattle.pr_model.specs.Lives.{new_process, with_spawned}
 use Rattle.pr_model.specs.Machines.{traced}
 use Rattle.pr_num.specs.Programs.{Program}
-use Rattle.pr_num.specs.declared.errnos.Errno.{Errno}
-use Rattle.pr_num.specs.declared.infos.Info.{Info}
 use Rattle.pr_truss_laws.specs.Handles.{HasNoOtherWriter}
 use Rattle.pr_truss_laws.specs.Stills.{IsUndisturbed}
 use Rattle.pr_model.specs.declared.calls.Call.{Call}

@@ -10,13 +10,14 @@ use Rattle.pr_parts.specs.FileCalls.{with_all_shared}
 use Rattle.pr_num.specs.declared.infos.Info.{Info}
 use Rattle.pr_num.specs.declared.signals.Sig.{Sig}
 use Rattle.pr_num.specs.declared.signals.Sig.TheVariants.{Cld, Kill}
+use Rattle.pr_keeps.proofs.LoanLemmas.{process_if-keeps, lent-keeps, loans_passed-keep}
 use Rattle.pr_lawful.proofs.EndLemmas.{buried, found-live}
 use Rattle.pr_lawful.proofs.SuitingLemmas.{SuitChanges, SuitsChange, SuitsReaped}
 use Rattle.pr_lawful.proofs.TurnLemmas.{acting as acting_in, row-suits}
 use Rattle.pr_parts.specs.SignalRules.{deleted_by}
 use Rattle.pr_model.specs.Generation.{ends_job_stop, lwp_with_pending, lwp_without_pending, signalled, with_deletions, with_pending, without_job_stop, without_pending}
-use Rattle.pr_model.specs.Changes.{Change, changed, files_are, space_is, signals, signals_itself, takes_shared, job_stops, disposition_is, held_is, resumes, forks, reaps, becomes, makes_lwp, suspends, all_changed, ended, Ending, ends_process, ends_lwp, with_fds, with_space}
-use Rattle.pr_model.specs.Lives.{Birth, forked, with_child, with_lwp_ended, ended_if_live, orphaned, with_ended, with_made, with_parent_signalled, with_reaped, with_this_ended, zombie}
+use Rattle.pr_model.specs.Changes.{Change, changed, files_are, space_is, signals, signals_itself, takes_shared, job_stops, disposition_is, held_is, resumes, forks, reaps, becomes, all_changed, ended, Ending, ends_process, ends_lwp, with_fds, with_space}
+use Rattle.pr_model.specs.Lives.{Birth, is_id, lent_to, with_lent, with_loan_back, with_lender_of, with_loans_passed, forked, with_child, with_program, with_lwp_ended, ended_if_live, orphaned, with_ended, with_made, with_parent_signalled, with_reaped, with_this_ended, zombie}
 use Rattle.pr_model.specs.Lawful.{IsLawfulSystem, IsNumberedBelow}
 use Rattle.pr_model.specs.LwpTurns.{LwpTurn, settled, turn_of, with_counted}
 use Rattle.pr_model.specs.Machines.{traced}
@@ -25,8 +26,8 @@ use Rattle.pr_model.specs.Points.{after_meeting}
 use Rattle.pr_model.specs.Rows.{Row, row_for}
 use Rattle.pr_model.specs.Transitions.{Transition, after_transition, ended_if}
 use Rattle.pr_model.specs.Signals.{generated, is_kill}
-use Rattle.pr_model.specs.State.{TracedLwp, TracedProcess, TracedSystem, live_process, process_of, with_lwp, with_lwp_of, with_process}
-use Rattle.pr_truss_laws.proofs.StoresLemmas.{row-stores, stores_after}
+use Rattle.pr_model.specs.State.{TracedLwp, TracedProcess, TracedSystem, live_process, process_of, with_lwp, with_lwp_of, with_process, with_process_if}
+use Rattle.pr_truss_laws.proofs.StoresLemmas.{may_have_lent, row-stores, stores_after, stores_by}
 use Rattle.pr_truss_laws.specs.Stills.{IsUndisturbed, KeepsMemory, unsignalled}
 use Rattle.pr_model.proofs.TurnLemmas.{turn-taken}
 
@@ -57,20 +58,34 @@ lwp-alike es ds same id k there = by (under id ds) refl
       ),
     )
 
--- with what others may change of a process, and with its memory, as another process has them
+-- with what others may change of a process, its memory with it, as another process has them
 abbrev as_in : TracedProcess → TracedProcess → TracedProcess
-as_in p q = record p { parent = q.parent; space = q.space; pending = q.pending; job_stop = q.job_stop; lwps = q.lwps }
+as_in p q = record p {
+  parent = q.parent;
+  space = q.space;
+  lender = q.lender;
+  borrower = q.borrower;
+  pending = q.pending;
+  job_stop = q.job_stop;
+  lwps = q.lwps;
+}
 
 undisturbed : (p q : TracedProcess) → q ≡ as_in p q → KeepsMemory p q
     → map_each unsignalled q.lwps ≡ map_each unsignalled p.lwps → IsUndisturbed p q
 undisturbed p q rest memory same =
     record { rest = rest; memory = memory; each = lwp-alike q.lwps p.lwps same; same = same }
 
+pub memory-same : (p q : TracedProcess) → q.borrower ≡ p.borrower → q.space ≡ p.space → KeepsMemory p q
+memory-same p q lent space = record { own = λ none. (lent ∙ none, space) }
+
 pub memory-self : (p : TracedProcess) → KeepsMemory p p
-memory-self p = record { space = refl }
+memory-self p = memory-same p p refl refl
 
 pub memory-next : (p q r : TracedProcess) → KeepsMemory p q → KeepsMemory q r → KeepsMemory p r
-memory-next p q r one two = record { space = two.space ∙ one.space }
+memory-next p q r one two = record { own = λ none. by (one.own none) }
+  where
+    by : (q.borrower ≡ None) × (q.space ≡ p.space) → (r.borrower ≡ None) × (r.space ≡ p.space)
+    by first = let then = two.own first.0 in (then.0, then.1 ∙ first.1)
 
 pub undisturbed-self : (p : TracedProcess) → IsUndisturbed p p
 undisturbed-self p = undisturbed p p refl (memory-self p) refl
@@ -90,14 +105,14 @@ ended-same p q u = ap (λ (x : TracedProcess). x.ended) u.rest
 without-undisturbed : (set : ℕ) (p : TracedProcess) → IsUndisturbed p (without_pending set p)
 unfolding without_pending lwp_without_pending
 without-undisturbed set p =
-    undisturbed p (without_pending set p) refl (record { space = refl })
+    undisturbed p (without_pending set p) refl (memory-same p _ refl refl)
     (map_each-map_each (lwp_without_pending set) unsignalled p.lwps)
 
 job-undisturbed : (g : Sig) (p : TracedProcess) → IsUndisturbed p (without_job_stop g p)
 unfolding without_job_stop
 job-undisturbed g p =
     elim (ends_job_stop g) as (λ b. IsUndisturbed p (cond b (record p { job_stop = None }) p)) [
-      | true ↦ undisturbed p (record p { job_stop = None }) refl (record { space = refl }) refl
+      | true ↦ undisturbed p (record p { job_stop = None }) refl (memory-same p _ refl refl) refl
       | false ↦ undisturbed-self p
     ]
 
@@ -131,9 +146,9 @@ map_each-hidden view id f (e ∷ es) hides =
 pending-undisturbed : (target : Option ℕ) (g : Sig) (info : Info) (p : TracedProcess)
     → IsUndisturbed p (with_pending target g info p)
 unfolding with_pending lwp_with_pending
-pending-undisturbed None g info p = undisturbed p (with_pending None g info p) refl (record { space = refl }) refl
+pending-undisturbed None g info p = undisturbed p (with_pending None g info p) refl (memory-same p _ refl refl) refl
 pending-undisturbed (Some own) g info p =
-    undisturbed p (with_pending (Some own) g info p) refl (record { space = refl })
+    undisturbed p (with_pending (Some own) g info p) refl (memory-same p _ refl refl)
     (map_each-hidden unsignalled own (lwp_with_pending g info) p.lwps (λ l. refl))
 
 pub told-undisturbed : (target : Option ℕ) (g : Sig) (info : Info) (p : TracedProcess)
@@ -151,8 +166,37 @@ told-undisturbed target g info p =
 pub orphaned-undisturbed : (gone : ℕ) (p : TracedProcess) → IsUndisturbed p (orphaned gone p)
 unfolding orphaned
 orphaned-undisturbed gone p =
-    elim (p.parent == gone) as (λ b. IsUndisturbed p (cond b (record p { parent = 0 }) p))
-    [ true ↦ undisturbed p (record p { parent = 0 }) refl (record { space = refl }) refl | false ↦ undisturbed-self p ]
+    elim (p.parent == gone) as (λ b. IsUndisturbed p (cond b (record p { parent = 0 }) p)) [
+      | true ↦ undisturbed p (record p { parent = 0 }) refl (memory-same p _ refl refl) refl
+      | false ↦ undisturbed-self p
+    ]
+
+-- ---- memory that was lent
+
+-- it goes back to a lender, or the lender gets another borrower
+pub loan_back-undisturbed : (gone : ℕ) (p lender : TracedProcess) → IsUndisturbed lender (with_loan_back gone p lender)
+unfolding with_loan_back
+loan_back-undisturbed gone p lender = by (is_id gone lender.borrower) refl
+  where
+    given : TracedProcess
+    given = record lender { space = p.space; borrower = p.borrower }
+
+    by : (b : Bool) → is_id gone lender.borrower ≡ b → IsUndisturbed lender (cond b given lender)
+    by true lent =
+        undisturbed lender given refl
+        (record { own = λ none. absurd (false≢true (ap (is_id gone) (sym none) ∙ lent)) }) refl
+    by false other = undisturbed-self lender
+
+-- a borrower gets another lender, or none
+pub lender_of-undisturbed : (gone : ℕ) (p borrower : TracedProcess)
+    → IsUndisturbed borrower (with_lender_of gone p borrower)
+unfolding with_lender_of
+lender_of-undisturbed gone p borrower =
+    elim (is_id gone borrower.lender) as
+    (λ b. IsUndisturbed borrower (cond b (record borrower { lender = p.lender }) borrower)) [
+      | true ↦ undisturbed borrower (record borrower { lender = p.lender }) refl (memory-same borrower _ refl refl) refl
+      | false ↦ undisturbed-self borrower
+    ]
 
 -- ---- what became of a process
 
@@ -193,6 +237,13 @@ became-alone Ends a b q (has_ended z status later over such) there live =
     ∙ over))
 
 -- ---- systems
+
+-- memory is lent under the ids that were given out
+pub lent-apart : (pid : ℕ) (birth : Birth) (lender child : ℕ) (s : TracedSystem) → s.made ≢ pid
+    → (with_lent birth lender child s).made ≢ pid
+unfolding with_process
+lent-apart pid birth lender child s new =
+    lent-keeps (λ (u : TracedSystem). u.made ≢ pid) birth lender child (λ u apart. apart) s new
 
 -- of signals SIGKILL alone ends a process
 kill-number : (g : Sig) → is_kill g ≡ true → signal_number g ≡ signal_number Kill
@@ -263,6 +314,26 @@ module _ (pid : ℕ) (Ends : ℕ → Type 0) where
   unfolding with_reaped
   reaped-passes gone s other = there-passes s (with_reaped gone s) (under-without_id_other gone pid other s.processes)
 
+  -- ---- memory that was lent
+
+  loaned_back-passes : (gone : ℕ) (p : TracedProcess) (s : TracedSystem) (lender : ℕ) (u : TracedSystem) → Passes s u
+      → Passes s (with_process lender (with_loan_back gone p) u)
+  loaned_back-passes gone p s lender u passes =
+      next-passes s u (with_process lender (with_loan_back gone p) u) passes
+      (any-passes lender (with_loan_back gone p) u (loan_back-undisturbed gone p))
+
+  pub loan_back-passes : (gone : ℕ) (p : TracedProcess) (s u : TracedSystem) → Passes s u
+      → Passes s (with_process_if p.lender (with_loan_back gone p) u)
+  loan_back-passes gone p s u passes =
+      process_if-keeps (Passes s) p.lender (with_loan_back gone p) (loaned_back-passes gone p s) u passes
+
+  passed-passes : (gone : ℕ) (p : TracedProcess) (s u : TracedSystem) → Passes s u
+      → Passes s (with_loans_passed gone p u)
+  passed-passes gone p s u passes =
+      loans_passed-keep (Passes s) gone p (loaned_back-passes gone p s)
+      (λ borrower v before. next-passes s v (with_process borrower (with_lender_of gone p) v) before
+      (any-passes borrower (with_lender_of gone p) v (lender_of-undisturbed gone p))) u passes
+
   -- ---- a process that ends
 
   zombie-became : (status : ℕ) → Ends status → (o : Option TracedProcess)
@@ -301,7 +372,9 @@ module _ (pid : ℕ) (Ends : ℕ → Type 0) where
             (eqb-true gone pid same)
         | inr not ↦ buried-other gone p status s (eqb-false gone pid not)
       ] in
-      next-passes s b (with_parent_signalled p.parent gone status b) dies (parent-passes p.parent gone status b)
+      let passed : TracedSystem = with_loans_passed gone p b in
+      next-passes s passed (with_parent_signalled p.parent gone status passed) (passed-passes gone p s b dies)
+      (parent-passes p.parent gone status passed)
     where
       own : gone ≡ pid → Passes s (buried gone p status s)
       own same = subst (λ n. Passes s (buried n p status s)) (sym same) (buried-own p status s (such same))
@@ -341,6 +414,10 @@ module _ (pid : ℕ) where
   pub made-spares : (p : TracedProcess) (s : TracedSystem) → s.made ≢ pid → Spares s (with_made p s)
   made-spares p s new = spared s _ (made-passes pid Whatever p s new)
 
+  pub loan_back-spares : (gone : ℕ) (p : TracedProcess) (s : TracedSystem)
+      → Spares s (with_process_if p.lender (with_loan_back gone p) s)
+  loan_back-spares gone p s = spared s _ (loan_back-passes pid Whatever gone p s s (same-passes pid Whatever s))
+
   pub reaped-spares : (gone : ℕ) (s : TracedSystem) → gone ≢ pid → Spares s (with_reaped gone s)
   reaped-spares gone s other = spared s _ (reaped-passes pid Whatever gone s other)
 
@@ -373,9 +450,14 @@ module _ (pid acting : ℕ) (p : TracedProcess) (id : ℕ) (l : TracedLwp) (othe
   unfolding with_child
   child-passes birth args s new =
       let shared : TracedSystem = record s { files = with_all_shared s.files p.fds } in
+      let lent : TracedSystem = with_lent birth acting s.made shared in
       let child : TracedProcess = forked traced birth acting p l args s.clock in
-      next-passes pid ByKill s shared (with_made child shared) (files-pass (with_all_shared s.files p.fds) s)
-      (made-passes pid ByKill child shared new)
+      next-passes pid ByKill s lent (with_made child lent)
+      (lent-keeps (Passes pid ByKill s) birth acting s.made
+      (λ u before. next-passes pid ByKill s u (with_process acting (lent_to s.made) u) before
+      (changed-pass (lent_to s.made) u)) shared
+      (files-pass (with_all_shared s.files p.fds) s))
+      (made-passes pid ByKill child lent (lent-apart pid birth acting s.made shared new))
 
   module _ (s : TracedSystem) (x : TracedProcess) (there : process_of s pid ≡ Some x) (live : x.ended ≡ None)
       (new : s.made ≢ pid) where
@@ -405,19 +487,22 @@ module _ (pid acting : ℕ) (p : TracedProcess) (id : ℕ) (l : TracedLwp) (othe
     change-passes (resumes frame frames) suits = changed-pass _ s
     change-passes (forks birth args) suits = unless-pass (s.made == acting) s _ (child-passes birth args s new)
     change-passes (reaps child) suits = unless-pass (child == acting) s _ (zombie-passes child suits)
+    change-passes (becomes program) suits =
+        loan_back-passes pid ByKill acting p s (with_process acting (with_program traced id l program) s)
+        (changed-pass (with_program traced id l program) s)
     change-passes _ suits = changed-pass _ s
 
     -- a first change, and what is stored after it
-    changes-pass : (cs : List Change) → SuitChanges acting p id l s cs → stores_after cs ≡ true
+    changes-pass : (lends : Bool) (cs : List Change) → SuitChanges acting p id l s cs → stores_after lends cs ≡ true
         → Passes pid ByKill s (all_changed traced acting p id l cs s)
     unfolding all_changed changed
-    changes-pass [] suits stores = same-passes pid ByKill s
-    changes-pass (c ∷ []) suits stores = change-passes c suits.0
-    changes-pass (c ∷ space_is space ∷ []) suits stores =
+    changes-pass lends [] suits stores = same-passes pid ByKill s
+    changes-pass lends (c ∷ []) suits stores = change-passes c suits.0
+    changes-pass lends (c ∷ space_is space ∷ []) suits stores =
         let next : TracedSystem = changed traced acting p id l c s in
         next-passes pid ByKill s next (with_process acting (with_space space) next) (change-passes c suits.0)
         (changed-pass (with_space space) next)
-    changes-pass _ suits stores = absurd (false≢true stores)
+    changes-pass lends _ suits stores = absurd (false≢true stores)
 
     ending-passes : (how : Option Ending) (u : TracedSystem) → Passes pid ByKill u (ended_if traced acting p id l how u)
     unfolding ended with_lwp_ended
@@ -427,24 +512,25 @@ module _ (pid acting : ℕ) (p : TracedProcess) (id : ℕ) (l : TracedLwp) (othe
         either-passes pid ByKill (length p.lwps == 1) u _ _
         (end-passes pid ByKill acting p 0 u (λ same. absurd (other same))) (changed-pass _ u)
 
-    transition-passes : (t : Transition) → SuitChanges acting p id l s t.changes → stores_after t.changes ≡ true
-        → Passes pid ByKill s (after_transition traced acting p id l t s)
+    transition-passes : (lends : Bool) (t : Transition) → SuitChanges acting p id l s t.changes
+        → stores_after lends t.changes ≡ true → Passes pid ByKill s (after_transition traced acting p id l t s)
     unfolding after_transition with_lwp_of
-    transition-passes t suits stores =
+    transition-passes lends t suits stores =
         let changes : TracedSystem = all_changed traced acting p id l t.changes s in
         let moves : TracedSystem = with_process acting (with_lwp id (moved traced t.move)) changes in
         next-passes pid ByKill s moves (ended_if traced acting p id l t.ending moves)
-        (next-passes pid ByKill s changes moves (changes-pass t.changes suits stores) (changed-pass _ changes))
+        (next-passes pid ByKill s changes moves (changes-pass lends t.changes suits stores) (changed-pass _ changes))
         (ending-passes t.ending moves)
 
-    settled-passes : (row : Row) → SuitChanges acting p id l s row.transition.changes
-        → stores_after row.transition.changes ≡ true → Passes pid ByKill s (settled s acting p id l row).system
+    settled-passes : (row : Row) → SuitChanges acting p id l s row.transition.changes → stores_by row ≡ true
+        → Passes pid ByKill s (settled s acting p id l row).system
     unfolding settled
     settled-passes row suits stores =
         let made : TracedSystem = after_transition traced acting p id l row.transition s in
         let counted_one : TracedSystem = with_process acting (with_counted row.did row.begun) made in
         next-passes pid ByKill s counted_one (with_process acting (after_meeting row.point id) counted_one)
-        (next-passes pid ByKill s made counted_one (transition-passes row.transition suits stores)
+        (next-passes pid ByKill s made counted_one
+        (transition-passes (may_have_lent row.did) row.transition suits stores)
         (changed-pass (with_counted row.did row.begun) made))
         (changed-pass (after_meeting row.point id) counted_one)
 

@@ -1,8 +1,8 @@
-use Rattle.std.proofs.Common.{◌≡◌, ◌<◌, ◌≤◌, ◌+◌, ℕ, zero, suc, true, false, None, Some, Option, List, [], ◌∷◌, ◌++◌, length, drop, refl, sym, subst, ap, ◌∙◌, arith, inl, inr, append_assoc}
+use Rattle.std.proofs.Common.{◌≡◌, ◌≢◌, ◌<◌, ◌≤◌, ◌+◌, ℕ, zero, suc, true, false, None, Some, Option, List, [], ◌∷◌, ◌++◌, length, drop, map, take, refl, sym, subst, ap, ◌∙◌, arith, inl, inr, append_assoc}
 use Rattle.std.proofs.lemmas.List.{append-nil, length-append}
 use Rattle.std.proofs.lemmas.List.Elements.{All-nil, All-cons}
 use Rattle.std.proofs.lemmas.Option.{same_Some, none-some}
-use Rattle.std.specs.List.{All, slice_get, slice_index_or}
+use Rattle.std.specs.List.{cons_option, slice_get, slice_index_or}
 use Rattle.pr_line.specs.declared.options.Options.{Options}
 use Rattle.pr_model.specs.Replies.{handle_in}
 use Rattle.pr_model.specs.declared.calls.Call.{Call}
@@ -17,7 +17,7 @@ use Rattle.pr_truss.specs.NextCalls.{call_of, next_call_of, open_control}
 use Rattle.pr_truss.specs.Openings.{pid_in, with_control, with_control_answered, with_refused_control, with_refused_start, with_start_answered}
 use Rattle.pr_truss.specs.Processes.{newly_traced}
 use Rattle.pr_truss.specs.Replies.{answer_of}
-use Rattle.pr_truss.specs.Trusses.{TrussState, first_of_program, first_truss, idle, nobody, opening_or, with_opened, with_report, with_stage}
+use Rattle.pr_truss.specs.Trusses.{TrussState, first_of_program, first_truss, idle, nobody, opening_or, traced_at, with_opened, with_report, with_stage}
 use Rattle.pr_truss.specs.declared.processes.Traced.{Traced}
 use Rattle.pr_truss.specs.declared.replies.Answer.{Answer}
 use Rattle.pr_truss.specs.declared.replies.Answer.TheVariants.{Accepted, Interrupted, Gone, Refused}
@@ -25,15 +25,18 @@ use Rattle.pr_truss.specs.declared.reports.Report.{Report}
 use Rattle.pr_truss.specs.declared.reports.Report.TheVariants.{CannotStart, CannotTrace}
 use Rattle.pr_truss.specs.declared.stages.OpeningStep.TheVariants.{OpenStatus}
 use Rattle.pr_truss.specs.declared.stages.Stage.TheVariants.{Spawning, OpeningControl, Finished}
-use Rattle.pr_truss_laws.proofs.AnswerLemmas.{IsAnswer, answer-is}
+use Rattle.pr_truss_laws.proofs.AnswerLemmas.{IsAnswer, Refuses, answer-is, gone-refuses, other-refuses}
+use Rattle.pr_truss_laws.proofs.ChildrenLemmas.{going-alone, idle-alone, interrupted-alone}
 use Rattle.pr_truss_laws.proofs.ClosesLemmas.{after-grown}
-use Rattle.pr_truss_laws.proofs.HeldLemmas.{Grown, empty-list}
-use Rattle.pr_truss_laws.proofs.OpeningLemmas.{Done, Failed, Leads, OpeningEnd, SameBase, Stopped, closed, closing, closing-end, done, failed, going, leads-later, left, opening-end}
+use Rattle.pr_truss_laws.proofs.HeldLemmas.{Grown, IsBare, empty-list}
+use Rattle.pr_truss_laws.proofs.OpeningLemmas.{Broken, Done, Failed, Leads, OpeningEnd, SameBase, Stopped, closed, closing, closing-end, done, failed, going, leads-later, left, opening-end}
 use Rattle.pr_truss_laws.proofs.SequenceLemmas.{Goes, begun-calls, next-calls, whole-calls}
 use Rattle.pr_truss_laws.proofs.ReplySteps.{on-staged}
 use Rattle.pr_truss_laws.proofs.FedSteps.{opens-next}
-use Rattle.pr_truss_laws.specs.Exchanges.{Ends, Exchange, IsClose, IsGranted, Makes, errno_in, truss_after}
-use Rattle.pr_truss_laws.specs.Given.{AreHandled, IsBegunOpening, IsHandled, IsHandledSoFar, IsRefusedOpening, IsStarting, IsWholeOpening, LeftAtStart, NotStarted, Started, opening_calls}
+use Rattle.pr_truss_laws.specs.Business.{OpensChildrenAlone}
+use Rattle.pr_truss_laws.specs.Exchanges.{Ends, Exchange, IsGranted, Makes, calls_in, errno_in, opened_by, truss_after, with_opened_by}
+use Rattle.pr_truss_laws.specs.Given.{AreHandled, IsBegunOpening, IsHandled, IsHandledSoFar, IsRefusedOpening, IsStarting, IsWholeOpening, LeftAtStart, NotStarted, Started, closing_calls_of, opening_calls}
+use Rattle.pr_truss_laws.specs.Handles.{handles_of}
 
 -- What has become of each process that truss was given.
 
@@ -55,6 +58,9 @@ drop-some (y ∷ xs) (suc i) x e =
 
 -- ---- on the way to this state
 
+abbrev closes_of : List ℕ → List Call
+closes_of handles = map call.Close handles
+
 module _ (f : TrussState) where
   -- the call that is due
   abbrev pub due : Option Call
@@ -67,8 +73,9 @@ module _ (f : TrussState) where
     pub handled : AreHandled o due pids more xs
 
   -- no process is left
-  told-none : (base : List Report) (o : Options) (xs : List Exchange) → Grown base f.reports → Told base o [] xs
-  told-none base o xs g = record { more = g.more; is = g.is; handled = tt }
+  told-none : (base : List Report) (o : Options) (xs : List Exchange) → Grown base f.reports → OpensChildrenAlone o xs
+      → Told base o [] xs
+  told-none base o xs g alone = record { more = g.more; is = g.is; handled = alone }
 
   -- what is said of the processes after one whose opening was done
   told-attached : (base : List Report) (o : Options) (pid : ℕ) (pids : List ℕ) (opening later : List Exchange)
@@ -81,10 +88,10 @@ module _ (f : TrussState) where
 
   -- and after one that was refused
   told-refused : (base : List Report) (o : Options) (pid : ℕ) (pids : List ℕ) (errno : Errno)
-      (opening closings later : List Exchange) → IsRefusedOpening o pid errno opening → All IsClose closings
-      → Told (base ++ CannotTrace pid errno ∷ []) o pids later
+      (opening closings later : List Exchange) → (refused : IsRefusedOpening o pid errno opening) → errno ≢ Intr
+      → calls_in closings ≡ closing_calls_of refused.before → Told (base ++ CannotTrace pid errno ∷ []) o pids later
       → Told base o (pid ∷ pids) (opening ++ (closings ++ later))
-  told-refused base o pid pids errno opening closings later refused closes t = record {
+  told-refused base o pid pids errno opening closings later refused other closes t = record {
     more = CannotTrace pid errno ∷ t.more;
     is = t.is ∙ append_assoc base (CannotTrace pid errno ∷ []) t.more;
     handled =
@@ -96,6 +103,7 @@ module _ (f : TrussState) where
           more = t.more;
           is = refl;
           refused = refused;
+          not_interrupted = other;
           closes = closes;
           reported = refl;
           next = t.handled;
@@ -103,11 +111,18 @@ module _ (f : TrussState) where
   }
 
   told-left : (base : List Report) (o : Options) (pid : ℕ) (pids : List ℕ) (opening later : List Exchange)
-      → IsRefusedOpening o pid Intr opening → Grown base f.reports → Told base o (pid ∷ pids) (opening ++ later)
-  told-left base o pid pids opening later stopped g = record {
+      → IsRefusedOpening o pid Intr opening → OpensChildrenAlone o later → Grown base f.reports
+      → Told base o (pid ∷ pids) (opening ++ later)
+  told-left base o pid pids opening later stopped alone g = record {
     more = g.more;
     is = g.is;
-    handled = inr (inr (inl (record { opening = opening; later = later; is = refl; interrupted = stopped })));
+    handled = inr (inr (inl (record {
+      opening = opening;
+      later = later;
+      is = refl;
+      interrupted = stopped;
+      alone = alone;
+    })));
   }
 
   -- and of one on which truss is at work
@@ -121,9 +136,10 @@ module _ (f : TrussState) where
 
   told-broken : (base : List Report) (o : Options) (pid : ℕ) (pids : List ℕ) (errno : Errno)
       (opening closings : List Exchange) (handle : ℕ) → due ≡ Some (call.Close handle)
-      → IsRefusedOpening o pid errno opening → All IsClose closings
+      → (refused : IsRefusedOpening o pid errno opening) → errno ≢ Intr
+      → calls_in closings ++ call.Close handle ∷ [] ≡ take (length closings + 1) (closing_calls_of refused.before)
       → f.reports ≡ base ++ CannotTrace pid errno ∷ [] → Told base o (pid ∷ pids) (opening ++ closings)
-  told-broken base o pid pids errno opening closings handle next refused closes reported = record {
+  told-broken base o pid pids errno opening closings handle next refused other closes reported = record {
     more = CannotTrace pid errno ∷ [];
     is = reported;
     handled =
@@ -135,6 +151,7 @@ module _ (f : TrussState) where
           next = next;
           is = refl;
           refused = refused;
+          not_interrupted = other;
           closes = closes;
           reported = refl;
         }))));
@@ -212,16 +229,17 @@ module _ (f : TrussState) where
         → Told u.reports u.options (pids_left u) ys
 
     refused-told : (x : Exchange) (xs : List Exchange) (errno : Errno) → Shorter xs → x.call ≡ open_control pid
-        → x.reply ≡ reply.Fail errno → Leads f (with_refused_control at_control pid errno) xs → Goal (x ∷ xs)
-    unfolding with_refused_control
-    refused-told x xs errno later call is l =
-        told-refused s.reports s.options pid (pids_left s) errno (x ∷ []) [] xs (refused-first x errno call is)
-        (All-nil IsClose) (later xs (with_report at_control (CannotTrace pid errno)) (omega arith) l)
+        → Refuses x.reply errno → Leads f (with_refused_control at_control pid errno) xs → Goal (x ∷ xs)
+    unfolding with_refused_control refused-first
+    refused-told x xs errno later call refuses l =
+        told-refused s.reports s.options pid (pids_left s) errno (x ∷ []) [] xs (refused-first x errno call refuses.is)
+        refuses.not_interrupted refl (later xs (with_report at_control (CannotTrace pid errno)) (omega arith) l)
 
     left-told : (x : Exchange) (xs : List Exchange) → x.call ≡ open_control pid → x.reply ≡ reply.Fail Intr
-        → Grown s.reports f.reports → Goal (x ∷ xs)
-    left-told x xs call is g =
-        told-left s.reports s.options pid (pids_left s) (x ∷ []) xs (refused-first x Intr call is) g
+        → Grown s.reports f.reports → Leads f (with_interrupt at_control) xs → Goal (x ∷ xs)
+    left-told x xs call is g l =
+        told-left s.reports s.options pid (pids_left s) (x ∷ []) xs (refused-first x Intr call is)
+        (interrupted-alone at_control xs l.makes) g
 
     shorter-part : (a b xs : List Exchange) → xs ≡ a ++ b → length b ≤ length xs
     shorter-part a b xs is = omega (arith, ap length is, length-append a b)
@@ -248,15 +266,19 @@ module _ (f : TrussState) where
           (told-attached s.reports s.options pid (pids_left s) (x ∷ d.opening) d.later whole rest)
 
       failed-told : Failed f with_one opened (Some OpenStatus) xs → Goal (x ∷ xs)
-      unfolding newly_traced
+      unfolding newly_traced refused-later
       failed-told d =
           let st = d.stopped in
+          let files : handles_of (traced_at d.state d.place) ≡ with_opened_by [] (x ∷ st.before) =
+          d.handles
+          ∙ ap (λ c. with_opened_by (cons_option (opened_by c x.reply) []) st.before) (sym call) in
           let reported : TrussState = with_report d.state (CannotTrace pid d.errno) in
           let refused = refused-later x xs d.errno with_one refl call granted st in
           let is : x ∷ xs ≡ (x ∷ st.opening) ++ st.later = ap (λ ys. x ∷ ys) st.is in
           let reports : reported.reports ≡ s.reports ++ CannotTrace pid d.errno ∷ [] =
           ap (λ rs. rs ++ CannotTrace pid d.errno ∷ []) d.same.reports in
-          subst Goal (sym is) (elim (closing-end f st.later reported d.place d.ends) [
+          subst Goal (sym is) (elim (closing-end f st.later reported
+          (traced_at d.state d.place) d.place d.within refl d.ends) [
             | closed c ↦
                 let base : SameBase (with_report s (CannotTrace pid d.errno)) c.state = record {
                   options = c.same.options ∙ d.same.options;
@@ -275,17 +297,20 @@ module _ (f : TrussState) where
                 (later c.later c.state short c.ends) in
                 subst Goal (ap (λ ys. (x ∷ st.opening) ++ ys) (sym c.is))
                 (told-refused s.reports s.options pid (pids_left s) d.errno
-                (x ∷ st.opening) c.closings c.later refused c.closes rest)
+                (x ∷ st.opening) c.closings c.later refused d.not_interrupted (c.closes
+                ∙ ap closes_of files) rest)
             | closing c ↦
                 told-broken s.reports s.options pid (pids_left s) d.errno
-                (x ∷ st.opening) st.later c.handle c.due refused c.closes (c.reports ∙ reports)
+                (x ∷ st.opening) st.later c.handle c.due refused d.not_interrupted (c.closes
+                ∙ ap (λ hs. take (length st.later + 1) (closes_of hs)) files) (c.reports ∙ reports)
           ])
 
-      stopped-told : Stopped f with_one opened (Some OpenStatus) Intr xs → Goal (x ∷ xs)
-      stopped-told d =
+      stopped-told : Broken f with_one opened (Some OpenStatus) xs → Goal (x ∷ xs)
+      stopped-told b =
+          let d = b.stopped in
           subst Goal (ap (λ ys. x ∷ ys) (sym d.is))
           (told-left s.reports s.options pid (pids_left s) (x ∷ d.opening) d.later
-          (refused-later x xs Intr with_one refl call granted d) g)
+          (refused-later x xs Intr with_one refl call granted d) b.alone g)
 
       end-told : OpeningEnd f with_one opened (Some OpenStatus) xs → Goal (x ∷ xs)
       end-told (done d) = done-told d
@@ -303,21 +328,26 @@ module _ (f : TrussState) where
       opened-at [] t = refl
       opened-at (u ∷ ts) t = opened-at ts t
 
+      bare : IsBare opened
+      unfolding newly_traced
+      bare = record { status = refl; lstatus = refl; memory = refl }
+
       accepted-told : Leads f (with_control at_control pid (handle_in x.reply)) xs → Goal (x ∷ xs)
       unfolding with_control
       accepted-told l =
           end-told
           (opening-end f xs with_one opened (length s.traced) OpenStatus
-          (omega (arith, length-append s.traced (opened ∷ []))) (opened-at s.traced opened) l)
+          (omega (arith, length-append s.traced (opened ∷ []))) (opened-at s.traced opened) bare l)
 
     answered-told : (x : Exchange) (xs : List Exchange) → Shorter xs → x.call ≡ open_control pid
-        → Grown s.reports f.reports → (a : Answer) → IsAnswer x.reply a
+        → Grown s.reports f.reports → (a : Answer) → answer_of x.reply ≡ a → IsAnswer x.reply a
         → Leads f (with_control_answered at_control pid x.reply a) xs → Goal (x ∷ xs)
     unfolding IsAnswer with_control_answered
-    answered-told x xs later call g Accepted is l = accepted-told x xs later call is g l
-    answered-told x xs later call g Interrupted is l = left-told x xs call is g
-    answered-told x xs later call g Gone is l = refused-told x xs Noent later call is l
-    answered-told x xs later call g (Refused errno) is l = refused-told x xs errno later call is l
+    answered-told x xs later call g Accepted by is l = accepted-told x xs later call is g l
+    answered-told x xs later call g Interrupted by is l = left-told x xs call is g l
+    answered-told x xs later call g Gone by is l = refused-told x xs Noent later call (gone-refuses x.reply by) l
+    answered-told x xs later call g (Refused errno) by is l =
+        refused-told x xs errno later call (other-refuses x.reply errno by) l
 
     control-told : (xs : List Exchange)
         → ((ys : List Exchange) (u : TrussState) → length ys < length xs → Leads f
@@ -325,7 +355,7 @@ module _ (f : TrussState) where
     control-told [] later l = control-due l
     control-told (x ∷ xs) later l =
         answered-told x xs (λ ys u short. later ys u (omega arith)) (control-call x xs l) (grown-at (x ∷ xs) l)
-        (answer_of x.reply) (answer-is x.reply) (control-answered x xs l)
+        (answer_of x.reply) refl (answer-is x.reply) (control-answered x xs l)
 
   -- ---- the next process
 
@@ -355,7 +385,7 @@ module _ (f : TrussState) where
           (opening_or s (with_going_on s) p) xs → Told s.reports s.options (pids_left s) xs
       by None is later g k =
           subst (λ pids. Told s.reports s.options pids xs) (sym (drop-none s.options.pids s.begun is))
-          (told-none s.reports s.options xs g)
+          (told-none s.reports s.options xs g (going-alone s xs k.makes))
       by (Some pid) is later g k =
           subst (λ pids. Told s.reports s.options pids xs) (sym (drop-some s.options.pids s.begun pid is))
           (control-told (record s { begun = s.begun + 1 }) pid xs later k)
@@ -380,7 +410,7 @@ pids-handled : (o : Options) (p : Option ℕ) → slice_get o.pids 0 ≡ p → (
     (truss_after (opening_or (idle o) (idle o) p) xs).reports xs
 pids-handled o None is xs makes =
     subst (λ pids. AreHandled o (due_after (idle o) xs) pids (truss_after (idle o) xs).reports xs)
-    (sym (empty-list o.pids is)) tt
+    (sym (empty-list o.pids is)) (idle-alone o xs makes)
 pids-handled o (Some pid) is xs makes =
     let s : TrussState = record (idle o) { begun = 1 } in
     let u : TrussState = with_stage s (OpeningControl pid) in

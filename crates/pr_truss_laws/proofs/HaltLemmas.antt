@@ -36,7 +36,7 @@ outlasts-halts pid p s halting (outlast.killed z none there status) = killed z n
 -- what stops in a turn of its own keeps its memory
 stopped-memory : (id : ℕ) (p : TracedProcess) → KeepsMemory p (with_lwp_stopped id p)
 unfolding with_lwp with_counted
-stopped-memory id p = record { space = refl }
+stopped-memory id p = record { own = λ none. (none, refl) }
 
 module _ (n : ℕ) (s : TracedState) (k pid : ℕ) (lawful : IsLawful s) (sole : HasNoOtherWriter k pid s.opens)
     (p : TracedProcess) (live : live_process s.system pid ≡ Some p) (halting : IsHalting p) where

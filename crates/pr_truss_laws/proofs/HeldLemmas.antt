@@ -2,7 +2,13 @@ use Rattle.std.proofs.Common.{◌≡◌, ◌==◌, ◌&&◌, ◌<◌, ◌≤◌,
 use Rattle.std.proofs.lemmas.List.{get_or-set_same, append-nil}
 use Rattle.std.proofs.lemmas.List.Sums.{sum_by-set, sum_by-remove, sum_by-append}
 use Rattle.std.specs.List.{slice_get, slice_index_or, slice_set, sum_by, remove}
-use Rattle.pr_truss.specs.Trusses.{TrussState, nobody}
+use Rattle.pr_model.specs.declared.calls.Call.TheVariants as call
+use Rattle.pr_model.specs.declared.calls.Reply.{Reply}
+use Rattle.pr_truss.specs.Closings.{closed_or_removed, with_closed}
+use Rattle.pr_truss.specs.Feeding.{fed, with_reply}
+use Rattle.pr_truss.specs.NextCalls.{call_of, next_call_of}
+use Rattle.pr_truss.specs.Processes.{last_handle, without_last}
+use Rattle.pr_truss.specs.Trusses.{TrussState, nobody, traced_at}
 use Rattle.pr_truss.specs.declared.processes.Traced.{Traced}
 use Rattle.pr_truss.specs.declared.reports.Report.{Report}
 use Rattle.pr_truss.specs.declared.stages.AfterClosing.{AfterClosing}
@@ -14,6 +20,7 @@ use Rattle.pr_truss.specs.declared.stages.OpeningStep.{OpeningStep}
 use Rattle.pr_truss.specs.declared.stages.OpeningStep.TheVariants as opening
 use Rattle.pr_truss.specs.declared.stages.Stage.{Stage}
 use Rattle.pr_truss.specs.declared.stages.Stage.TheVariants.{Spawning, OpeningControl, Opening, Polling, ReadingStatus, ReadingText, OpeningChildControl, OpeningChild, Running, Closing, Unfollowing, ReadingLwps, FreeingChild, Finished}
+use Rattle.pr_truss_laws.specs.Handles.{handles_of}
 
 -- The files that truss holds open: how often it remembers a handle of a process, and which of its places are there.
 
@@ -141,3 +148,42 @@ append-sum f ts t = omega (arith, sum_by-append f ts (t ∷ []))
 
 pub at-sum : (f : Traced → ℕ) (ts : List Traced) (place : ℕ) → place < length ts → f (at_place ts place) ≤ sum_by f ts
 at-sum f ts place within = omega (arith, sum_by-remove f ts place nobody within)
+
+-- ---- closing
+
+-- the file that was opened last is closed first
+abbrev pub ClosesFirst : Traced → Option Traced → Type 0
+ClosesFirst u None = handles_of u ≡ last_handle u ∷ []
+ClosesFirst u (Some v) = handles_of u ≡ last_handle u ∷ handles_of v
+
+first-fields : (pid control : ℕ) (status lstatus memory : Option ℕ) (attached : Bool) (old : ℕ) (seen : Bool)
+    → let u : Traced = record {
+      pid = pid;
+      control = control;
+      status = status;
+      lstatus = lstatus;
+      memory = memory;
+      attached = attached;
+      old = old;
+      seen = seen;
+    } in ClosesFirst u (without_last u)
+unfolding last_handle without_last
+first-fields pid control status lstatus (Some m) attached old seen = refl
+first-fields pid control status (Some l) None attached old seen = refl
+first-fields pid control (Some s) None None attached old seen = refl
+first-fields pid control None None None attached old seen = refl
+
+pub closes-first : (u : Traced) → ClosesFirst u (without_last u)
+closes-first u = first-fields u.pid u.control u.status u.lstatus u.memory u.attached u.old u.seen
+
+-- a file of a process is closed, whatever comes then
+pub close-fed : (s : TrussState) (r : Reply) (place : ℕ) (next : AfterClosing) → s.stage ≡ Closing place next
+    → fed s r ≡ closed_or_removed s place next (without_last (traced_at s place))
+unfolding fed with_reply with_closed
+close-fed s r place next stage = ap (with_reply s r) stage
+
+-- the call of a truss that closes a file of a process
+pub closes-next : (s : TrussState) (u : Traced) (place : ℕ) (next : AfterClosing) → s.stage ≡ Closing place next
+    → traced_at s place ≡ u → next_call_of s ≡ Some (call.Close (last_handle u))
+unfolding next_call_of call_of
+closes-next s u place next stage at = ap (call_of s) stage ∙ ap (λ t. Some (call.Close (last_handle t))) at

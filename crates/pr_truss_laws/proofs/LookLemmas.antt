@@ -20,18 +20,20 @@ use Rattle.pr_truss_laws.proofs.HeldLemmas.{at_place, set-at}
 
 -- ---- states that differ little
 
--- the files of a process, after those that it had
+-- the same process, with the files that it had
 pub record SameFiles (t u : Traced) : Type 0 where
+  pub pid : u.pid ≡ t.pid
   pub control : u.control ≡ t.control
   pub status : u.status ≡ t.status
   pub lstatus : u.lstatus ≡ t.lstatus
   pub memory : u.memory ≡ t.memory
 
 pub same-files : (t : Traced) → SameFiles t t
-same-files t = record { control = refl; status = refl; lstatus = refl; memory = refl }
+same-files t = record { pid = refl; control = refl; status = refl; lstatus = refl; memory = refl }
 
 pub same-files-both : (t u v : Traced) → SameFiles t u → SameFiles u v → SameFiles t v
 same-files-both t u v p q = record {
+  pid = q.pid ∙ p.pid;
   control = q.control ∙ p.control;
   status = q.status ∙ p.status;
   lstatus = q.lstatus ∙ p.lstatus;
@@ -77,6 +79,7 @@ alike-old s place within =
       count = length-set s.traced place t;
       files =
           set-each (λ k. SameFiles (traced_at s k)) s.traced place t within (λ k. same-files (traced_at s k)) (record {
+            pid = refl;
             control = refl;
             status = refl;
             lstatus = refl;

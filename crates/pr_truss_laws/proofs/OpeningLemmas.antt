@@ -1,8 +1,8 @@
-use Rattle.std.proofs.Common.{◌≡◌, ◌<◌, ℕ, Option, Some, None, List, [], ◌∷◌, ◌++◌, length, refl, sym, subst, ap, ◌∙◌, arith}
+use Rattle.std.proofs.Common.{◌≡◌, ◌≢◌, ◌<◌, ◌+◌, ℕ, suc, Option, Some, None, List, [], ◌∷◌, ◌++◌, length, map, take, refl, sym, subst, ap, ◌∙◌, arith}
 use Rattle.std.proofs.lemmas.List.{get_or-set_same, length-set}
 use Rattle.std.proofs.lemmas.Option.{same_Some}
 use Rattle.std.proofs.lemmas.List.Elements.{All-nil, All-cons}
-use Rattle.std.specs.List.{All}
+use Rattle.std.specs.List.{All, cons_option}
 use Rattle.pr_line.specs.declared.options.Options.{Options}
 use Rattle.pr_model.specs.declared.calls.Call.{Call}
 use Rattle.pr_model.specs.declared.calls.Call.TheVariants as call
@@ -10,10 +10,10 @@ use Rattle.pr_model.specs.declared.calls.Reply.{Reply}
 use Rattle.pr_model.specs.declared.calls.Reply.TheVariants as reply
 use Rattle.pr_num.specs.declared.errnos.Errno.{Errno}
 use Rattle.pr_num.specs.declared.errnos.Errno.TheVariants.{Intr, Noent}
-use Rattle.pr_truss.specs.Closings.{with_closed, closed_or_removed, after_closing, with_next_opening}
+use Rattle.pr_truss.specs.Closings.{with_interrupt, with_closed, closed_or_removed, after_closing, with_next_opening}
 use Rattle.pr_truss.specs.Feeding.{fed, with_reply}
 use Rattle.pr_truss.specs.NextCalls.{next_call_of, call_of, opening_call}
-use Rattle.pr_truss.specs.Openings.{learnt, step_after, at_step, with_step_done, with_refused_step, with_step_answered}
+use Rattle.pr_truss.specs.Openings.{learnt, step_after, at_step, with_step_done, with_refused_step, with_step_answered, with_stop_seen}
 use Rattle.pr_truss.specs.Processes.{last_handle, without_last}
 use Rattle.pr_truss.specs.Replies.{answer_of}
 use Rattle.pr_truss.specs.Trusses.{TrussState, nobody, traced_at, with_report, with_stage, with_traced, without_traced}
@@ -25,9 +25,14 @@ use Rattle.pr_truss.specs.declared.stages.AfterClosing.TheVariants.{OpenNext}
 use Rattle.pr_truss.specs.declared.stages.OpeningStep.{OpeningStep}
 use Rattle.pr_truss.specs.declared.stages.OpeningStep.TheVariants as opening
 use Rattle.pr_truss.specs.declared.stages.Stage.TheVariants.{Opening, Closing}
-use Rattle.pr_truss_laws.proofs.AnswerLemmas.{IsAnswer, answer-is}
-use Rattle.pr_truss_laws.proofs.SequenceLemmas.{Goes, GoesToEnd}
-use Rattle.pr_truss_laws.specs.Exchanges.{Ends, Exchange, IsClose, IsGranted, Makes, errno_in, truss_after}
+use Rattle.pr_truss_laws.proofs.AnswerLemmas.{IsAnswer, Refuses, answer-is, gone-refuses, other-refuses}
+use Rattle.pr_truss_laws.proofs.ChildrenLemmas.{interrupted-alone}
+use Rattle.pr_truss_laws.proofs.FitLemmas.{FreshNext, step-fresh}
+use Rattle.pr_truss_laws.proofs.HeldLemmas.{ClosesFirst, IsFresh, closes-first}
+use Rattle.pr_truss_laws.proofs.SequenceLemmas.{Goes, GoesToEnd, front}
+use Rattle.pr_truss_laws.specs.Business.{OpensChildrenAlone}
+use Rattle.pr_truss_laws.specs.Exchanges.{Exchange, IsGranted, Makes, calls_in, errno_in, opened_by, truss_after, with_opened_by}
+use Rattle.pr_truss_laws.specs.Handles.{handles_of}
 
 -- How far an opening comes, and the closing that follows one that was refused.
 
@@ -43,9 +48,6 @@ same-base s u v p q = record {
   begun = q.begun ∙ p.begun;
   reports = q.reports ∙ p.reports;
 }
-
-pub ends-later : (s : TrussState) (x : Exchange) (xs : List Exchange) → Ends s (x ∷ xs) → Ends (fed s x.reply) xs
-ends-later s x xs ends = record { makes = ends.makes.1; finished = ends.finished }
 
 -- ---- on the way to this state
 
@@ -77,11 +79,19 @@ module _ (f : TrussState) where
     pub last : opening ≡ before ++ record { call = call; reply = reply.Fail errno } ∷ []
     pub granted : All IsGranted before
 
+  -- Truss was interrupted, and opens children alone then.
+  pub record Broken (s : TrussState) (t : Traced) (step : Option OpeningStep) (xs : List Exchange) : Type 0 where
+    pub stopped : Stopped s t step Intr xs
+    pub alone : OpensChildrenAlone s.options stopped.later
+
   pub record Failed (s : TrussState) (t : Traced) (step : Option OpeningStep) (xs : List Exchange) : Type 0 where
     pub errno : Errno
+    pub not_interrupted : errno ≢ Intr
     pub stopped : Stopped s t step errno xs
     pub state : TrussState
     pub place : ℕ
+    pub within : place < length state.traced
+    pub handles : handles_of (traced_at state place) ≡ with_opened_by (handles_of t) stopped.before
     pub same : SameBase s state
     pub ends : Leads (with_stage (with_report state (CannotTrace t.pid errno)) (Closing place OpenNext)) stopped.later
 
@@ -95,8 +105,19 @@ module _ (f : TrussState) where
   pub data OpeningEnd (s : TrussState) (t : Traced) (step : Option OpeningStep) (xs : List Exchange) : Type 0 where
     done : Done s t step xs → OpeningEnd s t step xs
     failed : Failed s t step xs → OpeningEnd s t step xs
-    left : Stopped s t step Intr xs → OpeningEnd s t step xs
+    left : Broken s t step xs → OpeningEnd s t step xs
     going : Going s t step xs → OpeningEnd s t step xs
+
+  -- what a step opens is the last file then
+  opened-handles : (o : Options) (t : Traced) (r : Reply) (step : OpeningStep) → IsFresh t step
+      → cons_option (opened_by (opening_call o t step) r) (handles_of t) ≡ handles_of (learnt t r step)
+  unfolding opening_call learnt
+  opened-handles o t r opening.OpenStatus f = rw (f.memory, f.lstatus, f.status) refl
+  opened-handles o t r opening.OpenLstatus f = rw (f.memory, f.lstatus) refl
+  opened-handles o t r opening.OpenMemory f = rw f refl
+  opened-handles o t r (opening.AwaitStop until) f = refl
+  opened-handles o t r opening.ReadLwps f = refl
+  opened-handles o t r _ f = refl
 
   learnt-pid : (t : Traced) (r : Reply) (step : OpeningStep) → (learnt t r step).pid ≡ t.pid
   unfolding learnt
@@ -105,7 +126,8 @@ module _ (f : TrussState) where
 
   -- one call more in front, which was granted
   module _ (s u : TrussState) (t : Traced) (step : OpeningStep) (x : Exchange) (xs : List Exchange)
-      (call : x.call ≡ opening_call s.options t step) (granted : errno_in x.reply ≡ None) (same : SameBase s u) where
+      (call : x.call ≡ opening_call s.options t step) (granted : errno_in x.reply ≡ None) (same : SameBase s u)
+      (fresh : IsFresh t step) where
     All-granted : (ys : List Exchange) → All IsGranted ys → All IsGranted (x ∷ ys)
     All-granted ys all = All-cons IsGranted x ys (record { not_refused = granted }) all
 
@@ -157,17 +179,29 @@ module _ (f : TrussState) where
       reports = d.reports ∙ same.reports;
     }
 
+    opened-more : (ys : List Exchange)
+        → with_opened_by (handles_of (learnt t x.reply step)) ys ≡ with_opened_by (handles_of t) (x ∷ ys)
+    opened-more ys =
+        ap (λ hs. with_opened_by hs ys) (sym (opened-handles s.options t x.reply step fresh)
+        ∙ ap (λ c. cons_option (opened_by c x.reply) (handles_of t)) (sym call))
+
     end-more : OpeningEnd u (learnt t x.reply step) (step_after s.options x.reply step) xs
         → OpeningEnd s t (Some step) (x ∷ xs)
     unfolding stopped-more
     end-more (done d) = done (done-more d)
-    end-more (left d) = left (stopped-more Intr d)
+    end-more (left d) = left (record {
+      stopped = stopped-more Intr d.stopped;
+      alone = subst (λ o. OpensChildrenAlone o d.stopped.later) same.options d.alone;
+    })
     end-more (going d) = going (going-more d)
     end-more (failed d) = failed (record {
       errno = d.errno;
+      not_interrupted = d.not_interrupted;
       stopped = stopped-more d.errno d.stopped;
       state = d.state;
       place = d.place;
+      within = d.within;
+      handles = d.handles ∙ opened-more d.stopped.before;
       same = same-base s u d.state same d.same;
       ends =
           subst (λ pid. Leads
@@ -247,111 +281,132 @@ module _ (f : TrussState) where
   traced-count s place t within = omega (arith, length-set s.traced place t)
 
   failed-here : (s : TrussState) (t : Traced) (place : ℕ) (step : OpeningStep) (x : Exchange) (xs : List Exchange)
-      (errno : Errno) → x.call ≡ opening_call s.options t step → x.reply ≡ reply.Fail errno → traced_at s place ≡ t
-      → Leads (with_refused_step (with_stage s (Opening place step)) place errno) xs
+      (errno : Errno) → x.call ≡ opening_call s.options t step → Refuses x.reply errno → place < length s.traced
+      → traced_at s place ≡ t → Leads (with_refused_step (with_stage s (Opening place step)) place errno) xs
       → OpeningEnd s t (Some step) (x ∷ xs)
   unfolding with_refused_step stopped-here
-  failed-here s t place step x xs errno call is at ends = failed (record {
+  failed-here s t place step x xs errno call refuses within at ends = failed (record {
     errno = errno;
-    stopped = stopped-here s t step x xs errno call is;
+    not_interrupted = refuses.not_interrupted;
+    stopped = stopped-here s t step x xs errno call refuses.is;
     state = with_stage s (Opening place step);
     place = place;
+    within = within;
+    handles = ap handles_of at;
     same = record { options = refl; begun = refl; reports = refl };
     ends =
         subst (λ (u : Traced). Leads
         (with_stage (with_report s (CannotTrace u.pid errno)) (Closing place OpenNext)) xs) at ends;
   })
 
+  left-here : (s : TrussState) (t : Traced) (place : ℕ) (step : OpeningStep) (x : Exchange) (xs : List Exchange)
+      → x.call ≡ opening_call s.options t step → x.reply ≡ reply.Fail Intr
+      → Leads (with_interrupt (with_stop_seen (with_stage s (Opening place step)) place)) xs
+      → OpeningEnd s t (Some step) (x ∷ xs)
+  unfolding stopped-here with_stop_seen
+  left-here s t place step x xs call is ends = left (record {
+    stopped = stopped-here s t step x xs Intr call is;
+    alone = interrupted-alone (with_stop_seen (with_stage s (Opening place step)) place) xs ends.makes;
+  })
+
   -- what comes after a call that was granted, if each next step ends so
   accepted : (s : TrussState) (t : Traced) (place : ℕ) (step : OpeningStep) (x : Exchange) (xs : List Exchange)
-      → place < length s.traced → traced_at s place ≡ t
-      → ((u : TrussState) (v : Traced) (next : OpeningStep) → place < length u.traced → traced_at u place ≡ v → Leads
-      (with_stage u (Opening place next)) xs → OpeningEnd u v (Some next) xs)
+      → place < length s.traced → traced_at s place ≡ t → IsFresh t step
+      → ((u : TrussState) (v : Traced) (next : OpeningStep) → place < length u.traced → traced_at u place ≡ v
+      → IsFresh v next → Leads (with_stage u (Opening place next)) xs → OpeningEnd u v (Some next) xs)
       → Leads (with_step_done (with_stage s (Opening place step)) place x.reply step) xs
       → x.call ≡ opening_call s.options t step → errno_in x.reply ≡ None → OpeningEnd s t (Some step) (x ∷ xs)
   unfolding with_step_done
-  accepted s t place step x xs within at later ends call granted =
+  accepted s t place step x xs within at fresh later ends call granted =
       let u : TrussState = with_traced (with_stage s (Opening place step)) place (learnt t x.reply step) in
       let same : SameBase s u = record { options = refl; begun = refl; reports = refl } in
       let goes_on : Leads (at_step u place (step_after s.options x.reply step)) xs =
       subst (λ (v : Traced). Leads
       (at_step (with_traced (with_stage s (Opening place step)) place (learnt v x.reply step)) place
       (step_after s.options x.reply step)) xs) at ends in
-      let rest : (next : Option OpeningStep) → Leads (at_step u place next) xs
+      let rest : (next : Option OpeningStep) → FreshNext (learnt t x.reply step) next → Leads (at_step u place next) xs
       → OpeningEnd u (learnt t x.reply step) next xs =
       λ next. elim next as
-      (λ n. Leads (at_step u place n) xs → OpeningEnd u (learnt t x.reply step) n xs) [
-        | None ↦ λ e. done-none u u
+      (λ n. FreshNext (learnt t x.reply step) n → Leads (at_step u place n) xs
+      → OpeningEnd u (learnt t x.reply step) n xs) [
+        | None ↦ λ f e. done-none u u
             (learnt t x.reply step) xs (same-self u) e
-        | Some n ↦ λ e. later u (learnt t x.reply step) n
+        | Some n ↦ λ f e. later u (learnt t x.reply step) n
             (traced-count s place (learnt t x.reply step) within)
-            (traced-there s place (learnt t x.reply step) within) e
+            (traced-there s place (learnt t x.reply step) within) f e
       ] in
-      end-more s u t step x xs call granted same (rest (step_after s.options x.reply step) goes_on)
+      end-more s u t step x xs call granted same fresh
+      (rest (step_after s.options x.reply step) (step-fresh s.options t x.reply step fresh) goes_on)
 
   answered : (s : TrussState) (t : Traced) (place : ℕ) (step : OpeningStep) (x : Exchange) (xs : List Exchange)
-      → place < length s.traced → traced_at s place ≡ t
-      → ((u : TrussState) (v : Traced) (next : OpeningStep) → place < length u.traced → traced_at u place ≡ v → Leads
-      (with_stage u (Opening place next)) xs → OpeningEnd u v (Some next) xs)
-      → (a : Answer) → IsAnswer x.reply a
+      → place < length s.traced → traced_at s place ≡ t → IsFresh t step
+      → ((u : TrussState) (v : Traced) (next : OpeningStep) → place < length u.traced → traced_at u place ≡ v
+      → IsFresh v next → Leads (with_stage u (Opening place next)) xs → OpeningEnd u v (Some next) xs)
+      → (a : Answer) → answer_of x.reply ≡ a → IsAnswer x.reply a
       → Leads (with_step_answered (with_stage s (Opening place step)) place step x.reply a) xs
       → x.call ≡ opening_call s.options t step → OpeningEnd s t (Some step) (x ∷ xs)
   unfolding IsAnswer with_step_answered
-  answered s t place step x xs within at later Accepted is ends call =
-      accepted s t place step x xs within at later ends call is
-  answered s t place step x xs within at later Interrupted is ends call = left (stopped-here s t step x xs Intr call is)
-  answered s t place step x xs within at later Gone is ends call = failed-here s t place step x xs Noent call is at ends
-  answered s t place step x xs within at later (Refused errno) is ends call =
-      failed-here s t place step x xs errno call is at ends
+  answered s t place step x xs within at fresh later Accepted by is ends call =
+      accepted s t place step x xs within at fresh later ends call is
+  answered s t place step x xs within at fresh later Interrupted by is ends call =
+      left-here s t place step x xs call is ends
+  answered s t place step x xs within at fresh later Gone by is ends call =
+      failed-here s t place step x xs Noent call (gone-refuses x.reply by) within at ends
+  answered s t place step x xs within at fresh later (Refused errno) by is ends call =
+      failed-here s t place step x xs errno call (other-refuses x.reply errno by) within at ends
 
   pub opening-end : (xs : List Exchange) (s : TrussState) (t : Traced) (place : ℕ) (step : OpeningStep)
-      → place < length s.traced → traced_at s place ≡ t → Leads (with_stage s (Opening place step)) xs
+      → place < length s.traced → traced_at s place ≡ t → IsFresh t step → Leads (with_stage s (Opening place step)) xs
       → OpeningEnd s t (Some step) xs
-  opening-end [] s t place step within at ends = going (going-here s t place step at ends)
-  opening-end (x ∷ xs) s t place step within at ends =
-      answered s t place step x xs within at (λ u v next. opening-end xs u v place next) (answer_of x.reply)
+  opening-end [] s t place step within at fresh ends = going (going-here s t place step at ends)
+  opening-end (x ∷ xs) s t place step within at fresh ends =
+      answered s t place step x xs within at fresh (λ u v next. opening-end xs u v place next) (answer_of x.reply) refl
       (answer-is x.reply) (step-answered s place step x xs ends)
       (subst (λ (u : Traced). x.call ≡ opening_call s.options u step) at (next-call s place step x xs ends))
 
   -- ---- closing
 
   -- What was opened of a process whose opening was refused is closed, and the next one comes then.
-  pub record Closed (s : TrussState) (xs : List Exchange) : Type 0 where
+  pub record Closed (s : TrussState) (t : Traced) (xs : List Exchange) : Type 0 where
     pub closings : List Exchange
     pub later : List Exchange
     pub is : xs ≡ closings ++ later
-    pub closes : All IsClose closings
+    pub closes : calls_in closings ≡ map call.Close (handles_of t)
     pub state : TrussState
     pub same : SameBase s state
     pub ends : Leads (with_next_opening state) later
 
   -- Or it is still being closed.
-  pub record Closes (s : TrussState) (xs : List Exchange) : Type 0 where
+  pub record Closes (s : TrussState) (t : Traced) (xs : List Exchange) : Type 0 where
     pub handle : ℕ
     pub due : next_call_of f ≡ Some (call.Close handle)
-    pub closes : All IsClose xs
+    pub closes : calls_in xs ++ call.Close handle ∷ [] ≡ take (length xs + 1) (map call.Close (handles_of t))
     pub reports : f.reports ≡ s.reports
 
-  pub data ClosingEnd (s : TrussState) (xs : List Exchange) : Type 0 where
-    closed : Closed s xs → ClosingEnd s xs
-    closing : Closes s xs → ClosingEnd s xs
+  pub data ClosingEnd (s : TrussState) (t : Traced) (xs : List Exchange) : Type 0 where
+    closed : Closed s t xs → ClosingEnd s t xs
+    closing : Closes s t xs → ClosingEnd s t xs
 
-  closes-here : (s : TrussState) (place : ℕ) → Leads (with_stage s (Closing place OpenNext)) [] → Closes s []
+  first-closes : (t : Traced) (left : Option Traced) → ClosesFirst t left
+      → call.Close (last_handle t) ∷ [] ≡ take 1 (map call.Close (handles_of t))
+  first-closes t None first = ap (λ hs. take 1 (map call.Close hs)) (sym first)
+  first-closes t (Some u) first = ap (λ hs. take 1 (map call.Close hs)) (sym first)
+
+  closes-here : (s : TrussState) (t : Traced) (place : ℕ) → traced_at s place ≡ t
+      → Leads (with_stage s (Closing place OpenNext)) [] → Closes s t []
   unfolding next_call_of call_of
-  closes-here s place ends = record {
-    handle = last_handle (traced_at s place);
-    due = ap next_call_of (sym ends.last);
-    closes = All-nil IsClose;
+  closes-here s t place at ends = record {
+    handle = last_handle t;
+    due = ap next_call_of (sym ends.last) ∙ ap (λ (u : Traced). Some (call.Close (last_handle u))) at;
+    closes = first-closes t (without_last t) (closes-first t);
     reports = ap (λ (u : TrussState). u.reports) (sym ends.last);
   }
 
   close-call : (s : TrussState) (place : ℕ) (x : Exchange) (xs : List Exchange)
-      → Leads (with_stage s (Closing place OpenNext)) (x ∷ xs) → IsClose x
+      → Leads (with_stage s (Closing place OpenNext)) (x ∷ xs) → x.call ≡ call.Close (last_handle (traced_at s place))
   unfolding next_call_of call_of
-  close-call s place x xs ends = record {
-    handle = last_handle (traced_at s place);
-    is = same_Some x.call (call.Close (last_handle (traced_at s place))) (sym ends.makes.0);
-  }
+  close-call s place x xs ends =
+      same_Some x.call (call.Close (last_handle (traced_at s place))) (sym ends.makes.0)
 
   close-answered : (s : TrussState) (place : ℕ) (x : Exchange) (xs : List Exchange)
       → Leads (with_stage s (Closing place OpenNext)) (x ∷ xs)
@@ -360,52 +415,68 @@ module _ (f : TrussState) where
   unfolding fed with_reply with_closed
   close-answered s place x xs ends = leads-later (with_stage s (Closing place OpenNext)) x xs ends
 
-  closed-more : (s u : TrussState) (x : Exchange) (xs : List Exchange) → IsClose x → SameBase s u → ClosingEnd u xs
-      → ClosingEnd s (x ∷ xs)
-  closed-more s u x xs close same (closed c) = closed (record {
+  closed-more : (s u : TrussState) (t v : Traced) (x : Exchange) (xs : List Exchange)
+      → x.call ≡ call.Close (last_handle t) → ClosesFirst t (Some v) → SameBase s u → ClosingEnd u v xs
+      → ClosingEnd s t (x ∷ xs)
+  closed-more s u t v x xs close first same (closed c) = closed (record {
     closings = x ∷ c.closings;
     later = c.later;
     is = ap (λ ys. x ∷ ys) c.is;
-    closes = All-cons IsClose x c.closings close c.closes;
+    closes = front close c.closes ∙ ap (map call.Close) (sym first);
     state = c.state;
     same = same-base s u c.state same c.same;
     ends = c.ends;
   })
-  closed-more s u x xs close same (closing c) =
+  closed-more s u t v x xs close first same (closing c) =
       closing (record {
         handle = c.handle;
         due = c.due;
-        closes = All-cons IsClose x xs close c.closes;
+        closes =
+            front close c.closes
+            ∙ ap (λ n. take n (call.Close (last_handle t) ∷ map call.Close (handles_of v))) (shifted (length xs))
+            ∙ ap (λ hs. take (length (x ∷ xs) + 1) (map call.Close hs)) (sym first);
         reports = c.reports ∙ same.reports;
       })
+    where
+      shifted : (n : ℕ) → suc (n + 1) ≡ suc n + 1
+      shifted n = omega arith
 
-  closed-last : (s u : TrussState) (x : Exchange) (xs : List Exchange) → IsClose x → SameBase s u
-      → Leads (after_closing u OpenNext) xs → Closed s (x ∷ xs)
+  closed-last : (s u : TrussState) (t : Traced) (x : Exchange) (xs : List Exchange)
+      → x.call ≡ call.Close (last_handle t) → ClosesFirst t None → SameBase s u
+      → Leads (after_closing u OpenNext) xs → Closed s t (x ∷ xs)
   unfolding after_closing
-  closed-last s u x xs close same ends = record {
+  closed-last s u t x xs close first same ends = record {
     closings = x ∷ [];
     later = xs;
     is = refl;
-    closes = All-cons IsClose x [] close (All-nil IsClose);
+    closes = front close refl ∙ ap (map call.Close) (sym first);
     state = u;
     same = same;
     ends = ends;
   }
 
-  closed-answered : (s : TrussState) (place : ℕ) (x : Exchange) (xs : List Exchange) → IsClose x
-      → ((u : TrussState) → Leads (with_stage u (Closing place OpenNext)) xs → ClosingEnd u xs)
-      → (left : Option Traced)
-      → Leads (closed_or_removed (with_stage s (Closing place OpenNext)) place OpenNext left) xs → ClosingEnd s (x ∷ xs)
-  closed-answered s place x xs close later None ends =
-      closed (closed-last s (without_traced (with_stage s (Closing place OpenNext)) place) x xs close
+  closed-answered : (s : TrussState) (t : Traced) (place : ℕ) (x : Exchange) (xs : List Exchange)
+      → place < length s.traced → x.call ≡ call.Close (last_handle t)
+      → ((u : TrussState) (v : Traced) → place < length u.traced → traced_at u place ≡ v → Leads
+      (with_stage u (Closing place OpenNext)) xs → ClosingEnd u v xs)
+      → (left : Option Traced) → ClosesFirst t left
+      → Leads (closed_or_removed (with_stage s (Closing place OpenNext)) place OpenNext left) xs
+      → ClosingEnd s t (x ∷ xs)
+  closed-answered s t place x xs within close later None first ends =
+      closed (closed-last s (without_traced (with_stage s (Closing place OpenNext)) place) t x xs close first
       (record { options = refl; begun = refl; reports = refl }) ends)
-  closed-answered s place x xs close later (Some t) ends =
-      let u : TrussState = with_traced s place t in
-      closed-more s u x xs close (record { options = refl; begun = refl; reports = refl }) (later u ends)
+  closed-answered s t place x xs within close later (Some v) first ends =
+      let u : TrussState = with_traced s place v in
+      closed-more s u t v x xs close first (record { options = refl; begun = refl; reports = refl })
+      (later u v (traced-count s place v within) (traced-there s place v within) ends)
 
-  pub closing-end : (xs : List Exchange) (s : TrussState) (place : ℕ)
-      → Leads (with_stage s (Closing place OpenNext)) xs → ClosingEnd s xs
-  closing-end [] s place ends = closing (closes-here s place ends)
-  closing-end (x ∷ xs) s place ends =
-      closed-answered s place x xs (close-call s place x xs ends) (λ u. closing-end xs u place)
-      (without_last (traced_at s place)) (close-answered s place x xs ends)
+  pub closing-end : (xs : List Exchange) (s : TrussState) (t : Traced) (place : ℕ) → place < length s.traced
+      → traced_at s place ≡ t → Leads (with_stage s (Closing place OpenNext)) xs → ClosingEnd s t xs
+  closing-end [] s t place within at ends = closing (closes-here s t place at ends)
+  closing-end (x ∷ xs) s t place within at ends =
+      closed-answered s t place x xs within
+      (subst (λ (u : Traced). x.call ≡ call.Close (last_handle u)) at (close-call s place x xs ends))
+      (λ u v. closing-end xs u v place) (without_last t) (closes-first t)
+      (subst (λ (u : Traced). Leads
+      (closed_or_removed (with_stage s (Closing place OpenNext)) place OpenNext (without_last u)) xs) at
+      (close-answered s place x xs ends))

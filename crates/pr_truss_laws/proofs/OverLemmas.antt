@@ -24,15 +24,16 @@ use Rattle.pr_keeps.specs.CallEdits.{CallEdit, CloseEdit}
 use Rattle.pr_keeps.specs.MessageEdits as message
 use Rattle.pr_keeps.specs.MessageEdits.{MessageEdit}
 use Rattle.pr_keeps.proofs.CallLemmas.{call-edit, close-edit}
+use Rattle.pr_keeps.proofs.LoanLemmas.{process_if-keeps, lent-keeps, loans_passed-keep}
 use Rattle.pr_model.proofs.TurnLemmas.{turn-taken}
-use Rattle.pr_model.specs.Calls.{Answer, answer_to, close_answer, close_held, kill_answer, open_answer, open_unless, opened, spawn_answer, spawn_found, spawn_unless}
-use Rattle.pr_model.specs.Changes.{Change, files_are, space_is, signals, signals_itself, takes_shared, job_stops, disposition_is, held_is, resumes, forks, reaps, becomes, makes_lwp, suspends, Ending, ends_process, ends_lwp, all_changed, changed, ended, with_fds}
-use Rattle.pr_model.specs.ControlMessages.{tail_of, aim_of, control_answer, control_handle, decoded_answer, held_answer, still_there, target_of, targeted_answer}
+use Rattle.pr_model.specs.Calls.{Answer, answer_to}
+use Rattle.pr_model.specs.Changes.{Change, files_are, space_is, signals, signals_itself, takes_shared, job_stops, disposition_is, held_is, resumes, forks, reaps, becomes, Ending, ends_process, ends_lwp, all_changed, changed, ended, with_fds}
+use Rattle.pr_model.specs.ControlMessages.{tail_of}
 use Rattle.pr_model.specs.Generation.{signalled}
 use Rattle.pr_model.specs.Handles.{released, with_closed, with_opened}
 use Rattle.pr_model.specs.Lawful.{IsLawful, IsLawfulSystem}
 use Rattle.pr_model.specs.Legal.{IsLegalEntry, after}
-use Rattle.pr_model.specs.Lives.{Birth, ended_if_live, forked, new_process, orphaned, with_child, with_ended, with_lwp_ended, with_made, with_parent_signalled, with_reaped, with_spawned, with_this_ended, zombie}
+use Rattle.pr_model.specs.Lives.{Birth, lent_to, with_lent, with_loan_back, with_lender_of, with_loans_passed, ended_if_live, forked, new_process, orphaned, with_child, with_ended, with_lwp_ended, with_made, with_parent_signalled, with_program, with_reaped, with_spawned, with_this_ended, zombie}
 use Rattle.pr_model.specs.LwpTurns.{LwpTurn, settled, turn_of, with_counted}
 use Rattle.pr_model.specs.Machines.{traced}
 use Rattle.pr_model.specs.Moves.{moved}
@@ -47,7 +48,8 @@ use Rattle.pr_model.specs.declared.events.Act.TheVariants as act
 use Rattle.pr_model.specs.declared.events.Actor.{Actor}
 use Rattle.pr_model.specs.declared.events.Actor.TheVariants.{Controller, Lwp, Clock}
 use Rattle.pr_model.specs.declared.events.Entry.{Entry}
-use Rattle.pr_truss_laws.proofs.FrameLemmas.{ended-same, orphaned-undisturbed, told-undisturbed}
+use Rattle.pr_truss_laws.proofs.FrameLemmas.{ended-same, lender_of-undisturbed, loan_back-undisturbed, orphaned-undisturbed, told-undisturbed}
+use Rattle.pr_truss_laws.specs.Stills.{IsUndisturbed}
 
 -- A process that does not live, and whose id was given out, never lives again: no process is made under an id that was
 -- given out, and none that has ended becomes live.
@@ -174,18 +176,30 @@ module _ (pid : ℕ) where
         (λ x found it. record { over = λ same. absurd (differs same) }) o.none;
   }
 
-  told-over : (other : ℕ) (target : Option ℕ) (g : Sig) (info : Info) (s : TracedSystem) → IsOver pid s
-      → IsOver pid (with_process other (signalled target g info) s)
+  -- where whatever is changed so lives no more than before
+  any-over : (other : ℕ) (f : TracedProcess → TracedProcess) (s : TracedSystem)
+      → ((x : TracedProcess) → IsUndisturbed x (f x)) → IsOver pid s → IsOver pid (with_process other f s)
   unfolding with_process
-  told-over other target g info s o = record {
+  any-over other f s alone o = record {
     made = o.made;
     none =
-        All-change_under (IsOverAt pid) other (signalled target g info) s.processes
+        All-change_under (IsOverAt pid) other f s.processes
         (λ x found it. record {
-          over = λ same. ap (λ (e : Option ℕ). is_none e)
-              (ended-same x (signalled target g info x) (told-undisturbed target g info x)) ∙ it.over same;
+          over = λ same. ap (λ (e : Option ℕ). is_none e) (ended-same x (f x) (alone x)) ∙ it.over same;
         }) o.none;
   }
+
+  told-over : (other : ℕ) (target : Option ℕ) (g : Sig) (info : Info) (s : TracedSystem) → IsOver pid s
+      → IsOver pid (with_process other (signalled target g info) s)
+  told-over other target g info s o = any-over other (signalled target g info) s (told-undisturbed target g info) o
+
+  loan_back-over : (gone : ℕ) (p : TracedProcess) (lender : ℕ) (s : TracedSystem) → IsOver pid s
+      → IsOver pid (with_process lender (with_loan_back gone p) s)
+  loan_back-over gone p lender s o = any-over lender (with_loan_back gone p) s (loan_back-undisturbed gone p) o
+
+  lender_of-over : (gone : ℕ) (p : TracedProcess) (borrower : ℕ) (s : TracedSystem) → IsOver pid s
+      → IsOver pid (with_process borrower (with_lender_of gone p) s)
+  lender_of-over gone p borrower s o = any-over borrower (with_lender_of gone p) s (lender_of-undisturbed gone p) o
 
   -- ---- processes end, are made and are reaped
 
@@ -216,7 +230,11 @@ module _ (pid : ℕ) where
   end-over : (gone : ℕ) (p : TracedProcess) (status : ℕ) (s : TracedSystem) → IsOver pid s
       → IsOver pid (with_this_ended traced gone p status s)
   unfolding with_this_ended
-  end-over gone p status s o = parent-over p.parent gone status (buried gone p status s) (buried-over gone p status s o)
+  end-over gone p status s o =
+      let dies : TracedSystem = buried gone p status s in
+      parent-over p.parent gone status (with_loans_passed gone p dies)
+      (loans_passed-keep (IsOver pid) gone p (loan_back-over gone p) (lender_of-over gone p) dies
+      (buried-over gone p status s o))
 
   generated-over : (target : ℕ) (own : Option ℕ) (g : Sig) (info : Info) (s : TracedSystem) → IsOver pid s
       → IsOver pid (generated traced target own g info s)
@@ -257,7 +275,9 @@ module _ (pid : ℕ) where
     unfolding with_child
     child-over birth args s o =
         let shared : TracedSystem = record s { files = with_all_shared s.files p.fds } in
-        made-over (forked traced birth acting p l args s.clock) shared (files-over s shared refl refl o)
+        made-over (forked traced birth acting p l args s.clock) (with_lent birth acting s.made shared)
+        (lent-keeps (IsOver pid) birth acting s.made (acting-over (lent_to s.made)) shared
+        (files-over s shared refl refl o))
 
     changed-over : (c : Change) (s : TracedSystem) → IsOver pid s → IsOver pid (changed traced acting p id l c s)
     unfolding changed
@@ -276,6 +296,9 @@ module _ (pid : ℕ) where
     changed-over (resumes frame frames) s o = acting-over _ s o
     changed-over (forks birth args) s o = unless-over (s.made == acting) s _ o (child-over birth args s o)
     changed-over (reaps child) s o = unless-over (child == acting) s _ o (reaped-over child s o)
+    changed-over (becomes program) s o =
+        process_if-keeps (IsOver pid) p.lender (with_loan_back acting p) (loan_back-over acting p)
+        (with_process acting (with_program traced id l program) s) (acting-over (with_program traced id l program) s o)
     changed-over _ s o = acting-over _ s o
 
     all_changed-over : (cs : List Change) (s : TracedSystem) → IsOver pid s

@@ -1,4 +1,4 @@
-use Rattle.std.proofs.Common.{◌≡◌, ◌==◌, ◌||◌, ◌&&◌, ◌+◌, ℕ, Bool, true, false, cond, is_some, None, Some, Option, List, [], ◌∷◌, length, refl, sym, subst, ap, ◌∙◌, inl, inr}
+use Rattle.std.proofs.Common.{◌≡◌, ◌==◌, ◌||◌, ◌&&◌, ◌+◌, ◌≢◌, ℕ, Bool, true, false, cond, is_some, None, Some, Option, List, [], ◌∷◌, length, refl, sym, subst, ap, ◌∙◌, inl, inr}
 use Rattle.std.proofs.lemmas.Bool.{false≢true, cases_Bool, eqb-true, eqb-false}
 use Rattle.std.proofs.lemmas.Option.{same_Some, none-some}
 use Rattle.std.specs.Option.{option_map}
@@ -8,12 +8,13 @@ use Rattle.pr_num.specs.Control.{async_mode, has_flags}
 use Rattle.pr_num.specs.Files.{FileTable}
 use Rattle.pr_num.specs.Programs.{Program}
 use Rattle.pr_parts.specs.FileCalls.{with_all_shared}
+use Rattle.pr_keeps.proofs.LoanLemmas.{lent-keeps}
 use Rattle.pr_lawful.proofs.EndLemmas.{found-live}
 use Rattle.pr_lawful.proofs.SuitingLemmas.{SuitChanges, SuitsChange, SuitsProgram, SuitsTransition, is_stop}
 use Rattle.pr_lawful.proofs.TransitionLemmas.{stayed}
 use Rattle.pr_lawful.proofs.TurnLemmas.{acting, row-suits}
 use Rattle.pr_model.specs.Changes.{Change, changed, files_are, space_is, signals, signals_itself, takes_shared, job_stops, disposition_is, held_is, resumes, forks, reaps, becomes, makes_lwp, suspends, all_changed, ended, Ending, ends_process, ends_lwp, resumed, with_disposition_of, with_fds, with_held, with_job_stop, with_shared_taken, with_space, with_suspended}
-use Rattle.pr_model.specs.Lives.{Birth, forked, new_lwp, started, with_child, with_lwp_ended, with_made, with_reaped, with_new_lwp, with_program, without_lwp}
+use Rattle.pr_model.specs.Lives.{Birth, lent_to, with_lent, with_loan_back, forked, new_lwp, started, with_child, with_lwp_ended, with_made, with_reaped, with_new_lwp, with_program, without_lwp}
 use Rattle.pr_model.specs.Lawful.{IsLawfulProcess, IsLawfulSystem}
 use Rattle.pr_model.specs.LwpTurns.{LwpTurn, settled, turn_of, with_counted}
 use Rattle.pr_model.specs.Machines.{call_over, exec_control, fault_incurred, fault_posted, no_marks, step_taken, traced}
@@ -21,13 +22,13 @@ use Rattle.pr_model.specs.Moves.{Move, moved, stops}
 use Rattle.pr_model.specs.Points.{after_meeting, is_traced, meets, stop_at, stopped_at, with_others_directed, with_stop_at}
 use Rattle.pr_model.specs.Rows.{Row, row_for}
 use Rattle.pr_model.specs.Signals.{is_kill}
-use Rattle.pr_model.specs.State.{TracedControl, TracedLwp, TracedProcess, TracedSystem, live_process, lwp_of, process_of, with_lwp, with_lwp_of, with_process}
+use Rattle.pr_model.specs.State.{TracedControl, TracedLwp, TracedProcess, TracedSystem, live_process, lwp_of, process_of, with_lwp, with_lwp_of, with_process, with_process_if}
 use Rattle.pr_model.specs.Stops.{directed, with_all_directed}
 use Rattle.pr_model.specs.Transitions.{Transition, after_transition, ended_if}
 use Rattle.pr_model.specs.declared.lwps.LwpControl.{LwpControl}
 use Rattle.pr_model.specs.declared.stops.Point.{Point}
 use Rattle.pr_model.specs.declared.stops.Point.TheVariants.{Signal, Fault, Entry, Exit}
-use Rattle.pr_truss_laws.proofs.FrameLemmas.{Spares, end-spares, generated-spares, made-spares, reaped-spares}
+use Rattle.pr_truss_laws.proofs.FrameLemmas.{Spares, end-spares, generated-spares, lent-apart, loan_back-spares, made-spares, reaped-spares}
 use Rattle.pr_truss_laws.specs.Stills.{HasNoStop, HasSameSettings, IsHalting, IsQuiet, IsUndisturbed, StandsOnEvent, will_stop}
 use Rattle.pr_model.proofs.TurnLemmas.{turn-taken}
 
@@ -249,31 +250,44 @@ module _ (pid : ℕ) where
   files-carried files s = record { from = λ q there live. (q, (there, goes_on-self q)) }
 
   module _ (p : TracedProcess) (id : ℕ) (l : TracedLwp) where
-    program-carried : (program : Program) (s : TracedSystem) → SuitsProgram s pid id l program
-        → Carried s (with_process pid (with_program traced id l program) s)
-    program-carried program s suits = own-carried (with_program traced id l program) s (λ x there.
-        let same : suits.process ≡ x = same_Some suits.process x (sym suits.found ∙ there) in
+    program-carried : (program : Program) (s : TracedSystem) → SuitsProgram s pid p id l program
+        → Carried s
+        (with_process_if p.lender (with_loan_back pid p) (with_process pid (with_program traced id l program) s))
+    program-carried program s suits =
+        let run : TracedSystem = with_process pid (with_program traced id l program) s in
+        carried-next s run _ (own-carried (with_program traced id l program) s (λ x there.
+        let same : p ≡ x = same_Some p x (sym suits.found ∙ there) in
         let stands : lwp_of x id ≡ Some l = subst (λ (y : TracedProcess). lwp_of y id ≡ Some l) same suits.there in
         goes_on-program id l program x (λ k at. let is : k ≡ l = same_Some k l (sym at
         ∙ stands) in (ap (λ (y : TracedLwp). y.control.stop) is, ap (λ (y : TracedLwp). y.control.directed) is))
-        (ap (λ o. is_some o) stands))
+        (ap (λ o. is_some o) stands))) (carried-spared run _ (loan_back-spares pid pid p run))
 
     child-carried : (birth : Birth) (args : List ℕ) (s : TracedSystem)
         → Carried s (cond (s.made == pid) s (with_child traced birth pid p l args s))
-    unfolding with_child
+    unfolding with_child lent_to
     child-carried birth args s = by (s.made == pid) refl
       where
         shared : TracedSystem
         shared = record s { files = with_all_shared s.files p.fds }
 
+        lent : TracedSystem
+        lent = with_lent birth pid s.made shared
+
         child : TracedProcess
         child = forked traced birth pid p l args s.clock
 
-        by : (b : Bool) → (s.made == pid) ≡ b → Carried s (cond b s (with_made child shared))
+        lent-carried : Carried s lent
+        lent-carried =
+            lent-keeps (Carried s) birth pid s.made
+            (λ u before. carried-next s u _ before (own-carried (lent_to s.made) u
+            (λ x at. goes_on-same x (lent_to s.made x) refl refl refl))) shared
+            (files-carried (with_all_shared s.files p.fds) s)
+
+        by : (b : Bool) → (s.made == pid) ≡ b → Carried s (cond b s (with_made child lent))
         by true is = carried-same s
         by false is =
-            carried-next s shared _ (files-carried (with_all_shared s.files p.fds) s)
-            (carried-spared shared _ (made-spares pid child shared (eqb-false s.made pid is)))
+            let apart : lent.made ≢ pid = lent-apart pid birth pid s.made shared (eqb-false s.made pid is) in
+            carried-next s lent _ lent-carried (carried-spared lent _ (made-spares pid child lent apart))
 
     reaped-carried : (child : ℕ) (s : TracedSystem) → Carried s (cond (child == pid) s (with_reaped child s))
     reaped-carried child s = by (child == pid) refl
@@ -478,6 +492,23 @@ module _ (pt : Point) (id : ℕ) (x : TracedProcess) where
       by None is = absurd (none-some l is)
       by (Some k) is = subst StandsOnEvent (same_Some (directed (stopped_at pt k)) l is) (met-stands pt k)
 
+-- where a point was met, lwps stop and are directed, and no more
+pub meeting-same : {X : Type 0} (view : TracedProcess → X)
+    → ((y : TracedProcess) (es : List (ℕ × TracedLwp)) → view (record y { lwps = es }) ≡ view y)
+    → (point : Option Point) (id : ℕ) (x : TracedProcess) → view (after_meeting point id x) ≡ view x
+unfolding after_meeting with_stop_at with_others_directed with_lwp with_all_directed
+meeting-same {X} view hides None id x = refl
+meeting-same {X} view hides (Some pt) id x =
+    elim (is_traced x.control pt) as (λ b. view (cond b (with_stop_at pt id x) x) ≡ view x) [
+      | true ↦ elim (has_flags x.control.modes async_mode) as
+          (λ b. view (cond b (with_lwp id (stopped_at pt) x) (with_all_directed (with_lwp id (stopped_at pt) x))) ≡
+          view x) [
+            | true ↦ hides x _
+            | false ↦ hides x _
+          ]
+      | false ↦ refl
+    ]
+
 -- ---- a turn of a quiet process
 
 pub data AfterTurn (p : TracedProcess) (id : ℕ) (stop : Bool) (q : TracedProcess) : Type 0 where
@@ -521,21 +552,6 @@ module _ (s : TracedSystem) (pid : ℕ) (p : TracedProcess) (id : ℕ) (t : LwpT
         | inr not_stop ↦ not_stop
       ]
 
-  meeting-ended : (point : Option Point) (x : TracedProcess) → (after_meeting point id x).ended ≡ x.ended
-  unfolding after_meeting with_stop_at with_others_directed with_lwp with_all_directed
-  meeting-ended None x = refl
-  meeting-ended (Some pt) x =
-      elim (is_traced x.control pt) as
-      (λ b. (cond b (with_stop_at pt id x) x).ended ≡ x.ended) [
-        | true ↦ elim
-            (has_flags x.control.modes async_mode) as
-            (λ b. (cond b (with_lwp id (stopped_at pt) x)
-            (with_all_directed
-            (with_lwp id
-            (stopped_at pt) x))).ended ≡ x.ended) [ true ↦ refl | false ↦ refl ]
-        | false ↦ refl
-      ]
-
   -- the system before the point is looked at
   counted_system : TracedLwp → Row → TracedSystem
   counted_system l row =
@@ -551,7 +567,8 @@ module _ (s : TracedSystem) (pid : ℕ) (p : TracedProcess) (id : ℕ) (t : LwpT
       → after_meeting row.point id x ≡ q → q.ended ≡ None → AfterTurn p id (meets p.control row.point) q
   from-point l row q x there suits at is over =
       let c = carried-before l row there suits in
-      let a = c.from x at (sym (meeting-ended row.point x) ∙ ap (λ (y : TracedProcess). y.ended) is ∙ over) in
+      let same = meeting-same (λ (y : TracedProcess). y.ended) (λ y es. refl) row.point id x in
+      let a = c.from x at (sym same ∙ ap (λ (y : TracedProcess). y.ended) is ∙ over) in
       let was = found-live s pid p live in
       let g : GoesOn p x = subst (λ (y : TracedProcess). GoesOn y x) (same_Some a.0 p (sym a.1.0 ∙ was.0)) a.1.1 in
       subst (AfterTurn p id (meets p.control row.point)) is (after-point p x id row.point g still off)

@@ -125,6 +125,7 @@ module _ (p : Traced) (k : ℕ) where
         let t : Traced = record (traced_at u k) { seen = true } in
         let at : at_place (slice_set u.traced k t) k ≡ t = set-at u.traced k t there.within in
         let same : SameFiles p t = record {
+          pid = there.same.pid;
           control = there.same.control;
           status = there.same.status;
           lstatus = there.same.lstatus;
@@ -307,7 +308,7 @@ module _ (p : Traced) (k : ℕ) where
         (subst (λ j. Some (call.Close (last_handle (traced_at s j))) ≡ Some y.call) l is) other)
     stage-near y _ at l is other = absurd l
 
-  fed-near : (y : Exchange) (s : TrussState) (n : ℕ) → Near n s → next_call_of s ≡ Some y.call → IsNoEndOf p y
+  pub fed-near : (y : Exchange) (s : TrussState) (n : ℕ) → Near n s → next_call_of s ≡ Some y.call → IsNoEndOf p y
       → After n (fed s y.reply)
   unfolding next_call_of fed
   fed-near y s n l is other = stage-near s n l.here l.stays y s.stage refl l.soon is other
@@ -326,7 +327,7 @@ module _ (p : Traced) (k : ℕ) where
 
 -- ---- from the poll on
 
-named-read : (s : TrussState) (r : Reply) (place : ℕ) → PollNames s r place
+pub named-read : (s : TrussState) (r : Reply) (place : ℕ) → PollNames s r place
     → fed s r ≡ with_stage s (ReadingStatus place)
 unfolding fed with_reply with_poll_answered answer_of ready_in
 named-read s r place names =
@@ -334,17 +335,21 @@ named-read s r place names =
     ∙ ap (λ q. with_poll_answered s q (answer_of q)) names.ready
     ∙ ap (with_polled s) names.there
 
+-- the look at the process begins
+pub named-near : (s : TrussState) (place : ℕ) → place < length s.traced → s.leaving ≡ false
+    → Near (traced_at s place) place 12 (with_stage s (ReadingStatus place))
+named-near s place within stays = record {
+  here = record { within = within; same = same-files (traced_at s place) };
+  stays = stays;
+  soon = (refl, omega arith);
+}
+
 read-soon : (s : TrussState) (place : ℕ) (ys : List Exchange) → place < length s.traced → (leaving : Bool)
     → s.leaving ≡ leaving → Makes (with_stage s (ReadingStatus place)) ys → All (IsNoEndOf (traced_at s place)) ys
     → length ys ≤ calls_meanwhile (truss_after (with_stage s (ReadingStatus place)) ys).leaving place
 read-soon s place ys within false is makes none =
     near-soon (traced_at s place) place ys (with_stage s (ReadingStatus place)) 12
-    (record {
-      here = record { within = within; same = same-files (traced_at s place) };
-      stays = is;
-      soon =
-          (refl, omega arith);
-    }) makes none
+    (named-near s place within is) makes none
 read-soon s place ys within true is makes none =
     let way : Leaving (traced_at s place) (12 + 10 * place) (with_stage s (ReadingStatus place)) = record {
       place = place;

@@ -1,4 +1,4 @@
-use Rattle.std.proofs.Common.{◌≡◌, ◌≢◌, ◌-◌, ◌+◌, ℕ, Bool, true, false, nat_lt, Option, Some, None, List, length, refl, subst}
+use Rattle.std.proofs.Common.{◌≡◌, ◌≢◌, ◌-◌, ◌+◌, ℕ, Bool, true, false, nat_lt, Option, Some, None, List, length, refl, ap, subst, ◌∙◌}
 use Rattle.std.proofs.lemmas.Option.{none-some, same_Some}
 use Rattle.std.specs.List.{position, slice_get}
 use Rattle.std.specs.Option.{option_and_then}
@@ -8,12 +8,13 @@ use Rattle.pr_line.specs.declared.events.Event.{Event}
 use Rattle.pr_model.specs.Replies.{bytes_in, handle_in}
 use Rattle.pr_model.specs.declared.calls.Reply.{Reply}
 use Rattle.pr_num.specs.declared.errnos.Errno.{Errno}
+use Rattle.pr_num.specs.declared.errnos.Errno.TheVariants.{Intr, Noent}
 use Rattle.pr_rec.specs.declared.lwps.LwpStatus.{LwpStatus}
 use Rattle.pr_truss.specs.Children.{child_learnt, child_step_after}
 use Rattle.pr_truss.specs.Openings.{learnt, pid_in, step_after}
 use Rattle.pr_truss.specs.Processes.{newly_traced, without_last}
 use Rattle.pr_truss.specs.Records.{event_stops, is_on_event, status_lwp}
-use Rattle.pr_truss.specs.Replies.{answer_of, ready_in}
+use Rattle.pr_truss.specs.Replies.{answer_of, ready_in, refusal_of}
 use Rattle.pr_truss.specs.Stops.{asked_range, followed_child, has_control, text_of}
 use Rattle.pr_truss.specs.Trusses.{TrussState, traced_at, with_opened, with_report, with_stage, with_traced, without_traced}
 use Rattle.pr_truss.specs.declared.processes.Traced.{Traced}
@@ -29,6 +30,7 @@ use Rattle.pr_truss.specs.declared.stages.OpeningStep.{OpeningStep}
 use Rattle.pr_truss.specs.declared.stages.OpeningStep.TheVariants as opening
 use Rattle.pr_truss.specs.declared.stages.Stage.{Stage}
 use Rattle.pr_truss.specs.declared.stages.Stage.TheVariants.{Spawning, OpeningControl, Opening, Polling, ReadingStatus, ReadingText, OpeningChildControl, OpeningChild, Running, Closing, Unfollowing, ReadingLwps, FreeingChild, Finished}
+use Rattle.pr_truss_laws.proofs.AnswerLemmas.{Refuses}
 
 -- What a reply makes of truss, as data: nine kinds of step from one stage to the next. A law of replies goes over these
 -- kinds, and where it asks how the step came about, over the rows of a kind.
@@ -77,6 +79,15 @@ abbrev pub accepts : Answer → Bool
 accepts Accepted = true
 accepts _ = false
 
+refusal-other : (errno : Errno) → accepts (refusal_of errno) ≡ false
+refusal-other Intr = refl
+refusal-other Noent = refl
+refusal-other _ = refl
+
+pub refused-other : (r : Reply) (errno : Errno) → Refuses r errno → accepts (answer_of r) ≡ false
+unfolding answer_of
+refused-other r errno refuses = ap (λ q. accepts (answer_of q)) refuses.is ∙ refusal-other errno
+
 -- truss leaves its processes from now on
 abbrev pub leaving_now : TrussState → TrussState
 leaving_now u = record u { leaving = true }
@@ -121,9 +132,9 @@ module _ (s : TrussState) (r : Reply) where
         → Settles (OpeningChild parent place now) false (leaving_now (seen_at s parent))
     interrupts_run : {place : ℕ} → answer_of r ≡ Interrupted
         → Settles (Running place) false (leaving_now (seen_at s place))
-    refuses_start : {program : List ℕ} (errno : Errno) → accepts (answer_of r) ≡ false
+    refuses_start : {program : List ℕ} (errno : Errno) → Refuses r errno
         → Settles (Spawning program) false (with_report s (CannotStart program errno))
-    refuses_control : {pid : ℕ} (errno : Errno) → accepts (answer_of r) ≡ false
+    refuses_control : {pid : ℕ} (errno : Errno) → Refuses r errno
         → Settles (OpeningControl pid) true (with_report s (CannotTrace pid errno))
     ends_opening : {place : ℕ} {now : OpeningStep} → answer_of r ≡ Accepted → step_after s.options r now ≡ None
         → Settles (Opening place now) true (with_traced s place (learnt (traced_at s place) r now))
@@ -170,11 +181,11 @@ module _ (s : TrussState) (r : Reply) where
     looked_last : Closes ReadingLwps 0 GoOn s
     freed_last : {pid control : ℕ} → Closes (FreeingChild pid (freeing.Close control)) 0 GoOn s
     freed_none : {pid : ℕ} → answer_of r ≡ Interrupted → Closes (FreeingChild pid freeing.OpenControl) 0 GoOn s
-    refuses_free : {pid : ℕ} (errno : Errno) → accepts (answer_of r) ≡ false
+    refuses_free : {pid : ℕ} (errno : Errno) → Refuses r errno
         → Closes (FreeingChild pid freeing.OpenControl) 0 GoOn (with_report s (CannotTrace pid errno))
-    refuses_opening : {place : ℕ} {now : OpeningStep} (errno : Errno) → accepts (answer_of r) ≡ false
+    refuses_opening : {place : ℕ} {now : OpeningStep} (errno : Errno) → Refuses r errno
         → Closes (Opening place now) place OpenNext (with_report s (CannotTrace (traced_at s place).pid errno))
-    refuses_child : {parent place : ℕ} {now : ChildStep} (errno : Errno) → accepts (answer_of r) ≡ false
+    refuses_child : {parent place : ℕ} {now : ChildStep} (errno : Errno) → Refuses r errno
         → Closes (OpeningChild parent place now) place (RunParent parent)
         (with_report s (CannotTrace (traced_at s place).pid errno))
     child_ended : {parent place : ℕ} → answer_of r ≡ Gone
@@ -190,7 +201,7 @@ module _ (s : TrussState) (r : Reply) where
 
   -- a parent whose child was opened, or was not, is run
   pub data Returns : Stage → ℕ → TrussState → Type 0 where
-    refuses_child_control : {parent pid : ℕ} (errno : Errno) → accepts (answer_of r) ≡ false
+    refuses_child_control : {parent pid : ℕ} (errno : Errno) → Refuses r errno
         → Returns (OpeningChildControl parent pid) parent (with_report s (CannotTrace pid errno))
     child_runs : {parent place : ℕ} → answer_of r ≢ Gone → Returns (OpeningChild parent place child.Start) parent s
     child_closed : {parent place : ℕ} → without_last (traced_at s place) ≡ None

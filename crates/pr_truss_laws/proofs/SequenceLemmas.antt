@@ -32,7 +32,7 @@ GoesToEnd o t (Some step) [] = ⊥
 GoesToEnd o t (Some step) (x ∷ xs) =
     (x.call ≡ opening_call o t step) × GoesToEnd o (learnt t x.reply step) (step_after o x.reply step) xs
 
-front : {c d : Call} {cs ds : List Call} → c ≡ d → cs ≡ ds → c ∷ cs ≡ d ∷ ds
+pub front : {c d : Call} {cs ds : List Call} → c ≡ d → cs ≡ ds → c ∷ cs ≡ d ∷ ds
 front p q = cc
 
 last_with : Bool → ℕ → List Call

@@ -1,4 +1,4 @@
-use Rattle.std.proofs.Common.{◌≡◌, ◌&&◌, ◌||◌, ℕ, ◌+◌, ◌*◌, Bool, true, false, is_none, eqb, ltb, leb, cond, Option, Some, None, Result, Ok, Err, List, ◌∷◌, length, refl, []}
+use Rattle.std.proofs.Common.{◌≡◌, ◌&&◌, ◌||◌, ℕ, ◌+◌, ◌*◌, Bool, true, false, not, is_none, eqb, ltb, leb, cond, Option, Some, None, Result, Ok, Err, List, ◌∷◌, length, refl, []}
 use Rattle.std.specs.List.{list_any, slice_get}
 use Rattle.std.specs.Prelude.{◌-◌, slice_index}
 use Rattle.pr_num.specs.Agents.{agent_id}
@@ -28,40 +28,62 @@ use Rattle.pr_keeps.specs.RowKinds as kind
 use Rattle.pr_keeps.specs.RowKinds.{RowKind}
 use Rattle.pr_keeps.proofs.RowLemmas.{row-kind}
 use Rattle.pr_model.specs.CallEffects.{call_effect}
-use Rattle.pr_model.specs.Changes.{Change, space_is, Effect, does, sleeps, ends}
+use Rattle.pr_model.specs.Changes.{Change, space_is, forks, Effect, does, sleeps, ends}
 use Rattle.pr_model.specs.FileCallRows.{read_effect, write_effect, open_effect, close_effect, pipe_effect, fstat_effect, dup_effect, lseek_effect, refusal_effect, file_effect, word_size}
 use Rattle.pr_model.specs.InstructionEffects.{InstructionEffect, Store, instruction_effect}
 use Rattle.pr_model.specs.InstructionEffects as instruction
+use Rattle.pr_model.specs.Lives.{by_vfork}
 use Rattle.pr_model.specs.LwpCalls.{lwp_create_effect, lwp_suspend_effect, lwp_continue_effect, can_be_named}
 use Rattle.pr_model.specs.MemoryCalls.{can_write, path_at, brk_effect, mmap_effect, munmap_effect, mprotect_effect, unless_too_big, is_mapped_range, prot_limit}
-use Rattle.pr_model.specs.ProcessCalls.{exit_effect, fork_effect, wait_effect, exec_effect, sleep_effect, program_named}
+use Rattle.pr_model.specs.ProcessCalls.{exit_effect, fork_effect, vfork_effect, given_up, wait_effect, exec_effect, sleep_effect, program_named}
 use Rattle.pr_model.specs.Readers.{Life, Children, no_child, all_live, first_zombie, children_of, life_of, size_of, total_has_room}
 use Rattle.pr_model.specs.Rows.{Row, requested_row, posted_row, returned_row, ran_row, entered_row, incurred_row, watched_row, executed_row, own_taken_row, shared_taken_row, handler_row, interrupted_row, performed_row, row_for}
 use Rattle.pr_model.specs.SignalCalls.{Sending, refuses, sends_nothing, sends, sending, sent_effect, send_effect, can_be_caught, sigaction_effect, sigmask_effect, sigreturn_effect}
 use Rattle.pr_model.specs.Signals.{is_kill}
 use Rattle.pr_model.specs.State.{TracedLwp, TracedProcess, TracedSystem}
 use Rattle.pr_model.specs.Transitions.{Transition, stored_in, requested, posted, returned, ran, entered, incurred, trapped, own_taken, shared_taken, handled, dropped, job_stopped, died, interrupted, performed}
+use Rattle.pr_model.specs.declared.events.Did.{Did}
+use Rattle.pr_model.specs.declared.events.Did.TheVariants.{Made, Woke}
 use Rattle.pr_model.specs.declared.frames.Frame.{Frame}
 use Rattle.pr_model.specs.declared.lwps.Current.{Current}
 
--- A turn makes one change, and after it at most stores bytes in the memory of its process.
+-- A turn makes one change, and after it at most stores bytes in the memory of its process. Only vfork(2) lends memory.
+
+-- whether a change lends no memory, where none may be lent
+abbrev pub may_lend : Bool → Change → Bool
+may_lend lends (forks by_vfork args) = lends
+may_lend lends _ = true
 
 -- whether a list of changes is of this form
-abbrev pub stores_after : List Change → Bool
-stores_after [] = true
-stores_after (c ∷ []) = true
-stores_after (c ∷ space_is space ∷ []) = true
-stores_after _ = false
+abbrev pub stores_after : Bool → List Change → Bool
+stores_after lends [] = true
+stores_after lends (c ∷ []) = may_lend lends c
+stores_after lends (c ∷ space_is space ∷ []) = may_lend lends c
+stores_after lends _ = false
 
-abbrev stores_in : Effect → Bool
-stores_in (does result changes) = stores_after changes
-stores_in sleeps = true
-stores_in (ends how) = true
+abbrev stores_in : Bool → Effect → Bool
+stores_in lends (does result changes) = stores_after lends changes
+stores_in lends sleeps = true
+stores_in lends (ends how) = true
+
+-- whether a call may lend memory, and a turn that did this
+abbrev pub is_lending_call : Sysno → Bool
+is_lending_call sys.Vfork = true
+is_lending_call _ = false
+
+abbrev pub may_have_lent : Did → Bool
+may_have_lent (Made call result) = is_lending_call call
+may_have_lent (Woke call result) = is_lending_call call
+may_have_lent _ = false
+
+-- whether the changes of a row are of this form, and lend memory only where what it did may have
+abbrev pub stores_by : Row → Bool
+stores_by row = stores_after (may_have_lent row.did) row.transition.changes
 
 -- ---- the calls
 
 abbrev Stores : Effect → Type 0
-Stores e = stores_in e ≡ true
+Stores e = stores_in false e ≡ true
 
 either : (b : Bool) (x y : Effect) → Stores x → Stores y → Stores (cond b x y)
 either true x y one other = one
@@ -182,7 +204,7 @@ module _ (s : TracedSystem) (p : TracedProcess) (id : ℕ) where
       named name (Some program) is found =
           rw (is, found)
           (either (eqb id agent_id) _ _ refl
-          (either (total_has_room s (mapped_size (first_space program)) (size_of p)) _ _ refl refl))
+          (either (total_has_room s (mapped_size (first_space program)) (given_up s p id)) _ _ refl refl))
 
       by : (r : Result (List ℕ) Errno) → path_at p.space at ≡ r → Stores (exec_effect s p id at)
       by (Err e) is = rw is (either (eqb id agent_id) _ _ refl refl)
@@ -203,13 +225,23 @@ module _ (s : TracedSystem) (p : TracedProcess) (id : ℕ) where
           (big-stores at (with_mapping (zeros_at at (rounded len) prot Mapped) p.space)))
 
 module _ (s : TracedSystem) (pid : ℕ) (p : TracedProcess) (id : ℕ) (l : TracedLwp) where
-  call-stores : (since : ℕ) (call : Sysno) (args : List ℕ) → Stores (call_effect s pid p id l since call args)
-  unfolding call_effect exit_effect fork_effect dup_effect lseek_effect brk_effect munmap_effect mprotect_effect
-      sigmask_effect sleep_effect lwp_create_effect lwp_suspend_effect lwp_continue_effect
+  vfork-stores : (args : List ℕ) → stores_in true (vfork_effect s p id args) ≡ true
+  unfolding vfork_effect
+  vfork-stores args =
+      choice (λ (e : Effect). stores_in true e ≡ true) (eqb id agent_id || not (eqb (length p.lwps) 1)) _ _
+      (λ refused. refl)
+      (λ goes_on. choice (λ (e : Effect). stores_in true e ≡ true) (leb process_limit s.made) _ _ (λ full. refl)
+      (λ room. refl))
+
+  call-stores : (since : ℕ) (call : Sysno) (args : List ℕ)
+      → stores_in (is_lending_call call) (call_effect s pid p id l since call args) ≡ true
+  unfolding call_effect exit_effect fork_effect dup_effect lseek_effect brk_effect munmap_effect
+      mprotect_effect sigmask_effect sleep_effect lwp_create_effect lwp_suspend_effect lwp_continue_effect
   call-stores since sys.Exit args = refl
   call-stores since sys.Fork args =
       either (eqb id agent_id) _ _ refl
       (either (leb process_limit s.made) _ _ refl (either (total_has_room s (size_of p) 0) _ _ refl refl))
+  call-stores since sys.Vfork args = vfork-stores args
   call-stores since sys.Read args =
       read-stores s.files p.fds p.space (slice_index args 0) (slice_index args 1) (slice_index args 2)
   call-stores since sys.Write args =
@@ -257,13 +289,13 @@ module _ (s : TracedSystem) (pid : ℕ) (p : TracedProcess) (id : ℕ) (l : Trac
   -- ---- the rows
 
   abbrev StoresRow : Row → Type 0
-  StoresRow row = stores_after row.transition.changes ≡ true
+  StoresRow row = stores_by row ≡ true
 
   either-row : (b : Bool) (x y : Row) → StoresRow x → StoresRow y → StoresRow (cond b x y)
   either-row true x y one other = one
   either-row false x y one other = other
 
-  store-stores : (store : Option Store) → stores_after (stored_in p.space store) ≡ true
+  store-stores : (store : Option Store) → stores_after false (stored_in p.space store) ≡ true
   unfolding stored_in
   store-stores None = refl
   store-stores (Some store) = refl
@@ -279,13 +311,14 @@ module _ (s : TracedSystem) (pid : ℕ) (p : TracedProcess) (id : ℕ) (l : Trac
   handler-stores : (c : Current) (handler : ℕ) → StoresRow (handler_row l c handler)
   unfolding handler_row handled
   handler-stores c handler =
-      choice (λ (t : Transition). stores_after t.changes ≡ true) (ltb (length l.frames) frame_limit) _ _ (λ room. refl)
-      (λ full. refl)
+      choice (λ (t : Transition). stores_after false t.changes ≡ true) (ltb (length l.frames) frame_limit) _ _
+      (λ room. refl) (λ full. refl)
 
-  performed-stores : (woken : Bool) (call : Sysno) (args : List ℕ) (since : ℕ) (effect : Effect) → Stores effect
-      → StoresRow (performed_row woken call args since effect)
+  performed-stores : (woken : Bool) (call : Sysno) (args : List ℕ) (since : ℕ) (effect : Effect)
+      → stores_in (is_lending_call call) effect ≡ true → StoresRow (performed_row woken call args since effect)
   unfolding performed_row performed
-  performed-stores woken call args since (does result changes) stores = stores
+  performed-stores true call args since (does result changes) stores = stores
+  performed-stores false call args since (does result changes) stores = stores
   performed-stores woken call args since sleeps stores = refl
   performed-stores woken call args since (ends how) stores = refl
 
@@ -299,5 +332,5 @@ module _ (s : TracedSystem) (pid : ℕ) (p : TracedProcess) (id : ℕ) (l : Trac
   kind-stores row (kind.executes at none) = executed-stores (instruction_effect p.space p.control.areas l.regs)
   kind-stores row _ = refl
 
-  pub row-stores : stores_after (row_for s pid p id l).transition.changes ≡ true
+  pub row-stores : stores_by (row_for s pid p id l) ≡ true
   row-stores = kind-stores (row_for s pid p id l) (row-kind s pid p id l)

@@ -1,6 +1,7 @@
 use Rattle.std.specs.Prelude.{◌≡◌, ◌==◌, ℕ, List, [], ◌∷◌, ◌++◌, Option, Some, None, map, if◌then◌else◌}
-use Rattle.std.specs.List.{filter_map}
+use Rattle.std.specs.List.{cons_option, filter_map}
 use Rattle.pr_line.specs.declared.options.Options.{Options}
+use Rattle.pr_model.specs.Replies.{handle_in}
 use Rattle.pr_model.specs.declared.calls.Call.{Call}
 use Rattle.pr_model.specs.declared.calls.Call.TheVariants as call
 use Rattle.pr_model.specs.declared.calls.File.{File}
@@ -68,14 +69,22 @@ errno_in _ = None
 pub record IsGranted (x : Exchange) : Type 0 where
   pub not_refused : errno_in x.reply ≡ None
 
+-- ---- opening
+
+-- the handle that an open gave
+abbrev pub opened_by : Call → Reply → Option ℕ
+opened_by (call.Open pid id file mode) r = Some (handle_in r)
+opened_by _ r = None
+
+-- the handles that these exchanges opened, the last one first, and then these
+abbrev pub with_opened_by : List ℕ → List Exchange → List ℕ
+with_opened_by handles [] = handles
+with_opened_by handles (x ∷ xs) = with_opened_by (cons_option (opened_by x.call x.reply) handles) xs
+
 -- ---- closing
 
 abbrev pub calls_in : List Exchange → List Call
 calls_in xs = map (λ (x : Exchange). x.call) xs
-
-pub record IsClose (x : Exchange) : Type 0 where
-  pub handle : ℕ
-  pub is : x.call ≡ call.Close handle
 
 -- a call among them closes this handle
 pub record Closes (handle : ℕ) (xs : List Exchange) : Type 0 where

@@ -1,4 +1,4 @@
-use Rattle.std.specs.Prelude.{◌≡◌, ◌⊎◌, ◌+◌, ℕ, true, List, [], ◌∷◌, ◌++◌, Option, Some, None, All, length, option_map, slice_get, take, unwrap_or, if◌then◌else◌}
+use Rattle.std.specs.Prelude.{◌≡◌, ◌≢◌, ◌⊎◌, ◌+◌, ℕ, true, List, [], ◌∷◌, ◌++◌, Option, Some, None, All, length, map, option_map, slice_get, take, unwrap_or, if◌then◌else◌}
 use Rattle.pr_line.specs.declared.options.Options.{Options}
 use Rattle.pr_model.specs.Replies.{handle_in, until_in}
 use Rattle.pr_model.specs.declared.calls.Call.{Call}
@@ -17,7 +17,8 @@ use Rattle.pr_truss.specs.Messages.{message_call, all_modes, traced_entries, tra
 use Rattle.pr_truss.specs.declared.reports.Report.{Report}
 use Rattle.pr_truss.specs.declared.reports.Report.TheVariants.{CannotStart, CannotTrace}
 use Rattle.pr_truss.specs.Openings.{pid_in}
-use Rattle.pr_truss_laws.specs.Exchanges.{Exchange, IsClose, IsGranted, calls_in, errno_in}
+use Rattle.pr_truss_laws.specs.Business.{OpensChildrenAlone}
+use Rattle.pr_truss_laws.specs.Exchanges.{Exchange, IsGranted, calls_in, errno_in, with_opened_by}
 
 -- What became of each process that truss(1) was given, by its exchanges and its reports alone.
 
@@ -84,8 +85,12 @@ pub record Attached (o : Options) (pid : ℕ) (Next : Later) (reports : List Rep
   pub whole : IsWholeOpening o pid opening
   pub next : Next reports later
 
--- Its opening was refused, which is the next report, for this reason. What was opened is closed, and the next process
--- comes then.
+-- The closes of what these exchanges opened, the file that was opened last first.
+abbrev pub closing_calls_of : List Exchange → List Call
+closing_calls_of xs = map call.Close (with_opened_by [] xs)
+
+-- Its opening was refused, which is the next report, for this reason, and it was no interrupt. Right then all that was
+-- opened is closed, and the next process comes then.
 pub record Refused (o : Options) (pid : ℕ) (Next : Later) (reports : List Report) (xs : List Exchange) : Type 0 where
   pub errno : Errno
   pub opening : List Exchange
@@ -94,16 +99,18 @@ pub record Refused (o : Options) (pid : ℕ) (Next : Later) (reports : List Repo
   pub more : List Report
   pub is : xs ≡ opening ++ (closings ++ later)
   pub refused : IsRefusedOpening o pid errno opening
-  pub closes : All IsClose closings
+  pub not_interrupted : errno ≢ Intr
+  pub closes : calls_in closings ≡ closing_calls_of refused.before
   pub reported : reports ≡ CannotTrace pid errno ∷ more
   pub next : Next more later
 
--- Truss was interrupted before the opening was done. It opens no other process.
+-- Truss was interrupted before the opening was done. It opens no other process but the children that it sets free.
 pub record Left (o : Options) (pid : ℕ) (xs : List Exchange) : Type 0 where
   pub opening : List Exchange
   pub later : List Exchange
   pub is : xs ≡ opening ++ later
   pub interrupted : IsRefusedOpening o pid Intr opening
+  pub alone : OpensChildrenAlone o later
 
 -- Truss is opening it still: the call that is due goes on with that. No process behind it was begun.
 pub record Begun (o : Options) (pid : ℕ) (due : Option Call) (reports : List Report) (xs : List Exchange) : Type 0 where
@@ -112,8 +119,8 @@ pub record Begun (o : Options) (pid : ℕ) (due : Option Call) (reports : List R
   pub begun : IsBegunOpening o pid next xs
   pub nothing : reports ≡ []
 
--- Its opening was refused, which is the last report, and truss is closing what it opened: the call that is due goes on
--- with that. No process behind it was begun.
+-- Its opening was refused, which is the last report, and was no interrupt, and truss is closing all that it opened: the
+-- call that is due goes on with that. No process behind it was begun.
 pub record BrokenOff (o : Options) (pid : ℕ) (due : Option Call) (reports : List Report) (xs : List Exchange)
     : Type 0 where
   pub errno : Errno
@@ -123,14 +130,16 @@ pub record BrokenOff (o : Options) (pid : ℕ) (due : Option Call) (reports : Li
   pub next : due ≡ Some (call.Close handle)
   pub is : xs ≡ opening ++ closings
   pub refused : IsRefusedOpening o pid errno opening
-  pub closes : All IsClose closings
+  pub not_interrupted : errno ≢ Intr
+  pub closes : calls_in closings ++ call.Close handle ∷ []
+      ≡ take (length closings + 1) (closing_calls_of refused.before)
   pub reported : reports ≡ CannotTrace pid errno ∷ []
 
 -- Each of these processes, in this order, was attached or its refusal reported, unless an interrupt came before; or
 -- truss is at work on one of them still, and this call of it is due. Where it has finished no call is due, so it is at
--- work on none.
+-- work on none. After the last of them it opens children alone.
 abbrev pub AreHandled : Options → Option Call → List ℕ → Later
-AreHandled o due [] reports xs = Unit {0}
+AreHandled o due [] reports xs = OpensChildrenAlone o xs
 AreHandled o due (pid ∷ pids) reports xs =
     Attached o pid (AreHandled o due pids) reports xs
     ⊎ (Refused o pid (AreHandled o due pids) reports xs

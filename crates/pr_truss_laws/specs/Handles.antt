@@ -1,4 +1,5 @@
-use Rattle.std.specs.Prelude.{◌≡◌, ◌≢◌, ℕ, true, false, None, Some}
+use Rattle.std.specs.Prelude.{◌≡◌, ◌≢◌, ℕ, true, false, List, [], ◌∷◌, None, Some}
+use Rattle.std.specs.List.{cons_option}
 use Rattle.pr_laws.specs.LastCloses.{IsReleased}
 use Rattle.pr_model.specs.Calls.{Answer, answer_to}
 use Rattle.pr_model.specs.Handles.{handle_of, has_writer, is_control, is_writable}
@@ -6,6 +7,7 @@ use Rattle.pr_model.specs.State.{Places, TracedProcess, TracedState, live_proces
 use Rattle.pr_model.specs.declared.calls.Call.TheVariants.{Close}
 use Rattle.pr_model.specs.declared.handles.Held.{Held}
 use Rattle.pr_num.specs.Control.{has_flags, klc_mode, rlc_mode}
+use Rattle.pr_truss.specs.declared.processes.Traced.{Traced}
 
 -- What a controller has open in a state.
 
@@ -28,3 +30,7 @@ pub record ClosesFreely (k : ℕ) (s : TracedState) : Type 0 where
       → is_control h.file ≡ true → answer_to s k (Close number) ≡ Some a → live_process s.system h.pid ≡ Some p
       → has_flags p.control.modes rlc_mode ≡ true → has_flags p.control.modes klc_mode ≡ false
       → (q : TracedProcess) × ((live_process a.state.system h.pid ≡ Some q) × IsReleased q)
+
+-- the handles of a process that truss traces; the file that was opened last comes first
+abbrev pub handles_of : Traced → List ℕ
+handles_of t = cons_option t.memory (cons_option t.lstatus (cons_option t.status (t.control ∷ [])))

@@ -1,3 +1,4 @@
+pub mod Business
 pub mod Exchanges
 pub mod Given
 pub mod Handles

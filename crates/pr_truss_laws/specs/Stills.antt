@@ -41,15 +41,24 @@ with_lwp_stopped id p = with_counted Stopped false (with_lwp id stopped_lwp p)
 abbrev pub unsignalled : TracedLwp → TracedLwp
 unsignalled l = record l { pending = nothing_pending }
 
--- A process has the memory later that it had before.
+-- A process that has lent its memory to nobody has it later, and has lent it to nobody. A lender may get back what it
+-- lent.
 pub record KeepsMemory (p q : TracedProcess) : Type 0 where
-  pub space : q.space ≡ p.space
+  pub own : p.borrower ≡ None → (q.borrower ≡ None) × (q.space ≡ p.space)
 
 -- A process that others left alone but for signals, which came to pend for it or for its lwps, were deleted, or ended
--- its job stop, and for its parent, which ended. No lwp came and none went away: they are the same but for what pends.
+-- its job stop; for its parent, which ended; and for memory that was lent: its borrower gave it back or passed it on,
+-- or its lender ended. No lwp came and none went away: they are the same but for what pends.
 pub record IsUndisturbed (p q : TracedProcess) : Type 0 where
-  pub rest : q
-      ≡ record p { parent = q.parent; space = q.space; pending = q.pending; job_stop = q.job_stop; lwps = q.lwps }
+  pub rest : q ≡ record p {
+    parent = q.parent;
+    space = q.space;
+    lender = q.lender;
+    borrower = q.borrower;
+    pending = q.pending;
+    job_stop = q.job_stop;
+    lwps = q.lwps;
+  }
   pub memory : KeepsMemory p q
   pub each : (id : ℕ) (k : TracedLwp) → lwp_of q id ≡ Some k
       → (l : TracedLwp) × ((lwp_of p id ≡ Some l) × (k ≡ record l { pending = k.pending }))

@@ -2,12 +2,14 @@
 //! its contract, and does nothing.
 #![tactic(auto)]
 
+mod business;
 mod given;
 mod handles;
 mod polled;
 mod stills;
 mod told;
 
+pub use business::truss_does_its_own_business;
 pub use given::{each_given_process_is_handled, each_handle_is_closed};
 pub use handles::{nothing_stays_open, what_is_closed_is_released};
 pub use polled::what_a_poll_named_is_soon_run_or_closed;

@@ -16,7 +16,6 @@ use Rattle.pr_model.specs.declared.events.Act.TheVariants as act
 use Rattle.pr_model.specs.declared.events.Actor.{Actor}
 use Rattle.pr_model.specs.declared.events.Actor.TheVariants.{Controller, Lwp, Clock}
 use Rattle.pr_model.specs.declared.events.Entry.{Entry}
-use Rattle.pr_truss.specs.Feeding.{fed}
 use Rattle.pr_truss.specs.Replies.{answer_of}
 use Rattle.pr_truss.specs.Trusses.{TrussState, first_truss}
 use Rattle.pr_truss.specs.declared.replies.Answer.TheVariants.{Interrupted}
@@ -29,23 +28,11 @@ use Rattle.pr_report_laws.proofs.Files.FileSteps.{IsUninterrupted, MakesNext, en
 use Rattle.pr_report_laws.proofs.Files.KeepLemmas.{can_wait}
 use Rattle.pr_report_laws.proofs.Machine.PollLaws.{never-interrupted}
 use Rattle.pr_report_laws.specs.Watching.{told_of, with_exchange}
+pub use Rattle.pr_truss_laws.proofs.ExchangeLemmas.{after-append, makes-front, makes-rest}
 
 -- Truss along a history: what it was asked and told so far, and that the files that it remembers are its own.
 
 -- ---- exchanges, one after another
-
-pub after-append : (t : TrussState) (xs ys : List Exchange)
-    → truss_after t (xs ++ ys) ≡ truss_after (truss_after t xs) ys
-after-append t [] ys = refl
-after-append t (x ∷ xs) ys = after-append (fed t x.reply) xs ys
-
-pub makes-front : (t : TrussState) (xs ys : List Exchange) → Makes t (xs ++ ys) → Makes t xs
-makes-front t [] ys makes = tt
-makes-front t (x ∷ xs) ys makes = (makes.0, makes-front (fed t x.reply) xs ys makes.1)
-
-pub makes-rest : (t : TrussState) (xs ys : List Exchange) → Makes t (xs ++ ys) → Makes (truss_after t xs) ys
-makes-rest t [] ys makes = makes
-makes-rest t (x ∷ xs) ys makes = makes-rest (fed t x.reply) xs ys makes.1
 
 -- the exchanges of two histories, one after another
 pub exchanges-both : (k : ℕ) (xs ys : List Entry) → exchanges k (xs ++ ys) ≡ exchanges k xs ++ exchanges k ys

@@ -23,10 +23,10 @@ use Rattle.pr_report_laws.specs.Attachments.{child_calls}
 -- In a legal history no call of the opening of a child is interrupted, nor is the open of one that is set free: none of
 -- them waits.
 
-head-same : {X : Type 0} {x y : X} {xs ys : List X} → x ∷ xs ≡ y ∷ ys → x ≡ y
+pub head-same : {X : Type 0} {x y : X} {xs ys : List X} → x ∷ xs ≡ y ∷ ys → x ≡ y
 head-same is = cc
 
-tail-same : {X : Type 0} {x y : X} {xs ys : List X} → x ∷ xs ≡ y ∷ ys → xs ≡ ys
+pub tail-same : {X : Type 0} {x y : X} {xs ys : List X} → x ∷ xs ≡ y ∷ ys → xs ≡ ys
 tail-same is = cc
 
 no-split : {X : Type 0} (pre post : List X) (y : X) → [] ≡ pre ++ y ∷ post → ⊥
@@ -34,7 +34,7 @@ no-split [] post y is = cc
 no-split (p ∷ pre) post y is = cc
 
 -- an exchange of a call that does not wait
-calm-exchanges : (h : List Entry) (n k : ℕ) (s : TracedState) (pre post : List Exchange) (y : Exchange) → IsLegal n s h
+pub calm-exchanges : (h : List Entry) (n k : ℕ) (s : TracedState) (pre post : List Exchange) (y : Exchange) → IsLegal n s h
     → exchanges k h ≡ pre ++ y ∷ post → can_wait y.call ≡ false → answer_of y.reply ≢ Interrupted
 calm-exchanges [] n k s pre post y legal is waits = absurd (no-split pre post y (sym (no-exchanges k) ∙ is))
 calm-exchanges (e ∷ h) n k s pre post y legal is waits =
@@ -50,7 +50,7 @@ calm-exchanges (e ∷ h) n k s pre post y legal is waits =
         answered-calm k s y (exchange-answered n k s e y legal.0 (at ∙ ap Some (head-same same))) waits
     by (Some z) at (q ∷ p) same later = later p (tail-same same)
 
-abbrev NoneWaits : List Call → Type 0
+abbrev pub NoneWaits : List Call → Type 0
 NoneWaits [] = Unit {0}
 NoneWaits (c ∷ cs) = (can_wait c ≡ false) × NoneWaits cs
 

@@ -19,7 +19,7 @@ use Rattle.pr_num.specs.Syscalls.{is_fork_call, syscall_args, syscall_number}
 use Rattle.pr_num.specs.declared.stop_reasons.StopReason.{StopReason}
 use Rattle.pr_num.specs.declared.stop_reasons.StopReason.TheVariants.{SysExit}
 use Rattle.pr_num.specs.declared.syscalls.Sysno.{Sysno}
-use Rattle.pr_num.specs.declared.syscalls.Sysno.TheVariants.{Fork}
+use Rattle.pr_num.specs.declared.syscalls.Sysno.TheVariants.{Fork, Vfork}
 use Rattle.pr_rec.specs.declared.lwps.LwpStatus.{LwpStatus}
 use Rattle.pr_truss.specs.Feeding.{fed, with_reply}
 use Rattle.pr_truss.specs.Records.{child_of, event_stops, has_ended_fork, is_exit, is_fork, is_on_event, lstatus_lwps, status_lwp}
@@ -39,10 +39,11 @@ use Rattle.pr_report_laws.specs.Freed.{ReadsLastFork}
 
 -- ---- the event of such a call has no text
 
-fork-text : (call : Sysno) (arguments : List ℕ) (size : Option ℕ) → is_fork_call call ≡ true
+pub fork-text : (call : Sysno) (arguments : List ℕ) (size : Option ℕ) → is_fork_call call ≡ true
     → range_from arguments size (syscall_args call) 0 ≡ None
 unfolding range_from syscall_args is_fork_call
 fork-text Fork arguments size makes = refl
+fork-text Vfork arguments size makes = refl
 fork-text _ arguments size makes = absurd (false≢true makes)
 
 -- a status stands at the exit of a call that makes a child

@@ -24,7 +24,8 @@ use Rattle.pr_truss_laws.proofs.AnswerLemmas.{IsAnswer, answer-is}
 use Rattle.pr_truss_laws.proofs.ClosesLemmas.{after-fits, after-grown, first-fits}
 use Rattle.pr_truss_laws.proofs.FitLemmas.{fed-fits}
 use Rattle.pr_truss_laws.proofs.HeldLemmas.{Fits, Grown}
-use Rattle.pr_truss_laws.specs.Exchanges.{Exchange, IsGranted, Makes, errno_in, truss_after}
+use Rattle.pr_truss_laws.specs.Exchanges.{Exchange, IsGranted, Makes, errno_in, opened_by, truss_after, with_opened_by}
+use Rattle.pr_truss_laws.specs.Handles.{handles_of}
 use Rattle.pr_report_laws.proofs.Watching.BeginLaws.{at-options}
 use Rattle.pr_report_laws.proofs.FollowedChildren.FollowForks.{fork-comes}
 use Rattle.pr_report_laws.proofs.FollowedChildren.FollowOpenings.{Broken, ChildEnd, IsAt, Runs, awaited-call, begun-calls, child-end, failed, runs-now, stopped, unfinished, whole}
@@ -33,8 +34,7 @@ use Rattle.pr_report_laws.proofs.Invariant.OpeningRuns.{born-fed}
 use Rattle.pr_report_laws.proofs.Replies.TracedPlaces.{opened-before}
 use Rattle.pr_report_laws.proofs.Files.WatchHistories.{after-append, makes-rest}
 use Rattle.pr_report_laws.proofs.Memory.WatchMemory.{child-calls}
-use Rattle.pr_report_laws.specs.Freed.{handles_of}
-use Rattle.pr_report_laws.specs.Follows.{IsFollowedUp, IsRefusedFollowing, ReadsFork, opened_by, with_opened_by, attached, begun, left, refused}
+use Rattle.pr_report_laws.specs.Follows.{IsFollowedUp, IsRefusedFollowing, ReadsFork, attached, begun, left, refused}
 
 -- What becomes of the child of each fork that truss has read.
 

@@ -1,4 +1,4 @@
-use Rattle.std.proofs.Common.{◌≡◌, ◌≢◌, ◌<◌, ◌++◌, ℕ, suc, Bool, Option, Some, None, List, [], ◌∷◌, length, take, refl, sym, subst, ap, ◌∙◌, arith, append_assoc}
+use Rattle.std.proofs.Common.{◌≡◌, ◌≢◌, ◌<◌, ◌++◌, ℕ, suc, Option, Some, None, List, [], ◌∷◌, length, take, refl, sym, subst, ap, ◌∙◌, arith, append_assoc}
 use Rattle.std.proofs.lemmas.List.Elements.{All-cons, All-nil}
 use Rattle.std.proofs.lemmas.Option.{none-some, same_Some}
 use Rattle.std.specs.List.{All, cons_option, slice_get}
@@ -10,7 +10,7 @@ use Rattle.pr_model.specs.declared.calls.Reply.TheVariants as reply
 use Rattle.pr_num.specs.declared.errnos.Errno.{Errno}
 use Rattle.pr_num.specs.declared.errnos.Errno.TheVariants.{Intr, Noent}
 use Rattle.pr_truss.specs.Children.{child_learnt, child_step_after, with_child_answered, with_child_started, with_child_step_answered, with_refused_child_step}
-use Rattle.pr_truss.specs.Closings.{after_closing, closed_or_removed, with_closed}
+use Rattle.pr_truss.specs.Closings.{after_closing, closed_or_removed}
 use Rattle.pr_truss.specs.Feeding.{fed, with_reply}
 use Rattle.pr_truss.specs.NextCalls.{call_of, child_call, next_call_of, open_control, run_call}
 use Rattle.pr_truss.specs.Processes.{last_handle, newly_traced, without_last}
@@ -21,7 +21,6 @@ use Rattle.pr_truss.specs.declared.replies.Answer.{Answer}
 use Rattle.pr_truss.specs.declared.replies.Answer.TheVariants.{Accepted, Interrupted, Gone, Refused}
 use Rattle.pr_truss.specs.declared.reports.Report.{Report}
 use Rattle.pr_truss.specs.declared.reports.Report.TheVariants.{CannotTrace}
-use Rattle.pr_truss.specs.declared.stages.AfterClosing.{AfterClosing}
 use Rattle.pr_truss.specs.declared.stages.AfterClosing.TheVariants.{RunParent}
 use Rattle.pr_truss.specs.declared.stages.ChildStep.{ChildStep}
 use Rattle.pr_truss.specs.declared.stages.ChildStep.TheVariants as child
@@ -29,13 +28,13 @@ use Rattle.pr_truss.specs.declared.stages.Stage.TheVariants.{OpeningChild, Runni
 use Rattle.pr_truss_laws.proofs.AnswerLemmas.{IsAnswer, answer-is}
 use Rattle.pr_truss_laws.proofs.ClosesLemmas.{after-grown}
 use Rattle.pr_truss_laws.proofs.FitLemmas.{fed-fits}
-use Rattle.pr_truss_laws.proofs.HeldLemmas.{Fits, IsFreshChild, Grown, set-at}
-use Rattle.pr_truss_laws.specs.Exchanges.{Exchange, IsGranted, Makes, calls_in, truss_after}
+use Rattle.pr_truss_laws.proofs.HeldLemmas.{ClosesFirst, Fits, IsFreshChild, Grown, close-fed, closes-first, closes-next, set-at}
+use Rattle.pr_truss_laws.specs.Exchanges.{Exchange, IsGranted, Makes, calls_in, opened_by, truss_after, with_opened_by}
+use Rattle.pr_truss_laws.specs.Handles.{handles_of}
 use Rattle.pr_report_laws.proofs.Invariant.OpeningRuns.{child-fed, child-pid, child-started, child_left, next-left}
 use Rattle.pr_report_laws.proofs.Replies.TracedPlaces.{removed-before, set-length, set-other}
 use Rattle.pr_report_laws.proofs.Memory.WatchMemory.{GoesChild}
-use Rattle.pr_report_laws.specs.Follows.{opened_by, with_opened_by, RunsThen}
-use Rattle.pr_report_laws.specs.Freed.{handles_of}
+use Rattle.pr_report_laws.specs.Follows.{RunsThen}
 use Rattle.pr_report_laws.specs.Attachments.{child_calls}
 
 -- How the opening of a child ends, and that its parent runs then.
@@ -109,31 +108,6 @@ before-start s parent place r child.Start next a after = absurd (none-some next 
 
 -- ---- the handles of a child
 
--- the file that was opened last is closed first
-abbrev pub ClosesFirst : Traced → Option Traced → Type 0
-ClosesFirst u None = handles_of u ≡ last_handle u ∷ []
-ClosesFirst u (Some v) = handles_of u ≡ last_handle u ∷ handles_of v
-
-first-fields : (pid control : ℕ) (status lstatus memory : Option ℕ) (attached : Bool) (old : ℕ) (seen : Bool)
-    → let u : Traced = record {
-      pid = pid;
-      control = control;
-      status = status;
-      lstatus = lstatus;
-      memory = memory;
-      attached = attached;
-      old = old;
-      seen = seen;
-    } in ClosesFirst u (without_last u)
-unfolding last_handle without_last
-first-fields pid control status lstatus (Some m) attached old seen = refl
-first-fields pid control status (Some l) None attached old seen = refl
-first-fields pid control (Some s) None None attached old seen = refl
-first-fields pid control None None None attached old seen = refl
-
-pub closes-first : (u : Traced) → ClosesFirst u (without_last u)
-closes-first u = first-fields u.pid u.control u.status u.lstatus u.memory u.attached u.old u.seen
-
 -- what a step opens is the last one then
 chain-step : (u : Traced) (r : Reply) (step next : ChildStep) → child_step_after step ≡ Some next → IsFreshChild u step
     → cons_option (opened_by (child_call u step) r) (handles_of u) ≡ handles_of (child_learnt u r step)
@@ -144,19 +118,7 @@ chain-step u r child.OpenLstatus next after f = rw (f.memory, f.lstatus) refl
 chain-step u r child.OpenMemory next after f = rw f refl
 chain-step u r child.Start next after f = absurd (none-some next after)
 
--- a file of a process is closed, whatever comes then
-pub close-fed : (s : TrussState) (r : Reply) (place : ℕ) (next : AfterClosing) → s.stage ≡ Closing place next
-    → fed s r ≡ closed_or_removed s place next (without_last (traced_at s place))
-unfolding fed with_reply with_closed
-close-fed s r place next stage = ap (with_reply s r) stage
-
 -- ---- the parent runs
-
--- the call of a truss that closes a file of a process
-pub closes-next : (s : TrussState) (u : Traced) (place : ℕ) (next : AfterClosing) → s.stage ≡ Closing place next
-    → traced_at s place ≡ u → next_call_of s ≡ Some (call.Close (last_handle u))
-unfolding next_call_of call_of
-closes-next s u place next stage at = ap (call_of s) stage ∙ ap (λ t. Some (call.Close (last_handle t))) at
 
 module _ (f : TrussState) (control : ℕ) where
   abbrev pub Runs : List ℕ → List Exchange → Type 0

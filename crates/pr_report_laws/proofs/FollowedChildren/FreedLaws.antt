@@ -30,11 +30,10 @@ use Rattle.pr_truss.specs.declared.stages.Stage.TheVariants.{Closing, FreeingChi
 use Rattle.pr_truss_laws.proofs.AnswerLemmas.{IsAnswer, answer-is}
 use Rattle.pr_truss_laws.proofs.ClosesLemmas.{after-fits, after-grown, first-fits}
 use Rattle.pr_truss_laws.proofs.FitLemmas.{fed-fits}
-use Rattle.pr_truss_laws.proofs.HeldLemmas.{Fits, Grown, set-at}
+use Rattle.pr_truss_laws.proofs.HeldLemmas.{ClosesFirst, Fits, Grown, close-fed, closes-first, closes-next, set-at}
 use Rattle.pr_truss_laws.specs.Exchanges.{Exchange, Makes, errno_in, truss_after}
 use Rattle.pr_report_laws.proofs.Watching.BeginLaws.{at-options}
 use Rattle.pr_report_laws.proofs.FollowedChildren.FollowForks.{leaving-comes}
-use Rattle.pr_report_laws.proofs.FollowedChildren.FollowOpenings.{ClosesFirst, close-fed, closes-first, closes-next}
 use Rattle.pr_report_laws.proofs.Replies.Leaving.{leaves, reached-leaving}
 use Rattle.pr_report_laws.proofs.Replies.NextStages.{going_on-comes}
 use Rattle.pr_report_laws.proofs.Invariant.OpeningRuns.{freed-fed}

@@ -43,6 +43,7 @@ use Rattle.pr_truss_laws.proofs.HeldLemmas.{Fits}
 use Rattle.pr_truss_laws.proofs.OpensLemmas.{looking-stays, only_looks}
 use Rattle.pr_truss_laws.proofs.OwnLemmas.{Owns}
 use Rattle.pr_truss_laws.specs.Exchanges.{Exchange, exchange_in, exchange_of}
+use Rattle.pr_report_laws.proofs.Invariant.Tallies.{IsWhole, Tally}
 use Rattle.pr_report_laws.proofs.Invariant.EntrySteps.{Lost}
 use Rattle.pr_report_laws.proofs.Files.FileLaws.{HasFiles, IsFileOf}
 use Rattle.pr_report_laws.proofs.Files.FileSteps.{MakesNext}
@@ -56,7 +57,6 @@ use Rattle.pr_report_laws.proofs.Replies.StopsOver.{StopOver}
 use Rattle.pr_report_laws.proofs.Replies.StopsRead.{stop_read-over}
 use Rattle.pr_report_laws.proofs.Files.WatchHistories.{Reaches, exchange-answered}
 use Rattle.pr_report_laws.specs.Attachments.{ReadsFile}
-use Rattle.pr_report_laws.specs.Shown.{LwpEvent, shown}
 use Rattle.pr_report_laws.specs.Watching.{is_away, place_of, told_of, with_exchange}
 
 -- Where a read of its status, or of the statuses of its lwps, gave truss bytes, nothing is missing of a process.
@@ -257,12 +257,12 @@ module _ (n k pid : ℕ) (t : TrussState) (s : TracedState) (e : Entry) (g : Rea
       ∙ tells) (next-reads t w.handle w.from w.len (subst (MakesNext t) w.is next)))
 
   -- Nothing is missing after the read.
-  pub read-whole : (K : Type 0) (o : Options) (base : List LwpEvent)
-      → Standing (Lost K pid (after s e)) o pid (told_of k t e) (after s e) base → base ≡ shown pid (told_of k t e)
-  read-whole K o base standing = by standing
+  pub read-whole : (K : Type 0) (o : Options) (tally : Tally)
+      → Standing (Lost K pid (after s e)) o pid (told_of k t e) (after s e) tally → IsWhole tally
+  read-whole K o tally standing = by standing
     where
-      whole : Accounted (Lost K pid (after s e)) base (shown pid (told_of k t e)) → base ≡ shown pid (told_of k t e)
-      whole a = accounted-whole (Lost K pid (after s e)) base (shown pid (told_of k t e)) (λ lost. lives-on lost.over) a
+      whole : Accounted (Lost K pid (after s e)) tally → IsWhole tally
+      whole a = accounted-whole (Lost K pid (after s e)) tally (λ lost. lives-on lost.over) a
 
       unread-no : (place : ℕ) → place_of (told_of k t e) pid ≡ Some place
           → is_away (told_of k t e).leaving (told_of k t e).stage place ≡ false
@@ -274,13 +274,12 @@ module _ (n k pid : ℕ) (t : TrussState) (s : TracedState) (e : Entry) (g : Rea
           ∙ subst (λ q. has_read (told_of k t e).stage q ≡ true) same
           (it.read (subst (λ q. is_away (told_of k t e).leaving (told_of k t e).stage q ≡ false) (sym same) here)))
 
-      by : Standing (Lost K pid (after s e)) o pid (told_of k t e) (after s e) base → base ≡ shown pid (told_of k t e)
+      by : Standing (Lost K pid (after s e)) o pid (told_of k t e) (after s e) tally → IsWhole tally
       by (apart unwatched a) = whole a
       by (over watched none a) = whole a
       by (lives place p at attached here live traced position) = stood position
         where
-          stood : Position o (told_of k t e).stage place (traced_at (told_of k t e) place).old p base
-              (shown pid (told_of k t e)) → base ≡ shown pid (told_of k t e)
+          stood : Position o (told_of k t e).stage place (traced_at (told_of k t e) place).old p tally → IsWhole tally
           stood (stop_read read waits is) = is
           stood (old_stops count read counts waits is) = is
           stood (goes read named none quiet is) = is

@@ -1,4 +1,4 @@
-use Rattle.std.proofs.Common.{◌≡◌, ◌≢◌, ◌<◌, ◌≤◌, ◌+◌, ◌-◌, ℕ, true, false, None, Some, Option, List, [], length, refl, sym, subst, ap, ◌∙◌, inl, inr, arith}
+use Rattle.std.proofs.Common.{◌≡◌, ◌≢◌, ◌<◌, ◌≤◌, ◌+◌, ◌-◌, ℕ, true, false, None, Some, Option, length, refl, sym, subst, ap, ◌∙◌, inl, inr, arith}
 use Rattle.std.proofs.lemmas.Bool.{cases_eq, cases_lt}
 use Rattle.pr_line.specs.declared.options.Options.{Options}
 use Rattle.pr_model.specs.Replies.{handle_in}
@@ -11,7 +11,6 @@ use Rattle.pr_truss.specs.Closings.{after_closing, closed_or_removed, with_close
 use Rattle.pr_truss.specs.Feeding.{fed, with_reply}
 use Rattle.pr_truss.specs.Processes.{without_last}
 use Rattle.pr_truss.specs.Replies.{answer_of}
-use Rattle.pr_truss.specs.Reports.{pending_at}
 use Rattle.pr_truss.specs.Trusses.{TrussState, traced_at, with_report, with_stage, with_traced, without_traced}
 use Rattle.pr_truss.specs.declared.processes.Traced.{Traced}
 use Rattle.pr_truss.specs.declared.replies.Answer.{Answer}
@@ -21,18 +20,17 @@ use Rattle.pr_truss.specs.declared.stages.AfterClosing.{AfterClosing}
 use Rattle.pr_truss.specs.declared.stages.AfterClosing.TheVariants.{OpenNext, GoOn, RunParent}
 use Rattle.pr_truss.specs.declared.stages.FreeingStep.{FreeingStep}
 use Rattle.pr_truss.specs.declared.stages.FreeingStep.TheVariants as freeing
-use Rattle.pr_truss.specs.declared.stages.Stage.{Stage}
 use Rattle.pr_truss.specs.declared.stages.Stage.TheVariants.{Running, Closing, FreeingChild}
 use Rattle.pr_truss_laws.proofs.HeldLemmas.{Fits, IsLast}
 use Rattle.pr_truss_laws.proofs.ReplySteps.{lost-same}
+use Rattle.pr_report_laws.proofs.Invariant.Tallies.{Tally}
 use Rattle.pr_report_laws.proofs.Replies.Moves.{passes-standing}
-use Rattle.pr_report_laws.proofs.Replies.NextStages.{ComesNext, comes-same, comes-shows, going_on-comes, next_opening-comes, opens, prepares-none}
+use Rattle.pr_report_laws.proofs.Replies.NextStages.{ComesNext, comes-same, going_on-comes, next_opening-comes, opens, prepares-none}
 use Rattle.pr_report_laws.proofs.Replies.Orderly.{IsOrderly}
 use Rattle.pr_report_laws.proofs.Replies.Places.{place-within}
 use Rattle.pr_report_laws.proofs.Replies.TracedPlaces.{none-pid, other-pid, other-place, place-none, removed-before, removed-behind, removed-length, same-place, set-other, set-place}
 use Rattle.pr_report_laws.proofs.Invariant.Standing.{Standing, has_read, is_named}
-use Rattle.pr_report_laws.proofs.Replies.Unwatched.{Stands, agreeing-standing, apart-standing, aside, away-watched, beside, none-watched, passing, refused-shown, same-shown, stage-away, stage-named, stage-pending, stage-read}
-use Rattle.pr_report_laws.specs.Shown.{LwpEvent, shown}
+use Rattle.pr_report_laws.proofs.Replies.Unwatched.{Stands, agreeing-standing, apart-standing, aside, away-watched, beside, none-watched, passing, stage-away, stage-named, stage-read}
 use Rattle.pr_report_laws.specs.Watching.{is_away, place_of, watches}
 
 -- How truss closes the files of a process, and how it sets a child free: what each step leaves of each process.
@@ -72,15 +70,15 @@ module _ (t : TrussState) (place : ℕ) (next : AfterClosing) (stage : t.stage �
               (n + 1, omega arith, λ e. absurd (omega arith), f.same n ∙ removed-behind t place closing-within n past)
         ]
 
-    module _ (Why : Type 0) (o : Options) (pid : ℕ) (s : TracedState) (base : List LwpEvent) (after : IsOrderly u)
-        (shows : shown pid u ≡ shown pid t) (standing : Standing Why o pid t s base) where
+    module _ (Why : Type 0) (o : Options) (pid : ℕ) (s : TracedState) (tally : Tally) (after : IsOrderly u)
+        (standing : Standing Why o pid t s tally) where
       -- a process that stood at no other place is not traced now
       nowhere : ((m : ℕ) → m < length t.traced → m ≢ place → (traced_at t m).pid ≢ pid) → place_of u pid ≡ None
       nowhere none =
           place-none u pid
           (λ n within is. let m = stood n within in none m.0 m.1 m.2 (ap (λ (x : Traced). x.pid) (sym m.3) ∙ is))
 
-      at : (q : ℕ) → place_of t pid ≡ Some q → q ≢ place → Standing Why o pid u s base
+      at : (q : ℕ) → place_of t pid ≡ Some q → q ≢ place → Standing Why o pid u s tally
       at q is differs =
           elim (cases_lt q place) [ inl ahead ↦ ahead-stands ahead | inr past ↦ past-stands (omega arith) ]
         where
@@ -96,37 +94,37 @@ module _ (t : TrussState) (place : ℕ) (next : AfterClosing) (stage : t.stage �
           named : (n : ℕ) → is_named u.stage n ≡ is_named t.stage q
           named n = f.named n ∙ sym (stage-named t (Closing place next) stage q)
 
-          ahead-stands : q < place → Standing Why o pid u s base
+          ahead-stands : q < place → Standing Why o pid u s tally
           ahead-stands ahead =
-              passes-standing Why o pid t u s base q q
+              passes-standing Why o pid t u s tally q q
               (passing pid t u q q after is (omega (arith, less, closing-within)) (f.same q
               ∙ removed-before t place closing-within q ahead) away (f.here q) (f.before q ahead)
-              (named q) shows) standing
+              (named q)) standing
 
           -- it moves down by one place
-          moves : (n : ℕ) → n + 1 ≡ q → place ≤ n → Standing Why o pid u s base
+          moves : (n : ℕ) → n + 1 ≡ q → place ≤ n → Standing Why o pid u s tally
           moves n is_next past =
-              passes-standing Why o pid t u s base q n
+              passes-standing Why o pid t u s tally q n
               (passing pid t u q n after is (omega (arith, less, within)) (f.same n
               ∙ removed-behind t place closing-within n past
               ∙ ap (traced_at t) is_next) away (f.here n) (f.behind n past (omega (arith, within))
-              ∙ ap (has_read t.stage) is_next) (named n) shows) standing
+              ∙ ap (has_read t.stage) is_next) (named n)) standing
 
-          past-stands : place < q → Standing Why o pid u s base
+          past-stands : place < q → Standing Why o pid u s tally
           past-stands past = moves (q - 1) (omega arith) (omega arith)
 
-      removed-standing : Standing Why o pid u s base
+      removed-standing : Standing Why o pid u s tally
       removed-standing = by (place_of t pid) refl
         where
-          gone : watches t pid ≡ false → place_of u pid ≡ None → Standing Why o pid u s base
-          gone off none = apart-standing Why o pid t s base u s off (none-watched u pid none) shows standing
+          gone : watches t pid ≡ false → place_of u pid ≡ None → Standing Why o pid u s tally
+          gone off none = apart-standing Why o pid t s tally u s off (none-watched u pid none) standing
 
-          by : (x : Option ℕ) → place_of t pid ≡ x → Standing Why o pid u s base
+          by : (x : Option ℕ) → place_of t pid ≡ x → Standing Why o pid u s tally
           by None is = gone (none-watched t pid is) (nowhere (λ m within differs. none-pid t pid before is m within))
           by (Some q) is =
               elim (cases_eq q place) [ inl same ↦ own (is ∙ ap (λ n. Some n) same) | inr differs ↦ at q is differs ]
             where
-              own : place_of t pid ≡ Some place → Standing Why o pid u s base
+              own : place_of t pid ≡ Some place → Standing Why o pid u s tally
               own here =
                   gone (away-watched t pid place here (stage-away t (Closing place next) stage place
                   ∙ same-place place place refl))
@@ -162,17 +160,16 @@ module _ (t : TrussState) (place : ℕ) where
 
 -- ---- the close of a file
 
-module _ (Why : Type 0) (o : Options) (pid : ℕ) (t : TrussState) (s : TracedState) (base : List LwpEvent) (place : ℕ)
+module _ (Why : Type 0) (o : Options) (pid : ℕ) (t : TrussState) (s : TracedState) (tally : Tally) (place : ℕ)
     (next : AfterClosing) (stage : t.stage ≡ Closing place next) (before : IsOrderly t)
-    (standing : Standing Why o pid t s base) where
+    (standing : Standing Why o pid t s tally) where
   -- the process holds one file less
-  less-stands : (x : Traced) → x.pid ≡ (traced_at t place).pid → Stands Why o pid (with_traced t place x) s base
+  less-stands : (x : Traced) → x.pid ≡ (traced_at t place).pid → Stands Why o pid (with_traced t place x) s tally
   less-stands x own =
       let u = with_traced t place x in
       let at = Closing place next in
       let away = stage-away t at stage place ∙ same-place place place refl in (
-        agreeing-standing Why o pid t u s base (set-place t place x pid own)
-            (same-shown pid t u (stage-pending t at stage) (ap (pending_at u) stage) refl)
+        agreeing-standing Why o pid t u s tally (set-place t place x pid own)
             (beside t u place away away (λ q differs. let off = stage-away t at stage q
             ∙ other-place place q (λ e. differs (sym e)) in aside
             (set-other t place x q differs) off off refl refl)) standing,
@@ -180,73 +177,70 @@ module _ (Why : Type 0) (o : Options) (pid : ℕ) (t : TrussState) (s : TracedSt
       )
 
   -- it held none any more
-  removed-stands : (u : TrussState) → ClosesNext t u place → IsOrderly u → shown pid u ≡ shown pid t
-      → opens u.stage ≡ false → Stands Why o pid u s base
-  removed-stands u f after shows none = (
-    removed-standing t place next stage before u f Why o pid s base after shows standing,
+  removed-stands : (u : TrussState) → ClosesNext t u place → IsOrderly u → opens u.stage ≡ false
+      → Stands Why o pid u s tally
+  removed-stands u f after none = (
+    removed-standing t place next stage before u f Why o pid s tally after standing,
     prepares-none o pid u s
         none,
   )
 
   comes-stands : (u : TrussState) → ComesNext (without_traced t place) u → IsOrderly u
-      → ((q : ℕ) → has_read (Closing place next) q ≡ false) → Stands Why o pid u s base
+      → ((q : ℕ) → has_read (Closing place next) q ≡ false) → Stands Why o pid u s tally
   comes-stands u c after none =
       let v = without_traced t place in
-      removed-stands u (comes-follows t place next u stage none c) after
-      (comes-shows pid v u (ap (pending_at v) stage) c
-      ∙ same-shown pid t v (stage-pending t (Closing place next) stage) (ap (pending_at v) stage) refl) c.opens
+      removed-stands u (comes-follows t place next u stage none c) after c.opens
 
-after-stands : (Why : Type 0) (o : Options) (pid : ℕ) (t : TrussState) (s : TracedState) (base : List LwpEvent)
-    (place : ℕ) (next : AfterClosing) → t.stage ≡ Closing place next → IsOrderly t → Standing Why o pid t s base
+after-stands : (Why : Type 0) (o : Options) (pid : ℕ) (t : TrussState) (s : TracedState) (tally : Tally)
+    (place : ℕ) (next : AfterClosing) → t.stage ≡ Closing place next → IsOrderly t → Standing Why o pid t s tally
     → IsOrderly (after_closing (without_traced t place) next)
-    → Stands Why o pid (after_closing (without_traced t place) next) s base
+    → Stands Why o pid (after_closing (without_traced t place) next) s tally
 unfolding after_closing
-after-stands Why o pid t s base place OpenNext stage before standing after =
-    comes-stands Why o pid t s base place OpenNext stage before standing _
+after-stands Why o pid t s tally place OpenNext stage before standing after =
+    comes-stands Why o pid t s tally place OpenNext stage before standing _
     (next_opening-comes (without_traced t place)) after (λ q. refl)
-after-stands Why o pid t s base place GoOn stage before standing after =
-    comes-stands Why o pid t s base place GoOn stage before standing _ (going_on-comes (without_traced t place)) after
+after-stands Why o pid t s tally place GoOn stage before standing after =
+    comes-stands Why o pid t s tally place GoOn stage before standing _ (going_on-comes (without_traced t place)) after
     (λ q. refl)
-after-stands Why o pid t s base place (RunParent parent) stage before standing after =
+after-stands Why o pid t s tally place (RunParent parent) stage before standing after =
     let last : IsLast t.traced parent place = (subst (Fits t.traced) stage before.fits).1 in
     let u = with_stage (without_traced t place) (Running parent) in
-    removed-stands Why o pid t s base place (RunParent parent) stage before standing u
-    (parent-follows t place parent stage last) after
-    (same-shown pid t u (stage-pending t (Closing place (RunParent parent)) stage) refl refl) refl
+    removed-stands Why o pid t s tally place (RunParent parent) stage before standing u
+    (parent-follows t place parent stage last) after refl
 
-closed-stands : (Why : Type 0) (o : Options) (pid : ℕ) (t : TrussState) (s : TracedState) (base : List LwpEvent)
-    (place : ℕ) (next : AfterClosing) → t.stage ≡ Closing place next → IsOrderly t → Standing Why o pid t s base
+closed-stands : (Why : Type 0) (o : Options) (pid : ℕ) (t : TrussState) (s : TracedState) (tally : Tally)
+    (place : ℕ) (next : AfterClosing) → t.stage ≡ Closing place next → IsOrderly t → Standing Why o pid t s tally
     → (x : Option Traced) → without_last (traced_at t place) ≡ x → IsOrderly (closed_or_removed t place next x)
-    → Stands Why o pid (closed_or_removed t place next x) s base
-closed-stands Why o pid t s base place next stage before standing None is after =
-    after-stands Why o pid t s base place next stage before standing after
-closed-stands Why o pid t s base place next stage before standing (Some x) is after =
+    → Stands Why o pid (closed_or_removed t place next x) s tally
+closed-stands Why o pid t s tally place next stage before standing None is after =
+    after-stands Why o pid t s tally place next stage before standing after
+closed-stands Why o pid t s tally place next stage before standing (Some x) is after =
     let same = lost-same (traced_at t place) x is in
-    less-stands Why o pid t s base place next stage before standing x same.pid
+    less-stands Why o pid t s tally place next stage before standing x same.pid
 
 -- The reply to the close of a file: the process holds one file less, or is not traced any more.
 pub closing-stands : (Why : Type 0) (o : Options) (pid : ℕ) (t : TrussState) (r : Reply) (s : TracedState)
-    (base : List LwpEvent) (place : ℕ) (next : AfterClosing) → t.stage ≡ Closing place next
-    → IsOrderly t → IsOrderly (fed t r) → Standing Why o pid t s base → Stands Why o pid (fed t r) s base
+    (tally : Tally) (place : ℕ) (next : AfterClosing) → t.stage ≡ Closing place next
+    → IsOrderly t → IsOrderly (fed t r) → Standing Why o pid t s tally → Stands Why o pid (fed t r) s tally
 unfolding fed with_reply with_closed
-closing-stands Why o pid t r s base place next stage before after standing =
+closing-stands Why o pid t r s tally place next stage before after standing =
     let is : fed t r ≡ with_closed t place next = ap (with_reply t r) stage in
-    subst (λ u. Stands Why o pid u s base) (sym is)
-    (closed-stands Why o pid t s base place next stage before standing (without_last (traced_at t place)) refl
+    subst (λ u. Stands Why o pid u s tally) (sym is)
+    (closed-stands Why o pid t s tally place next stage before standing (without_last (traced_at t place)) refl
     (subst IsOrderly is after))
 
 -- ---- a child that is set free
 
-module _ (Why : Type 0) (o : Options) (pid : ℕ) (t : TrussState) (s : TracedState) (base : List LwpEvent) (of : ℕ)
-    (step : FreeingStep) (stage : t.stage ≡ FreeingChild of step) (standing : Standing Why o pid t s base) where
+module _ (Why : Type 0) (o : Options) (pid : ℕ) (t : TrussState) (s : TracedState) (tally : Tally) (of : ℕ)
+    (step : FreeingStep) (stage : t.stage ≡ FreeingChild of step) (standing : Standing Why o pid t s tally) where
   -- a stage at which the first process is still left
-  left-stands : (u : TrussState) → place_of u pid ≡ place_of t pid → shown pid u ≡ shown pid t → opens u.stage ≡ false
+  left-stands : (u : TrussState) → place_of u pid ≡ place_of t pid → opens u.stage ≡ false
       → is_away u.leaving u.stage 0 ≡ true
       → ((q : ℕ) → q ≢ 0 → (traced_at u q ≡ traced_at t q) × (is_away u.leaving u.stage q ≡ false) ×
-      (has_read u.stage q ≡ false) × (is_named u.stage q ≡ false)) → Stands Why o pid u s base
-  left-stands u same shows none away others =
+      (has_read u.stage q ≡ false) × (is_named u.stage q ≡ false)) → Stands Why o pid u s tally
+  left-stands u same none away others =
       let at = FreeingChild of step in (
-        agreeing-standing Why o pid t u s base same shows
+        agreeing-standing Why o pid t u s tally same
             (beside t u 0 (stage-away t at stage 0 ∙ same-place 0 0 refl) away
             (λ q differs. let m = others q differs in aside m.0 (stage-away t at stage q
             ∙ other-place q 0 differs) m.1 (m.2 ∙ sym (stage-read t at stage q)) (m.3
@@ -254,28 +248,24 @@ module _ (Why : Type 0) (o : Options) (pid : ℕ) (t : TrussState) (s : TracedSt
         prepares-none o pid u s none,
       )
 
-  shows-same : (next : Stage) → pending_at (with_stage t next) next ≡ [] → shown pid (with_stage t next) ≡ shown pid t
-  shows-same next none = same-shown pid t (with_stage t next) (stage-pending t (FreeingChild of step) stage) none refl
-
-  goes-stands : (later : FreeingStep) → Stands Why o pid (with_stage t (FreeingChild of later)) s base
+  goes-stands : (later : FreeingStep) → Stands Why o pid (with_stage t (FreeingChild of later)) s tally
   goes-stands later =
-      left-stands (with_stage t (FreeingChild of later)) refl (shows-same (FreeingChild of later) refl) refl
+      left-stands (with_stage t (FreeingChild of later)) refl refl
       (same-place 0 0 refl) (λ q differs. (refl, other-place q 0 differs, refl, refl))
 
-  closes-stands : Stands Why o pid (with_stage t (Closing 0 GoOn)) s base
+  closes-stands : Stands Why o pid (with_stage t (Closing 0 GoOn)) s tally
   closes-stands =
-      left-stands (with_stage t (Closing 0 GoOn)) refl (shows-same (Closing 0 GoOn) refl) refl (same-place 0 0 refl)
+      left-stands (with_stage t (Closing 0 GoOn)) refl refl (same-place 0 0 refl)
       (λ q differs. (refl, other-place 0 q (λ e. differs (sym e)), refl, refl))
 
-  refused-stands : (errno : Errno) → Stands Why o pid (with_refused_freeing t of errno) s base
+  refused-stands : (errno : Errno) → Stands Why o pid (with_refused_freeing t of errno) s tally
   unfolding with_refused_freeing
   refused-stands errno =
       let u = with_stage (with_report t (CannotTrace of errno)) (Closing 0 GoOn) in
-      left-stands u refl
-      (refused-shown pid of errno t (Closing 0 GoOn) (stage-pending t (FreeingChild of step) stage) refl) refl
+      left-stands u refl refl
       (same-place 0 0 refl) (λ q differs. (refl, other-place 0 q (λ e. differs (sym e)), refl, refl))
 
-  begun-stands : (r : Reply) (a : Answer) → Stands Why o pid (with_freeing_begun t of r a) s base
+  begun-stands : (r : Reply) (a : Answer) → Stands Why o pid (with_freeing_begun t of r a) s tally
   unfolding with_freeing_begun
   begun-stands r Accepted = goes-stands (freeing.SetRelease (handle_in r))
   begun-stands r Interrupted = closes-stands
@@ -283,22 +273,22 @@ module _ (Why : Type 0) (o : Options) (pid : ℕ) (t : TrussState) (s : TracedSt
   begun-stands r (Refused errno) = refused-stands errno
 
 freed-stands : (Why : Type 0) (o : Options) (pid : ℕ) (t : TrussState) (r : Reply) (s : TracedState)
-    (base : List LwpEvent) (of : ℕ) (step : FreeingStep) → t.stage ≡ FreeingChild of step → Standing Why o pid t s base
-    → Stands Why o pid (with_freeing_answered t of step r) s base
+    (tally : Tally) (of : ℕ) (step : FreeingStep) → t.stage ≡ FreeingChild of step → Standing Why o pid t s tally
+    → Stands Why o pid (with_freeing_answered t of step r) s tally
 unfolding with_freeing_answered
-freed-stands Why o pid t r s base of freeing.OpenControl stage standing =
-    begun-stands Why o pid t s base of freeing.OpenControl stage standing r (answer_of r)
-freed-stands Why o pid t r s base of (freeing.SetRelease control) stage standing =
-    goes-stands Why o pid t s base of (freeing.SetRelease control) stage standing (freeing.Close control)
-freed-stands Why o pid t r s base of (freeing.Close control) stage standing =
-    closes-stands Why o pid t s base of (freeing.Close control) stage standing
+freed-stands Why o pid t r s tally of freeing.OpenControl stage standing =
+    begun-stands Why o pid t s tally of freeing.OpenControl stage standing r (answer_of r)
+freed-stands Why o pid t r s tally of (freeing.SetRelease control) stage standing =
+    goes-stands Why o pid t s tally of (freeing.SetRelease control) stage standing (freeing.Close control)
+freed-stands Why o pid t r s tally of (freeing.Close control) stage standing =
+    closes-stands Why o pid t s tally of (freeing.Close control) stage standing
 
 -- The reply to a step of the freeing of a child: the process that truss leaves, which stands first, is still being
 -- left.
 pub freeing-stands : (Why : Type 0) (o : Options) (pid : ℕ) (t : TrussState) (r : Reply) (s : TracedState)
-    (base : List LwpEvent) (of : ℕ) (step : FreeingStep) → t.stage ≡ FreeingChild of step → Standing Why o pid t s base
-    → Stands Why o pid (fed t r) s base
+    (tally : Tally) (of : ℕ) (step : FreeingStep) → t.stage ≡ FreeingChild of step → Standing Why o pid t s tally
+    → Stands Why o pid (fed t r) s tally
 unfolding fed with_reply
-freeing-stands Why o pid t r s base of step stage standing =
+freeing-stands Why o pid t r s tally of step stage standing =
     let is : fed t r ≡ with_freeing_answered t of step r = ap (with_reply t r) stage in
-    subst (λ u. Stands Why o pid u s base) (sym is) (freed-stands Why o pid t r s base of step stage standing)
+    subst (λ u. Stands Why o pid u s tally) (sym is) (freed-stands Why o pid t r s tally of step stage standing)

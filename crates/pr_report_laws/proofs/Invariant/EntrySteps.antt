@@ -1,4 +1,4 @@
-use Rattle.std.proofs.Common.{◌≡◌, ◌≢◌, ◌<◌, ℕ, false, None, Some, Option, List, length, refl, sym, subst, ap, ◌∙◌, arith, inl, inr, ◌⊎◌, true}
+use Rattle.std.proofs.Common.{◌≡◌, ◌≢◌, ◌<◌, ℕ, false, None, Some, Option, length, refl, sym, subst, ap, ◌∙◌, arith, inl, inr, ◌⊎◌, true}
 use Rattle.std.proofs.lemmas.Bool.{false≢true}
 use Rattle.std.proofs.lemmas.Option.{get_or_from_slice_get, none-some, slice_get_within}
 use Rattle.std.specs.List.{All, slice_get}
@@ -20,6 +20,7 @@ use Rattle.pr_truss.specs.declared.stages.Stage.{Stage}
 use Rattle.pr_truss_laws.proofs.HeldLemmas.{Fits, IsLast}
 use Rattle.pr_truss_laws.proofs.OpensLemmas.{held_by}
 use Rattle.pr_truss_laws.proofs.OwnLemmas.{Owns}
+use Rattle.pr_report_laws.proofs.Invariant.Tallies.{Tally}
 use Rattle.pr_report_laws.proofs.Files.FileLaws.{HasFiles}
 use Rattle.pr_report_laws.proofs.Files.FileUses.{place-is}
 use Rattle.pr_truss_laws.proofs.ForeignLemmas.{exclusive-sole}
@@ -27,7 +28,6 @@ use Rattle.pr_truss_laws.proofs.OutlastLemmas.{Outlasts, others-entry}
 use Rattle.pr_report_laws.proofs.Invariant.OtherSteps.{accounted-why, prepares-on, standing-on}
 use Rattle.pr_truss_laws.proofs.OverLemmas.{stays-made, stays-over}
 use Rattle.pr_report_laws.proofs.Invariant.Standing.{Prepares, Standing, apart, lives, over}
-use Rattle.pr_report_laws.specs.Shown.{LwpEvent, shown}
 use Rattle.pr_report_laws.specs.Watching.{place_of, watches, watches_at}
 
 -- What an entry leaves that is no call of truss and no turn of the process.
@@ -50,12 +50,12 @@ pub record EndsByKill (pid : ℕ) (t : TrussState) (s : TracedState) (e : Entry)
   pub status : zombie.ended ≡ Some (signal_number Kill)
 
 pub standing-why : (Why Next : Type 0) (o : Options) (pid : ℕ) (t : TrussState) (s : TracedState)
-    (base : List LwpEvent) → (Why → Next) → Standing Why o pid t s base → Standing Next o pid t s base
-standing-why Why Next o pid t s base more (apart not_watched a) =
-    apart not_watched (accounted-why Why Next base (shown pid t) more a)
-standing-why Why Next o pid t s base more (over watched none a) =
-    over watched none (accounted-why Why Next base (shown pid t) more a)
-standing-why Why Next o pid t s base more (lives place p at attached here live traced position) =
+    (tally : Tally) → (Why → Next) → Standing Why o pid t s tally → Standing Next o pid t s tally
+standing-why Why Next o pid t s tally more (apart not_watched a) =
+    apart not_watched (accounted-why Why Next tally more a)
+standing-why Why Next o pid t s tally more (over watched none a) =
+    over watched none (accounted-why Why Next tally more a)
+standing-why Why Next o pid t s tally more (lives place p at attached here live traced position) =
     lives place p at attached here live traced position
 
 -- ---- the place of a process
@@ -131,22 +131,22 @@ module _ (n k : ℕ) (o : Options) (pid : ℕ) (t : TrussState) (s : TracedState
   }
 
   -- a process that truss has no file of
-  nowhere-standing : (K : Type 0) (base : List LwpEvent) → place_of t pid ≡ None
-      → Standing (Lost K pid s) o pid t s base
-      → Standing (Lost (K ⊎ EndsByKill pid t s e) pid (after s e)) o pid t (after s e) base
-  nowhere-standing K base none (apart not_watched a) =
-      apart not_watched (accounted-why _ _ base (shown pid t) (lost-on K) a)
-  nowhere-standing K base none (over watched gone a) = absurd (false≢true (sym (unwatched t pid none) ∙ watched))
-  nowhere-standing K base none (lives place p at attached here live traced position) =
+  nowhere-standing : (K : Type 0) (tally : Tally) → place_of t pid ≡ None
+      → Standing (Lost K pid s) o pid t s tally
+      → Standing (Lost (K ⊎ EndsByKill pid t s e) pid (after s e)) o pid t (after s e) tally
+  nowhere-standing K tally none (apart not_watched a) =
+      apart not_watched (accounted-why _ _ tally (lost-on K) a)
+  nowhere-standing K tally none (over watched gone a) = absurd (false≢true (sym (unwatched t pid none) ∙ watched))
+  nowhere-standing K tally none (lives place p at attached here live traced position) =
       absurd (none-some place (sym none ∙ at))
 
-  somewhere-standing : (K : Type 0) (base : List LwpEvent) (place : ℕ) → place_of t pid ≡ Some place
-      → Standing (Lost K pid s) o pid t s base
-      → Standing (Lost (K ⊎ EndsByKill pid t s e) pid (after s e)) o pid t (after s e) base
-  somewhere-standing K base place at standing =
+  somewhere-standing : (K : Type 0) (tally : Tally) (place : ℕ) → place_of t pid ≡ Some place
+      → Standing (Lost K pid s) o pid t s tally
+      → Standing (Lost (K ⊎ EndsByKill pid t s e) pid (after s e)) o pid t (after s e) tally
+  somewhere-standing K tally place at standing =
       standing-on o pid t s (after s e) (outlasts place at)
       (λ none. stays-over n s e pid lawful legal (was-made place at) none) (Lost K pid s)
-      (Lost (K ⊎ EndsByKill pid t s e) pid (after s e)) base (lost-on K)
+      (Lost (K ⊎ EndsByKill pid t s e) pid (after s e)) tally (lost-on K)
       (λ p z watched live none found status. record {
         cause =
             inr (record { watched = watched; process = p; lived = live; zombie = z; left = found; status = status });
@@ -155,14 +155,14 @@ module _ (n k : ℕ) (o : Options) (pid : ℕ) (t : TrussState) (s : TracedState
       })
       standing
 
-  pub others-standing : (K : Type 0) (base : List LwpEvent) → Standing (Lost K pid s) o pid t s base
-      → Standing (Lost (K ⊎ EndsByKill pid t s e) pid (after s e)) o pid t (after s e) base
-  others-standing K base standing = by (place_of t pid) refl
+  pub others-standing : (K : Type 0) (tally : Tally) → Standing (Lost K pid s) o pid t s tally
+      → Standing (Lost (K ⊎ EndsByKill pid t s e) pid (after s e)) o pid t (after s e) tally
+  others-standing K tally standing = by (place_of t pid) refl
     where
       by : (x : Option ℕ) → place_of t pid ≡ x
-          → Standing (Lost (K ⊎ EndsByKill pid t s e) pid (after s e)) o pid t (after s e) base
-      by None is = nowhere-standing K base is standing
-      by (Some place) is = somewhere-standing K base place is standing
+          → Standing (Lost (K ⊎ EndsByKill pid t s e) pid (after s e)) o pid t (after s e) tally
+      by None is = nowhere-standing K tally is standing
+      by (Some place) is = somewhere-standing K tally place is standing
 
   pub others-prepares : Prepares o pid t s → Prepares o pid t (after s e)
   others-prepares h = by (place_of t pid) refl

@@ -1,3 +1,4 @@
+use Rattle.pr_report_laws.proofs.Machine.EventOwners.{event-owns}
 use Rattle.pr_model.specs.declared.handles.Held.{Held}
 use Rattle.std.proofs.Common.{◌≡◌, ◌≢◌, ◌==◌, ◌⊎◌, ℕ, Bool, true, false, cond, Option, Some, None, List, [], ◌∷◌, ◌++◌, refl, sym, subst, ap, ◌∙◌, append_assoc, inl, inr}
 use Rattle.std.proofs.lemmas.Bool.{eq-eqb, false≢true}
@@ -7,6 +8,7 @@ use Rattle.std.specs.Option.{option_and_then, option_map}
 use Rattle.pr_api.specs.Entries.{call_entry}
 use Rattle.pr_lawful.proofs.EndLemmas.{found-live}
 use Rattle.pr_line.specs.Events.{event_of}
+use Rattle.pr_line.specs.Selections.{is_selected}
 use Rattle.pr_line.specs.declared.events.Event.{Event}
 use Rattle.pr_line.specs.declared.options.Options.{Options}
 use Rattle.pr_model.proofs.HistoryLemmas.{state_after-push}
@@ -48,18 +50,19 @@ use Rattle.pr_report_laws.proofs.Files.FileUses.{place-is, stage_place}
 use Rattle.pr_truss_laws.proofs.ForeignLemmas.{exclusive-sole}
 use Rattle.pr_truss_laws.proofs.FrameLemmas.{memory-self}
 use Rattle.pr_truss_laws.proofs.HaltLemmas.{HaltsOn, goes_on, others-halt}
-use Rattle.pr_report_laws.proofs.Invariant.HistorySteps.{Holds, selected_of}
+use Rattle.pr_report_laws.proofs.Invariant.ShownTallies.{exchange-shows, selected_of, shown_tally}
+use Rattle.pr_report_laws.proofs.Invariant.HistorySteps.{Holds, read_of}
 use Rattle.pr_report_laws.proofs.Memory.MemoryReads.{entry-is}
 use Rattle.pr_report_laws.proofs.Replies.NextStages.{reported}
 use Rattle.pr_report_laws.proofs.Memory.OwnSpaces.{own-halts}
-use Rattle.pr_report_laws.proofs.Replies.ShownGrows.{told-grows}
+use Rattle.pr_report_laws.proofs.Invariant.Tallies.{told_in}
 use Rattle.pr_report_laws.proofs.Invariant.Standing.{Accounted, Standing}
 use Rattle.pr_report_laws.proofs.Replies.StopsOver.{reported-own, shown-none, shown-text}
 use Rattle.pr_report_laws.proofs.Replies.TextReports.{Asks, AsksNow, fed-goes, reads_stop}
-use Rattle.pr_report_laws.proofs.Invariant.UnreadLaws.{missing-before, missing-now, own-selects, standing-accounted}
+use Rattle.pr_report_laws.proofs.Invariant.UnreadLaws.{missing-before, missing-now, own-picks, standing-accounted}
 use Rattle.pr_report_laws.proofs.Files.WatchHistories.{truss_at-push}
 use Rattle.pr_report_laws.specs.Memories.{range_asked}
-use Rattle.pr_report_laws.specs.Shown.{LwpEvent, selected, shown}
+use Rattle.pr_report_laws.specs.Shown.{LwpEvent, picked, selected, shown}
 use Rattle.pr_report_laws.specs.Watching.{place_of, told_of, watches, with_exchange}
 
 -- What one entry of a history leaves of the events that have come.
@@ -128,13 +131,13 @@ others-in n k s Clock (act.Tick moment) legal none same = cc
 others-in n k s _ _ legal none same = absurd legal
 
 module _ (K : Type 0) (n k : ℕ) (o : Options) (pid : ℕ) (first : TracedState) (past : List Entry) (t : TrussState)
-    (s : TracedState) (base : List LwpEvent) (e : Entry) (g : Holds K k o pid t s base)
+    (s : TracedState) (base : List LwpEvent) (e : Entry) (g : Holds K k o pid t s (shown_tally o pid t base))
     (links : Links k o pid first past t s base) (knows : Knows k o pid first past t s base)
     (legal : IsLegalEntry n s e) (next : MakesNext t (exchange_of k e))
     (later : Standing (Lost (K ⊎ EndsByKill pid t s e) pid (after s e)) o pid (told_of k t e) (after s e)
-    (base ++ selected_of o pid t s e)) where
-  few : Accounted (Unit {0}) base (shown pid t)
-  few = standing-accounted (Lost K pid s) o pid t s base g.standing
+    (shown_tally o pid (told_of k t e) (base ++ selected_of o pid t s e))) where
+  few : Accounted (Unit {0}) (shown_tally o pid t base)
+  few = standing-accounted (Lost K pid s) o pid t s (shown_tally o pid t base) g.standing
 
   abbrev Why : Type 0
   Why = K ⊎ EndsByKill pid t s e
@@ -170,7 +173,8 @@ module _ (K : Type 0) (n k : ℕ) (o : Options) (pid : ℕ) (first : TracedState
     makes = subst (MakesNext t) own next
 
     same-base : base ≡ base ++ selected_of o pid t s e
-    same-base = sym (ap (λ (xs : List LwpEvent). base ++ xs) (own-selects k o pid t s e x own) ∙ append-nil base)
+    same-base = sym (ap (λ (xs : List LwpEvent). base ++ xs) (own-picks (is_selected o) k pid t s e x own)
+        ∙ append-nil base)
 
     told-is : told_of k t e ≡ fed t x.reply
     told-is = ap (with_exchange t) own
@@ -188,9 +192,10 @@ module _ (K : Type 0) (n k : ℕ) (o : Options) (pid : ℕ) (first : TracedState
         → HasCome k o pid first (past ++ e ∷ []) (shown pid (told_of k t e)) event (after s e)
     own-unread event still =
         let owns : Owns k t s = g.owns in
-        let grown = told-grows pid t (exchange_of k e) in
+        let more : List LwpEvent = told_in (is_selected o) (read_of pid t (exchange_of k e)) in
         let missing : base ≡ shown pid t ++ event ∷ [] =
-        missing-before base (shown pid t) few event (shown pid (told_of k t e)) grown.more grown.is (same-base
+        missing-before (shown_tally o pid t base) few event (shown pid (told_of k t e)) more
+        (exchange-shows o pid t (exchange_of k e) g.options) (same-base
         ∙ still) in
         let same : shown pid t ≡ shown pid (told_of k t e) =
         append_cancel_right (shown pid t) (shown pid (told_of k t e)) (event ∷ []) (sym missing ∙ same-base
@@ -232,10 +237,11 @@ module _ (K : Type 0) (n k : ℕ) (o : Options) (pid : ℕ) (first : TracedState
       missing : base ≡ shown pid t ++ event ∷ []
       missing =
           by few (standing-accounted (Lost Why pid (after s e)) o pid u (after s e)
-          (base ++ selected_of o pid t s e) later)
+          (shown_tally o pid u (base ++ selected_of o pid t s e)) later)
         where
-          by : Accounted (Unit {0}) base (shown pid t)
-              → Accounted (Unit {0}) (base ++ selected_of o pid t s e) (shown pid u) → base ≡ shown pid t ++ event ∷ []
+          by : Accounted (Unit {0}) (shown_tally o pid t base)
+              → Accounted (Unit {0}) (shown_tally o pid u (base ++ selected_of o pid t s e)) → base ≡ shown pid t
+              ++ event ∷ []
           by before afterwards =
               before.is
               ∙ ap (λ (xs : List LwpEvent). shown pid t ++ xs)
@@ -285,15 +291,16 @@ module _ (K : Type 0) (n k : ℕ) (o : Options) (pid : ℕ) (first : TracedState
   -- ---- no call of truss
 
   module _ (others : e.actor ≢ Controller k) (same : told_of k t e ≡ t) where
-    stands : Standing (Lost Why pid (after s e)) o pid t (after s e) (base ++ selected_of o pid t s e)
+    stands : Standing (Lost Why pid (after s e)) o pid t (after s e)
+        (shown_tally o pid t (base ++ selected_of o pid t s e))
     stands =
         subst (λ (u : TrussState). Standing (Lost Why pid (after s e)) o pid u (after s e)
-        (base ++ selected_of o pid t s e)) same later
+        (shown_tally o pid u (base ++ selected_of o pid t s e))) same later
 
     -- the event comes in this entry
     now-unread : (event : LwpEvent) → base ++ selected_of o pid t s e ≡ shown pid t ++ event ∷ []
         → selected_of o pid t s e ≡ event ∷ [] → HasCome k o pid first (past ++ e ∷ []) (shown pid t) event (after s e)
-    unfolding selected
+    unfolding picked
     now-unread event still is = by (watches t pid) refl is
       where
         here : after s e ≡ state_after first (past ++ e ∷ [])
@@ -308,7 +315,7 @@ module _ (K : Type 0) (n k : ℕ) (o : Options) (pid : ℕ) (first : TracedState
             → HasCome k o pid first (past ++ e ∷ []) (shown pid t) event (after s e)
         by false off its = cc
         by true on its =
-            let q = event-lives K n k o pid t s base g on event e legal its in
+            let q = event-lives K n k o pid t s (shown_tally o pid t base) g on event e legal its in
             let v : HoldsUnread pid t q.0 =
             unread-holds Why o pid t (after s e) (base ++ selected_of o pid t s e) event still stands q.0 q.1 in
             let lawful : IsLawful (after s e) = entry-lawful n s e g.lawful legal in
@@ -322,6 +329,7 @@ module _ (K : Type 0) (n k : ℕ) (o : Options) (pid : ℕ) (first : TracedState
               order = sym links.all ∙ told;
               process = q.0;
               lives = ap (λ (u : TracedState). live_process u.system pid) (sym here) ∙ q.1;
+              owns = λ range asks. event-owns n (is_selected o) pid s event range asks e legal its q.0 q.1;
               now = here;
               made = was-made pid (after s e).system q.0 lawful.system (found-live (after s e).system pid q.0 q.1).0;
               stays = halts q.0 q.1 v.halting (memory-self q.0);
@@ -329,11 +337,12 @@ module _ (K : Type 0) (n k : ℕ) (o : Options) (pid : ℕ) (first : TracedState
 
     others-unread : (event : LwpEvent) → base ++ selected_of o pid t s e ≡ shown pid t ++ event ∷ []
         → HasCome k o pid first (past ++ e ∷ []) (shown pid t) event (after s e)
-    others-unread event still = elim (missing-now base (shown pid t) few event (selected_of o pid t s e) still) [
-      | inl chosen ↦ now-unread event still chosen
-      | inr missing ↦ come-on k o pid first n s e g.lawful legal (unread-halts others event missing) past
-          (shown pid t) event (knows.unread event missing)
-    ]
+    others-unread event still = elim
+        (missing-now (shown_tally o pid t base) few event (selected_of o pid t s e) still) [
+          | inl chosen ↦ now-unread event still chosen
+          | inr missing ↦ come-on k o pid first n s e g.lawful legal (unread-halts others event missing) past
+              (shown pid t) event (knows.unread event missing)
+        ]
 
     others-reading : (place : ℕ) (l : LwpStatus) (from len : ℕ) → t.stage ≡ ReadingText place l from len
         → (traced_at t place).pid ≡ pid → ReadsIts k o pid first (past ++ e ∷ []) t l (after s e)

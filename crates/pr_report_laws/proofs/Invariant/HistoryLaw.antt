@@ -2,7 +2,6 @@ use Rattle.std.proofs.Common.{◌≡◌, ℕ, Bool, true, false, cond, None, Som
 use Rattle.std.proofs.lemmas.List.{append-nil}
 use Rattle.std.proofs.lemmas.List.Elements.{filter_map-append}
 use Rattle.std.specs.List.{cons_option, slice_get}
-use Rattle.pr_line.specs.Selections.{is_selected}
 use Rattle.pr_line.specs.declared.events.Event.{Event}
 use Rattle.pr_line.specs.declared.options.Options.{Options}
 use Rattle.pr_model.specs.Events.{Logged, events_of}
@@ -27,19 +26,21 @@ use Rattle.pr_reached.specs.InRange.{IsInRange}
 use Rattle.pr_reached.specs.Reached.{IsReached}
 use Rattle.pr_lawful.proofs.EndLemmas.{found-live}
 use Rattle.std.proofs.lemmas.List.Elements.{All-cons, All-head, All-nil, All-tail}
+use Rattle.pr_report_laws.proofs.Invariant.Tallies.{IsWhole, Tally, told_in, unread}
 use Rattle.pr_report_laws.proofs.Invariant.EntrySteps.{EndsByKill, Lost}
 use Rattle.pr_report_laws.proofs.Files.FileSteps.{first-files, makes-next}
-use Rattle.pr_report_laws.proofs.Invariant.HistorySteps.{Holds, IsBorn, entry-holds, selected_of}
+use Rattle.pr_report_laws.proofs.Invariant.HistorySteps.{Holds, IsBorn, entry-holds, picked_of, read_of, tally_after}
 use Rattle.pr_report_laws.proofs.Invariant.OtherSteps.{is-watched}
+use Rattle.pr_report_laws.proofs.Machine.TracedPoints.{PicksTraced}
 use Rattle.pr_report_laws.proofs.Replies.OwnLooks.{ReadsBack}
-use Rattle.pr_report_laws.proofs.Invariant.Standing.{Accounted, Position, Prepares, Standing, apart, goes, has_event, lives, old_stops, over, stop_read, unread}
+use Rattle.pr_report_laws.proofs.Invariant.Standing.{Accounted, Position, Prepares, Standing, apart, goes, has_event, lives, old_stops, over, stop_read}
 use Rattle.pr_report_laws.proofs.Files.WatchHistories.{uninterrupted}
 use Rattle.pr_report_laws.proofs.Invariant.Positions.{IsAtBirth}
 use Rattle.pr_report_laws.specs.Reported.{IsKilled}
-use Rattle.pr_report_laws.specs.Shown.{LwpEvent, event_selected, selected, shown}
+use Rattle.pr_report_laws.specs.Shown.{LwpEvent, event_picked, picked, shown}
 use Rattle.pr_report_laws.specs.Watching.{events_watched, told_of, watches, with_exchange}
 
--- What truss has shown after a history.
+-- What truss was told of a process after a history.
 
 -- ---- what is asked of a history
 
@@ -89,12 +90,18 @@ reads-back pid s lawful range = record {
   lwps = λ p live. lstatus-of-range s.system pid p lawful.system range (found-live s.system pid p live).0;
 }
 
--- ---- what is selected of a history
+-- ---- what came and was told in a history
 
-pub selected-both : (o : Options) (pid : ℕ) (xs ys : List Logged)
-    → selected o pid (xs ++ ys) ≡ selected o pid xs ++ selected o pid ys
-unfolding selected
-selected-both o pid xs ys = filter_map-append (event_selected o pid) xs ys
+pub picked-both : (picks : Event → Bool) (pid : ℕ) (xs ys : List Logged)
+    → picked picks pid (xs ++ ys) ≡ picked picks pid xs ++ picked picks pid ys
+unfolding picked
+picked-both picks pid xs ys = filter_map-append (event_picked picks pid) xs ys
+
+-- the events that truss was told of a process, one after another
+abbrev pub told_along : (Event → Bool) → ℕ → ℕ → TrussState → List Entry → List LwpEvent
+told_along picks k pid t [] = []
+told_along picks k pid t (e ∷ h) =
+    told_in picks (read_of pid t (exchange_of k e)) ++ told_along picks k pid (told_of k t e) h
 
 -- ---- SIGKILL in a history
 
@@ -130,10 +137,10 @@ killed-later k pid t s e h w = record {
 
 -- ---- what holds along a history
 
--- what holds before these entries, where so much was selected, and what is asked of them
+-- what holds before these entries, where so much came and was told, and what is asked of them
 pub record Along (K : Type 0) (n k : ℕ) (o : Options) (pid : ℕ) (t : TrussState) (s : TracedState)
-    (base : List LwpEvent) (h : List Entry) : Type 0 where
-  pub holds : Holds K k o pid t s base
+    (tally : Tally) (h : List Entry) : Type 0 where
+  pub holds : Holds K k o pid t s tally
   pub legal : IsLegal n s h
   pub makes : Makes t (exchanges k h)
   pub range : IsInRange s.system
@@ -141,14 +148,14 @@ pub record Along (K : Type 0) (n k : ℕ) (o : Options) (pid : ℕ) (t : TrussSt
   pub births : BirthsFrom k o pid t s h
 
 pub along-next : (K : Type 0) (n k : ℕ) (o : Options) (pid : ℕ) (t : TrussState) (s : TracedState)
-    (base : List LwpEvent) (e : Entry) (h : List Entry) → Along K n k o pid t s base (e ∷ h)
-    → Along (K ⊎ EndsByKill pid t s e) n k o pid (told_of k t e) (after s e) (base ++ selected_of o pid t s e) h
-along-next K n k o pid t s base e h g =
-    let holds : Holds K k o pid t s base = g.holds in
+    (tally : Tally) (e : Entry) (h : List Entry) → Along K n k o pid t s tally (e ∷ h)
+    → Along (K ⊎ EndsByKill pid t s e) n k o pid (told_of k t e) (after s e) (tally_after k pid t s tally e) h
+along-next K n k o pid t s tally e h g =
+    let holds : Holds K k o pid t s tally = g.holds in
     let first = makes-next k t e h g.makes in
     record {
       holds =
-          entry-holds K n k o pid t s base holds (uninterrupted k s) (reads-back pid s holds.lawful g.range) e
+          entry-holds K n k o pid t s tally holds (uninterrupted k s) (reads-back pid s holds.lawful g.range) e
           (births-now k o pid t s e h g.births) g.legal.0 first.0;
       legal = g.legal.1;
       makes = first.1;
@@ -162,48 +169,48 @@ along-next K n k o pid t s base e h g =
 
 -- ---- histories
 
--- what truss has shown after these entries, where so much was selected before, and why an event may be missing
-pub record Reports (Cause : Type 0) (k : ℕ) (o : Options) (pid : ℕ) (t : TrussState) (s : TracedState)
-    (base : List LwpEvent) (h : List Entry) : Type 0 where
+-- what truss was told after these entries, where so much came and was told before, and why an event may be missing
+pub record IsTold (Cause : Type 0) (k : ℕ) (o : Options) (pid : ℕ) (t : TrussState) (s : TracedState)
+    (tally : Tally) (h : List Entry) : Type 0 where
   pub missing : List LwpEvent
-  pub is : base ++ selected o pid (events_watched k pid t s h) ≡ shown pid (truss_after t (exchanges k h)) ++ missing
+  pub is : tally.came ++ picked tally.picks pid (events_watched k pid t s h)
+      ≡ (tally.told ++ told_along tally.picks k pid t h) ++ missing
   pub few : (missing ≡ []) ⊎
       ((event : LwpEvent) × ((missing ≡ event ∷ []) × ((watches (truss_after t (exchanges k h)) pid ≡ true) ⊎ Cause)))
 
 module _ (k : ℕ) (o : Options) (pid : ℕ) where
   -- nothing comes any more
-  here-reports : (K : Type 0) (t : TrussState) (s : TracedState) (base missing : List LwpEvent)
-      → base ≡ shown pid t ++ missing
+  here-told : (K : Type 0) (t : TrussState) (s : TracedState) (tally : Tally) (missing : List LwpEvent)
+      → tally.came ≡ tally.told ++ missing
       → (missing ≡ []) ⊎ ((event : LwpEvent) × ((missing ≡ event ∷ []) × ((watches t pid ≡ true) ⊎ K)))
-      → Reports K k o pid t s base []
-  unfolding selected
-  here-reports K t s base missing is few =
-      let same = no-exchanges k t in
-      record {
-        missing = missing;
-        is = append-nil base ∙ is ∙ ap (λ (u : TrussState). shown pid u ++ missing) (sym same);
-        few =
-            subst (λ (u : TrussState). (missing ≡ []) ⊎
-            ((event : LwpEvent) × ((missing ≡ event ∷ []) × ((watches u pid ≡ true) ⊎ K)))) (sym same) few;
-      }
+      → IsTold K k o pid t s tally []
+  unfolding picked
+  here-told K t s tally missing is few = record {
+    missing = missing;
+    is = append-nil tally.came ∙ is ∙ ap (λ (xs : List LwpEvent). xs ++ missing) (sym (append-nil tally.told));
+    few =
+        subst (λ (u : TrussState). (missing ≡ []) ⊎
+        ((event : LwpEvent) × ((missing ≡ event ∷ []) × ((watches u pid ≡ true) ⊎ K)))) (sym (no-exchanges k t)) few;
+  }
 
-  none-reports : (K : Type 0) (t : TrussState) (s : TracedState) (base : List LwpEvent) → base ≡ shown pid t
-      → Reports K k o pid t s base []
-  none-reports K t s base is = here-reports K t s base [] (is ∙ sym (append-nil (shown pid t))) (inl refl)
+  whole-told : (K : Type 0) (t : TrussState) (s : TracedState) (tally : Tally) → IsWhole tally
+      → IsTold K k o pid t s tally []
+  whole-told K t s tally is = here-told K t s tally [] (is ∙ sym (append-nil tally.told)) (inl refl)
 
-  accounted-reports : (K : Type 0) (t : TrussState) (s : TracedState) (base : List LwpEvent)
-      → Accounted (Lost K pid s) base (shown pid t) → Reports K k o pid t s base []
-  accounted-reports K t s base a =
-      here-reports K t s base a.missing a.is
+  accounted-told : (K : Type 0) (t : TrussState) (s : TracedState) (tally : Tally) → Accounted (Lost K pid s) tally
+      → IsTold K k o pid t s tally []
+  accounted-told K t s tally a =
+      here-told K t s tally a.missing a.is
       (elim a.few [
         | inl none ↦ inl none
         | inr one ↦ inr
             (one.0, (one.1.0, inr (let lost : Lost K pid s = one.1.1 in lost.cause)))
       ])
 
-  unread-few : (K : Type 0) (t : TrussState) (id : ℕ) (event : Event) → watches t pid ≡ true
-      → (unread o id event ≡ []) ⊎ ((e : LwpEvent) × ((unread o id event ≡ e ∷ []) × ((watches t pid ≡ true) ⊎ K)))
-  unread-few K t id event on = by (is_selected o event)
+  unread-few : (K : Type 0) (t : TrussState) (tally : Tally) (id : ℕ) (event : Event) → watches t pid ≡ true
+      → (unread tally id event ≡ []) ⊎
+      ((e : LwpEvent) × ((unread tally id event ≡ e ∷ []) × ((watches t pid ≡ true) ⊎ K)))
+  unread-few K t tally id event on = by (tally.picks event)
     where
       by : (b : Bool)
           → (cond {A = List LwpEvent} b (record { id = id; event = event } ∷ []) [] ≡ []) ⊎
@@ -213,19 +220,19 @@ module _ (k : ℕ) (o : Options) (pid : ℕ) where
       by true = inr (record { id = id; event = event }, (refl, inl on))
       by false = inl refl
 
-  last-reports : (K : Type 0) (t : TrussState) (s : TracedState) (base : List LwpEvent)
-      → Standing (Lost K pid s) o pid t s base → Reports K k o pid t s base []
-  last-reports K t s base (apart not_watched a) = accounted-reports K t s base a
-  last-reports K t s base (over watched none a) = accounted-reports K t s base a
-  last-reports K t s base (lives place p at attached here live traced position) = by position
+  last-told : (K : Type 0) (t : TrussState) (s : TracedState) (tally : Tally)
+      → Standing (Lost K pid s) o pid t s tally → IsTold K k o pid t s tally []
+  last-told K t s tally (apart not_watched a) = accounted-told K t s tally a
+  last-told K t s tally (over watched none a) = accounted-told K t s tally a
+  last-told K t s tally (lives place p at attached here live traced position) = by position
     where
-      by : Position o t.stage place (traced_at t place).old p base (shown pid t) → Reports K k o pid t s base []
-      by (stop_read read waits is) = none-reports K t s base is
-      by (old_stops n read counts waits is) = none-reports K t s base is
-      by (goes read named none quiet is) = none-reports K t s base is
+      by : Position o t.stage place (traced_at t place).old p tally → IsTold K k o pid t s tally []
+      by (stop_read read waits is) = whole-told K t s tally is
+      by (old_stops n read counts waits is) = whole-told K t s tally is
+      by (goes read named none quiet is) = whole-told K t s tally is
       by (has_event id event read none one named is) =
-          here-reports K t s base (unread o id event) is
-          (unread-few K t id event (is-watched t pid place at attached here))
+          here-told K t s tally (unread tally id event) is
+          (unread-few K t tally id event (is-watched t pid place at attached here))
 
   -- the causes of the first entry are those of the history
   causes-on : (K : Type 0) (t : TrussState) (s : TracedState) (e : Entry) (h : List Entry)
@@ -234,26 +241,31 @@ module _ (k : ℕ) (o : Options) (pid : ℕ) where
   causes-on K t s e h (inl (inr now)) = inr (killed-first k pid t s e h now)
   causes-on K t s e h (inr later) = inr (killed-later k pid t s e h later)
 
-  -- what is selected of these entries is what is selected of the first one and of the others
-  pub watched-next : (t : TrussState) (s : TracedState) (base : List LwpEvent) (e : Entry) (h : List Entry)
-      → base ++ selected o pid (events_watched k pid t s (e ∷ h)) ≡ (base ++ selected_of o pid t s e) ++ selected o pid
-      (events_watched k pid (told_of k t e) (after s e) h)
-  watched-next t s base e h =
-      ap (λ (xs : List LwpEvent). base ++ xs)
-      (selected-both o pid (cond (watches t pid) (events_of s e) [])
+  -- what is picked of these entries is what is picked of the first one and of the others
+  pub watched-next : (picks : Event → Bool) (t : TrussState) (s : TracedState) (came : List LwpEvent) (e : Entry)
+      (h : List Entry)
+      → came ++ picked picks pid (events_watched k pid t s (e ∷ h)) ≡
+      (came ++ picked_of picks pid t s e) ++ picked picks pid (events_watched k pid (told_of k t e) (after s e) h)
+  watched-next picks t s came e h =
+      ap (λ (xs : List LwpEvent). came ++ xs)
+      (picked-both picks pid (cond (watches t pid) (events_of s e) [])
       (events_watched k pid (told_of k t e) (after s e) h))
-      ∙ sym (append_assoc base (selected_of o pid t s e)
-      (selected o pid (events_watched k pid (told_of k t e) (after s e) h)))
+      ∙ sym (append_assoc came (picked_of picks pid t s e)
+      (picked picks pid (events_watched k pid (told_of k t e) (after s e) h)))
 
-  next-reports : (K : Type 0) (t : TrussState) (s : TracedState) (base : List LwpEvent) (e : Entry) (h : List Entry)
-      → Reports ((K ⊎ EndsByKill pid t s e) ⊎ IsKilled k pid (told_of k t e) (after s e) h) k o pid (told_of k t e)
-      (after s e) (base ++ selected_of o pid t s e) h
-      → Reports (K ⊎ IsKilled k pid t s (e ∷ h)) k o pid t s base (e ∷ h)
-  next-reports K t s base e h r =
+  next-told : (K : Type 0) (t : TrussState) (s : TracedState) (tally : Tally) (e : Entry) (h : List Entry)
+      → IsTold ((K ⊎ EndsByKill pid t s e) ⊎ IsKilled k pid (told_of k t e) (after s e) h) k o pid (told_of k t e)
+      (after s e) (tally_after k pid t s tally e) h
+      → IsTold (K ⊎ IsKilled k pid t s (e ∷ h)) k o pid t s tally (e ∷ h)
+  next-told K t s tally e h r =
       let same = after-next k t e h in
       record {
         missing = r.missing;
-        is = watched-next t s base e h ∙ r.is ∙ ap (λ (u : TrussState). shown pid u ++ r.missing) (sym same);
+        is =
+            watched-next tally.picks t s tally.came e h ∙ r.is
+            ∙ ap (λ (xs : List LwpEvent). xs ++ r.missing)
+            (append_assoc tally.told (told_in tally.picks (read_of pid t (exchange_of k e)))
+            (told_along tally.picks k pid (told_of k t e) h));
         few =
             subst (λ (u : TrussState). (r.missing ≡ []) ⊎
             ((event : LwpEvent) ×
@@ -266,9 +278,9 @@ module _ (k : ℕ) (o : Options) (pid : ℕ) where
             ]);
       }
 
-  weaker : (K L : Type 0) (t : TrussState) (s : TracedState) (base : List LwpEvent) → (K → L)
-      → Reports K k o pid t s base [] → Reports L k o pid t s base []
-  weaker K L t s base more r = record {
+  weaker : (K L : Type 0) (t : TrussState) (s : TracedState) (tally : Tally) → (K → L)
+      → IsTold K k o pid t s tally [] → IsTold L k o pid t s tally []
+  weaker K L t s tally more r = record {
     missing = r.missing;
     is = r.is;
     few =
@@ -279,15 +291,15 @@ module _ (k : ℕ) (o : Options) (pid : ℕ) where
         ];
   }
 
-  pub history-reports : (h : List Entry) (K : Type 0) (n : ℕ) (t : TrussState) (s : TracedState) (base : List LwpEvent)
-      → Along K n k o pid t s base h → Reports (K ⊎ IsKilled k pid t s h) k o pid t s base h
-  history-reports [] K n t s base g =
-      let holds : Holds K k o pid t s base = g.holds in
-      weaker K (K ⊎ IsKilled k pid t s []) t s base (λ cause. inl cause) (last-reports K t s base holds.standing)
-  history-reports (e ∷ h) K n t s base g =
-      next-reports K t s base e h
-      (history-reports h (K ⊎ EndsByKill pid t s e) n (told_of k t e) (after s e) (base ++ selected_of o pid t s e)
-      (along-next K n k o pid t s base e h g))
+  pub history-told : (h : List Entry) (K : Type 0) (n : ℕ) (t : TrussState) (s : TracedState) (tally : Tally)
+      → Along K n k o pid t s tally h → IsTold (K ⊎ IsKilled k pid t s h) k o pid t s tally h
+  history-told [] K n t s tally g =
+      let holds : Holds K k o pid t s tally = g.holds in
+      weaker K (K ⊎ IsKilled k pid t s []) t s tally (λ cause. inl cause) (last-told K t s tally holds.standing)
+  history-told (e ∷ h) K n t s tally g =
+      next-told K t s tally e h
+      (history-told h (K ⊎ EndsByKill pid t s e) n (told_of k t e) (after s e) (tally_after k pid t s tally e)
+      (along-next K n k o pid t s tally e h g))
 
 -- ---- the first state
 
@@ -339,33 +351,39 @@ first-prepares o pid s t first = record {
   new = λ parent place step stage. absurd (first.follows parent place step stage);
 }
 
--- so it is along a whole history
-pub first-along : (n k : ℕ) (o : Options) (pid : ℕ) (s : TracedState) (h : List Entry) → IsReached s
-    → IsTrussRun n k o s h → HasBytes h → OpensAtBirth k o pid s h → Along ⊥ n k o pid (first_truss o) s [] h
-first-along n k o pid s h reached run bytes births =
+-- nothing has come, and nothing was told
+abbrev pub first_tally : (Event → Bool) → Tally
+first_tally picks = record { picks = picks; came = []; told = [] }
+
+pub first-holds : (picks : Event → Bool) (n k : ℕ) (o : Options) (pid : ℕ) (s : TracedState) (h : List Entry)
+    → PicksTraced o picks → IsReached s → IsTrussRun n k o s h
+    → Holds ⊥ k o pid (first_truss o) s (first_tally picks)
+first-holds picks n k o pid s h within reached run =
     let first = first-is o pid in
     record {
-      holds = record {
-        lawful = run.lawful;
-        fit = reached.fit;
-        owns = first-owns k o s run.nothing_open;
-        files = first-files k o s;
-        options = first.options;
-        prepares = first-prepares o pid s (first_truss o) first;
-        standing =
-            apart first.nobody (record {
-              missing = [];
-              is = sym (append-nil (shown pid (first_truss o)) ∙ first.nothing);
-              few = inl refl;
-            });
-      };
-      legal = run.legal;
-      makes = run.makes;
-      range = reached.in_range;
-      bytes = bytes;
-      births =
-          record {
-            child = λ before later e x handle parent p is own stage reply live. births.child before later e x
-                handle parent p is own stage reply live;
-          };
+      lawful = run.lawful;
+      fit = reached.fit;
+      owns = first-owns k o s run.nothing_open;
+      files = first-files k o s;
+      options = first.options;
+      picks = within;
+      prepares = first-prepares o pid s (first_truss o) first;
+      standing = apart first.nobody (record { missing = []; is = refl; few = inl refl });
     }
+
+-- so it is along a whole history
+pub first-along : (picks : Event → Bool) (n k : ℕ) (o : Options) (pid : ℕ) (s : TracedState) (h : List Entry)
+    → PicksTraced o picks → IsReached s → IsTrussRun n k o s h → HasBytes h → OpensAtBirth k o pid s h
+    → Along ⊥ n k o pid (first_truss o) s (first_tally picks) h
+first-along picks n k o pid s h within reached run bytes births = record {
+  holds = first-holds picks n k o pid s h within reached run;
+  legal = run.legal;
+  makes = run.makes;
+  range = reached.in_range;
+  bytes = bytes;
+  births =
+      record {
+        child = λ before later e x handle parent p is own stage reply live. births.child before later e x
+            handle parent p is own stage reply live;
+      };
+}

@@ -1,7 +1,7 @@
-use Rattle.std.proofs.Common.{◌≡◌, ◌≢◌, ◌==◌, ◌<◌, ℕ, Bool, true, false, cond, None, Some, Option, List, [], ◌∷◌, ◌++◌, refl, sym, subst, ap, ◌∙◌, inl, inr, ◌⊎◌}
+use Rattle.std.proofs.Common.{◌≡◌, ◌≢◌, ◌==◌, ◌<◌, ℕ, Bool, true, false, cond, None, Some, Option, List, [], ◌∷◌, refl, sym, subst, ap, ◌∙◌, inl, inr, ◌⊎◌}
 use Rattle.std.proofs.lemmas.Bool.{cases_Bool, eq-eqb, eqb-true, eqb-false}
-use Rattle.std.proofs.lemmas.List.{append-nil}
 use Rattle.std.proofs.lemmas.Option.{none-some}
+use Rattle.pr_line.specs.declared.events.Event.{Event}
 use Rattle.pr_line.specs.declared.options.Options.{Options}
 use Rattle.pr_model.proofs.TurnLemmas.{turn-taken}
 use Rattle.pr_model.specs.Calls.{answer_to}
@@ -23,9 +23,12 @@ use Rattle.pr_truss.specs.Trusses.{TrussState}
 use Rattle.pr_truss.specs.declared.stages.Stage.TheVariants.{OpeningChildControl}
 use Rattle.pr_truss_laws.proofs.OwnLemmas.{Owns}
 use Rattle.pr_truss_laws.specs.Exchanges.{Exchange, exchange_in, exchange_of}
+use Rattle.pr_report_laws.proofs.Invariant.Tallies.{Tally, came-nothing, told-nothing, with_came, with_told}
 use Rattle.pr_report_laws.proofs.Invariant.EntrySteps.{EndsByKill, Lost, others-prepares, others-standing, standing-why}
 use Rattle.pr_report_laws.proofs.Files.FileLaws.{HasFiles}
 use Rattle.pr_report_laws.proofs.Files.FileSteps.{IsUninterrupted, MakesNext, entry-files, entry-lawful, entry-owns}
+use Rattle.pr_report_laws.proofs.Machine.TracedPoints.{PicksTraced}
+use Rattle.pr_report_laws.proofs.Replies.NewStops.{read_now}
 use Rattle.pr_report_laws.proofs.Replies.OptionLemmas.{told-options}
 use Rattle.pr_reached.proofs.FitHistoryLemmas.{history-fits}
 use Rattle.pr_report_laws.proofs.Machine.FrameLaws.{no-events}
@@ -37,25 +40,36 @@ use Rattle.pr_report_laws.proofs.Invariant.OwnSteps.{turned-prepares, turned-sta
 use Rattle.pr_report_laws.proofs.Invariant.Standing.{Prepares, Standing}
 use Rattle.pr_reached.specs.Fits.{IsFitSystem}
 use Rattle.pr_report_laws.proofs.Invariant.Positions.{IsAtBirth}
-use Rattle.pr_report_laws.specs.Shown.{LwpEvent, selected}
+use Rattle.pr_report_laws.specs.Shown.{LwpEvent, picked}
 use Rattle.pr_report_laws.specs.Watching.{told_of, watches, with_exchange}
 
 -- What each entry of a history leaves.
 
--- what holds before an entry, where so much was selected
+-- what holds before an entry, where so much came and was told
 pub record Holds (K : Type 0) (k : ℕ) (o : Options) (pid : ℕ) (t : TrussState) (s : TracedState)
-    (base : List LwpEvent) : Type 0 where
+    (tally : Tally) : Type 0 where
   pub lawful : IsLawful s
   pub fit : IsFitSystem s.system
   pub owns : Owns k t s
   pub files : HasFiles k t s
   pub options : t.options ≡ o
+  pub picks : PicksTraced o tally.picks
   pub prepares : Prepares o pid t s
-  pub standing : Standing (Lost K pid s) o pid t s base
+  pub standing : Standing (Lost K pid s) o pid t s tally
 
--- what was selected of an entry while truss watched
-abbrev pub selected_of : Options → ℕ → TrussState → TracedState → Entry → List LwpEvent
-selected_of o pid t s e = selected o pid (cond (watches t pid) (events_of s e) [])
+-- what was picked of an entry while truss watched
+abbrev pub picked_of : (Event → Bool) → ℕ → TrussState → TracedState → Entry → List LwpEvent
+picked_of picks pid t s e = picked picks pid (cond (watches t pid) (events_of s e) [])
+
+-- the event that an entry tells truss, where it answers a call of truss
+abbrev pub read_of : ℕ → TrussState → Option Exchange → Option LwpEvent
+read_of pid t None = None
+read_of pid t (Some x) = read_now pid t x.reply
+
+-- what came and was told after an entry
+abbrev pub tally_after : ℕ → ℕ → TrussState → TracedState → Tally → Entry → Tally
+tally_after k pid t s tally e =
+    with_told (with_came tally (picked_of tally.picks pid t s e)) (read_of pid t (exchange_of k e))
 
 -- where truss opened the process as the child of a fork in this entry, it stood as at its birth
 pub record IsBorn (k : ℕ) (o : Options) (pid : ℕ) (t : TrussState) (s : TracedState) (e : Entry) : Type 0 where
@@ -63,23 +77,31 @@ pub record IsBorn (k : ℕ) (o : Options) (pid : ℕ) (t : TrussState) (s : Trac
       → t.stage ≡ OpeningChildControl parent pid → x.reply ≡ Handle handle → live_process s.system pid ≡ Some p
       → IsAtBirth o p
 
-module _ (K : Type 0) (n k : ℕ) (o : Options) (pid : ℕ) (t : TrussState) (s : TracedState) (base : List LwpEvent)
-    (h : Holds K k o pid t s base) (calm : IsUninterrupted k s) where
+module _ (K : Type 0) (n k : ℕ) (o : Options) (pid : ℕ) (t : TrussState) (s : TracedState) (tally : Tally)
+    (h : Holds K k o pid t s tally) (calm : IsUninterrupted k s) where
   abbrev Next : Entry → Type 0
   Next e = K ⊎ EndsByKill pid t s e
 
   -- what stands afterwards, and what truss knows of its processes
-  record Stands (e : Entry) (u : TrussState) (v : TracedState) : Type 0 where
+  record Stands (e : Entry) (x : Option Exchange) (u : TrussState) (v : TracedState) : Type 0 where
     prepares : Prepares o pid u v
-    standing : Standing (Lost (Next e) pid v) o pid u v (base ++ selected_of o pid t s e)
+    standing : Standing (Lost (Next e) pid v) o pid u v
+        (with_told (with_came tally (picked_of tally.picks pid t s e)) (read_of pid t x))
 
-  nothing-selected : (e : Entry) → ((id : ℕ) → e.actor ≢ Lwp pid id) → base ≡ base ++ selected_of o pid t s e
-  unfolding selected
-  nothing-selected e elsewhere = sym (ap (λ (xs : List LwpEvent). base ++ xs) (by (watches t pid)) ∙ append-nil base)
+  nothing-came : (e : Entry) → ((id : ℕ) → e.actor ≢ Lwp pid id)
+      → with_came tally (picked_of tally.picks pid t s e) ≡ tally
+  unfolding picked
+  nothing-came e elsewhere = ap (with_came tally) (by (watches t pid)) ∙ came-nothing tally
     where
-      by : (b : Bool) → selected o pid (cond b (events_of s e) []) ≡ []
-      by true = no-events o pid s e elsewhere
+      by : (b : Bool) → picked tally.picks pid (cond b (events_of s e) []) ≡ []
+      by true = no-events tally.picks pid s e elsewhere
       by false = refl
+
+  -- what was told, where nothing came
+  only-told : (e : Entry) → ((id : ℕ) → e.actor ≢ Lwp pid id) → (x : Option Exchange)
+      → with_told tally (read_of pid t x) ≡
+      with_told (with_came tally (picked_of tally.picks pid t s e)) (read_of pid t x)
+  only-told e elsewhere x = ap (λ (y : Tally). with_told y (read_of pid t x)) (sym (nothing-came e elsewhere))
 
   lost-later : (e : Entry) → IsLegalEntry n s e → Lost K pid s → Lost (Next e) pid (after s e)
   lost-later e legal lost = record {
@@ -90,18 +112,19 @@ module _ (K : Type 0) (n k : ℕ) (o : Options) (pid : ℕ) (t : TrussState) (s 
 
   -- an entry of another controller, of another process, or of the clock
   others-stand : (e : Entry) → IsLegalEntry n s e → ((id : ℕ) → e.actor ≢ Lwp pid id) → e.actor ≢ Controller k
-      → Stands e t (after s e)
+      → Stands e None t (after s e)
   others-stand e legal elsewhere others = record {
     prepares = others-prepares n k o pid t s e h.lawful legal h.owns h.files elsewhere others h.prepares;
     standing =
-        subst (Standing (Lost (Next e) pid (after s e)) o pid t (after s e)) (nothing-selected e elsewhere)
-        (others-standing n k o pid t s e h.lawful legal h.owns h.files elsewhere others K base h.standing);
+        subst (Standing (Lost (Next e) pid (after s e)) o pid t (after s e))
+        (sym (told-nothing tally) ∙ only-told e elsewhere None)
+        (others-standing n k o pid t s e h.lawful legal h.owns h.files elsewhere others K tally h.standing);
   }
 
   -- a turn of an lwp of the process
   turn-stands : (id : ℕ) (d : LwpTurn) → IsLegalEntry n s (record { actor = Lwp pid id; act = act.Turn d.turned })
       → turn_of s.system pid id ≡ Some d
-      → Stands (record { actor = Lwp pid id; act = act.Turn d.turned }) t (after s (record {
+      → Stands (record { actor = Lwp pid id; act = act.Turn d.turned }) None t (after s (record {
         actor = Lwp pid id;
         act = act.Turn d.turned;
       }))
@@ -112,7 +135,7 @@ module _ (K : Type 0) (n k : ℕ) (o : Options) (pid : ℕ) (t : TrussState) (s 
       later = rw turn refl
 
       by : (x : Option TracedProcess) → live_process s.system pid ≡ x
-          → Stands (record { actor = Lwp pid id; act = act.Turn d.turned }) t (after s (record {
+          → Stands (record { actor = Lwp pid id; act = act.Turn d.turned }) None t (after s (record {
             actor = Lwp pid id;
             act = act.Turn d.turned;
           }))
@@ -124,12 +147,14 @@ module _ (K : Type 0) (n k : ℕ) (o : Options) (pid : ℕ) (t : TrussState) (s 
                 turned-prepares o pid t s id d h.lawful.system h.fit turn
                 (after_turn s (turn_of s.system pid id)) later p live h.prepares;
             standing =
-                standing-why (Lost K pid s) (Lost (Next e) pid (after s e)) o pid t
-                (after_turn s (turn_of s.system pid id)) (base ++ selected_of o pid t s e)
+                subst (Standing (Lost (Next e) pid (after s e)) o pid t (after_turn s (turn_of s.system pid id)))
+                (sym (told-nothing (with_came tally (picked_of tally.picks pid t s e))))
+                (standing-why (Lost K pid s) (Lost (Next e) pid (after s e)) o pid t
+                (after_turn s (turn_of s.system pid id)) (with_came tally (picked_of tally.picks pid t s e))
                 (λ lost. absurd (none-some p (sym lost.over ∙ live)))
                 (turned-standing o pid t s id d h.lawful.system h.fit turn
-                (after_turn s (turn_of s.system pid id)) later (Lost K pid s) base p live
-                (watches t pid) refl h.standing);
+                (after_turn s (turn_of s.system pid id)) later (Lost K pid s) tally h.picks p live
+                (watches t pid) refl h.standing));
           }
 
   -- a call of truss
@@ -167,7 +192,7 @@ module _ (K : Type 0) (n k : ℕ) (o : Options) (pid : ℕ) (t : TrussState) (s 
     }
 
     own-stands : IsLegalEntry n s own_entry → IsLawful state → HasFiles k (fed t r) state
-        → Stands own_entry (fed t r) state
+        → Stands own_entry (Some (record { call = c; reply = r })) (fed t r) state
     own-stands legal lawful files =
         let call : IsCall k o pid t s c (record { state = state; reply = r }) = record {
           next = next;
@@ -183,12 +208,12 @@ module _ (K : Type 0) (n k : ℕ) (o : Options) (pid : ℕ) (t : TrussState) (s 
         } in
         let g =
         call-goes k o pid t s c (record { state = state; reply = r }) call K (EndsByKill pid t s own_entry)
-        (own-leaves legal) base birth h.prepares h.standing in
+        (own-leaves legal) tally birth h.prepares h.standing in
         record {
           prepares = g.prepares;
           standing =
               subst (Standing (Lost (Next own_entry) pid state) o pid (fed t r) state)
-              (nothing-selected own_entry (λ id is. cc)) g.standing;
+              (only-told own_entry (λ id is. cc) (Some (record { call = c; reply = r }))) g.standing;
         }
 
   -- ---- any entry
@@ -199,13 +224,14 @@ module _ (K : Type 0) (n k : ℕ) (o : Options) (pid : ℕ) (t : TrussState) (s 
   own-call-stands : ReadsBack pid s → (c : Call) (r : Reply) → IsBorn k o pid t s (call_by k c r)
       → IsLegalEntry n s (call_by k c r) → MakesNext t (Some (record { call = c; reply = r }))
       → IsLawful (after s (call_by k c r)) → HasFiles k (fed t r) (after s (call_by k c r))
-      → Stands (call_by k c r) (fed t r) (after s (call_by k c r))
+      → Stands (call_by k c r) (Some (record { call = c; reply = r })) (fed t r) (after s (call_by k c r))
   unfolding IsLegalEntry after
   own-call-stands reads c r born legal next lawful files =
       let state : TracedState = legal.1.0 in
       let answer : answer_to s k c ≡ Some (record { state = state; reply = r }) = legal.1.1 in
       let own : exchange_of k (call_by k c r) ≡ Some (record { call = c; reply = r }) = rw (eq-eqb k k refl) refl in
-      subst (λ x. Stands (call_by k c r) (fed t r) (after_call s x)) (sym answer)
+      subst (λ x. Stands (call_by k c r) (Some (record { call = c; reply = r })) (fed t r) (after_call s x))
+      (sym answer)
       (own-stands reads c r state answer next
       (λ parent handle p stage is live. born.child
       (record { call = c; reply = r }) handle parent p own stage is live) legal
@@ -222,6 +248,7 @@ module _ (K : Type 0) (n k : ℕ) (o : Options) (pid : ℕ) (t : TrussState) (s 
         act = act.Call c r;
       }))
       → Stands (record { actor = Controller by; act = act.Call c r })
+      (cond mine (Some (record { call = c; reply = r })) None)
       (with_exchange t (cond mine (Some (record { call = c; reply = r })) None)) (after s (record {
         actor = Controller by;
         act = act.Call c r;
@@ -235,7 +262,7 @@ module _ (K : Type 0) (n k : ℕ) (o : Options) (pid : ℕ) (t : TrussState) (s 
   call-stands reads by c r true is born legal next lawful files =
       subst (λ b. IsBorn k o pid t s (call_by b c r) → IsLegalEntry n s (call_by b c r) → IsLawful
       (after s (call_by b c r)) → HasFiles k (fed t r) (after s (call_by b c r))
-      → Stands (call_by b c r) (fed t r) (after s (call_by b c r)))
+      → Stands (call_by b c r) (Some (record { call = c; reply = r })) (fed t r) (after s (call_by b c r)))
       (sym (eqb-true by k is)) (λ b l w f. own-call-stands reads c r b l next w f) born legal lawful files
 
   actor-stands : ReadsBack pid s → (actor : Actor) (did : Act)
@@ -243,7 +270,8 @@ module _ (K : Type 0) (n k : ℕ) (o : Options) (pid : ℕ) (t : TrussState) (s 
       → IsLegalEntry n s (record { actor = actor; act = did }) → MakesNext t (exchange_in k actor did)
       → IsLawful (after s (record { actor = actor; act = did }))
       → HasFiles k (with_exchange t (exchange_in k actor did)) (after s (record { actor = actor; act = did }))
-      → Stands (record { actor = actor; act = did }) (with_exchange t (exchange_in k actor did)) (after s (record {
+      → Stands (record { actor = actor; act = did }) (exchange_in k actor did)
+      (with_exchange t (exchange_in k actor did)) (after s (record {
         actor = actor;
         act = did;
       }))
@@ -259,7 +287,7 @@ module _ (K : Type 0) (n k : ℕ) (o : Options) (pid : ℕ) (t : TrussState) (s 
       of-lwp : (x y i j : ℕ) → Lwp x i ≡ Lwp y j → x ≡ y
       of-lwp x y i j e = cc
 
-      own : other ≡ pid → Stands (record { actor = Lwp other id; act = act.Turn turned }) t (after s (record {
+      own : other ≡ pid → Stands (record { actor = Lwp other id; act = act.Turn turned }) None t (after s (record {
         actor = Lwp other id;
         act = act.Turn turned;
       }))
@@ -267,7 +295,7 @@ module _ (K : Type 0) (n k : ℕ) (o : Options) (pid : ℕ) (t : TrussState) (s 
           subst (λ x. IsLegalEntry n s
           (record { actor = Lwp x id; act = act.Turn turned })
           → turn_of s.system x id ≡ Some (record { system = legal.0; turned = turned })
-          → Stands (record { actor = Lwp x id; act = act.Turn turned }) t (after s (record {
+          → Stands (record { actor = Lwp x id; act = act.Turn turned }) None t (after s (record {
             actor = Lwp x id;
             act = act.Turn turned;
           })))
@@ -283,7 +311,7 @@ module _ (K : Type 0) (n k : ℕ) (o : Options) (pid : ℕ) (t : TrussState) (s 
 
   pub entry-holds : ReadsBack pid s → (e : Entry) → IsBorn k o pid t s e → IsLegalEntry n s e
       → MakesNext t (exchange_of k e)
-      → Holds (K ⊎ EndsByKill pid t s e) k o pid (told_of k t e) (after s e) (base ++ selected_of o pid t s e)
+      → Holds (K ⊎ EndsByKill pid t s e) k o pid (told_of k t e) (after s e) (tally_after k pid t s tally e)
   entry-holds reads e born legal next =
       let lawful = entry-lawful n s e h.lawful legal in
       let files = entry-files n k t s h.lawful calm h.owns h.files e legal next in
@@ -294,6 +322,7 @@ module _ (K : Type 0) (n k : ℕ) (o : Options) (pid : ℕ) (t : TrussState) (s 
         owns = entry-owns n k t s e h.owns legal next;
         files = files;
         options = told-options k t e ∙ h.options;
+        picks = h.picks;
         prepares = stands.prepares;
         standing = stands.standing;
       }

@@ -1,6 +1,5 @@
-use Rattle.std.proofs.Common.{◌≡◌, ◌≢◌, ◌==◌, ◌++◌, ◌<◌, ℕ, suc, true, false, Option, Some, None, List, [], length, slice_get, refl, sym, subst, ap, ◌∙◌, inl, inr}
+use Rattle.std.proofs.Common.{◌≡◌, ◌≢◌, ◌==◌, ◌<◌, ℕ, suc, true, false, Option, Some, None, List, length, slice_get, refl, sym, subst, ap, ◌∙◌, inl, inr}
 use Rattle.std.proofs.lemmas.Bool.{cases_Bool, eqb-false, eqb-true, false≢true}
-use Rattle.std.proofs.lemmas.List.{append-nil}
 use Rattle.pr_line.specs.Events.{event_of}
 use Rattle.pr_line.specs.declared.events.Event.{Event}
 use Rattle.pr_line.specs.declared.options.Options.{Options}
@@ -12,7 +11,6 @@ use Rattle.pr_truss.specs.Closings.{with_closing}
 use Rattle.pr_truss.specs.Feeding.{fed, with_reply}
 use Rattle.pr_truss.specs.Records.{event_stops, is_on_event}
 use Rattle.pr_truss.specs.Replies.{answer_of}
-use Rattle.pr_truss.specs.Reports.{pending_at}
 use Rattle.pr_truss.specs.Stops.{with_lwps_answered, with_stop_read, with_unfollowed}
 use Rattle.pr_truss.specs.Trusses.{TrussState, traced_at, with_stage}
 use Rattle.pr_truss.specs.declared.replies.Answer.{Answer}
@@ -21,17 +19,19 @@ use Rattle.pr_truss.specs.declared.stages.Stage.{Stage}
 use Rattle.pr_truss.specs.declared.stages.Stage.TheVariants.{Unfollowing, ReadingLwps, Finished}
 use Rattle.pr_truss_laws.proofs.HeldLemmas.{Fits}
 use Rattle.pr_truss_laws.specs.Stills.{IsQuiet}
-use Rattle.pr_report_laws.proofs.Replies.Carries.{Carries, Lands, carries-standing, closing-carries, tells-lands}
+use Rattle.pr_report_laws.proofs.Invariant.Tallies.{IsWhole, Tally, told-nothing, whole-still, whole-told, with_told}
+use Rattle.pr_report_laws.proofs.Replies.Carries.{Carries, Lands, carries-standing, closing-carries, read-lands}
 use Rattle.pr_report_laws.proofs.Replies.Elsewhere.{IsAside, IsElsewhere, elsewhere-standing}
 use Rattle.pr_report_laws.proofs.Replies.Moves.{Passes, passes-standing}
+use Rattle.pr_report_laws.proofs.Replies.NewStops.{new-event, new-old, new-other, new-own, new_of, read-is, read_now, refused-bytes, told-event}
 use Rattle.pr_report_laws.proofs.Replies.NextStages.{opens, prepares-none}
 use Rattle.pr_report_laws.proofs.Replies.Orderly.{IsOrderly}
 use Rattle.pr_report_laws.proofs.Replies.Places.{place-own}
-use Rattle.pr_report_laws.proofs.Invariant.Standing.{Position, Prepares, Standing, goes, has_event, old_stops, stop_read, unread}
-use Rattle.pr_report_laws.proofs.Replies.StopsOver.{StopOver, Tells, closing-over, over-others, shown-none, stop_over-tells}
-use Rattle.pr_report_laws.proofs.Replies.StopsRead.{stop-event, stop-old, stop_read-over}
+use Rattle.pr_report_laws.proofs.Invariant.Standing.{Position, Prepares, Standing, goes, has_event, old_stops, stop_read}
+use Rattle.pr_report_laws.proofs.Replies.StopsOver.{StopOver, closing-over, over-others}
+use Rattle.pr_report_laws.proofs.Replies.StopsRead.{stop_read-over}
 use Rattle.pr_report_laws.proofs.Invariant.Positions.{HasEvent, IsTracedBy, Waits}
-use Rattle.pr_report_laws.specs.Shown.{LwpEvent, shown}
+use Rattle.pr_report_laws.specs.Shown.{LwpEvent}
 use Rattle.pr_report_laws.specs.Watching.{is_away, place_of}
 
 -- Truss leaves its first process.
@@ -50,18 +50,12 @@ module _ (t : TrussState) (r : Reply) (is : t.stage ≡ Unfollowing) (orderly : 
   has_first : 0 < length t.traced
   has_first = subst (Fits t.traced) is orderly.fits
 
-  unfollow-none : pending_at t t.stage ≡ []
-  unfollow-none = ap (pending_at t) is
-
   unfollow-aside : (place : ℕ) → IsAside t.leaving t.stage place
   unfollow-aside place =
       subst (λ (st : Stage). IsAside t.leaving st place) (sym is) (record { here = refl; read = refl; named = refl })
 
   abbrev looks : TrussState
   looks = with_stage t ReadingLwps
-
-  looks-shows : (pid : ℕ) → shown pid looks ≡ shown pid t
-  looks-shows pid = shown-none pid looks refl ∙ sym (shown-none pid t unfollow-none)
 
   looks-elsewhere : IsElsewhere t looks 0
   looks-elsewhere = record {
@@ -70,7 +64,6 @@ module _ (t : TrussState) (r : Reply) (is : t.stage ≡ Unfollowing) (orderly : 
     here = λ other apart_from on. refl;
     read = λ other apart_from. refl;
     named = λ other apart_from. refl;
-    shows = λ pid apart_from. looks-shows pid;
     opens = refl;
   }
 
@@ -79,7 +72,7 @@ module _ (t : TrussState) (r : Reply) (is : t.stage ≡ Unfollowing) (orderly : 
   unfollowed-elsewhere Accepted = looks-elsewhere
   unfollowed-elsewhere (Refused errno) = looks-elsewhere
   unfollowed-elsewhere Interrupted = looks-elsewhere
-  unfollowed-elsewhere Gone = over-others t (with_closing t 0) 0 unfollow-none (closing-over t 0)
+  unfollowed-elsewhere Gone = over-others t (with_closing t 0) 0 (closing-over t 0)
 
   unfollow-elsewhere : IsElsewhere t (fed t r) 0
   unfollow-elsewhere =
@@ -88,7 +81,7 @@ module _ (t : TrussState) (r : Reply) (is : t.stage ≡ Unfollowing) (orderly : 
   pub unfollow-prepares : (o : Options) (pid : ℕ) (s : TracedState) → Prepares o pid (fed t r) s
   unfollow-prepares o pid s = let e = unfollow-elsewhere in prepares-none o pid (fed t r) s e.opens
 
-  module _ (Why : Type 0) (o : Options) (pid : ℕ) (s : TracedState) (base : List LwpEvent) where
+  module _ (Why : Type 0) (o : Options) (pid : ℕ) (s : TracedState) (tally : Tally) where
     looks-passes : place_of t pid ≡ Some 0 → Passes pid t looks 0 0
     looks-passes stands = let aside = unfollow-aside 0 in record {
       at = stands;
@@ -98,16 +91,15 @@ module _ (t : TrussState) (r : Reply) (is : t.stage ≡ Unfollowing) (orderly : 
       here = λ on. refl;
       read = sym aside.read;
       named = sym aside.named;
-      shows = looks-shows pid;
     }
 
-    looks-standing : (traced_at t 0).pid ≡ pid → Standing Why o pid t s base → Standing Why o pid looks s base
+    looks-standing : (traced_at t 0).pid ≡ pid → Standing Why o pid t s tally → Standing Why o pid looks s tally
     looks-standing own w =
-        passes-standing Why o pid t looks s base 0 0 (looks-passes (place-own t 0 pid orderly has_first own)) w
+        passes-standing Why o pid t looks s tally 0 0 (looks-passes (place-own t 0 pid orderly has_first own)) w
 
     own-unfollowed : (traced_at t 0).pid ≡ pid → (a : Answer)
-        → ((p : TracedProcess) → live_process s.system pid ≡ Some p → a ≡ Gone → ⊥) → Standing Why o pid t s base
-        → Standing Why o pid (with_unfollowed t a) s base
+        → ((p : TracedProcess) → live_process s.system pid ≡ Some p → a ≡ Gone → ⊥) → Standing Why o pid t s tally
+        → Standing Why o pid (with_unfollowed t a) s tally
     unfolding with_unfollowed
     own-unfollowed own Accepted not_gone w = looks-standing own w
     own-unfollowed own (Refused errno) not_gone w = looks-standing own w
@@ -115,20 +107,20 @@ module _ (t : TrussState) (r : Reply) (is : t.stage ≡ Unfollowing) (orderly : 
     own-unfollowed own Gone not_gone w =
         let stands = place-own t 0 pid orderly has_first own in
         let aside = unfollow-aside 0 in
-        carries-standing Why o pid t (with_closing t 0) s s base 0
-        (closing-carries Why o pid t s s base 0 stands (λ on. aside.here) unfollow-none (λ none. none)
+        carries-standing Why o pid t (with_closing t 0) s s tally tally 0
+        (closing-carries Why o pid t s s tally 0 stands (λ on. aside.here) (λ none. none)
         (λ p live. not_gone p live refl)) w
 
     pub unfollow-standing :
         ((traced_at t 0).pid ≡ pid → (p : TracedProcess) → live_process s.system pid ≡ Some p → answer_of r ≢ Gone)
-        → Standing Why o pid t s base → Standing Why o pid (fed t r) s base
+        → Standing Why o pid t s tally → Standing Why o pid (fed t r) s tally
     unfollow-standing not_gone w =
         elim (cases_Bool ((traced_at t 0).pid == pid)) [
           | inl same ↦ let own =
-              eqb-true (traced_at t 0).pid pid same in subst (λ (u : TrussState). Standing Why o pid u s base)
+              eqb-true (traced_at t 0).pid pid same in subst (λ (u : TrussState). Standing Why o pid u s tally)
               (sym (unfollow-fed t r is)) (own-unfollowed own (answer_of r) (not_gone own) w)
           | inr other ↦ elsewhere-standing t (fed t r) 0 pid unfollow-elsewhere
-              (eqb-false (traced_at t 0).pid pid other) (λ place apart_from. unfollow-aside place) Why o s base w
+              (eqb-false (traced_at t 0).pid pid other) (λ place apart_from. unfollow-aside place) Why o s tally w
         ]
 
 -- ---- a last look at its lwps
@@ -148,9 +140,6 @@ module _ (t : TrussState) (r : Reply) (is : t.stage ≡ ReadingLwps) (orderly : 
   within : 0 < length t.traced
   within = subst (Fits t.traced) is orderly.fits
 
-  lwps-none : pending_at t t.stage ≡ []
-  lwps-none = ap (pending_at t) is
-
   lwps-aside : (place : ℕ) → IsAside t.leaving t.stage place
   lwps-aside place =
       subst (λ (st : Stage). IsAside t.leaving st place) (sym is) (record { here = refl; read = refl; named = refl })
@@ -163,8 +152,8 @@ module _ (t : TrussState) (r : Reply) (is : t.stage ≡ ReadingLwps) (orderly : 
 
   looked-elsewhere : (a : Answer) → IsElsewhere t (with_lwps_answered t r a) 0
   unfolding with_lwps_answered
-  looked-elsewhere Accepted = over-others t looked 0 lwps-none ends
-  looked-elsewhere _ = over-others t (with_closing t 0) 0 lwps-none (closing-over t 0)
+  looked-elsewhere Accepted = over-others t looked 0 ends
+  looked-elsewhere _ = over-others t (with_closing t 0) 0 (closing-over t 0)
 
   lwps-elsewhere : IsElsewhere t (fed t r) 0
   lwps-elsewhere =
@@ -173,37 +162,39 @@ module _ (t : TrussState) (r : Reply) (is : t.stage ≡ ReadingLwps) (orderly : 
   pub lwps-prepares : (o : Options) (pid : ℕ) (s : TracedState) → Prepares o pid (fed t r) s
   lwps-prepares o pid s = let e = lwps-elsewhere in prepares-none o pid (fed t r) s e.opens
 
-  module _ (Why : Type 0) (o : Options) (pid : ℕ) (s : TracedState) (base : List LwpEvent) (chosen : t.options ≡ o)
+  module _ (Why : Type 0) (o : Options) (pid : ℕ) (s : TracedState) (tally : Tally)
       (on : (traced_at t 0).attached ≡ true) where
+    -- what truss is told, of the lwp that was read
+    abbrev now : Option LwpEvent
+    now = new_of (traced_at t 0) (slice_get (event_stops (bytes_in r)) 0)
+
+    abbrev later : Tally
+    later = with_told tally now
+
     module _ (own : (traced_at t 0).pid ≡ pid) (p : TracedProcess) (h : TellsLwps p r)
         (live : live_process s.system pid ≡ Some p) (traced : IsTracedBy o p) where
+      found : (x : Option LwpStatus) → slice_get (event_stops (bytes_in r)) 0 ≡ x → now ≡ new_of (traced_at t 0) x
+      found x is = ap (new_of (traced_at t 0)) is
+
       -- truss has left it then, whatever was told
-      lands-left : (left : ℕ) (events : List LwpEvent) → Tells t 0 pid looked left events
-          → base ≡ shown pid t ++ events → Lands Why o pid looked s base 0
-      lands-left left events tells all =
-          tells-lands Why o pid t looked s s base 0 p left events ends tells (shown-none pid t lwps-none) live traced
-          (λ here. absurd (false≢true (sym here ∙ ends.left leaving))) all
+      lands-left : IsWhole later → Lands Why o pid looked s later 0
+      lands-left whole =
+          read-lands Why o pid t looked s s later 0 p ends live traced
+          (λ here. absurd (false≢true (sym here ∙ ends.left leaving))) whole
 
-      told : (x : Option LwpStatus) (left : ℕ) (events : List LwpEvent) → slice_get (event_stops (bytes_in r)) 0 ≡ x
-          → Tells t 0 pid (with_stop_read t 0 x) left events → Tells t 0 pid looked left events
-      told x left events found tells = subst (λ y. Tells t 0 pid (with_stop_read t 0 y) left events) (sym found) tells
-
-      lands : Position o ReadingLwps 0 (traced_at t 0).old p base (shown pid t) → Lands Why o pid looked s base 0
+      lands : Position o ReadingLwps 0 (traced_at t 0).old p tally → Lands Why o pid looked s later 0
       lands (stop_read read waits all) = absurd (false≢true read)
       lands (old_stops n read counts waits all) =
           let stop = h.waits n waits in
-          lands-left n [] (told (Some stop.0) n [] stop.1.0 (stop-old t 0 within pid stop.0 n stop.1.1 counts)) (all
-          ∙ sym (append-nil (shown pid t)))
+          lands-left (whole-still tally now (found (Some stop.0) stop.1.0
+          ∙ new-old (traced_at t 0) stop.0 n counts) all)
       lands (goes read named none quiet all) =
-          lands-left (traced_at t 0).old [] (told None (traced_at t 0).old [] (h.none quiet) (stop_over-tells t 0 pid))
-          (all ∙ sym (append-nil (shown pid t)))
+          lands-left (whole-still tally now (found None (h.none quiet)) all)
       lands (has_event id event read none one named all) =
           let stop = h.tells id event one in
-          lands-left 0 (unread t.options id event)
-          (told (Some stop.0) 0 (unread t.options id event) stop.1.0
-          (stop-event t 0 within pid stop.0 id event own stop.1.1.1 stop.1.1.0 none
-          (orderly.unseen 0 within on)))
-          (subst (λ (c : Options). base ≡ shown pid t ++ unread c id event) (sym chosen) all)
+          lands-left (whole-told tally now id event (found (Some stop.0) stop.1.0
+          ∙ new-event (traced_at t 0) stop.0 none (orderly.unseen 0 within on)
+          ∙ told-event stop.0 id event stop.1.1.0 stop.1.1.1) all)
 
     module _ (own : (traced_at t 0).pid ≡ pid) (ended : live_process s.system pid ≡ None → answer_of r ≡ Gone)
         (reads : (p : TracedProcess) → live_process s.system pid ≡ Some p → TellsLwps p r) where
@@ -213,7 +204,15 @@ module _ (t : TrussState) (r : Reply) (is : t.stage ≡ ReadingLwps) (orderly : 
       not_away : is_away t.leaving t.stage 0 ≡ false
       not_away = ap (λ (st : Stage). is_away t.leaving st 0) is
 
-      read-carries : answer_of r ≡ Accepted → Carries Why o pid t looked s s base 0
+      -- where the read was refused truss is told nothing
+      told-still : answer_of r ≢ Accepted → later ≡ tally
+      unfolding event_stops
+      told-still refused =
+          ap (λ (x : Option (List ℕ)). with_told tally (new_of (traced_at t 0) (slice_get (event_stops x) 0)))
+          (refused-bytes r refused)
+          ∙ told-nothing tally
+
+      read-carries : answer_of r ≡ Accepted → Carries Why o pid t looked s s tally later 0
       read-carries accepted = record {
         at = stands;
         then = ends.places pid ∙ stands;
@@ -223,20 +222,21 @@ module _ (t : TrussState) (r : Reply) (is : t.stage ≡ ReadingLwps) (orderly : 
         ends = λ none. let e : Gone ≡ Accepted = sym (ended none) ∙ accepted in cc;
         moves =
             λ p is_on live traced position. lands own p (reads p live) live traced
-            (subst (λ (st : Stage). Position o st 0 (traced_at t 0).old p base (shown pid t)) is position);
+            (subst (λ (st : Stage). Position o st 0 (traced_at t 0).old p tally) is position);
       }
 
-      closed-standing : answer_of r ≢ Accepted → Standing Why o pid t s base
-          → Standing Why o pid (with_closing t 0) s base
+      closed-standing : answer_of r ≢ Accepted → Standing Why o pid t s tally
+          → Standing Why o pid (with_closing t 0) s later
       closed-standing not_accepted w =
-          carries-standing Why o pid t (with_closing t 0) s s base 0
-          (closing-carries Why o pid t s s base 0 stands (λ is_on. not_away) lwps-none (λ none. none)
-          (λ p live. let h = reads p live in not_accepted h.accepted)) w
+          subst (Standing Why o pid (with_closing t 0) s) (sym (told-still not_accepted))
+          (carries-standing Why o pid t (with_closing t 0) s s tally tally 0
+          (closing-carries Why o pid t s s tally 0 stands (λ is_on. not_away) (λ none. none)
+          (λ p live. let h = reads p live in not_accepted h.accepted)) w)
 
-      own-looked : (a : Answer) → answer_of r ≡ a → Standing Why o pid t s base
-          → Standing Why o pid (with_lwps_answered t r a) s base
+      own-looked : (a : Answer) → answer_of r ≡ a → Standing Why o pid t s tally
+          → Standing Why o pid (with_lwps_answered t r a) s later
       unfolding with_lwps_answered
-      own-looked Accepted answer w = carries-standing Why o pid t looked s s base 0 (read-carries answer) w
+      own-looked Accepted answer w = carries-standing Why o pid t looked s s tally later 0 (read-carries answer) w
       own-looked (Refused errno) answer w =
           closed-standing (λ e. let d : Refused errno ≡ Accepted = sym answer ∙ e in cc) w
       own-looked Interrupted answer w = closed-standing (λ e. let d : Interrupted ≡ Accepted = sym answer ∙ e in cc) w
@@ -244,15 +244,30 @@ module _ (t : TrussState) (r : Reply) (is : t.stage ≡ ReadingLwps) (orderly : 
 
     pub lwps-standing : ((traced_at t 0).pid ≡ pid → live_process s.system pid ≡ None → answer_of r ≡ Gone)
         → ((traced_at t 0).pid ≡ pid → (p : TracedProcess) → live_process s.system pid ≡ Some p → TellsLwps p r)
-        → Standing Why o pid t s base → Standing Why o pid (fed t r) s base
+        → Standing Why o pid t s tally → Standing Why o pid (fed t r) s (with_told tally (read_now pid t r))
     lwps-standing ended reads w =
         elim (cases_Bool ((traced_at t 0).pid == pid)) [
-          | inl same ↦ let own =
-              eqb-true (traced_at t 0).pid pid same in subst (λ (u : TrussState). Standing Why o pid u s base)
-              (sym (lwps-fed t r is)) (own-looked own (ended own) (reads own) (answer_of r) refl w)
-          | inr other ↦ elsewhere-standing t (fed t r) 0 pid lwps-elsewhere (eqb-false (traced_at t 0).pid pid other)
-              (λ place apart_from. lwps-aside place) Why o s base w
+          | inl same ↦ own-read (eqb-true (traced_at t 0).pid pid same)
+          | inr other ↦ other-read (eqb-false (traced_at t 0).pid pid other)
         ]
+      where
+        read : Option LwpStatus
+        read = slice_get (event_stops (bytes_in r)) 0
+
+        own-read : (traced_at t 0).pid ≡ pid → Standing Why o pid (fed t r) s (with_told tally (read_now pid t r))
+        own-read own =
+            subst (λ (e : Option LwpEvent). Standing Why o pid (fed t r) s (with_told tally e))
+            (sym (read-is pid t r ReadingLwps is ∙ new-own pid (traced_at t 0) read own))
+            (subst (λ (u : TrussState). Standing Why o pid u s later) (sym (lwps-fed t r is))
+            (own-looked own (ended own) (reads own) (answer_of r) refl w))
+
+        other-read : (traced_at t 0).pid ≢ pid → Standing Why o pid (fed t r) s (with_told tally (read_now pid t r))
+        other-read differs =
+            subst (Standing Why o pid (fed t r) s)
+            (sym (ap (with_told tally) (read-is pid t r ReadingLwps is ∙ new-other pid (traced_at t 0) read differs)
+            ∙ told-nothing tally))
+            (elsewhere-standing t (fed t r) 0 pid lwps-elsewhere differs (λ place apart_from. lwps-aside place) Why o s
+            tally w)
 
 -- ---- truss has finished
 
@@ -261,9 +276,9 @@ unfolding fed with_reply
 finished-fed t r is = ap (with_reply t r) is
 
 pub finished-standing : (Why : Type 0) (o : Options) (pid : ℕ) (t : TrussState) (r : Reply) (s : TracedState)
-    (base : List LwpEvent) → t.stage ≡ Finished → Standing Why o pid t s base → Standing Why o pid (fed t r) s base
-finished-standing Why o pid t r s base is w =
-    subst (λ (u : TrussState). Standing Why o pid u s base) (sym (finished-fed t r is)) w
+    (tally : Tally) → t.stage ≡ Finished → Standing Why o pid t s tally → Standing Why o pid (fed t r) s tally
+finished-standing Why o pid t r s tally is w =
+    subst (λ (u : TrussState). Standing Why o pid u s tally) (sym (finished-fed t r is)) w
 
 pub finished-prepares : (o : Options) (pid : ℕ) (t : TrussState) (r : Reply) (s : TracedState) → t.stage ≡ Finished
     → Prepares o pid (fed t r) s

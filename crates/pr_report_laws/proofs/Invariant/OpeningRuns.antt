@@ -93,11 +93,11 @@ steps_left follow opening.TraceExits = 1 + cond follow 2 1
 steps_left follow opening.Follow = 2
 steps_left follow opening.Start = 1
 
-abbrev left_after : Bool → Option OpeningStep → ℕ
+abbrev pub left_after : Bool → Option OpeningStep → ℕ
 left_after follow None = 0
 left_after follow (Some step) = steps_left follow step
 
-step-left : (o : Options) (r : Reply) (step : OpeningStep)
+pub step-left : (o : Options) (r : Reply) (step : OpeningStep)
     → steps_left o.follow step ≡ suc (left_after o.follow (step_after o r step))
 unfolding step_after
 step-left o r opening.OpenStatus = omega arith
@@ -146,10 +146,10 @@ step-fed t place step r stage accepted = ap (with_reply t r) stage ∙ ap (with_
 
 module _ (t : TrussState) (pid place : ℕ) (step : OpeningStep) (x : Exchange) (w : IsOpening t pid place step)
     (granted : answer_of x.reply ≡ Accepted) where
-  learns : Traced
+  unfoldable pub learns : Traced
   learns = learnt (traced_at t place) x.reply step
 
-  stepped : TrussState
+  unfoldable pub stepped : TrussState
   stepped = with_traced t place learns
 
   there : traced_at stepped place ≡ learns
@@ -169,7 +169,7 @@ module _ (t : TrussState) (pid place : ℕ) (step : OpeningStep) (x : Exchange) 
   on-after after =
       ap (λ (u : Traced). u.attached) there ∙ learnt-attached t.options (traced_at t place) x.reply step w.on after
 
-  opening-goes : (n : OpeningStep) → step_after t.options x.reply step ≡ Some n
+  pub opening-goes : (n : OpeningStep) → step_after t.options x.reply step ≡ Some n
       → IsOpening (with_stage stepped (Opening place n)) pid place n
   opening-goes n is = record {
     stage = refl;

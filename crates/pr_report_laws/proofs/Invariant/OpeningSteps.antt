@@ -1,4 +1,4 @@
-use Rattle.std.proofs.Common.{◌≡◌, ◌≢◌, ◌<◌, ℕ, zero, suc, true, false, None, Some, Option, List, [], length, refl, sym, subst, ap, ◌∙◌, arith, inl, inr}
+use Rattle.std.proofs.Common.{◌≡◌, ◌≢◌, ◌<◌, ℕ, zero, suc, true, false, None, Some, Option, List, length, refl, sym, subst, ap, ◌∙◌, arith, inl, inr}
 use Rattle.std.proofs.lemmas.Bool.{cases_Bool, cases_eq, false≢true}
 use Rattle.std.proofs.lemmas.Option.{same_Some}
 use Rattle.pr_line.specs.declared.options.Options.{Options}
@@ -12,7 +12,6 @@ use Rattle.pr_truss.specs.Feeding.{fed, with_reply}
 use Rattle.pr_truss.specs.Openings.{at_step, learnt, pid_in, step_after, with_control, with_control_answered, with_refused_control, with_refused_start, with_refused_step, with_start_answered, with_step_answered, with_step_done, with_stop_seen}
 use Rattle.pr_truss.specs.Processes.{newly_traced}
 use Rattle.pr_truss.specs.Replies.{answer_of}
-use Rattle.pr_truss.specs.Reports.{pending_at}
 use Rattle.pr_truss.specs.Trusses.{TrussState, traced_at, with_opened, with_report, with_stage, with_traced}
 use Rattle.pr_truss.specs.declared.processes.Traced.{Traced}
 use Rattle.pr_truss.specs.declared.replies.Answer.{Answer}
@@ -24,35 +23,35 @@ use Rattle.pr_truss.specs.declared.stages.OpeningStep.TheVariants as opening
 use Rattle.pr_truss.specs.declared.stages.Stage.{Stage}
 use Rattle.pr_truss.specs.declared.stages.Stage.TheVariants.{Spawning, OpeningControl, Opening, Closing}
 use Rattle.pr_truss_laws.proofs.HeldLemmas.{Fits}
-use Rattle.pr_report_laws.proofs.Replies.NextStages.{ComesNext, comes-places, comes-same, comes-shows, going_on-comes, interrupt-comes, next_opening-comes, prepares-none}
-use Rattle.pr_report_laws.proofs.Replies.OpeningParts.{HasStarted, IsPlain, IsStepDone, Leaves, closing-plain, comes-plain, control-plain, last-start, learnt-pid, learnt-start, leaves-standing, opening-plain, prepares-opening, silent-shown, spawning-plain, start-silent, trace-silent, until-after}
+use Rattle.pr_report_laws.proofs.Invariant.Tallies.{IsWhole, Tally}
+use Rattle.pr_report_laws.proofs.Replies.NextStages.{ComesNext, comes-places, comes-same, going_on-comes, interrupt-comes, next_opening-comes, prepares-none}
+use Rattle.pr_report_laws.proofs.Replies.OpeningParts.{HasStarted, IsPlain, IsStepDone, Leaves, closing-plain, comes-plain, control-plain, last-start, learnt-pid, learnt-start, leaves-standing, opening-plain, prepares-opening, spawning-plain, until-after}
 use Rattle.pr_report_laws.proofs.Replies.Orderly.{IsOrderly}
 use Rattle.pr_report_laws.proofs.Invariant.OtherSteps.{is-watched}
 use Rattle.pr_report_laws.proofs.Replies.TracedPlaces.{none-pid, opened-before, opened-last, opened-length, other-place, place-none, place-pid, place-some, place-within, same-place, set-here, set-length, set-other, set-place}
-use Rattle.pr_report_laws.proofs.Invariant.Standing.{Accounted, Opened, Position, Prepares, Standing, goes, lives, old_stops, over}
-use Rattle.pr_report_laws.proofs.Replies.Unwatched.{apart-accounted, apart-standing, away-watched, none-watched, same-shown, unattached-watched}
-use Rattle.pr_report_laws.specs.Shown.{LwpEvent, shown}
+use Rattle.pr_report_laws.proofs.Invariant.Standing.{Opened, Position, Prepares, Standing, goes, lives, old_stops, over}
+use Rattle.pr_report_laws.proofs.Replies.Unwatched.{apart-accounted, apart-standing, away-watched, none-watched, unattached-watched}
 use Rattle.pr_report_laws.specs.Watching.{is_away, place_of, watches}
 
 -- What the steps make of a process with which truss begins to trace, or opens, a process: that one is not watched
 -- before its opening is done, and the others stand as they stood.
 
 -- how a process stands with truss, and what is asked of it where truss opens it
-abbrev pub Comes : Type 0 → Options → ℕ → TrussState → TracedState → List LwpEvent → Type 0
-Comes Why o pid u s base = Standing Why o pid u s base × Prepares o pid u s
+abbrev pub Comes : Type 0 → Options → ℕ → TrussState → TracedState → Tally → Type 0
+Comes Why o pid u s tally = Standing Why o pid u s tally × Prepares o pid u s
 
 -- ---- truss makes the process of its program
 
-module _ (Why : Type 0) (o : Options) (pid : ℕ) (t : TrussState) (s : TracedState) (base : List LwpEvent)
+module _ (Why : Type 0) (o : Options) (pid : ℕ) (t : TrussState) (s : TracedState) (tally : Tally)
     (r : Reply) where
   abbrev After : TrussState → Type 0
-  After u = Comes Why o pid u s base
+  After u = Comes Why o pid u s tally
 
   -- a step about no process is followed by another one
-  plain-comes : (v u : TrussState) → v.traced ≡ t.traced → ComesNext v u → shown pid u ≡ shown pid t
-      → ((place : ℕ) → is_away t.leaving t.stage place ≡ false) → IsPlain t.stage → Standing Why o pid t s base
+  plain-comes : (v u : TrussState) → v.traced ≡ t.traced → ComesNext v u
+      → ((place : ℕ) → is_away t.leaving t.stage place ≡ false) → IsPlain t.stage → Standing Why o pid t s tally
       → After u
-  plain-comes v u traced c shows here plain standing =
+  plain-comes v u traced c here plain standing =
       let places : place_of u pid ≡ place_of t pid =
       comes-places pid v u c ∙ ap (λ (ts : List Traced). place_of (record v { traced = ts }) pid) traced in
       let l : Leaves pid t u = record {
@@ -65,32 +64,23 @@ module _ (Why : Type 0) (o : Options) (pid : ℕ) (t : TrussState) (s : TracedSt
         here = λ place at on. c.here place on;
         before = plain;
         after = comes-plain v u c;
-        shows = shows;
       } in
-      (leaves-standing Why o pid t u s base l standing, prepares-none o pid u s c.opens)
+      (leaves-standing Why o pid t u s tally l standing, prepares-none o pid u s c.opens)
 
   -- The process is opened, or its refusal is reported.
   module _ (program : List ℕ) (stage : t.stage ≡ Spawning program) where
     spawning-here : (place : ℕ) → is_away t.leaving t.stage place ≡ false
     spawning-here place = ap (λ (st : Stage). is_away t.leaving st place) stage
 
-    spawning-silent : pending_at t t.stage ≡ []
-    spawning-silent = ap (pending_at t) stage
-
-    refused-start : (errno : Errno) → Standing Why o pid t s base → After (with_refused_start t program errno)
+    refused-start : (errno : Errno) → Standing Why o pid t s tally → After (with_refused_start t program errno)
     unfolding with_refused_start
     refused-start errno standing =
         let v : TrussState = with_report t (CannotStart program errno) in
         let c = going_on-comes v in
-        let silent : pending_at v v.stage ≡ [] = ap (pending_at v) stage in
-        let shows =
-        comes-shows pid v (with_going_on v) silent c
-        ∙ silent-shown pid (CannotStart program errno) t v
-        (start-silent pid program errno) spawning-silent silent refl in
-        plain-comes v (with_going_on v) refl c shows spawning-here
+        plain-comes v (with_going_on v) refl c spawning-here
         (subst IsPlain (sym stage) (spawning-plain program)) standing
 
-    opens-control : (of : ℕ) → Standing Why o pid t s base → After (with_stage t (OpeningControl of))
+    opens-control : (of : ℕ) → Standing Why o pid t s tally → After (with_stage t (OpeningControl of))
     opens-control of standing =
         let u : TrussState = with_stage t (OpeningControl of) in
         let c : ComesNext t u = record {
@@ -103,10 +93,10 @@ module _ (Why : Type 0) (o : Options) (pid : ℕ) (t : TrussState) (s : TracedSt
           pending = refl;
           opens = refl;
         } in
-        plain-comes t u refl c (comes-shows pid t u spawning-silent c) spawning-here
+        plain-comes t u refl c spawning-here
         (subst IsPlain (sym stage) (spawning-plain program)) standing
 
-    spawning-answered : (a : Answer) → a ≢ Interrupted → Standing Why o pid t s base
+    spawning-answered : (a : Answer) → a ≢ Interrupted → Standing Why o pid t s tally
         → After (with_start_answered t program r a)
     unfolding with_start_answered
     spawning-answered Accepted calm standing = opens-control (pid_in r) standing
@@ -114,7 +104,7 @@ module _ (Why : Type 0) (o : Options) (pid : ℕ) (t : TrussState) (s : TracedSt
     spawning-answered Gone calm standing = refused-start Noent standing
     spawning-answered (Refused errno) calm standing = refused-start errno standing
 
-    pub spawning-step : answer_of r ≢ Interrupted → Standing Why o pid t s base → After (fed t r)
+    pub spawning-step : answer_of r ≢ Interrupted → Standing Why o pid t s tally → After (fed t r)
     unfolding fed with_reply
     spawning-step calm standing =
         subst (λ (st : Stage). After (with_reply t r st)) (sym stage) (spawning-answered (answer_of r) calm standing)
@@ -125,19 +115,12 @@ module _ (Why : Type 0) (o : Options) (pid : ℕ) (t : TrussState) (s : TracedSt
     control-here : (place : ℕ) → is_away t.leaving t.stage place ≡ false
     control-here place = ap (λ (st : Stage). is_away t.leaving st place) stage
 
-    control-silent : pending_at t t.stage ≡ []
-    control-silent = ap (pending_at t) stage
-
-    refused-control : (errno : Errno) → Standing Why o pid t s base → After (with_refused_control t of errno)
+    refused-control : (errno : Errno) → Standing Why o pid t s tally → After (with_refused_control t of errno)
     unfolding with_refused_control
     refused-control errno standing =
         let v : TrussState = with_report t (CannotTrace of errno) in
         let c = next_opening-comes v in
-        let silent : pending_at v v.stage ≡ [] = ap (pending_at v) stage in
-        let shows =
-        comes-shows pid v (with_next_opening v) silent c
-        ∙ silent-shown pid (CannotTrace of errno) t v (trace-silent pid of errno) control-silent silent refl in
-        plain-comes v (with_next_opening v) refl c shows control-here
+        plain-comes v (with_next_opening v) refl c control-here
         (subst IsPlain (sym stage) (control-plain of)) standing
 
     module _ (handle : ℕ) (order : IsOrderly t) (later : IsOrderly (with_control t of handle)) where
@@ -182,9 +165,6 @@ module _ (Why : Type 0) (o : Options) (pid : ℕ) (t : TrussState) (s : TracedSt
                 ∙ is)
           ])
 
-      opened-shows : shown pid opened ≡ shown pid t
-      opened-shows = same-shown pid t opened control-silent refl refl
-
       other-leaves : IsOrderly opened → pid ≢ of → Leaves pid t opened
       other-leaves next other = record {
         none = stands-nowhere order other;
@@ -200,7 +180,6 @@ module _ (Why : Type 0) (o : Options) (pid : ℕ) (t : TrussState) (s : TracedSt
             (λ same. absurd (let w = place-within t pid place at in omega arith));
         before = subst IsPlain (sym stage) (control-plain of);
         after = opening-plain (length t.traced) opening.OpenStatus;
-        shows = opened-shows;
       }
 
       opened-prepares : Prepares o pid opened s
@@ -208,31 +187,31 @@ module _ (Why : Type 0) (o : Options) (pid : ℕ) (t : TrussState) (s : TracedSt
       opened-prepares =
           prepares-opening o pid opened s (length t.traced) opening.OpenStatus refl (λ n is. cc) (λ q own live. tt)
 
-      control-opened : Standing Why o pid t s base → After (with_control t of handle)
+      control-opened : Standing Why o pid t s tally → After (with_control t of handle)
       unfolding with_control
       control-opened standing = elim (cases_eq pid of) [
         | inl own ↦ (
-          apart-standing Why o pid t s base opened s (none-watched t pid (stood-nowhere later own))
+          apart-standing Why o pid t s tally opened s (none-watched t pid (stood-nowhere later own))
               (away-watched opened pid (length t.traced) (stands-last later own)
-              (same-place (length t.traced) (length t.traced) refl)) opened-shows standing,
+              (same-place (length t.traced) (length t.traced) refl)) standing,
           opened-prepares,
         )
-        | inr other ↦ (leaves-standing Why o pid t opened s base (other-leaves later other) standing, opened-prepares)
+        | inr other ↦ (leaves-standing Why o pid t opened s tally (other-leaves later other) standing, opened-prepares)
       ]
 
     control-answered : (a : Answer) → a ≢ Interrupted → IsOrderly t → IsOrderly (with_control_answered t of r a)
-        → Standing Why o pid t s base → After (with_control_answered t of r a)
+        → Standing Why o pid t s tally → After (with_control_answered t of r a)
     unfolding with_control_answered
     control-answered Accepted calm order later standing = control-opened (handle_in r) order later standing
     control-answered Interrupted calm order later standing = absurd (calm refl)
     control-answered Gone calm order later standing = refused-control Noent standing
     control-answered (Refused errno) calm order later standing = refused-control errno standing
 
-    pub control-step : answer_of r ≢ Interrupted → IsOrderly t → IsOrderly (fed t r) → Standing Why o pid t s base
+    pub control-step : answer_of r ≢ Interrupted → IsOrderly t → IsOrderly (fed t r) → Standing Why o pid t s tally
         → After (fed t r)
     unfolding fed with_reply
     control-step calm order =
-        subst (λ (st : Stage). IsOrderly (with_reply t r st) → Standing Why o pid t s base → After (with_reply t r st))
+        subst (λ (st : Stage). IsOrderly (with_reply t r st) → Standing Why o pid t s tally → After (with_reply t r st))
         (sym stage) (control-answered (answer_of r) calm order)
 
 -- ---- a step of an opening
@@ -240,17 +219,14 @@ module _ (Why : Type 0) (o : Options) (pid : ℕ) (t : TrussState) (s : TracedSt
 -- How a process stands with truss before the call of a step, where truss opens that process; and after the call, which
 -- leaves it alone, where truss opens another one.
 pub record Stood (Why : Type 0) (o : Options) (pid : ℕ) (t : TrussState) (before s : TracedState)
-    (base : List LwpEvent) (place : ℕ) : Type 0 where
-  pub own : (traced_at t place).pid ≡ pid → Standing Why o pid t before base
-  pub other : (traced_at t place).pid ≢ pid → Standing Why o pid t s base
+    (tally : Tally) (place : ℕ) : Type 0 where
+  pub own : (traced_at t place).pid ≡ pid → Standing Why o pid t before tally
+  pub other : (traced_at t place).pid ≢ pid → Standing Why o pid t s tally
 
-module _ (Why : Type 0) (o : Options) (pid : ℕ) (t : TrussState) (before s : TracedState) (base : List LwpEvent)
+module _ (Why : Type 0) (o : Options) (pid : ℕ) (t : TrussState) (before s : TracedState) (tally : Tally)
     (r : Reply) (place : ℕ) (step : OpeningStep) (stage : t.stage ≡ Opening place step) (order : IsOrderly t) where
   within : place < length t.traced
   within = let f : Fits t.traced (Opening place step) = subst (Fits t.traced) stage order.fits in f.0
-
-  step-silent : pending_at t t.stage ≡ []
-  step-silent = ap (pending_at t) stage
 
   -- ---- the process at the place, and the others
 
@@ -261,7 +237,6 @@ module _ (Why : Type 0) (o : Options) (pid : ℕ) (t : TrussState) (before s : T
     pub here : (other : ℕ) → other ≢ place → (traced_at u other).attached ≡ true
         → is_away u.leaving u.stage other ≡ false
     pub plain : IsPlain u.stage
-    pub shows : shown pid u ≡ shown pid t
 
   module _ (differs : (traced_at t place).pid ≢ pid) where
     elsewhere : (other : ℕ) → place_of t pid ≡ Some other → other ≢ place
@@ -278,11 +253,10 @@ module _ (Why : Type 0) (o : Options) (pid : ℕ) (t : TrussState) (before s : T
       here = λ other at on. n.here other (elsewhere other at) on;
       before = subst IsPlain (sym stage) (opening-plain place step);
       after = n.plain;
-      shows = n.shows;
     }
 
-    others-stand : (u : TrussState) → StepsTo u → Standing Why o pid t s base → Standing Why o pid u s base
-    others-stand u n standing = leaves-standing Why o pid t u s base (others-leave u n) standing
+    others-stand : (u : TrussState) → StepsTo u → Standing Why o pid t s tally → Standing Why o pid u s tally
+    others-stand u n standing = leaves-standing Why o pid t u s tally (others-leave u n) standing
 
   module _ (own : (traced_at t place).pid ≡ pid) where
     at-place : place_of t pid ≡ Some place
@@ -295,27 +269,27 @@ module _ (Why : Type 0) (o : Options) (pid : ℕ) (t : TrussState) (before s : T
         ∙ same-place place place refl)
 
     stays-apart : (u : TrussState) → StepsTo u → (place_of u pid ≡ Some place → watches u pid ≡ false)
-        → Standing Why o pid t before base → Standing Why o pid u s base
+        → Standing Why o pid t before tally → Standing Why o pid u s tally
     stays-apart u n off standing =
-        apart-standing Why o pid t before base u s not-watched (off (n.places ∙ at-place)) n.shows standing
+        apart-standing Why o pid t before tally u s not-watched (off (n.places ∙ at-place)) standing
 
     stays-away : (u : TrussState) → StepsTo u → is_away u.leaving u.stage place ≡ true
-        → Standing Why o pid t before base → Standing Why o pid u s base
+        → Standing Why o pid t before tally → Standing Why o pid u s tally
     stays-away u n away standing = stays-apart u n (λ at. away-watched u pid place at away) standing
 
-    stays-free : (u : TrussState) → StepsTo u → (traced_at u place).attached ≡ false → Standing Why o pid t before base
-        → Standing Why o pid u s base
+    stays-free : (u : TrussState) → StepsTo u → (traced_at u place).attached ≡ false → Standing Why o pid t before tally
+        → Standing Why o pid u s tally
     stays-free u n off standing = stays-apart u n (λ at. unattached-watched u pid place at off) standing
 
   abbrev Knows : Type 0
-  Knows = Stood Why o pid t before s base place
+  Knows = Stood Why o pid t before s tally place
 
   abbrev Then : TrussState → Type 0
-  Then u = Comes Why o pid u s base
+  Then u = Comes Why o pid u s tally
 
   -- a step after which the process at the place is not watched
   unwatched-step : (u : TrussState) → StepsTo u → Prepares o pid u s
-      → ((traced_at t place).pid ≡ pid → Standing Why o pid t before base → Standing Why o pid u s base) → Knows
+      → ((traced_at t place).pid ≡ pid → Standing Why o pid t before tally → Standing Why o pid u s tally) → Knows
       → Then u
   unwatched-step u n prepares off k = elim (cases_eq (traced_at t place).pid pid) [
     | inl own ↦ (off own (k.own own), prepares)
@@ -334,19 +308,16 @@ module _ (Why : Type 0) (o : Options) (pid : ℕ) (t : TrussState) (before s : T
       same = λ other differs. set-other t place x other differs;
       here = λ other differs on. other-place place other (λ same. differs (sym same));
       plain = opening-plain place next;
-      shows = same-shown pid t (with_stage changed (Opening place next)) step-silent refl refl;
     }
 
     -- nothing is done for the process any more
     turns-to : (u : TrussState) → ComesNext changed u → StepsTo u
     turns-to u c =
-        let silent : pending_at changed changed.stage ≡ [] = ap (pending_at changed) stage in
         record {
           places = comes-places pid changed u c ∙ set-place t place x pid same-pid;
           same = λ other differs. comes-same other changed u c ∙ set-other t place x other differs;
           here = λ other differs on. c.here other on;
           plain = comes-plain changed u c;
-          shows = comes-shows pid changed u silent c ∙ same-shown pid t changed step-silent silent refl;
         }
 
   module _ (options : t.options ≡ o)
@@ -378,7 +349,7 @@ module _ (Why : Type 0) (o : Options) (pid : ℕ) (t : TrussState) (before s : T
     module _ (last : step ≡ opening.Start) (accepted : answer_of r ≡ Accepted) (asked : Prepares o pid t before)
         (whole : (traced_at t place).pid ≡ pid →
         (p q : TracedProcess) → live_process before.system pid ≡ Some p → live_process s.system pid ≡ Some q
-        → base ≡ shown pid t) where
+        → IsWhole tally) where
       abbrev finished : TrussState
       finished = with_next_opening (with_traced t place x)
 
@@ -402,28 +373,27 @@ module _ (Why : Type 0) (o : Options) (pid : ℕ) (t : TrussState) (before s : T
             let f = facts own accepted in
             f.started q last live (λ p lives. asked.opened place step p stage own lives)
 
-        all-shown : (q : TracedProcess) → live_process s.system pid ≡ Some q → base ≡ shown pid finished
-        all-shown q live =
+        all-told : (q : TracedProcess) → live_process s.system pid ≡ Some q → IsWhole tally
+        all-told q live =
             let f = facts own accepted in
             let l = f.lived q last live in
-            whole own l.0 q l.1 live ∙ sym steps.shows
+            whole own l.0 q l.1 live
 
         stands-started : (q : TracedProcess) → live_process s.system pid ≡ Some q → (old : ℕ)
-            → (traced_at finished place).old ≡ old → HasStarted o old q → Standing Why o pid finished s base
+            → (traced_at finished place).old ≡ old → HasStarted o old q → Standing Why o pid finished s tally
         stands-started q live old is st =
             lives place q at-last on (comes.here place on) live st.traced (position old is st)
           where
             position : (n : ℕ) → (traced_at finished place).old ≡ n → HasStarted o n q
-                → Position o finished.stage place (traced_at finished place).old q base (shown pid finished)
-            position zero none h = goes (comes.read place) (comes.named place) none (h.quiet refl) (all-shown q live)
-            position (suc n) some h = old_stops n (comes.read place) some (h.waits n refl) (all-shown q live)
+                → Position o finished.stage place (traced_at finished place).old q tally
+            position zero none h = goes (comes.read place) (comes.named place) none (h.quiet refl) (all-told q live)
+            position (suc n) some h = old_stops n (comes.read place) some (h.waits n refl) (all-told q live)
 
-        stands-last-by : (y : Option TracedProcess) → live_process s.system pid ≡ y → Standing Why o pid t before base
-            → Standing Why o pid finished s base
+        stands-last-by : (y : Option TracedProcess) → live_process s.system pid ≡ y → Standing Why o pid t before tally
+            → Standing Why o pid finished s tally
         stands-last-by None ended standing =
             over (is-watched finished pid place at-last on (comes.here place on)) ended
-            (subst (Accounted Why base) (sym steps.shows)
-            (apart-accounted Why o pid t before base (not-watched own) standing))
+            (apart-accounted Why o pid t before tally (not-watched own) standing)
         stands-last-by (Some q) live standing =
             stands-started q live (traced_at t place).old (ap (λ (y : Traced). y.old) here-last) (started q live)
 
@@ -447,7 +417,6 @@ module _ (Why : Type 0) (o : Options) (pid : ℕ) (t : TrussState) (before s : T
           same = λ other differs. refl;
           here = λ other differs on. other-place place other (λ same. differs (sym same));
           plain = closing-plain place;
-          shows = silent-shown pid (CannotTrace of errno) t u (trace-silent pid of errno) step-silent refl refl;
         } in
         unwatched-step u n (prepares-none o pid u s refl)
         (λ own standing. stays-away own u n (same-place place place refl) standing) k
@@ -477,7 +446,7 @@ module _ (Why : Type 0) (o : Options) (pid : ℕ) (t : TrussState) (before s : T
     module _ (asked : Prepares o pid t before)
         (whole : step ≡ opening.Start → (traced_at t place).pid ≡ pid →
         (p q : TracedProcess) → live_process before.system pid ≡ Some p → live_process s.system pid ≡ Some q
-        → base ≡ shown pid t) (k : Knows) where
+        → IsWhole tally) (k : Knows) where
       step-done : answer_of r ≡ Accepted → (next : Option OpeningStep) → step_after o r step ≡ next
           → Then (at_step (with_traced t place x) place next)
       step-done accepted (Some next) is = done-next next is accepted asked k

@@ -1,7 +1,6 @@
 use Rattle.std.proofs.Common.{◌≡◌, ◌-◌, ◌&&◌, not, ℕ, suc, Bool, true, false, cond, None, Some, Option, List, [], ◌∷◌, ◌++◌, refl, sym, subst, ap, ◌∙◌, inl, inr, ◌⊎◌}
 use Rattle.std.proofs.lemmas.List.{append-nil}
 use Rattle.std.proofs.lemmas.Option.{same_Some, none-some}
-use Rattle.pr_line.specs.Selections.{is_selected}
 use Rattle.pr_line.specs.declared.events.Event.{Event}
 use Rattle.pr_line.specs.declared.options.Options.{Options}
 use Rattle.pr_model.specs.State.{TracedControl, TracedProcess, TracedState, live_process, process_of}
@@ -15,36 +14,37 @@ use Rattle.pr_truss.specs.declared.stages.Stage.{Stage}
 use Rattle.pr_truss_laws.proofs.AloneLemmas.{alone-halting, alone-quiet}
 use Rattle.pr_truss_laws.specs.Stills.{IsUndisturbed}
 use Rattle.pr_truss_laws.proofs.OutlastLemmas.{Outlasts, lives, killed}
+use Rattle.pr_report_laws.proofs.Invariant.Tallies.{IsWhole, Tally, unread}
 use Rattle.pr_report_laws.proofs.Machine.FrameLaws.{alone-agent, alone-birth, alone-lwp, alone-event, alone-met, alone-traced, alone-waits}
-use Rattle.pr_report_laws.proofs.Invariant.Standing.{Accounted, HasEntries, HasExits, HasFaults, HasSignals, HasStop, IsAttached, IsCounted, IsSpared, Opened, Position, Prepares, Standing, apart, goes, has_event, old_stops, over, stop_read, unread}
+use Rattle.pr_report_laws.proofs.Invariant.Standing.{Accounted, HasEntries, HasExits, HasFaults, HasSignals, HasStop, IsAttached, IsCounted, IsSpared, Opened, Position, Prepares, Standing, apart, goes, has_event, old_stops, over, stop_read}
 use Rattle.pr_report_laws.proofs.Invariant.Standing as standing
 use Rattle.pr_report_laws.proofs.Invariant.Positions.{Waits, met_in}
-use Rattle.pr_report_laws.specs.Shown.{LwpEvent, shown}
+use Rattle.pr_report_laws.specs.Shown.{LwpEvent}
 use Rattle.pr_report_laws.specs.Watching.{is_away, place_of, watches, watches_at}
 
 -- What entries leave that are no calls of truss and no turns of the process itself.
 
 -- ---- what is missing
 
-pub accounted-why : (Why Next : Type 0) (base so_far : List LwpEvent) → (Why → Next) → Accounted Why base so_far
-    → Accounted Next base so_far
-accounted-why Why Next base so_far more a = record {
+pub accounted-why : (Why Next : Type 0) (tally : Tally) → (Why → Next) → Accounted Why tally
+    → Accounted Next tally
+accounted-why Why Next tally more a = record {
   missing = a.missing;
   is = a.is;
   few = elim a.few [ inl none ↦ inl none | inr one ↦ inr (one.0, (one.1.0, more one.1.1)) ];
 }
 
 -- nothing is missing
-pub accounted-all : (Why : Type 0) (base so_far : List LwpEvent) → base ≡ so_far → Accounted Why base so_far
-accounted-all Why base so_far is = record { missing = []; is = is ∙ sym (append-nil so_far); few = inl refl }
+pub accounted-all : (Why : Type 0) (tally : Tally) → IsWhole tally → Accounted Why tally
+accounted-all Why tally is = record { missing = []; is = is ∙ sym (append-nil tally.told); few = inl refl }
 
 -- the event that is not read yet is missing
-pub accounted-unread : (Why : Type 0) (o : Options) (id : ℕ) (event : Event) (base so_far : List LwpEvent) → Why
-    → base ≡ so_far ++ unread o id event → Accounted Why base so_far
-accounted-unread Why o id event base so_far why is = record {
-  missing = unread o id event;
+pub accounted-unread : (Why : Type 0) (id : ℕ) (event : Event) (tally : Tally) → Why
+    → tally.came ≡ tally.told ++ unread tally id event → Accounted Why tally
+accounted-unread Why id event tally why is = record {
+  missing = unread tally id event;
   is = is;
-  few = by (is_selected o event);
+  few = by (tally.picks event);
 }
   where
     by : (b : Bool)
@@ -54,13 +54,13 @@ accounted-unread Why o id event base so_far why is = record {
     by false = inl refl
 
 module _ (Why : Type 0) (o : Options) (stage : Stage) (place old : ℕ) (p : TracedProcess)
-    (base so_far : List LwpEvent) where
+    (tally : Tally) where
   -- where the process ends now, for this reason
-  pub position-ends : Why → Position o stage place old p base so_far → Accounted Why base so_far
-  position-ends why (stop_read read waits is) = accounted-all Why base so_far is
-  position-ends why (old_stops n read counts waits is) = accounted-all Why base so_far is
-  position-ends why (goes read named none quiet is) = accounted-all Why base so_far is
-  position-ends why (has_event id event read none one named is) = accounted-unread Why o id event base so_far why is
+  pub position-ends : Why → Position o stage place old p tally → Accounted Why tally
+  position-ends why (stop_read read waits is) = accounted-all Why tally is
+  position-ends why (old_stops n read counts waits is) = accounted-all Why tally is
+  position-ends why (goes read named none quiet is) = accounted-all Why tally is
+  position-ends why (has_event id event read none one named is) = accounted-unread Why id event tally why is
 
 -- ---- a process that was left alone
 
@@ -138,15 +138,15 @@ module _ (p q : TracedProcess) (alone : IsUndisturbed p q) where
     alone-opened opening.Follow h = alone-exits h
     alone-opened opening.Start h = alone-exits h
 
-    pub alone-position : (stage : Stage) (place : ℕ) (base so_far : List LwpEvent)
-        → Position o stage place old p base so_far → Position o stage place old q base so_far
-    alone-position stage place base so_far (stop_read read waits is) =
+    pub alone-position : (stage : Stage) (place : ℕ) (tally : Tally)
+        → Position o stage place old p tally → Position o stage place old q tally
+    alone-position stage place tally (stop_read read waits is) =
         stop_read read (alone-waits p q alone (suc old) waits) is
-    alone-position stage place base so_far (old_stops n read counts waits is) =
+    alone-position stage place tally (old_stops n read counts waits is) =
         old_stops n read counts (alone-waits p q alone (suc n) waits) is
-    alone-position stage place base so_far (goes read named none quiet is) =
+    alone-position stage place tally (goes read named none quiet is) =
         goes read named none (alone-quiet p q alone quiet) is
-    alone-position stage place base so_far (has_event id event read none one named is) =
+    alone-position stage place tally (has_event id event read none one named is) =
         has_event id event read none (alone-event p q alone id event one) (λ n. alone-waits p q alone 1 (named n)) is
 
 -- ---- the step
@@ -188,22 +188,22 @@ module _ (o : Options) (pid : ℕ) (t : TrussState) (s u : TracedState)
     new = h.new;
   }
 
-  pub standing-on : (Why Next : Type 0) (base : List LwpEvent) → (Why → Next)
+  pub standing-on : (Why Next : Type 0) (tally : Tally) → (Why → Next)
       → ((p z : TracedProcess) → watches t pid ≡ true → live_process s.system pid ≡ Some p → live_process u.system pid
       ≡ None → process_of u.system pid ≡ Some z → z.ended ≡ Some (signal_number Kill) → Next)
-      → Standing Why o pid t s base → Standing Next o pid t u base
-  standing-on Why Next base more kills (apart not_watched a) =
-      apart not_watched (accounted-why Why Next base (shown pid t) more a)
-  standing-on Why Next base more kills (over watched none a) =
-      over watched (stays_over none) (accounted-why Why Next base (shown pid t) more a)
-  standing-on Why Next base more kills (standing.lives place p at attached here live traced position) =
+      → Standing Why o pid t s tally → Standing Next o pid t u tally
+  standing-on Why Next tally more kills (apart not_watched a) =
+      apart not_watched (accounted-why Why Next tally more a)
+  standing-on Why Next tally more kills (over watched none a) =
+      over watched (stays_over none) (accounted-why Why Next tally more a)
+  standing-on Why Next tally more kills (standing.lives place p at attached here live traced position) =
       by (outlasts p live)
     where
-      by : Outlasts pid p u.system → Standing Next o pid t u base
+      by : Outlasts pid p u.system → Standing Next o pid t u tally
       by (lives q now alone) =
           standing.lives place q at attached here now (alone-traced p q alone o traced)
-          (alone-position p q alone o (traced_at t place).old t.stage place base (shown pid t) position)
+          (alone-position p q alone o (traced_at t place).old t.stage place tally position)
       by (killed z none found status) =
           over (is-watched t pid place at attached here) none
-          (position-ends Next o t.stage place (traced_at t place).old p base (shown pid t)
+          (position-ends Next o t.stage place (traced_at t place).old p tally
           (kills p z (is-watched t pid place at attached here) live none found status) position)

@@ -1,4 +1,4 @@
-use Rattle.std.proofs.Common.{◌≡◌, ◌≢◌, ◌<◌, ℕ, true, None, Some, Option, List, refl, sym, ap, ◌∙◌, inl, inr, ◌⊎◌}
+use Rattle.std.proofs.Common.{◌≡◌, ◌≢◌, ◌<◌, ℕ, true, None, Some, Option, refl, sym, ap, ◌∙◌, inl, inr, ◌⊎◌}
 use Rattle.std.proofs.lemmas.Bool.{false≢true}
 use Rattle.std.proofs.lemmas.Option.{none-some}
 use Rattle.pr_lawful.proofs.HandleLemmas.{handle-at}
@@ -17,13 +17,13 @@ use Rattle.pr_truss.specs.Trusses.{TrussState, traced_at}
 use Rattle.pr_truss_laws.proofs.ForeignLemmas.{names}
 use Rattle.pr_truss_laws.proofs.OpensLemmas.{held_by}
 use Rattle.pr_truss_laws.proofs.OwnLemmas.{Owns}
+use Rattle.pr_report_laws.proofs.Invariant.Tallies.{Tally}
 use Rattle.pr_report_laws.proofs.Invariant.EntrySteps.{Lost, made-at, nowhere-prepares, unwatched}
 use Rattle.pr_report_laws.proofs.Files.FileLaws.{HasFiles}
 use Rattle.pr_report_laws.proofs.Files.FileUses.{place-is}
 use Rattle.pr_truss_laws.proofs.OutlastLemmas.{Outlasts, own-call-elsewhere}
 use Rattle.pr_report_laws.proofs.Invariant.OtherSteps.{accounted-why, prepares-on, standing-on}
 use Rattle.pr_report_laws.proofs.Invariant.Standing.{Prepares, Standing, apart, lives, over}
-use Rattle.pr_report_laws.specs.Shown.{LwpEvent, shown}
 use Rattle.pr_report_laws.specs.Watching.{place_of, watches}
 
 -- A call of truss that does not reach the process.
@@ -59,19 +59,19 @@ module _ (k : ℕ) (o : Options) (pid : ℕ) (t : TrussState) (s : TracedState) 
   lost-on : Lost K pid s → Lost (K ⊎ Ends) pid a.state
   lost-on h = record { cause = inl h.cause; over = leaves.over h.made h.over; made = leaves.made h.made }
 
-  pub missed-standing : (base : List LwpEvent) → Standing (Lost K pid s) o pid t s base
-      → Standing (Lost (K ⊎ Ends) pid a.state) o pid t a.state base
-  missed-standing base standing = by (place_of t pid) refl standing
+  pub missed-standing : (tally : Tally) → Standing (Lost K pid s) o pid t s tally
+      → Standing (Lost (K ⊎ Ends) pid a.state) o pid t a.state tally
+  missed-standing tally standing = by (place_of t pid) refl standing
     where
-      by : (x : Option ℕ) → place_of t pid ≡ x → Standing (Lost K pid s) o pid t s base
-          → Standing (Lost (K ⊎ Ends) pid a.state) o pid t a.state base
+      by : (x : Option ℕ) → place_of t pid ≡ x → Standing (Lost K pid s) o pid t s tally
+          → Standing (Lost (K ⊎ Ends) pid a.state) o pid t a.state tally
       by None none (apart not_watched account) =
-          apart not_watched (accounted-why _ _ base (shown pid t) lost-on account)
+          apart not_watched (accounted-why _ _ tally lost-on account)
       by None none (over watched gone account) = absurd (false≢true (sym (unwatched t pid none) ∙ watched))
       by None none (lives place p at attached here live traced position) = absurd (none-some place (sym none ∙ at))
       by (Some place) at stands =
           standing-on o pid t s a.state (outlasts place at) (leaves.over (was-made place at)) (Lost K pid s)
-          (Lost (K ⊎ Ends) pid a.state) base lost-on
+          (Lost (K ⊎ Ends) pid a.state) tally lost-on
           (λ p z watched live none found status. record {
             cause = inr (leaves.ends p z watched live found status);
             over = none;

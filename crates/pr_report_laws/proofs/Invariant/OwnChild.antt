@@ -1,4 +1,4 @@
-use Rattle.std.proofs.Common.{◌≡◌, ◌≢◌, ◌==◌, ◌<◌, ℕ, true, false, None, Some, Option, List, length, refl, sym, subst, ap, ◌∙◌, arith, inl, inr, ◌⊎◌}
+use Rattle.std.proofs.Common.{◌≡◌, ◌≢◌, ◌==◌, ◌<◌, ℕ, true, false, None, Some, Option, length, refl, sym, subst, ap, ◌∙◌, arith, inl, inr, ◌⊎◌}
 use Rattle.std.proofs.lemmas.Bool.{cases_Bool, eqb-true, eqb-false, false≢true}
 use Rattle.std.proofs.lemmas.Option.{none-some, same_Some}
 use Rattle.pr_line.specs.declared.options.Options.{Options}
@@ -25,6 +25,7 @@ use Rattle.pr_truss.specs.declared.stages.Stage.TheVariants.{OpeningChild}
 use Rattle.pr_truss_laws.proofs.ForeignLemmas.{names}
 use Rattle.pr_truss_laws.proofs.HeldLemmas.{Fits, IsLast}
 use Rattle.pr_truss_laws.proofs.OpensLemmas.{held_by}
+use Rattle.pr_report_laws.proofs.Invariant.Tallies.{IsWhole, Tally}
 use Rattle.pr_report_laws.proofs.Invariant.ChildSteps.{IsGone, IsLetGo, Starts, child-start-stands, child-step-stands}
 use Rattle.pr_report_laws.proofs.Machine.ControlLaws.{message-gone, release-set}
 use Rattle.pr_report_laws.proofs.Invariant.EntrySteps.{Lost}
@@ -43,7 +44,6 @@ use Rattle.pr_report_laws.proofs.Machine.StoppedLaws.{live-rising, waits-stopped
 use Rattle.pr_report_laws.proofs.Replies.TracedPlaces.{same-place}
 use Rattle.pr_report_laws.proofs.Replies.Unwatched.{apart-accounted, prepares-child, stage-unwatched}
 use Rattle.pr_report_laws.proofs.Invariant.Positions.{IsAtBirth}
-use Rattle.pr_report_laws.specs.Shown.{LwpEvent, shown}
 use Rattle.pr_report_laws.specs.Watching.{place_of, watches}
 
 -- What the calls leave with which truss opens the child of a fork.
@@ -73,8 +73,8 @@ birth-release o p born = record {
 }
 
 module _ (k : ℕ) (o : Options) (pid : ℕ) (t : TrussState) (s : TracedState) (c : Call) (a : Answer)
-    (i : IsCall k o pid t s c a) (K Ends : Type 0) (leaves : Leaves Ends pid t s a.state) (base : List LwpEvent)
-    (standing : Standing (Lost K pid s) o pid t s base) (prepares : Prepares o pid t s) where
+    (i : IsCall k o pid t s c a) (K Ends : Type 0) (leaves : Leaves Ends pid t s a.state) (tally : Tally)
+    (standing : Standing (Lost K pid s) o pid t s tally) (prepares : Prepares o pid t s) where
   abbrev Why : Type 0
   Why = Lost (K ⊎ Ends) pid a.state
 
@@ -87,7 +87,7 @@ module _ (k : ℕ) (o : Options) (pid : ℕ) (t : TrussState) (s : TracedState) 
     call-is : c ≡ child_call (traced_at t place) step
     unfolding call_of
     call-is =
-        looks.call-is k o pid t s c a i K Ends leaves base standing (OpeningChild parent place step)
+        looks.call-is k o pid t s c a i K Ends leaves tally standing (OpeningChild parent place step)
         (child_call (traced_at t place) step) at refl
 
     answer-is : answer_to s k (child_call (traced_at t place) step) ≡ Some a
@@ -106,12 +106,12 @@ module _ (k : ℕ) (o : Options) (pid : ℕ) (t : TrussState) (s : TracedState) 
     away : place_of t pid ≡ Some place → watches t pid ≡ false
     away own = stage-unwatched t (OpeningChild parent place step) pid place at own (same-place place place refl)
 
-    accounted : place_of t pid ≡ Some place → Standing Why o pid t a.state base
+    accounted : place_of t pid ≡ Some place → Standing Why o pid t a.state tally
     accounted own =
         apart (away own)
-        (accounted-why (Lost K pid s) Why base (shown pid t)
-        (looks.lost-later k o pid t s c a i K Ends leaves base standing)
-        (apart-accounted (Lost K pid s) o pid t s base (away own) standing))
+        (accounted-why (Lost K pid s) Why tally
+        (looks.lost-later k o pid t s c a i K Ends leaves tally standing)
+        (apart-accounted (Lost K pid s) o pid t s tally (away own) standing))
 
     -- the call does not reach another process
     beside : (traced_at t place).pid ≢ pid → Misses k pid s c
@@ -125,30 +125,30 @@ module _ (k : ℕ) (o : Options) (pid : ℕ) (t : TrussState) (s : TracedState) 
           other (ap (λ (h : Held). h.pid) (sym same) ∙ own);
     }
 
-    stood : Standing Why o pid t a.state base
+    stood : Standing Why o pid t a.state tally
     stood = elim (cases_Bool ((traced_at t place).pid == pid)) [
       | inl same ↦ accounted
-          (place-own t place pid (looks.call-order k o pid t s c a i K Ends leaves base standing) within
+          (place-own t place pid (looks.call-order k o pid t s c a i K Ends leaves tally standing) within
           (eqb-true (traced_at t place).pid pid same))
-      | inr differs ↦ looks.missed k o pid t s c a i K Ends leaves base standing
+      | inr differs ↦ looks.missed k o pid t s c a i K Ends leaves tally standing
           (beside (eqb-false (traced_at t place).pid pid differs))
     ]
 
     -- ---- a step before the PCRUN
 
     before-comes : step ≢ child.Start → (answer_of a.reply ≡ Accepted → Prepares o pid t a.state)
-        → Comes Why o pid (fed t a.reply) a.state base
+        → Comes Why o pid (fed t a.reply) a.state tally
     before-comes not asked =
-        let order = looks.call-order k o pid t s c a i K Ends leaves base standing in
+        let order = looks.call-order k o pid t s c a i K Ends leaves tally standing in
         let later =
-        child-step-stands Why o pid t a.reply a.state base parent place step at not calm order stood asked in
+        child-step-stands Why o pid t a.reply a.state tally parent place step at not calm order stood asked in
         record { standing = later.0; prepares = later.1 }
 
     -- an open leaves the processes
     open-prepares : ((m : ℕ) → names (child_call (traced_at t place) step) m ≡ false) → Prepares o pid t a.state
     open-prepares plain =
         missed-prepares k o pid t s c a i.answer i.lawful i.owns i.files K Ends leaves
-        (looks.plain-misses k o pid t s c a i K Ends leaves base standing
+        (looks.plain-misses k o pid t s c a i K Ends leaves tally standing
         (child_call (traced_at t place) step) call-is plain) prepares
 
   -- PR_RLC is set on the child
@@ -187,10 +187,10 @@ module _ (k : ℕ) (o : Options) (pid : ℕ) (t : TrussState) (s : TracedState) 
     own-held = held parent place child.Start at (place-pid t pid place own)
 
     -- nothing is missing while it lives
-    whole : (p : TracedProcess) → live_process s.system pid ≡ Some p → base ≡ shown pid t
+    whole : (p : TracedProcess) → live_process s.system pid ≡ Some p → IsWhole tally
     whole p live =
-        accounted-whole (Lost K pid s) base (shown pid t) (λ lost. none-some p (sym lost.over ∙ live))
-        (apart-accounted (Lost K pid s) o pid t s base (away parent place child.Start at own) standing)
+        accounted-whole (Lost K pid s) tally (λ lost. none-some p (sym lost.over ∙ live))
+        (apart-accounted (Lost K pid s) o pid t s tally (away parent place child.Start at own) standing)
 
     -- it goes
     let-go : (p : TracedProcess) → live_process s.system pid ≡ Some p → IsAtBirth o p → IsLetGo o pid a.reply a.state
@@ -221,23 +221,23 @@ module _ (k : ℕ) (o : Options) (pid : ℕ) (t : TrussState) (s : TracedState) 
         (message.Run 0) a none run-answer in
         record { gone = g.gone; none = ap (λ (x : TracedState). live_process x.system pid) g.state ∙ none }
 
-    starts : Starts o pid t a.reply s a.state base
+    starts : Starts o pid t a.reply s a.state tally
     starts = record { whole = whole; starts = let-go; stays_over = gone }
 
   start-comes : (parent place : ℕ) → t.stage ≡ OpeningChild parent place child.Start
-      → Comes Why o pid (fed t a.reply) a.state base
+      → Comes Why o pid (fed t a.reply) a.state tally
   start-comes parent place at =
-      let order = looks.call-order k o pid t s c a i K Ends leaves base standing in
-      let before = looks.stood-before k o pid t s c a i K Ends leaves base standing in
+      let order = looks.call-order k o pid t s c a i K Ends leaves tally standing in
+      let before = looks.stood-before k o pid t s c a i K Ends leaves tally standing in
       let later =
-      child-start-stands Why o pid t a.reply s a.state base parent place at order before prepares
+      child-start-stands Why o pid t a.reply s a.state tally parent place at order before prepares
       (λ other. stood parent place child.Start at) (λ own. starts parent place at own) in
       record { standing = later.0; prepares = later.1 }
 
   -- ---- all
 
   pub child-comes : (parent place : ℕ) (step : ChildStep) → t.stage ≡ OpeningChild parent place step
-      → Comes Why o pid (fed t a.reply) a.state base
+      → Comes Why o pid (fed t a.reply) a.state tally
   unfolding child_call
   child-comes parent place child.SetRelease at =
       before-comes parent place child.SetRelease at (λ e. cc) (release-prepares parent place at)

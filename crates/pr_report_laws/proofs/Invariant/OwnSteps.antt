@@ -16,21 +16,24 @@ use Rattle.pr_truss.specs.declared.stages.OpeningStep.{OpeningStep}
 use Rattle.pr_truss.specs.declared.stages.OpeningStep.TheVariants as opening
 use Rattle.pr_truss_laws.proofs.StillLemmas.{frozen-turns}
 use Rattle.pr_truss_laws.specs.Stills.{HasSameSettings, IsFrozen, IsHalting}
+use Rattle.pr_report_laws.proofs.Invariant.Tallies.{IsWhole, Tally, came-nothing, unread, with_came}
 use Rattle.pr_report_laws.proofs.Invariant.OtherSteps.{accounted-all, is-watched}
 use Rattle.pr_report_laws.proofs.Machine.OwnTurnLaws as own
-use Rattle.pr_report_laws.proofs.Machine.OwnTurnLaws.{AfterTurn, event-selects, event-turn, halting-turn, quiet-turn}
-use Rattle.pr_report_laws.proofs.Invariant.Standing.{Accounted, HasEntries, HasExits, HasFaults, HasSignals, has_read, is_named, IsAttached, IsCounted, IsSpared, Opened, Position, Prepares, Standing, apart, goes, has_event, lives, old_stops, over, stop_read, unread}
+use Rattle.pr_report_laws.proofs.Machine.OwnTurnLaws.{AfterTurn, event-picks, event-turn, halting-turn, quiet-turn}
+use Rattle.pr_report_laws.proofs.Invariant.Standing.{Accounted, HasEntries, HasExits, HasFaults, HasSignals, has_read, is_named, IsAttached, IsCounted, IsSpared, Opened, Position, Prepares, Standing, apart, goes, has_event, lives, old_stops, over, stop_read}
+use Rattle.pr_report_laws.proofs.Machine.TracedPoints.{PicksTraced}
 use Rattle.pr_report_laws.proofs.Machine.TurnSettings.{turn-settings}
 use Rattle.pr_reached.specs.Fits.{IsFitSystem}
 use Rattle.pr_report_laws.proofs.Invariant.Positions.{IsTracedBy}
-use Rattle.pr_report_laws.specs.Shown.{LwpEvent, selected, shown}
+use Rattle.pr_report_laws.specs.Shown.{LwpEvent, picked}
 use Rattle.pr_report_laws.specs.Watching.{is_away, place_of, watches}
 
 -- What a turn of one of its own lwps makes of a process that truss has to do with.
 
--- nothing was selected
-no-more : (base : List LwpEvent) (so_far more : List LwpEvent) → more ≡ [] → base ≡ so_far → base ++ more ≡ so_far
-no-more base so_far more none is = ap (λ (xs : List LwpEvent). base ++ xs) none ∙ append-nil base ∙ is
+-- nothing more came
+no-more : (tally : Tally) (rest more : List LwpEvent) → more ≡ [] → tally.came ≡ rest → tally.came ++ more ≡ rest
+no-more tally rest more none is =
+    ap (λ (xs : List LwpEvent). tally.came ++ xs) none ∙ append-nil tally.came ∙ is
 
 -- the traced sets and the modes
 module _ (p q : TracedProcess) (same : HasSameSettings p q) where
@@ -49,12 +52,9 @@ module _ (o : Options) (pid : ℕ) (t : TrussState) (s : TracedState) (id : ℕ)
   no-turn : {X : Type 0} (p : TracedProcess) → live_process s.system pid ≡ Some p → IsFrozen p → X
   no-turn p live frozen = absurd (none-some d (sym (frozen-turns s.system pid p live frozen id) ∙ turn))
 
-  -- the entry of the turn, and what was selected of it
+  -- the entry of the turn
   abbrev turned_entry : Entry
   turned_entry = record { actor = Lwp pid id; act = Turn d.turned }
-
-  of_turn : List LwpEvent
-  of_turn = selected o pid (events_of s turned_entry)
 
   -- ---- a process that is being opened
 
@@ -147,23 +147,22 @@ module _ (o : Options) (pid : ℕ) (t : TrussState) (s : TracedState) (id : ℕ)
 
     -- ---- a process that is watched
 
-    module _ (Why : Type 0) (base : List LwpEvent) where
+    module _ (Why : Type 0) (tally : Tally) (within : PicksTraced o tally.picks) where
+      -- what was picked of the turn
+      of_turn : List LwpEvent
+      of_turn = picked tally.picks pid (events_of s turned_entry)
+
       live-on : (q : TracedProcess) → live_process d.system pid ≡ Some q → live_process u.system pid ≡ Some q
       live-on q later = ap (λ (x : TracedSystem). live_process x pid) now ∙ later
 
       -- a process that truss does not watch, and one that it watches
       sel : Bool → List LwpEvent
-      sel b = selected o pid (cond b (events_of s turned_entry) [])
+      sel b = picked tally.picks pid (cond b (events_of s turned_entry) [])
 
       nothing : (b : Bool) → b ≡ false → sel b ≡ []
-      unfolding sel selected
+      unfolding sel picked
       nothing true is = cc
       nothing false is = refl
-
-      more-whole : (b : Bool) (more : List LwpEvent) → sel b ≡ more → (so_far rest : List LwpEvent) → base ≡ so_far
-          → more ≡ rest → base ++ sel b ≡ so_far ++ rest
-      more-whole b more is so_far rest whole same =
-          ap (λ (xs : List LwpEvent). xs ++ sel b) whole ∙ ap (λ (xs : List LwpEvent). so_far ++ xs) (is ∙ same)
 
       module _ (p : TracedProcess) (live : live_process s.system pid ≡ Some p) (place : ℕ)
           (at : place_of t pid ≡ Some place) (attached : (traced_at t place).attached ≡ true)
@@ -174,49 +173,49 @@ module _ (o : Options) (pid : ℕ) (t : TrussState) (s : TracedState) (id : ℕ)
         watched-sel false is = absurd (false≢true (sym is ∙ is-watched t pid place at attached here))
 
         abbrev next : List LwpEvent → Type 0
-        next more = Standing Why o pid t u (base ++ more)
+        next more = Standing Why o pid t u (with_came tally more)
 
         after-quiet : has_read t.stage place ≡ false → is_named t.stage place ≡ false → (traced_at t place).old ≡ 0
-            → base ≡ shown pid t → (more : List LwpEvent) → AfterTurn o pid id d.system more → next more
+            → IsWhole tally → (more : List LwpEvent) → AfterTurn o tally.picks pid id d.system more → next more
         after-quiet read named none whole more (own.goes_on q later quiet traced nothing) =
             lives place q at attached here (live-on q later) traced
-            (goes read named none quiet (no-more base (shown pid t) more nothing whole))
+            (goes read named none quiet (no-more tally tally.told more nothing whole))
         after-quiet read named none whole more (own.halts q event later stands traced one) =
             lives place q at attached here (live-on q later) traced
             (has_event id event read none stands (λ is. absurd (false≢true (sym named
             ∙ is))) (ap (λ (xs : List LwpEvent). xs ++ more) whole
-            ∙ ap (λ (xs : List LwpEvent). shown pid t ++ xs) one))
+            ∙ ap (λ (xs : List LwpEvent). tally.told ++ xs) one))
         after-quiet read named none whole more (own.over ended nothing) =
             over (is-watched t pid place at attached here) (ap (λ (x : TracedSystem). live_process x pid) now
             ∙ ended)
-            (accounted-all Why (base ++ more) (shown pid t) (no-more base (shown pid t) more nothing whole))
+            (accounted-all Why (with_came tally more) (no-more tally tally.told more nothing whole))
 
-        position-turned : IsTracedBy o p → Position o t.stage place (traced_at t place).old p base (shown pid t)
+        position-turned : IsTracedBy o p → Position o t.stage place (traced_at t place).old p tally
             → next of_turn
         unfolding of_turn
         position-turned traced (stop_read read waits whole) = no-turn p live waits.frozen
         position-turned traced (old_stops n read counts waits whole) = no-turn p live waits.frozen
         position-turned traced (goes read named none quiet whole) =
-            after-quiet read named none whole of_turn (quiet-turn o s pid id p d lawful fit live traced quiet turn)
+            after-quiet read named none whole of_turn
+            (quiet-turn o tally.picks within s pid id p d lawful fit live traced quiet turn)
         position-turned traced (has_event own_id event read none stands named whole) =
             let a = event-turn o s.system pid own_id id p event d live stands traced turn in
-            let nothing = event-selects o s pid own_id id p event d live stands turn in
+            let nothing = event-picks tally.picks s pid own_id id p event d live stands turn in
             lives place a.process at attached here (live-on a.process a.live) a.traced
             (has_event own_id event read none a.event (λ is. no-turn p live (named is).frozen)
-            (no-more base (shown pid t ++ unread o own_id event) of_turn nothing whole))
+            (no-more tally (tally.told ++ unread tally own_id event) of_turn nothing whole))
 
       pub turned-standing : (p : TracedProcess) → live_process s.system pid ≡ Some p → (b : Bool) → watches t pid ≡ b
-          → Standing Why o pid t s base
-          → Standing Why o pid t u (base ++ selected o pid (cond b (events_of s turned_entry) []))
+          → Standing Why o pid t s tally
+          → Standing Why o pid t u (with_came tally (picked tally.picks pid (cond b (events_of s turned_entry) [])))
       unfolding sel
       turned-standing p live b watched (apart not_watched a) =
           apart not_watched
-          (subst (λ (xs : List LwpEvent). Accounted Why xs (shown pid t))
-          (sym (ap (λ (xs : List LwpEvent). base ++ xs) (nothing b (sym watched ∙ not_watched))
-          ∙ append-nil base)) a)
+          (subst (Accounted Why)
+          (sym (ap (with_came tally) (nothing b (sym watched ∙ not_watched)) ∙ came-nothing tally)) a)
       turned-standing p live b watched (over on none a) = absurd (none-some p (sym none ∙ live))
       turned-standing p live b watched (lives place x at attached here living traced position) =
           let same : x ≡ p = same_Some x p (sym living ∙ live) in
-          subst (λ (xs : List LwpEvent). Standing Why o pid t u (base ++ xs))
+          subst (λ (xs : List LwpEvent). Standing Why o pid t u (with_came tally xs))
           (sym (watched-sel x living place at attached here b watched))
           (position-turned x living place at attached here traced position)

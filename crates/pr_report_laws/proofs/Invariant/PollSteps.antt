@@ -1,4 +1,4 @@
-use Rattle.std.proofs.Common.{◌≡◌, ◌==◌, ◌<◌, ℕ, false, Option, Some, None, List, [], length, position, refl, sym, subst, ap, ◌∙◌, inl, inr}
+use Rattle.std.proofs.Common.{◌≡◌, ◌==◌, ◌<◌, ℕ, false, Option, Some, None, length, position, refl, sym, subst, ap, ◌∙◌, inl, inr}
 use Rattle.std.proofs.lemmas.Bool.{cases_Bool, eq-eqb, eqb-true, false≢true}
 use Rattle.std.proofs.lemmas.List.Quantifiers.{position-Some}
 use Rattle.std.proofs.lemmas.Option.{none-some}
@@ -11,7 +11,6 @@ use Rattle.pr_num.proofs.TableLemmas.{position-within}
 use Rattle.pr_truss.specs.Closings.{with_interrupt}
 use Rattle.pr_truss.specs.Feeding.{fed, with_reply}
 use Rattle.pr_truss.specs.Replies.{answer_of, ready_in}
-use Rattle.pr_truss.specs.Reports.{pending_at}
 use Rattle.pr_truss.specs.Stops.{has_control, with_poll_answered, with_polled}
 use Rattle.pr_truss.specs.Trusses.{TrussState, nobody, traced_at, with_stage}
 use Rattle.pr_truss.specs.declared.replies.Answer.{Answer}
@@ -19,15 +18,14 @@ use Rattle.pr_truss.specs.declared.replies.Answer.TheVariants.{Accepted, Interru
 use Rattle.pr_truss.specs.declared.stages.Stage.{Stage}
 use Rattle.pr_truss.specs.declared.stages.Stage.TheVariants.{Polling, ReadingStatus}
 use Rattle.pr_truss_laws.specs.Stills.{IsQuiet}
+use Rattle.pr_report_laws.proofs.Invariant.Tallies.{Tally}
 use Rattle.pr_report_laws.proofs.Replies.Carries.{Carries, carries-standing, stays}
 use Rattle.pr_report_laws.proofs.Replies.Elsewhere.{IsAside, none-standing}
 use Rattle.pr_report_laws.proofs.Replies.Moves.{Passes, passes-standing}
-use Rattle.pr_report_laws.proofs.Replies.NextStages.{ComesNext, comes-places, comes-same, comes-shows, interrupt-comes, opens, prepares-none}
+use Rattle.pr_report_laws.proofs.Replies.NextStages.{ComesNext, comes-places, comes-same, interrupt-comes, opens, prepares-none}
 use Rattle.pr_report_laws.proofs.Replies.Places.{by-place, place-pid}
 use Rattle.pr_report_laws.proofs.Invariant.Standing.{Position, Prepares, Standing, goes, has_event, is_named, old_stops, stop_read}
-use Rattle.pr_report_laws.proofs.Replies.StopsOver.{shown-none}
 use Rattle.pr_report_laws.proofs.Invariant.Positions.{HasEvent, Waits}
-use Rattle.pr_report_laws.specs.Shown.{LwpEvent, shown}
 use Rattle.pr_report_laws.specs.Watching.{place_of}
 
 -- Truss waits for a process that stops or ends.
@@ -40,18 +38,18 @@ pub record HasStopped (p : TracedProcess) : Type 0 where
 -- ---- the poll that names a process
 
 -- the poll is about no process, and the next step about none but the one that it named
-named-position : (o : Options) (at place old : ℕ) (p : TracedProcess) (base so_far : List LwpEvent)
-    → has_agent p ≡ false → (at ≡ place → HasStopped p) → Position o Polling place old p base so_far
-    → Position o (ReadingStatus at) place old p base so_far
-named-position o at place old p base so_far no_agent polled (stop_read read waits is) = absurd (false≢true read)
-named-position o at place old p base so_far no_agent polled (old_stops n read counts waits is) =
+named-position : (o : Options) (at place old : ℕ) (p : TracedProcess) (tally : Tally)
+    → has_agent p ≡ false → (at ≡ place → HasStopped p) → Position o Polling place old p tally
+    → Position o (ReadingStatus at) place old p tally
+named-position o at place old p tally no_agent polled (stop_read read waits is) = absurd (false≢true read)
+named-position o at place old p tally no_agent polled (old_stops n read counts waits is) =
     old_stops n refl counts waits is
-named-position o at place old p base so_far no_agent polled (goes read named none quiet is) =
+named-position o at place old p tally no_agent polled (goes read named none quiet is) =
     elim (cases_Bool (at == place)) [
       | inl same ↦ let h : HasStopped p = polled (eqb-true at place same) in absurd (h.stops quiet)
       | inr other ↦ goes refl other none quiet is
     ]
-named-position o at place old p base so_far no_agent polled (has_event id event read none one named is) =
+named-position o at place old p tally no_agent polled (has_event id event read none one named is) =
     has_event id event refl none one
     (λ same. let h : HasStopped p = polled (eqb-true at place same) in h.still no_agent id event one) is
 
@@ -59,48 +57,38 @@ poll-fed : (t : TrussState) → t.stage ≡ Polling → (r : Reply) → fed t r 
 unfolding fed with_reply
 poll-fed t is r = ap (with_reply t r) is
 
-module _ (Why : Type 0) (o : Options) (pid : ℕ) (t : TrussState) (s : TracedState) (base : List LwpEvent)
+module _ (Why : Type 0) (o : Options) (pid : ℕ) (t : TrussState) (s : TracedState) (tally : Tally)
     (is : t.stage ≡ Polling) where
   -- a poll is about no process
   poll-aside : (place : ℕ) → IsAside t.leaving t.stage place
   poll-aside place =
       subst (λ (st : Stage). IsAside t.leaving st place) (sym is) (record { here = refl; read = refl; named = refl })
 
-  poll-shows : pending_at t t.stage ≡ []
-  poll-shows = ap (pending_at t) is
-
-  shows-same : (at : ℕ) → shown pid (with_stage t (ReadingStatus at)) ≡ shown pid t
-  shows-same at = shown-none pid (with_stage t (ReadingStatus at)) refl ∙ sym (shown-none pid t poll-shows)
-
   named-carries : (at place : ℕ) → place_of t pid ≡ Some place
       → ((p : TracedProcess) → (traced_at t at).pid ≡ pid → live_process s.system pid ≡ Some p → HasStopped p)
-      → Carries Why o pid t (with_stage t (ReadingStatus at)) s s base place
+      → Carries Why o pid t (with_stage t (ReadingStatus at)) s s tally tally place
   named-carries at place stands polled = let aside = poll-aside place in record {
     at = stands;
     then = stands;
     same = refl;
     was = λ on. aside.here;
-    off = λ off. shows-same at;
-    ends = λ ended. (ended, shows-same at);
+    off = λ off. refl;
+    ends = λ ended. (ended, refl);
     moves = λ p on live traced position.
         stays p refl live traced
-        (named-position o at place (traced_at t place).old p base
-        (shown pid (with_stage t (ReadingStatus at))) traced.no_agent
+        (named-position o at place (traced_at t place).old p tally traced.no_agent
         (λ same. polled p
         (subst (λ n. (traced_at t n).pid ≡ pid) (sym same) (place-pid t pid place stands)) live)
-        (subst (λ (xs : List LwpEvent). Position o Polling place (traced_at t place).old p base xs)
-        (sym (shows-same at))
-        (subst (λ (st : Stage). Position o st place (traced_at t place).old p base
-        (shown pid t)) is position)));
+        (subst (λ (st : Stage). Position o st place (traced_at t place).old p tally) is position));
   }
 
   named-standing : (at : ℕ)
       → ((p : TracedProcess) → (traced_at t at).pid ≡ pid → live_process s.system pid ≡ Some p → HasStopped p)
-      → Standing Why o pid t s base → Standing Why o pid (with_stage t (ReadingStatus at)) s base
+      → Standing Why o pid t s tally → Standing Why o pid (with_stage t (ReadingStatus at)) s tally
   named-standing at polled w =
-      by-place t pid (Standing Why o pid (with_stage t (ReadingStatus at)) s base)
-      (λ none. none-standing Why o pid t (with_stage t (ReadingStatus at)) s s base none none (shows-same at) w)
-      (λ place stands. carries-standing Why o pid t (with_stage t (ReadingStatus at)) s s base place
+      by-place t pid (Standing Why o pid (with_stage t (ReadingStatus at)) s tally)
+      (λ none. none-standing Why o pid t (with_stage t (ReadingStatus at)) s s tally none none w)
+      (λ place stands. carries-standing Why o pid t (with_stage t (ReadingStatus at)) s s tally tally place
       (named-carries at place stands polled) w)
 
   -- ---- the poll that was interrupted
@@ -114,15 +102,13 @@ module _ (Why : Type 0) (o : Options) (pid : ℕ) (t : TrussState) (s : TracedSt
     here = λ on. c.here place (ap (λ x. x.attached) (comes-same place t u c) ∙ on);
     read = c.read place ∙ sym aside.read;
     named = c.named place ∙ sym aside.named;
-    shows = comes-shows pid t u poll-shows c;
   }
 
-  comes-standing : (u : TrussState) → ComesNext t u → Standing Why o pid t s base → Standing Why o pid u s base
+  comes-standing : (u : TrussState) → ComesNext t u → Standing Why o pid t s tally → Standing Why o pid u s tally
   comes-standing u c w =
-      by-place t pid (Standing Why o pid u s base)
-      (λ none. none-standing Why o pid t u s s base none (comes-places pid t u c
-      ∙ none) (comes-shows pid t u poll-shows c) w)
-      (λ place stands. passes-standing Why o pid t u s base place place (comes-passes u place c stands) w)
+      by-place t pid (Standing Why o pid u s tally)
+      (λ none. none-standing Why o pid t u s s tally none (comes-places pid t u c ∙ none) w)
+      (λ place stands. passes-standing Why o pid t u s tally place place (comes-passes u place c stands) w)
 
   -- ---- the reply
 
@@ -132,13 +118,13 @@ module _ (Why : Type 0) (o : Options) (pid : ℕ) (t : TrussState) (s : TracedSt
       (at : ℕ) (p : TracedProcess) → u.stage ≡ ReadingStatus at → (traced_at t at).pid ≡ pid
       → live_process s.system pid ≡ Some p → HasStopped p
 
-  polled-standing : (x : Option ℕ) → Polled (with_polled t x) → Standing Why o pid t s base
-      → Standing Why o pid (with_polled t x) s base
+  polled-standing : (x : Option ℕ) → Polled (with_polled t x) → Standing Why o pid t s tally
+      → Standing Why o pid (with_polled t x) s tally
   polled-standing None polled w = w
   polled-standing (Some at) polled w = named-standing at (λ p own live. polled at p refl own live) w
 
-  answered-standing : (r : Reply) (a : Answer) → Polled (with_poll_answered t r a) → Standing Why o pid t s base
-      → Standing Why o pid (with_poll_answered t r a) s base
+  answered-standing : (r : Reply) (a : Answer) → Polled (with_poll_answered t r a) → Standing Why o pid t s tally
+      → Standing Why o pid (with_poll_answered t r a) s tally
   unfolding with_poll_answered
   answered-standing r Accepted polled w =
       polled-standing (option_and_then (λ handle. position (has_control handle) t.traced) (ready_in r)) polled w
@@ -149,9 +135,9 @@ module _ (Why : Type 0) (o : Options) (pid : ℕ) (t : TrussState) (s : TracedSt
   pub poll-standing : (r : Reply)
       → ((at : ℕ) (p : TracedProcess) → (fed t r).stage ≡ ReadingStatus at →
       (traced_at t at).pid ≡ pid → live_process s.system pid ≡ Some p
-      → HasStopped p) → Standing Why o pid t s base → Standing Why o pid (fed t r) s base
+      → HasStopped p) → Standing Why o pid t s tally → Standing Why o pid (fed t r) s tally
   poll-standing r polled w =
-      subst (λ (u : TrussState). Standing Why o pid u s base) (sym (poll-fed t is r))
+      subst (λ (u : TrussState). Standing Why o pid u s tally) (sym (poll-fed t is r))
       (answered-standing r (answer_of r)
       (λ at p named own live. polled at p (ap (λ (u : TrussState). u.stage) (poll-fed t is r) ∙ named) own live) w)
 

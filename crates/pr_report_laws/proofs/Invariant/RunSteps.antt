@@ -1,4 +1,4 @@
-use Rattle.std.proofs.Common.{◌≡◌, ◌≢◌, ◌==◌, ◌<◌, ℕ, zero, suc, true, false, Some, None, List, [], length, refl, sym, subst, ap, ◌∙◌, inl, inr}
+use Rattle.std.proofs.Common.{◌≡◌, ◌≢◌, ◌==◌, ◌<◌, ℕ, zero, suc, true, false, Some, None, length, refl, sym, subst, ap, ◌∙◌, inl, inr}
 use Rattle.std.proofs.lemmas.Bool.{cases_Bool, eq-eqb, eqb-false, eqb-true, false≢true, ne_eqb}
 use Rattle.pr_line.specs.declared.options.Options.{Options}
 use Rattle.pr_model.specs.State.{TracedProcess, TracedState, TracedSystem, live_process}
@@ -7,7 +7,6 @@ use Rattle.pr_truss.specs.Closings.{with_closing, with_going_on, with_interrupt}
 use Rattle.pr_truss.specs.Feeding.{fed, with_reply}
 use Rattle.pr_truss.specs.Openings.{with_stop_seen}
 use Rattle.pr_truss.specs.Replies.{answer_of}
-use Rattle.pr_truss.specs.Reports.{pending_at}
 use Rattle.pr_truss.specs.Stops.{with_run_answered}
 use Rattle.pr_truss.specs.Trusses.{TrussState, traced_at}
 use Rattle.pr_truss.specs.declared.processes.Traced.{Traced}
@@ -17,15 +16,15 @@ use Rattle.pr_truss.specs.declared.stages.Stage.{Stage}
 use Rattle.pr_truss.specs.declared.stages.Stage.TheVariants.{Running}
 use Rattle.pr_truss_laws.proofs.HeldLemmas.{Fits}
 use Rattle.pr_truss_laws.specs.Stills.{IsQuiet}
+use Rattle.pr_report_laws.proofs.Invariant.Tallies.{IsWhole, Tally}
 use Rattle.pr_report_laws.proofs.Replies.Carries.{Carries, Lands, carries-standing, stays}
 use Rattle.pr_report_laws.proofs.Replies.Elsewhere.{IsAside, IsElsewhere, comes-elsewhere, elsewhere-standing}
-use Rattle.pr_report_laws.proofs.Replies.NextStages.{ComesNext, comes-places, comes-same, comes-shows, going_on-comes, interrupt-comes, prepares-none, reported}
+use Rattle.pr_report_laws.proofs.Replies.NextStages.{ComesNext, comes-places, comes-same, going_on-comes, interrupt-comes, prepares-none}
 use Rattle.pr_report_laws.proofs.Replies.Orderly.{IsOrderly}
-use Rattle.pr_report_laws.proofs.Replies.Places.{place-own, seen-others, seen-places, seen-reports}
+use Rattle.pr_report_laws.proofs.Replies.Places.{place-own, seen-others, seen-places}
 use Rattle.pr_report_laws.proofs.Invariant.Standing.{Position, Prepares, Standing, goes, has_event, has_read, is_named, old_stops, stop_read}
-use Rattle.pr_report_laws.proofs.Replies.StopsOver.{closing-over, over-others, shown-none}
+use Rattle.pr_report_laws.proofs.Replies.StopsOver.{closing-over, over-others}
 use Rattle.pr_report_laws.proofs.Invariant.Positions.{IsTracedBy, Waits}
-use Rattle.pr_report_laws.specs.Shown.{LwpEvent, shown}
 use Rattle.pr_report_laws.specs.Watching.{is_away, place_of}
 
 -- Truss runs a process whose stop it has read.
@@ -40,11 +39,11 @@ pub record Runs (o : Options) (pid old : ℕ) (v : TracedSystem) (r : Reply) : T
   pub waits : (n : ℕ) → old ≡ suc n → Waits process (suc n)
 
 -- how it stands then at a step that is not about it
-run-position : (o : Options) (stage : Stage) (place old : ℕ) (q : TracedProcess) (base so_far : List LwpEvent)
+run-position : (o : Options) (stage : Stage) (place old : ℕ) (q : TracedProcess) (tally : Tally)
     → has_read stage place ≡ false → is_named stage place ≡ false → (old ≡ 0 → IsQuiet q)
-    → ((n : ℕ) → old ≡ suc n → Waits q (suc n)) → base ≡ so_far → Position o stage place old q base so_far
-run-position o stage place zero q base so_far read named quiet waits all = goes read named refl (quiet refl) all
-run-position o stage place (suc n) q base so_far read named quiet waits all = old_stops n read refl (waits n refl) all
+    → ((n : ℕ) → old ≡ suc n → Waits q (suc n)) → IsWhole tally → Position o stage place old q tally
+run-position o stage place zero q tally read named quiet waits all = goes read named refl (quiet refl) all
+run-position o stage place (suc n) q tally read named quiet waits all = old_stops n read refl (waits n refl) all
 
 run-fed : (t : TrussState) (at : ℕ) (r : Reply) → t.stage ≡ Running at → fed t r ≡ with_run_answered t at (answer_of r)
 unfolding fed with_reply
@@ -53,9 +52,6 @@ run-fed t at r is = ap (with_reply t r) is
 module _ (t : TrussState) (at : ℕ) (r : Reply) (is : t.stage ≡ Running at) (orderly : IsOrderly t) where
   within : at < length t.traced
   within = subst (Fits t.traced) is orderly.fits
-
-  reads-none : pending_at t t.stage ≡ []
-  reads-none = ap (pending_at t) is
 
   -- ---- the other processes
 
@@ -70,19 +66,17 @@ module _ (t : TrussState) (at : ℕ) (r : Reply) (is : t.stage ≡ Running at) (
   on-elsewhere : IsElsewhere t (with_going_on t) at
   on-elsewhere =
       comes-elsewhere t t (with_going_on t) at (λ pid. refl) (λ other apart_from. refl)
-      (λ pid apart_from. comes-shows pid t (with_going_on t) reads-none (going_on-comes t)) (going_on-comes t)
+      (going_on-comes t)
 
   comes-others : (u : TrussState) → ComesNext (with_stop_seen t at) u → IsElsewhere t u at
   comes-others u c =
-      comes-elsewhere t (with_stop_seen t at) u at (seen-places t at) (seen-others t at)
-      (λ pid apart_from. shown-none pid u c.pending ∙ ap (reported pid) (c.reports ∙ seen-reports t at)
-      ∙ sym (shown-none pid t reads-none)) c
+      comes-elsewhere t (with_stop_seen t at) u at (seen-places t at) (seen-others t at) c
 
   answered-elsewhere : (a : Answer) → IsElsewhere t (with_run_answered t at a) at
   unfolding with_run_answered
   answered-elsewhere Accepted = on-elsewhere
   answered-elsewhere (Refused errno) = on-elsewhere
-  answered-elsewhere Gone = over-others t (with_closing t at) at reads-none (closing-over t at)
+  answered-elsewhere Gone = over-others t (with_closing t at) at (closing-over t at)
   answered-elsewhere Interrupted =
       comes-others (with_interrupt (with_stop_seen t at)) (interrupt-comes (with_stop_seen t at))
 
@@ -95,7 +89,7 @@ module _ (t : TrussState) (at : ℕ) (r : Reply) (is : t.stage ≡ Running at) (
 
   -- ---- the process itself
 
-  module _ (Why : Type 0) (o : Options) (pid : ℕ) (s v : TracedState) (base : List LwpEvent) where
+  module _ (Why : Type 0) (o : Options) (pid : ℕ) (s v : TracedState) (tally : Tally) where
     -- what the call makes of it
     abbrev Ended : Type 0
     Ended = live_process s.system pid ≡ None → (answer_of r ≡ Gone) × (live_process v.system pid ≡ None)
@@ -114,86 +108,83 @@ module _ (t : TrussState) (at : ℕ) (r : Reply) (is : t.stage ≡ Running at) (
 
       -- of a live one the stop was read
       runs : (p : TracedProcess) → live_process s.system pid ≡ Some p → IsTracedBy o p
-          → Position o (Running at) at (traced_at t at).old p base (shown pid t)
-          → Runs o pid (traced_at t at).old v.system r × (base ≡ shown pid t)
+          → Position o (Running at) at (traced_at t at).old p tally
+          → Runs o pid (traced_at t at).old v.system r × (IsWhole tally)
       runs p live traced (stop_read read waits all) = (run p live traced waits, all)
       runs p live traced (old_stops n read counts waits all) = absurd (false≢true (sym read ∙ eq-eqb at at refl))
       runs p live traced (goes read named none quiet all) = absurd (false≢true (sym read ∙ eq-eqb at at refl))
       runs p live traced (has_event id event read none one named all) =
           absurd (false≢true (sym read ∙ eq-eqb at at refl))
 
-      positioned : (p : TracedProcess) → Position o t.stage at (traced_at t at).old p base (shown pid t)
-          → Position o (Running at) at (traced_at t at).old p base (shown pid t)
+      positioned : (p : TracedProcess) → Position o t.stage at (traced_at t at).old p tally
+          → Position o (Running at) at (traced_at t at).old p tally
       positioned p position =
-          subst (λ (st : Stage). Position o st at (traced_at t at).old p base (shown pid t)) is position
+          subst (λ (st : Stage). Position o st at (traced_at t at).old p tally) is position
 
       comes-lands : (u : TrussState) → ComesNext t u → (traced_at t at).attached ≡ true
-          → Runs o pid (traced_at t at).old v.system r → base ≡ shown pid t → Lands Why o pid u v base at
+          → Runs o pid (traced_at t at).old v.system r → IsWhole tally → Lands Why o pid u v tally at
       comes-lands u c on h all =
           let same = comes-same at t u c in
           stays h.process (c.here at (ap (λ (x : Traced). x.attached) same ∙ on)) h.live h.traced
-          (subst (λ n. Position o u.stage at n h.process base (shown pid u)) (sym (ap (λ (x : Traced). x.old) same))
-          (run-position o u.stage at (traced_at t at).old h.process base (shown pid u) (c.read at)
-          (c.named at) h.quiet h.waits (all ∙ sym (comes-shows pid t u reads-none c))))
+          (subst (λ n. Position o u.stage at n h.process tally) (sym (ap (λ (x : Traced). x.old) same))
+          (run-position o u.stage at (traced_at t at).old h.process tally (c.read at)
+          (c.named at) h.quiet h.waits all))
 
       -- it goes on, or PCRUN was refused, which cannot be
-      comes-carries : (u : TrussState) → ComesNext t u → (answer_of r ≢ Gone) → Carries Why o pid t u s v base at
+      comes-carries : (u : TrussState) → ComesNext t u → (answer_of r ≢ Gone) → Carries Why o pid t u s v tally tally at
       comes-carries u c not_gone = record {
         at = stands;
         then = comes-places pid t u c ∙ stands;
         same = ap (λ (x : Traced). x.attached) (comes-same at t u c);
         was = λ on. not_away;
-        off = λ off. comes-shows pid t u reads-none c;
+        off = λ off. refl;
         ends = λ none. let e = ended none in absurd (not_gone e.0);
         moves =
             λ p on live traced position. let h =
             runs p live traced (positioned p position) in comes-lands u c on h.0 h.1;
       }
 
-      gone-carries : answer_of r ≡ Gone → Carries Why o pid t (with_closing t at) s v base at
+      gone-carries : answer_of r ≡ Gone → Carries Why o pid t (with_closing t at) s v tally tally at
       gone-carries gone = record {
         at = stands;
         then = stands;
         same = refl;
         was = λ on. not_away;
-        off = λ off. closed-shows;
-        ends = λ none. let e = ended none in (e.1, closed-shows);
+        off = λ off. refl;
+        ends = λ none. let e = ended none in (e.1, refl);
         moves = λ p on live traced position. let h = runs p live traced (positioned p position) in absurd (differs h.0);
       }
         where
-          closed-shows : shown pid (with_closing t at) ≡ shown pid t
-          closed-shows = shown-none pid (with_closing t at) refl ∙ sym (shown-none pid t reads-none)
-
           differs : Runs o pid (traced_at t at).old v.system r → ⊥
           differs h = let e : Accepted ≡ Gone = sym h.accepted ∙ gone in cc
 
-      own-standing : (a : Answer) → answer_of r ≡ a → (a ≡ Interrupted → ⊥) → Standing Why o pid t s base
-          → Standing Why o pid (with_run_answered t at a) v base
+      own-standing : (a : Answer) → answer_of r ≡ a → (a ≡ Interrupted → ⊥) → Standing Why o pid t s tally
+          → Standing Why o pid (with_run_answered t at a) v tally
       unfolding with_run_answered
       own-standing Accepted answer calm w =
-          carries-standing Why o pid t (with_going_on t) s v base at
+          carries-standing Why o pid t (with_going_on t) s v tally tally at
           (comes-carries (with_going_on t) (going_on-comes t) (λ gone. let e : Accepted ≡ Gone = sym answer
           ∙ gone in cc)) w
       own-standing (Refused errno) answer calm w =
-          carries-standing Why o pid t (with_going_on t) s v base at
+          carries-standing Why o pid t (with_going_on t) s v tally tally at
           (comes-carries (with_going_on t) (going_on-comes t) (λ gone. let e : Refused errno ≡ Gone = sym answer
           ∙ gone in cc)) w
       own-standing Gone answer calm w =
-          carries-standing Why o pid t (with_closing t at) s v base at (gone-carries answer) w
+          carries-standing Why o pid t (with_closing t at) s v tally tally at (gone-carries answer) w
       own-standing Interrupted answer calm w = absurd (calm refl)
 
     -- ---- all
 
     pub run-standing : ((traced_at t at).pid ≡ pid → Ended) → ((traced_at t at).pid ≡ pid → IsRun)
         → ((traced_at t at).pid ≡ pid → answer_of r ≢ Interrupted)
-        → ((traced_at t at).pid ≢ pid → Standing Why o pid t v base) → Standing Why o pid t s base
-        → Standing Why o pid (fed t r) v base
+        → ((traced_at t at).pid ≢ pid → Standing Why o pid t v tally) → Standing Why o pid t s tally
+        → Standing Why o pid (fed t r) v tally
     run-standing ended run calm others w =
         elim (cases_Bool ((traced_at t at).pid == pid)) [
           | inl same ↦ let own =
-              eqb-true (traced_at t at).pid pid same in subst (λ (u : TrussState). Standing Why o pid u v base)
+              eqb-true (traced_at t at).pid pid same in subst (λ (u : TrussState). Standing Why o pid u v tally)
               (sym (run-fed t at r is)) (own-standing own (ended own) (run own) (answer_of r) refl (calm own) w)
           | inr other ↦ let apart_from =
               eqb-false (traced_at t at).pid pid other in elsewhere-standing t
-              (fed t r) at pid run-elsewhere apart_from run-aside Why o v base (others apart_from)
+              (fed t r) at pid run-elsewhere apart_from run-aside Why o v tally (others apart_from)
         ]

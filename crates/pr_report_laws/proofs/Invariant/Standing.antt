@@ -1,5 +1,4 @@
-use Rattle.std.proofs.Common.{◌≡◌, ◌==◌, ◌-◌, ◌%◌, ◌^◌, ℕ, suc, Bool, true, false, List, [], ◌∷◌, ◌++◌, cond, None, Some, ◌⊎◌}
-use Rattle.pr_line.specs.Selections.{is_selected}
+use Rattle.std.proofs.Common.{◌≡◌, ◌==◌, ◌-◌, ◌%◌, ◌^◌, ℕ, suc, Bool, true, false, List, [], ◌∷◌, ◌++◌, None, Some, ◌⊎◌}
 use Rattle.pr_line.specs.declared.events.Event.{Event}
 use Rattle.pr_line.specs.declared.options.Options.{Options}
 use Rattle.pr_model.specs.State.{TracedLwp, TracedProcess, TracedState, has_agent, live_process, lwp_of}
@@ -18,24 +17,20 @@ use Rattle.pr_truss.specs.declared.stages.Stage.{Stage}
 use Rattle.pr_truss.specs.declared.stages.Stage.TheVariants.{Opening, ReadingStatus, ReadingText, OpeningChildControl, OpeningChild, Running, Closing}
 use Rattle.pr_truss_laws.specs.Stills.{IsHalting, IsQuiet}
 use Rattle.pr_report_laws.proofs.Invariant.Positions.{HasEvent, IsAtBirth, IsTracedBy, Waits, met_in}
-use Rattle.pr_report_laws.specs.Shown.{LwpEvent, shown}
+use Rattle.pr_report_laws.proofs.Invariant.Tallies.{IsWhole, Tally, unread}
+use Rattle.pr_report_laws.specs.Shown.{LwpEvent}
 use Rattle.pr_report_laws.specs.Watching.{is_away, place_of, watches}
 
--- How a process stands, and how much of it is shown, wherever truss and the machine have come to: what holds before
--- each
--- entry of a history. `base` is what was selected so far.
+-- How a process stands, and how much of it truss was told, wherever truss and the machine have come to: what holds
+-- before each entry of a history.
 
 -- ---- what is missing
 
--- All that was selected is shown, or one event is missing, and this is why.
-pub record Accounted (Why : Type 0) (base so_far : List LwpEvent) : Type 0 where
+-- Truss was told all that came, or one event is missing, and this is why.
+pub record Accounted (Why : Type 0) (tally : Tally) : Type 0 where
   pub missing : List LwpEvent
-  pub is : base ≡ so_far ++ missing
+  pub is : tally.came ≡ tally.told ++ missing
   pub few : (missing ≡ []) ⊎ ((event : LwpEvent) × ((missing ≡ event ∷ []) × Why))
-
--- an event of an lwp that is still to be shown, if it is selected
-abbrev pub unread : Options → ℕ → Event → List LwpEvent
-unread o id event = cond (is_selected o event) (record { id = id; event = event } ∷ []) []
 
 -- ---- what a stage of truss has to do with a process at a place
 
@@ -129,31 +124,31 @@ pub record Prepares (o : Options) (pid : ℕ) (t : TrussState) (s : TracedState)
 
 -- How a live process stands that truss watches at a place, where it counts so many stops as old.
 pub data Position (o : Options) (stage : Stage) (place old : ℕ) (p : TracedProcess)
-    (base so_far : List LwpEvent) : Type 0 where
+    (tally : Tally) : Type 0 where
   -- truss has read the stop
-  stop_read : has_read stage place ≡ true → Waits p (suc old) → base ≡ so_far → Position o stage place old p base so_far
+  stop_read : has_read stage place ≡ true → Waits p (suc old) → IsWhole tally → Position o stage place old p tally
   -- old stops
-  old_stops : (n : ℕ) → has_read stage place ≡ false → old ≡ suc n → Waits p (suc n) → base ≡ so_far
-      → Position o stage place old p base so_far
+  old_stops : (n : ℕ) → has_read stage place ≡ false → old ≡ suc n → Waits p (suc n) → IsWhole tally
+      → Position o stage place old p tally
   -- no stop
-  goes : has_read stage place ≡ false → is_named stage place ≡ false → old ≡ 0 → IsQuiet p → base ≡ so_far
-      → Position o stage place old p base so_far
+  goes : has_read stage place ≡ false → is_named stage place ≡ false → old ≡ 0 → IsQuiet p → IsWhole tally
+      → Position o stage place old p tally
   -- an event that is not read yet
   has_event : (id : ℕ) (event : Event) → has_read stage place ≡ false → old ≡ 0 → HasEvent p id event
-      → (is_named stage place ≡ true → Waits p 1) → base ≡ so_far ++ unread o id event
-      → Position o stage place old p base so_far
+      → (is_named stage place ≡ true → Waits p 1) → tally.came ≡ tally.told ++ unread tally id event
+      → Position o stage place old p tally
 
 -- ---- all
 
 -- How the process of an id stands with truss. Why is why an event may be missing.
 pub data Standing (Why : Type 0) (o : Options) (pid : ℕ) (t : TrussState) (s : TracedState)
-    (base : List LwpEvent) : Type 0 where
+    (tally : Tally) : Type 0 where
   -- it is not watched
-  apart : watches t pid ≡ false → Accounted Why base (shown pid t) → Standing Why o pid t s base
+  apart : watches t pid ≡ false → Accounted Why tally → Standing Why o pid t s tally
   -- it has ended, and truss has not learnt that yet
-  over : watches t pid ≡ true → live_process s.system pid ≡ None → Accounted Why base (shown pid t)
-      → Standing Why o pid t s base
+  over : watches t pid ≡ true → live_process s.system pid ≡ None → Accounted Why tally
+      → Standing Why o pid t s tally
   -- it lives
   lives : (place : ℕ) (p : TracedProcess) → place_of t pid ≡ Some place → (traced_at t place).attached ≡ true
       → is_away t.leaving t.stage place ≡ false → live_process s.system pid ≡ Some p → IsTracedBy o p
-      → Position o t.stage place (traced_at t place).old p base (shown pid t) → Standing Why o pid t s base
+      → Position o t.stage place (traced_at t place).old p tally → Standing Why o pid t s tally

@@ -1,6 +1,5 @@
-use Rattle.std.proofs.Common.{◌≡◌, ◌≢◌, ◌==◌, ◌<◌, ℕ, suc, true, false, cond, Some, None, List, [], length, refl, sym, subst, ap, ◌∙◌, inl, inr}
+use Rattle.std.proofs.Common.{◌≡◌, ◌≢◌, ◌==◌, ◌<◌, ℕ, suc, true, false, cond, Some, length, refl, sym, subst, ap, ◌∙◌, inl, inr}
 use Rattle.std.proofs.lemmas.Bool.{and_from, and_left, and_right, cases_Bool, eq-eqb, eqb-false, eqb-true, false≢true, ne_eqb}
-use Rattle.std.proofs.lemmas.List.{append-nil}
 use Rattle.pr_line.specs.declared.options.Options.{Options}
 use Rattle.pr_model.specs.Replies.{bytes_in}
 use Rattle.pr_model.specs.State.{TracedProcess, TracedState, live_process}
@@ -18,15 +17,15 @@ use Rattle.pr_truss.specs.declared.reports.Report.TheVariants.{Event as Reported
 use Rattle.pr_truss.specs.declared.stages.Stage.{Stage}
 use Rattle.pr_truss.specs.declared.stages.Stage.TheVariants.{ReadingText}
 use Rattle.pr_truss_laws.proofs.HeldLemmas.{Fits}
+use Rattle.pr_report_laws.proofs.Invariant.Tallies.{Tally}
 use Rattle.pr_report_laws.proofs.Replies.Carries.{Carries, Lands, away-accounted, carries-standing, read-lands}
 use Rattle.pr_report_laws.proofs.Replies.Elsewhere.{IsAside, IsElsewhere, comes-elsewhere, elsewhere-standing}
-use Rattle.pr_report_laws.proofs.Replies.NextStages.{ComesNext, interrupt-comes, prepares-none, reported}
+use Rattle.pr_report_laws.proofs.Replies.NextStages.{ComesNext, interrupt-comes, prepares-none}
 use Rattle.pr_report_laws.proofs.Replies.Orderly.{IsOrderly}
-use Rattle.pr_report_laws.proofs.Replies.Places.{place-own, seen-others, seen-places, seen-reports, unwatched-away}
-use Rattle.pr_report_laws.proofs.Invariant.Standing.{Accounted, Position, Prepares, Standing, apart, goes, has_event, old_stops, stop_read}
-use Rattle.pr_report_laws.proofs.Replies.StopsOver.{StopOver, Tells, closing-over, closing-tells, event_over-over, event_over-tells, over-elsewhere, reported-text, shown-none, shown-text}
+use Rattle.pr_report_laws.proofs.Replies.Places.{place-own, seen-others, seen-places, unwatched-away}
+use Rattle.pr_report_laws.proofs.Invariant.Standing.{Position, Prepares, Standing, apart, goes, has_event, old_stops, stop_read}
+use Rattle.pr_report_laws.proofs.Replies.StopsOver.{StopOver, closing-over, event_over-left, event_over-over, over-elsewhere}
 use Rattle.pr_report_laws.proofs.Invariant.Positions.{IsTracedBy, Waits}
-use Rattle.pr_report_laws.specs.Shown.{LwpEvent, shown}
 use Rattle.pr_report_laws.specs.Watching.{is_away, place_of}
 
 -- Truss reads the memory that the line of an event asks for: the event is reported, whatever the reply.
@@ -44,12 +43,6 @@ module _ (t : TrussState) (at : ℕ) (l : LwpStatus) (from len : ℕ) (r : Reply
     within : at < length t.traced
     within = subst (Fits t.traced) is orderly.fits
 
-    -- it was shown before
-    told-shows : (pid : ℕ) → reported pid told.reports ≡ shown pid t
-    told-shows pid =
-        reported-text pid (traced_at t at).pid l (text_of len (bytes_in r)) None t.reports
-        ∙ sym (shown-text pid t at from len l is)
-
     -- ---- the other processes
 
     text-aside : (other : ℕ) → other ≢ at → IsAside t.leaving t.stage other
@@ -63,14 +56,11 @@ module _ (t : TrussState) (at : ℕ) (l : LwpStatus) (from len : ℕ) (r : Reply
 
     over-others : (u : TrussState) → StopOver told at u → IsElsewhere t u at
     over-others u c =
-        over-elsewhere t told u at (λ pid. refl) (λ other apart_from. refl) (λ pid apart_from. c.shows pid apart_from
-        ∙ told-shows pid) c
+        over-elsewhere t told u at (λ pid. refl) (λ other apart_from. refl) c
 
     comes-others : (u : TrussState) → ComesNext (with_stop_seen told at) u → IsElsewhere t u at
     comes-others u c =
-        comes-elsewhere t (with_stop_seen told at) u at (seen-places told at) (seen-others told at)
-        (λ pid apart_from. shown-none pid u c.pending ∙ ap (reported pid) (c.reports ∙ seen-reports told at)
-        ∙ told-shows pid) c
+        comes-elsewhere t (with_stop_seen told at) u at (seen-places told at) (seen-others told at) c
 
     answered-elsewhere : (a : Answer) → IsElsewhere t (after_text told at l a) at
     unfolding after_text
@@ -93,79 +83,76 @@ module _ (t : TrussState) (at : ℕ) (l : LwpStatus) (from len : ℕ) (r : Reply
 
     -- ---- the process itself
 
-    module _ (Why : Type 0) (o : Options) (pid : ℕ) (s : TracedState) (base : List LwpEvent) where
+    module _ (Why : Type 0) (o : Options) (pid : ℕ) (s : TracedState) (tally : Tally) where
       module _ (own : (traced_at t at).pid ≡ pid) (u : TrussState) (ends : StopOver told at u)
-          (tells : Tells told at pid u (traced_at t at).old []) where
+          (old : (traced_at u at).old ≡ (traced_at t at).old) where
         stands : place_of t pid ≡ Some at
         stands = place-own t at pid orderly within own
 
-        same-shown : shown pid u ≡ shown pid t
-        same-shown = tells.shows ∙ append-nil (reported pid told.reports) ∙ told-shows pid
-
         lands : (p : TracedProcess) → live_process s.system pid ≡ Some p → IsTracedBy o p
-            → Position o (ReadingText at l from len) at (traced_at t at).old p base (shown pid t)
-            → Lands Why o pid u s base at
+            → Position o (ReadingText at l from len) at (traced_at t at).old p tally
+            → Lands Why o pid u s tally at
         lands p live traced (stop_read read waits all) =
-            read-lands Why o pid told u s s base at p ends live traced
-            (λ here. subst (λ n. Waits p (suc n)) (sym tells.old) waits) (all ∙ sym same-shown)
+            read-lands Why o pid told u s s tally at p ends live traced
+            (λ here. subst (λ n. Waits p (suc n)) (sym old) waits) all
         lands p live traced (old_stops n read counts waits all) = absurd (false≢true (sym read ∙ eq-eqb at at refl))
         lands p live traced (goes read named none quiet all) = absurd (false≢true (sym read ∙ eq-eqb at at refl))
         lands p live traced (has_event id event read none one named all) =
             absurd (false≢true (sym read ∙ eq-eqb at at refl))
 
-        stays-carries : t.leaving ≡ false → Carries Why o pid t u s s base at
+        stays-carries : t.leaving ≡ false → Carries Why o pid t u s s tally tally at
         stays-carries stays = record {
           at = stands;
           then = ends.places pid ∙ stands;
           same = ends.attached;
           was = λ on. ap (λ (st : Stage). is_away t.leaving st at) is ∙ and_left t.leaving (at == at) stays;
-          off = λ off. same-shown;
-          ends = λ none. (none, same-shown);
+          off = λ off. refl;
+          ends = λ none. (none, refl);
           moves =
               λ p on live traced position. lands p live traced
-              (subst (λ (st : Stage). Position o st at (traced_at t at).old p base (shown pid t)) is position);
+              (subst (λ (st : Stage). Position o st at (traced_at t at).old p tally) is position);
         }
 
         -- while truss leaves, it has left the process already
-        left-standing : t.leaving ≡ true → Standing Why o pid t s base → Standing Why o pid u s base
+        left-standing : t.leaving ≡ true → Standing Why o pid t s tally → Standing Why o pid u s tally
         left-standing leaving w =
             let away : is_away t.leaving t.stage at ≡ true =
             ap (λ (st : Stage). is_away t.leaving st at) is
             ∙ and_from t.leaving (at == at) leaving (eq-eqb at at refl) in
             apart (unwatched-away u pid at (ends.places pid
             ∙ stands) (ends.left leaving))
-            (subst (Accounted Why base) (sym same-shown) (away-accounted Why o pid t u s s base at stands away w))
+            (away-accounted Why o pid t u s s tally at stands away w)
 
-        over-standing : Standing Why o pid t s base → Standing Why o pid u s base
+        over-standing : Standing Why o pid t s tally → Standing Why o pid u s tally
         over-standing w =
             elim (cases_Bool t.leaving) [
               | inl leaving ↦ left-standing leaving w
               | inr stays ↦ carries-standing Why o
-                  pid t u s s base at (stays-carries stays) w
+                  pid t u s s tally tally at (stays-carries stays) w
             ]
 
-      own-standing : (traced_at t at).pid ≡ pid → (a : Answer) → (a ≡ Interrupted → ⊥) → Standing Why o pid t s base
-          → Standing Why o pid (after_text told at l a) s base
+      own-standing : (traced_at t at).pid ≡ pid → (a : Answer) → (a ≡ Interrupted → ⊥) → Standing Why o pid t s tally
+          → Standing Why o pid (after_text told at l a) s tally
       unfolding after_text
       own-standing own Accepted calm w =
           over-standing own (with_event_over told at l) (event_over-over told at first l)
-          (event_over-tells told at pid l) w
+          (event_over-left told at l) w
       own-standing own (Refused errno) calm w =
           over-standing own (with_event_over told at l) (event_over-over told at first l)
-          (event_over-tells told at pid l) w
+          (event_over-left told at l) w
       own-standing own Gone calm w =
-          over-standing own (with_closing told at) (closing-over told at) (closing-tells told at pid) w
+          over-standing own (with_closing told at) (closing-over told at) refl w
       own-standing own Interrupted calm w = absurd (calm refl)
 
       -- ---- all
 
-      pub text-standing : ((traced_at t at).pid ≡ pid → answer_of r ≢ Interrupted) → Standing Why o pid t s base
-          → Standing Why o pid (fed t r) s base
+      pub text-standing : ((traced_at t at).pid ≡ pid → answer_of r ≢ Interrupted) → Standing Why o pid t s tally
+          → Standing Why o pid (fed t r) s tally
       text-standing calm w =
           elim (cases_Bool ((traced_at t at).pid == pid)) [
             | inl same ↦ let own =
-                eqb-true (traced_at t at).pid pid same in subst (λ (u : TrussState). Standing Why o pid u s base)
+                eqb-true (traced_at t at).pid pid same in subst (λ (u : TrussState). Standing Why o pid u s tally)
                 (sym (text-fed is)) (own-standing own (answer_of r) (calm own) w)
             | inr other ↦ elsewhere-standing t (fed t r) at pid text-elsewhere
-                (eqb-false (traced_at t at).pid pid other) text-aside Why o s base w
+                (eqb-false (traced_at t at).pid pid other) text-aside Why o s tally w
           ]

@@ -1,4 +1,4 @@
-use Rattle.std.proofs.Common.{◌≡◌, ◌==◌, ◌||◌, ◌&&◌, ℕ, ◌+◌, ◌*◌, ◌-◌, Bool, true, false, ltb, leb, is_none, cond, Option, Some, None, Result, Ok, Err, List, length, refl}
+use Rattle.std.proofs.Common.{◌≡◌, ◌==◌, ◌||◌, ◌&&◌, ℕ, ◌+◌, ◌*◌, ◌-◌, Bool, true, false, not, ltb, leb, is_none, cond, Option, Some, None, Result, Ok, Err, List, length, refl}
 use Rattle.std.specs.List.{list_any, slice_get}
 use Rattle.std.specs.Prelude.{slice_index}
 use Rattle.pr_num.specs.Agents.{agent_id}
@@ -27,7 +27,7 @@ use Rattle.pr_model.specs.Changes.{Effect, does}
 use Rattle.pr_model.specs.FileCallRows.{read_effect, write_effect, open_effect, close_effect, pipe_effect, dup_effect, lseek_effect, fstat_effect, refusal_effect, file_effect, word_size}
 use Rattle.pr_model.specs.LwpCalls.{lwp_create_effect, lwp_suspend_effect, lwp_continue_effect, can_be_named}
 use Rattle.pr_model.specs.MemoryCalls.{can_write, path_at, brk_effect, mmap_effect, munmap_effect, mprotect_effect, unless_too_big, is_mapped_range, prot_limit}
-use Rattle.pr_model.specs.ProcessCalls.{exit_effect, fork_effect, wait_effect, exec_effect, sleep_effect, program_named}
+use Rattle.pr_model.specs.ProcessCalls.{exit_effect, fork_effect, wait_effect, exec_effect, sleep_effect, program_named, vfork_effect, given_up}
 use Rattle.pr_model.specs.Readers.{Life, Children, no_child, all_live, first_zombie, children_of, life_of, size_of, total_has_room}
 use Rattle.pr_model.specs.SignalCalls.{Sending, refuses, sends_nothing, sends, sending, sent_effect, send_effect, can_be_caught, sigaction_effect, sigmask_effect, sigreturn_effect}
 use Rattle.pr_model.specs.Signals.{is_kill}
@@ -163,6 +163,11 @@ module _ (s : TracedSystem) (pid : ℕ) (p : TracedProcess) (id : ℕ) (l : Trac
       either (id == agent_id) _ _ refl
       (either (leb process_limit s.made) _ _ refl (either (total_has_room s (size_of p) 0) _ _ refl refl))
 
+  vfork-answered : (args : List ℕ) → IsAnswered (vfork_effect s p id args)
+  unfolding vfork_effect
+  vfork-answered args =
+      either ((id == agent_id) || not (length p.lwps == 1)) _ _ refl (either (leb process_limit s.made) _ _ refl refl)
+
   exec-answered : (at : ℕ) → IsAnswered (exec_effect s p id at)
   unfolding exec_effect
   exec-answered at = by (path_at p.space at) refl
@@ -173,7 +178,7 @@ module _ (s : TracedSystem) (pid : ℕ) (p : TracedProcess) (id : ℕ) (l : Trac
       named name (Some program) is found =
           rw (is, found)
           (either (id == agent_id) _ _ refl
-          (either (total_has_room s (mapped_size (first_space program)) (size_of p)) _ _ refl refl))
+          (either (total_has_room s (mapped_size (first_space program)) (given_up s p id)) _ _ refl refl))
 
       by : (r : Result (List ℕ) Errno) → path_at p.space at ≡ r → IsAnswered (exec_effect s p id at)
       by (Err e) is = rw is (either (id == agent_id) _ _ refl refl)
@@ -243,6 +248,7 @@ module _ (s : TracedSystem) (pid : ℕ) (p : TracedProcess) (id : ℕ) (l : Trac
   unfolding call_effect exit_effect dup_effect lseek_effect
   call-answered since sys.Exit args = refl
   call-answered since sys.Fork args = fork-answered args
+  call-answered since sys.Vfork args = vfork-answered args
   call-answered since sys.Read args = read-answered (slice_index args 0) (slice_index args 1) (slice_index args 2)
   call-answered since sys.Write args = write-answered (slice_index args 0) (slice_index args 1) (slice_index args 2)
   call-answered since sys.Open args = open-answered (slice_index args 0) (slice_index args 1)

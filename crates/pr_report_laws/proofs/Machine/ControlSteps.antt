@@ -1,23 +1,23 @@
-use Rattle.std.proofs.Common.{◌≡◌, ℕ, suc, None, Some, List, refl, sym, subst, ◌∙◌}
+use Rattle.std.proofs.Common.{◌≡◌, ℕ, suc, None, Some, refl, sym, subst, ◌∙◌}
 use Rattle.pr_line.specs.declared.options.Options.{Options}
 use Rattle.pr_model.specs.Messages.{with_control}
 use Rattle.pr_model.specs.State.{TracedControl, TracedProcess, TracedState, live_process}
 use Rattle.pr_truss.specs.Trusses.{TrussState, traced_at}
 use Rattle.pr_truss.specs.declared.stages.Stage.{Stage}
+use Rattle.pr_report_laws.proofs.Invariant.Tallies.{Tally}
 use Rattle.pr_report_laws.proofs.Machine.SettingLaws.{set-event, set-quiet, set-waits}
 use Rattle.pr_report_laws.proofs.Invariant.Standing.{Position, Standing, apart, goes, has_event, lives, old_stops, over, stop_read}
 use Rattle.pr_report_laws.proofs.Invariant.Positions.{IsTracedBy}
-use Rattle.pr_report_laws.specs.Shown.{LwpEvent, shown}
 
 -- What is set on a process is no part of how it stands.
 
 pub position-control : (o : Options) (stage : Stage) (place old : ℕ) (f : TracedControl → TracedControl)
-    (p q : TracedProcess) (base so_far : List LwpEvent) → q ≡ with_control f p
-    → Position o stage place old p base so_far → Position o stage place old q base so_far
-position-control o stage place old f p q base so_far is w =
-    subst (λ (x : TracedProcess). Position o stage place old x base so_far) (sym is) (by w)
+    (p q : TracedProcess) (tally : Tally) → q ≡ with_control f p
+    → Position o stage place old p tally → Position o stage place old q tally
+position-control o stage place old f p q tally is w =
+    subst (λ (x : TracedProcess). Position o stage place old x tally) (sym is) (by w)
   where
-    by : Position o stage place old p base so_far → Position o stage place old (with_control f p) base so_far
+    by : Position o stage place old p tally → Position o stage place old (with_control f p) tally
     by (stop_read read waits all) = stop_read read (set-waits f p (suc old) waits) all
     by (old_stops n read counts waits all) = old_stops n read counts (set-waits f p (suc n) waits) all
     by (goes read named none quiet all) = goes read named none (set-quiet f p quiet) all
@@ -26,23 +26,22 @@ position-control o stage place old f p q base so_far is w =
 
 -- a message that changed what is set on the process, and left it traced
 pub control-standing : (Why : Type 0) (o : Options) (pid : ℕ) (t : TrussState) (s v : TracedState)
-    (base : List LwpEvent) (f : TracedControl → TracedControl)
+    (tally : Tally) (f : TracedControl → TracedControl)
     → (live_process s.system pid ≡ None → live_process v.system pid ≡ None)
     → ((p : TracedProcess) → live_process s.system pid ≡ Some p → live_process v.system pid ≡ Some (with_control f p))
     → ((p : TracedProcess) → IsTracedBy o p → IsTracedBy o (with_control f p))
-    → Standing Why o pid t s base → Standing Why o pid t v base
-control-standing Why o pid t s v base f ends changes keeps (apart unwatched a) = apart unwatched a
-control-standing Why o pid t s v base f ends changes keeps (over watched ended a) = over watched (ends ended) a
-control-standing Why o pid t s v base f ends changes keeps (lives place p at attached here live traced position) =
+    → Standing Why o pid t s tally → Standing Why o pid t v tally
+control-standing Why o pid t s v tally f ends changes keeps (apart unwatched a) = apart unwatched a
+control-standing Why o pid t s v tally f ends changes keeps (over watched ended a) = over watched (ends ended) a
+control-standing Why o pid t s v tally f ends changes keeps (lives place p at attached here live traced position) =
     lives place (with_control f p) at attached here (changes p live) (keeps p traced)
-    (position-control o t.stage place (traced_at t place).old f p (with_control f p) base
-    (shown pid t) refl position)
+    (position-control o t.stage place (traced_at t place).old f p (with_control f p) tally refl position)
 
 -- the same where nothing of the machine changed but handles
 pub system-standing : (Why : Type 0) (o : Options) (pid : ℕ) (t : TrussState) (s v : TracedState)
-    (base : List LwpEvent) → live_process v.system pid ≡ live_process s.system pid → Standing Why o pid t s base
-    → Standing Why o pid t v base
-system-standing Why o pid t s v base same (apart unwatched a) = apart unwatched a
-system-standing Why o pid t s v base same (over watched ended a) = over watched (same ∙ ended) a
-system-standing Why o pid t s v base same (lives place p at attached here live traced position) =
+    (tally : Tally) → live_process v.system pid ≡ live_process s.system pid → Standing Why o pid t s tally
+    → Standing Why o pid t v tally
+system-standing Why o pid t s v tally same (apart unwatched a) = apart unwatched a
+system-standing Why o pid t s v tally same (over watched ended a) = over watched (same ∙ ended) a
+system-standing Why o pid t s v tally same (lives place p at attached here live traced position) =
     lives place p at attached here (same ∙ live) traced position

@@ -1,4 +1,4 @@
-use Rattle.std.proofs.Common.{◌≡◌, ◌==◌, ℕ, Bool, true, false, cond, None, Some, Option, List, [], ◌∷◌, Ok, refl, sym, ap, ◌∙◌}
+use Rattle.std.proofs.Common.{◌≡◌, ◌==◌, ◌||◌, ℕ, Bool, true, false, not, cond, None, Some, Option, List, [], ◌∷◌, Ok, refl, sym, ap, ◌∙◌}
 use Rattle.std.proofs.lemmas.Option.{none-some, same_Some}
 use Rattle.std.specs.Option.{option_and_then}
 use Rattle.pr_line.specs.declared.events.Event.TheVariants.{Left}
@@ -16,9 +16,9 @@ use Rattle.pr_parts.specs.declared.actions.Action.TheVariants as act
 use Rattle.pr_model.specs.CallEffects.{call_effect}
 use Rattle.pr_model.specs.Changes.{Effect, does, ends, forks, gives, fails, sleeps}
 use Rattle.pr_model.specs.Events.{event_of}
-use Rattle.pr_model.specs.InstructionEffects.{InstructionEffect, calls, faults, instruction_effect, runs, runs_into_watch}
-use Rattle.pr_model.specs.Lives.{Birth, by_fork, call_of}
-use Rattle.pr_model.specs.ProcessCalls.{fork_effect}
+use Rattle.pr_model.specs.InstructionEffects.{InstructionEffect, instruction_effect, runs}
+use Rattle.pr_model.specs.Lives.{Birth, by_fork, call_of, by_vfork}
+use Rattle.pr_model.specs.ProcessCalls.{fork_effect, vfork_effect}
 use Rattle.pr_model.specs.Readers.{size_of, total_has_room}
 use Rattle.pr_model.specs.Registers.{arguments}
 use Rattle.pr_model.specs.Rows.{Row, acted_row, call_row, caught_row, current_row_or, entered_row, executed_row, finished, handler_row, incurred_row, interrupted_row, own_taken_row, performed_row, posted_row, posted_row_or, ran_row, requested_row, returned_row, row_for, row_in, shared_taken_row, signal_row_or, taken_or, watched_row}
@@ -33,7 +33,7 @@ use Rattle.pr_model.specs.declared.lwps.Current.{Current}
 use Rattle.pr_model.specs.declared.lwps.Phase.{Phase}
 use Rattle.pr_model.specs.declared.lwps.Phase.TheVariants as phase
 use Rattle.pr_truss_laws.specs.Told.{told}
-use Rattle.std.specs.Prelude.{nat_le}
+use Rattle.std.specs.Prelude.{length, nat_le}
 use Rattle.pr_report_laws.specs.Births.{child_made}
 
 -- The turn that makes a child.
@@ -74,6 +74,7 @@ told-made p l new _ maker args v makes is = cc
 pub birth-makes : (birth : Birth) → is_fork_call (call_of birth) ≡ true
 unfolding is_fork_call
 birth-makes by_fork = refl
+birth-makes by_vfork = refl
 
 -- a row that makes a child, by a call with these arguments, and does no more
 pub record MakesOne (row : Row) : Type 0 where
@@ -158,10 +159,18 @@ module _ (s : TracedSystem) (pid : ℕ) (p : TracedProcess) (id : ℕ) (l : Trac
         (either-effect call.Fork (total_has_room s (size_of p) 0) _ _ (gives-makes by_fork)
         (fails-makes call.Fork Nomem)))
 
+    vfork-makes : EffectMakes call.Vfork (vfork_effect s p id args)
+    unfolding vfork_effect
+    vfork-makes =
+        either-effect call.Vfork ((id == agent_id) || not (length p.lwps == 1)) _ _ (fails-makes call.Vfork Notsup)
+        (either-effect call.Vfork (nat_le process_limit s.made) _ _ (fails-makes call.Vfork Again)
+        (gives-makes by_vfork))
+
   performed-makes : (woken : Bool) (c : Sysno) (args : List ℕ) (since : ℕ)
       → MakesChild (performed_row woken c args since (call_effect s pid p id l since c args))
   unfolding call_effect is_fork_call
   performed-makes woken call.Fork args since = fork-makes woken args since
+  performed-makes woken call.Vfork args since = vfork-makes woken args since
   performed-makes woken c args since = performed-none woken c args since (call_effect s pid p id l since c args) refl
 
   call-makes : (woken : Bool) (c : Sysno) (args : List ℕ) (since : ℕ)

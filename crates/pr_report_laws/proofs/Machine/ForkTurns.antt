@@ -2,6 +2,7 @@ use Rattle.std.proofs.Common.{◌≡◌, ◌≢◌, ◌==◌, ◌<◌, ◌+◌, 
 use Rattle.std.proofs.lemmas.Bool.{cases_Bool, cases_eq, false≢true, ne_eqb}
 use Rattle.std.proofs.lemmas.Option.{none-some, same_Some}
 use Rattle.std.specs.Option.{option_and_then}
+use Rattle.pr_parts.specs.FileCalls.{with_all_shared}
 use Rattle.pr_lawful.proofs.EndLemmas.{found-live}
 use Rattle.pr_lawful.proofs.UseLemmas.{new-unopened}
 use Rattle.pr_line.specs.Events.{event_of as event_shown}
@@ -18,7 +19,7 @@ use Rattle.pr_model.specs.Changes.{all_changed, changed, forks}
 use Rattle.pr_model.specs.Handles.{has_writer}
 use Rattle.pr_model.specs.Lawful.{IsLawful, IsLawfulSystem}
 use Rattle.pr_model.specs.Legal.{after}
-use Rattle.pr_model.specs.Lives.{Birth, call_of, forked, forked_lwp, with_child, with_made}
+use Rattle.pr_model.specs.Lives.{Birth, call_of, forked, forked_lwp, with_child, with_made, by_fork, by_vfork, lent_to}
 use Rattle.pr_model.specs.LwpTurns.{LwpTurn, settled, turn_of, with_counted}
 use Rattle.pr_model.specs.Machines.{birth_marks, birth_stop, child_control, no_marks, nothing_used, traced}
 use Rattle.pr_model.specs.Moves.{moved}
@@ -49,17 +50,15 @@ use Rattle.pr_report_laws.proofs.Machine.OwnTurnLaws as own
 use Rattle.pr_report_laws.proofs.Machine.OwnTurnLaws.{AfterTurn, quiet-turn, state-after}
 use Rattle.pr_report_laws.proofs.Machine.StayingLwps.{live-by}
 use Rattle.pr_report_laws.proofs.Machine.StoppedLaws.{count-cons}
-use Rattle.pr_report_laws.proofs.Machine.TracedPoints.{fit-row}
-use Rattle.pr_report_laws.specs.Births.{LeavesForks, NamesNoChild, child_made}
+use Rattle.pr_report_laws.proofs.Machine.TracedPoints.{fit-row, picks-traced}
+use Rattle.pr_report_laws.specs.Reads.{traces}
+use Rattle.pr_report_laws.specs.Births.{child_made}
+use Rattle.pr_report_laws.specs.Lineages.{IsTakenBefore}
 use Rattle.pr_reached.specs.Fits.{IsFitSystem}
 use Rattle.pr_report_laws.specs.Shown.{LwpEvent}
 use Rattle.pr_report_laws.proofs.Invariant.Positions.{HasEvent, IsTracedBy, has_met, is_met_if}
 
 -- A process that truss traces makes a child: the child stands at its birth.
-
--- what a history leaves to one controller of the children that are made in it
-abbrev pub LeavesChildren : ℕ → Options → List Entry → Type 0
-LeavesChildren k o h = LeavesForks k o h × NamesNoChild o h
 
 -- an lwp of a process stands at the exit of the call that made this child
 pub record HasForked (p : TracedProcess) (c : ℕ) : Type 0 where
@@ -185,10 +184,18 @@ module _ (s : TracedSystem) (pid : ℕ) (p : TracedProcess) (id : ℕ) (l : Trac
   changed-child : (birth : Birth) (args : List ℕ)
       → process_of (all_changed traced pid p id l (forks birth args ∷ []) s) s.made
       ≡ Some (forked traced birth pid p l args s.clock)
-  unfolding all_changed changed with_child with_made
-  changed-child birth args =
-      rw (ne_eqb s.made pid (λ same. apart (sym same)))
-      (under-inserted s.made (forked traced birth pid p l args s.clock) s.processes)
+  unfolding all_changed changed with_child with_made with_process
+  changed-child birth args = rw (ne_eqb s.made pid (λ same. apart (sym same))) (under birth)
+    where
+      shared : TracedSystem
+      shared = record s { files = with_all_shared s.files p.fds }
+
+      under : (birth : Birth)
+          → process_of (with_child traced birth pid p l args s) s.made ≡ Some (forked traced birth pid p l args s.clock)
+      under by_fork = under-inserted s.made (forked traced by_fork pid p l args s.clock) shared.processes
+      under by_vfork =
+          under-inserted s.made (forked traced by_vfork pid p l args s.clock)
+          (change_under pid (lent_to s.made) shared.processes)
 
   pub child-found : (made : MakesOne row)
       → process_of (settled s pid p id l row).system s.made ≡ Some (forked traced made.birth pid p l made.args s.clock)
@@ -228,9 +235,9 @@ module _ (o : Options) (s : TracedState) (pid id : ℕ) (p : TracedProcess) (t :
       ]
 
   own-lwp : forks_it.id ≡ id
-  own-lwp = from (quiet-turn o s pid id p t lawful.system fit live by still turn)
+  own-lwp = from (quiet-turn o (traces o) (picks-traced o) s pid id p t lawful.system fit live by still turn)
     where
-      from : {sel : List LwpEvent} → AfterTurn o pid id t.system sel → forks_it.id ≡ id
+      from : {sel : List LwpEvent} → AfterTurn o (traces o) pid id t.system sel → forks_it.id ≡ id
       from (own.goes_on r now quiet kept nothing) =
           absurd (quiet-forked q c (subst (λ (x : TracedProcess). IsQuiet x) (same_Some r q (sym now
           ∙ later)) quiet) forks_it)
@@ -274,7 +281,7 @@ module _ (o : Options) (s : TracedState) (pid id : ℕ) (p : TracedProcess) (t :
         at None none =
             absurd (false≢true (sym (ap (meets p.control) none) ∙ ap (λ (v : LwpTurn). v.turned.stop) (sym is) ∙ stops))
         at (Some pt) met =
-            let goes = fit-row o s.system pid id p l by fit live there in
+            let goes = fit-row o s.system pid id p l by (traces o) (picks-traced o) fit live there in
             ap has_ended did-is ∙ goes.not_ended pt met
 
     made-it : child_made t.turned.did ≡ Some c
@@ -322,24 +329,38 @@ module _ (o : Options) (s : TracedState) (pid id : ℕ) (p : TracedProcess) (t :
 
     -- A child that is made so is new, where the history leaves it to one controller.
     pub forked-born : (k : ℕ) (h : List Entry) → IsLawfulSystem t.system
-        → LeavesChildren k o (record { actor = Lwp pid id; act = Turn t.turned } ∷ h)
+        → (IsTakenBefore k o c (record { actor = Lwp pid id; act = Turn t.turned } ∷ h) → ⊥)
         → IsNewBorn k o (record s { system = t.system }) h c
     forked-born k h after leaves =
         let w = taken in
         let f = found w.0 w.1.0 w.1.1 in
         let one = f.0 in
         record {
-          unnamed = λ place. leaves.1.none follow [] h pid id place c t.turned refl forked-did;
           made = was-made c t.system (forked traced one.birth pid p w.0 one.args s.system.clock) after f.1;
           now = inl (record {
             alone = ap (λ n. has_writer n s.opens) forked-next ∙ new-unopened s lawful;
             born = born-new;
             left = record {
-              each =
-                  λ before between behind other lwp handle own_lwp own_handle opened_file own_file mode own_mode rest.
-                  leaves.0.each follow [] before between behind pid id t.turned other c lwp handle own_lwp own_handle
-                  opened_file own_file mode own_mode
-                  (ap (λ (es : List Entry). record { actor = Lwp pid id; act = Turn t.turned } ∷ es) rest) forked-did;
+              each = λ before between behind by lwp handle control opened_file mode rest writes other.
+                  leaves (record {
+                    before = [];
+                    parent = pid;
+                    id = id;
+                    turned = t.turned;
+                    between = before;
+                    by = by;
+                    lwp = lwp;
+                    file = opened_file;
+                    mode = mode;
+                    handle = handle;
+                    behind = between;
+                    control = control;
+                    later = behind;
+                    is = ap (λ (es : List Entry). record { actor = Lwp pid id; act = Turn t.turned } ∷ es) rest;
+                    forks = forked-did;
+                    writes = writes;
+                    other = other;
+                  });
             };
           });
         }

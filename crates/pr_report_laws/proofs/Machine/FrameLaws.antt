@@ -21,30 +21,31 @@ use Rattle.pr_truss_laws.proofs.AloneLemmas.{alone-frozen, alone-tells}
 use Rattle.pr_truss_laws.proofs.FrameLemmas.{lwp-alike}
 use Rattle.pr_truss_laws.specs.Stills.{IsUndisturbed, unsignalled, will_stop}
 use Rattle.pr_report_laws.proofs.Invariant.Positions.{HasEvent, IsAtBirth, IsTracedBy, Waits, has_met, met_in}
-use Rattle.pr_report_laws.specs.Shown.{event_selected, selected}
+use Rattle.pr_report_laws.specs.Shown.{event_picked, picked}
 
--- What the entries of others leave of how a process stands, and of what is selected.
+-- What the entries of others leave of how a process stands, and of what is picked.
 
 -- ---- the log
 
-logged-elsewhere : (o : Options) (pid : ℕ) (new : TracedState) (other id : ℕ) (event : Option MachineEvent)
-    → other ≢ pid → selected o pid (logged new other id event) ≡ []
-unfolding selected event_selected
-logged-elsewhere o pid new other id None differs = refl
-logged-elsewhere o pid new other id (Some event) differs = rw (ne_eqb other pid differs) refl
+logged-elsewhere : (picks : Event → Bool) (pid : ℕ) (new : TracedState) (other id : ℕ) (event : Option MachineEvent)
+    → other ≢ pid → picked picks pid (logged new other id event) ≡ []
+unfolding picked event_picked
+logged-elsewhere picks pid new other id None differs = refl
+logged-elsewhere picks pid new other id (Some event) differs = rw (ne_eqb other pid differs) refl
 
-no-events-in : (o : Options) (pid : ℕ) (s : TracedState) (actor : Actor) (it : Act) → ((id : ℕ) → actor ≢ Lwp pid id)
-    → selected o pid (events_of s (record { actor = actor; act = it })) ≡ []
-unfolding events_of selected
-no-events-in o pid s (Lwp other id) (act.Turn t) elsewhere =
-    logged-elsewhere o pid (after s (record { actor = Lwp other id; act = act.Turn t })) other id _
+no-events-in : (picks : Event → Bool) (pid : ℕ) (s : TracedState) (actor : Actor) (it : Act) →
+    ((id : ℕ) → actor ≢ Lwp pid id)
+    → picked picks pid (events_of s (record { actor = actor; act = it })) ≡ []
+unfolding events_of picked
+no-events-in picks pid s (Lwp other id) (act.Turn t) elsewhere =
+    logged-elsewhere picks pid (after s (record { actor = Lwp other id; act = act.Turn t })) other id _
     (λ same. elsewhere id (ap (λ m. Lwp m id) same))
-no-events-in o pid s _ _ elsewhere = refl
+no-events-in picks pid s _ _ elsewhere = refl
 
 -- what is no turn of an lwp of a process logs no event of it
-pub no-events : (o : Options) (pid : ℕ) (s : TracedState) (e : Entry) → ((id : ℕ) → e.actor ≢ Lwp pid id)
-    → selected o pid (events_of s e) ≡ []
-no-events o pid s e elsewhere = no-events-in o pid s e.actor e.act elsewhere
+pub no-events : (picks : Event → Bool) (pid : ℕ) (s : TracedState) (e : Entry) → ((id : ℕ) → e.actor ≢ Lwp pid id)
+    → picked picks pid (events_of s e) ≡ []
+no-events picks pid s e elsewhere = no-events-in picks pid s e.actor e.act elsewhere
 
 -- ---- how a process stands that was left alone
 

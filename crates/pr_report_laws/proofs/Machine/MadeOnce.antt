@@ -33,9 +33,9 @@ use Rattle.pr_report_laws.specs.Newborn.{WasForked, WasSpawned}
 -- ---- what makes a process
 
 -- The process is the next one of the state, and was made after the entry.
-record MakesProcess (pid : ℕ) (s : TracedState) (e : Entry) : Type 0 where
-  next : pid ≡ s.system.made
-  made : pid < (after s e).system.made
+pub record MakesProcess (pid : ℕ) (s : TracedState) (e : Entry) : Type 0 where
+  pub next : pid ≡ s.system.made
+  pub made : pid < (after s e).system.made
 
 -- an entry that makes the process wherever it is legal
 record IsMaker (n pid : ℕ) (e : Entry) : Type 0 where
@@ -44,7 +44,7 @@ record IsMaker (n pid : ℕ) (e : Entry) : Type 0 where
 module _ (n pid : ℕ) where
   -- ---- a fork
 
-  fork-makes : (parent id : ℕ) (turned : Turned) (s : TracedState) → child_made turned.did ≡ Some pid → IsLawful s
+  pub fork-makes : (parent id : ℕ) (turned : Turned) (s : TracedState) → child_made turned.did ≡ Some pid → IsLawful s
       → IsLegalEntry n s (turn_entry parent id turned) → MakesProcess pid s (turn_entry parent id turned)
   unfolding IsLegalEntry settled
   fork-makes parent id turned s made lawful legal =

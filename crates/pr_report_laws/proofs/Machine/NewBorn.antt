@@ -1,5 +1,5 @@
 use Rattle.std.proofs.Common.{◌≡◌, ◌≢◌, ◌==◌, ◌&&◌, ◌||◌, ◌<◌, ◌⊎◌, ℕ, true, false, None, Some, Option, List, [], ◌∷◌, ◌++◌, refl, sym, subst, ap, ◌∙◌, inl, inr}
-use Rattle.std.proofs.lemmas.Bool.{and_parts, cases_Bool, eq-eqb, eqb-true, false≢true, or_parts}
+use Rattle.std.proofs.lemmas.Bool.{and_parts, cases_Bool, cases_eq, eq-eqb, eqb-true, false≢true, or_parts}
 use Rattle.std.proofs.lemmas.Option.{none-some, same_Some}
 use Rattle.std.specs.List.{list_any, slice_get, slice_set}
 use Rattle.pr_lawful.proofs.EndLemmas.{found-live}
@@ -14,7 +14,9 @@ use Rattle.pr_model.specs.State.{Places, TracedControl, TracedProcess, TracedSta
 use Rattle.pr_model.specs.declared.calls.Call.{Call}
 use Rattle.pr_model.specs.declared.calls.Call.TheVariants as call
 use Rattle.pr_model.specs.declared.calls.File.{File}
+use Rattle.pr_model.specs.declared.calls.File.TheVariants.{Ctl}
 use Rattle.pr_model.specs.declared.calls.Mode.{Mode}
+use Rattle.pr_model.specs.declared.calls.Mode.TheVariants.{WriteExcl}
 use Rattle.pr_model.specs.declared.calls.Reply.TheVariants as reply
 use Rattle.pr_model.specs.declared.events.Act.{Act}
 use Rattle.pr_model.specs.declared.events.Act.TheVariants as act
@@ -31,37 +33,34 @@ use Rattle.pr_truss_laws.proofs.OutlastLemmas.{Outlasts, killed, lives, others-t
 use Rattle.pr_report_laws.proofs.Machine.FrameLaws.{alone-birth, alone-control}
 use Rattle.pr_truss_laws.proofs.OverLemmas.{stays-made, stays-over}
 use Rattle.pr_report_laws.specs.Births.{granted}
+use Rattle.pr_report_laws.specs.Lineages.{IsNamed}
 use Rattle.pr_report_laws.proofs.Invariant.Positions.{IsAtBirth}
 
 -- A child of a fork that nobody has open for writing stands at its birth.
 
 -- ---- what is said of it
 
--- In the rest of a history no other controller opens a process for writing, before one controller does.
-pub record IsLeftTo (k c : ℕ) (h : List Entry) : Type 0 where
-  pub each : (before between later : List Entry) (by lwp handle own_lwp own_handle : ℕ) (file own_file : File)
-      (mode own_mode : Mode)
-      → h ≡ before ++ granted by c lwp file mode handle ∷
-      (between ++ granted k c own_lwp own_file own_mode own_handle ∷ later) → is_writable mode ≡ true
-      → is_writable own_mode ≡ true → by ≡ k
+-- In the rest of a history no other controller opens a process for writing, before one controller opens its control
+-- file; nor does that controller itself, where the options name the process.
+pub record IsLeftTo (k : ℕ) (o : Options) (c : ℕ) (h : List Entry) : Type 0 where
+  pub each : (before between later : List Entry) (by lwp handle control : ℕ) (file : File) (mode : Mode)
+      → h ≡ before ++ granted by c lwp file mode handle ∷ (between ++ granted k c 0 Ctl WriteExcl control ∷ later)
+      → is_writable mode ≡ true → (by ≢ k) ⊎ IsNamed o c → ⊥
 
-left-later : (k c : ℕ) (e : Entry) (h : List Entry) → IsLeftTo k c (e ∷ h) → IsLeftTo k c h
-left-later k c e h left = record {
-  each = λ before between later by lwp handle own_lwp own_handle file own_file mode own_mode is.
-      left.each (e ∷ before) between later by lwp handle own_lwp own_handle file own_file mode own_mode
-      (ap (λ (es : List Entry). e ∷ es) is);
+left-later : (k : ℕ) (o : Options) (c : ℕ) (e : Entry) (h : List Entry) → IsLeftTo k o c (e ∷ h) → IsLeftTo k o c h
+left-later k o c e h left = record {
+  each = λ before between later by lwp handle control file mode is.
+      left.each (e ∷ before) between later by lwp handle control file mode (ap (λ (es : List Entry). e ∷ es) is);
 }
 
--- a controller never opens a process for writing in the rest of a history
+-- a controller never opens the control file of a process in the rest of a history
 pub record IsNeverGranted (k c : ℕ) (h : List Entry) : Type 0 where
-  pub none : (before later : List Entry) (lwp handle : ℕ) (file : File) (mode : Mode)
-      → h ≡ before ++ granted k c lwp file mode handle ∷ later → is_writable mode ≡ true → ⊥
+  pub none : (before later : List Entry) (control : ℕ) → h ≡ before ++ granted k c 0 Ctl WriteExcl control ∷ later → ⊥
 
 pub never-later : (k c : ℕ) (e : Entry) (h : List Entry) → IsNeverGranted k c (e ∷ h) → IsNeverGranted k c h
 never-later k c e h never =
     record {
-      none = λ before later lwp handle file mode is. never.none (e ∷ before) later lwp handle file mode
-          (ap (λ (es : List Entry). e ∷ es) is);
+      none = λ before later control is. never.none (e ∷ before) later control (ap (λ (es : List Entry). e ∷ es) is);
     }
 
 -- it stands at its birth, and its own children are to be followed too
@@ -74,21 +73,19 @@ pub record IsNew (o : Options) (p : TracedProcess) : Type 0 where
 pub record IsUntouched (k : ℕ) (o : Options) (s : TracedState) (h : List Entry) (c : ℕ) : Type 0 where
   pub alone : has_writer c s.opens ≡ false
   pub born : (p : TracedProcess) → live_process s.system c ≡ Some p → IsNew o p
-  pub left : IsLeftTo k c h
+  pub left : IsLeftTo k o c h
 
--- A process that the options do not name: it stands at its birth, or the controller never opens it.
+-- A process that was made: it stands at its birth, or the controller never opens it.
 pub record IsNewBorn (k : ℕ) (o : Options) (s : TracedState) (h : List Entry) (c : ℕ) : Type 0 where
-  pub unnamed : (place : ℕ) → slice_get o.pids place ≡ Some c → ⊥
   pub made : c < s.system.made
   pub now : IsUntouched k o s h c ⊎ IsNeverGranted k c h
 
 -- where the controller opens it now, it stands at its birth
-pub untouched-now : (k : ℕ) (o : Options) (s : TracedState) (h : List Entry) (c lwp handle : ℕ) (file : File)
-    (mode : Mode) (e : Entry) → e ≡ granted k c lwp file mode handle → is_writable mode ≡ true
-    → IsNewBorn k o s (e ∷ h) c → IsUntouched k o s (e ∷ h) c
-untouched-now k o s h c lwp handle file mode e is writes new = elim new.now [
+pub untouched-now : (k : ℕ) (o : Options) (s : TracedState) (h : List Entry) (c control : ℕ) (e : Entry)
+    → e ≡ granted k c 0 Ctl WriteExcl control → IsNewBorn k o s (e ∷ h) c → IsUntouched k o s (e ∷ h) c
+untouched-now k o s h c control e is new = elim new.now [
   | inl untouched ↦ untouched
-  | inr never ↦ absurd (never.none [] h lwp handle file mode (ap (λ x. x ∷ h) is) writes)
+  | inr never ↦ absurd (never.none [] h control (ap (λ x. x ∷ h) is))
 ]
 
 -- ---- nobody has it open for writing
@@ -228,35 +225,40 @@ module _ (n k : ℕ) (o : Options) (s : TracedState) (h : List Entry) (c : ℕ) 
             (alone-outlasts c s lawful p is new.alone n e.actor e.act legal
             (own-actor e.actor e.act p is was legal))
 
-    -- An entry leaves it so, or another controller opens it, and that controller never does.
+    -- An entry leaves it so, or somebody opens it, and the controller never does afterwards.
     untouched-on :
         ((lwp handle : ℕ) (file : File)
         (mode : Mode) → e ≡ granted k c lwp file mode handle → is_writable mode ≡ true
-        → ⊥) → IsUntouched k o (after s e) h c ⊎ IsNeverGranted k c h
-    untouched-on not_own = elim (cases_Bool (has_writer c (after s e).opens)) [
-      | inr none ↦ inl (record { alone = none; born = new-on; left = left-later k c e h new.left })
+        → IsNamed o c) → IsUntouched k o (after s e) h c ⊎ IsNeverGranted k c h
+    untouched-on own = elim (cases_Bool (has_writer c (after s e).opens)) [
+      | inr none ↦ inl (record { alone = none; born = new-on; left = left-later k o c e h new.left })
       | inl taken ↦ inr (record {
-        none = λ between later own_lwp own_handle own_file own_mode rest own_writes.
+        none = λ between later control rest.
             false≢true
             (sym (entry-alone e.actor e.act legal new.alone (λ by lwp handle file mode is writes.
-            let mine : by ≡ k =
-            new.left.each [] between later by lwp handle own_lwp own_handle file own_file mode own_mode
-            (ap (λ x. x ∷ h) is
-            ∙ ap (λ (es : List Entry). granted by c lwp file mode handle ∷ es) rest) writes own_writes in
-            not_own lwp handle file mode (is ∙ ap (λ b. granted b c lwp file mode handle) mine) writes)) ∙ taken);
+            new.left.each [] between later by lwp handle control file mode
+            (ap (λ x. x ∷ h) is ∙ ap (λ (es : List Entry). granted by c lwp file mode handle ∷ es) rest) writes
+            (who by lwp handle file mode is writes))) ∙ taken);
       })
     ]
+      where
+        who : (by lwp handle : ℕ) (file : File) (mode : Mode) → e ≡ granted by c lwp file mode handle
+            → is_writable mode ≡ true → (by ≢ k) ⊎ IsNamed o c
+        who by lwp handle file mode is writes = elim (cases_eq by k) [
+          | inl same ↦ inr
+              (own lwp handle file mode (is ∙ ap (λ b. granted b c lwp file mode handle) same) writes)
+          | inr other ↦ inl other
+        ]
 
-  -- An entry leaves a process so, but for an open of that controller.
+  -- An entry leaves a process so, where the controller opens it for writing only if the options name it.
   pub new-born-on : (e : Entry) → IsLawful s → IsLegalEntry n s e → IsNewBorn k o s (e ∷ h) c
       → ((lwp handle : ℕ) (file : File)
       (mode : Mode) → e ≡ granted k c lwp file mode handle → is_writable mode ≡ true
-      → ⊥) → IsNewBorn k o (after s e) h c
-  new-born-on e lawful legal new not_own = record {
-    unnamed = new.unnamed;
+      → IsNamed o c) → IsNewBorn k o (after s e) h c
+  new-born-on e lawful legal new own = record {
     made = stays-made n s e c lawful legal new.made;
     now = elim new.now [
-      | inl untouched ↦ untouched-on e lawful legal new.made untouched not_own
+      | inl untouched ↦ untouched-on e lawful legal new.made untouched own
       | inr never ↦ inr (never-later k c e h never)
     ];
   }

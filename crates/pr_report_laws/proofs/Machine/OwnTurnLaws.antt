@@ -4,7 +4,6 @@ use Rattle.std.proofs.lemmas.Bool.{false≢true, cases_Bool, eqb-true, eqb-false
 use Rattle.std.proofs.lemmas.Option.{same_Some}
 use Rattle.std.specs.Option.{option_and_then}
 use Rattle.pr_line.specs.Events.{event_of as event_shown}
-use Rattle.pr_line.specs.Selections.{is_selected}
 use Rattle.pr_line.specs.declared.events.Event.{Event}
 use Rattle.pr_line.specs.declared.events.Event.TheVariants.{Entered, Left, Received, Incurred}
 use Rattle.pr_line.specs.declared.options.Options.{Options}
@@ -40,12 +39,12 @@ use Rattle.pr_truss_laws.proofs.StillLemmas.{halting-did, halting-leaves, haltin
 use Rattle.pr_truss_laws.specs.Stills.{HasSameSettings, IsHalting, IsQuiet, stopped_lwp, will_stop, with_lwp_stopped}
 use Rattle.pr_truss_laws.specs.Told.{has_ended, told}
 use Rattle.pr_report_laws.proofs.Machine.StayingLwps.{changed-ids, keeps-meeting, live-by, row-leaves, settled-to, suits-row, turn-no-agent}
-use Rattle.pr_report_laws.proofs.Machine.TracedPoints.{fit-row, listed, lwp-found, picked, selected-is-traced, turn-selects}
+use Rattle.pr_report_laws.proofs.Machine.TracedPoints.{PicksTraced, fit-row, listed, lwp-found, picked-is-traced, told_of, turn-picks}
 use Rattle.pr_reached.specs.Fits.{IsFitSystem}
 use Rattle.pr_report_laws.proofs.Invariant.Positions.{HasEvent, IsHeld, IsTracedBy, is_met_if}
-use Rattle.pr_report_laws.specs.Shown.{LwpEvent, if_selected, selected}
+use Rattle.pr_report_laws.specs.Shown.{LwpEvent, if_picked, picked}
 
--- What a turn of one of its own lwps makes of a process that truss traces, and what the options select of it.
+-- What a turn of one of its own lwps makes of a process that truss traces, and what is picked of its events.
 
 -- ---- what truss has set stays
 
@@ -153,19 +152,20 @@ module _ (id : ℕ) where
 
 -- ---- a turn of a quiet process
 
--- what is left after a turn of an own lwp of a quiet process, and what was selected of the turn
-pub data AfterTurn (o : Options) (pid id : ℕ) (s : TracedSystem) (sel : List LwpEvent) : Type 0 where
+-- what is left after a turn of an own lwp of a quiet process, and what was picked of the turn
+pub data AfterTurn (o : Options) (picks : Event → Bool) (pid id : ℕ) (s : TracedSystem)
+    (sel : List LwpEvent) : Type 0 where
   goes_on : (q : TracedProcess) → live_process s pid ≡ Some q → IsQuiet q → IsTracedBy o q → sel ≡ []
-      → AfterTurn o pid id s sel
+      → AfterTurn o picks pid id s sel
   halts : (q : TracedProcess) (ev : Event) → live_process s pid ≡ Some q → HasEvent q id ev → IsTracedBy o q
-      → sel ≡ (if is_selected o ev then record { id = id; event = ev } ∷ [] else []) → AfterTurn o pid id s sel
-  over : live_process s pid ≡ None → sel ≡ [] → AfterTurn o pid id s sel
+      → sel ≡ (if picks ev then record { id = id; event = ev } ∷ [] else []) → AfterTurn o picks pid id s sel
+  over : live_process s pid ≡ None → sel ≡ [] → AfterTurn o picks pid id s sel
 
 -- an event that is told, as it is listed
-told-listed : (o : Options) (id : ℕ) (ev : Event)
-    → listed id (if_selected o ev) ≡ cond (is_selected o ev) (record { id = id; event = ev } ∷ []) []
-told-listed o id ev =
-    elim (is_selected o ev) as
+told-listed : (picks : Event → Bool) (id : ℕ) (ev : Event)
+    → listed id (if_picked picks ev) ≡ cond (picks ev) (record { id = id; event = ev } ∷ []) []
+told-listed picks id ev =
+    elim (picks ev) as
     (λ b. listed id (cond b (Some ev) None) ≡ cond b
     (record { id = id; event = ev } ∷ []) []) [ true ↦ refl | false ↦ refl ]
 
@@ -185,24 +185,25 @@ state-after s pid id t turn = ap (after_turn s) turn
 
 module _ (o : Options) (s : TracedState) (pid id : ℕ) (p : TracedProcess) (t : LwpTurn) (h : IsLawfulSystem s.system)
     (fit : IsFitSystem s.system) (live : live_process s.system pid ≡ Some p) (traced_by : IsTracedBy o p)
-    (still : IsQuiet p) (turn : turn_of s.system pid id ≡ Some t) where
+    (still : IsQuiet p) (turn : turn_of s.system pid id ≡ Some t) (picks : Event → Bool)
+    (within : PicksTraced o picks) where
   left-traced : (q : TracedProcess) → live_process t.system pid ≡ Some q → IsTracedBy o q
   left-traced q at =
       traced-on o p q (quiet-settings s.system pid p id t h live still traced_by.directs turn q at)
       (turn-no-agent s.system pid p id t h live turn traced_by.no_agent q at) traced_by
 
   -- nothing traced was met
-  unmet : t.turned.stop ≡ false → AfterTurn o pid id t.system (selected o pid (events_of s (record {
+  unmet : t.turned.stop ≡ false → AfterTurn o picks pid id t.system (picked picks pid (events_of s (record {
     actor = Lwp pid id;
     act = Turn t.turned;
   })))
   unmet stop = by (live_process t.system pid) refl
     where
-      nothing : selected o pid (events_of s (record { actor = Lwp pid id; act = Turn t.turned })) ≡ []
-      nothing = selected-is-traced o s pid id p t fit live traced_by turn stop
+      nothing : picked picks pid (events_of s (record { actor = Lwp pid id; act = Turn t.turned })) ≡ []
+      nothing = picked-is-traced o picks within s pid id p t fit live traced_by turn stop
 
       by : (q : Option TracedProcess) → live_process t.system pid ≡ q
-          → AfterTurn o pid id t.system (selected o pid (events_of s (record {
+          → AfterTurn o picks pid id t.system (picked picks pid (events_of s (record {
             actor = Lwp pid id;
             act = Turn t.turned;
           })))
@@ -221,7 +222,7 @@ module _ (o : Options) (s : TracedState) (pid id : ℕ) (p : TracedProcess) (t :
 
     row-lives : (row.transition.ending ≡ None) × (has_ended row.did ≡ false)
     row-lives =
-        let goes = fit-row o s.system pid id p l traced_by fit live there in
+        let goes = fit-row o s.system pid id p l traced_by picks within fit live there in
         (goes.ends_nothing pt met, goes.not_ended pt met)
 
     turn-lives : has_ended t.turned.did ≡ false
@@ -258,7 +259,7 @@ module _ (o : Options) (s : TracedState) (pid id : ℕ) (p : TracedProcess) (t :
         ∙ was.1)) (meeting-others id row.point x.0 (carried-others id p x.0 g still)) (lwp_of q id) refl
         (meeting.own (kept.own (ap (λ (k : Option TracedLwp). is_some k) there)))
 
-    met-event : AfterTurn o pid id t.system (selected o pid (events_of s (record {
+    met-event : AfterTurn o picks pid id t.system (picked picks pid (events_of s (record {
       actor = Lwp pid id;
       act = Turn t.turned;
     })))
@@ -285,26 +286,27 @@ module _ (o : Options) (s : TracedState) (pid id : ℕ) (p : TracedProcess) (t :
               };
         })
         (left-traced q st.live)
-        (turn-selects o s pid id p l live there t.turned
+        (turn-picks picks s pid id p l live there t.turned
         ∙ ap (λ (v : TracedState). listed id
-        (picked o (event_of p l (lwp_alone (lwp_in_state v pid id)) t.turned.did))) (state-after s pid id t turn)
-        ∙ ap (λ f. listed id (picked o (event_of p l (lwp_alone f) t.turned.did)))
+        (told_of picks (event_of p l (lwp_alone (lwp_in_state v pid id)) t.turned.did))) (state-after s pid id t turn)
+        ∙ ap (λ f. listed id (told_of picks (event_of p l (lwp_alone f) t.turned.did)))
         (lwp-found (record s { system = t.system }) pid id q k st.live st.there)
-        ∙ ap (λ a. listed id (picked o a)) tells.logged
-        ∙ ap (λ a. listed id (option_and_then (if_selected o) a)) ev.1
-        ∙ told-listed o id ev.0)
+        ∙ ap (λ a. listed id (told_of picks a)) tells.logged
+        ∙ ap (λ a. listed id (option_and_then (if_picked picks) a)) ev.1
+        ∙ told-listed picks id ev.0)
 
 -- After a turn of an own lwp a quiet process is quiet, or stands on the event that the turn logged, or has ended.
-pub quiet-turn : (o : Options) (s : TracedState) (pid id : ℕ) (p : TracedProcess) (t : LwpTurn)
+pub quiet-turn : (o : Options) (picks : Event → Bool) → PicksTraced o picks → (s : TracedState) (pid id : ℕ)
+    (p : TracedProcess) (t : LwpTurn)
     → IsLawfulSystem s.system → IsFitSystem s.system → live_process s.system pid ≡ Some p → IsTracedBy o p → IsQuiet p
-    → turn_of s.system pid id ≡ Some t → AfterTurn o pid id t.system (selected o pid (events_of s (record {
+    → turn_of s.system pid id ≡ Some t → AfterTurn o picks pid id t.system (picked picks pid (events_of s (record {
       actor = Lwp pid id;
       act = Turn t.turned;
     })))
 unfolding settled
-quiet-turn o s pid id p t h fit live traced_by still turn =
+quiet-turn o picks within s pid id p t h fit live traced_by still turn =
     elim (cases_Bool t.turned.stop) [
-      | inr off ↦ unmet o s pid id p t h fit live traced_by still turn off
+      | inr off ↦ unmet o s pid id p t h fit live traced_by still turn picks within off
       | inl on ↦ by
           (row_for s.system pid p id it.lwp).point refl on
     ]
@@ -322,13 +324,13 @@ quiet-turn o s pid id p t h fit live traced_by still turn =
     is = it.is ∙ ap (λ (y : TracedProcess). settled s.system pid y id it.lwp (row_for s.system pid y id it.lwp)) same
 
     by : (point : Option Point) → (row_for s.system pid p id it.lwp).point ≡ point → t.turned.stop ≡ true
-        → AfterTurn o pid id t.system (selected o pid (events_of s (record {
+        → AfterTurn o picks pid id t.system (picked picks pid (events_of s (record {
           actor = Lwp pid id;
           act = Turn t.turned;
         })))
     by None at on =
         absurd (false≢true (sym (ap (meets p.control) at) ∙ ap (λ (v : LwpTurn). v.turned.stop) (sym is) ∙ on))
-    by (Some pt) at on = met-event o s pid id p t h fit live traced_by still turn it.lwp there is pt at on
+    by (Some pt) at on = met-event o s pid id p t h fit live traced_by still turn picks within it.lwp there is pt at on
 
 -- ---- a turn of a process each lwp of which stands still or will stop
 
@@ -359,20 +361,20 @@ halting-turn s pid id p t live halting turn = record {
   agent = stopped-agent id p;
 }
 
--- Nothing is selected of it.
-pub halting-selects : (o : Options) (s : TracedState) (pid id : ℕ) (p : TracedProcess) (t : LwpTurn)
+-- Nothing is picked of it.
+pub halting-picks : (picks : Event → Bool) (s : TracedState) (pid id : ℕ) (p : TracedProcess) (t : LwpTurn)
     → live_process s.system pid ≡ Some p → IsHalting p → turn_of s.system pid id ≡ Some t
-    → selected o pid (events_of s (record { actor = Lwp pid id; act = Turn t.turned })) ≡ []
+    → picked picks pid (events_of s (record { actor = Lwp pid id; act = Turn t.turned })) ≡ []
 unfolding event_of
-halting-selects o s pid id p t live halting turn =
+halting-picks picks s pid id p t live halting turn =
     let it = turn-taken s.system pid id t turn in
     let there : lwp_of p id ≡ Some it.lwp =
     subst (λ (y : TracedProcess). lwp_of y id ≡ Some it.lwp) (same_Some it.process p (sym it.live
     ∙ live)) it.there in
     let new : Option TracedLwp =
     lwp_alone (lwp_in_state (after s (record { actor = Lwp pid id; act = Turn t.turned })) pid id) in
-    turn-selects o s pid id p it.lwp live there t.turned
-    ∙ ap (λ (d : Turned). listed id (picked o (event_of p it.lwp new d.did)))
+    turn-picks picks s pid id p it.lwp live there t.turned
+    ∙ ap (λ (d : Turned). listed id (told_of picks (event_of p it.lwp new d.did)))
     (halting-did s.system pid p live halting id t turn)
 
 -- ---- a turn of a process with an unread event
@@ -476,9 +478,10 @@ event-turn o s pid id other p ev t live event traced_by turn =
           ∙ traced_by.no_agent) traced_by;
     }
 
--- Nothing is selected of it.
-pub event-selects : (o : Options) (s : TracedState) (pid id other : ℕ) (p : TracedProcess) (ev : Event) (t : LwpTurn)
+-- Nothing is picked of it.
+pub event-picks : (picks : Event → Bool) (s : TracedState) (pid id other : ℕ) (p : TracedProcess) (ev : Event)
+    (t : LwpTurn)
     → live_process s.system pid ≡ Some p → HasEvent p id ev → turn_of s.system pid other ≡ Some t
-    → selected o pid (events_of s (record { actor = Lwp pid other; act = Turn t.turned })) ≡ []
-event-selects o s pid id other p ev t live event turn =
-    halting-selects o s pid other p t live (event-halts p id ev event) turn
+    → picked picks pid (events_of s (record { actor = Lwp pid other; act = Turn t.turned })) ≡ []
+event-picks picks s pid id other p ev t live event turn =
+    halting-picks picks s pid other p t live (event-halts p id ev event) turn

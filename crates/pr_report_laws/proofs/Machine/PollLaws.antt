@@ -23,7 +23,7 @@ use Rattle.pr_model.specs.Calls.{Answer, answer_to, close_answer, close_held, co
 use Rattle.pr_model.specs.Changes.{with_space}
 use Rattle.pr_model.specs.ControlMessages.{aim_of, control_answer, control_handle, decoded_answer, held_answer, system_refusal, tail_of, target_of, targeted_answer}
 use Rattle.pr_model.specs.Handles.{handle_of, is_control, open_refusal}
-use Rattle.pr_model.specs.Messages.{Aim, Controlled, agent_answer, aimed_lwp, at_lwp, at_process, found_at, kill_answer as kill_message, kill_by, killed, mapped_bytes, message_answer, on_found, on_stopped_found, read_answer, read_of, refused as message_refused, run_answer, run_found, ssig_answer, unkill_answer, target_of_aim, unkill_by, watch_answer, with_agent, with_areas, with_control, with_signal_set, write_answer}
+use Rattle.pr_model.specs.Messages.{Aim, Controlled, agent_answer, aimed_lwp, at_lwp, at_process, found_at, kill_answer as kill_message, kill_by, killed, mapped_bytes, message_answer, on_found, on_stopped_found, read_answer, read_of, refused as message_refused, run_answer, run_found, ssig_answer, unkill_answer, target_of_aim, unkill_by, watch_answer, with_agent, with_areas, with_control, with_signal_set, write_answer, unless_lent}
 use Rattle.pr_model.specs.Lives.{with_this_ended}
 use Rattle.pr_model.specs.Machines.{traced}
 use Rattle.pr_model.specs.ProcessCalls.{program_named}
@@ -275,6 +275,9 @@ module _ (s : TracedSystem) (pid : ℕ) (p : TracedProcess) where
       either _ _ _ (calm (with_process pid (with_space (with_bytes at bytes p.space)) s) (reply.Used len) refl)
       (calm s (reply.Fail Io) refl)
 
+  lent-calm : (answer : Controlled) → IsCalm answer → IsCalm (unless_lent s pid p answer)
+  lent-calm answer it = either _ _ _ (calm s (reply.Fail Busy) refl) it
+
   message-calm : (aim : Aim) (m : Message) (tail : List ℕ) (len : ℕ) → IsCalm (message_answer s pid p aim m tail len)
   unfolding message_answer kill_message unkill_answer
   message-calm aim message.Stop tail len = calm _ (reply.Half 0) refl
@@ -296,10 +299,10 @@ module _ (s : TracedSystem) (pid : ℕ) (p : TracedProcess) where
   message-calm aim (message.Unset modes) tail len = calm _ (reply.Used len) refl
   message-calm aim (message.Sreg regs) tail len = stopped-calm len _ (aimed_lwp s pid p aim)
   message-calm aim (message.Svaddr pc) tail len = stopped-calm len _ (aimed_lwp s pid p aim)
-  message-calm aim (message.Watch at size flags) tail len = watch-calm at size flags len
-  message-calm aim (message.Agent regs) tail len = agent-calm regs len
+  message-calm aim (message.Watch at size flags) tail len = lent-calm _ (watch-calm at size flags len)
+  message-calm aim (message.Agent regs) tail len = lent-calm _ (agent-calm regs len)
   message-calm aim (message.Read at size) tail len = memory-calm at size
-  message-calm aim (message.Write at size) tail len = write-calm at tail len
+  message-calm aim (message.Write at size) tail len = lent-calm _ (write-calm at tail len)
 
 module _ (s : TracedSystem) where
   system-calm : (m : Message) → IsCalm (message_refused s (system_refusal m))

@@ -2,6 +2,8 @@ use Rattle.std.proofs.Common.{◌≡◌, ◌≢◌, ◌==◌, ◌&&◌, ℕ, Boo
 use Rattle.std.proofs.lemmas.Bool.{false≢true, cases_Bool, eqb-true, eqb-false, eq-eqb}
 use Rattle.std.proofs.lemmas.Option.{same_Some}
 use Rattle.std.specs.Option.{option_and_then, option_map}
+use Rattle.pr_parts.specs.FileCalls.{with_all_shared}
+use Rattle.pr_keeps.proofs.LoanLemmas.{loans_passed-keep, process_if-keeps}
 use Rattle.pr_num.proofs.ByIdLaws.{under-change_under, under-change_under_other, under-inserted, under-inserted_other, under-map_each, under-without_id_other}
 use Rattle.pr_num.specs.Agents.{agent_id}
 use Rattle.pr_num.specs.ById.{change_under, inserted, map_each, under}
@@ -23,14 +25,14 @@ use Rattle.pr_model.proofs.TurnLemmas.{turn-taken}
 use Rattle.pr_model.specs.Changes.{Change, changed, files_are, space_is, signals, signals_itself, takes_shared, job_stops, disposition_is, held_is, resumes, forks, reaps, becomes, makes_lwp, suspends, all_changed, ended, Ending, ends_process, ends_lwp, resumed, with_disposition_of, with_fds, with_held, with_job_stop, with_shared_taken, with_space, with_suspended}
 use Rattle.pr_model.specs.Generation.{ends_job_stop, lwp_with_pending, lwp_without_pending, signalled, with_deletions, with_pending, without_job_stop, without_pending}
 use Rattle.pr_model.specs.Lawful.{IsLawfulSystem}
-use Rattle.pr_model.specs.Lives.{Birth, bare_process, ended_if_live, forked, new_lwp, orphaned, started, with_child, with_ended, with_lwp_ended, with_made, with_new_lwp, with_parent_signalled, with_program, with_reaped, with_this_ended, without_lwp, zombie}
+use Rattle.pr_model.specs.Lives.{Birth, bare_process, ended_if_live, forked, new_lwp, orphaned, started, with_child, with_ended, with_lwp_ended, with_made, with_new_lwp, with_parent_signalled, with_program, with_reaped, with_this_ended, without_lwp, zombie, by_fork, by_vfork, is_id, lent_to, with_lender_of, with_loan_back, with_loans_passed}
 use Rattle.pr_model.specs.LwpTurns.{LwpTurn, settled, turn_of, with_counted}
 use Rattle.pr_model.specs.Machines.{no_marks, traced}
 use Rattle.pr_model.specs.Moves.{moved}
 use Rattle.pr_model.specs.Points.{after_meeting, is_traced, stopped_at, with_others_directed, with_stop_at}
 use Rattle.pr_model.specs.Rows.{Row, row_for}
 use Rattle.pr_model.specs.Signals.{generated, is_kill}
-use Rattle.pr_model.specs.State.{TracedLwp, TracedProcess, TracedSystem, has_agent, if_live, live_process, lwp_of, process_of, with_lwp, with_lwp_of, with_process}
+use Rattle.pr_model.specs.State.{TracedLwp, TracedProcess, TracedSystem, has_agent, if_live, live_process, lwp_of, process_of, with_lwp, with_lwp_of, with_process, with_process_if}
 use Rattle.pr_model.specs.Stops.{directed, with_all_directed}
 use Rattle.pr_model.specs.Transitions.{after_transition, ended_if}
 use Rattle.pr_model.specs.declared.stops.Point.{Point}
@@ -124,6 +126,19 @@ module _ (id : ℕ) where
   unfolding orphaned
   keeps-orphaned gone p =
       keeps-if (p.parent == gone) p (record p { parent = 0 }) p (keeps-ids p _ refl (λ n. refl)) (keeps-self p)
+
+  -- memory that was lent: it is given back, and another lends it
+  keeps-loan_back : (gone : ℕ) (g p : TracedProcess) → KeepsOwn id p (with_loan_back gone g p)
+  unfolding with_loan_back
+  keeps-loan_back gone g p =
+      keeps-if (is_id gone p.borrower) p (record p { space = g.space; borrower = g.borrower }) p
+      (keeps-ids p _ refl (λ n. refl)) (keeps-self p)
+
+  keeps-lender_of : (gone : ℕ) (g p : TracedProcess) → KeepsOwn id p (with_lender_of gone g p)
+  unfolding with_lender_of
+  keeps-lender_of gone g p =
+      keeps-if (is_id gone p.lender) p (record p { lender = g.lender }) p (keeps-ids p _ refl (λ n. refl))
+      (keeps-self p)
 
   -- an lwp more, under an id that is not the agent's
   keeps-new : (fresh held : ℕ) (regs : List ℕ) (p : TracedProcess) → fresh ≢ agent_id
@@ -234,6 +249,25 @@ module _ (pid id : ℕ) where
       (any-stays parent (signalled None Cld (of_child gone status)) s
       (keeps-signalled id None Cld (of_child gone status)))
 
+  -- memory that was lent
+  back-stays : (gone : ℕ) (g : TracedProcess) (s : TracedSystem) (other : ℕ) (t : TracedSystem) → Stays s t
+      → Stays s (with_process other (with_loan_back gone g) t)
+  back-stays gone g s other t it =
+      stays-next s t _ it (any-stays other (with_loan_back gone g) t (keeps-loan_back id gone g))
+
+  passed-stays : (gone : ℕ) (g : TracedProcess) (s : TracedSystem) → Stays s (with_loans_passed gone g s)
+  passed-stays gone g s =
+      loans_passed-keep (Stays s) gone g (back-stays gone g s)
+      (λ other t it. stays-next s t _ it (any-stays other (with_lender_of gone g) t (keeps-lender_of id gone g))) s
+      (stays-same s)
+
+  -- what is left of a process is passed on, and its parent is told
+  leaving-stays : (gone : ℕ) (g : TracedProcess) (status : ℕ) (s : TracedSystem)
+      → Stays s (with_parent_signalled g.parent gone status (with_loans_passed gone g s))
+  leaving-stays gone g status s =
+      stays-next s (with_loans_passed gone g s) _ (passed-stays gone g s)
+      (parent-stays g.parent gone status (with_loans_passed gone g s))
+
   -- another process ends
   abbrev buried : ℕ → TracedProcess → ℕ → TracedSystem → TracedSystem
   buried gone x status s =
@@ -260,7 +294,7 @@ module _ (pid id : ℕ) where
           ),
         );
       })
-      (parent-stays x.parent gone status (buried gone x status s))
+      (leaving-stays gone x status (buried gone x status s))
 
   generated-stays : (target : ℕ) (own : Option ℕ) (g : Sig) (info : Info) (s : TracedSystem)
       → (is_kill g && (target == pid)) ≡ false → Stays s (generated traced target own g info s)
@@ -290,13 +324,31 @@ module _ (pid id : ℕ) where
         choice (Stays s) (is_kill g) s _ (λ own. stays-same s)
         (λ spared. generated-stays pid (Some id) g info s (ap (λ b. b && (pid == pid)) spared))
 
+    grown-stays : (child : TracedProcess) (s t : TracedSystem) → t.made ≢ pid → Stays s t → Stays s (with_made child t)
+    unfolding with_made
+    grown-stays child s t apart it =
+        stays-next s t _ it (stays-there t _ (under-inserted_other t.made pid child apart t.processes))
+
+    made-stays : (birth : Birth) (args : List ℕ) (s : TracedSystem) → s.made ≢ pid
+        → Stays s (with_child traced birth pid p l args s)
+    unfolding with_child with_process lent_to
+    made-stays by_fork args s apart =
+        let shared : TracedSystem = record s { files = with_all_shared s.files p.fds } in
+        grown-stays (forked traced by_fork pid p l args s.clock) s shared apart (stays-there s shared refl)
+    made-stays by_vfork args s apart =
+        let shared : TracedSystem = record s { files = with_all_shared s.files p.fds } in
+        grown-stays (forked traced by_vfork pid p l args s.clock) s (with_process pid (lent_to s.made) shared) apart
+        (stays-next s shared _ (stays-there s shared refl)
+        (own-stays (lent_to s.made) shared (λ x at. lent-keeps s.made x)))
+      where
+        lent-keeps : (child : ℕ) (x : TracedProcess) → KeepsOwn id x (lent_to child x)
+        lent-keeps child x = keeps-ids id x (lent_to child x) refl (λ n. refl)
+
     child-stays : (birth : Birth) (args : List ℕ) (s : TracedSystem)
         → Stays s (cond (s.made == pid) s (with_child traced birth pid p l args s))
-    unfolding with_child with_made
     child-stays birth args s =
-        let child : TracedProcess = forked traced birth pid p l args s.clock in
         choice (Stays s) (s.made == pid) s _ (λ own. stays-same s)
-        (λ apart. stays-there s _ (under-inserted_other s.made pid child (eqb-false s.made pid apart) s.processes))
+        (λ apart. made-stays birth args s (eqb-false s.made pid apart))
 
     reaped-stays : (child : ℕ) (s : TracedSystem) → Stays s (cond (child == pid) s (with_reaped child s))
     unfolding with_reaped
@@ -304,13 +356,14 @@ module _ (pid id : ℕ) where
         choice (Stays s) (child == pid) s _ (λ own. stays-same s)
         (λ apart. stays-there s _ (under-without_id_other child pid (eqb-false child pid apart) s.processes))
 
-    program-stays : (program : Program) (s : TracedSystem) → SuitsProgram s pid id l program
-        → Stays s (with_process pid (with_program traced id l program) s)
+    program-stays : (program : Program) (s : TracedSystem) → SuitsProgram s pid p id l program
+        → Stays s
+        (with_process_if p.lender (with_loan_back pid p) (with_process pid (with_program traced id l program) s))
     program-stays program s suits =
-        own-stays (with_program traced id l program) s
+        process_if-keeps (Stays s) p.lender (with_loan_back pid p) (back-stays pid p s) _
+        (own-stays (with_program traced id l program) s
         (λ x there. keeps-program id l program x
-        (subst (λ (y : TracedProcess). lwp_of y id ≡ Some l) (same_Some suits.process x (sym suits.found
-        ∙ there)) suits.there))
+        (subst (λ (y : TracedProcess). lwp_of y id ≡ Some l) (same_Some p x (sym suits.found ∙ there)) suits.there)))
 
     new-stays : (fresh held : ℕ) (regs : List ℕ) (s : TracedSystem) → SuitsLwp s pid fresh held
         → Stays s (with_process pid (with_new_lwp traced fresh regs held) s)
@@ -395,7 +448,7 @@ module _ (pid id : ℕ) where
           under-map_each pid (orphaned pid) (change_under pid (zombie traced status) s.processes)
           ∙ ap (option_map (orphaned pid)) (under-change_under pid (zombie traced status) s.processes
           ∙ ap (option_map (zombie traced status)) found) in
-          let gone = parent-stays p.parent pid status (buried pid p status s) in
+          let gone = leaving-stays pid p status (buried pid p status s) in
           let it = gone.to (orphaned pid z) first in
           let kept = it.1.1 in
           let orphan = keeps-orphaned id pid z in

@@ -1,21 +1,19 @@
-use Rattle.std.proofs.Common.{◌≡◌, ◌≢◌, ◌==◌, ◌&&◌, ◌<◌, ◌≤◌, ◌-◌, ◌^◌, lit≤, ℕ, Bool, true, false, cond, not, is_some, None, Some, Option, List, [], ◌∷◌, Result, Ok, Err, refl, sym, subst, ap, ◌∙◌, arith, inl, inr}
-use Rattle.std.proofs.Math.Bool.{and_comm}
-use Rattle.std.proofs.lemmas.Bool.{false≢true, cases_Bool, eqb-true, eq-eqb, ne_eqb, and_parts}
+use Rattle.std.proofs.Common.{◌≡◌, ◌==◌, ◌&&◌, ◌≤◌, ◌-◌, ◌^◌, ℕ, Bool, true, false, cond, not, is_some, None, Some, Option, List, [], ◌∷◌, Result, Ok, Err, refl, sym, subst, ap, ◌∙◌, arith, inl, inr}
+use Rattle.std.proofs.lemmas.Bool.{false≢true, cases_Bool, eqb-true, eq-eqb, and_parts}
 use Rattle.std.proofs.lemmas.Option.{same_Some, none-some}
 use Rattle.std.specs.List.{cons_option}
 use Rattle.std.specs.Option.{option_and_then, option_map}
-use Rattle.pr_line.specs.Selections.{has_line, is_birth, is_chosen, is_selected, never_returns}
 use Rattle.pr_line.specs.declared.events.Event.{Event}
 use Rattle.pr_line.specs.declared.events.Event.TheVariants.{Entered, Left, Received, Incurred}
 use Rattle.pr_line.specs.declared.options.Options.{Options}
 use Rattle.pr_num.proofs.ByIdLaws.{All-under}
 use Rattle.pr_num.proofs.EntryLemmas.{fault_numbers-range, fault_of_number-number}
 use Rattle.pr_num.proofs.NumberedLemmas.{has_number-least_signal, signal_number-range}
-use Rattle.pr_num.proofs.SetLemmas.{has_number-common, has_number-minus, has_number-without}
+use Rattle.pr_num.proofs.SetLemmas.{has_number-common, has_number-without}
 use Rattle.pr_num.specs.Faults.{fault_number}
-use Rattle.pr_num.specs.Sets.{common_word, has_number, minus_word, union_word, with_number}
+use Rattle.pr_num.specs.Sets.{common_word, has_number, minus_word}
 use Rattle.pr_num.specs.Signals.{least_signal, signal_number}
-use Rattle.pr_num.specs.Syscalls.{is_fork_call, syscall_number}
+use Rattle.pr_num.specs.Syscalls.{syscall_number}
 use Rattle.pr_num.specs.declared.errnos.Errno.{Errno}
 use Rattle.pr_num.specs.declared.errnos.Errno.TheVariants.{Intr}
 use Rattle.pr_num.specs.declared.faults.Flt.{Flt}
@@ -24,7 +22,6 @@ use Rattle.pr_num.specs.declared.infos.Info.{Info}
 use Rattle.pr_num.specs.declared.signals.Sig.{Sig}
 use Rattle.pr_num.specs.declared.signals.Sig.TheVariants.{Kill}
 use Rattle.pr_num.specs.declared.syscalls.Sysno.{Sysno}
-use Rattle.pr_num.specs.declared.syscalls.Sysno.TheVariants as call
 use Rattle.pr_parts.specs.PendingSignals.{Pending, pending_set}
 use Rattle.pr_rec.specs.declared.lwps.Disposition.{Disposition}
 use Rattle.pr_lawful.proofs.EndLemmas.{found-live}
@@ -53,55 +50,39 @@ use Rattle.pr_model.specs.declared.events.Res.TheVariants.{Value, Error, Ended}
 use Rattle.pr_model.specs.declared.events.Turned.{Turned}
 use Rattle.pr_model.specs.declared.stops.Point.{Point}
 use Rattle.pr_model.specs.declared.stops.Point.TheVariants as point
-use Rattle.pr_truss.proofs.ForkLemmas.{call_number-range, with_forks-has, with_forks-others}
-use Rattle.pr_truss.specs.Messages.{ending_calls, traced_entries, traced_exits, traced_faults, traced_signals, with_forks}
+use Rattle.pr_truss.specs.Messages.{traced_faults, traced_signals}
 use Rattle.pr_truss_laws.proofs.ToldLemmas.{is_result}
 use Rattle.pr_truss_laws.specs.Told.{has_ended, told}
 use Rattle.pr_report_laws.proofs.Machine.CallResults.{IsAnswered, call-answered}
 use Rattle.pr_report_laws.proofs.Machine.SettingLaws.{wrapped-has}
 use Rattle.pr_reached.specs.Fits.{IsFitLwp, IsFitProcess, IsFitSystem, SparesKill}
 use Rattle.pr_report_laws.proofs.Invariant.Positions.{IsTracedBy}
-use Rattle.pr_report_laws.specs.Shown.{LwpEvent, event_selected, if_selected, selected}
+use Rattle.pr_report_laws.specs.Reads.{traces}
+use Rattle.pr_report_laws.specs.Shown.{LwpEvent, event_picked, if_picked, picked}
 
--- What the options select of the events of a turn is traced: a turn in which its lwp did not stop logs nothing that is
--- selected.
+-- What is picked of the events of a turn, where only events are picked that truss traces: a turn in which its lwp did
+-- not stop logs none of them.
 
--- ---- what is selected of what a turn logs
+-- ---- what is picked of what a turn logs
 
--- the event that is told of what the machine logs, if the options select it
-abbrev pub picked : Options → Option MachineEvent → Option Event
-picked o e = option_and_then (if_selected o) (option_and_then told e)
+-- the event that is told of what the machine logs, if it is picked
+abbrev pub told_of : (Event → Bool) → Option MachineEvent → Option Event
+told_of picks e = option_and_then (if_picked picks) (option_and_then told e)
 
 -- it as an event of its lwp
 abbrev pub listed : ℕ → Option Event → List LwpEvent
 listed id None = []
 listed id (Some e) = record { id = id; event = e } ∷ []
 
-pub selected-logged : (o : Options) (new : TracedState) (pid id : ℕ) (e : Option MachineEvent)
-    → selected o pid (logged new pid id e) ≡ listed id (picked o e)
-unfolding selected event_selected
-selected-logged o new pid id None = refl
-selected-logged o new pid id (Some e) = rw (eq-eqb pid pid refl) (by (option_and_then (if_selected o) (told e)))
+pub picked-logged : (picks : Event → Bool) (new : TracedState) (pid id : ℕ) (e : Option MachineEvent)
+    → picked picks pid (logged new pid id e) ≡ listed id (told_of picks e)
+unfolding picked event_picked
+picked-logged picks new pid id None = refl
+picked-logged picks new pid id (Some e) = rw (eq-eqb pid pid refl) (by (option_and_then (if_picked picks) (told e)))
   where
     by : (x : Option Event) → cons_option (option_map (λ (a : Event). record { id = id; event = a }) x) [] ≡ listed id x
     by None = refl
     by (Some a) = refl
-
--- nothing is selected of another process
-pub selected-other : (o : Options) (new : TracedState) (pid other id : ℕ) (e : Option MachineEvent) → pid ≢ other
-    → selected o other (logged new pid id e) ≡ []
-unfolding selected event_selected
-selected-other o new pid other id None apart = refl
-selected-other o new pid other id (Some e) apart = rw (ne_eqb pid other apart) refl
-
--- The events of a turn of an lwp are of its process.
-pub turn-of-own : (o : Options) (s : TracedState) (pid other id : ℕ) (t : Turned) → pid ≢ other
-    → selected o other (events_of s (record { actor = Lwp pid id; act = Turn t })) ≡ []
-unfolding events_of
-turn-of-own o s pid other id t apart =
-    selected-other o (after s (record { actor = Lwp pid id; act = Turn t })) pid other id
-    (event_between (lwp_in_state s pid id)
-    (lwp_alone (lwp_in_state (after s (record { actor = Lwp pid id; act = Turn t })) pid id)) t.did) apart
 
 -- an lwp that is there
 pub lwp-found : (s : TracedState) (pid id : ℕ) (p : TracedProcess) (l : TracedLwp) → live_process s.system pid ≡ Some p
@@ -109,17 +90,17 @@ pub lwp-found : (s : TracedState) (pid id : ℕ) (p : TracedProcess) (l : Traced
 unfolding lwp_in_state
 lwp-found s pid id p l live there = rw live (rw there refl)
 
-pub turn-selects : (o : Options) (s : TracedState) (pid id : ℕ) (p : TracedProcess) (l : TracedLwp)
+pub turn-picks : (picks : Event → Bool) (s : TracedState) (pid id : ℕ) (p : TracedProcess) (l : TracedLwp)
     → live_process s.system pid ≡ Some p → lwp_of p id ≡ Some l → (t : Turned)
-    → selected o pid (events_of s (record { actor = Lwp pid id; act = Turn t })) ≡ listed id
-    (picked o
+    → picked picks pid (events_of s (record { actor = Lwp pid id; act = Turn t })) ≡ listed id
+    (told_of picks
     (event_of p l (lwp_alone (lwp_in_state (after s (record { actor = Lwp pid id; act = Turn t })) pid id)) t.did))
 unfolding events_of
-turn-selects o s pid id p l live there t =
+turn-picks picks s pid id p l live there t =
     let e : Entry = record { actor = Lwp pid id; act = Turn t } in
     let new : Option TracedLwp = lwp_alone (lwp_in_state (after s e) pid id) in
-    selected-logged o (after s e) pid id (event_between (lwp_in_state s pid id) new t.did)
-    ∙ ap (λ f. listed id (picked o (event_between f new t.did))) (lwp-found s pid id p l live there)
+    picked-logged picks (after s e) pid id (event_between (lwp_in_state s pid id) new t.did)
+    ∙ ap (λ f. listed id (told_of picks (event_between f new t.did))) (lwp-found s pid id p l live there)
 
 -- ---- points that are not traced
 
@@ -127,25 +108,6 @@ without-not : (a b : Bool) → b ≡ false → (a && not b) ≡ false → a ≡ 
 without-not true true off is = off
 without-not true false off is = is
 without-not false b off is = refl
-
-no-line : (never birth chosen : Bool) → (chosen && not never) ≡ false → ((not never && not birth) && chosen) ≡ false
-no-line true birth chosen is = refl
-no-line false true chosen is = refl
-no-line false false true is = is
-no-line false false false is = refl
-
--- the calls that never return are those that end their lwp
-ends-its-lwp : (c : Sysno) → has_number ending_calls (syscall_number c) ≡ never_returns c
-unfolding ending_calls syscall_number never_returns has_number with_number union_word
-ends-its-lwp call.Exit = refl
-ends-its-lwp _ = refl
-
-ending_calls-small : ending_calls < 2 ^ 64
-unfolding ending_calls syscall_number with_number union_word
-ending_calls-small = lit≤ tt
-
-unselected : (o : Options) (e : Event) → is_selected o e ≡ false → if_selected o e ≡ None
-unselected o e off = ap (λ b. cond b (Some e) None) off
 
 -- signals that pend are not SIGKILL, where that does not pend
 not-kill : (pending : Pending) (held : ℕ) (g : Sig) → SparesKill pending
@@ -163,100 +125,81 @@ not-kill pending held g spares least =
         (and_parts _ _ (sym (has_number-common (pending_set pending) (2 ^ 64 - 1 - held) (signal_number g))
         ∙ has_number-least_signal (minus_word (pending_set pending) held) g least)).0
 
-module _ (o : Options) (p : TracedProcess) (traced_by : IsTracedBy o p) where
-  entry-unselected : (c : Sysno) (args : List ℕ) → is_traced p.control (point.Entry c) ≡ false
-      → if_selected o (Entered c args) ≡ None
-  unfolding is_traced traced_entries is_selected has_line is_chosen
-  entry-unselected c args off =
-      let has : has_number (common_word o.calls ending_calls) (syscall_number c) ≡ false =
-      ap (λ w. has_number w (syscall_number c)) (sym traced_by.entries) ∙ off in
-      let both : (has_number o.calls (syscall_number c) && never_returns c) ≡ false =
-      ap (λ b. has_number o.calls (syscall_number c) && b) (sym (ends-its-lwp c))
-      ∙ sym (has_number-common o.calls ending_calls (syscall_number c)) ∙ has in
-      unselected o (Entered c args) (and_comm (never_returns c) (has_number o.calls (syscall_number c)) ∙ both)
+-- only events are picked that truss traces
+pub record PicksTraced (o : Options) (picks : Event → Bool) : Type 0 where
+  pub untraced : (e : Event) → traces o e ≡ false → picks e ≡ false
 
-  exit-lacks : (c : Sysno) → has_number (traced_exits o) (syscall_number c) ≡ false
-      → has_number (minus_word o.calls ending_calls) (syscall_number c) ≡ false
-  unfolding traced_exits
-  exit-lacks c = by o.follow
-    where
-      others : ℕ
-      others = minus_word o.calls ending_calls
+pub picks-traced : (o : Options) → PicksTraced o (traces o)
+picks-traced o = record { untraced = λ e off. off }
 
-      added : (b : Bool) → is_fork_call c ≡ b → has_number (with_forks others) (syscall_number c) ≡ false
-          → has_number others (syscall_number c) ≡ false
-      added true makes off = absurd (false≢true (sym off ∙ with_forks-has others c makes))
-      added false other off = sym (with_forks-others others c other) ∙ off
+module _ (o : Options) (p : TracedProcess) (traced_by : IsTracedBy o p) (picks : Event → Bool)
+    (within : PicksTraced o picks) where
+  unpicked : (e : Event) → traces o e ≡ false → if_picked picks e ≡ None
+  unpicked e off = ap (λ b. cond b (Some e) None) (within.untraced e off)
 
-      by : (b : Bool) → has_number (cond b (with_forks others) others) (syscall_number c) ≡ false
-          → has_number others (syscall_number c) ≡ false
-      by true off = added (is_fork_call c) refl off
-      by false off = off
+  entry-unpicked : (c : Sysno) (args : List ℕ) → is_traced p.control (point.Entry c) ≡ false
+      → if_picked picks (Entered c args) ≡ None
+  unfolding is_traced traces
+  entry-unpicked c args off =
+      unpicked (Entered c args) (ap (λ w. has_number w (syscall_number c)) (sym traced_by.entries) ∙ off)
 
-  exit-unselected : (c : Sysno) (args : List ℕ) (r : Result ℕ Errno) → is_traced p.control (point.Exit c) ≡ false
-      → if_selected o (Left c args r) ≡ None
-  unfolding is_traced is_selected has_line is_chosen
-  exit-unselected c args r off =
-      let has = exit-lacks c (ap (λ w. has_number w (syscall_number c)) (sym traced_by.exits) ∙ off) in
-      let range = call_number-range c in
-      let both : (has_number o.calls (syscall_number c) && not (never_returns c)) ≡ false =
-      ap (λ b. has_number o.calls (syscall_number c) && not b) (sym (ends-its-lwp c))
-      ∙ sym (has_number-minus o.calls ending_calls (syscall_number c) ending_calls-small range.0 (omega arith))
-      ∙ has in
-      unselected o (Left c args r)
-      (no-line (never_returns c) (is_birth c r) (has_number o.calls (syscall_number c)) both)
+  exit-unpicked : (c : Sysno) (args : List ℕ) (r : Result ℕ Errno) → is_traced p.control (point.Exit c) ≡ false
+      → if_picked picks (Left c args r) ≡ None
+  unfolding is_traced traces
+  exit-unpicked c args r off =
+      unpicked (Left c args r) (ap (λ w. has_number w (syscall_number c)) (sym traced_by.exits) ∙ off)
 
-  signal-unselected : (g : Sig) (d : Disposition) (info : Info) → (signal_number g == signal_number Kill) ≡ false
-      → is_traced p.control (point.Signal g) ≡ false → if_selected o (Received g d info) ≡ None
-  unfolding is_traced traced_signals is_selected has_line is_chosen
-  signal-unselected g d info not_kill off =
+  signal-unpicked : (g : Sig) (d : Disposition) (info : Info) → (signal_number g == signal_number Kill) ≡ false
+      → is_traced p.control (point.Signal g) ≡ false → if_picked picks (Received g d info) ≡ None
+  unfolding is_traced traces
+  signal-unpicked g d info not_kill off =
       let range = signal_number-range g in
       let kill = signal_number-range Kill in
       let has =
       sym (has_number-without (traced_signals o) (signal_number Kill) (signal_number g) (omega arith) (omega arith)
       (omega arith) (omega arith))
       ∙ ap (λ w. has_number w (signal_number g)) (sym traced_by.signals) ∙ off in
-      unselected o (Received g d info)
-      (without-not (has_number o.signals (signal_number g)) (signal_number g == signal_number Kill) not_kill has)
+      unpicked (Received g d info)
+      (without-not (has_number (traced_signals o) (signal_number g)) (signal_number g == signal_number Kill) not_kill
+      has)
 
   fault_number-range : (f : Flt) → (1 ≤ fault_number f) × (fault_number f ≤ 8)
   fault_number-range f = (fault_numbers-range (fault_number f)).0 (ap is_some (fault_of_number-number f))
 
-  fault-unselected : (f : Flt) (pc : ℕ) → is_traced p.control (point.Fault f) ≡ false
-      → if_selected o (Incurred f pc) ≡ None
-  unfolding is_traced traced_faults is_selected has_line is_chosen
-  fault-unselected f pc off =
+  fault-unpicked : (f : Flt) (pc : ℕ) → is_traced p.control (point.Fault f) ≡ false
+      → if_picked picks (Incurred f pc) ≡ None
+  unfolding is_traced traces
+  fault-unpicked f pc off =
       let range = fault_number-range f in
-      let has =
-      sym (wrapped-has (traced_faults o) (fault_number f) (omega arith) (omega arith))
-      ∙ ap (λ w. has_number w (fault_number f)) (sym traced_by.faults) ∙ off in
-      unselected o (Incurred f pc) has
+      unpicked (Incurred f pc)
+      (sym (wrapped-has (traced_faults o) (fault_number f) (omega arith) (omega arith))
+      ∙ ap (λ w. has_number w (fault_number f)) (sym traced_by.faults) ∙ off)
 
   -- ---- the row of a turn
 
   module _ (l : TracedLwp) where
-    -- What a row logs goes with the point that it meets: nothing is selected where that is not traced. A row that meets
+    -- What a row logs goes with the point that it meets: nothing is picked where that is not traced. A row that meets
     -- a point ends neither its lwp nor its process.
     pub record GoesWithPoint (row : Row) : Type 0 where
-      pub unselected : (new : Option TracedLwp) → meets p.control row.point ≡ false
-          → picked o (event_of p l new row.did) ≡ None
+      pub unpicked : (new : Option TracedLwp) → meets p.control row.point ≡ false
+          → told_of picks (event_of p l new row.did) ≡ None
       pub ends_nothing : (pt : Point) → row.point ≡ Some pt → row.transition.ending ≡ None
       pub not_ended : (pt : Point) → row.point ≡ Some pt → has_ended row.did ≡ false
 
     quiet-goes : (row : Row) → row.point ≡ None
-        → ((new : Option TracedLwp) → picked o (event_of p l new row.did) ≡ None) → GoesWithPoint row
+        → ((new : Option TracedLwp) → told_of picks (event_of p l new row.did) ≡ None) → GoesWithPoint row
     quiet-goes row none logs = record {
-      unselected = λ new off. logs new;
+      unpicked = λ new off. logs new;
       ends_nothing = λ pt is. absurd (none-some pt (sym none ∙ is));
       not_ended = λ pt is. absurd (none-some pt (sym none ∙ is));
     }
 
     point-goes : (row : Row) (pt : Point) → row.point ≡ Some pt → row.transition.ending ≡ None
         → has_ended row.did ≡ false
-        → ((new : Option TracedLwp) → is_traced p.control pt ≡ false → picked o (event_of p l new row.did) ≡ None)
+        → ((new : Option TracedLwp) → is_traced p.control pt ≡ false → told_of picks (event_of p l new row.did) ≡ None)
         → GoesWithPoint row
     point-goes row pt is ending lives logs = record {
-      unselected = λ new off. logs new (ap (meets p.control) (sym is) ∙ off);
+      unpicked = λ new off. logs new (ap (meets p.control) (sym is) ∙ off);
       ends_nothing = λ other also. ending;
       not_ended = λ other also. lives;
     }
@@ -275,33 +218,33 @@ module _ (o : Options) (p : TracedProcess) (traced_by : IsTracedBy o p) where
     finished-lives false c (Error e) is = refl
     finished-lives false c Ended is = cc
 
-    finished-unselected : (new : Option TracedLwp) (woken : Bool) (c : Sysno) (r : Res) → is_result r ≡ true
-        → is_traced p.control (point.Exit c) ≡ false → picked o (event_of p l new (finished woken c r)) ≡ None
+    finished-unpicked : (new : Option TracedLwp) (woken : Bool) (c : Sysno) (r : Res) → is_result r ≡ true
+        → is_traced p.control (point.Exit c) ≡ false → told_of picks (event_of p l new (finished woken c r)) ≡ None
     unfolding event_of told
-    finished-unselected new true c (Value v) is off = exit-unselected c _ (Ok v) off
-    finished-unselected new true c (Error e) is off = exit-unselected c _ (Err e) off
-    finished-unselected new true c Ended is off = refl
-    finished-unselected new false c (Value v) is off = exit-unselected c _ (Ok v) off
-    finished-unselected new false c (Error e) is off = exit-unselected c _ (Err e) off
-    finished-unselected new false c Ended is off = refl
+    finished-unpicked new true c (Value v) is off = exit-unpicked c _ (Ok v) off
+    finished-unpicked new true c (Error e) is off = exit-unpicked c _ (Err e) off
+    finished-unpicked new true c Ended is off = refl
+    finished-unpicked new false c (Value v) is off = exit-unpicked c _ (Ok v) off
+    finished-unpicked new false c (Error e) is off = exit-unpicked c _ (Err e) off
+    finished-unpicked new false c Ended is off = refl
 
     exit-goes : (woken : Bool) (c : Sysno) (r : Res) (row : Row) → row.did ≡ finished woken c r
         → row.point ≡ Some (point.Exit c) → row.transition.ending ≡ None → is_result r ≡ true → GoesWithPoint row
     exit-goes woken c r row is at ending result =
         point-goes row (point.Exit c) at ending (ap has_ended is
-        ∙ finished-lives woken c r result) (λ new off. ap (λ d. picked o (event_of p l new d)) is
-        ∙ finished-unselected new woken c r result off)
+        ∙ finished-lives woken c r result) (λ new off. ap (λ d. told_of picks (event_of p l new d)) is
+        ∙ finished-unpicked new woken c r result off)
 
     interrupted-goes : (woken : Bool) (c : Sysno) (args : List ℕ) → GoesWithPoint (interrupted_row woken c args)
     unfolding interrupted_row interrupted
     interrupted-goes woken c args = exit-goes woken c (Error Intr) (interrupted_row woken c args) refl refl refl refl
 
     -- a call that ends its lwp or its process is told as it is entered alone
-    gone-unselected : (new : Option TracedLwp) (woken : Bool) (c : Sysno)
-        → picked o (event_of p l new (finished woken c Ended)) ≡ None
+    gone-unpicked : (new : Option TracedLwp) (woken : Bool) (c : Sysno)
+        → told_of picks (event_of p l new (finished woken c Ended)) ≡ None
     unfolding event_of told
-    gone-unselected new true c = refl
-    gone-unselected new false c = refl
+    gone-unpicked new true c = refl
+    gone-unpicked new false c = refl
 
     performed-goes : (woken : Bool) (c : Sysno) (args : List ℕ) (since : ℕ) (effect : Effect) → IsAnswered effect
         → GoesWithPoint (performed_row woken c args since effect)
@@ -314,7 +257,7 @@ module _ (o : Options) (p : TracedProcess) (traced_by : IsTracedBy o p) where
     performed-goes woken c args since sleeps is =
         quiet-goes (performed_row woken c args since sleeps) refl (λ new. refl)
     performed-goes woken c args since (ends how) is =
-        quiet-goes (performed_row woken c args since (ends how)) refl (λ new. gone-unselected new woken c)
+        quiet-goes (performed_row woken c args since (ends how)) refl (λ new. gone-unpicked new woken c)
 
     -- ---- signals and faults
 
@@ -323,14 +266,14 @@ module _ (o : Options) (p : TracedProcess) (traced_by : IsTracedBy o p) where
     unfolding event_of told
     took-goes g row is at ending not_kill =
         point-goes row (point.Signal g) at ending (ap has_ended is)
-        (λ new off. ap (λ d. picked o (event_of p l new d)) is ∙ signal-unselected g _ _ not_kill off)
+        (λ new off. ap (λ d. told_of picks (event_of p l new d)) is ∙ signal-unpicked g _ _ not_kill off)
 
     fault-goes : (f : Flt) (row : Row) → row.did ≡ did.Faulted f → row.point ≡ Some (point.Fault f)
         → row.transition.ending ≡ None → GoesWithPoint row
     unfolding event_of told
     fault-goes f row is at ending =
         point-goes row (point.Fault f) at ending (ap has_ended is)
-        (λ new off. ap (λ d. picked o (event_of p l new d)) is ∙ fault-unselected f _ off)
+        (λ new off. ap (λ d. told_of picks (event_of p l new d)) is ∙ fault-unpicked f _ off)
 
     -- ---- instructions
 
@@ -338,7 +281,7 @@ module _ (o : Options) (p : TracedProcess) (traced_by : IsTracedBy o p) where
     unfolding entered_row entered event_of told
     entered-goes c regs =
         point-goes (entered_row c regs) (point.Entry c) refl refl refl
-        (λ new off. entry-unselected c (arguments l.regs) off)
+        (λ new off. entry-unpicked c (arguments l.regs) off)
 
     ran-goes : (regs : List ℕ) (store : Option Store) → GoesWithPoint (ran_row p l regs store)
     unfolding ran_row trapped event_of
@@ -401,27 +344,29 @@ fit-lwp p id l fit there = All-under (λ (e : ℕ × TracedLwp). IsFitLwp e.1) i
 
 -- the row of the turn of such an lwp, in a process that truss traces
 pub fit-row : (o : Options) (s : TracedSystem) (pid id : ℕ) (p : TracedProcess) (l : TracedLwp)
-    (traced_by : IsTracedBy o p) → IsFitSystem s → live_process s pid ≡ Some p → lwp_of p id ≡ Some l
-    → GoesWithPoint o p traced_by l (row_for s pid p id l)
-fit-row o s pid id p l traced_by fit live there =
+    (traced_by : IsTracedBy o p) (picks : Event → Bool) (within : PicksTraced o picks) → IsFitSystem s
+    → live_process s pid ≡ Some p → lwp_of p id ≡ Some l
+    → GoesWithPoint o p traced_by picks within l (row_for s pid p id l)
+fit-row o s pid id p l traced_by picks within fit live there =
     let own = fit-process s pid p fit live in
     let lwp = fit-lwp p id l own there in
-    row-goes o p traced_by l lwp.pending own.pending s pid id
+    row-goes o p traced_by picks within l lwp.pending own.pending s pid id
 
--- A turn in which its lwp did not stop on what it met logs nothing that is selected.
-pub selected-is-traced : (o : Options) (s : TracedState) (pid id : ℕ) (p : TracedProcess) (t : LwpTurn)
-    → IsFitSystem s.system → live_process s.system pid ≡ Some p → IsTracedBy o p → turn_of s.system pid id ≡ Some t
-    → t.turned.stop ≡ false → selected o pid (events_of s (record { actor = Lwp pid id; act = Turn t.turned })) ≡ []
+-- A turn in which its lwp did not stop on what it met logs nothing that is picked.
+pub picked-is-traced : (o : Options) (picks : Event → Bool) → PicksTraced o picks → (s : TracedState) (pid id : ℕ)
+    (p : TracedProcess) (t : LwpTurn) → IsFitSystem s.system → live_process s.system pid ≡ Some p → IsTracedBy o p
+    → turn_of s.system pid id ≡ Some t → t.turned.stop ≡ false
+    → picked picks pid (events_of s (record { actor = Lwp pid id; act = Turn t.turned })) ≡ []
 unfolding settled
-selected-is-traced o s pid id p t fit live traced_by turn stop =
+picked-is-traced o picks within s pid id p t fit live traced_by turn stop =
     let it = turn-taken s.system pid id t turn in
     let same : it.process ≡ p = same_Some it.process p (sym it.live ∙ live) in
     let there : lwp_of p id ≡ Some it.lwp = subst (λ (y : TracedProcess). lwp_of y id ≡ Some it.lwp) same it.there in
     let is : t ≡ settled s.system pid p id it.lwp (row_for s.system pid p id it.lwp) =
     it.is ∙ ap (λ (y : TracedProcess). settled s.system pid y id it.lwp (row_for s.system pid y id it.lwp)) same in
-    let goes = fit-row o s.system pid id p it.lwp traced_by fit live there in
+    let goes = fit-row o s.system pid id p it.lwp traced_by picks within fit live there in
     let new : Option TracedLwp =
     lwp_alone (lwp_in_state (after s (record { actor = Lwp pid id; act = Turn t.turned })) pid id) in
-    turn-selects o s pid id p it.lwp live there t.turned
-    ∙ ap (λ (v : LwpTurn). listed id (picked o (event_of p it.lwp new v.turned.did))) is
-    ∙ ap (listed id) (goes.unselected new (ap (λ (v : LwpTurn). v.turned.stop) (sym is) ∙ stop))
+    turn-picks picks s pid id p it.lwp live there t.turned
+    ∙ ap (λ (v : LwpTurn). listed id (told_of picks (event_of p it.lwp new v.turned.did))) is
+    ∙ ap (listed id) (goes.unpicked new (ap (λ (v : LwpTurn). v.turned.stop) (sym is) ∙ stop))

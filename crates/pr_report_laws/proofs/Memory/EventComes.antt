@@ -1,6 +1,8 @@
 use Rattle.std.proofs.Common.{◌≡◌, ◌<◌, ℕ, true, false, Some, None, List, [], ◌∷◌, ◌++◌, refl, sym, subst, ap, ◌∙◌, append_assoc, inl, inr}
 use Rattle.std.proofs.lemmas.List.{append-nil}
 use Rattle.std.proofs.lemmas.Option.{none-some, same_Some}
+use Rattle.pr_line.specs.TextRanges.{text_range}
+use Rattle.pr_line.specs.Selections.{is_selected}
 use Rattle.pr_line.specs.declared.options.Options.{Options}
 use Rattle.pr_model.proofs.HistoryLemmas.{state_after-push}
 use Rattle.pr_model.specs.Events.{events_of}
@@ -19,13 +21,13 @@ use Rattle.pr_truss_laws.proofs.FrameLemmas.{memory-next}
 use Rattle.pr_truss_laws.proofs.HaltLemmas as halt
 use Rattle.pr_truss_laws.proofs.HaltLemmas.{HaltsOn}
 use Rattle.pr_report_laws.proofs.Invariant.HistoryLaw.{after-next, no-exchanges, watched-next}
-use Rattle.pr_report_laws.proofs.Invariant.HistorySteps.{selected_of}
+use Rattle.pr_report_laws.proofs.Invariant.ShownTallies.{selected_of, shown_tally}
 use Rattle.pr_report_laws.proofs.Machine.OwnTurnLaws.{event-halts}
 use Rattle.pr_report_laws.proofs.Invariant.Standing as st
 use Rattle.pr_report_laws.proofs.Invariant.Standing.{Accounted, Position, Standing, has_read}
 use Rattle.pr_report_laws.proofs.Invariant.UnreadLaws.{one-more}
 use Rattle.pr_report_laws.specs.Memories.{WasKilled}
-use Rattle.pr_report_laws.specs.Shown.{LwpEvent, event_told, selected, shown}
+use Rattle.pr_report_laws.specs.Shown.{LwpEvent, event_told, picked, selected, shown}
 use Rattle.pr_report_laws.specs.Watching.{events_watched, is_away, place_of, told_of, watches}
 
 -- Where an event came, and that the memory of its process is as it was then: until truss reads the event, and then
@@ -48,21 +50,21 @@ module _ (Cause : Type 0) (o : Options) (pid : ℕ) (t : TrussState) (s : Traced
   all-shown : base ≡ shown pid t → ⊥
   all-shown whole = one-more (shown pid t) event (sym whole ∙ missing)
 
-  lost-why : Accounted (Lost Cause pid s) base (shown pid t) → Lost Cause pid s
+  lost-why : Accounted (Lost Cause pid s) (shown_tally o pid t base) → Lost Cause pid s
   lost-why a = elim a.few [
     | inl none ↦ absurd (all-shown (a.is ∙ ap (λ (xs : List LwpEvent). shown pid t ++ xs) none
         ∙ append-nil (shown pid t)))
     | inr one ↦ one.1.1
   ]
 
-  pub unread-holds : Standing (Lost Cause pid s) o pid t s base → (p : TracedProcess)
+  pub unread-holds : Standing (Lost Cause pid s) o pid t s (shown_tally o pid t base) → (p : TracedProcess)
       → live_process s.system pid ≡ Some p → HoldsUnread pid t p
   unread-holds (st.apart off a) p live =
       absurd (let lost : Lost Cause pid s = lost-why a in none-some p (sym lost.over ∙ live))
   unread-holds (st.over watched none a) p live = absurd (none-some p (sym none ∙ live))
   unread-holds (st.lives place q at attached here living traced position) p live = by position
     where
-      by : Position o t.stage place (traced_at t place).old q base (shown pid t) → HoldsUnread pid t p
+      by : Position o t.stage place (traced_at t place).old q (shown_tally o pid t base) → HoldsUnread pid t p
       by (st.stop_read read waits whole) = absurd (all-shown whole)
       by (st.old_stops n read counts waits whole) = absurd (all-shown whole)
       by (st.goes read named none quiet whole) = absurd (all-shown whole)
@@ -103,6 +105,8 @@ module _ (k : ℕ) (o : Options) (pid : ℕ) (first : TracedState) where
     pub order : selected_in earlier ≡ before
     pub process : TracedProcess
     pub lives : live_process (since earlier entry).system pid ≡ Some process
+    -- where the line of the event asks for memory the process has it to itself
+    pub owns : (range : ℕ × ℕ) → text_range event.event ≡ Some range → process.borrower ≡ None
     pub now : s ≡ state_after (since earlier entry) between
     pub made : pid < s.system.made
     pub stays : Stays process (since earlier entry) between s
@@ -165,6 +169,7 @@ module _ (k : ℕ) (o : Options) (pid : ℕ) (first : TracedState) where
       order = c.order;
       process = c.process;
       lives = c.lives;
+      owns = c.owns;
       now = ap (λ (u : TracedState). after u e) c.now ∙ sym (state_after-push (since c.earlier c.entry) c.between e);
       made = stays-made n s e pid lawful legal c.made;
       stays = stays-on c.process (since c.earlier c.entry) c.between c.now c.made c.stays;
@@ -195,16 +200,16 @@ module _ (k : ℕ) (o : Options) (pid : ℕ) (first : TracedState) where
   pub selected-push : (h : List Entry) (t : TrussState) (s : TracedState) (e : Entry)
       → selected o pid (events_watched k pid t s (h ++ e ∷ [])) ≡ selected o pid
       (events_watched k pid t s h) ++ selected_of o pid (truss_after t (exchanges k h)) (state_after s h) e
-  unfolding selected
+  unfolding picked
   selected-push [] t s e =
-      watched-next k o pid t s [] e [] ∙ append-nil (selected_of o pid t s e)
+      watched-next k o pid (is_selected o) t s [] e [] ∙ append-nil (selected_of o pid t s e)
       ∙ ap (λ (u : TrussState). selected_of o pid u s e) (sym (no-exchanges k t))
   selected-push (x ∷ h) t s e =
-      watched-next k o pid t s [] x (h ++ e ∷ [])
+      watched-next k o pid (is_selected o) t s [] x (h ++ e ∷ [])
       ∙ ap (λ (ys : List LwpEvent). selected_of o pid t s x ++ ys) (selected-push h (told_of k t x) (after s x) e)
       ∙ sym (append_assoc (selected_of o pid t s x)
       (selected o pid (events_watched k pid (told_of k t x) (after s x) h)) _)
       ∙ ap (λ (ys : List LwpEvent). ys ++ selected_of o pid (truss_after (told_of k t x) (exchanges k h))
-      (state_after (after s x) h) e) (sym (watched-next k o pid t s [] x h))
+      (state_after (after s x) h) e) (sym (watched-next k o pid (is_selected o) t s [] x h))
       ∙ ap (λ (u : TrussState). selected o pid (events_watched k pid t s (x ∷ h)) ++ selected_of o pid u
       (state_after (after s x) h) e) (sym (after-next k t x h))

@@ -1,9 +1,11 @@
-use Rattle.std.proofs.Common.{◌≡◌, ◌==◌, ◌||◌, ◌<◌, ◌⊎◌, ℕ, cond, nat_lt, length, arith, Option, Some, None, List, [], ◌∷◌, ◌++◌, refl, sym, subst, ap, ◌∙◌, append_assoc, inl, inr}
+use Rattle.std.proofs.Common.{◌≡◌, ◌==◌, ◌||◌, ◌<◌, ◌⊎◌, ℕ, cond, nat_lt, length, arith, Option, Some, None, List, [], ◌∷◌, ◌++◌, refl, sym, subst, ap, ◌∙◌, append_assoc, inl, inr, Bool, true, false}
 use Rattle.std.proofs.lemmas.Bool.{eq-eqb}
 use Rattle.std.proofs.lemmas.List.{append-nil, append_cancel_left, append_cancel_right}
 use Rattle.std.proofs.lemmas.Option.{none-some, same_Some}
 use Rattle.std.specs.List.{filter_map}
-use Rattle.std.specs.Option.{option_map}
+use Rattle.std.specs.Option.{option_map, option_and_then}
+use Rattle.pr_keeps.proofs.LoanLemmas.{own-space}
+use Rattle.pr_line.specs.TextRanges.{text_range}
 use Rattle.pr_api.specs.Entries.{call_entry}
 use Rattle.pr_line.specs.ArgumentTexts.{Came}
 use Rattle.pr_line.specs.Events.{event_of}
@@ -33,7 +35,7 @@ use Rattle.pr_rec.specs.declared.lwps.LwpStatus.{LwpStatus}
 use Rattle.pr_truss.specs.Feeding.{fed, with_reply}
 use Rattle.pr_truss.specs.NextCalls.{next_call_of}
 use Rattle.pr_truss.specs.Replies.{answer_of}
-use Rattle.pr_truss.specs.Stops.{text_of, with_event_shown, with_text_answered}
+use Rattle.pr_truss.specs.Stops.{text_of, with_event_shown, with_text_answered, asked_range}
 use Rattle.pr_truss.specs.Trusses.{TrussState, first_truss, traced_at, with_report}
 use Rattle.pr_truss.specs.declared.processes.Traced.{Traced}
 use Rattle.pr_truss.specs.declared.reports.Report.{Report}
@@ -46,22 +48,25 @@ use Rattle.pr_truss_laws.specs.Exchanges.{Exchange, exchange_of, exchanges, trus
 use Rattle.pr_truss_laws.specs.Runs.{IsTrussRun}
 use Rattle.pr_report_laws.proofs.Invariant.AnsweredReads as answered
 use Rattle.pr_report_laws.proofs.Invariant.AnsweredReads.{Reads, next-reads}
-use Rattle.pr_report_laws.proofs.UnopenedChildren.Births.{births, first-traced, unfollowed-births}
+use Rattle.pr_report_laws.proofs.UnopenedChildren.Births.{all-left, births, first-traced, opens-birth, unfollowed-births}
 use Rattle.pr_report_laws.proofs.Memory.EventComes.{HasCome, Knows, Links, ReadsIts, Stays, halts, over, selected_in}
 use Rattle.pr_report_laws.proofs.Invariant.EventSteps.{knows-next, links-next}
 use Rattle.pr_report_laws.proofs.Files.FileLaws.{HasFiles, IsFileOf}
 use Rattle.pr_report_laws.proofs.Files.FileSteps.{MakesNext, makes-next}
 use Rattle.pr_report_laws.proofs.Files.FileUses.{lwps-read, memory-read, opening-read, status-read}
-use Rattle.pr_report_laws.proofs.Invariant.HistoryLaw.{Along, OpensAtBirth, after-next, along-next, first-along, first-is, no-exchanges}
-use Rattle.pr_report_laws.proofs.Invariant.HistorySteps.{Holds, selected_of}
+use Rattle.pr_report_laws.proofs.Invariant.HistoryLaw.{Along, OpensAtBirth, after-next, first-is, no-exchanges}
+use Rattle.pr_report_laws.proofs.Invariant.ShownTallies.{selected_of, shown-first, shown-next, shown_tally}
+use Rattle.pr_report_laws.proofs.Invariant.HistorySteps.{Holds}
 use Rattle.pr_report_laws.proofs.Memory.MemoryReads.{read-texts}
 use Rattle.pr_report_laws.proofs.Replies.NextStages.{reported}
-use Rattle.pr_report_laws.proofs.Replies.ShownGrows.{text-grown}
+use Rattle.pr_report_laws.proofs.Replies.TextReports.{text-grown}
 use Rattle.pr_report_laws.proofs.Replies.StopsOver.{reported-own, shown-text}
 use Rattle.pr_report_laws.proofs.Files.WatchHistories.{after-append, exchanges-both}
+use Rattle.pr_report_laws.specs.AtBirth.{IsFollowedAtBirth}
 use Rattle.pr_report_laws.specs.Births.{IsNeverFollowed, LeavesForks, NamesNoChild}
+use Rattle.pr_report_laws.specs.Lineages.{IsLeftToTruss}
 use Rattle.pr_report_laws.specs.Memories.{AreOfTheirEvents, IsMemoryRead, IsOfItsEvent, IsTextOf, WasKilled, range_asked, read, unasked}
-use Rattle.pr_report_laws.specs.Shown.{LwpEvent, event_reported, event_told, selected}
+use Rattle.pr_report_laws.specs.Shown.{LwpEvent, event_reported, event_told, picked}
 use Rattle.pr_report_laws.specs.Watching.{told_of, with_exchange}
 
 -- The memory that is reported with an event is that of the state right after the event.
@@ -91,13 +96,13 @@ record Arrives (n k : ℕ) (o : Options) (pid : ℕ) (first : TracedState) (past
   t : TrussState
   s : TracedState
   base : List LwpEvent
-  along : Along K n k o pid t s base rest
+  along : Along K n k o pid t s (shown_tally o pid t base) rest
   links : Links k o pid first past t s base
   knows : Knows k o pid first past t s base
 
 module _ (n k : ℕ) (o : Options) (pid : ℕ) (first : TracedState) where
   arrives : (todo rest past : List Entry) (K : Type 0) (t : TrussState) (s : TracedState) (base : List LwpEvent)
-      → Along K n k o pid t s base (todo ++ rest) → Links k o pid first past t s base
+      → Along K n k o pid t s (shown_tally o pid t base) (todo ++ rest) → Links k o pid first past t s base
       → Knows k o pid first past t s base → Arrives n k o pid first (past ++ todo) rest
   arrives [] rest past K t s base g links knows =
       subst (λ es. Arrives n k o pid first es rest) (sym (append-nil past)) (record {
@@ -110,8 +115,9 @@ module _ (n k : ℕ) (o : Options) (pid : ℕ) (first : TracedState) where
         knows = knows;
       })
   arrives (e ∷ todo) rest past K t s base g links knows =
-      let later = along-next K n k o pid t s base e (todo ++ rest) g in
-      let holds : Holds _ k o pid (told_of k t e) (after s e) (base ++ selected_of o pid t s e) = later.holds in
+      let later = shown-next K n k o pid t s base e (todo ++ rest) g in
+      let holds : Holds _ k o pid (told_of k t e) (after s e)
+      (shown_tally o pid (told_of k t e) (base ++ selected_of o pid t s e)) = later.holds in
       let next = makes-next k t e (todo ++ rest) g.makes in
       subst (λ es. Arrives n k o pid first es rest) (append_assoc past (e ∷ []) todo)
       (arrives todo rest (past ++ e ∷ []) _ (told_of k t e) (after s e) (base ++ selected_of o pid t s e) later
@@ -120,7 +126,7 @@ module _ (n k : ℕ) (o : Options) (pid : ℕ) (first : TracedState) where
 
   -- nothing has come before the first entry
   first-links : Links k o pid first [] (first_truss o) first []
-  unfolding selected
+  unfolding picked
   first-links = record { at = sym (no-exchanges k (first_truss o)); now = refl; all = refl }
 
   first-knows : Knows k o pid first [] (first_truss o) first []
@@ -244,8 +250,21 @@ told-event l event told = by (event_of l) refl told
     by None is it = absurd (none-some event it)
     by (Some e) is it = (e, (is, sym (same_Some _ event it)))
 
+-- the memory that a status asks for is what its event asks for
+range-told : (o : Options) (l : LwpStatus) (event : LwpEvent) (range : ℕ × ℕ) → event_told l ≡ Some event
+    → range_asked o l ≡ Some range → text_range event.event ≡ Some range
+unfolding asked_range
+range-told o l event range told asked =
+    let ev = told-event l event told in
+    ap (λ (x : LwpEvent). text_range x.event) ev.1.1
+    ∙ by ev.0 o.count (sym (ap (λ (x : Option Event). option_and_then (asked_range o) x) ev.1.0) ∙ asked)
+  where
+    by : (e : Event) (b : Bool) → cond b None (text_range e) ≡ Some range → text_range e ≡ Some range
+    by e true is = absurd (none-some range is)
+    by e false is = is
+
 module _ (n k : ℕ) (o : Options) (s : TracedState) (h : List Entry) (run : IsTrussRun n k o s h) (pid : ℕ)
-    (g : Along ⊥ n k o pid (first_truss o) s [] h)
+    (g : Along ⊥ n k o pid (first_truss o) s (shown_tally o pid (first_truss o) []) h)
     (earlier later : List Report) (l : LwpStatus) (text : Came) (from len : ℕ)
     (reports : (truss_at k o h).reports ≡ earlier ++ Reported pid l text ∷ later)
     (asked : range_asked o l ≡ Some (from, len)) where
@@ -267,8 +286,8 @@ module _ (n k : ℕ) (o : Options) (s : TracedState) (h : List Entry) (run : IsT
         ap (λ b. cond {A = Option Exchange} b
         (Some (record { call = call.Read m.handle from len; reply = m.reply })) None) (eq-eqb k k refl)
 
-    whole : Along ⊥ n k o pid (first_truss o) s [] (m.before ++ e ∷ m.later)
-    whole = subst (Along ⊥ n k o pid (first_truss o) s []) m.is g
+    whole : Along ⊥ n k o pid (first_truss o) s (shown_tally o pid (first_truss o) []) (m.before ++ e ∷ m.later)
+    whole = subst (Along ⊥ n k o pid (first_truss o) s (shown_tally o pid (first_truss o) [])) m.is g
 
     arrived : Arrives n k o pid s m.before (e ∷ m.later)
     arrived =
@@ -287,8 +306,8 @@ module _ (n k : ℕ) (o : Options) (s : TracedState) (h : List Entry) (run : IsT
         (Fits reached.traced reached.stage × (next_call_of reached ≡ Some (call.Read m.handle from len))))
     its-holds a =
         let links : Links k o pid s m.before a.t a.s a.base = a.links in
-        let along : Along a.K n k o pid a.t a.s a.base (e ∷ m.later) = a.along in
-        let holds : Holds a.K k o pid a.t a.s a.base = along.holds in
+        let along : Along a.K n k o pid a.t a.s (shown_tally o pid a.t a.base) (e ∷ m.later) = a.along in
+        let holds : Holds a.K k o pid a.t a.s (shown_tally o pid a.t a.base) = along.holds in
         let owns : Owns k a.t a.s = holds.owns in
         let next : MakesNext a.t (exchange_of k e) = (makes-next k a.t e m.later along.makes).0 in
         let files : HasFiles k reached now =
@@ -314,12 +333,15 @@ module _ (n k : ℕ) (o : Options) (s : TracedState) (h : List Entry) (run : IsT
     of-event = by text-read
       where
         by-memory : (q : TracedProcess) (then : TracedState) (between : List Entry)
-            → live_process then.system pid ≡ Some q → Stays k o pid s q then between now
+            → live_process then.system pid ≡ Some q → q.borrower ≡ None → Stays k o pid s q then between now
             → (text ≡ text_of len (bytes_in (file_read then.system pid 0 from len Mem))) ⊎ WasKilled pid then between
-        by-memory q then between lives (halts p live halting memory) =
-            let same = same-read now.system then.system pid from len p q live lives memory.space in
+        by-memory q then between lives owns (halts p live halting memory) =
+            let kept : (p.borrower ≡ None) × (p.space ≡ q.space) = memory.own owns in
+            let seen : space_seen now.system p ≡ space_seen then.system q =
+            own-space now.system p kept.0 ∙ kept.1 ∙ sym (own-space then.system q owns) in
+            let same = same-read now.system then.system pid from len p q live lives seen in
             inl (m.stood ∙ ap (λ (x : Reply). text_of len (bytes_in x)) same)
-        by-memory q then between lives (over none killed) = inr killed
+        by-memory q then between lives owns (over none killed) = inr killed
 
         by : ReadsText k reached now its.1.0 its.1.1.0 m.handle from len its.1.1.1 pid m.held m.there m.of m.file
             → IsOfItsEvent k o pid from len s h earlier l text
@@ -357,7 +379,9 @@ module _ (n k : ℕ) (o : Options) (s : TracedState) (h : List Entry) (run : IsT
                   ∙ reported-is pid earlier;
               process = c.process;
               lives = c.lives;
-              stayed = by-memory c.process (state_after s (c.earlier ++ c.entry ∷ [])) c.between c.lives c.stays;
+              stayed =
+                  by-memory c.process (state_after s (c.earlier ++ c.entry ∷ [])) c.between c.lives
+                  (c.owns (from, len) (range-told o l r.event (from, len) r.tells asked)) c.stays;
             }
 
   event-memory : IsOfItsEvent k o pid from len s h earlier l text
@@ -370,14 +394,20 @@ born-memories : (n k : ℕ) (o : Options) (pid : ℕ) (s : TracedState) (h : Lis
 born-memories n k o pid s h reached run bytes born =
     record {
       each = λ earlier later l text from len is asked. event-memory n k o s h run pid
-          (first-along n k o pid s h reached run bytes born) earlier later l text from len is asked;
+          (shown-first n k o pid s h reached run bytes born) earlier later l text from len is asked;
     }
+
+pub lineage-memories : (n k : ℕ) (o : Options) (pid : ℕ) (s : TracedState) (h : List Entry) → IsReached s
+    → IsTrussRun n k o s h → HasBytes h → IsLeftToTruss k o pid s h
+    → AreOfTheirEvents k o pid s h (truss_at k o h).reports
+lineage-memories n k o pid s h reached run bytes left =
+    born-memories n k o pid s h reached run bytes (births n k o pid s h reached run bytes left)
 
 pub left-memories : (n k : ℕ) (o : Options) (pid : ℕ) (s : TracedState) (h : List Entry) → IsReached s
     → IsTrussRun n k o s h → HasBytes h → NamesNoChild o h → LeavesForks k o h
     → AreOfTheirEvents k o pid s h (truss_at k o h).reports
 left-memories n k o pid s h reached run bytes named forks =
-    born-memories n k o pid s h reached run bytes (births n k o s h reached run bytes named forks pid)
+    lineage-memories n k o pid s h reached run bytes (all-left k o pid s h named forks)
 
 pub unfollowed-memories : (n k : ℕ) (o : Options) (pid : ℕ) (s : TracedState) (h : List Entry) → IsReached s
     → IsTrussRun n k o s h → HasBytes h → IsNeverFollowed k o pid h
@@ -385,4 +415,10 @@ pub unfollowed-memories : (n k : ℕ) (o : Options) (pid : ℕ) (s : TracedState
 unfollowed-memories n k o pid s h reached run bytes unfollowed =
     born-memories n k o pid s h reached run bytes (unfollowed-births k o pid s h unfollowed)
 
-pub ruleset moments = (left-memories, unfollowed-memories)
+pub birth-memories : (n k : ℕ) (o : Options) (pid : ℕ) (s : TracedState) (h : List Entry) → IsReached s
+    → IsTrussRun n k o s h → HasBytes h → IsFollowedAtBirth k o pid s h
+    → AreOfTheirEvents k o pid s h (truss_at k o h).reports
+birth-memories n k o pid s h reached run bytes at =
+    born-memories n k o pid s h reached run bytes (opens-birth k o pid s h at)
+
+pub ruleset moments = (lineage-memories, left-memories, unfollowed-memories, birth-memories)

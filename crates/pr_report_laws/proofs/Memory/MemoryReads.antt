@@ -37,7 +37,7 @@ use Rattle.pr_truss_laws.specs.Exchanges.{Exchange, Makes, exchange_in, exchange
 use Rattle.pr_truss_laws.specs.Runs.{IsTrussRun}
 use Rattle.pr_report_laws.proofs.Files.FileSteps.{MakesNext, makes-next}
 use Rattle.pr_report_laws.proofs.Files.FileUses.{memory-read}
-use Rattle.pr_report_laws.proofs.Replies.OptionLemmas.{fed-options}
+use Rattle.pr_truss_laws.proofs.OptionLemmas.{fed-options}
 use Rattle.pr_report_laws.proofs.Machine.RecordLaws.{held-is, read-is}
 use Rattle.pr_report_laws.proofs.Replies.TextReports.{AsksItsRange, Grows, IsTold, IsToldEvent, as_before, asks-range, fed-goes, first-silent, one_more, silent, told}
 use Rattle.pr_report_laws.proofs.Files.WatchHistories.{IsAnswered, Reaches, after-cons, cons-exchanges, entry-reaches, exchange-answered, first-reaches, no-exchanges, truss_at-push}

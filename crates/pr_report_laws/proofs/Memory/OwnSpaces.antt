@@ -67,7 +67,7 @@ module _ (s : TracedState) (k m : ℕ) (h : Held) (held : handle_of s.opens k m 
       goes_on (with_control (without_modes fork_mode) p)
       (ap (λ (x : Answer). live_process x.state.system h.pid) is
       ∙ live-changed s.system h.pid (with_control (without_modes fork_mode)) p live refl)
-      (record { each = halting.each }) (record { space = refl })
+      (record { each = halting.each }) (record { own = λ lent_nothing. (lent_nothing, refl) })
 
   unfollow-halts : answer_to s k (message_call m (message.Unset fork_mode)) ≡ Some a → HaltsOn h.pid p a.state.system
   unfollow-halts is =

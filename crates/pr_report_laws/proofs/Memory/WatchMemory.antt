@@ -39,7 +39,7 @@ use Rattle.pr_report_laws.proofs.Files.FileSteps.{MakesNext, makes-next}
 use Rattle.pr_report_laws.proofs.Replies.NextStages.{opens}
 use Rattle.pr_report_laws.proofs.Replies.OpeningParts.{learnt-pid}
 use Rattle.pr_report_laws.proofs.Invariant.OpeningRuns.{child-pid}
-use Rattle.pr_report_laws.proofs.Replies.OptionLemmas.{fed-options}
+use Rattle.pr_truss_laws.proofs.OptionLemmas.{fed-options}
 use Rattle.pr_report_laws.proofs.Replies.StageChanges.{Comes, How, Opens, at, child_goes, child_starts, free, goes, less, no, starts}
 use Rattle.pr_report_laws.proofs.Replies.StageReplies.{fed-comes}
 use Rattle.pr_report_laws.proofs.Invariant.StandLemmas.{Stands}

@@ -13,6 +13,7 @@ use Rattle.pr_model.specs.declared.events.Turned.{Turned}
 use Rattle.pr_truss.specs.Trusses.{TrussState, traced_at}
 use Rattle.pr_truss_laws.proofs.StillLemmas.{halting-leaves}
 use Rattle.pr_truss_laws.specs.Stills.{with_lwp_stopped}
+use Rattle.pr_report_laws.proofs.Invariant.Tallies.{Tally}
 use Rattle.pr_report_laws.proofs.UnopenedChildren.ClaimEntries.{Left, left, stopped-forked}
 use Rattle.pr_report_laws.proofs.UnopenedChildren.ClaimEntries as entries
 use Rattle.pr_report_laws.proofs.UnopenedChildren.ClaimStands.{IsStanding, stood-at}
@@ -27,7 +28,6 @@ use Rattle.pr_report_laws.proofs.Invariant.Standing.{Position}
 use Rattle.pr_report_laws.specs.Births.{child_made}
 use Rattle.pr_reached.specs.Fits.{IsFitSystem}
 use Rattle.pr_report_laws.specs.Newborn.{WasForked}
-use Rattle.pr_report_laws.specs.Shown.{LwpEvent}
 
 -- A child that truss is to open was made by a fork of the history.
 
@@ -63,29 +63,30 @@ forked-before c past e f = record {
   made = f.made;
 }
 
-module _ (n k : ℕ) (o : Options) (t : TrussState) (s : TracedState) (e : Entry) (h : List Entry) (lawful : IsLawful s)
-    (fit : IsFitSystem s.system) (files : HasFiles k t s) (stand : (pid : ℕ) → IsStanding o pid t s)
+module _ (Line Told : ℕ → Type 0) (n k : ℕ) (o : Options) (t : TrussState) (s : TracedState) (e : Entry)
+    (h : List Entry) (lawful : IsLawful s) (fit : IsFitSystem s.system) (files : HasFiles k t s)
+    (stand : (pid : ℕ) → Line pid → IsStanding o pid t s)
     (stays : t.leaving ≡ false) (legal : IsLegalEntry n s e) (later : IsLawful (after s e))
     (others : e.actor ≢ Controller k) where
   abbrev Forked : ℕ → ℕ → Type 0
   Forked pid c = Claims o t.traced t.stage s.system pid c ⊎ IsForkOf c e
 
   -- a turn of a process that truss watches
-  turn-forks : (place c : ℕ) → IsFree t.traced t.stage place → o.follow ≡ true
+  turn-forks : (place c : ℕ) → Line (traced_at t place).pid → IsFree t.traced t.stage place → o.follow ≡ true
       → (id : ℕ) (d : LwpTurn) (p q : TracedProcess) → e ≡ turn_entry (traced_at t place).pid id d.turned
       → turn_of s.system (traced_at t place).pid id ≡ Some d
       → live_process s.system (traced_at t place).pid ≡ Some p → live_process d.system (traced_at t place).pid ≡ Some q
       → HasForked q c → Forked (traced_at t place).pid c
-  turn-forks place c free follow id d p q is taken live there forked =
+  turn-forks place c line free follow id d p q is taken live there forked =
       let w =
       stood-at k o t s files stays place free.within
-      (stand (traced_at t place).pid) free.attached free.here p live in
+      (stand (traced_at t place).pid line) free.attached free.here p live in
       by w.0 w.1
     where
       clash : (m : ℕ) → suc m ≡ 0 → ⊥
       clash m same = omega arith
 
-      by : {b g : List LwpEvent} → IsTracedBy o p → Position o t.stage place (traced_at t place).old p b g
+      by : {tally : Tally} → IsTracedBy o p → Position o t.stage place (traced_at t place).old p tally
           → Forked (traced_at t place).pid c
       by traced (st.stop_read read waits whole) = absurd (false≢true (sym free.read ∙ read))
       by traced (st.old_stops m read counts waits whole) = absurd (clash m (sym counts ∙ free.none))
@@ -106,14 +107,14 @@ module _ (n k : ℕ) (o : Options) (t : TrussState) (s : TracedState) (e : Entry
           ∙ there))) forked)))
 
   -- A child that truss is to open after the entry was one before it, or the entry is its fork.
-  pub claims-forked : (pid c : ℕ) → Claims o t.traced t.stage (after s e).system pid c → Forked pid c
-  claims-forked of c (claims.reads place within same claim) = inl (claims.reads place within same claim)
-  claims-forked of c (stands place free same follow q now forked) =
+  pub claims-forked : (pid c : ℕ) → Line pid → Claims o t.traced t.stage (after s e).system pid c → Forked pid c
+  claims-forked of c line (claims.reads place within same claim) = inl (claims.reads place within same claim)
+  claims-forked of c line (stands place free same follow q now forked) =
       subst (λ m. Forked m c) same
-      (by (left n k o t s e h lawful fit files stand stays legal later others place free.within q
+      (by (left Line Told n k o t s e h lawful fit files stand stays legal later others place free.within q
       (ap (live_process (after s e).system) same ∙ now)))
     where
       by : Left (traced_at t place).pid s e q → Forked (traced_at t place).pid c
       by (entries.alone p live apart) = inl (stands place free refl follow p live (alone-forked p q c apart forked))
       by (entries.turned id d p is taken live there) =
-          turn-forks place c free follow id d p q is taken live there forked
+          turn-forks place c (subst Line (sym same) line) free follow id d p q is taken live there forked

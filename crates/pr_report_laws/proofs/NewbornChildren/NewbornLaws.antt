@@ -1,7 +1,8 @@
 use Rattle.std.proofs.Common.{◌≡◌, ◌<◌, ℕ, false, true, None, Some, Option, List, [], ◌∷◌, ◌++◌, length, refl, sym, subst, ap, ◌∙◌, arith, inl, append_assoc}
-use Rattle.std.proofs.lemmas.List.{append-nil, length-append}
+use Rattle.std.proofs.lemmas.List.{length-append}
 use Rattle.std.proofs.lemmas.List.Elements.{All-head, All-nil, All-push, All-tail}
 use Rattle.std.specs.List.{All}
+use Rattle.pr_line.specs.Selections.{is_selected}
 use Rattle.pr_line.specs.declared.options.Options.{Options}
 use Rattle.pr_model.specs.Events.{events_from, events_of}
 use Rattle.pr_model.specs.Legal.{after, state_after}
@@ -25,29 +26,26 @@ use Rattle.pr_truss.specs.declared.stages.ChildStep.{ChildStep}
 use Rattle.pr_truss.specs.declared.stages.ChildStep.TheVariants as child
 use Rattle.pr_truss.specs.declared.stages.FreeingStep.TheVariants as freeing
 use Rattle.pr_truss.specs.declared.stages.Stage.TheVariants.{FreeingChild, OpeningChildControl}
-use Rattle.pr_truss_laws.proofs.OwnLemmas.{first-owns}
 use Rattle.pr_truss_laws.specs.Exchanges.{Exchange, IsGranted, Makes, calls_in, exchange_of, exchanges, truss_after, truss_at}
 use Rattle.pr_truss_laws.specs.Given.{reply_at}
 use Rattle.pr_truss_laws.specs.Runs.{IsTrussRun}
 use Rattle.pr_report_laws.proofs.Watching.BeginLaws.{BeginsChild, child-begins, followed-watches, freed-closes, freed-fed-again, given-opens, next-call}
 use Rattle.pr_report_laws.proofs.Watching.BeginsOnlyLaws.{stays-off}
-use Rattle.pr_report_laws.proofs.UnopenedChildren.Births.{Going, first-follows, first-traced}
+use Rattle.pr_report_laws.proofs.UnopenedChildren.Births.{ToldOf, all-left, first-going, first-traced, line-left}
 use Rattle.pr_report_laws.proofs.UnopenedChildren.Claims.{Claims}
 use Rattle.pr_report_laws.proofs.UnopenedChildren.Claims as claims
-use Rattle.pr_report_laws.proofs.Files.FileSteps.{first-files}
 use Rattle.pr_report_laws.proofs.Machine.FrameLaws.{no-events}
-use Rattle.pr_report_laws.proofs.Invariant.HistoryLaw.{first-is, first-prepares, selected-both}
-use Rattle.pr_report_laws.proofs.Replies.Leaving.{first-leaving}
+use Rattle.pr_report_laws.proofs.Invariant.HistoryLaw.{first-is, picked-both}
 use Rattle.pr_report_laws.proofs.Machine.MadeOnce.{not-both}
 use Rattle.pr_report_laws.proofs.NewbornChildren.NewbornForks.{forked-before}
 use Rattle.pr_report_laws.proofs.NewbornChildren.NewbornTurns.{HasRested, Rests, call-turn, rests-after}
 use Rattle.pr_report_laws.proofs.Invariant.OpeningRuns.{IsFollowing, OpensControl, born, born-fed, born-following, child-runs, freed, freed-fed, given, given-fed, granted-first, granted-rest, opens-control}
-use Rattle.pr_report_laws.proofs.Invariant.Standing.{apart}
 use Rattle.pr_report_laws.proofs.Files.WatchHistories.{after-append, makes-front, makes-rest, run-pushed}
 use Rattle.pr_report_laws.specs.Births.{LeavesForks, NamesNoChild}
+use Rattle.pr_report_laws.specs.Lineages.{IsLeftToTruss, Lineage, itself}
 use Rattle.pr_report_laws.specs.Attachments.{HasFollowed, child_calls}
 use Rattle.pr_report_laws.specs.Newborn.{IsNoTurnOf, WasForked, WasSpawned}
-use Rattle.pr_report_laws.specs.Shown.{LwpEvent, selected, shown}
+use Rattle.pr_report_laws.specs.Shown.{LwpEvent, picked, selected}
 use Rattle.pr_report_laws.specs.Watching.{watches}
 
 -- A child of a fork that truss follows does nothing before truss watches it.
@@ -56,7 +54,7 @@ use Rattle.pr_report_laws.specs.Watching.{watches}
 
 module _ (pid : ℕ) (t : TrussState) (last : Exchange) where
   -- before the last call of the opening
-  abbrev Placed : TrussState → Type 0
+  abbrev pub Placed : TrussState → Type 0
   Placed u = (parent : ℕ) × ((place : ℕ) × ((step : ChildStep) × IsFollowing u pid parent place step))
 
   born-placed : (x : Exchange) (xs : List Exchange) (parent : ℕ) → t.stage ≡ OpeningChildControl parent pid
@@ -69,7 +67,8 @@ module _ (pid : ℕ) (t : TrussState) (last : Exchange) where
       subst (λ u. Placed (truss_after u xs)) (sym (born-fed t pid x.reply (granted-first x xs all) parent stage))
       (parent, (length t.traced, (runs.0, runs.1.1)))
 
-  child-placed : (xs : List Exchange) (control : ℕ) → Makes t xs → calls_in (xs ++ last ∷ []) ≡ child_calls pid control
+  pub child-placed : (xs : List Exchange) (control : ℕ) → Makes t xs → calls_in
+      (xs ++ last ∷ []) ≡ child_calls pid control
       → All IsGranted xs → Placed (truss_after t xs)
   child-placed xs control makes calls granted =
       let b = child-begins pid control last xs calls in
@@ -98,7 +97,7 @@ module _ (pid : ℕ) (t : TrussState) (last : Exchange) where
           absurd (freed-closes t pid h pid (next-call _ (fed (fed t b.one.reply) b.two.reply) _ then third))
 
 -- what stands before a last exchange
-push-same : (xs ys : List Exchange) (x y : Exchange) → xs ++ x ∷ [] ≡ ys ++ y ∷ [] → xs ≡ ys
+pub push-same : (xs ys : List Exchange) (x y : Exchange) → xs ++ x ∷ [] ≡ ys ++ y ∷ [] → xs ≡ ys
 push-same [] [] x y is = refl
 push-same [] (b ∷ ys) x y is =
     absurd (omega (arith, ap (λ (zs : List Exchange). length zs) is, length-append ys (y ∷ [])))
@@ -112,45 +111,25 @@ push-same (a ∷ xs) (b ∷ ys) x y is =
 -- of a process that has no turn nothing is logged that is selected
 silent : (o : Options) (pid : ℕ) (h : List Entry) (s : TracedState) → All (IsNoTurnOf pid) h
     → selected o pid (events_from s h) ≡ []
-unfolding selected
+unfolding picked
 silent o pid [] s all = refl
 silent o pid (e ∷ h) s all =
     let first = All-head (IsNoTurnOf pid) e h all in
-    selected-both o pid (events_of s e) (events_from (after s e) h)
+    picked-both (is_selected o) pid (events_of s e) (events_from (after s e) h)
     ∙ ap (λ (xs : List LwpEvent). xs ++ selected o pid (events_from (after s e) h))
-    (no-events o pid s e (λ id. first.none id))
+    (no-events (is_selected o) pid s e (λ id. first.none id))
     ∙ silent o pid h (after s e) (All-tail (IsNoTurnOf pid) e h all)
 
 -- ---- the law
 
 module _ (n k : ℕ) (o : Options) (pid : ℕ) (s : TracedState) (before : List Entry) (e : Entry) (reached : IsReached s)
     (run : IsTrussRun n k o s (before ++ e ∷ [])) (bytes : HasBytes (before ++ e ∷ []))
-    (named : NamesNoChild o (before ++ e ∷ [])) (forks : LeavesForks k o (before ++ e ∷ [])) where
-  first-going : Going k o (first_truss o) s (before ++ e ∷ [])
-  first-going = record {
-    each = λ p.
-        let first = first-is o p in
-        record {
-          K = ⊥;
-          so_far = [];
-          holds = record {
-            lawful = run.lawful;
-            fit = reached.fit;
-            owns = first-owns k o s run.nothing_open;
-            files = first-files k o s;
-            options = first.options;
-            prepares = first-prepares o p s (first_truss o) first;
-            standing =
-                apart first.nobody (record {
-                  missing = [];
-                  is = sym (append-nil (shown p (first_truss o)) ∙ first.nothing);
-                  few = inl refl;
-                });
-          };
-        };
-    leaves = first-leaving o;
-    children = λ stays. first-follows k o (first_truss o) s (before ++ e ∷ []) (first-traced o);
-  }
+    (left : IsLeftToTruss k o pid s (before ++ e ∷ [])) where
+  abbrev Line : ℕ → Type 0
+  Line = Lineage k pid s (before ++ e ∷ [])
+
+  abbrev Told : ℕ → Type 0
+  Told = ToldOf k pid s (before ++ e ∷ [])
 
   nowhere : {X : Type 0} (place : ℕ) → place < length (first_truss o).traced → X
   nowhere place within = absurd (omega (arith, ap (λ (ts : List Traced). length ts) (first-traced o)))
@@ -159,18 +138,19 @@ module _ (n k : ℕ) (o : Options) (pid : ℕ) (s : TracedState) (before : List 
   unclaimed p c (claims.reads place within same is) = nowhere place within
   unclaimed p c (claims.stands place free same follow process live forked) = nowhere place free.within
 
-  first-rests : Rests k o (first_truss o) s [] (before ++ e ∷ [])
+  first-rests : Rests Line Told k o (first_truss o) s [] (before ++ e ∷ [])
   first-rests = record {
     unmade = λ c above. All-nil (IsNoTurnOf c);
-    claimed = λ stays p c claim. inl (All-nil (IsNoTurnOf c));
-    forked = λ stays p c claim. unclaimed p c claim;
-    child = λ parent place step is. let first = first-is o 0 in absurd (first.follows parent place step is);
+    claimed = λ stays p c line told claim. inl (All-nil (IsNoTurnOf c));
+    forked = λ stays p c line told claim. unclaimed p c claim;
+    child = λ parent place step is line. let first = first-is o 0 in absurd (first.follows parent place step is);
   }
 
-  rests : Rests k o (truss_at k o before) (state_after s before) before (e ∷ [])
+  rests : Rests Line Told k o (truss_at k o before) (state_after s before) before (e ∷ [])
   rests =
-      rests-after before n k o (e ∷ []) [] (first_truss o) s first-going run.legal run.makes reached.in_range bytes
-      (forks, named) first-rests
+      rests-after Line Told before n k o (e ∷ []) [] (first_truss o) s
+      (first-going Line Told n k o s (before ++ e ∷ []) reached run) run.legal run.makes reached.in_range bytes
+      (line-left k o pid s (before ++ e ∷ []) left) first-rests
 
   module _ (off : watches (truss_at k o before) pid ≡ false) (followed : HasFollowed k pid (before ++ e ∷ [])) where
     on : watches (truss_at k o (before ++ e ∷ [])) pid ≡ true
@@ -202,23 +182,45 @@ module _ (n k : ℕ) (o : Options) (pid : ℕ) (s : TracedState) (before : List 
             let w = placed x its in
             let f = w.1.1.1 in
             let r = rests in
-            let has : HasRested pid before = subst (λ m. HasRested m before) f.of (r.child w.0 w.1.0 w.1.1.0 f.stage) in
+            let has : HasRested pid before =
+            subst (λ m. HasRested m before) f.of
+            (r.child w.0 w.1.0 w.1.1.0 f.stage (subst Line (sym f.of) itself)) in
             (forked-before pid before e has.0, All-push (IsNoTurnOf pid) before e has.1 (call-turn k pid e x its))
 
     -- it was made by a fork
-    pub followed-forked : WasForked pid (before ++ e ∷ [])
-    followed-forked = rested.0
+    pub left-forked : WasForked pid (before ++ e ∷ [])
+    left-forked = rested.0
 
     -- and so by no controller
-    pub followed-unstarted : (by : ℕ) → WasSpawned by pid (before ++ e ∷ []) → ⊥
-    followed-unstarted by spawned = not-both n pid s (before ++ e ∷ []) run.lawful run.legal by followed-forked spawned
+    pub left-unstarted : (by : ℕ) → WasSpawned by pid (before ++ e ∷ []) → ⊥
+    left-unstarted by spawned = not-both n pid s (before ++ e ∷ []) run.lawful run.legal by left-forked spawned
 
     -- no lwp of it has had a turn
-    pub followed-rests : All (IsNoTurnOf pid) (before ++ e ∷ [])
-    followed-rests = rested.1
+    pub left-rests : All (IsNoTurnOf pid) (before ++ e ∷ [])
+    left-rests = rested.1
 
     -- and so no event of it that is selected was logged
-    pub followed-silent : selected o pid (events_from s (before ++ e ∷ [])) ≡ []
-    followed-silent = silent o pid (before ++ e ∷ []) s followed-rests
+    pub left-silent : selected o pid (events_from s (before ++ e ∷ [])) ≡ []
+    left-silent = silent o pid (before ++ e ∷ []) s left-rests
 
-pub ruleset newborns = (followed-forked, followed-rests, followed-silent)
+-- the same where all children of forks are left to truss
+module _ (n k : ℕ) (o : Options) (pid : ℕ) (s : TracedState) (before : List Entry) (e : Entry) (reached : IsReached s)
+    (run : IsTrussRun n k o s (before ++ e ∷ [])) (bytes : HasBytes (before ++ e ∷ []))
+    (named : NamesNoChild o (before ++ e ∷ [])) (forks : LeavesForks k o (before ++ e ∷ []))
+    (off : watches (truss_at k o before) pid ≡ false) (followed : HasFollowed k pid (before ++ e ∷ [])) where
+  its-left : IsLeftToTruss k o pid s (before ++ e ∷ [])
+  its-left = all-left k o pid s (before ++ e ∷ []) named forks
+
+  pub followed-forked : WasForked pid (before ++ e ∷ [])
+  followed-forked = left-forked n k o pid s before e reached run bytes its-left off followed
+
+  pub followed-unstarted : (by : ℕ) → WasSpawned by pid (before ++ e ∷ []) → ⊥
+  followed-unstarted = left-unstarted n k o pid s before e reached run bytes its-left off followed
+
+  pub followed-rests : All (IsNoTurnOf pid) (before ++ e ∷ [])
+  followed-rests = left-rests n k o pid s before e reached run bytes its-left off followed
+
+  pub followed-silent : selected o pid (events_from s (before ++ e ∷ [])) ≡ []
+  followed-silent = left-silent n k o pid s before e reached run bytes its-left off followed
+
+pub ruleset newborns = (left-forked, left-rests, left-silent, followed-forked, followed-rests, followed-silent)

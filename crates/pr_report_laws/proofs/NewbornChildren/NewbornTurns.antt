@@ -44,15 +44,15 @@ use Rattle.pr_truss_laws.proofs.HeldLemmas.{Fits, set-at}
 use Rattle.pr_truss_laws.proofs.StillLemmas.{frozen-turns}
 use Rattle.pr_truss_laws.specs.Exchanges.{Exchange, Makes, exchange_in, exchange_of, exchanges, truss_after}
 use Rattle.pr_truss_laws.specs.Stills.{IsFrozen}
-use Rattle.pr_report_laws.proofs.UnopenedChildren.Births.{Going, child-granted, entry-of, forks-later, going-on, is-call, own-after, own-stays, stand}
+use Rattle.pr_report_laws.proofs.UnopenedChildren.Births.{Going, child-granted, entry-of, going-on, is-own, own-after, own-stays, stand}
 use Rattle.pr_report_laws.proofs.UnopenedChildren.ClaimCalls.{claims-before}
 use Rattle.pr_report_laws.proofs.UnopenedChildren.ClaimEntries.{claims-were}
 use Rattle.pr_report_laws.proofs.UnopenedChildren.ClaimEntries as entries
 use Rattle.pr_report_laws.proofs.UnopenedChildren.ClaimRuns.{call_entry}
 use Rattle.pr_report_laws.proofs.UnopenedChildren.Claims.{Claims, claim_of}
 use Rattle.pr_report_laws.proofs.UnopenedChildren.Claims as claims
+use Rattle.pr_report_laws.proofs.UnopenedChildren.LeftChildren.{LeavesTo, leaves-later}
 use Rattle.pr_report_laws.proofs.Files.FileSteps.{MakesNext, entry-lawful, makes-next}
-use Rattle.pr_report_laws.proofs.Machine.ForkTurns.{LeavesChildren}
 use Rattle.pr_report_laws.proofs.Invariant.HistoryLaw.{after-next, no-exchanges, reads-back}
 use Rattle.pr_report_laws.proofs.Machine.NewBorn.{IsNeverGranted, never-later}
 use Rattle.pr_report_laws.proofs.NewbornChildren.NewbornForks.{IsForkOf, claims-forked, forked-before, forked-last}
@@ -124,15 +124,17 @@ abbrev pub HasRested : ℕ → List Entry → Type 0
 HasRested c past = WasForked c past × All (IsNoTurnOf c) past
 
 -- Of what came so far no entry is a turn of a process that is not made yet; nor of a child that truss is to open, or
--- truss
--- never opens it; nor of the child that truss opens now. These children were made by forks in it.
-pub record Rests (k : ℕ) (o : Options) (t : TrussState) (s : TracedState) (past h : List Entry) : Type 0 where
+-- truss never opens it; nor of the child that truss opens now. These children were made by forks in it. So it is of the
+-- processes of a line.
+pub record Rests (Line Told : ℕ → Type 0) (k : ℕ) (o : Options) (t : TrussState) (s : TracedState)
+    (past h : List Entry) : Type 0 where
   pub unmade : (c : ℕ) → s.system.made ≤ c → All (IsNoTurnOf c) past
-  pub claimed : t.leaving ≡ false → (pid c : ℕ) → Claims o t.traced t.stage s.system pid c
+  pub claimed : t.leaving ≡ false → (pid c : ℕ) → Line pid → Told c → Claims o t.traced t.stage s.system pid c
       → All (IsNoTurnOf c) past ⊎ IsNeverGranted k c h
-  pub forked : t.leaving ≡ false → (pid c : ℕ) → Claims o t.traced t.stage s.system pid c → WasForked c past
+  pub forked : t.leaving ≡ false → (pid c : ℕ) → Line pid → Told c → Claims o t.traced t.stage s.system pid c
+      → WasForked c past
   pub child : (parent place : ℕ) (step : ChildStep) → t.stage ≡ OpeningChild parent place step
-      → HasRested (traced_at t place).pid past
+      → Line (traced_at t place).pid → HasRested (traced_at t place).pid past
 
 -- ---- the children that truss is to open after an entry
 
@@ -144,19 +146,21 @@ data Came (o : Options) (t : TrussState) (s : TracedState) (e : Entry) (pid c : 
 abbrev ClaimsIn : Options → TrussState → TracedState → ℕ → ℕ → Type 0
 ClaimsIn o u v pid c = Claims o u.traced u.stage v.system pid c
 
-module _ (n k : ℕ) (o : Options) (t : TrussState) (s : TracedState) (h : List Entry) where
+module _ (Line Told : ℕ → Type 0) (n k : ℕ) (o : Options) (t : TrussState) (s : TracedState) (h : List Entry) where
   -- an entry that is no call of truss
-  others-came : (e : Entry) (g : Going k o t s (e ∷ h)) → LeavesChildren k o (e ∷ h) → IsLegalEntry n s e
-      → e.actor ≢ Controller k → t.leaving ≡ false → (pid c : ℕ) → ClaimsIn o t (after s e) pid c → Came o t s e pid c
-  others-came e g forks legal others stays pid c claim =
-      let w = g.each 0 in
-      let holds = w.holds in
-      elim (claims-were n k o t s e h holds.lawful holds.fit holds.files (stand n k o t s h e g) stays legal
-      (entry-lawful n s e holds.lawful legal) others forks (g.children stays) pid c claim) [
+  others-came : (e : Entry) (g : Going Line Told k o t s (e ∷ h)) → LeavesTo Line Told k o s (e ∷ h)
+      → IsLegalEntry n s e → e.actor ≢ Controller k → t.leaving ≡ false → (pid c : ℕ) → Line pid → Told c
+      → ClaimsIn o t (after s e) pid c → Came o t s e pid c
+  others-came e g forks legal others stays pid c line told claim =
+      let w = g.common in
+      let later = entry-lawful n s e w.lawful legal in
+      let stands = stand Line Told n k o t s h e g in
+      elim (claims-were Line Told n k o t s e h w.lawful w.fit w.files stands stays legal later others forks
+      (g.children stays) pid c line told claim) [
         | entries.claimed x ↦ was stays x
         | entries.made id actor next born ↦
-            elim (claims-forked n k o t s e h holds.lawful holds.fit holds.files (stand n k o t s h e g) stays legal
-            (entry-lawful n s e holds.lawful legal) others pid c claim) [
+            elim (claims-forked Line Told n k o t s e h w.lawful w.fit w.files stands stays legal later others pid c
+            line claim) [
               | inl x ↦ was stays x
               | inr fork ↦ new next
                   fork
@@ -164,84 +168,78 @@ module _ (n k : ℕ) (o : Options) (t : TrussState) (s : TracedState) (h : List 
       ]
 
   -- a call of truss
-  own-came : (c : Call) (a : Answer) (g : Going k o t s (call_entry k c a ∷ h)) → ((pid : ℕ) → ReadsBack pid s)
+  own-came : (c : Call) (a : Answer) (g : Going Line Told k o t s (call_entry k c a ∷ h))
+      → LeavesTo Line Told k o s (call_entry k c a ∷ h) → ((pid : ℕ) → ReadsBack pid s)
       → IsLegalEntry n s (call_entry k c a) → MakesNext t (Some (record { call = c; reply = a.reply }))
       → answer_to s k c ≡ Some a
-      → (fed t a.reply).leaving ≡ false → (e : Entry) (pid of : ℕ)
+      → (fed t a.reply).leaving ≡ false → (e : Entry) (pid of : ℕ) → Line pid
       → ClaimsIn o (fed t a.reply) (after s (call_entry k c a)) pid of → Came o t s e pid of
-  own-came c a g reads legal next answer on e pid of claim =
-      let stays = own-stays n k o t s h c a g reads legal next answer on in
-      let later = own-after n k o t s h c a g reads legal next answer in
+  own-came c a g forks reads legal next answer on e pid of line claim =
+      let stays = own-stays Line Told n k o t s h c a g reads legal next answer on in
+      let later = own-after Line Told n k o t s h c a g reads legal next answer in
+      let w = g.common in
       was stays
-      (claims-before n k o t s c a
-      (record {
-        call = is-call n k o t s h c a g reads legal next answer;
-        stands = stand n k o t s h
-            (call_entry k c a) g;
-        legal =
-            legal;
-        later = later;
-        stays = stays;
-      }) g.leaves h (g.children stays) on pid of
+      (claims-before Line Told n k o t s c a (is-own Line Told n k o t s h c a g reads legal next answer stays) w.leaves
+      h (g.children stays) forks on pid of line
       (subst (λ (v : TracedState). ClaimsIn o (fed t a.reply) v pid of) later claim))
 
   module _ (reads : (pid : ℕ) → ReadsBack pid s) where
     call-came : (by : ℕ) (c : Call) (r : Reply) (mine : Bool) → (by == k) ≡ mine
-        → Going k o t s (record { actor = Controller by; act = act.Call c r } ∷ h)
-        → LeavesChildren k o (record { actor = Controller by; act = act.Call c r } ∷ h)
+        → Going Line Told k o t s (record { actor = Controller by; act = act.Call c r } ∷ h)
+        → LeavesTo Line Told k o s (record { actor = Controller by; act = act.Call c r } ∷ h)
         → IsLegalEntry n s (record { actor = Controller by; act = act.Call c r })
         → MakesNext t (cond mine (Some (record { call = c; reply = r })) None)
         → (with_exchange t (cond mine (Some (record { call = c; reply = r })) None)).leaving ≡ false
-        → (pid of : ℕ)
+        → (pid of : ℕ) → Line pid → Told of
         → ClaimsIn o (with_exchange t (cond mine (Some (record { call = c; reply = r })) None))
         (after s (record { actor = Controller by; act = act.Call c r })) pid of
         → Came o t s (record { actor = Controller by; act = act.Call c r }) pid of
     unfolding IsLegalEntry
-    call-came by c r false is g forks legal next on pid of claim =
+    call-came by c r false is g forks legal next on pid of line told claim =
         others-came (record { actor = Controller by; act = act.Call c r }) g forks legal
-        (λ same. eqb-false by k is (of-controller by k same)) on pid of claim
+        (λ same. eqb-false by k is (of-controller by k same)) on pid of line told claim
       where
         of-controller : (x y : ℕ) → Controller x ≡ Controller y → x ≡ y
         of-controller x y same = cc
-    call-came by c r true is g forks legal next on pid of claim =
-        subst (λ b. Going k o t s (record { actor = Controller b; act = act.Call c r } ∷ h) → IsLegalEntry n s
+    call-came by c r true is g forks legal next on pid of line told claim =
+        subst (λ b. Going Line Told k o t s (record { actor = Controller b; act = act.Call c r } ∷ h)
+        → LeavesTo Line Told k o s (record { actor = Controller b; act = act.Call c r } ∷ h) → IsLegalEntry n s
         (record { actor = Controller b; act = act.Call c r })
         → answer_to s b c ≡ Some (record { state = legal.1.0; reply = r })
         → ClaimsIn o (fed t r) (after s (record { actor = Controller b; act = act.Call c r })) pid of
         → Came o t s (record { actor = Controller by; act = act.Call c r }) pid of)
         (sym (eqb-true by k is))
-        (λ g' l answer x. own-came c (record { state = legal.1.0; reply = r }) g' reads l next answer on
-        (record { actor = Controller by; act = act.Call c r }) pid of x) g legal legal.1.1 claim
+        (λ g' fs l answer x. own-came c (record { state = legal.1.0; reply = r }) g' fs reads l next answer on
+        (record { actor = Controller by; act = act.Call c r }) pid of line x) g forks legal legal.1.1 claim
 
-    actor-came : (actor : Actor) (it : Act) → Going k o t s (record { actor = actor; act = it } ∷ h)
-        → LeavesChildren k o (record { actor = actor; act = it } ∷ h)
+    actor-came : (actor : Actor) (it : Act) → Going Line Told k o t s (record { actor = actor; act = it } ∷ h)
+        → LeavesTo Line Told k o s (record { actor = actor; act = it } ∷ h)
         → IsLegalEntry n s (record { actor = actor; act = it }) → MakesNext t (exchange_in k actor it)
         → (with_exchange t (exchange_in k actor it)).leaving ≡ false → (pid c : ℕ)
+        → Line pid → Told c
         → ClaimsIn o (with_exchange t (exchange_in k actor it)) (after s (record { actor = actor; act = it })) pid c
         → Came o t s (record { actor = actor; act = it }) pid c
     unfolding IsLegalEntry
-    actor-came (Controller by) (act.Call c r) g forks legal next on pid of claim =
-        call-came by c r (by == k) refl g forks legal next on pid of claim
-    actor-came (Lwp who id) it g forks legal next on pid c claim =
-        others-came (record { actor = Lwp who id; act = it }) g forks legal (λ same. cc) on pid c claim
-    actor-came Clock it g forks legal next on pid c claim =
-        others-came (record { actor = Clock; act = it }) g forks legal (λ same. cc) on pid c claim
-    actor-came (Controller by) (act.Turn did) g forks legal next on pid c claim = absurd legal
-    actor-came (Controller by) (act.Tick moment) g forks legal next on pid c claim = absurd legal
+    actor-came (Controller by) (act.Call c r) g forks legal next on pid of line told claim =
+        call-came by c r (by == k) refl g forks legal next on pid of line told claim
+    actor-came (Lwp who id) it g forks legal next on pid c line told claim =
+        others-came (record { actor = Lwp who id; act = it }) g forks legal (λ same. cc) on pid c line told claim
+    actor-came Clock it g forks legal next on pid c line told claim =
+        others-came (record { actor = Clock; act = it }) g forks legal (λ same. cc) on pid c line told claim
+    actor-came (Controller by) (act.Turn did) g forks legal next on pid c line told claim = absurd legal
+    actor-came (Controller by) (act.Tick moment) g forks legal next on pid c line told claim = absurd legal
 
 -- ---- what an entry leaves
 
-module _ (n k : ℕ) (o : Options) (t : TrussState) (s : TracedState) (h past : List Entry) (e : Entry)
-    (g : Going k o t s (e ∷ h)) (reads : (pid : ℕ) → ReadsBack pid s) (forks : LeavesChildren k o (e ∷ h))
-    (legal : IsLegalEntry n s e) (next : MakesNext t (exchange_of k e)) (r : Rests k o t s past (e ∷ h)) where
+module _ (Line Told : ℕ → Type 0) (n k : ℕ) (o : Options) (t : TrussState) (s : TracedState) (h past : List Entry)
+    (e : Entry) (g : Going Line Told k o t s (e ∷ h)) (reads : (pid : ℕ) → ReadsBack pid s)
+    (forks : LeavesTo Line Told k o s (e ∷ h)) (legal : IsLegalEntry n s e) (next : MakesNext t (exchange_of k e))
+    (r : Rests Line Told k o t s past (e ∷ h)) where
   lawful : IsLawful s
-  lawful = let w = g.each 0 in let holds = w.holds in holds.lawful
+  lawful = let w = g.common in w.lawful
 
   reaches : Reaches k t s
-  reaches =
-      let w = g.each 0 in
-      let holds = w.holds in
-      record { lawful = holds.lawful; owns = holds.owns; files = holds.files }
+  reaches = let w = g.common in record { lawful = w.lawful; owns = w.owns; files = w.files }
 
   pushed : (c : ℕ) → IsNoTurnOf c e → All (IsNoTurnOf c) past → All (IsNoTurnOf c) (past ++ e ∷ [])
   pushed c other all = All-push (IsNoTurnOf c) past e all other
@@ -265,14 +263,14 @@ module _ (n k : ℕ) (o : Options) (t : TrussState) (s : TracedState) (h past : 
 
   -- ---- a child that truss is to open
 
-  claim-later : (stays : t.leaving ≡ false) (pid c : ℕ) → ClaimsIn o t s pid c
+  claim-later : (stays : t.leaving ≡ false) (pid c : ℕ) → Line pid → Told c → ClaimsIn o t s pid c
       → All (IsNoTurnOf c) (past ++ e ∷ []) ⊎ IsNeverGranted k c h
-  claim-later stays pid c claim =
+  claim-later stays pid c line told claim =
       let f = g.children stays in
-      let b = f.born pid c claim in
+      let b = f.born pid c line told claim in
       elim b.now [
         | inr never ↦ inr (never-later k c e h never)
-        | inl untouched ↦ elim (r.claimed stays pid c claim) [
+        | inl untouched ↦ elim (r.claimed stays pid c line told claim) [
           | inr never ↦ inr (never-later k c e h never)
           | inl all ↦ inl
               (pushed c
@@ -280,33 +278,35 @@ module _ (n k : ℕ) (o : Options) (t : TrussState) (s : TracedState) (h past : 
         ]
       ]
 
-  came-forked : (pid c : ℕ) → Came o t s e pid c → WasForked c (past ++ e ∷ [])
-  came-forked pid c (was stays claim) = forked-before c past e (r.forked stays pid c claim)
-  came-forked pid c (new is fork) = forked-last c past e fork
+  came-forked : (pid c : ℕ) → Line pid → Told c → Came o t s e pid c → WasForked c (past ++ e ∷ [])
+  came-forked pid c line told (was stays claim) = forked-before c past e (r.forked stays pid c line told claim)
+  came-forked pid c line told (new is fork) = forked-last c past e fork
 
-  came-later : (pid c : ℕ) → Came o t s e pid c → All (IsNoTurnOf c) (past ++ e ∷ []) ⊎ IsNeverGranted k c h
-  came-later pid c (was stays claim) = claim-later stays pid c claim
-  came-later pid c (new is fork) = inl (pushed c (unmade-turn c (omega (arith, is))) (r.unmade c (omega (arith, is))))
+  came-later : (pid c : ℕ) → Line pid → Told c → Came o t s e pid c
+      → All (IsNoTurnOf c) (past ++ e ∷ []) ⊎ IsNeverGranted k c h
+  came-later pid c line told (was stays claim) = claim-later stays pid c line told claim
+  came-later pid c line told (new is fork) =
+      inl (pushed c (unmade-turn c (omega (arith, is))) (r.unmade c (omega (arith, is))))
 
   -- ---- the child that truss opens
 
   child-turn : (parent place : ℕ) (step : ChildStep) → t.stage ≡ OpeningChild parent place step
-      → IsNoTurnOf (traced_at t place).pid e
-  child-turn parent place step is =
+      → Line (traced_at t place).pid → IsNoTurnOf (traced_at t place).pid e
+  child-turn parent place step is line =
       still-turn n s (traced_at t place).pid e legal
       (λ p live. let w = g.each
-      (traced_at t place).pid in let holds =
+      (traced_at t place).pid line in let holds =
       w.holds in let opening =
       holds.prepares in let b = opening.child parent place step p is refl live in b.waits.frozen)
 
-  module _ (x : Exchange) (its : exchange_of k e ≡ Some x) where
+  module _ (x : Exchange) (its_exchange : exchange_of k e ≡ Some x) where
     -- its control file is opened now
     opened-handle : (parent pid : ℕ) → t.stage ≡ OpeningChildControl parent pid → answer_of x.reply ≡ Accepted
         → (handle : ℕ) × (x.reply ≡ Handle handle)
     unfolding next_call_of call_of
     opened-handle parent pid is accepted =
-        let answered : IsAnswered k s x = exchange-answered n k s e x legal its in
-        let makes : next_call_of t ≡ Some x.call = subst (MakesNext t) its next in
+        let answered : IsAnswered k s x = exchange-answered n k s e x legal its_exchange in
+        let makes : next_call_of t ≡ Some x.call = subst (MakesNext t) its_exchange next in
         let calls : call.Open pid 0 file.Ctl WriteExcl ≡ x.call =
         same_Some _ x.call (ap (call_of t) (sym is) ∙ makes) in
         let given =
@@ -314,38 +314,40 @@ module _ (n k : ℕ) (o : Options) (t : TrussState) (s : TracedState) (h past : 
         ∙ answered.is) (ap answer_of answered.reply ∙ accepted) in
         (given.0, sym answered.reply ∙ given.1)
 
-    opened-past : (parent pid : ℕ) → t.stage ≡ OpeningChildControl parent pid → answer_of x.reply ≡ Accepted
+    opened-past : (parent pid : ℕ) → Line pid → t.stage ≡ OpeningChildControl parent pid → answer_of x.reply ≡ Accepted
         → HasRested pid past
-    opened-past parent pid is accepted =
-        let w = g.each 0 in
-        let holds = w.holds in
-        let files = holds.files in
+    opened-past parent pid line is accepted =
+        let w = g.common in
+        let files = w.files in
         let st = files.stands in
         let stays : t.leaving ≡ false = subst (Leaves t.leaving) is st.leaves in
-        let owns = holds.owns in
+        let owns = w.owns in
         let within : parent < length t.traced = subst (Fits t.traced) is owns.fits in
-        let claim : ClaimsIn o t s (traced_at t parent).pid pid =
-        claims.reads parent within refl (ap (λ (y : Stage). claim_of o y parent) is
-        ∙ ap (λ b. cond b (Some pid) None) (eq-eqb parent parent refl)) in
+        let its_claim : claim_of o t.stage parent ≡ Some pid =
+        ap (λ (y : Stage). claim_of o y parent) is ∙ ap (λ b. cond b (Some pid) None) (eq-eqb parent parent refl) in
+        let claim : ClaimsIn o t s (traced_at t parent).pid pid = claims.reads parent within refl its_claim in
+        let f = g.children stays in
+        let its = f.parents parent pid within its_claim line in
         let given = opened-handle parent pid is accepted in
         let entry : e ≡ granted k pid 0 file.Ctl WriteExcl given.0 =
-        child-granted n k o t s h e x pid given.0 parent next its is given.1 in
-        elim (r.claimed stays (traced_at t parent).pid pid claim) [
+        child-granted Line Told n k o t s h e x pid given.0 parent next its_exchange is given.1 in
+        elim (r.claimed stays (traced_at t parent).pid pid its.0 its.1 claim) [
           | inl all ↦
-              (r.forked stays (traced_at t parent).pid pid claim, all)
+              (r.forked stays (traced_at t parent).pid pid its.0 its.1 claim, all)
           | inr never ↦ absurd
-              (never.none [] h 0 given.0 file.Ctl WriteExcl (ap (λ y. y ∷ h) entry) refl)
+              (never.none [] h given.0 (ap (λ y. y ∷ h) entry))
         ]
 
     opens-past : (u : TrussState) (q : ℕ) → Opens t x.reply q u → (parent place : ℕ) (step : ChildStep)
-        → u.stage ≡ OpeningChild parent place step → HasRested (traced_at u place).pid past
+        → u.stage ≡ OpeningChild parent place step → Line (traced_at u place).pid
+        → HasRested (traced_at u place).pid past
     unfolding with_control
-    opens-past u q (no none stays) parent place step now = absurd (false≢true (sym none ∙ ap opens now))
-    opens-past u q (starts pid is accepted same) parent place step now =
+    opens-past u q (no none stays) parent place step now line = absurd (false≢true (sym none ∙ ap opens now))
+    opens-past u q (starts pid is accepted same) parent place step now line =
         absurd (let it = ap (λ (v : TrussState). v.stage) (sym same) ∙ now in cc)
-    opens-past u q (goes before after_it is accepted comes same) parent place step now =
+    opens-past u q (goes before after_it is accepted comes same) parent place step now line =
         absurd (let it = ap (λ (v : TrussState). v.stage) (sym same) ∙ now in cc)
-    opens-past u q (child_starts of pid is accepted same) parent place step now =
+    opens-past u q (child_starts of pid is accepted same) parent place step now line =
         let w = born-following t of pid (handle_in x.reply) in
         let it : OpeningChild of (length t.traced) child.SetRelease ≡ OpeningChild parent place step =
         sym w.stage ∙ ap (λ (v : TrussState). v.stage) (sym same) ∙ now in
@@ -353,15 +355,14 @@ module _ (n k : ℕ) (o : Options) (t : TrussState) (s : TracedState) (h past : 
         let own : (traced_at u place).pid ≡ pid =
         ap (λ (v : TrussState). (traced_at v place).pid) same
         ∙ ap (λ m. (traced_at (with_child_control t of pid (handle_in x.reply)) m).pid) (sym here) ∙ w.of in
-        subst (λ m. HasRested m past) (sym own) (opened-past of pid is accepted)
-    opens-past u q (child_goes of before after_it is accepted comes same) parent place step now =
+        subst (λ m. HasRested m past) (sym own) (opened-past of pid (subst Line own line) is accepted)
+    opens-past u q (child_goes of before after_it is accepted comes same) parent place step now line =
         let learnt : Traced = child_learnt (traced_at t q) x.reply before in
         let it : OpeningChild of q after_it ≡ OpeningChild parent place step =
         ap (λ (v : TrussState). v.stage) (sym same) ∙ now in
         let here : q ≡ place = cc in
-        let w = g.each 0 in
-        let holds = w.holds in
-        let owns = holds.owns in
+        let w = g.common in
+        let owns = w.owns in
         let f : Fits t.traced (OpeningChild of q before) = subst (Fits t.traced) is owns.fits in
         let last = f.0 in
         let own : (traced_at u place).pid ≡ (traced_at t q).pid =
@@ -369,60 +370,60 @@ module _ (n k : ℕ) (o : Options) (t : TrussState) (s : TracedState) (h past : 
         ∙ ap (λ m. (traced_at (with_traced t q learnt) m).pid) (sym here)
         ∙ ap (λ (y : Traced). y.pid) (set-at t.traced q learnt (omega (arith, last.last)))
         ∙ child-pid (traced_at t q) x.reply before in
-        subst (λ m. HasRested m past) (sym own) (r.child of q before is)
+        subst (λ m. HasRested m past) (sym own) (r.child of q before is (subst Line own line))
 
     how-past : (u : TrussState) → How t x.reply u → (parent place : ℕ) (step : ChildStep)
-        → u.stage ≡ OpeningChild parent place step → HasRested (traced_at u place).pid past
-    how-past u (free places f begins) parent place step now = absurd (false≢true (sym f.opens ∙ ap opens now))
-    how-past u (less q following is removed f) parent place step now = absurd (false≢true (sym f.opens ∙ ap opens now))
-    how-past u (at q w) parent place step now = opens-past u q w.opens parent place step now
+        → u.stage ≡ OpeningChild parent place step → Line (traced_at u place).pid
+        → HasRested (traced_at u place).pid past
+    how-past u (free places f begins) parent place step now line = absurd (false≢true (sym f.opens ∙ ap opens now))
+    how-past u (less q following is removed f) parent place step now line =
+        absurd (false≢true (sym f.opens ∙ ap opens now))
+    how-past u (at q w) parent place step now line = opens-past u q w.opens parent place step now line
 
   child-later : (x : Option Exchange) → exchange_of k e ≡ x → (parent place : ℕ) (step : ChildStep)
-      → (with_exchange t x).stage ≡ OpeningChild parent place step
+      → (with_exchange t x).stage ≡ OpeningChild parent place step → Line (traced_at (with_exchange t x) place).pid
       → HasRested (traced_at (with_exchange t x) place).pid (past ++ e ∷ [])
-  child-later None is parent place step now =
-      rested (traced_at t place).pid (child-turn parent place step now) (r.child parent place step now)
-  child-later (Some x) is parent place step now =
+  child-later None is parent place step now line =
+      rested (traced_at t place).pid (child-turn parent place step now line) (r.child parent place step now line)
+  child-later (Some x) is parent place step now line =
       let c = reached-comes k t s x.reply reaches in
       rested (traced_at (fed t x.reply) place).pid (call-turn k (traced_at (fed t x.reply) place).pid e x is)
-      (how-past x is (fed t x.reply) c.how parent place step now)
+      (how-past x is (fed t x.reply) c.how parent place step now line)
 
-  pub rests-on : Rests k o (told_of k t e) (after s e) (past ++ e ∷ []) h
+  pub rests-on : Rests Line Told k o (told_of k t e) (after s e) (past ++ e ∷ []) h
   rests-on = record {
     unmade = unmade-later;
     claimed =
-        λ on pid c claim. came-later pid c
-        (actor-came n k o t s h reads e.actor e.act g forks legal next on pid c claim);
+        λ on pid c line told claim. came-later pid c line told
+        (actor-came Line Told n k o t s h reads e.actor e.act g forks legal next on pid c line told claim);
     forked =
-        λ on pid c claim. came-forked pid c
-        (actor-came n k o t s h reads e.actor e.act g forks legal next on pid c claim);
+        λ on pid c line told claim. came-forked pid c line told
+        (actor-came Line Told n k o t s h reads e.actor e.act g forks legal next on pid c line told claim);
     child = child-later (exchange_of k e) refl;
   }
 
 -- ---- histories
 
-pub rests-after : (before : List Entry) (n k : ℕ) (o : Options) (rest past : List Entry) (t : TrussState)
-    (s : TracedState) → Going k o t s (before ++ rest) → IsLegal n s (before ++ rest)
+pub rests-after : (Line Told : ℕ → Type 0) (before : List Entry) (n k : ℕ) (o : Options) (rest past : List Entry)
+    (t : TrussState) (s : TracedState) → Going Line Told k o t s (before ++ rest) → IsLegal n s (before ++ rest)
     → Makes t (exchanges k (before ++ rest)) → IsInRange s.system → HasBytes (before ++ rest)
-    → LeavesChildren k o (before ++ rest)
-    → Rests k o t s past (before ++ rest)
-    → Rests k o (truss_after t (exchanges k before)) (state_after s before) (past ++ before) rest
-rests-after [] n k o rest past t s g legal makes range bytes forks r =
-    subst (λ (u : TrussState). Rests k o u s (past ++ []) rest) (sym (no-exchanges k t))
-    (subst (λ (es : List Entry). Rests k o t s es rest) (sym (append-nil past)) r)
-rests-after (e ∷ before) n k o rest past t s g legal makes range bytes forks r =
+    → LeavesTo Line Told k o s (before ++ rest) → Rests Line Told k o t s past (before ++ rest)
+    → Rests Line Told k o (truss_after t (exchanges k before)) (state_after s before) (past ++ before) rest
+rests-after Line Told [] n k o rest past t s g legal makes range bytes forks r =
+    subst (λ (u : TrussState). Rests Line Told k o u s (past ++ []) rest) (sym (no-exchanges k t))
+    (subst (λ (es : List Entry). Rests Line Told k o t s es rest) (sym (append-nil past)) r)
+rests-after Line Told (e ∷ before) n k o rest past t s g legal makes range bytes forks r =
     let first = makes-next k t e (before ++ rest) makes in
-    let w = g.each 0 in
-    let holds = w.holds in
-    let reads : (pid : ℕ) → ReadsBack pid s = λ pid. reads-back pid s holds.lawful range in
-    let later = rests-on n k o t s (before ++ rest) past e g reads forks legal.0 first.0 r in
-    subst (λ (u : TrussState). Rests k o u (state_after (after s e) before) (past ++ e ∷ before) rest)
+    let w = g.common in
+    let reads : (pid : ℕ) → ReadsBack pid s = λ pid. reads-back pid s w.lawful range in
+    let later = rests-on Line Told n k o t s (before ++ rest) past e g reads forks legal.0 first.0 r in
+    subst (λ (u : TrussState). Rests Line Told k o u (state_after (after s e) before) (past ++ e ∷ before) rest)
     (sym (after-next k t e before))
-    (subst (λ (es : List Entry). Rests k o (truss_after (told_of k t e) (exchanges k before))
+    (subst (λ (es : List Entry). Rests Line Told k o (truss_after (told_of k t e) (exchanges k before))
     (state_after (after s e) before) es rest) (append_assoc past (e ∷ []) before)
-    (rests-after before n k o rest (past ++ e ∷ []) (told_of k t e) (after s e)
-    (going-on n k o t s (before ++ rest) reads e g forks legal.0 first.0) legal.1 first.1
-    (history-range n s (e ∷ []) holds.lawful range
+    (rests-after Line Told before n k o rest (past ++ e ∷ []) (told_of k t e) (after s e)
+    (going-on Line Told n k o t s (before ++ rest) reads e g forks legal.0 first.0) legal.1 first.1
+    (history-range n s (e ∷ []) w.lawful range
     (All-cons IsEntryOfBytes e [] (All-head IsEntryOfBytes e (before ++ rest) bytes) (All-nil IsEntryOfBytes))
     (legal.0, tt)) (All-tail IsEntryOfBytes e (before ++ rest) bytes)
-    (forks-later k o e (before ++ rest) forks) later))
+    (leaves-later Line Told k o s e (before ++ rest) forks) later))

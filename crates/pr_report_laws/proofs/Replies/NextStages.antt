@@ -67,13 +67,6 @@ pub record ComesNext (t u : TrussState) : Type 0 where
   pub pending : pending_at u u.stage ≡ []
   pub opens : opens u.stage ≡ false
 
--- no more is shown
-pub comes-shows : (pid : ℕ) (t u : TrussState) → pending_at t t.stage ≡ [] → ComesNext t u → shown pid u ≡ shown pid t
-comes-shows pid t u none c =
-    shown-all pid u
-    ∙ ap (reported pid) (all-none u c.pending ∙ ap (λ (rs : List Report). rs ++ []) c.reports
-    ∙ sym (all-none t none)) ∙ sym (shown-all pid t)
-
 -- the processes stand where they stood
 pub comes-places : (pid : ℕ) (t u : TrussState) → ComesNext t u → place_of u pid ≡ place_of t pid
 comes-places pid t u c = ap (λ (ts : List Traced). place_of (record t { traced = ts }) pid) c.traced

@@ -25,6 +25,7 @@ use Rattle.pr_truss.specs.declared.stages.Stage.TheVariants.{Spawning, OpeningCo
 use Rattle.pr_truss_laws.proofs.HeldLemmas.{Fits}
 use Rattle.pr_truss_laws.proofs.OpensLemmas.{held_by}
 use Rattle.pr_truss_laws.proofs.OwnLemmas.{Owns}
+use Rattle.pr_report_laws.proofs.Invariant.Tallies.{IsWhole, Tally}
 use Rattle.pr_report_laws.proofs.Files.FileLaws.{HasFiles}
 use Rattle.pr_report_laws.proofs.Files.FileUses.{opening-read}
 use Rattle.pr_report_laws.proofs.Machine.OpeningFacts.{opening-done, stop-has-no-end}
@@ -36,19 +37,19 @@ use Rattle.pr_report_laws.proofs.Machine.PollLaws.{never-interrupted}
 use Rattle.pr_report_laws.proofs.Invariant.Standing.{Accounted, Prepares, Standing}
 use Rattle.pr_report_laws.proofs.Replies.Unwatched.{apart-accounted}
 use Rattle.pr_reached.specs.Fits.{IsFitSystem}
-use Rattle.pr_report_laws.specs.Shown.{LwpEvent, shown}
+use Rattle.pr_report_laws.specs.Shown.{LwpEvent}
 
 -- The call of a step of an opening, and what it leaves.
 
 -- nothing is missing where there is no cause for it
-pub accounted-whole : (Why : Type 0) (base so_far : List LwpEvent) → (Why → ⊥) → Accounted Why base so_far
-    → base ≡ so_far
-accounted-whole Why base so_far never a = elim a.few [
-  | inl none ↦ a.is ∙ ap (λ (xs : List LwpEvent). so_far ++ xs) none ∙ append-nil so_far
+pub accounted-whole : (Why : Type 0) (tally : Tally) → (Why → ⊥) → Accounted Why tally
+    → IsWhole tally
+accounted-whole Why tally never a = elim a.few [
+  | inl none ↦ a.is ∙ ap (λ (xs : List LwpEvent). tally.told ++ xs) none ∙ append-nil tally.told
   | inr one ↦ absurd (never one.1.1)
 ]
 
-module _ (Why : Type 0) (o : Options) (pid : ℕ) (t : TrussState) (s : TracedState) (base : List LwpEvent) (k : ℕ)
+module _ (Why : Type 0) (o : Options) (pid : ℕ) (t : TrussState) (s : TracedState) (tally : Tally) (k : ℕ)
     (c : Call) (a : Answer) (next : next_call_of t ≡ Some c) (is : answer_to s k c ≡ Some a)
     (place : ℕ) (step : OpeningStep) (stage : t.stage ≡ Opening place step) (order : IsOrderly t)
     (options : t.options ≡ o)
@@ -83,15 +84,16 @@ module _ (Why : Type 0) (o : Options) (pid : ℕ) (t : TrussState) (s : TracedSt
 
     -- where no event is missing of a process that lives after the call
     pub opening-call : (Why → live_process a.state.system pid ≡ None) → IsOrderly (fed t a.reply) → Prepares o pid t s
-        → Stood Why o pid t s a.state base place → Comes Why o pid (fed t a.reply) a.state base
+        → Stood Why o pid t s a.state tally place → Comes Why o pid (fed t a.reply) a.state tally
     opening-call ended later asked stood =
-        opening-step Why o pid t s a.state base a.reply place step stage order options (step-does asked)
+        opening-step Why o pid t s a.state tally a.reply place step stage order options (step-does asked)
         (λ now accepted. stop-has-no-end s k (held_by k (traced_at t place).pid 0 Ctl WriteExcl) o
         (traced_at t place) control refl a accepted step now opening-is)
         asked
         (λ last own p q before live.
-        accounted-whole Why base (shown pid t) (λ why. none-some q (sym (ended why) ∙ live))
-        (apart-accounted Why o pid t s base (not-watched Why o pid t s a.state base a.reply place step stage order own)
+        accounted-whole Why tally (λ why. none-some q (sym (ended why) ∙ live))
+        (apart-accounted Why o pid t s tally
+        (not-watched Why o pid t s a.state tally a.reply place step stage order own)
         (stood.own own)))
         stood later
 
@@ -100,7 +102,7 @@ module _ (Why : Type 0) (o : Options) (pid : ℕ) (t : TrussState) (s : TracedSt
 pub files-order : (k : ℕ) (t : TrussState) (s : TracedState) → HasFiles k t s → Fits t.traced t.stage → IsOrderly t
 files-order k t s files fits = record { one = files.one; unseen = files.unseen; fits = fits }
 
-module _ (Why : Type 0) (o : Options) (pid : ℕ) (t : TrussState) (s : TracedState) (base : List LwpEvent) (k : ℕ)
+module _ (Why : Type 0) (o : Options) (pid : ℕ) (t : TrussState) (s : TracedState) (tally : Tally) (k : ℕ)
     (c : Call) (a : Answer) (next : next_call_of t ≡ Some c) (is : answer_to s k c ≡ Some a) (owns : Owns k t s)
     (files : HasFiles k t s) (later : IsOrderly (fed t a.reply)) where
   order : IsOrderly t
@@ -114,30 +116,30 @@ module _ (Why : Type 0) (o : Options) (pid : ℕ) (t : TrussState) (s : TracedSt
   uninterrupted : (d : Call) → c ≡ d → can_wait d ≡ false → answer_of a.reply ≢ Interrupted
   uninterrupted d same waits = never-interrupted s k c a (ap can_wait same ∙ waits) is
 
-  pub spawning-goes : (program : List ℕ) → t.stage ≡ Spawning program → Standing Why o pid t a.state base
-      → Comes Why o pid (fed t a.reply) a.state base
+  pub spawning-goes : (program : List ℕ) → t.stage ≡ Spawning program → Standing Why o pid t a.state tally
+      → Comes Why o pid (fed t a.reply) a.state tally
   unfolding call_of
   spawning-goes program stage =
-      spawning-step Why o pid t a.state base a.reply program stage
+      spawning-step Why o pid t a.state tally a.reply program stage
       (uninterrupted (call.Spawn program true)
       (next-is (Spawning program) (call.Spawn program true) stage refl) refl)
 
-  pub control-goes : (of : ℕ) → t.stage ≡ OpeningControl of → Standing Why o pid t a.state base
-      → Comes Why o pid (fed t a.reply) a.state base
+  pub control-goes : (of : ℕ) → t.stage ≡ OpeningControl of → Standing Why o pid t a.state tally
+      → Comes Why o pid (fed t a.reply) a.state tally
   unfolding call_of
   control-goes of stage =
-      control-step Why o pid t a.state base a.reply of stage
+      control-step Why o pid t a.state tally a.reply of stage
       (uninterrupted (open_control of) (next-is (OpeningControl of) (open_control of) stage refl) refl) order later
 
   pub opening-goes : (place : ℕ) (step : OpeningStep) → t.stage ≡ Opening place step → IsLawful s
       → IsFitSystem s.system → t.options ≡ o
       → ((p : TracedProcess) → live_process s.system pid ≡ Some p → All IsLwpStatus (lstatus_of p))
       → (Why → live_process a.state.system pid ≡ None)
-      → Prepares o pid t s → Stood Why o pid t s a.state base place → Comes Why o pid (fed t a.reply) a.state base
+      → Prepares o pid t s → Stood Why o pid t s a.state tally place → Comes Why o pid (fed t a.reply) a.state tally
   opening-goes place step stage lawful fit options reads ended asked stood =
       let f : Fits t.traced (Opening place step) = subst (Fits t.traced) stage owns.fits in
       let held = files.control place f.0 in
-      opening-call Why o pid t s base k c a next is place step stage order options held.is lawful fit reads
+      opening-call Why o pid t s tally k c a next is place step stage order options held.is lawful fit reads
       (λ now. let look = opening-read k t s files owns.fits place (stage
       ∙ ap (λ (st : OpeningStep). Opening place st) now) in look.is)
       ended later asked stood

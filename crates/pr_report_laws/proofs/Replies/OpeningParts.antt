@@ -1,60 +1,27 @@
-use Rattle.std.proofs.Common.{◌≡◌, ◌++◌, ℕ, suc, true, false, cond, None, Some, Option, List, [], ◌∷◌, filter_map, refl, sym, subst, ap, ◌∙◌}
-use Rattle.std.proofs.lemmas.List.{append-nil}
-use Rattle.std.proofs.lemmas.List.Elements.{filter_map-append}
+use Rattle.std.proofs.Common.{◌≡◌, ℕ, suc, true, false, cond, None, Some, Option, List, refl, sym, subst, ap, ◌∙◌}
 use Rattle.pr_line.specs.declared.options.Options.{Options}
 use Rattle.pr_model.specs.Replies.{until_in}
 use Rattle.pr_model.specs.State.{TracedProcess, TracedState, live_process}
 use Rattle.pr_model.specs.declared.calls.Reply.{Reply}
-use Rattle.pr_num.specs.declared.errnos.Errno.{Errno}
 use Rattle.pr_truss.specs.Openings.{learnt, step_after}
-use Rattle.pr_truss.specs.Reports.{pending_at}
 use Rattle.pr_truss.specs.Trusses.{TrussState, traced_at}
 use Rattle.pr_truss.specs.declared.processes.Traced.{Traced}
-use Rattle.pr_truss.specs.declared.reports.Report.{Report}
-use Rattle.pr_truss.specs.declared.reports.Report.TheVariants.{CannotStart, CannotTrace}
 use Rattle.pr_truss.specs.declared.stages.AfterClosing.TheVariants.{OpenNext}
 use Rattle.pr_truss.specs.declared.stages.OpeningStep.{OpeningStep}
 use Rattle.pr_truss.specs.declared.stages.OpeningStep.TheVariants as opening
 use Rattle.pr_truss.specs.declared.stages.Stage.{Stage}
 use Rattle.pr_truss.specs.declared.stages.Stage.TheVariants.{Spawning, OpeningControl, Opening, Closing}
 use Rattle.pr_truss_laws.specs.Stills.{IsQuiet}
+use Rattle.pr_report_laws.proofs.Invariant.Tallies.{Tally}
 use Rattle.pr_report_laws.proofs.Replies.Moves.{Passes, passes-standing}
-use Rattle.pr_report_laws.proofs.Replies.NextStages.{ComesNext, all-none, reported, shown-all}
+use Rattle.pr_report_laws.proofs.Replies.NextStages.{ComesNext}
 use Rattle.pr_report_laws.proofs.Invariant.Standing.{Opened, Prepares, Standing, has_read, is_named}
 use Rattle.pr_report_laws.proofs.Replies.Unwatched.{apart-standing, none-watched}
 use Rattle.pr_report_laws.proofs.Invariant.Positions.{IsTracedBy, Waits}
-use Rattle.pr_report_laws.specs.Shown.{LwpEvent, event_reported, shown}
 use Rattle.pr_report_laws.specs.Watching.{is_away, place_of}
 
 -- What is said of the steps with which truss begins to trace, or opens, a process: what they show, what they leave of
 -- the processes that they are not about, and what the machine does at each of them.
-
--- ---- what is shown
-
-silent-reported : (pid : ℕ) (r : Report) (reports : List Report) → event_reported pid r ≡ None
-    → reported pid (reports ++ r ∷ []) ≡ reported pid reports
-unfolding reported
-silent-reported pid r reports none =
-    filter_map-append (event_reported pid) reports (r ∷ [])
-    ∙ ap (λ (x : Option LwpEvent). filter_map (event_reported pid) reports ++ filter_map (λ (y : Report). x)
-    (r ∷ [])) none
-    ∙ append-nil _
-
--- a report that is no event
-pub silent-shown : (pid : ℕ) (r : Report) (t v : TrussState) → event_reported pid r ≡ None → pending_at t t.stage ≡ []
-    → pending_at v v.stage ≡ [] → v.reports ≡ t.reports ++ r ∷ [] → shown pid v ≡ shown pid t
-silent-shown pid r t v none before after is =
-    shown-all pid v ∙ ap (reported pid) (all-none v after ∙ append-nil v.reports ∙ is)
-    ∙ silent-reported pid r t.reports none
-    ∙ ap (reported pid) (sym (append-nil t.reports) ∙ sym (all-none t before)) ∙ sym (shown-all pid t)
-
-pub start-silent : (pid : ℕ) (program : List ℕ) (errno : Errno) → event_reported pid (CannotStart program errno) ≡ None
-unfolding event_reported
-start-silent pid program errno = refl
-
-pub trace-silent : (pid of : ℕ) (errno : Errno) → event_reported pid (CannotTrace of errno) ≡ None
-unfolding event_reported
-trace-silent pid of errno = refl
 
 -- ---- a step that is about no process, or about another one
 
@@ -88,7 +55,6 @@ pub record Leaves (pid : ℕ) (t u : TrussState) : Type 0 where
       → is_away u.leaving u.stage place ≡ false
   pub before : IsPlain t.stage
   pub after : IsPlain u.stage
-  pub shows : shown pid u ≡ shown pid t
 
 leaves-passes : (pid : ℕ) (t u : TrussState) → Leaves pid t u → (place : ℕ) → place_of t pid ≡ Some place
     → Passes pid t u place place
@@ -100,17 +66,16 @@ leaves-passes pid t u l place at = record {
   here = λ on. l.here place at (ap (λ (x : Traced). x.attached) (l.same place at) ∙ on);
   read = l.after.read place ∙ sym (l.before.read place);
   named = l.after.named place ∙ sym (l.before.named place);
-  shows = l.shows;
 }
 
 pub leaves-standing : (Why : Type 0) (o : Options) (pid : ℕ) (t u : TrussState) (s : TracedState)
-    (base : List LwpEvent) → Leaves pid t u → Standing Why o pid t s base → Standing Why o pid u s base
-leaves-standing Why o pid t u s base l standing = by (place_of t pid) refl
+    (tally : Tally) → Leaves pid t u → Standing Why o pid t s tally → Standing Why o pid u s tally
+leaves-standing Why o pid t u s tally l standing = by (place_of t pid) refl
   where
-    by : (x : Option ℕ) → place_of t pid ≡ x → Standing Why o pid u s base
+    by : (x : Option ℕ) → place_of t pid ≡ x → Standing Why o pid u s tally
     by None is =
-        apart-standing Why o pid t s base u s (none-watched t pid is) (none-watched u pid (l.none is)) l.shows standing
-    by (Some place) is = passes-standing Why o pid t u s base place place (leaves-passes pid t u l place is) standing
+        apart-standing Why o pid t s tally u s (none-watched t pid is) (none-watched u pid (l.none is)) standing
+    by (Some place) is = passes-standing Why o pid t u s tally place place (leaves-passes pid t u l place is) standing
 
 -- ---- the steps of an opening
 

@@ -39,11 +39,13 @@ use Rattle.pr_truss_laws.proofs.ForeignLemmas.{names}
 use Rattle.pr_truss_laws.proofs.HeldLemmas.{Fits}
 use Rattle.pr_truss_laws.proofs.OpensLemmas.{held_by, looking-stays, only_looks}
 use Rattle.pr_truss_laws.proofs.OwnLemmas.{Owns}
+use Rattle.pr_report_laws.proofs.Invariant.Tallies.{Tally, with_told}
 use Rattle.pr_report_laws.proofs.Invariant.EntrySteps.{Lost, standing-why}
 use Rattle.pr_report_laws.proofs.Machine.EventStopLemmas as stops
 use Rattle.pr_report_laws.proofs.Files.FileLaws.{HasFiles}
 use Rattle.pr_report_laws.proofs.Files.FileUses as uses
 use Rattle.pr_report_laws.proofs.Invariant.LeaveSteps.{TellsLwps, lwps-prepares, lwps-standing}
+use Rattle.pr_report_laws.proofs.Replies.NewStops.{read_now}
 use Rattle.pr_report_laws.proofs.Replies.OpeningCalls.{files-order}
 use Rattle.pr_report_laws.proofs.Replies.Orderly.{IsOrderly}
 use Rattle.pr_report_laws.proofs.Invariant.OwnCalls.{Leaves, Misses, missed-standing}
@@ -58,7 +60,6 @@ use Rattle.pr_report_laws.proofs.Invariant.TextSteps.{text-prepares, text-standi
 use Rattle.pr_report_laws.proofs.Machine.TracedPoints.{fit-lwp, fit-process}
 use Rattle.pr_reached.specs.Fits.{IsFitProcess, IsFitSystem}
 use Rattle.pr_report_laws.proofs.Invariant.Positions.{HasEvent}
-use Rattle.pr_report_laws.specs.Shown.{LwpEvent}
 
 -- What truss makes of what it reads and polls: the stages in which it looks at its processes.
 
@@ -83,8 +84,8 @@ pub record IsCall (k : ℕ) (o : Options) (pid : ℕ) (t : TrussState) (s : Trac
 
 -- how the process stands afterwards
 pub record Comes (Why : Type 0) (o : Options) (pid : ℕ) (u : TrussState) (s : TracedState)
-    (base : List LwpEvent) : Type 0 where
-  pub standing : Standing Why o pid u s base
+    (tally : Tally) : Type 0 where
+  pub standing : Standing Why o pid u s tally
   pub prepares : Prepares o pid u s
 
 -- a reply that a handle is ready
@@ -136,8 +137,8 @@ representative-tells s pid p id event has first =
     (ap event_of is ∙ has.tells, ap (λ (l : LwpStatus). l.id) is)
 
 module _ (k : ℕ) (o : Options) (pid : ℕ) (t : TrussState) (s : TracedState) (c : Call) (a : Answer)
-    (i : IsCall k o pid t s c a) (K Ends : Type 0) (leaves : Leaves Ends pid t s a.state) (base : List LwpEvent)
-    (standing : Standing (Lost K pid s) o pid t s base) where
+    (i : IsCall k o pid t s c a) (K Ends : Type 0) (leaves : Leaves Ends pid t s a.state) (tally : Tally)
+    (standing : Standing (Lost K pid s) o pid t s tally) where
   abbrev Why : Type 0
   Why = Lost (K ⊎ Ends) pid a.state
 
@@ -157,8 +158,8 @@ module _ (k : ℕ) (o : Options) (pid : ℕ) (t : TrussState) (s : TracedState) 
   }
 
   -- how the process stood before the call
-  pub stood-before : Standing Why o pid t s base
-  stood-before = standing-why (Lost K pid s) Why o pid t s base lost-later standing
+  pub stood-before : Standing Why o pid t s tally
+  stood-before = standing-why (Lost K pid s) Why o pid t s tally lost-later standing
 
   -- the call that a stage makes
   pub call-is : (stage : Stage) (d : Call) → t.stage ≡ stage → call_of t stage ≡ Some d → c ≡ d
@@ -173,15 +174,15 @@ module _ (k : ℕ) (o : Options) (pid : ℕ) (t : TrussState) (s : TracedState) 
   plain-misses d same plain =
       record { each = λ m g named held. absurd (false≢true (sym (plain m) ∙ ap (λ x. names x m) (sym same) ∙ named)) }
 
-  pub missed : Misses k pid s c → Standing Why o pid t a.state base
-  missed misses = missed-standing k o pid t s c a i.answer i.lawful i.owns i.files K Ends leaves misses base standing
+  pub missed : Misses k pid s c → Standing Why o pid t a.state tally
+  missed misses = missed-standing k o pid t s c a i.answer i.lawful i.owns i.files K Ends leaves misses tally standing
 
-  pub plain-missed : (d : Call) → c ≡ d → ((m : ℕ) → names d m ≡ false) → Standing Why o pid t a.state base
+  pub plain-missed : (d : Call) → c ≡ d → ((m : ℕ) → names d m ≡ false) → Standing Why o pid t a.state tally
   plain-missed d same plain = missed (plain-misses d same plain)
 
   -- ---- a poll
 
-  pub polling-comes : t.stage ≡ Polling → Comes Why o pid (fed t a.reply) a.state base
+  pub polling-comes : t.stage ≡ Polling → Comes Why o pid (fed t a.reply) a.state tally
   unfolding call_of
   polling-comes at =
       let handles : List ℕ = map (λ (x : Traced). x.control) t.traced in
@@ -190,10 +191,10 @@ module _ (k : ℕ) (o : Options) (pid : ℕ) (t : TrussState) (s : TracedState) 
       let system : a.state.system ≡ s.system = poll-stays s k handles a answer in
       record {
         standing =
-            poll-standing Why o pid t a.state base at a.reply
+            poll-standing Why o pid t a.state tally at a.reply
             (λ place p named own live. polled handles answer system place p named own live)
             (plain-missed (call.Poll handles) same (λ m. refl));
-        prepares = poll-prepares Why o pid t a.state base at a.reply;
+        prepares = poll-prepares Why o pid t a.state tally at a.reply;
       }
     where
       polled : (handles : List ℕ) → answer_to s k (call.Poll handles) ≡ Some a → a.state.system ≡ s.system
@@ -230,7 +231,8 @@ module _ (k : ℕ) (o : Options) (pid : ℕ) (t : TrussState) (s : TracedState) 
   same-system : (d : Call) → c ≡ d → only_looks d ≡ true → a.state.system ≡ s.system
   same-system d same looks = ap (λ (x : TracedState). x.system) (looking-stays s k d a looks (answer-is d same))
 
-  pub status-comes : (place : ℕ) → t.stage ≡ ReadingStatus place → Comes Why o pid (fed t a.reply) a.state base
+  pub status-comes : (place : ℕ) → t.stage ≡ ReadingStatus place
+      → Comes Why o pid (fed t a.reply) a.state (with_told tally (read_now pid t a.reply))
   unfolding call_of
   status-comes place at =
       let same = call-is (ReadingStatus place) (read_record (traced_at t place).status) at refl in
@@ -240,7 +242,7 @@ module _ (k : ℕ) (o : Options) (pid : ℕ) (t : TrussState) (s : TracedState) 
       let on = uses.attached-all k t s i.files stands.leaves (ap busy at) place within in
       record {
         standing =
-            status-standing t place a.reply at call-order stands.leaves Why o pid a.state base i.options on.attached
+            status-standing t place a.reply at call-order stands.leaves Why o pid a.state tally on.attached
             (λ own none. let e = ended own (ap (λ (x : TracedSystem). live_process x pid) (sym system)
             ∙ none) in e.gone)
             (λ own p live. told own p (ap (λ (x : TracedSystem). live_process x pid) (sym system) ∙ live))
@@ -294,14 +296,14 @@ module _ (k : ℕ) (o : Options) (pid : ℕ) (t : TrussState) (s : TracedState) 
   -- ---- the memory of an event
 
   pub text-comes : (place : ℕ) (l : LwpStatus) (from len : ℕ) → t.stage ≡ ReadingText place l from len
-      → Comes Why o pid (fed t a.reply) a.state base
+      → Comes Why o pid (fed t a.reply) a.state tally
   unfolding call_of
   text-comes place l from len at =
       let same =
       call-is (ReadingText place l from len) (call.Read (number_of (traced_at t place).memory) from len) at refl in
       let stands = uses.standing k t s (ReadingText place l from len) i.files at in
       record {
-        standing = text-standing t place l from len a.reply at call-order stands.leaves Why o pid a.state base
+        standing = text-standing t place l from len a.reply at call-order stands.leaves Why o pid a.state tally
             (λ own. never-interrupted s k (call.Read (number_of (traced_at t place).memory) from len) a refl
             (answer-is (call.Read (number_of (traced_at t place).memory) from len) same))
             (plain-missed (call.Read (number_of (traced_at t place).memory) from len) same (λ m. refl));
@@ -310,7 +312,8 @@ module _ (k : ℕ) (o : Options) (pid : ℕ) (t : TrussState) (s : TracedState) 
 
   -- ---- the lwps of a process that truss leaves
 
-  pub lwps-comes : t.stage ≡ ReadingLwps → Comes Why o pid (fed t a.reply) a.state base
+  pub lwps-comes : t.stage ≡ ReadingLwps
+      → Comes Why o pid (fed t a.reply) a.state (with_told tally (read_now pid t a.reply))
   unfolding call_of
   lwps-comes at =
       let same = call-is ReadingLwps (read_record (traced_at t 0).lstatus) at refl in
@@ -318,7 +321,7 @@ module _ (k : ℕ) (o : Options) (pid : ℕ) (t : TrussState) (s : TracedState) 
       let stands = uses.standing k t s ReadingLwps i.files at in
       record {
         standing =
-            lwps-standing t a.reply at call-order stands.leaves Why o pid a.state base i.options stands.at.attached
+            lwps-standing t a.reply at call-order stands.leaves Why o pid a.state tally stands.at.attached
             (λ own none. let e = ended own (ap (λ (x : TracedSystem). live_process x pid) (sym system)
             ∙ none) in e.gone)
             (λ own p live. told own p (ap (λ (x : TracedSystem). live_process x pid) (sym system) ∙ live))

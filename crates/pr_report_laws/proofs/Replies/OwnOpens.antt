@@ -28,6 +28,7 @@ use Rattle.pr_truss.specs.declared.stages.Stage.TheVariants.{Spawning, OpeningCo
 use Rattle.pr_truss_laws.proofs.ForeignLemmas.{names}
 use Rattle.pr_truss_laws.proofs.HeldLemmas.{Fits}
 use Rattle.pr_truss_laws.proofs.OpensLemmas.{held_by, open-opens}
+use Rattle.pr_report_laws.proofs.Invariant.Tallies.{Tally}
 use Rattle.pr_report_laws.proofs.Invariant.ChildSteps.{opening-child-stands}
 use Rattle.pr_report_laws.proofs.Machine.ControlLaws.{refusal-not}
 use Rattle.pr_report_laws.proofs.Invariant.EntrySteps.{Lost}
@@ -39,7 +40,6 @@ use Rattle.pr_report_laws.proofs.Replies.OwnLooks.{Comes, IsCall, answer-is, cal
 use Rattle.pr_report_laws.proofs.Machine.PollLaws.{never-interrupted}
 use Rattle.pr_report_laws.proofs.Invariant.Standing.{Prepares, Standing}
 use Rattle.pr_report_laws.proofs.Invariant.Positions.{IsAtBirth}
-use Rattle.pr_report_laws.specs.Shown.{LwpEvent}
 
 -- What truss makes of the replies to the calls with which it opens its processes.
 
@@ -88,41 +88,41 @@ step-names o x opening.ReadLwps m is = absurd (false≢true is)
 step-names o x _ m is = eqb-true x.control m is
 
 module _ (k : ℕ) (o : Options) (pid : ℕ) (t : TrussState) (s : TracedState) (c : Call) (a : Answer)
-    (i : IsCall k o pid t s c a) (K Ends : Type 0) (leaves : Leaves Ends pid t s a.state) (base : List LwpEvent)
-    (standing : Standing (Lost K pid s) o pid t s base) where
+    (i : IsCall k o pid t s c a) (K Ends : Type 0) (leaves : Leaves Ends pid t s a.state) (tally : Tally)
+    (standing : Standing (Lost K pid s) o pid t s tally) where
   abbrev Why : Type 0
   Why = Lost (K ⊎ Ends) pid a.state
 
   later : IsOrderly (fed t a.reply)
-  later = order-later k o pid t s c a i K Ends leaves base standing
+  later = order-later k o pid t s c a i K Ends leaves tally standing
 
   -- the call of a stage is this one
   is-call : (stage : Stage) (d : Call) → t.stage ≡ stage → call_of t stage ≡ Some d → c ≡ d
-  is-call = call-is k o pid t s c a i K Ends leaves base standing
+  is-call = call-is k o pid t s c a i K Ends leaves tally standing
 
   -- a call that names no handle leaves the process
-  unnamed : (d : Call) → c ≡ d → ((m : ℕ) → names d m ≡ false) → Standing Why o pid t a.state base
-  unnamed = plain-missed k o pid t s c a i K Ends leaves base standing
+  unnamed : (d : Call) → c ≡ d → ((m : ℕ) → names d m ≡ false) → Standing Why o pid t a.state tally
+  unnamed = plain-missed k o pid t s c a i K Ends leaves tally standing
 
   -- ---- the process of the program
 
-  pub spawning-comes : (program : List ℕ) → t.stage ≡ Spawning program → Comes Why o pid (fed t a.reply) a.state base
+  pub spawning-comes : (program : List ℕ) → t.stage ≡ Spawning program → Comes Why o pid (fed t a.reply) a.state tally
   unfolding call_of
   spawning-comes program at =
       let same = is-call (Spawning program) (call.Spawn program true) at refl in
       let went =
-      spawning-goes Why o pid t s base k c a i.next i.answer i.owns i.files later program at
+      spawning-goes Why o pid t s tally k c a i.next i.answer i.owns i.files later program at
       (unnamed (call.Spawn program true) same (λ m. refl)) in
       record { standing = went.0; prepares = went.1 }
 
   -- ---- the control file of a process
 
-  pub control-comes : (of : ℕ) → t.stage ≡ OpeningControl of → Comes Why o pid (fed t a.reply) a.state base
+  pub control-comes : (of : ℕ) → t.stage ≡ OpeningControl of → Comes Why o pid (fed t a.reply) a.state tally
   unfolding call_of
   control-comes of at =
       let same = is-call (OpeningControl of) (open_control of) at refl in
       let went =
-      control-goes Why o pid t s base k c a i.next i.answer i.owns i.files later of at
+      control-goes Why o pid t s tally k c a i.next i.answer i.owns i.files later of at
       (unnamed (open_control of) same (λ m. refl)) in
       record { standing = went.0; prepares = went.1 }
 
@@ -148,16 +148,16 @@ module _ (k : ℕ) (o : Options) (pid : ℕ) (t : TrussState) (s : TracedState) 
           differs (ap (λ (h : Held). h.pid) same ∙ own);
     }
 
-    step-stood : Stood Why o pid t s a.state base place
+    step-stood : Stood Why o pid t s a.state tally place
     step-stood = record {
-      own = λ own. stood-before k o pid t s c a i K Ends leaves base standing;
-      other = λ differs. missed k o pid t s c a i K Ends leaves base standing (step-misses differs);
+      own = λ own. stood-before k o pid t s c a i K Ends leaves tally standing;
+      other = λ differs. missed k o pid t s c a i K Ends leaves tally standing (step-misses differs);
     }
 
-    pub opening-comes : Prepares o pid t s → Comes Why o pid (fed t a.reply) a.state base
+    pub opening-comes : Prepares o pid t s → Comes Why o pid (fed t a.reply) a.state tally
     opening-comes prepares =
         let went =
-        opening-goes Why o pid t s base k c a i.next i.answer i.owns i.files later place step at i.lawful i.fit
+        opening-goes Why o pid t s tally k c a i.next i.answer i.owns i.files later place step at i.lawful i.fit
         i.options i.reads.lwps (λ why. why.over) prepares step-stood in
         record { standing = went.0; prepares = went.1 }
 
@@ -167,17 +167,17 @@ module _ (k : ℕ) (o : Options) (pid : ℕ) (t : TrussState) (s : TracedState) 
       → ((handle : ℕ)
       (p : TracedProcess) → of ≡ pid → a.reply ≡ reply.Handle handle → live_process s.system pid ≡ Some p
       → IsAtBirth o p)
-      → Comes Why o pid (fed t a.reply) a.state base
+      → Comes Why o pid (fed t a.reply) a.state tally
   unfolding call_of
   opening-child-control-comes parent of at birth =
       let same = is-call (OpeningChildControl parent of) (open_control of) at refl in
       let answer : answer_to s k (open_control of) ≡ Some a =
-      answer-is k o pid t s c a i K Ends leaves base standing (open_control of) same in
+      answer-is k o pid t s c a i K Ends leaves tally standing (open_control of) same in
       let system : a.state.system ≡ s.system = open-stays s k of 0 Ctl WriteExcl a answer in
       let went =
-      opening-child-stands Why o pid t a.reply a.state base parent of at
+      opening-child-stands Why o pid t a.reply a.state tally parent of at
       (never-interrupted s k (open_control of) a refl answer)
       (λ accepted own p live. let handle = granted-handle s k of 0 Ctl WriteExcl a answer accepted in birth handle.0 p
       own handle.1 (ap (λ (x : TracedSystem). live_process x pid) (sym system) ∙ live))
-      (call-order k o pid t s c a i K Ends leaves base standing) later (unnamed (open_control of) same (λ m. refl)) in
+      (call-order k o pid t s c a i K Ends leaves tally standing) later (unnamed (open_control of) same (λ m. refl)) in
       record { standing = went.0; prepares = went.1 }

@@ -34,6 +34,7 @@ use Rattle.pr_truss_laws.proofs.HeldLemmas.{Fits}
 use Rattle.pr_truss_laws.proofs.OpensLemmas.{held_by}
 use Rattle.pr_truss_laws.proofs.StillLemmas.{live-changed}
 use Rattle.pr_truss_laws.proofs.TakenLemmas.{ctl-is, process-aim}
+use Rattle.pr_report_laws.proofs.Invariant.Tallies.{Tally}
 use Rattle.pr_report_laws.proofs.Invariant.CloseSteps.{closing-stands, freeing-stands}
 use Rattle.pr_report_laws.proofs.Machine.ControlLaws.{message-gone}
 use Rattle.pr_report_laws.proofs.Machine.ControlSteps.{control-standing, system-standing}
@@ -52,7 +53,6 @@ use Rattle.pr_report_laws.proofs.Machine.StoppedLaws.{live-rising, waits-stopped
 use Rattle.pr_report_laws.proofs.Replies.TracedPlaces.{same-place}
 use Rattle.pr_report_laws.proofs.Replies.Unwatched.{none-watched, stage-unwatched, watched-on}
 use Rattle.pr_report_laws.proofs.Invariant.Positions.{IsTracedBy, Waits}
-use Rattle.pr_report_laws.specs.Shown.{LwpEvent}
 use Rattle.pr_report_laws.specs.Watching.{place_of, watches}
 
 -- How truss runs its processes, leaves them and closes their files.
@@ -63,26 +63,26 @@ unfolding first_message message_read message_code operands nth_word word_bytes w
 first-unfollow = refl
 
 module _ (k : ℕ) (o : Options) (pid : ℕ) (t : TrussState) (s : TracedState) (c : Call) (a : Answer)
-    (i : IsCall k o pid t s c a) (K Ends : Type 0) (leaves : Leaves Ends pid t s a.state) (base : List LwpEvent)
-    (standing : Standing (Lost K pid s) o pid t s base) where
+    (i : IsCall k o pid t s c a) (K Ends : Type 0) (leaves : Leaves Ends pid t s a.state) (tally : Tally)
+    (standing : Standing (Lost K pid s) o pid t s tally) where
   abbrev Why : Type 0
   Why = Lost (K ⊎ Ends) pid a.state
 
   order : IsOrderly t
-  order = call-order k o pid t s c a i K Ends leaves base standing
+  order = call-order k o pid t s c a i K Ends leaves tally standing
 
   -- how it stood, with what is known afterwards
-  before : Standing Why o pid t s base
-  before = stood-before k o pid t s c a i K Ends leaves base standing
+  before : Standing Why o pid t s tally
+  before = stood-before k o pid t s c a i K Ends leaves tally standing
 
   same-call : (stage : Stage) (d : Call) → t.stage ≡ stage → call_of t stage ≡ Some d → c ≡ d
-  same-call = call-is k o pid t s c a i K Ends leaves base standing
+  same-call = call-is k o pid t s c a i K Ends leaves tally standing
 
   answered : (d : Call) → c ≡ d → answer_to s k d ≡ Some a
-  answered = answer-is k o pid t s c a i K Ends leaves base standing
+  answered = answer-is k o pid t s c a i K Ends leaves tally standing
 
-  passed : Misses k pid s c → Standing Why o pid t a.state base
-  passed = missed k o pid t s c a i K Ends leaves base standing
+  passed : Misses k pid s c → Standing Why o pid t a.state tally
+  passed = missed k o pid t s c a i K Ends leaves tally standing
 
   -- a call to one handle, of another process
   handle-misses : (d : Call) → c ≡ d → (m : ℕ) (g : Held) → ((n : ℕ) → names d n ≡ (m == n))
@@ -104,7 +104,7 @@ module _ (k : ℕ) (o : Options) (pid : ℕ) (t : TrussState) (s : TracedState) 
   -- a message to another process
   message-passed : (place : ℕ) (msg : Message) → place < length t.traced
       → c ≡ message_call (traced_at t place).control msg → (traced_at t place).pid ≢ pid
-      → Standing Why o pid t a.state base
+      → Standing Why o pid t a.state tally
   message-passed place msg within same other =
       let f = i.files.control place within in
       passed (handle-misses (message_call (traced_at t place).control msg) same (traced_at t place).control
@@ -112,10 +112,10 @@ module _ (k : ℕ) (o : Options) (pid : ℕ) (t : TrussState) (s : TracedState) 
 
   -- ---- it runs
 
-  pub running-comes : (place : ℕ) → t.stage ≡ Running place → Comes Why o pid (fed t a.reply) a.state base
+  pub running-comes : (place : ℕ) → t.stage ≡ Running place → Comes Why o pid (fed t a.reply) a.state tally
   unfolding call_of
   running-comes place at = record {
-    standing = run-standing t place a.reply at order Why o pid s a.state base
+    standing = run-standing t place a.reply at order Why o pid s a.state tally
         (λ own none. let g = message-gone s k (traced_at t place).control (held_by k pid 0 Ctl WriteExcl)
         (held own) refl (message.Run 0) a none is in
         (g.gone, ap (λ (x : TracedState). live_process x.system pid) g.state ∙ none))
@@ -207,19 +207,19 @@ module _ (k : ℕ) (o : Options) (pid : ℕ) (t : TrussState) (s : TracedState) 
             by true same = cc
             by false same = cc
 
-        live-unfollowed : Standing Why o pid t a.state base
+        live-unfollowed : Standing Why o pid t a.state tally
         unfolding with_control
         live-unfollowed = by (pid == 0) answer-cases
           where
             by : (b : Bool)
                 → a ≡ controlled s
                 (cond b (refused s.system (system_refusal (message.Unset fork_mode)))
-                (with_set s.system pid p 16 (without_modes fork_mode))) → Standing Why o pid t a.state base
+                (with_set s.system pid p 16 (without_modes fork_mode))) → Standing Why o pid t a.state tally
             by true is =
-                system-standing Why o pid t s a.state base
+                system-standing Why o pid t s a.state tally
                 (ap (λ (x : Answer). live_process x.state.system pid) is) before
             by false is =
-                control-standing Why o pid t s a.state base (without_modes fork_mode)
+                control-standing Why o pid t s a.state tally (without_modes fork_mode)
                 (λ none. absurd (none-some p (sym none ∙ live)))
                 (λ q live_q. ap (λ (x : Answer). live_process x.state.system pid) is
                 ∙ live-changed s.system pid (with_control (without_modes fork_mode)) p live refl
@@ -234,11 +234,11 @@ module _ (k : ℕ) (o : Options) (pid : ℕ) (t : TrussState) (s : TracedState) 
           (message.Unset fork_mode) a none unfollow-is in
           g.state
 
-      own-unfollowed : Standing Why o pid t a.state base
+      own-unfollowed : Standing Why o pid t a.state tally
       own-unfollowed = by (live_process s.system pid) refl
         where
-          by : (x : Option TracedProcess) → live_process s.system pid ≡ x → Standing Why o pid t a.state base
-          by None none = subst (λ u. Standing Why o pid t u base) (sym (gone-unfollowed none)) before
+          by : (x : Option TracedProcess) → live_process s.system pid ≡ x → Standing Why o pid t a.state tally
+          by None none = subst (λ u. Standing Why o pid t u tally) (sym (gone-unfollowed none)) before
           by (Some p) live = live-unfollowed p live
 
       later-gone : (q : TracedProcess) → live_process a.state.system pid ≡ Some q → answer_of a.reply ≢ Gone
@@ -250,17 +250,17 @@ module _ (k : ℕ) (o : Options) (pid : ℕ) (t : TrussState) (s : TracedState) 
               ∙ sym (ap (λ (u : TracedState). live_process u.system pid) (gone-unfollowed none)) ∙ later))
           by (Some p) live = live-gone p live
 
-    unfollowed-here : Standing Why o pid t a.state base
+    unfollowed-here : Standing Why o pid t a.state tally
     unfollowed-here = elim (cases_Bool ((traced_at t 0).pid == pid)) [
       | inl same ↦ own-unfollowed (eqb-true (traced_at t 0).pid pid same)
       | inr other ↦ message-passed 0 (message.Unset fork_mode) has_first unfollows
           (eqb-false (traced_at t 0).pid pid other)
     ]
 
-    pub unfollowing-comes : Comes Why o pid (fed t a.reply) a.state base
+    pub unfollowing-comes : Comes Why o pid (fed t a.reply) a.state tally
     unfollowing-comes = record {
       standing =
-          unfollow-standing t a.reply at order Why o pid a.state base
+          unfollow-standing t a.reply at order Why o pid a.state tally
           (λ own q live. later-gone own q live) unfollowed-here;
       prepares = unfollow-prepares t a.reply at order o pid a.state;
     }
@@ -268,12 +268,12 @@ module _ (k : ℕ) (o : Options) (pid : ℕ) (t : TrussState) (s : TracedState) 
   -- ---- its files are closed
 
   pub closing-comes : (place : ℕ) (next : AfterClosing) → t.stage ≡ Closing place next
-      → Comes Why o pid (fed t a.reply) a.state base
+      → Comes Why o pid (fed t a.reply) a.state tally
   unfolding call_of
   closing-comes place next at =
       let stands =
-      closing-stands Why o pid t a.reply a.state base place next at order
-      (order-later k o pid t s c a i K Ends leaves base standing) here in
+      closing-stands Why o pid t a.reply a.state tally place next at order
+      (order-later k o pid t s c a i K Ends leaves tally standing) here in
       record { standing = stands.0; prepares = stands.1 }
     where
       same : c ≡ call.Close (last_handle (traced_at t place))
@@ -287,9 +287,9 @@ module _ (k : ℕ) (o : Options) (pid : ℕ) (t : TrussState) (s : TracedState) 
           stage-unwatched t (Closing place next) pid place at (ap (place_of t) (sym own)
           ∙ i.files.one place within) (same-place place place refl)
 
-      here : Standing Why o pid t a.state base
+      here : Standing Why o pid t a.state tally
       here = elim (cases_Bool ((traced_at t place).pid == pid)) [
-        | inl is ↦ watched-on Why o pid t s base a.state
+        | inl is ↦ watched-on Why o pid t s tally a.state
             (λ on. absurd (false≢true (sym (unwatched (eqb-true (traced_at t place).pid pid is)) ∙ on))) before
         | inr other ↦
             let f = uses.closed-file k t s i.files place within in
@@ -300,10 +300,10 @@ module _ (k : ℕ) (o : Options) (pid : ℕ) (t : TrussState) (s : TracedState) 
   -- ---- a child is set free
 
   pub freeing-comes : (child : ℕ) (step : FreeingStep) → t.stage ≡ FreeingChild child step
-      → Comes Why o pid (fed t a.reply) a.state base
+      → Comes Why o pid (fed t a.reply) a.state tally
   unfolding call_of freeing_call
   freeing-comes child step at =
-      let stands = freeing-stands Why o pid t a.reply a.state base child step at (here step at) in
+      let stands = freeing-stands Why o pid t a.reply a.state tally child step at (here step at) in
       record { standing = stands.0; prepares = stands.1 }
     where
       same : (step : FreeingStep) → t.stage ≡ FreeingChild child step → c ≡ freeing_call child step
@@ -311,22 +311,22 @@ module _ (k : ℕ) (o : Options) (pid : ℕ) (t : TrussState) (s : TracedState) 
 
       handled : (step : FreeingStep) (control : ℕ) (d : Call) → t.stage ≡ FreeingChild child step
           → uses.freed_control step ≡ Some control → c ≡ d → ((n : ℕ) → names d n ≡ (control == n))
-          → Standing Why o pid t a.state base
+          → Standing Why o pid t a.state tally
       handled step control d at its is only = elim (cases_Bool (child == pid)) [
         | inl own ↦
             let none : place_of t pid ≡ None =
             ap (place_of t) (sym (eqb-true child pid own))
             ∙ uses.freed-apart k t s i.files child control step i.owns i.lawful.exclusive at its in
-            watched-on Why o pid t s base a.state (λ on. absurd (false≢true (sym (none-watched t pid none)
+            watched-on Why o pid t s tally a.state (λ on. absurd (false≢true (sym (none-watched t pid none)
             ∙ on))) before
         | inr other ↦
             let f = uses.freed-file k t s i.files child control step at its in
             passed (handle-misses d is control _ only f.is (eqb-false child pid other))
       ]
 
-      here : (step : FreeingStep) → t.stage ≡ FreeingChild child step → Standing Why o pid t a.state base
+      here : (step : FreeingStep) → t.stage ≡ FreeingChild child step → Standing Why o pid t a.state tally
       here freeing.OpenControl at =
-          plain-missed k o pid t s c a i K Ends leaves base standing (open_control child) (same freeing.OpenControl at)
+          plain-missed k o pid t s c a i K Ends leaves tally standing (open_control child) (same freeing.OpenControl at)
           (λ m. refl)
       here (freeing.SetRelease control) at =
           handled (freeing.SetRelease control) control (message_call control (message.Set rlc_mode)) at refl

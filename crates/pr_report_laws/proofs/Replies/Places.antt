@@ -82,10 +82,6 @@ module _ (t : TrussState) (place : ℕ) where
   seen-others other apart_from =
       get_or-set_other t.traced place other (record (traced_at t place) { seen = true }) nobody apart_from
 
-  pub seen-reports : (with_stop_seen t place).reports ≡ t.reports
-  unfolding with_stop_seen
-  seen-reports = refl
-
 -- in a state in order, the process at a place has that place
 pub place-own : (t : TrussState) (place pid : ℕ) → IsOrderly t → place < length t.traced
     → (traced_at t place).pid ≡ pid → place_of t pid ≡ Some place

@@ -31,18 +31,6 @@ shown-more : (pid : ℕ) (rs : List Report) (r : Report)
 unfolding reported
 shown-more pid rs r = filter_map-append (event_reported pid) rs (r ∷ [])
 
--- one of another process
-event-other : (pid of : ℕ) (l : LwpStatus) (text : Came) → of ≢ pid → reported pid (Reported of l text ∷ []) ≡ []
-unfolding reported event_reported
-event-other pid of l text apart_from = rw (ne_eqb of pid apart_from) refl
-
-pub reported-other : (pid of : ℕ) (l : LwpStatus) (text : Came) (rs : List Report) → of ≢ pid
-    → reported pid (rs ++ Reported of l text ∷ []) ≡ reported pid rs
-reported-other pid of l text rs apart_from =
-    shown-more pid rs (Reported of l text)
-    ∙ ap (λ (xs : List LwpEvent). reported pid rs ++ xs) (event-other pid of l text apart_from)
-    ∙ append-nil (reported pid rs)
-
 -- its own one
 event-own : (pid of : ℕ) (l : LwpStatus) (text : Came) (e : Event) → of ≡ pid → event_of l ≡ Some e
     → reported pid (Reported of l text ∷ []) ≡ record { id = l.id; event = e } ∷ []
@@ -90,13 +78,7 @@ pub record StopOver (t : TrussState) (at : ℕ) (u : TrussState) : Type 0 where
   pub read : is_away u.leaving u.stage at ≡ false → has_read u.stage at ≡ true
   pub left : t.leaving ≡ true → is_away u.leaving u.stage at ≡ true
   pub aside : (other : ℕ) → other ≢ at → IsAside u.leaving u.stage other
-  pub shows : (pid : ℕ) → (traced_at t at).pid ≢ pid → shown pid u ≡ reported pid t.reports
   pub opens : opens u.stage ≡ false
-
--- what is said of the process itself: how many old stops are left, and what was reported of it
-pub record Tells (t : TrussState) (at pid : ℕ) (u : TrussState) (left : ℕ) (events : List LwpEvent) : Type 0 where
-  pub old : (traced_at u at).old ≡ left
-  pub shows : shown pid u ≡ reported pid t.reports ++ events
 
 same-self : (n : ℕ) → (n == n) ≡ true
 same-self n = eq-eqb n n refl
@@ -105,13 +87,6 @@ not-at : (at other : ℕ) → other ≢ at → (at == other) ≡ false
 not-at at other apart_from = ne_eqb at other (λ same. apart_from (sym same))
 
 module _ (t : TrussState) (at : ℕ) where
-  tells-none : (pid : ℕ) (u : TrussState) → (traced_at u at).old ≡ (traced_at t at).old → u.reports ≡ t.reports
-      → pending_at u u.stage ≡ [] → Tells t at pid u (traced_at t at).old []
-  tells-none pid u old same none = record {
-    old = old;
-    shows = shown-none pid u none ∙ ap (reported pid) same ∙ sym (append-nil (reported pid t.reports));
-  }
-
   pub closing-over : StopOver t at (with_closing t at)
   closing-over = record {
     places = λ pid. refl;
@@ -120,12 +95,8 @@ module _ (t : TrussState) (at : ℕ) where
     read = λ stays. absurd (false≢true (sym stays ∙ same-self at));
     left = λ leaving. same-self at;
     aside = λ other apart_from. record { here = not-at at other apart_from; read = refl; named = refl };
-    shows = λ pid apart_from. shown-none pid (with_closing t at) refl;
     opens = refl;
   }
-
-  pub closing-tells : (pid : ℕ) → Tells t at pid (with_closing t at) (traced_at t at).old []
-  closing-tells pid = tells-none pid (with_closing t at) refl refl refl
 
   running-over : t.leaving ≡ false → StopOver t at (with_stage t (Running at))
   running-over stays = record {
@@ -135,7 +106,6 @@ module _ (t : TrussState) (at : ℕ) where
     read = λ here. same-self at;
     left = λ leaving. absurd (false≢true (sym stays ∙ leaving));
     aside = λ other apart_from. record { here = refl; read = not-at at other apart_from; named = refl };
-    shows = λ pid apart_from. shown-none pid (with_stage t (Running at)) refl;
     opens = refl;
   }
 
@@ -147,7 +117,6 @@ module _ (t : TrussState) (at : ℕ) where
     read = λ here. same-self at;
     left = λ leaving. absurd (false≢true (sym stays ∙ leaving));
     aside = λ other apart_from. record { here = refl; read = not-at at other apart_from; named = refl };
-    shows = λ pid apart_from. shown-none pid (with_stage t (OpeningChildControl at child)) refl;
     opens = refl;
   }
 
@@ -165,7 +134,6 @@ module _ (t : TrussState) (at : ℕ) where
           read = refl;
           named = refl;
         };
-    shows = λ pid apart_from. shown-none pid (with_stage t (FreeingChild child OpenControl)) refl;
     opens = refl;
   }
 
@@ -183,9 +151,6 @@ module _ (t : TrussState) (at : ℕ) where
           read = not-at at other apart_from;
           named = refl;
         };
-    shows =
-        λ pid apart_from. shown-text pid (with_stage t (ReadingText at l from len)) at from len l refl
-        ∙ reported-other pid (traced_at t at).pid l None t.reports apart_from;
     opens = refl;
   }
 
@@ -213,52 +178,37 @@ module _ (t : TrussState) (at : ℕ) where
     unfolding with_event_over
     event_over-over l = child_or-over (followed_child t.options l)
 
-  -- of the process itself nothing more is reported
+  -- of the process itself as many old stops are left as were
 
-  pub stop_over-tells : (pid : ℕ) → Tells t at pid (with_stop_over t at) (traced_at t at).old []
+  pub stop_over-left : (traced_at (with_stop_over t at) at).old ≡ (traced_at t at).old
   unfolding with_stop_over
-  stop_over-tells pid =
+  stop_over-left =
       elim t.leaving as
-      (λ b. Tells t at pid (cond b (with_closing t at) (with_stage t (Running at)))
-      (traced_at t at).old []) [
-        | true ↦ tells-none pid
-            (with_closing t at) refl refl refl
-        | false ↦ tells-none pid
-            (with_stage t (Running at)) refl refl refl
+      (λ b. (traced_at (cond b (with_closing t at) (with_stage t (Running at))) at).old ≡ (traced_at t at).old) [
+        | true ↦ refl
+        | false ↦ refl
       ]
 
-  child_or-tells : (pid : ℕ) (o : Option ℕ) → Tells t at pid (with_child_or t at o) (traced_at t at).old []
-  child_or-tells pid None = stop_over-tells pid
-  child_or-tells pid (Some child) =
-      elim t.leaving as
-      (λ b. Tells t at pid (with_stage t (cond b (FreeingChild child OpenControl) (OpeningChildControl at child)))
-      (traced_at t at).old []) [
-        | true ↦ tells-none pid
-            (with_stage t (FreeingChild child OpenControl)) refl refl refl
-        | false ↦ tells-none pid
-            (with_stage t (OpeningChildControl at child)) refl refl refl
-      ]
+  child_or-left : (o : Option ℕ) → (traced_at (with_child_or t at o) at).old ≡ (traced_at t at).old
+  child_or-left None = stop_over-left
+  child_or-left (Some child) = refl
 
-  pub event_over-tells : (pid : ℕ) (l : LwpStatus) → Tells t at pid (with_event_over t at l) (traced_at t at).old []
+  pub event_over-left : (l : LwpStatus) → (traced_at (with_event_over t at l) at).old ≡ (traced_at t at).old
   unfolding with_event_over
-  event_over-tells pid l = child_or-tells pid (followed_child t.options l)
+  event_over-left l = child_or-left (followed_child t.options l)
 
 -- the other processes, after a change of the process at that place
 pub over-elsewhere : (t w u : TrussState) (at : ℕ) → ((pid : ℕ) → place_of w pid ≡ place_of t pid)
-    → ((other : ℕ) → other ≢ at → traced_at w other ≡ traced_at t other)
-    → ((pid : ℕ) → (traced_at t at).pid ≢ pid → shown pid u ≡ shown pid t) → StopOver w at u → IsElsewhere t u at
-over-elsewhere t w u at places same shows c = record {
+    → ((other : ℕ) → other ≢ at → traced_at w other ≡ traced_at t other) → StopOver w at u → IsElsewhere t u at
+over-elsewhere t w u at places same c = record {
   places = λ pid. c.places pid ∙ places pid;
   same = λ other apart_from. c.same other apart_from ∙ same other apart_from;
   here = λ other apart_from on. let aside = c.aside other apart_from in aside.here;
   read = λ other apart_from. let aside = c.aside other apart_from in aside.read;
   named = λ other apart_from. let aside = c.aside other apart_from in aside.named;
-  shows = shows;
   opens = c.opens;
 }
 
--- where the step that led there was about that process alone, and read no memory
-pub over-others : (t u : TrussState) (at : ℕ) → pending_at t t.stage ≡ [] → StopOver t at u → IsElsewhere t u at
-over-others t u at none c =
-    over-elsewhere t t u at (λ pid. refl) (λ other apart_from. refl) (λ pid apart_from. c.shows pid apart_from
-    ∙ sym (shown-none pid t none)) c
+-- where the step that led there was about that process alone
+pub over-others : (t u : TrussState) (at : ℕ) → StopOver t at u → IsElsewhere t u at
+over-others t u at c = over-elsewhere t t u at (λ pid. refl) (λ other apart_from. refl) c

@@ -1,20 +1,17 @@
-use Rattle.std.proofs.Common.{◌≡◌, ◌++◌, ◌-◌, ◌<◌, nat_lt, not, is_some, ℕ, suc, Bool, true, false, cond, Option, Some, None, [], length, ◌∷◌, refl, sym, subst, ap, ◌∙◌, arith, lt-ltb}
-use Rattle.std.proofs.lemmas.List.{append-nil, get_or-set_other}
+use Rattle.std.proofs.Common.{◌≡◌, ◌-◌, ◌<◌, nat_lt, not, is_some, ℕ, suc, Bool, true, false, cond, Option, Some, None, length, refl, ap, ◌∙◌, arith, lt-ltb}
+use Rattle.std.proofs.lemmas.List.{get_or-set_other}
 use Rattle.pr_line.specs.Events.{event_of}
 use Rattle.pr_line.specs.Selections.{is_selected}
 use Rattle.pr_line.specs.declared.events.Event.{Event}
 use Rattle.pr_rec.specs.declared.lwps.LwpStatus.{LwpStatus}
 use Rattle.pr_truss.specs.Records.{is_on_event}
 use Rattle.pr_truss.specs.Stops.{asked_range, with_event, with_event_over, with_event_shown, with_old_stop_over, with_stop, with_stop_over, with_stop_read, with_text_or_shown}
-use Rattle.pr_truss.specs.Trusses.{TrussState, nobody, traced_at, with_report, with_stage, with_traced}
+use Rattle.pr_truss.specs.Trusses.{TrussState, nobody, traced_at, with_report, with_traced}
 use Rattle.pr_truss.specs.declared.processes.Traced.{Traced}
 use Rattle.pr_truss.specs.declared.reports.Report.TheVariants.{Event as Reported}
-use Rattle.pr_truss.specs.declared.stages.Stage.TheVariants.{ReadingText}
 use Rattle.pr_truss_laws.proofs.HeldLemmas.{set-at}
-use Rattle.pr_report_laws.proofs.Replies.NextStages.{reported}
 use Rattle.pr_report_laws.proofs.Replies.Places.{place-set}
-use Rattle.pr_report_laws.proofs.Invariant.Standing.{unread}
-use Rattle.pr_report_laws.proofs.Replies.StopsOver.{StopOver, Tells, event_over-over, event_over-tells, reported-other, reported-own, shown-text, stop_over-over, stop_over-tells, text-over}
+use Rattle.pr_report_laws.proofs.Replies.StopsOver.{StopOver, event_over-left, event_over-over, stop_over-left, stop_over-over, text-over}
 
 -- What truss makes of the status of an lwp that it read.
 
@@ -39,7 +36,6 @@ module _ (t : TrussState) (at : ℕ) (within : at < length t.traced) where
       read = o.read;
       left = o.left;
       aside = o.aside;
-      shows = λ pid apart_from. o.shows pid (λ own. apart_from (sym (ap (λ (x : Traced). x.pid) less-here) ∙ own));
       opens = o.opens;
     }
 
@@ -52,9 +48,6 @@ module _ (t : TrussState) (at : ℕ) (within : at < length t.traced) where
       read = o.read;
       left = o.left;
       aside = o.aside;
-      shows =
-          λ pid apart_from. o.shows pid apart_from
-          ∙ reported-other pid (traced_at t at).pid l None t.reports apart_from;
       opens = o.opens;
     }
 
@@ -91,77 +84,57 @@ module _ (t : TrussState) (at : ℕ) (within : at < length t.traced) where
     stop_read-over None = stop_over-over t at first
     stop_read-over (Some l) = stop-over l
 
-  -- ---- what it tells of the process itself
+  -- ---- how many old stops are left of the process itself
 
-  module _ (pid : ℕ) where
-    -- an old stop is passed over
-    old-tells : (n : ℕ) → (traced_at t at).old ≡ suc n → Tells t at pid (with_old_stop_over t at) n []
-    unfolding with_old_stop_over
-    old-tells n old =
-        let o = stop_over-tells (with_traced t at less_old) at pid in
-        record {
-          old = o.old ∙ ap (λ (x : Traced). x.old) less-here ∙ ap (λ m. m - 1) old ∙ omega arith;
-          shows = o.shows;
-        }
+  -- an old stop is passed over
+  old-left : (n : ℕ) → (traced_at t at).old ≡ suc n → (traced_at (with_old_stop_over t at) at).old ≡ n
+  unfolding with_old_stop_over
+  old-left n old =
+      stop_over-left (with_traced t at less_old) at
+      ∙ ap (λ (x : Traced). x.old) less-here ∙ ap (λ m. m - 1) old ∙ omega arith
 
-    stop-at : (l : LwpStatus) (on older seen : Bool) → is_on_event l ≡ on → nat_lt 0 (traced_at t at).old ≡ older
-        → (traced_at t at).seen ≡ seen
-        → with_stop t at l ≡ cond (not on) (with_stop_over t at)
-        (cond older (with_old_stop_over t at) (cond seen (with_stop_over t at) (with_event t at l (event_of l))))
-    unfolding with_stop
-    stop-at l on older seen is_on is_older is_seen = rw (is_on, is_older, is_seen) refl
+  stop-at : (l : LwpStatus) (on older seen : Bool) → is_on_event l ≡ on → nat_lt 0 (traced_at t at).old ≡ older
+      → (traced_at t at).seen ≡ seen
+      → with_stop t at l ≡ cond (not on) (with_stop_over t at)
+      (cond older (with_old_stop_over t at) (cond seen (with_stop_over t at) (with_event t at l (event_of l))))
+  unfolding with_stop
+  stop-at l on older seen is_on is_older is_seen = rw (is_on, is_older, is_seen) refl
 
-    pub stop-old : (l : LwpStatus) (n : ℕ) → is_on_event l ≡ true → (traced_at t at).old ≡ suc n
-        → Tells t at pid (with_stop t at l) n []
-    stop-old l n on old =
-        subst (λ (u : TrussState). Tells t at pid u n [])
-        (sym (stop-at l true true (traced_at t at).seen on (ap (nat_lt 0) old
-        ∙ lt-ltb 0 (suc n) (omega arith)) refl)) (old-tells n old)
+  pub stop-old : (l : LwpStatus) (n : ℕ) → is_on_event l ≡ true → (traced_at t at).old ≡ suc n
+      → (traced_at (with_stop t at l) at).old ≡ n
+  stop-old l n on old =
+      ap (λ (u : TrussState). (traced_at u at).old)
+      (stop-at l true true (traced_at t at).seen on (ap (nat_lt 0) old ∙ lt-ltb 0 (suc n) (omega arith)) refl)
+      ∙ old-left n old
 
-    -- an event is told, if it is selected
-    module _ (l : LwpStatus) (id : ℕ) (e : Event) (own : (traced_at t at).pid ≡ pid) (same : l.id ≡ id)
-        (tells : event_of l ≡ Some e) where
-      own-shown : reported pid
-          (t.reports ++ Reported
-          (traced_at t at).pid l None ∷ []) ≡ reported pid t.reports ++ record { id = id; event = e } ∷ []
-      own-shown =
-          reported-own pid (traced_at t at).pid l None t.reports e own tells
-          ∙ ap (λ n. reported pid t.reports ++ record { id = n; event = e } ∷ []) same
+  -- an event is told
+  module _ (l : LwpStatus) (e : Event) (tells : event_of l ≡ Some e) where
+    shown-left : (traced_at (with_event_over (with_event_shown t at l None) at l) at).old ≡ (traced_at t at).old
+    unfolding with_event_shown
+    shown-left = event_over-left (with_report t (Reported (traced_at t at).pid l None)) at l
 
-      shown-tells : Tells t at pid (with_event_over (with_event_shown t at l None) at l) (traced_at t at).old
-          (record { id = id; event = e } ∷ [])
-      unfolding with_event_shown
-      shown-tells =
-          let o = event_over-tells (with_report t (Reported (traced_at t at).pid l None)) at pid l in
-          record { old = o.old; shows = o.shows ∙ append-nil _ ∙ own-shown }
+    text_or-left : (range : Option (ℕ × ℕ))
+        → (traced_at (with_text_or_shown t at l range) at).old ≡ (traced_at t at).old
+    text_or-left None = shown-left
+    text_or-left (Some range) = refl
 
-      text_or-tells : (range : Option (ℕ × ℕ))
-          → Tells t at pid (with_text_or_shown t at l range) (traced_at t at).old (record { id = id; event = e } ∷ [])
-      text_or-tells None = shown-tells
-      text_or-tells (Some range) = record {
-        old = refl;
-        shows = shown-text pid (with_stage t (ReadingText at l range.0 range.1)) at range.0 range.1 l refl ∙ own-shown;
-      }
+    event-left : (traced_at (with_event t at l (Some e)) at).old ≡ (traced_at t at).old
+    event-left =
+        elim (is_selected t.options e) as
+        (λ b. (traced_at
+        (cond b (with_text_or_shown t at l (asked_range t.options e)) (with_event_over t at l)) at).old ≡
+        (traced_at t at).old) [
+          | true ↦ text_or-left (asked_range t.options e)
+          | false ↦ event_over-left t at l
+        ]
 
-      event-tells : Tells t at pid (with_event t at l (Some e)) (traced_at t at).old (unread t.options id e)
-      event-tells =
-          elim (is_selected t.options e) as
-          (λ b. Tells t at pid
-          (cond b (with_text_or_shown t at l (asked_range t.options e)) (with_event_over t at l))
-          (traced_at t at).old (cond b (record { id = id; event = e } ∷ []) [])) [
-            | true ↦ text_or-tells
-                (asked_range t.options e)
-            | false ↦ event_over-tells t at pid l
-          ]
+    on-event : is_on_event l ≡ true
+    unfolding is_on_event
+    on-event = ap is_some tells
 
-      on-event : is_on_event l ≡ true
-      unfolding is_on_event
-      on-event = ap is_some tells
-
-      pub stop-event : (traced_at t at).old ≡ 0 → (traced_at t at).seen ≡ false
-          → Tells t at pid (with_stop t at l) 0 (unread t.options id e)
-      stop-event none unseen =
-          subst (λ n. Tells t at pid (with_stop t at l) n (unread t.options id e)) none
-          (subst (λ (u : TrussState). Tells t at pid u (traced_at t at).old (unread t.options id e))
-          (sym (stop-at l true false false on-event (ap (nat_lt 0) none) unseen
-          ∙ ap (with_event t at l) tells)) event-tells)
+    pub stop-event : (traced_at t at).old ≡ 0 → (traced_at t at).seen ≡ false
+        → (traced_at (with_stop t at l) at).old ≡ 0
+    stop-event none unseen =
+        ap (λ (u : TrussState). (traced_at u at).old)
+        (stop-at l true false false on-event (ap (nat_lt 0) none) unseen ∙ ap (with_event t at l) tells)
+        ∙ event-left ∙ none

@@ -8,8 +8,10 @@ use Rattle.pr_model.specs.Replies.{bytes_in}
 use Rattle.pr_model.specs.declared.calls.Reply.{Reply}
 use Rattle.pr_rec.specs.declared.lwps.LwpStatus.{LwpStatus}
 use Rattle.pr_truss.specs.Feeding.{fed}
-use Rattle.pr_truss.specs.Stops.{asked_range, text_of}
+use Rattle.pr_truss.specs.Stops.{after_text, asked_range, text_of}
 use Rattle.pr_truss.specs.Trusses.{TrussState, first_of_program, first_truss, idle, opening_or, traced_at}
+use Rattle.pr_truss.specs.declared.replies.Answer.{Answer}
+use Rattle.pr_truss.specs.declared.replies.Answer.TheVariants.{Interrupted, Gone}
 use Rattle.pr_truss.specs.declared.reports.Report.{Report}
 use Rattle.pr_truss.specs.declared.reports.Report.TheVariants as report
 use Rattle.pr_truss.specs.declared.stages.AfterClosing.{AfterClosing}
@@ -17,7 +19,8 @@ use Rattle.pr_truss.specs.declared.stages.Stage.{Stage}
 use Rattle.pr_truss.specs.declared.stages.Stage.TheVariants.{ReadingStatus, ReadingText, ReadingLwps}
 use Rattle.pr_truss_laws.proofs.ReplySteps as step
 use Rattle.pr_truss_laws.proofs.ReplySteps.{Closes, GoesOn, IsNew, Looks, Reads, ReplyStep, Settles, StopOver, on-staged, over-staged}
-use Rattle.pr_truss_laws.proofs.FedSteps.{fed-step}
+use Rattle.pr_truss_laws.proofs.FedSteps.{by_test, event-over, fed-step, seen-on}
+use Rattle.pr_truss_laws.proofs.HeldLemmas.{Grown, grown-same}
 use Rattle.pr_report_laws.specs.Memories.{range_asked}
 
 -- What one reply adds to the reports of truss, and which memory truss asks for then.
@@ -171,3 +174,16 @@ module _ (o : Options) (t : TrussState) (r : Reply) (same : t.options ≡ o) whe
 
   pub fed-goes : Goes o t r (fed t r)
   fed-goes = step-goes t.stage (fed t r) refl (fed-step t r)
+
+-- ---- after the memory of an event was read
+
+text-reports : (u : TrussState) (at : ℕ) (l : LwpStatus) (a : Answer) → (after_text u at l a).reports ≡ u.reports
+unfolding after_text
+text-reports u at l Interrupted = by_test (λ (v : TrussState). v.reports ≡ u.reports) u.leaving _ _
+    (λ on. let same = over-staged (event-over u at l) in same.reports)
+    (λ off. let same = on-staged (seen-on u at) in same.reports)
+text-reports u at l Gone = refl
+text-reports u at l _ = let same = over-staged (event-over u at l) in same.reports
+
+pub text-grown : (u : TrussState) (at : ℕ) (l : LwpStatus) (a : Answer) → Grown u.reports (after_text u at l a).reports
+text-grown u at l a = subst (Grown u.reports) (sym (text-reports u at l a)) (grown-same u.reports)

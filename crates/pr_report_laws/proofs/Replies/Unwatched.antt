@@ -1,34 +1,27 @@
-use Rattle.std.proofs.Common.{◌≡◌, ◌≢◌, ◌<◌, ◌++◌, ℕ, true, false, None, Some, Option, List, [], ◌∷◌, length, refl, sym, subst, ap, ◌∙◌, inl, inr}
+use Rattle.std.proofs.Common.{◌≡◌, ◌≢◌, ◌<◌, ℕ, true, false, None, Some, Option, length, refl, sym, subst, ap, ◌∙◌, inl, inr}
 use Rattle.std.proofs.lemmas.Bool.{cases_Bool, cases_eq, false≢true}
-use Rattle.std.proofs.lemmas.List.{append-nil}
-use Rattle.std.proofs.lemmas.List.Elements.{filter_map-append}
 use Rattle.pr_line.specs.declared.options.Options.{Options}
 use Rattle.pr_model.specs.State.{TracedProcess, TracedState, live_process}
-use Rattle.pr_num.specs.declared.errnos.Errno.{Errno}
-use Rattle.pr_truss.specs.Reports.{pending_at}
-use Rattle.pr_truss.specs.Trusses.{TrussState, traced_at, with_report, with_stage}
+use Rattle.pr_truss.specs.Trusses.{TrussState, traced_at}
 use Rattle.pr_truss.specs.declared.processes.Traced.{Traced}
-use Rattle.pr_truss.specs.declared.reports.Report.{Report}
-use Rattle.pr_truss.specs.declared.reports.Report.TheVariants.{CannotTrace}
 use Rattle.pr_truss.specs.declared.stages.ChildStep.{ChildStep}
 use Rattle.pr_truss.specs.declared.stages.Stage.{Stage}
 use Rattle.pr_truss.specs.declared.stages.Stage.TheVariants.{OpeningChild}
+use Rattle.pr_report_laws.proofs.Invariant.Tallies.{Tally}
 use Rattle.pr_report_laws.proofs.Replies.Moves.{Passes, passes-standing}
-use Rattle.pr_report_laws.proofs.Replies.NextStages.{all-none, reported, shown-all}
 use Rattle.pr_report_laws.proofs.Replies.Orderly.{IsOrderly}
 use Rattle.pr_report_laws.proofs.Invariant.OtherSteps.{is-watched}
 use Rattle.pr_report_laws.proofs.Replies.Places.{place-pid, unwatched-away, unwatched-none, unwatched-off}
 use Rattle.pr_report_laws.proofs.Replies.TracedPlaces.{place-some}
 use Rattle.pr_report_laws.proofs.Invariant.Standing.{Accounted, Prepares, Standing, apart, has_read, is_named, lives, over}
 use Rattle.pr_report_laws.proofs.Invariant.Positions.{IsAtBirth}
-use Rattle.pr_report_laws.specs.Shown.{LwpEvent, event_reported, shown}
 use Rattle.pr_report_laws.specs.Watching.{is_away, place_of, watches}
 
 -- A process that truss does not watch, and what a step leaves of the others.
 
 -- what holds of a process before each entry
-abbrev pub Stands : Type 0 → Options → ℕ → TrussState → TracedState → List LwpEvent → Type 0
-Stands Why o pid t s base = Standing Why o pid t s base × Prepares o pid t s
+abbrev pub Stands : Type 0 → Options → ℕ → TrussState → TracedState → Tally → Type 0
+Stands Why o pid t s tally = Standing Why o pid t s tally × Prepares o pid t s
 
 -- ---- not watched
 
@@ -46,8 +39,8 @@ pub unattached-watched : (t : TrussState) (pid place : ℕ) → place_of t pid �
     → (traced_at t place).attached ≡ false → watches t pid ≡ false
 unattached-watched t pid place at off = unwatched-off t pid place at off
 
-module _ (Why : Type 0) (o : Options) (pid : ℕ) (t : TrussState) (s : TracedState) (base : List LwpEvent) where
-  pub apart-accounted : watches t pid ≡ false → Standing Why o pid t s base → Accounted Why base (shown pid t)
+module _ (Why : Type 0) (o : Options) (pid : ℕ) (t : TrussState) (s : TracedState) (tally : Tally) where
+  pub apart-accounted : watches t pid ≡ false → Standing Why o pid t s tally → Accounted Why tally
   apart-accounted off (apart not_watched a) = a
   apart-accounted off (over watched none a) = a
   apart-accounted off (lives place p at attached here live traced position) =
@@ -55,41 +48,14 @@ module _ (Why : Type 0) (o : Options) (pid : ℕ) (t : TrussState) (s : TracedSt
 
   -- it was not watched, and it is not
   pub apart-standing : (u : TrussState) (s' : TracedState) → watches t pid ≡ false → watches u pid ≡ false
-      → shown pid u ≡ shown pid t → Standing Why o pid t s base → Standing Why o pid u s' base
-  apart-standing u s' before after shows standing =
-      apart after (subst (Accounted Why base) (sym shows) (apart-accounted before standing))
+      → Standing Why o pid t s tally → Standing Why o pid u s' tally
+  apart-standing u s' before after standing = apart after (apart-accounted before standing)
 
   -- What the machine does to a process that truss does not watch does not matter.
-  pub watched-on : (s' : TracedState) → (watches t pid ≡ true → Standing Why o pid t s' base)
-      → Standing Why o pid t s base → Standing Why o pid t s' base
+  pub watched-on : (s' : TracedState) → (watches t pid ≡ true → Standing Why o pid t s' tally)
+      → Standing Why o pid t s tally → Standing Why o pid t s' tally
   watched-on s' watched standing =
-      elim (cases_Bool (watches t pid)) [ inl on ↦ watched on | inr off ↦ apart-standing t s' off off refl standing ]
-
--- ---- what is shown
-
--- nothing is reported
-pub same-shown : (pid : ℕ) (t u : TrussState) → pending_at t t.stage ≡ [] → pending_at u u.stage ≡ []
-    → u.reports ≡ t.reports → shown pid u ≡ shown pid t
-same-shown pid t u none later same =
-    shown-all pid u
-    ∙ ap (reported pid) (all-none u later ∙ ap (λ (rs : List Report). rs ++ []) same ∙ sym (all-none t none))
-    ∙ sym (shown-all pid t)
-
-refused-reported : (pid of : ℕ) (errno : Errno) (reports : List Report)
-    → reported pid (reports ++ CannotTrace of errno ∷ []) ≡ reported pid reports
-unfolding reported event_reported
-refused-reported pid of errno reports =
-    filter_map-append (event_reported pid) reports (CannotTrace of errno ∷ []) ∙ append-nil _
-
--- a refusal is reported
-pub refused-shown : (pid of : ℕ) (errno : Errno) (t : TrussState) (stage : Stage) → pending_at t t.stage ≡ []
-    → pending_at (with_stage (with_report t (CannotTrace of errno)) stage) stage ≡ []
-    → shown pid (with_stage (with_report t (CannotTrace of errno)) stage) ≡ shown pid t
-refused-shown pid of errno t stage none later =
-    let u = with_stage (with_report t (CannotTrace of errno)) stage in
-    shown-all pid u ∙ ap (reported pid) (all-none u later ∙ append-nil u.reports)
-    ∙ refused-reported pid of errno t.reports
-    ∙ ap (reported pid) (sym (append-nil t.reports) ∙ sym (all-none t none)) ∙ sym (shown-all pid t)
+      elim (cases_Bool (watches t pid)) [ inl on ↦ watched on | inr off ↦ apart-standing t s' off off standing ]
 
 -- ---- a step that is about another process
 
@@ -111,18 +77,18 @@ beside t u of before after others place =
       | inr differs ↦ others place differs
     ]
 
-module _ (Why : Type 0) (o : Options) (pid : ℕ) (t u : TrussState) (s : TracedState) (base : List LwpEvent) where
+module _ (Why : Type 0) (o : Options) (pid : ℕ) (t u : TrussState) (s : TracedState) (tally : Tally) where
   -- a step that agrees with each place, where each process stands as before
-  pub agreeing-standing : place_of u pid ≡ place_of t pid → shown pid u ≡ shown pid t
-      → ((place : ℕ) → Agrees t u place) → Standing Why o pid t s base → Standing Why o pid u s base
-  agreeing-standing same shows agrees standing = by (place_of t pid) refl
+  pub agreeing-standing : place_of u pid ≡ place_of t pid → ((place : ℕ) → Agrees t u place)
+      → Standing Why o pid t s tally → Standing Why o pid u s tally
+  agreeing-standing same agrees standing = by (place_of t pid) refl
     where
-      at : (place : ℕ) → place_of t pid ≡ Some place → Agrees t u place → Standing Why o pid u s base
+      at : (place : ℕ) → place_of t pid ≡ Some place → Agrees t u place → Standing Why o pid u s tally
       at place is (stays_away before after) =
-          apart-standing Why o pid t s base u s (away-watched t pid place is before) (away-watched u pid place (same
-          ∙ is) after) shows standing
+          apart-standing Why o pid t s tally u s (away-watched t pid place is before) (away-watched u pid place (same
+          ∙ is) after) standing
       at place is (aside stays before after read named) =
-          passes-standing Why o pid t u s base place place (record {
+          passes-standing Why o pid t u s tally place place (record {
             at = is;
             then = same
                 ∙ is;
@@ -132,12 +98,11 @@ module _ (Why : Type 0) (o : Options) (pid : ℕ) (t u : TrussState) (s : Traced
             here = λ on. after;
             read = read;
             named = named;
-            shows = shows;
           }) standing
 
-      by : (x : Option ℕ) → place_of t pid ≡ x → Standing Why o pid u s base
+      by : (x : Option ℕ) → place_of t pid ≡ x → Standing Why o pid u s tally
       by None is =
-          apart-standing Why o pid t s base u s (none-watched t pid is) (none-watched u pid (same ∙ is)) shows standing
+          apart-standing Why o pid t s tally u s (none-watched t pid is) (none-watched u pid (same ∙ is)) standing
       by (Some place) is = at place is (agrees place)
 
 -- a process that stays what it was
@@ -146,8 +111,8 @@ pub passing : (pid : ℕ) (t u : TrussState) (place next : ℕ) → IsOrderly u 
     → is_away t.leaving t.stage place ≡ false
     → ((traced_at u next).attached ≡ true → is_away u.leaving u.stage next ≡ false)
     → has_read u.stage next ≡ has_read t.stage place → is_named u.stage next ≡ is_named t.stage place
-    → shown pid u ≡ shown pid t → Passes pid t u place next
-passing pid t u place next order at within same was here read named shows = record {
+    → Passes pid t u place next
+passing pid t u place next order at within same was here read named = record {
   at = at;
   then = place-some u pid order next within (ap (λ (x : Traced). x.pid) same ∙ place-pid t pid place at);
   same = same;
@@ -155,7 +120,6 @@ passing pid t u place next order at within same was here read named shows = reco
   here = λ on. here (ap (λ (x : Traced). x.attached) same ∙ on);
   read = read;
   named = named;
-  shows = shows;
 }
 
 -- ---- what a stage is tells what it has to do with a place
@@ -169,9 +133,6 @@ module _ (t : TrussState) (stage : Stage) (is : t.stage ≡ stage) where
 
   pub stage-named : (place : ℕ) → is_named t.stage place ≡ is_named stage place
   stage-named place = ap (λ x. is_named x place) is
-
-  pub stage-pending : pending_at t t.stage ≡ pending_at t stage
-  stage-pending = ap (pending_at t) is
 
 -- the step of truss is the opening, the leaving or the closing of the process
 pub stage-unwatched : (t : TrussState) (stage : Stage) (pid place : ℕ) → t.stage ≡ stage → place_of t pid ≡ Some place

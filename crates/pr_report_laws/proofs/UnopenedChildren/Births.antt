@@ -1,6 +1,5 @@
-use Rattle.std.proofs.Common.{◌≡◌, ◌≢◌, ◌==◌, ◌<◌, ℕ, Bool, true, false, cond, None, Some, Option, List, [], ◌∷◌, ◌++◌, length, refl, sym, subst, ap, ◌∙◌, arith, inl, inr}
+use Rattle.std.proofs.Common.{◌≡◌, ◌≢◌, ◌==◌, ◌<◌, ◌⊎◌, ℕ, Bool, true, false, cond, None, Some, Option, List, [], ◌∷◌, ◌++◌, length, refl, sym, subst, ap, ◌∙◌, arith, inl, inr}
 use Rattle.std.proofs.lemmas.Bool.{cases_Bool, eq-eqb, eqb-false, eqb-true, false≢true}
-use Rattle.std.proofs.lemmas.List.{append-nil}
 use Rattle.std.proofs.lemmas.List.Elements.{All-cons, All-head, All-nil, All-tail}
 use Rattle.std.proofs.lemmas.Option.{none-some, same_Some}
 use Rattle.std.specs.List.{slice_get}
@@ -20,7 +19,9 @@ use Rattle.pr_model.specs.declared.events.Act.TheVariants as act
 use Rattle.pr_model.specs.declared.events.Actor.{Actor}
 use Rattle.pr_model.specs.declared.events.Actor.TheVariants.{Controller, Lwp, Clock}
 use Rattle.pr_model.specs.declared.events.Entry.{Entry}
+use Rattle.pr_reached.proofs.FitHistoryLemmas.{history-fits}
 use Rattle.pr_reached.proofs.HistoryRanges.{history-range}
+use Rattle.pr_reached.specs.Fits.{IsFitSystem}
 use Rattle.pr_reached.specs.ByteHistories.{HasBytes, IsEntryOfBytes}
 use Rattle.pr_reached.specs.InRange.{IsInRange}
 use Rattle.pr_reached.specs.Reached.{IsReached}
@@ -31,7 +32,7 @@ use Rattle.pr_truss.specs.declared.processes.Traced.{Traced}
 use Rattle.pr_truss.specs.declared.stages.Stage.{Stage}
 use Rattle.pr_truss.specs.declared.stages.Stage.TheVariants.{Spawning, OpeningControl, OpeningChildControl}
 use Rattle.pr_truss_laws.proofs.HeldLemmas.{Fits}
-use Rattle.pr_truss_laws.proofs.OwnLemmas.{first-owns}
+use Rattle.pr_truss_laws.proofs.OwnLemmas.{Owns}
 use Rattle.pr_truss_laws.specs.Exchanges.{Exchange, Makes, exchange_in, exchange_of, exchanges, truss_after}
 use Rattle.pr_truss_laws.specs.Runs.{IsTrussRun}
 use Rattle.pr_report_laws.proofs.UnopenedChildren.Claims.{Claims, KeepsChildren, IsFree, IsSet, Names, claim_of, opened, stands, watched}
@@ -39,24 +40,28 @@ use Rattle.pr_report_laws.proofs.UnopenedChildren.Claims as claims
 use Rattle.pr_report_laws.proofs.UnopenedChildren.ClaimCalls.{call-follows}
 use Rattle.pr_report_laws.proofs.UnopenedChildren.ClaimEntries.{entry-follows}
 use Rattle.pr_report_laws.proofs.UnopenedChildren.ClaimFed.{fed-comes}
-use Rattle.pr_report_laws.proofs.UnopenedChildren.ClaimRuns.{call_entry}
+use Rattle.pr_report_laws.proofs.UnopenedChildren.ClaimRuns.{IsOwn, call_entry}
+use Rattle.pr_report_laws.proofs.UnopenedChildren.LeftChildren.{LeavesTo, leaves-later}
 use Rattle.pr_report_laws.proofs.UnopenedChildren.ClaimStands.{IsStanding}
 use Rattle.pr_report_laws.proofs.Files.FileLaws.{HasFiles}
-use Rattle.pr_report_laws.proofs.Files.FileSteps.{MakesNext, entry-lawful, first-files, makes-next}
-use Rattle.pr_report_laws.proofs.Invariant.UnreadLaws.{truss-reports}
+use Rattle.pr_report_laws.proofs.Files.FileSteps.{MakesNext, entry-files, entry-lawful, entry-owns, makes-next}
+use Rattle.pr_report_laws.proofs.Invariant.ShownTallies.{truss-reports}
 use Rattle.pr_report_laws.proofs.Files.WatchHistories.{uninterrupted}
-use Rattle.pr_report_laws.proofs.Machine.ForkTurns.{LeavesChildren}
-use Rattle.pr_report_laws.proofs.Invariant.HistoryLaw.{BirthsFrom, OpensAtBirth, after-next, first-is, first-prepares, no-exchanges, reads-back}
+use Rattle.pr_report_laws.proofs.Invariant.HistoryLaw.{BirthsFrom, OpensAtBirth, after-next, first-holds, first_tally, no-exchanges, reads-back}
 use Rattle.pr_report_laws.proofs.Invariant.HistorySteps.{Holds, IsBorn, entry-holds}
 use Rattle.pr_report_laws.proofs.Replies.Leaving.{IsLeaving, fed-leaving, first-leaving}
 use Rattle.pr_report_laws.proofs.Machine.NewBorn.{untouched-now}
+use Rattle.pr_report_laws.proofs.Replies.OptionLemmas.{told-options}
 use Rattle.pr_report_laws.proofs.Replies.OwnLooks.{IsCall, ReadsBack}
 use Rattle.pr_report_laws.proofs.Invariant.StandLemmas.{Leaves}
-use Rattle.pr_report_laws.proofs.Invariant.Standing.{apart}
+use Rattle.pr_report_laws.specs.AtBirth.{IsFollowedAtBirth}
 use Rattle.pr_report_laws.specs.Births.{LeavesForks, NamesNoChild, granted, IsNeverFollowed}
+use Rattle.pr_report_laws.specs.Lineages.{IsLeftToTruss, IsNamed, IsTakenBefore, Lineage, WasToldOf, descends, itself}
 use Rattle.pr_report_laws.proofs.Invariant.Positions.{IsAtBirth}
+use Rattle.pr_report_laws.proofs.Machine.TracedPoints.{picks-traced}
+use Rattle.pr_report_laws.proofs.Invariant.Tallies.{Tally}
+use Rattle.pr_report_laws.specs.Reads.{traces}
 use Rattle.pr_report_laws.specs.Reported.{IsReported}
-use Rattle.pr_report_laws.specs.Shown.{LwpEvent, shown}
 use Rattle.pr_report_laws.specs.Watching.{told_of, with_exchange}
 
 -- Where truss opens the child of a fork, the child stands at its birth.
@@ -66,14 +71,24 @@ use Rattle.pr_report_laws.specs.Watching.{told_of, with_exchange}
 -- what holds for a process, whatever may be missing of it
 pub record Holding (k : ℕ) (o : Options) (pid : ℕ) (t : TrussState) (s : TracedState) : Type 1 where
   pub K : Type 0
-  pub so_far : List LwpEvent
-  pub holds : Holds K k o pid t s so_far
+  pub tally : Tally
+  pub holds : Holds K k o pid t s tally
 
--- what holds for all of them, and for the children of forks
-pub record Going (k : ℕ) (o : Options) (t : TrussState) (s : TracedState) (h : List Entry) : Type 1 where
-  pub each : (pid : ℕ) → Holding k o pid t s
+-- what holds whatever process is asked about
+pub record Common (k : ℕ) (o : Options) (t : TrussState) (s : TracedState) : Type 0 where
+  pub lawful : IsLawful s
+  pub fit : IsFitSystem s.system
+  pub owns : Owns k t s
+  pub files : HasFiles k t s
+  pub options : t.options ≡ o
   pub leaves : IsLeaving t
-  pub children : t.leaving ≡ false → KeepsChildren k o t s h
+
+-- what holds for the processes of a line, and for their children
+pub record Going (Line Told : ℕ → Type 0) (k : ℕ) (o : Options) (t : TrussState) (s : TracedState)
+    (h : List Entry) : Type 1 where
+  pub common : Common k o t s
+  pub each : (pid : ℕ) → Line pid → Holding k o pid t s
+  pub children : t.leaving ≡ false → KeepsChildren Line Told k o t s h
 
 -- where truss leaves its processes it opens none by its id
 names-leaving : (o : Options) (ts : List Traced) (leaving : Bool) (stage : Stage) → Leaves leaving stage
@@ -81,23 +96,6 @@ names-leaving : (o : Options) (ts : List Traced) (leaving : Bool) (stage : Stage
 names-leaving o ts leaving (Spawning program) goes is = absurd (false≢true (sym goes ∙ is))
 names-leaving o ts leaving (OpeningControl pid) goes is = absurd (false≢true (sym goes ∙ is))
 names-leaving o ts leaving _ goes is = tt
-
--- the rest of a history leaves the children of forks to truss too
-pub forks-later : (k : ℕ) (o : Options) (e : Entry) (h : List Entry) → LeavesChildren k o (e ∷ h) → LeavesChildren k o h
-forks-later k o e h forks = (
-  record {
-    each =
-        λ follow before between behind later parent id turned by pid lwp handle own_lwp own_handle opened_file
-        own_file mode own_mode is.
-        forks.0.each follow
-        (e ∷ before) between behind later parent id turned by pid lwp handle own_lwp own_handle opened_file own_file
-        mode own_mode (ap (λ (es : List Entry). e ∷ es) is);
-  },
-  record {
-    none = λ follow before later parent id place pid turned is. forks.1.none follow
-        (e ∷ before) later parent id place pid turned (ap (λ (es : List Entry). e ∷ es) is);
-  },
-)
 
 -- the entry of a call of truss, by what it learns
 abbrev pub entry_by : Actor → Act → Entry
@@ -115,7 +113,7 @@ entry-of k (Controller by) (act.Call c r) x is = own (by == k) refl is
     own false same e = absurd (none-some x e)
 entry-of k _ _ x is = absurd (none-some x is)
 
-module _ (n k : ℕ) (o : Options) (t : TrussState) (s : TracedState) (h : List Entry) where
+module _ (Line Told : ℕ → Type 0) (n k : ℕ) (o : Options) (t : TrussState) (s : TracedState) (h : List Entry) where
   -- ---- where truss opens a child
 
   -- the entry in which its control file is opened
@@ -129,8 +127,9 @@ module _ (n k : ℕ) (o : Options) (t : TrussState) (s : TracedState) (h : List 
       entry-of k e.actor e.act x is ∙ ap (λ (c : Call). entry_by (Controller k) (act.Call c x.reply)) (sym calls)
       ∙ ap (λ (r : Reply). entry_by (Controller k) (act.Call (call.Open pid 0 file.Ctl WriteExcl) r)) given
 
-  born-now : (e : Entry) → Going k o t s (e ∷ h) → MakesNext t (exchange_of k e) → (pid : ℕ) → IsBorn k o pid t s e
-  born-now e g next pid =
+  born-now : (e : Entry) → Going Line Told k o t s (e ∷ h) → MakesNext t (exchange_of k e) → (pid : ℕ) → Line pid
+      → IsBorn k o pid t s e
+  born-now e g next pid line =
       record {
         child = λ x handle parent p is at given live. at-birth handle parent p
             (child-granted e x pid handle parent next is at given) at live;
@@ -139,51 +138,67 @@ module _ (n k : ℕ) (o : Options) (t : TrussState) (s : TracedState) (h : List 
       at-birth : (handle parent : ℕ) (p : TracedProcess) → e ≡ granted k pid 0 file.Ctl WriteExcl handle
           → t.stage ≡ OpeningChildControl parent pid → live_process s.system pid ≡ Some p → IsAtBirth o p
       at-birth handle parent p entry at live =
-          let w = g.each 0 in
-          let holds = w.holds in
-          let files = holds.files in
+          let w = g.common in
+          let files = w.files in
           let st = files.stands in
           let stays : t.leaving ≡ false = subst (Leaves t.leaving) at st.leaves in
           let f = g.children stays in
-          let owns = holds.owns in
+          let owns = w.owns in
           let within : parent < length t.traced = subst (Fits t.traced) at owns.fits in
+          let is : claim_of o t.stage parent ≡ Some pid =
+          ap (λ (x : Stage). claim_of o x parent) at ∙ ap (λ b. cond b (Some pid) None) (eq-eqb parent parent refl) in
+          let its = f.parents parent pid within is line in
           let claim : Claims o t.traced t.stage s.system (traced_at t parent).pid pid =
-          claims.reads parent within refl (ap (λ (x : Stage). claim_of o x parent) at
-          ∙ ap (λ b. cond b (Some pid) None) (eq-eqb parent parent refl)) in
-          let new = f.born (traced_at t parent).pid pid claim in
-          let untouched = untouched-now k o s h pid 0 handle file.Ctl WriteExcl e entry refl new in
-          let is = untouched.born p live in
-          is.birth
+          claims.reads parent within refl is in
+          let new = f.born (traced_at t parent).pid pid its.0 its.1 claim in
+          let untouched = untouched-now k o s h pid handle e entry new in
+          let born = untouched.born p live in
+          born.birth
 
   -- ---- what an entry leaves
 
-  pub stand : (e : Entry) → Going k o t s (e ∷ h) → (pid : ℕ) → IsStanding o pid t s
-  stand e g pid =
-      let x = g.each pid in
+  pub stand : (e : Entry) → Going Line Told k o t s (e ∷ h) → (pid : ℕ) → Line pid → IsStanding o pid t s
+  stand e g pid line =
+      let x = g.each pid line in
       let holds = x.holds in
-      record { Why = _; so_far = x.so_far; standing = holds.standing; prepares = holds.prepares }
+      record { Why = _; tally = x.tally; standing = holds.standing; prepares = holds.prepares }
 
-  module _ (e : Entry) (g : Going k o t s (e ∷ h)) (reads : (pid : ℕ) → ReadsBack pid s) (legal : IsLegalEntry n s e)
-      (next : MakesNext t (exchange_of k e)) where
-    w : Holding k o 0 t s
-    w = g.each 0
+  told-leaves : (x : Option Exchange) → IsLeaving t → IsLeaving (with_exchange t x)
+  told-leaves None leaves = leaves
+  told-leaves (Some x) leaves = fed-leaving t x.reply leaves
+
+  module _ (e : Entry) (g : Going Line Told k o t s (e ∷ h)) (reads : (pid : ℕ) → ReadsBack pid s)
+      (legal : IsLegalEntry n s e) (next : MakesNext t (exchange_of k e)) where
+    w : Common k o t s
+    w = g.common
 
     later : IsLawful (after s e)
-    later = let holds = w.holds in entry-lawful n s e holds.lawful legal
+    later = entry-lawful n s e w.lawful legal
 
-    each-later : (pid : ℕ) → Holding k o pid (told_of k t e) (after s e)
-    each-later pid =
-        let x = g.each pid in
+    pub common-later : Common k o (told_of k t e) (after s e)
+    common-later = record {
+      lawful = later;
+      fit = history-fits n s (e ∷ []) w.lawful w.fit (legal, tt);
+      owns = entry-owns n k t s e w.owns legal next;
+      files = entry-files n k t s w.lawful (uninterrupted k s) w.owns w.files e legal next;
+      options = told-options k t e ∙ w.options;
+      leaves = told-leaves (exchange_of k e) w.leaves;
+    }
+
+    each-later : (pid : ℕ) → Line pid → Holding k o pid (told_of k t e) (after s e)
+    each-later pid line =
+        let x = g.each pid line in
         record {
           K = _;
-          so_far = _;
+          tally = _;
           holds =
-              entry-holds x.K n k o pid t s x.so_far x.holds (uninterrupted k s) (reads pid) e
-              (born-now e g next pid) legal next;
+              entry-holds x.K n k o pid t s x.tally x.holds (uninterrupted k s) (reads pid) e
+              (born-now e g next pid line) legal next;
         }
 
   -- a call of truss
-  module _ (c : Call) (a : Answer) (g : Going k o t s (call_entry k c a ∷ h)) (reads : (pid : ℕ) → ReadsBack pid s)
+  module _ (c : Call) (a : Answer) (g : Going Line Told k o t s (call_entry k c a ∷ h))
+      (reads : (pid : ℕ) → ReadsBack pid s)
       (legal : IsLegalEntry n s (call_entry k c a)) (next : MakesNext t (Some (record { call = c; reply = a.reply })))
       (answer : answer_to s k c ≡ Some a) where
     own-exchange : exchange_of k (call_entry k c a) ≡ Some (record { call = c; reply = a.reply })
@@ -201,81 +216,78 @@ module _ (n k : ℕ) (o : Options) (t : TrussState) (s : TracedState) (h : List 
 
     pub is-call : (pid : ℕ) → IsCall k o pid t s c a
     is-call pid =
-        let x = g.each pid in
-        let holds = x.holds in
-        let y = each-later (call_entry k c a) g reads legal own-next pid in
-        let after_it = y.holds in
+        let w = g.common in
+        let after_it = common-later (call_entry k c a) g reads legal own-next in
         record {
           next = next;
           answer = answer;
-          lawful = holds.lawful;
+          lawful = w.lawful;
           later = subst IsLawful own-after after_it.lawful;
-          fit = holds.fit;
-          owns = holds.owns;
-          files = holds.files;
+          fit = w.fit;
+          owns = w.owns;
+          files = w.files;
           files_later =
               subst (HasFiles k (fed t a.reply)) own-after
               (subst (λ (u : TrussState). HasFiles k u (after s (call_entry k c a))) told-is after_it.files);
-          options = holds.options;
+          options = w.options;
           reads = reads pid;
         }
 
     own-names : Names t.options t.traced t.stage
     own-names = elim (cases_Bool t.leaving) [
-      | inl leaving ↦ let x =
-          g.each 0 in let holds =
-          x.holds in let files =
-          holds.files in let st =
-          files.stands in names-leaving t.options t.traced t.leaving t.stage st.leaves leaving
-      | inr stays ↦ let f =
-          g.children stays in let x =
-          g.each 0 in let holds =
-          x.holds in subst (λ (y : Options). Names y t.traced t.stage) (sym holds.options) f.names
+      | inl leaving ↦ let w = g.common in
+          let files = w.files in
+          let st = files.stands in
+          names-leaving t.options t.traced t.leaving t.stage st.leaves leaving
+      | inr stays ↦ let f = g.children stays in
+          let w = g.common in
+          subst (λ (y : Options). Names y t.traced t.stage) (sym w.options) f.names
     ]
 
     -- truss that does not leave its processes did not leave them before
     pub own-stays : (fed t a.reply).leaving ≡ false → t.leaving ≡ false
     own-stays on =
-        let x = g.each 0 in
-        let holds = x.holds in
-        let owns = holds.owns in
-        let comes = fed-comes t a.reply g.leaves owns.fits own-names on in
+        let w = g.common in
+        let owns = w.owns in
+        let comes = fed-comes t a.reply w.leaves owns.fits own-names on in
         comes.stays
 
-    own-follows : (fed t a.reply).leaving ≡ false → KeepsChildren k o (fed t a.reply) (after s (call_entry k c a)) h
-    own-follows on =
+    pub is-own : t.leaving ≡ false → IsOwn Line n k o t s c a
+    is-own stays = record {
+      call = is-call;
+      stands = stand (call_entry k c a) g;
+      legal = legal;
+      later = own-after;
+      stays = stays;
+    }
+
+    own-follows : LeavesTo Line Told k o s (call_entry k c a ∷ h) → (fed t a.reply).leaving ≡ false
+        → KeepsChildren Line Told k o (fed t a.reply) (after s (call_entry k c a)) h
+    own-follows forks on =
         let stays = own-stays on in
-        subst (λ (v : TracedState). KeepsChildren k o (fed t a.reply) v h) (sym own-after)
-        (call-follows n k o t s c a
-        (record {
-          call = is-call;
-          stands = stand
-              (call_entry k c a) g;
-          legal =
-              legal;
-          later = own-after;
-          stays = stays;
-        }) g.leaves h (g.children stays) on)
+        let w = g.common in
+        subst (λ (v : TracedState). KeepsChildren Line Told k o (fed t a.reply) v h) (sym own-after)
+        (call-follows Line Told n k o t s c a (is-own stays) w.leaves h (g.children stays) forks on)
 
   -- an entry that is no call of truss
-  others-follow : (e : Entry) (g : Going k o t s (e ∷ h)) → LeavesChildren k o (e ∷ h) → IsLegalEntry n s e
-      → e.actor ≢ Controller k → t.leaving ≡ false → KeepsChildren k o t (after s e) h
+  others-follow : (e : Entry) (g : Going Line Told k o t s (e ∷ h)) → LeavesTo Line Told k o s (e ∷ h)
+      → IsLegalEntry n s e → e.actor ≢ Controller k → t.leaving ≡ false
+      → KeepsChildren Line Told k o t (after s e) h
   others-follow e g leaves legal others stays =
-      let x = g.each 0 in
-      let holds = x.holds in
-      entry-follows n k o t s e h holds.lawful holds.fit holds.files (stand e g) stays legal
-      (entry-lawful n s e holds.lawful legal) others leaves (g.children stays)
+      let w = g.common in
+      entry-follows Line Told n k o t s e h w.lawful w.fit w.files (stand e g) stays legal
+      (entry-lawful n s e w.lawful legal) others leaves (g.children stays)
 
   -- ---- any entry
 
   module _ (reads : (pid : ℕ) → ReadsBack pid s) where
     call-follow : (by : ℕ) (c : Call) (r : Reply) (mine : Bool) → (by == k) ≡ mine
-        → Going k o t s (record { actor = Controller by; act = act.Call c r } ∷ h)
-        → LeavesChildren k o (record { actor = Controller by; act = act.Call c r } ∷ h)
+        → Going Line Told k o t s (record { actor = Controller by; act = act.Call c r } ∷ h)
+        → LeavesTo Line Told k o s (record { actor = Controller by; act = act.Call c r } ∷ h)
         → IsLegalEntry n s (record { actor = Controller by; act = act.Call c r })
         → MakesNext t (cond mine (Some (record { call = c; reply = r })) None)
         → (with_exchange t (cond mine (Some (record { call = c; reply = r })) None)).leaving ≡ false
-        → KeepsChildren k o (with_exchange t (cond mine (Some (record { call = c; reply = r })) None))
+        → KeepsChildren Line Told k o (with_exchange t (cond mine (Some (record { call = c; reply = r })) None))
         (after s (record { actor = Controller by; act = act.Call c r })) h
     unfolding IsLegalEntry
     call-follow by c r false is g forks legal next on =
@@ -285,19 +297,21 @@ module _ (n k : ℕ) (o : Options) (t : TrussState) (s : TracedState) (h : List 
         of-controller : (x y : ℕ) → Controller x ≡ Controller y → x ≡ y
         of-controller x y same = cc
     call-follow by c r true is g forks legal next on =
-        subst (λ b. Going k o t s (record { actor = Controller b; act = act.Call c r } ∷ h) → IsLegalEntry n s
+        subst (λ b. Going Line Told k o t s (record { actor = Controller b; act = act.Call c r } ∷ h)
+        → LeavesTo Line Told k o s (record { actor = Controller b; act = act.Call c r } ∷ h) → IsLegalEntry n s
         (record { actor = Controller b; act = act.Call c r })
         → answer_to s b c ≡ Some (record { state = legal.1.0; reply = r })
-        → KeepsChildren k o (fed t r) (after s (record { actor = Controller b; act = act.Call c r })) h)
+        → KeepsChildren Line Told k o (fed t r) (after s (record { actor = Controller b; act = act.Call c r })) h)
         (sym (eqb-true by k is))
-        (λ g' l answer. own-follows c
-        (record { state = legal.1.0; reply = r }) g' reads l next answer on) g legal legal.1.1
+        (λ g' fs l answer. own-follows c
+        (record { state = legal.1.0; reply = r }) g' reads l next answer fs on) g forks legal legal.1.1
 
-    actor-follow : (actor : Actor) (it : Act) → Going k o t s (record { actor = actor; act = it } ∷ h)
-        → LeavesChildren k o (record { actor = actor; act = it } ∷ h)
+    actor-follow : (actor : Actor) (it : Act) → Going Line Told k o t s (record { actor = actor; act = it } ∷ h)
+        → LeavesTo Line Told k o s (record { actor = actor; act = it } ∷ h)
         → IsLegalEntry n s (record { actor = actor; act = it }) → MakesNext t (exchange_in k actor it)
         → (with_exchange t (exchange_in k actor it)).leaving ≡ false
-        → KeepsChildren k o (with_exchange t (exchange_in k actor it)) (after s (record { actor = actor; act = it })) h
+        → KeepsChildren Line Told k o (with_exchange t (exchange_in k actor it))
+        (after s (record { actor = actor; act = it })) h
     unfolding IsLegalEntry
     actor-follow (Controller by) (act.Call c r) g forks legal next on =
         call-follow by c r (by == k) refl g forks legal next on
@@ -308,15 +322,11 @@ module _ (n k : ℕ) (o : Options) (t : TrussState) (s : TracedState) (h : List 
     actor-follow (Controller by) (act.Turn did) g forks legal next on = absurd legal
     actor-follow (Controller by) (act.Tick moment) g forks legal next on = absurd legal
 
-    told-leaves : (x : Option Exchange) → IsLeaving t → IsLeaving (with_exchange t x)
-    told-leaves None leaves = leaves
-    told-leaves (Some x) leaves = fed-leaving t x.reply leaves
-
-    pub going-on : (e : Entry) → Going k o t s (e ∷ h) → LeavesChildren k o (e ∷ h) → IsLegalEntry n s e
-        → MakesNext t (exchange_of k e) → Going k o (told_of k t e) (after s e) h
+    pub going-on : (e : Entry) → Going Line Told k o t s (e ∷ h) → LeavesTo Line Told k o s (e ∷ h)
+        → IsLegalEntry n s e → MakesNext t (exchange_of k e) → Going Line Told k o (told_of k t e) (after s e) h
     going-on e g forks legal next = record {
+      common = common-later e g reads legal next;
       each = each-later e g reads legal next;
-      leaves = told-leaves (exchange_of k e) g.leaves;
       children = λ on. actor-follow e.actor e.act g forks legal next on;
     }
 
@@ -346,25 +356,24 @@ births-join k o pid t s e h now rest = record { child = by }
         ∙ ap (λ (y : Entry). truss_after t (exchanges k (y ∷ before))) (sym same)) ∙ stage) given
         (ap (λ (y : Entry). live_process (state_after (after s y) before).system pid) (sym same) ∙ live)
 
-history-births : (n k : ℕ) (o : Options) (h : List Entry) (t : TrussState) (s : TracedState) → Going k o t s h
-    → IsLegal n s h → Makes t (exchanges k h) → IsInRange s.system → HasBytes h → LeavesChildren k o h → (pid : ℕ)
-    → BirthsFrom k o pid t s h
-history-births n k o [] t s g legal makes range bytes forks pid =
+history-births : (Line Told : ℕ → Type 0) (n k : ℕ) (o : Options) (h : List Entry) (t : TrussState) (s : TracedState)
+    → Going Line Told k o t s h → IsLegal n s h → Makes t (exchanges k h) → IsInRange s.system → HasBytes h
+    → LeavesTo Line Told k o s h → (pid : ℕ) → Line pid → BirthsFrom k o pid t s h
+history-births Line Told n k o [] t s g legal makes range bytes forks pid line =
     record { child = λ before later e x handle parent p is own stage given live. absurd (nothing before later e is) }
   where
     nothing : (before later : List Entry) (e : Entry) → [] ≡ before ++ e ∷ later → ⊥
     nothing [] later e is = cc
     nothing (b ∷ before) later e is = cc
-history-births n k o (e ∷ h) t s g legal makes range bytes forks pid =
+history-births Line Told n k o (e ∷ h) t s g legal makes range bytes forks pid line =
     let first = makes-next k t e h makes in
-    let w = g.each 0 in
-    let holds = w.holds in
-    births-join k o pid t s e h (born-now n k o t s h e g first.0 pid)
-    (history-births n k o h (told_of k t e) (after s e)
-    (going-on n k o t s h (λ of. reads-back of s holds.lawful range) e g forks legal.0 first.0) legal.1 first.1
-    (history-range n s (e ∷ []) holds.lawful range
+    let w = g.common in
+    births-join k o pid t s e h (born-now Line Told n k o t s h e g first.0 pid line)
+    (history-births Line Told n k o h (told_of k t e) (after s e)
+    (going-on Line Told n k o t s h (λ of. reads-back of s w.lawful range) e g forks legal.0 first.0) legal.1 first.1
+    (history-range n s (e ∷ []) w.lawful range
     (All-cons IsEntryOfBytes e [] (All-head IsEntryOfBytes e h bytes) (All-nil IsEntryOfBytes)) (legal.0, tt))
-    (All-tail IsEntryOfBytes e h bytes) (forks-later k o e h forks) pid)
+    (All-tail IsEntryOfBytes e h bytes) (leaves-later Line Told k o s e h forks) pid line)
 
 -- ---- the first state
 
@@ -386,12 +395,13 @@ none-names o ts (OpeningControl pid) none = inr none
 none-names o ts _ none = tt
 
 -- truss that traces no process yet
-pub first-follows : (k : ℕ) (o : Options) (t : TrussState) (s : TracedState) (h : List Entry) → t.traced ≡ []
-    → KeepsChildren k o t s h
-first-follows k o t s h none = record {
-  flags = λ follow place x p live. nowhere place (set-there place x);
-  born = λ pid c claim. unclaimed pid c claim;
-  one = λ pid other c x y. unclaimed pid c x;
+pub first-follows : (Line Told : ℕ → Type 0) (k : ℕ) (o : Options) (t : TrussState) (s : TracedState)
+    (h : List Entry) → t.traced ≡ [] → KeepsChildren Line Told k o t s h
+first-follows Line Told k o t s h none = record {
+  flags = λ follow place x line p live. nowhere place (set-there place x);
+  born = λ pid c line told claim. unclaimed pid c claim;
+  one = λ pid other c line its told x y. unclaimed pid c x;
+  parents = λ place c within is line. nowhere place within;
   names = none-names o t.traced t.stage none;
 }
   where
@@ -406,46 +416,104 @@ first-follows k o t s h none = record {
     unclaimed pid c (claims.reads place within same is) = nowhere place within
     unclaimed pid c (stands place free same follow p live forked) = nowhere place free.within
 
--- Where fork makes none of the processes that the options name, and no other controller opens a child of a fork for
--- writing before truss does, truss opens each child at its birth.
-pub births : (n k : ℕ) (o : Options) (s : TracedState) (h : List Entry) → IsReached s → IsTrussRun n k o s h
-    → HasBytes h → NamesNoChild o h → LeavesForks k o h → (pid : ℕ) → OpensAtBirth k o pid s h
-births n k o s h reached run bytes named forks pid =
-    let b = history-births n k o h (first_truss o) s
-    (record {
-      each = λ pid.
-          let first = first-is o pid in
-          record {
-            K = ⊥;
-            so_far = [];
-            holds = record {
-              lawful = run.lawful;
-              fit = reached.fit;
-              owns = first-owns k o s run.nothing_open;
-              files = first-files k o s;
-              options = first.options;
-              prepares = first-prepares o pid s (first_truss o) first;
-              standing =
-                  apart first.nobody (record {
-                    missing = [];
-                    is = sym (append-nil (shown pid (first_truss o)) ∙ first.nothing);
-                    few = inl refl;
-                  });
-            };
-          };
-      leaves = first-leaving o;
-      children = λ stays. first-follows k o (first_truss o) s h (first-traced o);
-    }) run.legal run.makes reached.in_range bytes (forks, named) pid in
+-- what holds before the first entry
+pub first-going : (Line Told : ℕ → Type 0) (n k : ℕ) (o : Options) (s : TracedState) (h : List Entry) → IsReached s
+    → IsTrussRun n k o s h → Going Line Told k o (first_truss o) s h
+first-going Line Told n k o s h reached run = record {
+  common =
+      let first = first-holds (traces o) n k o 0 s h (picks-traced o) reached run in
+      record {
+        lawful = first.lawful;
+        fit = first.fit;
+        owns = first.owns;
+        files = first.files;
+        options = first.options;
+        leaves = first-leaving o;
+      };
+  each = λ pid line. record {
+    K = ⊥;
+    tally = first_tally (traces o);
+    holds = first-holds (traces o) n k o pid s h (picks-traced o) reached run;
+  };
+  children = λ stays. first-follows Line Told k o (first_truss o) s h (first-traced o);
+}
+
+-- ---- the line of a process
+
+-- of the line of a process, the children of which truss was told
+abbrev pub ToldOf : ℕ → ℕ → TracedState → List Entry → ℕ → Type 0
+ToldOf k pid s h c = Lineage k pid s h c × ((parent : ℕ) × WasToldOf k parent c s h)
+
+pub line-left : (k : ℕ) (o : Options) (pid : ℕ) (s : TracedState) (h : List Entry) → IsLeftToTruss k o pid s h
+    → LeavesTo (Lineage k pid s h) (ToldOf k pid s h) k o s h
+line-left k o pid s h left = record {
+  parents = λ before later e of child is tells line.
+      let was : WasToldOf k of child s h =
+      record { before = before; entry = e; later = later; is = is; tells = tells } in
+      (descends child of line was, (line, (of, was)));
+  line = λ child told. told.0;
+  left = λ follow child told taken. left.each follow child told.1.0 told.0 told.1.1 taken;
+}
+
+-- Where nobody got hold of a process before truss, nor of those that it descends from, truss opens it at its birth, if
+-- it opens it as the child of a fork.
+pub births : (n k : ℕ) (o : Options) (pid : ℕ) (s : TracedState) (h : List Entry) → IsReached s
+    → IsTrussRun n k o s h → HasBytes h → IsLeftToTruss k o pid s h → OpensAtBirth k o pid s h
+births n k o pid s h reached run bytes left =
+    let Line : ℕ → Type 0 = Lineage k pid s h in
+    let Told : ℕ → Type 0 = ToldOf k pid s h in
+    let b =
+    history-births Line Told n k o h (first_truss o) s (first-going Line Told n k o s h reached run) run.legal run.makes
+    reached.in_range bytes (line-left k o pid s h left) pid itself in
     record {
       child = λ before later e x handle parent p is own stage given live. b.child before later e x handle
           parent p is own stage given live;
     }
 
--- Then truss has shown of each process exactly the selected events that came while it watched the process.
+-- Then truss has shown of the process exactly the selected events that came while it watched the process.
+pub left-report : (n k : ℕ) (o : Options) (pid : ℕ) (s : TracedState) (h : List Entry) → IsReached s
+    → IsTrussRun n k o s h → HasBytes h → IsLeftToTruss k o pid s h → IsReported k o pid s h
+left-report n k o pid s h reached run bytes left =
+    truss-reports n k o pid s h reached run bytes (births n k o pid s h reached run bytes left)
+
+-- Where fork makes none of the processes that the options name, and no other controller opens a child of a fork for
+-- writing before truss does, each process is left to truss.
+pub all-left : (k : ℕ) (o : Options) (pid : ℕ) (s : TracedState) (h : List Entry) → NamesNoChild o h
+    → LeavesForks k o h → IsLeftToTruss k o pid s h
+all-left k o pid s h named forks = record {
+  each = λ follow child parent line told taken. by follow child taken taken.other;
+}
+  where
+    by : o.follow ≡ true → (child : ℕ) (x : IsTakenBefore k o child h) → (x.by ≢ k) ⊎ IsNamed o child → ⊥
+    by follow child x (inl other) =
+        other
+        (forks.each follow x.before x.between x.behind x.later x.parent x.id x.turned x.by child x.lwp x.handle 0
+        x.control x.file file.Ctl x.mode WriteExcl x.is x.forks x.writes refl)
+    by follow child x (inr its) =
+        named.none follow x.before
+        (x.between ++ granted x.by child x.lwp x.file x.mode x.handle ∷
+        (x.behind ++ granted k child 0 file.Ctl WriteExcl x.control ∷ x.later)) x.parent x.id its.place child x.turned
+        x.is x.forks its.is
+
 pub births-report : (n k : ℕ) (o : Options) (pid : ℕ) (s : TracedState) (h : List Entry) → IsReached s
     → IsTrussRun n k o s h → HasBytes h → NamesNoChild o h → LeavesForks k o h → IsReported k o pid s h
 births-report n k o pid s h reached run bytes named forks =
-    truss-reports n k o pid s h reached run bytes (births n k o s h reached run bytes named forks pid)
+    left-report n k o pid s h reached run bytes (all-left k o pid s h named forks)
+
+-- So it is of a process that stands at its birth where truss gets hold of it, whoever had it before.
+pub opens-birth : (k : ℕ) (o : Options) (pid : ℕ) (s : TracedState) (h : List Entry) → IsFollowedAtBirth k o pid s h
+    → OpensAtBirth k o pid s h
+opens-birth k o pid s h at = record { child = at.each }
+
+pub birth-report : (n k : ℕ) (o : Options) (pid : ℕ) (s : TracedState) (h : List Entry) → IsReached s
+    → IsTrussRun n k o s h → HasBytes h → IsFollowedAtBirth k o pid s h → IsReported k o pid s h
+birth-report n k o pid s h reached run bytes at =
+    truss-reports n k o pid s h reached run bytes (opens-birth k o pid s h at)
+
+pub left-birth : (n k : ℕ) (o : Options) (pid : ℕ) (s : TracedState) (h : List Entry) → IsReached s
+    → IsTrussRun n k o s h → HasBytes h → IsLeftToTruss k o pid s h → IsFollowedAtBirth k o pid s h
+left-birth n k o pid s h reached run bytes left =
+    let b = births n k o pid s h reached run bytes left in record { each = b.child }
 
 -- A process of which truss never got hold as a child asks for nothing of the kind.
 pub unfollowed-births : (k : ℕ) (o : Options) (pid : ℕ) (s : TracedState) (h : List Entry) → IsNeverFollowed k o pid h
@@ -461,4 +529,6 @@ pub unfollowed-report : (n k : ℕ) (o : Options) (pid : ℕ) (s : TracedState) 
 unfollowed-report n k o pid s h reached run bytes unfollowed =
     truss-reports n k o pid s h reached run bytes (unfollowed-births k o pid s h unfollowed)
 
-pub ruleset reports = (births-report, unfollowed-report)
+pub ruleset reports = (left-report, births-report, unfollowed-report, birth-report, left-birth)
+
+pub ruleset lefts = (all-left)

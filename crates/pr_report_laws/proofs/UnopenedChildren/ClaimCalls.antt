@@ -2,12 +2,13 @@ use Rattle.std.proofs.Common.{◌≡◌, ◌≢◌, ◌==◌, ◌<◌, ◌⊎◌
 use Rattle.std.proofs.lemmas.Bool.{cases_Bool, eq-eqb, eqb-true, false≢true}
 use Rattle.std.proofs.lemmas.Option.{none-some, same_Some}
 use Rattle.std.specs.List.{slice_get}
+use Rattle.std.specs.Option.{option_and_then}
 use Rattle.pr_line.specs.declared.options.Options.{Options}
 use Rattle.pr_model.specs.Calls.{Answer, answer_to}
 use Rattle.pr_model.specs.Handles.{handle_of, is_writable}
 use Rattle.pr_model.specs.Legal.{after}
 use Rattle.pr_model.specs.Messages.{with_control, with_modes}
-use Rattle.pr_model.specs.Replies.{number_of, opened_in}
+use Rattle.pr_model.specs.Replies.{bytes_in, number_of, opened_in}
 use Rattle.pr_model.specs.State.{TracedControl, TracedProcess, TracedState, live_process}
 use Rattle.pr_model.specs.Statuses.{lwpstatus_of, status_of}
 use Rattle.pr_model.specs.declared.calls.Call.{Call}
@@ -29,6 +30,8 @@ use Rattle.pr_truss.specs.Feeding.{fed, with_reply}
 use Rattle.pr_truss.specs.Messages.{message_call}
 use Rattle.pr_truss.specs.NextCalls.{call_of, child_call, freeing_call, next_call_of, opening_call, read_record}
 use Rattle.pr_truss.specs.Processes.{newly_traced}
+use Rattle.pr_rec.specs.declared.lwps.LwpStatus.{LwpStatus}
+use Rattle.pr_truss.specs.Records.{child_of, status_lwp}
 use Rattle.pr_truss.specs.Replies.{answer_of}
 use Rattle.pr_truss.specs.Stops.{followed_child}
 use Rattle.pr_truss.specs.Trusses.{TrussState, traced_at}
@@ -43,12 +46,15 @@ use Rattle.pr_truss.specs.declared.stages.Stage.TheVariants.{OpeningControl, Ope
 use Rattle.pr_truss_laws.proofs.ForeignLemmas.{names}
 use Rattle.pr_truss_laws.proofs.HeldLemmas.{Fits, at_place}
 use Rattle.pr_truss_laws.proofs.OpensLemmas.{held_by}
+use Rattle.pr_truss_laws.specs.Exchanges.{Exchange}
+use Rattle.pr_report_laws.proofs.Invariant.Tallies.{Tally}
 use Rattle.pr_report_laws.proofs.UnopenedChildren.Claims.{Claims, Comes, KeepsChildren, IsDone, IsFree, IsSet, IsTold, Names, WasClaimed, WasFree, WasSet, claim_of, is_child, not_followed, opened, runs, set_now, sets, stands, was_claimed, was_free, was_run, was_set, was_told, watched}
 use Rattle.pr_report_laws.proofs.UnopenedChildren.Claims as claims
 use Rattle.pr_report_laws.proofs.UnopenedChildren.ClaimFed.{fed-comes}
 use Rattle.pr_report_laws.proofs.UnopenedChildren.ClaimReach.{followed-forked}
 use Rattle.pr_report_laws.proofs.UnopenedChildren.ClaimRuns.{IsOwn, call_entry, call-is, call-same, control-held, lived, missed, misses, opened-set, ran-quiet, running-ran, start-ran, stood}
 use Rattle.pr_report_laws.proofs.Machine.ControlLaws.{follow-set, release-set}
+use Rattle.pr_report_laws.proofs.UnopenedChildren.LeftChildren.{LeavesTo}
 use Rattle.pr_report_laws.proofs.Files.FileUses as uses
 use Rattle.pr_report_laws.proofs.Machine.ForkTurns.{HasForked, alone-forked, quiet-forked}
 use Rattle.pr_report_laws.proofs.Machine.FrameLaws.{alone-control}
@@ -66,8 +72,8 @@ use Rattle.pr_report_laws.proofs.Machine.StoppedLaws.{event-first, live-rising, 
 use Rattle.pr_report_laws.proofs.Machine.TracedPoints.{fit-lwp, fit-process}
 use Rattle.pr_report_laws.proofs.Replies.TracedPlaces.{opened-before, opened-length}
 use Rattle.pr_report_laws.specs.Births.{granted}
+use Rattle.pr_report_laws.specs.Lineages.{IsNamed, TellsChild}
 use Rattle.pr_report_laws.proofs.Invariant.Positions.{IsTracedBy}
-use Rattle.pr_report_laws.specs.Shown.{LwpEvent}
 use Rattle.pr_report_laws.specs.Watching.{is_away, place_of}
 
 -- A call of truss leaves the children of forks that it is to open at their births.
@@ -121,8 +127,10 @@ child-reads x child.OpenMemory pid lwp f mode is writes = reads-only mode (cc) w
 child-reads x child.SetRelease pid lwp f mode is writes = cc
 child-reads x child.Start pid lwp f mode is writes = cc
 
-module _ (n k : ℕ) (o : Options) (t : TrussState) (s : TracedState) (c : Call) (a : Answer) (own : IsOwn n k o t s c a)
-    (leaves : IsLeaving t) (h : List Entry) (f : KeepsChildren k o t s (call_entry k c a ∷ h))
+module _ (Line Told : ℕ → Type 0) (n k : ℕ) (o : Options) (t : TrussState) (s : TracedState) (c : Call) (a : Answer)
+    (own : IsOwn Line n k o t s c a) (leaves : IsLeaving t) (h : List Entry)
+    (f : KeepsChildren Line Told k o t s (call_entry k c a ∷ h))
+    (forks : LeavesTo Line Told k o s (call_entry k c a ∷ h))
     (on : (fed t a.reply).leaving ≡ false) where
   i : IsCall k o 0 t s c a
   i = own.call 0
@@ -157,7 +165,7 @@ module _ (n k : ℕ) (o : Options) (t : TrussState) (s : TracedState) (c : Call)
     status-answer : answer_to s k (read_record (traced_at t place).status) ≡ Some a
     unfolding call_of
     status-answer =
-        call-is n k o t s c a own (ReadingStatus place) (read_record (traced_at t place).status) told.stage refl
+        call-is Line n k o t s c a own (ReadingStatus place) (read_record (traced_at t place).status) told.stage refl
 
     -- it lives
     status-lived : (p : TracedProcess) × (live_process s.system (traced_at t place).pid ≡ Some p)
@@ -173,22 +181,22 @@ module _ (n k : ℕ) (o : Options) (t : TrussState) (s : TracedState) (c : Call)
         by (Some p) is = (p, is)
 
     -- its representative stands on the event
-    status-forked : (p : TracedProcess) → live_process s.system (traced_at t place).pid ≡ Some p
-        → (o.follow ≡ true) × HasForked p child
-    status-forked p live =
+    status-forked : Line (traced_at t place).pid → (p : TracedProcess)
+        → live_process s.system (traced_at t place).pid ≡ Some p → (o.follow ≡ true) × HasForked p child
+    status-forked line p live =
         let mine = own.call (traced_at t place).pid in
         let back = mine.reads in
         let sees =
         reads.status-read s k (number_of (traced_at t place).status)
         (held_by k (traced_at t place).pid 0 file.Status Read) status-held a p live refl
         (back.status p live) status-answer in
-        let w = stood n k o t s c a own place within on-status status-free.here p live in
+        let w = stood Line n k o t s c a own place within line on-status status-free.here p live in
         by w.0 w.1 (same_Some told.lwp (status_of s.system (traced_at t place).pid p).lwp (sym told.read ∙ sees.lwp))
       where
         is_read : is_named t.stage place ≡ true
         is_read = ap (λ (x : Stage). is_named x place) told.stage ∙ eq-eqb place place refl
 
-        by : {b g : List LwpEvent} → IsTracedBy o p → Position o t.stage place (traced_at t place).old p b g
+        by : {tally : Tally} → IsTracedBy o p → Position o t.stage place (traced_at t place).old p tally
             → told.lwp ≡ (status_of s.system (traced_at t place).pid p).lwp → (o.follow ≡ true) × HasForked p child
         by traced (st.stop_read read waits whole) same = absurd (false≢true (sym status-free.read ∙ read))
         by traced (st.old_stops m read counts waits whole) same = absurd (clash (sym counts ∙ told.none))
@@ -210,8 +218,61 @@ module _ (n k : ℕ) (o : Options) (t : TrussState) (s : TracedState) (c : Call)
             (ap (λ (x : Options). followed_child x (lwpstatus_of p id one.lwp)) (sym i.options)
             ∙ ap (followed_child t.options) (sym is) ∙ told.child)
 
-    told-claims : Claims o t.traced t.stage s.system (traced_at t place).pid child
-    told-claims = let p = status-lived in let w = status-forked p.0 p.1 in stands place status-free refl w.0 p.0 p.1 w.1
+    told-claims : Line (traced_at t place).pid → Claims o t.traced t.stage s.system (traced_at t place).pid child
+    told-claims line =
+        let p = status-lived in
+        let w = status-forked line p.0 p.1 in
+        stands place status-free refl w.0 p.0 p.1 w.1
+
+    -- it tells the child
+    told-child : (bytes : Option (List ℕ)) → option_and_then status_lwp bytes ≡ Some told.lwp
+        → (b : List ℕ) × ((bytes ≡ Some b) × (status_lwp b ≡ Some told.lwp))
+    told-child None is = absurd (none-some told.lwp is)
+    told-child (Some b) is = (b, (refl, is))
+
+    reply-bytes : (r : Reply) (b : List ℕ) → bytes_in r ≡ Some b → r ≡ reply.Bytes b
+    unfolding bytes_in
+    reply-bytes (reply.Bytes bytes) b is = ap (λ x. reply.Bytes x) (same_Some bytes b is)
+    reply-bytes _ b is = absurd (none-some b is)
+
+    child-told : (o' : Options) (l : LwpStatus) → followed_child o' l ≡ Some child → child_of l ≡ Some child
+    unfolding followed_child
+    child-told o' l is = by o'.follow is
+      where
+        by : (b : Bool) → cond b (child_of l) None ≡ Some child → child_of l ≡ Some child
+        by true e = e
+        by false e = absurd (none-some child e)
+
+    exchanged : Call → Reply → Option Exchange
+    exchanged x r = Some (record { call = x; reply = r })
+
+    tells : TellsChild k (traced_at t place).pid child s (call_entry k c a)
+    unfolding call_of exchanged
+    tells =
+        let b = told-child (bytes_in a.reply) told.read in
+        let same =
+        call-same Line n k o t s c a own (ReadingStatus place) (read_record (traced_at t place).status) told.stage
+        refl in
+        record {
+          read = record {
+            handle = _;
+            from = _;
+            len = _;
+            bytes = b.0;
+            held = held_by k (traced_at t place).pid 0 file.Status Read;
+            is =
+                ap (λ m. cond {A = Option Exchange} m (Some (record { call = c; reply = a.reply })) None)
+                (eq-eqb k k refl)
+                ∙ ap (λ (x : Call). exchanged x a.reply) same
+                ∙ ap (exchanged (read_record (traced_at t place).status)) (reply-bytes a.reply b.0 b.1.0);
+            there = status-held;
+            of = refl;
+            file = refl;
+          };
+          lwp = told.lwp;
+          told = b.1.1;
+          made = child-told t.options told.lwp told.child;
+        }
 
   -- ---- what is to be opened was to be opened before
 
@@ -224,15 +285,15 @@ module _ (n k : ℕ) (o : Options) (t : TrussState) (s : TracedState) (c : Call)
       → Claims o t.traced t.stage s.system pid child
   free-before place pid child free same follow q now forked =
       let left =
-      missed n k o t s c a own place free.within
-      (misses n k o t s c a own place free.within free.here (free-rests place free)) q
+      missed Line n k o t s c a own place free.within
+      (misses Line n k o t s c a own place free.within free.here (free-rests place free)) q
       (ap (live_process a.state.system) same ∙ now) in
       stands place free same follow left.0 (ap (live_process s.system) (sym same)
       ∙ left.1.0) (alone-forked left.0 q child left.1.1 forked)
 
-  pub claims-before : (pid child : ℕ) → Claims o u.traced u.stage a.state.system pid child
+  pub claims-before : (pid child : ℕ) → Line pid → Claims o u.traced u.stage a.state.system pid child
       → Claims o t.traced t.stage s.system pid child
-  claims-before pid child (claims.reads place within same is) =
+  claims-before pid child line (claims.reads place within same is) =
       by (comes.claims place child within (ap (λ (x : Options). claim_of x u.stage place) i.options ∙ is))
     where
       by : WasClaimed t a.reply (at_place u.traced place).pid child → Claims o t.traced t.stage s.system pid child
@@ -240,33 +301,42 @@ module _ (n k : ℕ) (o : Options) (t : TrussState) (s : TracedState) (c : Call)
           claims.reads before there (its ∙ same) (ap (λ (x : Options). claim_of x t.stage before) (sym i.options)
           ∙ claim)
       by (was_told before there its told) =
-          subst (λ m. Claims o t.traced t.stage s.system m child) (its ∙ same) (told-claims before there child told)
-  claims-before pid child (stands place free same follow q now forked) = by (comes.free place free)
+          subst (λ m. Claims o t.traced t.stage s.system m child) (its ∙ same)
+          (told-claims before there child told (subst Line (sym (its ∙ same)) line))
+  claims-before pid child line (stands place free same follow q now forked) = by (comes.free place free)
     where
       by : WasFree t a.reply (at_place u.traced place).pid → Claims o t.traced t.stage s.system pid child
       by (was_free before its own_free) = free-before before pid child its (own_free ∙ same) follow q now forked
       by (was_run before there its was none done) =
           absurd (quiet-forked q child
-          (ran-quiet n k o t s c a own before there its none done q (ap (live_process a.state.system) (was ∙ same)
+          (ran-quiet Line n k o t s c a own before there (subst Line (sym (was ∙ same)) line) its none done q
+          (ap (live_process a.state.system) (was ∙ same)
           ∙ now)) forked)
 
   -- the child whose control file is opened
   parent-within : (parent pid : ℕ) → t.stage ≡ OpeningChildControl parent pid → parent < length t.traced
   parent-within parent pid at = let w = i.owns in subst (Fits t.traced) at w.fits
 
+  claim-is : (parent pid : ℕ) → t.stage ≡ OpeningChildControl parent pid → claim_of o t.stage parent ≡ Some pid
+  claim-is parent pid at =
+      ap (λ (x : Stage). claim_of o x parent) at ∙ ap (λ b. cond b (Some pid) None) (eq-eqb parent parent refl)
+
   parent-claims : (parent pid : ℕ) → t.stage ≡ OpeningChildControl parent pid
       → Claims o t.traced t.stage s.system (traced_at t parent).pid pid
-  parent-claims parent pid at =
-      claims.reads parent (parent-within parent pid at) refl (ap (λ (x : Stage). claim_of o x parent) at
-      ∙ ap (λ b. cond b (Some pid) None) (eq-eqb parent parent refl))
+  parent-claims parent pid at = claims.reads parent (parent-within parent pid at) refl (claim-is parent pid at)
+
+  -- the process that made it, where the child is of the line
+  parent-line : (parent pid : ℕ) → t.stage ≡ OpeningChildControl parent pid → Line pid
+      → Line (traced_at t parent).pid × Told pid
+  parent-line parent pid at line = f.parents parent pid (parent-within parent pid at) (claim-is parent pid at) line
 
   -- ---- PR_FORK
 
   module _ (follow : o.follow ≡ true) where
-    module _ (place : ℕ) (within : place < length t.traced) (q : TracedProcess)
+    module _ (place : ℕ) (within : place < length t.traced) (line : Line (traced_at t place).pid) (q : TracedProcess)
         (now : live_process a.state.system (traced_at t place).pid ≡ Some q) where
       before : (p : TracedProcess) × (live_process s.system (traced_at t place).pid ≡ Some p)
-      before = lived n k o t s c a own place within q now
+      before = lived Line n k o t s c a own place within q now
 
       -- an open reaches no process
       open-misses : (d : Call) → c ≡ d → ((m : ℕ) → names d m ≡ false) → Misses k (traced_at t place).pid s c
@@ -276,24 +346,25 @@ module _ (n k : ℕ) (o : Options) (t : TrussState) (s : TracedState) (c : Call)
       missed-flag : IsSet t.traced t.stage place → Misses k (traced_at t place).pid s c
           → has_flags q.control.modes fork_mode ≡ true
       missed-flag x m =
-          let left = missed n k o t s c a own place within m q now in
+          let left = missed Line n k o t s c a own place within m q now in
           ap (λ (x : TracedControl). has_flags x.modes fork_mode) (alone-control left.0 q left.1.1)
-          ∙ f.flags follow place x left.0 left.1.0
+          ∙ f.flags follow place x line left.0 left.1.0
 
       same-flag : IsSet t.traced t.stage place → q.control ≡ before.0.control
           → has_flags q.control.modes fork_mode ≡ true
       same-flag x same =
-          ap (λ (x : TracedControl). has_flags x.modes fork_mode) same ∙ f.flags follow place x before.0 before.1
+          ap (λ (x : TracedControl). has_flags x.modes fork_mode) same ∙ f.flags follow place x line before.0 before.1
 
       -- a process that is watched
       watched-flag : IsSet t.traced t.stage place → is_away false t.stage place ≡ false
           → has_flags q.control.modes fork_mode ≡ true
       watched-flag x here = elim (cases_Bool (is_run t.stage place)) [
         | inl runs ↦
-            let r = running-ran n k o t s c a own place within (run-stage t.stage place runs) before.0 before.1 in
+            let r =
+            running-ran Line n k o t s c a own place within (run-stage t.stage place runs) line before.0 before.1 in
             same-flag x (ap (λ (y : TracedProcess). y.control) (sym (same_Some r.process q (sym r.live ∙ now)))
             ∙ r.control)
-        | inr rests ↦ missed-flag x (misses n k o t s c a own place within here (λ at. false≢true (sym rests
+        | inr rests ↦ missed-flag x (misses Line n k o t s c a own place within here (λ at. false≢true (sym rests
             ∙ ap (λ (y : Stage). is_run y place) at ∙ eq-eqb place place refl)))
       ]
 
@@ -303,34 +374,34 @@ module _ (n k : ℕ) (o : Options) (t : TrussState) (s : TracedState) (c : Call)
             → t.stage ≡ OpeningChild parent place step → has_flags q.control.modes fork_mode ≡ true
         unfolding call_of child_call
         child-flag x done child.SetRelease at =
-            let held = control-held n k o t s c a own place within in
+            let held = control-held Line n k o t s c a own place within in
             let is =
-            call-is n k o t s c a own (OpeningChild parent place child.SetRelease)
+            call-is Line n k o t s c a own (OpeningChild parent place child.SetRelease)
             (message_call (traced_at t place).control (message.Set rlc_mode)) at refl in
             let later =
             release-set s k (traced_at t place).control
             (held_by k (traced_at t place).pid 0 file.Ctl WriteExcl) held refl before.0 before.1 a is
             (done.release parent at) in
             ap (λ (y : TracedProcess). has_flags y.control.modes fork_mode) (sym (same_Some _ q (sym later ∙ now)))
-            ∙ release-set-follows before.0 (f.flags follow place x before.0 before.1)
+            ∙ release-set-follows before.0 (f.flags follow place x line before.0 before.1)
         child-flag x done child.Start at =
-            let r = start-ran n k o t s c a own parent place within at before.0 before.1 in
+            let r = start-ran Line n k o t s c a own parent place within at line before.0 before.1 in
             same-flag x (ap (λ (y : TracedProcess). y.control) (sym (same_Some r.process q (sym r.live ∙ now)))
             ∙ r.control)
         child-flag x done child.OpenStatus at =
             missed-flag x
             (open-misses (child_call (traced_at t place) child.OpenStatus)
-            (call-same n k o t s c a own (OpeningChild parent place child.OpenStatus)
+            (call-same Line n k o t s c a own (OpeningChild parent place child.OpenStatus)
             (child_call (traced_at t place) child.OpenStatus) at refl) (λ m. refl))
         child-flag x done child.OpenLstatus at =
             missed-flag x
             (open-misses (child_call (traced_at t place) child.OpenLstatus)
-            (call-same n k o t s c a own (OpeningChild parent place child.OpenLstatus)
+            (call-same Line n k o t s c a own (OpeningChild parent place child.OpenLstatus)
             (child_call (traced_at t place) child.OpenLstatus) at refl) (λ m. refl))
         child-flag x done child.OpenMemory at =
             missed-flag x
             (open-misses (child_call (traced_at t place) child.OpenMemory)
-            (call-same n k o t s c a own (OpeningChild parent place child.OpenMemory)
+            (call-same Line n k o t s c a own (OpeningChild parent place child.OpenMemory)
             (child_call (traced_at t place) child.OpenMemory) at refl) (λ m. refl))
 
       -- PR_FORK was set before the last step of an opening
@@ -344,7 +415,8 @@ module _ (n k : ℕ) (o : Options) (t : TrussState) (s : TracedState) (c : Call)
           by : (stage : Stage) → t.stage ≡ stage → sets stage place ≡ true → has_flags q.control.modes fork_mode ≡ true
           by (Opening m opening.Start) is same =
               let here = at m (λ y. Opening y opening.Start) same is in
-              same-flag x (opened-set n k o t s c a own place within here (done.start here) before.0 q before.1 now)
+              same-flag x
+              (opened-set Line n k o t s c a own place within here (done.start here) before.0 q before.1 now)
           by (OpeningChild parent m step) is same =
               child-flag parent x done step (at m (λ y. OpeningChild parent y step) same is)
           by _ is same = absurd (false≢true same)
@@ -358,9 +430,9 @@ module _ (n k : ℕ) (o : Options) (t : TrussState) (s : TracedState) (c : Call)
           → has_flags q.control.modes fork_mode ≡ true
       unfolding call_of opening_call
       now-flag at accepted =
-          let held = control-held n k o t s c a own place within in
+          let held = control-held Line n k o t s c a own place within in
           let is =
-          call-is n k o t s c a own (Opening place opening.Follow)
+          call-is Line n k o t s c a own (Opening place opening.Follow)
           (message_call (traced_at t place).control (message.Set fork_mode)) at refl in
           let later =
           follow-set s k (traced_at t place).control
@@ -369,16 +441,18 @@ module _ (n k : ℕ) (o : Options) (t : TrussState) (s : TracedState) (c : Call)
           ∙ follow-set-has before.0
 
     -- a child that is opened now
-    born-flag : (parent pid : ℕ) → t.stage ≡ OpeningChildControl parent pid → answer_of a.reply ≡ Accepted
+    born-flag : (parent pid : ℕ) → Line pid → t.stage ≡ OpeningChildControl parent pid → answer_of a.reply ≡ Accepted
         → (q : TracedProcess) → live_process a.state.system pid ≡ Some q → has_flags q.control.modes fork_mode ≡ true
     unfolding call_of
-    born-flag parent pid at accepted q now =
-        let new = f.born (traced_at t parent).pid pid (parent-claims parent pid at) in
+    born-flag parent pid line at accepted q now =
+        let its = parent-line parent pid at line in
+        let new = f.born (traced_at t parent).pid pid its.0 its.1 (parent-claims parent pid at) in
         let same : c ≡ call.Open pid 0 file.Ctl WriteExcl =
-        call-same n k o t s c a own (OpeningChildControl parent pid) (call.Open pid 0 file.Ctl WriteExcl) at refl in
+        call-same Line n k o t s c a own (OpeningChildControl parent pid)
+        (call.Open pid 0 file.Ctl WriteExcl) at refl in
         let given =
         granted-handle s k pid 0 file.Ctl WriteExcl a
-        (call-is n k o t s c a own (OpeningChildControl parent pid)
+        (call-is Line n k o t s c a own (OpeningChildControl parent pid)
         (call.Open pid 0 file.Ctl WriteExcl) at refl) accepted in
         let entry : call_entry k c a ≡ granted k pid 0 file.Ctl WriteExcl given.0 =
         ap (λ x. record { actor = Controller k; act = act.Call x a.reply }) same
@@ -387,24 +461,26 @@ module _ (n k : ℕ) (o : Options) (t : TrussState) (s : TracedState) (c : Call)
           act = act.Call
               (call.Open pid 0 file.Ctl WriteExcl) x;
         }) given.1 in
-        let untouched = untouched-now k o s h pid 0 given.0 file.Ctl WriteExcl (call_entry k c a) entry refl new in
+        let untouched = untouched-now k o s h pid given.0 (call_entry k c a) entry new in
         let later : live_process (after s (call_entry k c a)).system pid ≡ Some q =
         ap (λ (x : TracedState). live_process x.system pid) own.later ∙ now in
         let is = new-on n k o s h pid (call_entry k c a) i.lawful own.legal new.made untouched q later in
         is.follows
 
-    flags-later : (place : ℕ) → IsSet u.traced u.stage place → (q : TracedProcess)
+    flags-later : (place : ℕ) → IsSet u.traced u.stage place → Line (at_place u.traced place).pid → (q : TracedProcess)
         → live_process a.state.system (at_place u.traced place).pid ≡ Some q
         → has_flags q.control.modes fork_mode ≡ true
-    flags-later place x q now = by (comes.set place x)
+    flags-later place x line q now = by (comes.set place x)
       where
         by : WasSet t a.reply (at_place u.traced place).pid → has_flags q.control.modes fork_mode ≡ true
         by (was_set before y same done) =
-            set-flag before (set-within before y) q (ap (live_process a.state.system) same ∙ now) y done
+            set-flag before (set-within before y) (subst Line (sym same) line) q
+            (ap (live_process a.state.system) same ∙ now) y done
         by (set_now before there same at accepted) =
-            now-flag before there q (ap (live_process a.state.system) same ∙ now) at accepted
+            now-flag before there (subst Line (sym same) line) q
+            (ap (live_process a.state.system) same ∙ now) at accepted
         by (not_followed off) = absurd (false≢true (sym off ∙ ap (λ (y : Options). y.follow) i.options ∙ follow))
-        by (is_child parent at accepted) = born-flag parent (at_place u.traced place).pid at accepted q now
+        by (is_child parent at accepted) = born-flag parent (at_place u.traced place).pid line at accepted q now
 
   -- ---- the children
 
@@ -447,39 +523,40 @@ module _ (n k : ℕ) (o : Options) (t : TrussState) (s : TracedState) (c : Call)
   no-place pid child none (stands place free same follow p live forked) =
       absurd (omega (arith, free.within, ap (λ (ts : List Traced). length ts) none))
 
-  -- truss opens no process for writing that it is still to open
-  module _ (pid of : ℕ) (claim : Claims o u.traced u.stage a.state.system pid of) where
+  -- truss opens no process for writing that it is still to open, but for one that its options name
+  module _ (pid of : ℕ) (line : Line pid) (told : Told of)
+      (claim : Claims o u.traced u.stage a.state.system pid of) where
     its_claim : Claims o t.traced t.stage s.system pid of
-    its_claim = claims-before pid of claim
+    its_claim = claims-before pid of line claim
 
-    not-named : (other : ℕ) → other ≡ of → ((place : ℕ) × (slice_get o.pids place ≡ Some other)) ⊎ (t.traced ≡ []) → ⊥
-    not-named other same (inl named) =
-        let new = f.born pid of its_claim in
-        new.unnamed named.0 (named.1 ∙ ap (λ m. Some m) same)
-    not-named other same (inr none) = no-place pid of none its_claim
+    named-it : (other : ℕ) → other ≡ of → ((place : ℕ) × (slice_get o.pids place ≡ Some other)) ⊎ (t.traced ≡ [])
+        → IsNamed o of
+    named-it other same (inl named) = record { place = named.0; is = named.1 ∙ ap (λ m. Some m) same }
+    named-it other same (inr none) = no-place pid of none its_claim
 
     module _ (lwp handle : ℕ) (opened_file : File) (mode : Mode) (writes : is_writable mode ≡ true)
         (given : a.reply ≡ reply.Handle handle) where
       open-in : (stage : Stage) → t.stage ≡ stage → Leaves t.leaving stage
-          → call_of t stage ≡ Some (call.Open of lwp opened_file mode) → ⊥
+          → call_of t stage ≡ Some (call.Open of lwp opened_file mode) → IsNamed o of
       unfolding call_of freeing_call
-      open-in (OpeningControl other) at goes is = not-named other (cc) (subst (Names o t.traced) at f.names)
+      open-in (OpeningControl other) at goes is = named-it other (cc) (subst (Names o t.traced) at f.names)
       open-in (OpeningChildControl parent other) at goes is =
           let same : other ≡ of = cc in
           let here : t.stage ≡ OpeningChildControl parent of = at ∙ ap (OpeningChildControl parent) same in
-          opened-apart parent of handle here given pid claim
-          (f.one pid (traced_at t parent).pid of its_claim (parent-claims parent of here))
+          let its = parent-line parent of here (forks.line of told) in
+          absurd (opened-apart parent of handle here given pid claim
+          (f.one pid (traced_at t parent).pid of line its.0 told its_claim (parent-claims parent of here)))
       open-in (Opening place step) at goes is =
-          opening-reads t.options (traced_at t place) step of lwp opened_file mode (same_Some _ _ is) writes
+          absurd (opening-reads t.options (traced_at t place) step of lwp opened_file mode (same_Some _ _ is) writes)
       open-in (OpeningChild parent place step) at goes is =
-          child-reads (traced_at t place) step of lwp opened_file mode (same_Some _ _ is) writes
-      open-in (FreeingChild other step) at goes is = false≢true (sym own.stays ∙ goes)
-      open-in _ at goes is = cc
+          absurd (child-reads (traced_at t place) step of lwp opened_file mode (same_Some _ _ is) writes)
+      open-in (FreeingChild other step) at goes is = absurd (false≢true (sym own.stays ∙ goes))
+      open-in _ at goes is = absurd (cc)
 
-    not-opened : (lwp handle : ℕ) (opened_file : File) (mode : Mode)
-        → call_entry k c a ≡ granted k of lwp opened_file mode handle → is_writable mode ≡ true → ⊥
+    opened-named : (lwp handle : ℕ) (opened_file : File) (mode : Mode)
+        → call_entry k c a ≡ granted k of lwp opened_file mode handle → is_writable mode ≡ true → IsNamed o of
     unfolding next_call_of
-    not-opened lwp handle opened_file mode is writes =
+    opened-named lwp handle opened_file mode is writes =
         let acts : act.Call c a.reply ≡ act.Call (call.Open of lwp opened_file mode) (reply.Handle handle) =
         ap (λ (x : Entry). x.act) is in
         let same : c ≡ call.Open of lwp opened_file mode = cc in
@@ -491,14 +568,37 @@ module _ (n k : ℕ) (o : Options) (t : TrussState) (s : TracedState) (c : Call)
     born-later : IsNewBorn k o a.state h of
     born-later =
         subst (λ (x : TracedState). IsNewBorn k o x h of) own.later
-        (new-born-on n k o s h of (call_entry k c a) i.lawful own.legal (f.born pid of its_claim) not-opened)
+        (new-born-on n k o s h of (call_entry k c a) i.lawful own.legal (f.born pid of line told its_claim)
+        opened-named)
+
+  -- ---- the processes of the line
+
+  told-parent : (place child : ℕ) → place < length t.traced → IsTold t a.reply place child → Line child
+      → Line (traced_at t place).pid × Told child
+  told-parent place child within told line =
+      forks.parents [] h (call_entry k c a) (traced_at t place).pid child refl (tells place within child told) line
+
+  parents-later : (place child : ℕ) → place < length u.traced → claim_of o u.stage place ≡ Some child → Line child
+      → Line (at_place u.traced place).pid × Told child
+  parents-later place child within is line =
+      by (comes.claims place child within (ap (λ (x : Options). claim_of x u.stage place) i.options ∙ is))
+    where
+      by : WasClaimed t a.reply (at_place u.traced place).pid child → Line (at_place u.traced place).pid × Told child
+      by (was_claimed before there its claim) =
+          let w =
+          f.parents before child there (ap (λ (x : Options). claim_of x t.stage before) (sym i.options) ∙ claim) line in
+          (subst Line its w.0, w.1)
+      by (was_told before there its told) =
+          let w = told-parent before child there told line in (subst Line its w.0, w.1)
 
   -- ---- all
 
-  pub call-follows : KeepsChildren k o u a.state h
+  pub call-follows : KeepsChildren Line Told k o u a.state h
   call-follows = record {
     flags = flags-later;
-    born = λ pid of claim. born-later pid of claim;
-    one = λ pid other of x y. f.one pid other of (claims-before pid of x) (claims-before other of y);
+    born = λ pid of line told claim. born-later pid of line told claim;
+    one = λ pid other of line its told x y.
+        f.one pid other of line its told (claims-before pid of line x) (claims-before other of its y);
+    parents = parents-later;
     names = subst (λ (x : Options). Names x u.traced u.stage) i.options comes.names;
   }

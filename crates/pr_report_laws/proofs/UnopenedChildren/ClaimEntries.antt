@@ -30,12 +30,14 @@ use Rattle.pr_truss_laws.proofs.BridgeLemmas.{mapped-some}
 use Rattle.pr_truss_laws.proofs.OpensLemmas.{held_by}
 use Rattle.pr_truss_laws.proofs.StillLemmas.{halting-leaves}
 use Rattle.pr_truss_laws.specs.Stills.{HasSameSettings, IsUndisturbed, stopped_lwp, with_lwp_stopped}
+use Rattle.pr_report_laws.proofs.Invariant.Tallies.{Tally}
 use Rattle.pr_report_laws.proofs.UnopenedChildren.Claims.{Claims, KeepsChildren, IsFree, IsSet, opened, stands, watched}
 use Rattle.pr_report_laws.proofs.UnopenedChildren.Claims as claims
 use Rattle.pr_report_laws.proofs.UnopenedChildren.ClaimStands.{IsStanding, stood-at}
+use Rattle.pr_report_laws.proofs.UnopenedChildren.LeftChildren.{LeavesTo}
 use Rattle.pr_report_laws.proofs.Invariant.EntrySteps.{made-at}
 use Rattle.pr_report_laws.proofs.Files.FileLaws.{HasFiles}
-use Rattle.pr_report_laws.proofs.Machine.ForkTurns.{HasForked, alone-forked, LeavesChildren, forked-born, forked-next}
+use Rattle.pr_report_laws.proofs.Machine.ForkTurns.{HasForked, alone-forked, forked-born, forked-next}
 use Rattle.pr_truss_laws.proofs.ForeignLemmas.{exclusive-sole}
 use Rattle.pr_truss_laws.proofs.OutlastLemmas.{others-entry}
 use Rattle.pr_report_laws.proofs.Machine.FrameLaws.{alone-control}
@@ -47,9 +49,9 @@ use Rattle.pr_report_laws.proofs.Invariant.Standing as st
 use Rattle.pr_report_laws.proofs.Invariant.Standing.{Position}
 use Rattle.pr_report_laws.proofs.Machine.TurnSettings.{turn-settings}
 use Rattle.pr_report_laws.specs.Births.{granted}
+use Rattle.pr_report_laws.specs.Lineages.{IsNamed, IsTakenBefore}
 use Rattle.pr_reached.specs.Fits.{IsFitSystem}
 use Rattle.pr_report_laws.proofs.Invariant.Positions.{IsTracedBy}
-use Rattle.pr_report_laws.specs.Shown.{LwpEvent}
 
 -- An entry that is no call of truss leaves the children of forks that truss is to open at their births; and a fork of a
 -- process that truss watches makes one more.
@@ -92,8 +94,9 @@ pub data Left (pid : ℕ) (s : TracedState) (e : Entry) (q : TracedProcess) : Ty
   turned : (id : ℕ) (d : LwpTurn) (p : TracedProcess) → e ≡ turn_entry pid id d → turn_of s.system pid id ≡ Some d
       → live_process s.system pid ≡ Some p → live_process d.system pid ≡ Some q → Left pid s e q
 
-module _ (n k : ℕ) (o : Options) (t : TrussState) (s : TracedState) (e : Entry) (h : List Entry) (lawful : IsLawful s)
-    (fit : IsFitSystem s.system) (files : HasFiles k t s) (stand : (pid : ℕ) → IsStanding o pid t s)
+module _ (Line Told : ℕ → Type 0) (n k : ℕ) (o : Options) (t : TrussState) (s : TracedState) (e : Entry)
+    (h : List Entry) (lawful : IsLawful s) (fit : IsFitSystem s.system) (files : HasFiles k t s)
+    (stand : (pid : ℕ) → Line pid → IsStanding o pid t s)
     (stays : t.leaving ≡ false) (legal : IsLegalEntry n s e) (later : IsLawful (after s e))
     (others : e.actor ≢ Controller k) where
   module _ (place : ℕ) (within : place < length t.traced) where
@@ -158,7 +161,7 @@ module _ (n k : ℕ) (o : Options) (t : TrussState) (s : TracedState) (e : Entry
 
   -- ---- the children
 
-  module _ (forks : LeavesChildren k o (e ∷ h)) (f : KeepsChildren k o t s (e ∷ h)) where
+  module _ (forks : LeavesTo Line Told k o s (e ∷ h)) (f : KeepsChildren Line Told k o t s (e ∷ h)) where
     -- a child that is to be opened was to be opened before, or is made now
     pub data WasClaimed (pid c : ℕ) : Type 0 where
       claimed : Claims o t.traced t.stage s.system pid c → WasClaimed pid c
@@ -169,21 +172,22 @@ module _ (n k : ℕ) (o : Options) (t : TrussState) (s : TracedState) (e : Entry
     later-is pid id d is taken = ap (after s) is ∙ state-after s pid id d taken
 
     -- a turn of the process
-    turn-claims : (place c : ℕ) → IsFree t.traced t.stage place → o.follow ≡ true
+    turn-claims : (place c : ℕ) → Line (traced_at t place).pid → Told c → IsFree t.traced t.stage place
+        → o.follow ≡ true
         → (id : ℕ) (d : LwpTurn) (p q : TracedProcess) → e ≡ turn_entry (traced_at t place).pid id d
         → turn_of s.system (traced_at t place).pid id ≡ Some d
         → live_process s.system (traced_at t place).pid ≡ Some p
         → live_process d.system (traced_at t place).pid ≡ Some q → HasForked q c → WasClaimed (traced_at t place).pid c
-    turn-claims place c free follow id d p q is taken live there forked =
+    turn-claims place c line told free follow id d p q is taken live there forked =
         let w =
         stood-at k o t s files stays place free.within
-        (stand (traced_at t place).pid) free.attached free.here p live in
+        (stand (traced_at t place).pid line) free.attached free.here p live in
         by w.0 w.1
       where
         after_it : after s e ≡ record s { system = d.system }
         after_it = later-is (traced_at t place).pid id d is taken
 
-        by : {b g : List LwpEvent} → IsTracedBy o p → Position o t.stage place (traced_at t place).old p b g
+        by : {tally : Tally} → IsTracedBy o p → Position o t.stage place (traced_at t place).old p tally
             → WasClaimed (traced_at t place).pid c
         by traced (st.stop_read read waits whole) = absurd (false≢true (sym free.read ∙ read))
         by traced (st.old_stops m read counts waits whole) = absurd (clash (sym counts ∙ free.none))
@@ -191,14 +195,14 @@ module _ (n k : ℕ) (o : Options) (t : TrussState) (s : TracedState) (e : Entry
             clash : suc m ≡ 0 → ⊥
             clash same = omega arith
         by traced (st.goes read not_named none quiet whole) =
-            let flag = f.flags follow place (watched free.within free.attached free.here) p live in
+            let flag = f.flags follow place (watched free.within free.attached free.here) line p live in
             made id (ap (λ (x : Entry). x.actor) is)
             (forked-next o s (traced_at t place).pid id p d lawful fit live traced quiet taken q there c forked)
             (subst (λ (x : TracedState). IsNewBorn k o x h c) (sym after_it)
             (forked-born o s
             (traced_at t place).pid id p d lawful fit live traced quiet taken q there c forked flag follow k h
             (let w : IsLawful (record s { system = d.system }) = subst IsLawful after_it later in w.system)
-            (subst (λ x. LeavesChildren k o (x ∷ h)) is forks)))
+            (subst (λ x. IsTakenBefore k o c (x ∷ h) → ⊥) is (forks.left follow c told))))
         by traced (st.has_event other event read none one waits whole) =
             let halting = event-halts p other event one in
             let now : live_process d.system (traced_at t place).pid ≡ Some (with_lwp_stopped id p) =
@@ -208,38 +212,43 @@ module _ (n k : ℕ) (o : Options) (t : TrussState) (s : TracedState) (e : Entry
             (subst (λ (x : TracedProcess). HasForked x c) (sym (same_Some (with_lwp_stopped id p) q (sym now
             ∙ there))) forked)))
 
-    pub claims-were : (pid c : ℕ) → Claims o t.traced t.stage (after s e).system pid c → WasClaimed pid c
-    claims-were of c (claims.reads place within same claim) = claimed (claims.reads place within same claim)
-    claims-were of c (stands place free same follow q now forked) =
+    pub claims-were : (pid c : ℕ) → Line pid → Told c → Claims o t.traced t.stage (after s e).system pid c
+        → WasClaimed pid c
+    claims-were of c line told (claims.reads place within same claim) = claimed (claims.reads place within same claim)
+    claims-were of c line told (stands place free same follow q now forked) =
         subst (λ m. WasClaimed m c) same (by (left place free.within q (ap (live_process (after s e).system) same
         ∙ now)))
       where
         by : Left (traced_at t place).pid s e q → WasClaimed (traced_at t place).pid c
         by (alone p live apart) = claimed (stands place free refl follow p live (alone-forked p q c apart forked))
-        by (turned id d p is taken live there) = turn-claims place c free follow id d p q is taken live there forked
+        by (turned id d p is taken live there) =
+            turn-claims place c (subst Line (sym same) line) told free follow id d p q is taken live there forked
 
     not-own : (c lwp handle : ℕ) (opened_file : File) (mode : Mode) → e ≡ granted k c lwp opened_file mode handle
-        → is_writable mode ≡ true → ⊥
-    not-own c lwp handle opened_file mode is writes = others (ap (λ (x : Entry). x.actor) is)
+        → is_writable mode ≡ true → IsNamed o c
+    not-own c lwp handle opened_file mode is writes = absurd (others (ap (λ (x : Entry). x.actor) is))
 
-    claimed-born : (pid c : ℕ) → Claims o t.traced t.stage s.system pid c → IsNewBorn k o (after s e) h c
-    claimed-born pid c claim =
-        new-born-on n k o s h c e lawful legal (f.born pid c claim)
+    claimed-born : (pid c : ℕ) → Line pid → Told c → Claims o t.traced t.stage s.system pid c
+        → IsNewBorn k o (after s e) h c
+    claimed-born pid c line told claim =
+        new-born-on n k o s h c e lawful legal (f.born pid c line told claim)
         (λ lwp handle opened_file mode is writes. not-own c lwp handle opened_file mode is writes)
 
-    born-later : (pid c : ℕ) → WasClaimed pid c → IsNewBorn k o (after s e) h c
-    born-later of c (claimed claim) = claimed-born of c claim
-    born-later of c (made id actor next new) = new
+    born-later : (pid c : ℕ) → Line pid → Told c → WasClaimed pid c → IsNewBorn k o (after s e) h c
+    born-later of c line told (claimed claim) = claimed-born of c line told claim
+    born-later of c line told (made id actor next new) = new
 
     -- the child that is made now was not there before
-    not-before : {X : Type 0} (pid c : ℕ) → Claims o t.traced t.stage s.system pid c → c ≡ s.system.made → X
-    not-before pid c claim next = let new = f.born pid c claim in absurd (omega (arith, new.made, next))
+    not-before : {X : Type 0} (pid c : ℕ) → Line pid → Told c → Claims o t.traced t.stage s.system pid c
+        → c ≡ s.system.made → X
+    not-before pid c line told claim next =
+        let new = f.born pid c line told claim in absurd (omega (arith, new.made, next))
 
-    one-later : (pid other c : ℕ) → WasClaimed pid c → WasClaimed other c → pid ≡ other
-    one-later pid other c (claimed x) (claimed y) = f.one pid other c x y
-    one-later pid other c (claimed x) (made id actor next new) = not-before pid c x next
-    one-later pid other c (made id actor next new) (claimed y) = not-before other c y next
-    one-later pid other c (made id actor next new) (made j by also born) = of-lwp (sym actor ∙ by)
+    one-later : (pid other c : ℕ) → Line pid → Line other → Told c → WasClaimed pid c → WasClaimed other c → pid ≡ other
+    one-later pid other c line its told (claimed x) (claimed y) = f.one pid other c line its told x y
+    one-later pid other c line its told (claimed x) (made id actor next new) = not-before pid c line told x next
+    one-later pid other c line its told (made id actor next new) (claimed y) = not-before other c its told y next
+    one-later pid other c line its told (made id actor next new) (made j by also born) = of-lwp (sym actor ∙ by)
       where
         of-lwp : Lwp pid id ≡ Lwp other j → pid ≡ other
         of-lwp same = cc
@@ -250,23 +259,26 @@ module _ (n k : ℕ) (o : Options) (t : TrussState) (s : TracedState) (e : Entry
     set-within place (watched within on here) = within
     set-within place (opened within its) = within
 
-    flags-later : o.follow ≡ true → (place : ℕ) → IsSet t.traced t.stage place → (q : TracedProcess)
-        → live_process (after s e).system (traced_at t place).pid ≡ Some q → has_flags q.control.modes fork_mode ≡ true
-    flags-later follow place x q now = by (left place (set-within place x) q now)
+    flags-later : o.follow ≡ true → (place : ℕ) → IsSet t.traced t.stage place → Line (traced_at t place).pid
+        → (q : TracedProcess) → live_process (after s e).system (traced_at t place).pid ≡ Some q
+        → has_flags q.control.modes fork_mode ≡ true
+    flags-later follow place x line q now = by (left place (set-within place x) q now)
       where
         by : Left (traced_at t place).pid s e q → has_flags q.control.modes fork_mode ≡ true
         by (alone p live apart) =
             ap (λ (y : TracedControl). has_flags y.modes fork_mode) (alone-control p q apart)
-            ∙ f.flags follow place x p live
+            ∙ f.flags follow place x line p live
         by (turned id d p is taken live there) =
             let same : HasSameSettings p q =
             turn-settings s.system (traced_at t place).pid p id d lawful.system live taken q there in
-            ap (λ (y : TracedControl). has_flags y.modes fork_mode) same.control ∙ f.flags follow place x p live
+            ap (λ (y : TracedControl). has_flags y.modes fork_mode) same.control ∙ f.flags follow place x line p live
 
-    pub entry-follows : KeepsChildren k o t (after s e) h
+    pub entry-follows : KeepsChildren Line Told k o t (after s e) h
     entry-follows = record {
       flags = flags-later;
-      born = λ pid c claim. born-later pid c (claims-were pid c claim);
-      one = λ pid other c x y. one-later pid other c (claims-were pid c x) (claims-were other c y);
+      born = λ pid c line told claim. born-later pid c line told (claims-were pid c line told claim);
+      one = λ pid other c line its told x y. one-later pid other c line its told (claims-were pid c line told x)
+          (claims-were other c its told y);
+      parents = f.parents;
       names = f.names;
     }

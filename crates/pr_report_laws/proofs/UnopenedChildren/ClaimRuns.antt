@@ -1,4 +1,4 @@
-use Rattle.std.proofs.Common.{◌≡◌, ◌==◌, ◌<◌, ℕ, suc, true, false, None, Some, Option, List, length, refl, sym, subst, ap, ◌∙◌, arith, inl, inr}
+use Rattle.std.proofs.Common.{◌≡◌, ◌==◌, ◌<◌, ℕ, suc, true, false, None, Some, Option, length, refl, sym, subst, ap, ◌∙◌, arith, inl, inr}
 use Rattle.std.proofs.lemmas.Bool.{eq-eqb, eqb-true, false≢true}
 use Rattle.std.proofs.lemmas.Option.{none-some, same_Some}
 use Rattle.pr_lawful.proofs.HandleLemmas.{handle-at}
@@ -27,6 +27,7 @@ use Rattle.pr_truss_laws.specs.Stills.{IsQuiet, IsUndisturbed}
 use Rattle.pr_report_laws.proofs.UnopenedChildren.Claims.{IsDone, runs}
 use Rattle.pr_report_laws.proofs.UnopenedChildren.ClaimStands.{IsStanding, stood-at}
 use Rattle.pr_report_laws.proofs.UnopenedChildren.ClaimReach.{Reaches, reaches}
+use Rattle.pr_report_laws.proofs.Invariant.Tallies.{Tally}
 use Rattle.pr_report_laws.proofs.Invariant.EntrySteps.{made-at}
 use Rattle.pr_report_laws.proofs.Files.FileUses as uses
 use Rattle.pr_truss_laws.proofs.OutlastLemmas.{Outlasts, killed, lives, own-call-elsewhere}
@@ -41,7 +42,6 @@ use Rattle.pr_report_laws.proofs.Invariant.Standing as st
 use Rattle.pr_report_laws.proofs.Invariant.Standing.{Position, Prepares, Standing, has_read, is_named}
 use Rattle.pr_report_laws.proofs.Machine.StoppedLaws.{live-rising, waits-stopped}
 use Rattle.pr_report_laws.proofs.Invariant.Positions.{IsAtBirth, IsTracedBy, Waits}
-use Rattle.pr_report_laws.specs.Shown.{LwpEvent, shown}
 use Rattle.pr_report_laws.specs.Watching.{is_away, place_of}
 
 -- What a call of truss makes of the processes that it traces, for the children that they made by fork.
@@ -50,16 +50,17 @@ use Rattle.pr_report_laws.specs.Watching.{is_away, place_of}
 abbrev pub call_entry : ℕ → Call → Answer → Entry
 call_entry k c a = record { actor = Controller k; act = act.Call c a.reply }
 
--- a call of truss that does not leave its processes, with what is known of each of them
-pub record IsOwn (n k : ℕ) (o : Options) (t : TrussState) (s : TracedState) (c : Call) (a : Answer) : Type 1 where
+-- a call of truss that does not leave its processes, with what is known of those of a line
+pub record IsOwn (Line : ℕ → Type 0) (n k : ℕ) (o : Options) (t : TrussState) (s : TracedState) (c : Call)
+    (a : Answer) : Type 1 where
   pub call : (pid : ℕ) → IsCall k o pid t s c a
-  pub stands : (pid : ℕ) → IsStanding o pid t s
+  pub stands : (pid : ℕ) → Line pid → IsStanding o pid t s
   pub legal : IsLegalEntry n s (call_entry k c a)
   pub later : after s (call_entry k c a) ≡ a.state
   pub stays : t.leaving ≡ false
 
-module _ (n k : ℕ) (o : Options) (t : TrussState) (s : TracedState) (c : Call) (a : Answer)
-    (own : IsOwn n k o t s c a) where
+module _ (Line : ℕ → Type 0) (n k : ℕ) (o : Options) (t : TrussState) (s : TracedState) (c : Call) (a : Answer)
+    (own : IsOwn Line n k o t s c a) where
   i : IsCall k o 0 t s c a
   i = own.call 0
 
@@ -101,13 +102,14 @@ module _ (n k : ℕ) (o : Options) (t : TrussState) (s : TracedState) (c : Call)
         by (Some p) is = (p, is)
 
     -- how a process stands that truss watches
-    abbrev so_far : List LwpEvent
-    so_far = let w = own.stands (traced_at t place).pid in w.so_far
+    abbrev tally : Line (traced_at t place).pid → Tally
+    tally line = let w = own.stands (traced_at t place).pid line in w.tally
 
-    pub stood : (traced_at t place).attached ≡ true → is_away false t.stage place ≡ false → (p : TracedProcess)
+    pub stood : (line : Line (traced_at t place).pid) → (traced_at t place).attached ≡ true
+        → is_away false t.stage place ≡ false → (p : TracedProcess)
         → live_process s.system (traced_at t place).pid ≡ Some p
-        → IsTracedBy o p × Position o t.stage place (traced_at t place).old p so_far (shown (traced_at t place).pid t)
-    stood = stood-at k o t s i.files own.stays place within (own.stands (traced_at t place).pid)
+        → IsTracedBy o p × Position o t.stage place (traced_at t place).old p (tally line)
+    stood line = stood-at k o t s i.files own.stays place within (own.stands (traced_at t place).pid line)
 
   -- ---- a call that does not reach a process
 
@@ -186,16 +188,17 @@ module _ (n k : ℕ) (o : Options) (t : TrussState) (s : TracedState) (c : Call)
     running-on : (traced_at t place).attached ≡ true
     running-on = let w = uses.attached-all k t s i.files own.stays (ap busy at) place within in w.attached
 
-    running-waits : (p : TracedProcess) → live_process s.system (traced_at t place).pid ≡ Some p
+    running-waits : Line (traced_at t place).pid → (p : TracedProcess)
+        → live_process s.system (traced_at t place).pid ≡ Some p
         → IsTracedBy o p × Waits p (suc (traced_at t place).old)
-    running-waits p live =
-        let w = stood place within running-on (ap (λ (x : Stage). is_away false x place) at) p live in
+    running-waits line p live =
+        let w = stood place within line running-on (ap (λ (x : Stage). is_away false x place) at) p live in
         (w.0, by w.1)
       where
         reads_it : has_read t.stage place ≡ true
         reads_it = ap (λ (x : Stage). has_read x place) at ∙ eq-eqb place place refl
 
-        by : {b f : List LwpEvent} → Position o t.stage place (traced_at t place).old p b f
+        by : {tally : Tally} → Position o t.stage place (traced_at t place).old p tally
             → Waits p (suc (traced_at t place).old)
         by (st.stop_read read waits whole) = waits
         by (st.old_stops m read counts waits whole) = absurd (false≢true (sym read ∙ reads_it))
@@ -206,10 +209,11 @@ module _ (n k : ℕ) (o : Options) (t : TrussState) (s : TracedState) (c : Call)
     unfolding call_of
     running-answer = call-is (Running place) (run_call (traced_at t place).control) at refl
 
-    pub running-ran : (p : TracedProcess) → live_process s.system (traced_at t place).pid ≡ Some p
+    pub running-ran : Line (traced_at t place).pid → (p : TracedProcess)
+        → live_process s.system (traced_at t place).pid ≡ Some p
         → HasRun o p (suc (traced_at t place).old) (traced_at t place).pid a.state.system
-    running-ran p live =
-        let w = running-waits p live in
+    running-ran line p live =
+        let w = running-waits line p live in
         ran place within running-answer (traced_at t place).old p live w.0 w.1
 
   module _ (parent place : ℕ) (within : place < length t.traced)
@@ -218,10 +222,11 @@ module _ (n k : ℕ) (o : Options) (t : TrussState) (s : TracedState) (c : Call)
     unfolding call_of child_call
     start-answer = call-is (OpeningChild parent place child.Start) (run_call (traced_at t place).control) at refl
 
-    pub start-ran : (p : TracedProcess) → live_process s.system (traced_at t place).pid ≡ Some p
+    pub start-ran : Line (traced_at t place).pid → (p : TracedProcess)
+        → live_process s.system (traced_at t place).pid ≡ Some p
         → HasRun o p 1 (traced_at t place).pid a.state.system
-    start-ran p live =
-        let w = own.stands (traced_at t place).pid in
+    start-ran line p live =
+        let w = own.stands (traced_at t place).pid line in
         let prepares = w.prepares in
         let born : IsAtBirth o p = prepares.child parent place child.Start p at refl live in
         ran place within start-answer 0 p live born.traced born.waits
@@ -232,10 +237,10 @@ module _ (n k : ℕ) (o : Options) (t : TrussState) (s : TracedState) (c : Call)
     unfolding call_of opening_call
     opened-answer = call-is (Opening place opening.Start) (run_call (traced_at t place).control) at refl
 
-    opened-quiet : (traced_at t place).old ≡ 0 → (q : TracedProcess)
+    opened-quiet : Line (traced_at t place).pid → (traced_at t place).old ≡ 0 → (q : TracedProcess)
         → live_process a.state.system (traced_at t place).pid ≡ Some q → IsQuiet q
-    opened-quiet none q now =
-        let w = own.stands (traced_at t place).pid in
+    opened-quiet line none q now =
+        let w = own.stands (traced_at t place).pid line in
         let prepares = w.prepares in
         let mine = own.call (traced_at t place).pid in
         let back = mine.reads in
@@ -261,10 +266,11 @@ module _ (n k : ℕ) (o : Options) (t : TrussState) (s : TracedState) (c : Call)
         (call-is (Opening place opening.Start) (run_call (traced_at t place).control) at refl) accepted p q live now
 
   -- a process that was run is quiet, where no old stop is left
-  pub ran-quiet : (place : ℕ) → place < length t.traced → runs t.stage place ≡ true → (traced_at t place).old ≡ 0
+  pub ran-quiet : (place : ℕ) → place < length t.traced → Line (traced_at t place).pid
+      → runs t.stage place ≡ true → (traced_at t place).old ≡ 0
       → IsDone t a.reply place → (q : TracedProcess) → live_process a.state.system (traced_at t place).pid ≡ Some q
       → IsQuiet q
-  ran-quiet place within its none done q now = by t.stage refl its
+  ran-quiet place within line its none done q now = by t.stage refl its
     where
       before : (p : TracedProcess) × (live_process s.system (traced_at t place).pid ≡ Some p)
       before = lived place within q now
@@ -274,13 +280,14 @@ module _ (n k : ℕ) (o : Options) (t : TrussState) (s : TracedState) (c : Call)
 
       by : (stage : Stage) → t.stage ≡ stage → runs stage place ≡ true → IsQuiet q
       by (Running m) is same =
-          let r = running-ran place within (at m (λ x. Running x) same is) before.0 before.1 in
+          let r = running-ran place within (at m (λ x. Running x) same is) line before.0 before.1 in
           subst (λ (x : TracedProcess). IsQuiet x) (same_Some r.process q (sym r.live ∙ now)) (r.quiet (omega arith))
       by (Opening m opening.Start) is same =
           let here = at m (λ x. Opening x opening.Start) same is in
-          opened-quiet place within here (done.start here) none q now
+          opened-quiet place within here (done.start here) line none q now
       by (OpeningChild parent m child.Start) is same =
           let r =
-          start-ran parent place within (at m (λ x. OpeningChild parent x child.Start) same is) before.0 before.1 in
+          start-ran parent place within (at m (λ x. OpeningChild parent x child.Start) same is) line before.0
+          before.1 in
           subst (λ (x : TracedProcess). IsQuiet x) (same_Some r.process q (sym r.live ∙ now)) (r.quiet (omega arith))
       by _ is same = absurd (false≢true same)

@@ -34,7 +34,7 @@ use Rattle.pr_truss_laws.specs.Given.{IsWholeOpening, calls_with, last_calls, op
 use Rattle.pr_truss_laws.specs.Runs.{IsTrussRun}
 use Rattle.pr_report_laws.proofs.Files.FileLaws.{HasFiles}
 use Rattle.pr_report_laws.proofs.Invariant.OpeningRuns.{OpensControl, born, born-fed, born-following, child-over, child-runs, freed, freed-fed, given, given-fed, given-opening, granted-first, granted-rest, opening-runs, opens-control, steps_left}
-use Rattle.pr_report_laws.proofs.Replies.OptionLemmas.{fed-options}
+use Rattle.pr_truss_laws.proofs.OptionLemmas.{fed-options}
 use Rattle.pr_report_laws.proofs.Files.WatchHistories.{after-append, makes-front, makes-rest, no-exchanges, run-reaches}
 use Rattle.pr_report_laws.proofs.Replies.WatchedPlaces.{IsWatched, not-watched, place-watched}
 use Rattle.pr_report_laws.specs.Attachments.{HasFollowed, HasOpened, child_calls}
@@ -112,14 +112,14 @@ at-options o xs = after-options xs (first_truss o) ∙ first-options o
 -- ---- a process that truss was given
 
 -- the first two calls of an opening, and how many more there are
-record BeginsOpening (o : Options) (pid : ℕ) (xs : List Exchange) : Type 0 where
-  one : Exchange
-  two : Exchange
-  more : List Exchange
-  is : xs ≡ one ∷ two ∷ more
-  control : one.call ≡ open_control pid
-  status : two.call ≡ open_file pid file.Status
-  left : length (two ∷ more) ≡ steps_left o.follow opening.OpenStatus
+pub record BeginsOpening (o : Options) (pid : ℕ) (xs : List Exchange) : Type 0 where
+  pub one : Exchange
+  pub two : Exchange
+  pub more : List Exchange
+  pub is : xs ≡ one ∷ two ∷ more
+  pub control : one.call ≡ open_control pid
+  pub status : two.call ≡ open_file pid file.Status
+  pub left : length (two ∷ more) ≡ steps_left o.follow opening.OpenStatus
 
 last-length : (o : Options) (control : ℕ) → length (last_calls o control) ≡ cond o.follow 2 1
 last-length o control =
@@ -149,7 +149,7 @@ with-begins o pid control lstatus until (x ∷ y ∷ zs) is = record {
       );
 }
 
-opening-begins : (o : Options) (pid : ℕ) (xs : List Exchange) → calls_in xs ≡ opening_calls o pid xs
+pub opening-begins : (o : Options) (pid : ℕ) (xs : List Exchange) → calls_in xs ≡ opening_calls o pid xs
     → BeginsOpening o pid xs
 unfolding opening_calls
 opening-begins o pid xs is =
@@ -159,12 +159,12 @@ opening-begins o pid xs is =
 pub next-call : (t u : TrussState) (c : Call) → u ≡ t → next_call_of u ≡ Some c → next_call_of t ≡ Some c
 next-call t u c same is = subst (λ (v : TrussState). next_call_of v ≡ Some c) same is
 
-born-messages : (t : TrussState) (parent pid control of : ℕ)
+pub born-messages : (t : TrussState) (parent pid control of : ℕ)
     → next_call_of (with_child_control t parent pid control) ≡ Some (open_file of file.Status) → ⊥
 unfolding next_call_of call_of child_call with_child_control
 born-messages t parent pid control of is = cc
 
-freed-messages : (t : TrussState) (pid control of : ℕ)
+pub freed-messages : (t : TrussState) (pid control of : ℕ)
     → next_call_of (with_stage t (FreeingChild pid (freeing.SetRelease control))) ≡ Some (open_file of file.Status) → ⊥
 unfolding next_call_of call_of freeing_call
 freed-messages t pid control of is = cc

@@ -136,10 +136,16 @@ unfolding opening_call
 waits-free o u (opening.AwaitStop until) stands on = absurd (false≢true (sym stands.fresh.free ∙ on))
 waits-free o u _ stands on = refl
 
-child-waits : (u : Traced) (step : ChildStep) → can_wait (child_call u step) ≡ false
+pub child-waits : (u : Traced) (step : ChildStep) → can_wait (child_call u step) ≡ false
 unfolding child_call
 child-waits u child.SetRelease = refl
 child-waits u _ = refl
+
+-- the last call of an opening, with which it is over
+pub data StartsNow (t : TrussState) (r : Reply) (place : ℕ) : Type 0 where
+  starts_given : t.stage ≡ Opening place opening.Start → answer_of r ≡ Accepted → StartsNow t r place
+  starts_child : (parent : ℕ) → t.stage ≡ OpeningChild parent place child.Start → answer_of r ≢ Gone
+      → StartsNow t r place
 
 -- ---- along a history
 
@@ -253,6 +259,27 @@ module _ (n k : ℕ) (o : Options) (pid : ℕ) (s : TracedState) (before : List 
     later-on =
         subst (λ (u : TrussState). watches u pid ≡ true) (truss_at-push k o before e
         ∙ ap (with_exchange (truss_at k o before)) its) on
+
+    starts-now : (place : ℕ) → (traced_at t place).attached ≡ true → Begins t x.reply place → StartsNow t x.reply place
+    starts-now place attached (opened is accepted) = starts_given is accepted
+    starts-now place attached (followed parent is lives) = starts_child parent is lives
+    starts-now place attached (interrupted step is answer) = absurd (not-interrupted place step is attached answer)
+    starts-now place attached (child_interrupted parent step is answer) =
+        absurd (child-not-interrupted parent place step is answer)
+
+    -- The process stands at a place, and its opening is over with the exchange.
+    pub watched-starts : (place : ℕ) ×
+        (((traced_at (truss_at k o before) place).pid ≡ pid) × StartsNow (truss_at k o before) x.reply place)
+    unfolding t
+    watched-starts =
+        let g = reached in
+        let files : HasFiles k t now = g.files in
+        let w = watched-place (fed t x.reply) pid later-on in
+        let c = reached-comes k t now x.reply g in
+        elim (watched-before t x.reply (fed t x.reply) pid w.0 w.1 fits c.how) [
+          | inl was ↦ absurd (false≢true (sym off ∙ place-watched t pid was.0 files.one was.1))
+          | inr b ↦ (w.0, (b.of, starts-now w.0 b.attached b.begins))
+        ]
 
     came : HasOpened k o pid (before ++ e ∷ []) ⊎ HasFollowed k pid (before ++ e ∷ [])
     unfolding t

@@ -117,7 +117,7 @@ module _ (t : TrussState) (r : Reply) (u : TrussState) (pid place : ℕ) (w : Is
 -- ---- what truss asks of the process
 
 -- the call of a stage
-stage-called : (t : TrussState) (x : Exchange) (stage : Stage) (c : Call) → next_call_of t ≡ Some x.call
+pub stage-called : (t : TrussState) (x : Exchange) (stage : Stage) (c : Call) → next_call_of t ≡ Some x.call
     → t.stage ≡ stage → call_of t stage ≡ Some c → x.call ≡ c
 unfolding next_call_of
 stage-called t x stage c next is call = same_Some x.call c (sym next ∙ ap (call_of t) is ∙ call)

@@ -1,0 +1,42 @@
+use Rattle.std.specs.Prelude.{◌≡◌, ◌≤◌, ℕ, List, ◌∷◌, ◌++◌, Some, length}
+use Rattle.pr_model.specs.Handles.{handle_of}
+use Rattle.pr_model.specs.Legal.{after, state_after}
+use Rattle.pr_model.specs.State.{TracedState}
+use Rattle.pr_model.specs.declared.calls.Call.TheVariants as call
+use Rattle.pr_model.specs.declared.calls.Reply.{Reply}
+use Rattle.pr_model.specs.declared.calls.Reply.TheVariants as reply
+use Rattle.pr_model.specs.declared.events.Entry.{Entry}
+use Rattle.pr_model.specs.declared.handles.Held.{Held}
+use Rattle.pr_num.specs.declared.messages.Message.TheVariants as message
+use Rattle.pr_truss.specs.Messages.{message_call}
+use Rattle.pr_truss_laws.specs.Exchanges.{exchange_of, exchanges}
+
+-- The process that a poll named, until its tracer runs it or closes a file of it: by the entries of a history alone.
+
+-- In an entry a poll of this controller was replied that this handle is ready, which it has of the process.
+pub record IsNamedIn (k pid handle : ℕ) (s : TracedState) (e : Entry) : Type 0 where
+  pub handles : List ℕ
+  pub is : exchange_of k e ≡ Some (record { call = call.Poll handles; reply = reply.Ready handle })
+  pub held : Held
+  pub there : handle_of s.opens k handle ≡ Some held
+  pub of : held.pid ≡ pid
+
+-- In an entry the controller sends PCRUN by this handle, or closes a handle that it has of the process.
+pub data IsRunOrClosedIn (k pid handle : ℕ) (s : TracedState) (e : Entry) : Type 0 where
+  runs : (r : Reply) → exchange_of k e ≡ Some (record { call = message_call handle (message.Run 0); reply = r })
+      → IsRunOrClosedIn k pid handle s e
+  closes : (number : ℕ) (r : Reply) (held : Held)
+      → exchange_of k e ≡ Some (record { call = call.Close number; reply = r })
+      → handle_of s.opens k number ≡ Some held → held.pid ≡ pid → IsRunOrClosedIn k pid handle s e
+
+-- In none of these entries, from this state on, does it do so.
+pub record IsWaitedFor (k pid handle : ℕ) (s : TracedState) (h : List Entry) : Type 0 where
+  pub none : (before later : List Entry) (e : Entry) → h ≡ before ++ e ∷ later
+      → IsRunOrClosedIn k pid handle (state_after s before) e → ⊥
+
+-- Wherever in a history a poll of this controller names a process, at most twelve of its calls come before it runs that
+-- process or closes a handle of it.
+pub record IsSoonDone (k : ℕ) (s : TracedState) (h : List Entry) : Type 0 where
+  pub soon : (before between later : List Entry) (e : Entry) (pid handle : ℕ) → h ≡ before ++ e ∷ (between ++ later)
+      → IsNamedIn k pid handle (state_after s before) e
+      → IsWaitedFor k pid handle (after (state_after s before) e) between → length (exchanges k between) ≤ 12
