@@ -15,7 +15,7 @@ cd "$work/copy"
 if [ $# = 0 ]; then
   set -- rt ci
   # (a kit that keeps nothing between runs has no --anew)
-  if rt help | grep -q -e --anew; then set -- rt ci --anew; fi
+  if rt help 2>&1 | grep -q -e --anew; then set -- rt ci --anew; fi
 fi
 
 # kind_of FOLDER WORDS: what a run of the prover in this folder, with these words, is for

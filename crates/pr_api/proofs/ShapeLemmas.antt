@@ -13,7 +13,7 @@ use Rattle.pr_num.specs.Messages.{bad_operand, encoded_length, first_message, in
 use Rattle.pr_num.specs.Programs.{Program}
 use Rattle.pr_num.specs.Sets.{with_number}
 use Rattle.pr_num.specs.Signals.{signal_of_number}
-use Rattle.pr_num.specs.Spaces.{Space, byte_for}
+use Rattle.pr_num.specs.Spaces.{Space, byte_for, bytes_for}
 use Rattle.pr_num.specs.declared.errnos.Errno.{Errno}
 use Rattle.pr_num.specs.declared.errnos.Errno.TheVariants.{Busy, Inval, Intr}
 use Rattle.pr_num.specs.declared.mappings.BadByte.{BadByte}
@@ -32,7 +32,8 @@ use Rattle.pr_model.specs.Calls.{Answer, answer_to, answered, close_answer, clos
 use Rattle.pr_model.specs.ControlMessages.{aim_of, control_answer, control_handle, decoded_answer, decoded_wait, held_answer, held_wait, system_refusal, tail_of, target_of, targeted_answer, targeted_wait, wait_over, wait_reply, waiting_reply, waits}
 use Rattle.pr_model.specs.Handles.{handle_of}
 use Rattle.pr_model.specs.Lawful.{IsLawfulSystem, IsNumberedBelow}
-use Rattle.pr_model.specs.Messages.{Controlled, refused, Aim, at_lwp, at_process, agent_answer, aimed_lwp, is_kill_of, kill_answer, kill_by, killed, lets_agent, mapped_bytes, message_answer, on_found, on_stopped_found, pending_at, read_answer, read_of, run_found, run_answer, ssig_answer, unkill_answer, unkill_by, watch_answer, with_address, with_held_set, with_process_changed, with_registers, with_signal_set, write_answer}
+use Rattle.pr_model.specs.Messages.{Controlled, refused, Aim, at_lwp, at_process, agent_answer, aimed_lwp, is_kill_of, kill_answer, kill_by, killed, lets_agent, mapped_bytes, message_answer, on_found, on_stopped_found, pending_at, read_answer, read_of, run_found, run_answer, ssig_answer, unkill_answer, unkill_by, unless_lent, watch_answer, with_address, with_held_set, with_process_changed, with_registers, with_signal_set, write_answer}
+use Rattle.pr_model.specs.Readers.{has_lent, space_seen}
 use Rattle.pr_model.specs.Records.{list_entries, list_entry_of, list_of}
 use Rattle.pr_model.specs.Running.{lwp_run_refused, run_lwp, run_refused, with_run, without_current, without_fault}
 use Rattle.pr_model.specs.SignalCalls.{Sending, refuses as refuses_signal, sends_nothing, sends}
@@ -175,7 +176,7 @@ module _ (s : TracedSystem) (pid : ℕ) (p : TracedProcess) where
   memory-answers : (at size : ℕ) → size ≤ message_bytes_limit → (r : Result (List ℕ) BadByte) → mapped_bytes s pid p at size ≡ r → Answers (read_of s pid p r)
   memory-answers at size within (Err bad) is = refuses s _
   memory-answers at size within (Ok bytes) is =
-      let all = length-bytes_for 0 p.space at size bytes is in
+      let all = length-bytes_for 0 (space_seen s p) at size bytes is in
       record { shape = ap (λ b. b || false) (le-leb (length bytes) message_bytes_limit (omega arith)) }
 
   read-answers : (at size : ℕ) → bad_operand (message.Read at size) ≡ None → Answers (read_answer s pid p at size)
@@ -184,7 +185,12 @@ module _ (s : TracedSystem) (pid : ℕ) (p : TracedProcess) where
 
   write-answers : (at : ℕ) (bytes : List ℕ) (len : ℕ) → Answers (write_answer s pid p at bytes len)
   unfolding write_answer
-  write-answers at bytes len = either Answers (is_ok (mapped_bytes s pid p at (length bytes))) _ _ (record { shape = refl }) (refuses s _)
+  write-answers at bytes len =
+      either Answers (is_ok (bytes_for 0 p.space at (length bytes))) _ _ (record { shape = refl }) (refuses s _)
+
+  -- a message that a process refuses which has lent its memory
+  lent-answers : (c : Controlled) → Answers c → Answers (unless_lent s pid p c)
+  lent-answers c answers = either Answers (has_lent p) (refused s Busy) c (refuses s Busy) answers
 
   -- every message
   message-answers : (aim : Aim) (m : Message) (tail : List ℕ) (len : ℕ) → bad_operand m ≡ None → Answers (message_answer s pid p aim m tail len)
@@ -208,10 +214,10 @@ module _ (s : TracedSystem) (pid : ℕ) (p : TracedProcess) where
   message-answers aim (message.Unset modes) tail len columns = record { shape = refl }
   message-answers aim (message.Sreg regs) tail len columns = stopped-answers len (with_registers regs) (aimed_lwp s pid p aim)
   message-answers aim (message.Svaddr pc) tail len columns = stopped-answers len (with_address pc) (aimed_lwp s pid p aim)
-  message-answers aim (message.Watch at size flags) tail len columns = watch-answers at size flags len
-  message-answers aim (message.Agent regs) tail len columns = agent-answers regs len
+  message-answers aim (message.Watch at size flags) tail len columns = lent-answers _ (watch-answers at size flags len)
+  message-answers aim (message.Agent regs) tail len columns = lent-answers _ (agent-answers regs len)
   message-answers aim (message.Read at size) tail len columns = read-answers at size columns
-  message-answers aim (message.Write at size) tail len columns = write-answers at tail len
+  message-answers aim (message.Write at size) tail len columns = lent-answers _ (write-answers at tail len)
 
 decoded-answers : (s : TracedSystem) (h : Held) (p : TracedProcess) (bytes : List ℕ) (read : Result (Message × ℕ) MsgFault) → IfOk read (λ first. bad_operand first.0 ≡ None) → Answers (decoded_answer s h p bytes read)
 decoded-answers s h p bytes (Err fault) columns = refuses s _
@@ -294,7 +300,7 @@ file-reads : (s : TracedSystem) (pid : ℕ) (p : TracedProcess) (id from len : �
 unfolding file_reply
 file-reads s pid p id from len file.Ctl = fails-reads len _
 file-reads s pid p id from len file.Lwpctl = fails-reads len _
-file-reads s pid p id from len file.Mem = memory-reads len _ (mapped-within p.space from len)
+file-reads s pid p id from len file.Mem = memory-reads len _ (mapped-within (space_seen s p) from len)
 file-reads s pid p id from len file.Lwpstatus = lwp-reads p id from len (lwp_of p id)
 file-reads s pid p id from len file.Status = part-reads _ from len
 file-reads s pid p id from len file.Lstatus = part-reads _ from len

@@ -14,7 +14,7 @@ use Rattle.pr_num.specs.declared.instructions.Instruction.TheVariants.{Bpt, Nop,
 use Rattle.pr_num.specs.declared.instructions.Reg.{Reg}
 use Rattle.pr_num.specs.declared.instructions.Reg.TheVariants.{R0, R1, R2, R3, R4, R5, R6, R7}
 use Rattle.pr_num.specs.declared.syscalls.Sysno.{Sysno}
-use Rattle.pr_num.specs.declared.syscalls.Sysno.TheVariants.{Exit, Fork, Read, Write, Open, Close, Wait, Getpid, Getppid, Exec, Pipe, Dup, Lseek, Kill, Sigaction, Sigmask, Pause, Sigreturn, Brk, Mmap, Munmap, Mprotect, Time, Sleep, LwpCreate, LwpExit, LwpSuspend, LwpContinue, Fstat, Sigqueue}
+use Rattle.pr_num.specs.declared.syscalls.Sysno.TheVariants.{Exit, Fork, Read, Write, Open, Close, Wait, Getpid, Getppid, Exec, Pipe, Dup, Lseek, Kill, Sigaction, Sigmask, Pause, Sigreturn, Brk, Mmap, Munmap, Mprotect, Time, Sleep, LwpCreate, LwpExit, LwpSuspend, LwpContinue, Fstat, Sigqueue, Vfork}
 use Rattle.pr_text.specs.Comments.{begins_comment}
 use Rattle.pr_text.specs.Names.{is_name, is_name_byte, name_of}
 use Rattle.pr_text.specs.NumberWords.{number_of}
@@ -120,6 +120,7 @@ read_call LwpSuspend = refl
 read_call LwpContinue = refl
 read_call Fstat = refl
 read_call Sigqueue = refl
+read_call Vfork = refl
 
 pub call_token : (c : Sysno) → IsToken (syscall_name c)
 unfolding syscall_name
@@ -153,6 +154,7 @@ call_token LwpSuspend = plain_token (codes "lwp_suspend") (omega arith) refl
 call_token LwpContinue = plain_token (codes "lwp_continue") (omega arith) refl
 call_token Fstat = plain_token (codes "fstat") (omega arith) refl
 call_token Sigqueue = plain_token (codes "sigqueue") (omega arith) refl
+call_token Vfork = plain_token (codes "vfork") (omega arith) refl
 
 -- ---- statements
 

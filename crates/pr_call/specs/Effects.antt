@@ -1,7 +1,7 @@
 use Rattle.std.specs.Prelude.{◌-◌, ℕ, Bool, true, false, List, [], ◌∷◌, Option, Some, None, length, slice_get, take}
 use Rattle.pr_num.specs.declared.errnos.Errno.TheVariants.{Nomem}
 use Rattle.pr_num.specs.declared.syscalls.Sysno.{Sysno}
-use Rattle.pr_num.specs.declared.syscalls.Sysno.TheVariants.{Fork, Write, Open, Exec, Pipe, Brk, Mmap, LwpCreate, Exit, Getpid, Getppid, Sigaction, Sigmask, Pause, Sigreturn, Time, Sleep, LwpExit, LwpSuspend, LwpContinue}
+use Rattle.pr_num.specs.declared.syscalls.Sysno.TheVariants.{Fork, Vfork, Write, Open, Exec, Pipe, Brk, Mmap, LwpCreate, Exit, Getpid, Getppid, Sigaction, Sigmask, Pause, Sigreturn, Time, Sleep, LwpExit, LwpSuspend, LwpContinue}
 use Rattle.pr_model.specs.CallEffects.{call_effect}
 use Rattle.pr_model.specs.Changes as changes
 use Rattle.pr_model.specs.Changes.{all_changed, ended, with_disposition_of, with_held, with_suspended, resumed}
@@ -114,6 +114,7 @@ may_lack_memory _ = false
 -- whether a call takes memory
 abbrev pub takes_memory : Sysno → Bool
 takes_memory Fork = true
+takes_memory Vfork = true
 takes_memory Write = true
 takes_memory Open = true
 takes_memory Exec = true

@@ -14,7 +14,7 @@ use crate::making::make;
 use crate::maps::mmap;
 use crate::memory::{protect, unmap};
 use crate::plain::{decide, is_plain};
-use crate::processes::{exec_by, fork_by};
+use crate::processes::{exec_by, fork_by, vfork_by};
 use crate::requests::{Effect, Performed, Request};
 use crate::sending::send;
 use crate::transfers::{read, write};
@@ -91,6 +91,7 @@ fn perform_request(alloc: Global, sys: &mut Sys, request: &Request) -> Result<Pe
         Sysno::Brk => brk(alloc, sys, request.pid, args[0]),
         Sysno::Wait => Ok(wait(sys, request.pid, args[0])),
         Sysno::Fork => fork_by(alloc, sys, request),
+        Sysno::Vfork => vfork_by(alloc, sys, request),
         Sysno::Exec => exec_by(alloc, sys, request.pid, request.lwp, args[0]),
         Sysno::LwpCreate => lwp_create(sys, request.pid, request.lwp, args),
         Sysno::Read => Ok(read(sys, request.pid, request.lwp, args[0], args[1], args[2])),

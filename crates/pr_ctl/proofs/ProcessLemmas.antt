@@ -2,8 +2,14 @@ use Rattle.std.proofs.Common.{◌≡◌, ℕ, Some, sym, ap, ◌∙◌}
 use Rattle.std.proofs.lemmas.Option.{same_Some}
 use Rattle.pr_num.proofs.ByIdLaws.{put_under-found, put_under-same}
 use Rattle.pr_num.specs.ById.{put_under, under}
+use Rattle.pr_model.specs.Messages.{Controlled}
 use Rattle.pr_model.specs.State.{TracedProcess, TracedSystem, live_process, with_process}
+use Rattle.pr_model.specs.declared.calls.Reply.TheVariants.{Used}
 use Rattle.pr_model.proofs.StateLemmas.{live_process-found}
+
+-- a system that a message of so many bytes led to, which was taken
+abbrev pub used : ℕ → TracedSystem → Controlled
+used len s = record { system = s; reply = Used len }
 
 -- a live process is the one that stands under its id
 pub lent-same : (s : TracedSystem) (pid : ℕ) (p q : TracedProcess) → live_process s pid ≡ Some p → under pid s.processes ≡ Some q → q ≡ p

@@ -23,8 +23,8 @@ use thiserror::Error;
 /// Why no agent is made, with the errno that it stands for.
 #[derive(Clone, Copy, Debug, PartialEq, Eq, Error)]
 pub enum AgentNo {
-    /// There is one, or an lwp is not stopped (`EBUSY`).
-    #[error("there is an agent, or an lwp is not stopped")]
+    /// The process has lent its memory, there is an agent, or an lwp is not stopped (`EBUSY`).
+    #[error("the process has lent its memory, there is an agent, or an lwp is not stopped")]
     Busy,
     /// As many lwps stand as there can be (`ENOMEM`).
     #[error("as many lwps stand as there can be")]
@@ -70,6 +70,9 @@ fn refusal(process: &Proc) -> Result<(), AgentNo>
     ensures says { Says result (agent_refusal process.now) }
     ensures memory { result ≢ Err AgentNo.NoMemory }
 {
+    if process.borrower.is_some() {
+        return Err(AgentNo::Busy);
+    }
     if has_agent(process) || !all_let_agent(process.job_stop, process.lwps.as_slice()) {
         return Err(AgentNo::Busy);
     }
@@ -129,9 +132,9 @@ fn insert_agent_in(sys: &mut Sys, pid: u32, regs: [u64; 11]) -> Result<(), NoMem
     insert_agent(sys.processes.get_mut(pid), regs)
 }
 
-/// Makes an agent with these registers in a live process. `Busy` comes exactly where there is one or an lwp is not
-/// stopped, then `Full` exactly where there are 64 lwps, and memory runs out only where neither is so. After an error
-/// the system is as it was.
+/// Makes an agent with these registers in a live process. `Busy` comes exactly where the process has lent its memory,
+/// there is an agent or an lwp is not stopped, then `Full` exactly where there are 64 lwps, and memory runs out only
+/// where neither is so. After an error the system is as it was.
 #[tactic(auto, using(crate::proofs::AgentLemmas::agent_laws, pr_proc::proofs::LifeLemmas::life_laws))]
 pub fn add_agent(sys: &mut Sys, pid: u32, regs: [u64; 11]) -> Result<(), AgentNo>
     requires { IsSome (live_process sys.old pid) }
@@ -156,8 +159,8 @@ fn errno_of(reason: AgentNo) -> Result<Errno, NoMemory>
     }
 }
 
-/// PCAGENT: makes an agent with these registers (EBUSY where there is one or an lwp is not stopped, ENOMEM where there
-/// are 64 lwps). Where memory runs out, the system stays as it is.
+/// PCAGENT: makes an agent with these registers (EBUSY where the process has lent its memory, there is an agent or an
+/// lwp is not stopped, ENOMEM where there are 64 lwps). Where memory runs out, the system stays as it is.
 #[tactic(auto, using(crate::proofs::AgentLemmas::agent_laws))]
 pub fn agent(sys: &mut Sys, pid: u32, regs: [u64; 11], length: u64) -> Result<Reply, NoMemory>
     requires { IsSome (live_process sys.old pid) }

@@ -6,6 +6,7 @@ mod agents;
 mod aims;
 mod directing;
 mod handles;
+mod lending;
 mod lwp_changes;
 mod memory;
 mod messages;

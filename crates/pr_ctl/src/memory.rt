@@ -1,16 +1,19 @@
 //! Messages that read and write memory, whatever its protection (proc(4), "PCREAD", "PCWRITE").
 ghost use Rattle.std.specs.Prelude.{◌≡◌, ◌≤◌, ℕ, List, Option, None, IsSome, IfOk, is_ok, length};
 ghost use Rattle.std.specs.Bool.{OnFalse, OnTrue};
+ghost use Rattle.std.specs.Option.{ForSome};
 ghost use Rattle.pr_num.specs.Limits.{message_bytes_limit};
 ghost use Rattle.pr_num.specs.Messages.{bad_operand};
 ghost use Rattle.pr_num.specs.Spaces.{bytes_for};
 ghost use Rattle.pr_num.specs.declared.messages.Message.TheVariants as message;
 ghost use Rattle.pr_parts.specs.AddressSpaces.{with_bytes};
 ghost use Rattle.pr_model.specs.Changes.{with_space};
+ghost use Rattle.pr_model.specs.Messages.{write_answer};
 ghost use Rattle.pr_model.specs.State.{live_process};
 ghost use Rattle.pr_ctl.specs.Answers.{Answers};
 ghost use Rattle.pr_ctl.specs.Memory.{memory_reply};
 
+use crate::lending::has_lent;
 use pr_mem::Space;
 use pr_model::Reply;
 use pr_num::{Bytes, Errno, NoMemory};
@@ -54,15 +57,28 @@ fn write_in(process: &mut Proc, at: u64, bytes: &[u8]) -> bool
     }
 }
 
-/// PCWRITE: writes bytes from an address on, whatever the protection (EIO where not all of the range is mapped).
-#[tactic(auto, using(pr_num::proofs::ByIdLaws::by_id_laws, pr_proc::proofs::LifeLemmas::life_laws), unfolding(pr_model::specs::Messages::message_answer, pr_model::specs::Messages::write_answer, pr_model::specs::State::with_process))]
-pub fn write(sys: &mut Sys, pid: u32, at: u64, bytes: &[u8], used: u64) -> Reply
+/// Writes bytes to the memory of a process, which it has not lent (EIO where not all of the range is mapped).
+#[tactic(auto, using(pr_num::proofs::ByIdLaws::by_id_laws, pr_proc::proofs::LifeLemmas::life_laws), unfolding(pr_model::specs::Messages::write_answer, pr_model::specs::State::with_process))]
+fn write_own(sys: &mut Sys, pid: u32, at: u64, bytes: &[u8], used: u64) -> Reply
     requires { IsSome (live_process sys.old pid) }
-    ensures { (lwp : Option ℕ) (size : ℕ) → Answers sys.old pid lwp (message.Write at size) bytes.now used sys.new result }
+    ensures { ForSome (live_process sys.old pid) (λ p. (record { system = sys.new; reply = result }) ≡ write_answer sys.old pid p at bytes.now used) }
 {
     if write_in(sys.processes.get_mut(pid), at, bytes) {
         Reply::Used(used)
     } else {
         Reply::Fail(Errno::Io)
     }
+}
+
+/// PCWRITE: writes bytes from an address on, whatever the protection (EBUSY where the process has lent its memory, EIO
+/// where not all of the range is mapped).
+#[tactic(auto, unfolding(pr_model::specs::Messages::message_answer))]
+pub fn write(sys: &mut Sys, pid: u32, at: u64, bytes: &[u8], used: u64) -> Reply
+    requires { IsSome (live_process sys.old pid) }
+    ensures { (lwp : Option ℕ) (size : ℕ) → Answers sys.old pid lwp (message.Write at size) bytes.now used sys.new result }
+{
+    if has_lent(sys, pid) {
+        return Reply::Fail(Errno::Busy);
+    }
+    write_own(sys, pid, at, bytes, used)
 }

@@ -1,14 +1,16 @@
 //! Watched areas (proc(4), "PCWATCH").
 ghost use Rattle.std.specs.Prelude.{◌≡◌, ◌<◌, ℕ, List, Option, None, IsSome, OnOk, OnErr};
+ghost use Rattle.std.specs.Option.{ForSome};
 ghost use Rattle.pr_num.specs.Messages.{bad_operand};
 ghost use Rattle.pr_num.specs.declared.messages.Message.TheVariants as message;
 ghost use Rattle.pr_parts.specs.WatchedAreas.{with_area, without_area};
-ghost use Rattle.pr_model.specs.Messages.{with_areas, with_control};
+ghost use Rattle.pr_model.specs.Messages.{watch_answer, with_areas, with_control};
 ghost use Rattle.pr_model.specs.State.{live_process};
 ghost use Rattle.pr_watch.specs.Setting.{done_unless, set_refusal};
 ghost use Rattle.pr_ctl.specs.Answers.{Answers};
 ghost use Rattle.pr_ctl.specs.Watching.{errno_of};
 
+use crate::lending::has_lent;
 use pr_model::{Control, Reply};
 use pr_num::Errno;
 use pr_proc::{Proc, Sys};
@@ -59,10 +61,10 @@ fn set_in(process: &mut Proc, at: u64, size: u64, flags: u8) -> Result<(), Watch
 }
 
 /// Watches no more the area that begins at an address.
-#[tactic(auto, using(pr_num::proofs::ByIdLaws::by_id_laws, pr_proc::proofs::LifeLemmas::life_laws), unfolding(pr_model::specs::Messages::message_answer, pr_model::specs::Messages::watch_answer, pr_model::specs::State::with_process))]
+#[tactic(auto, using(pr_num::proofs::ByIdLaws::by_id_laws, pr_proc::proofs::LifeLemmas::life_laws), unfolding(pr_model::specs::Messages::watch_answer, pr_model::specs::State::with_process))]
 fn unwatch(sys: &mut Sys, pid: u32, at: u64, length: u64) -> Reply
     requires { IsSome (live_process sys.old pid) }
-    ensures { (lwp : Option ℕ) (size : ℕ) (tail : List ℕ) → Answers sys.old pid lwp (message.Watch at size 0) tail length sys.new result }
+    ensures { (size : ℕ) → ForSome (live_process sys.old pid) (λ p. (record { system = sys.new; reply = result }) ≡ watch_answer sys.old pid p at size 0 length) }
 {
     clear_in(sys.processes.get_mut(pid), at);
     Reply::Used(length)
@@ -74,7 +76,7 @@ fn watch_area(sys: &mut Sys, pid: u32, at: u64, size: u64, flags: u8, length: u6
     requires live { IsSome (live_process sys.old pid) }
     requires some { 0 < flags }
     requires columns { bad_operand (message.Watch at size flags) ≡ None }
-    ensures { (lwp : Option ℕ) (tail : List ℕ) → Answers sys.old pid lwp (message.Watch at size flags) tail length sys.new result }
+    ensures { ForSome (live_process sys.old pid) (λ p. (record { system = sys.new; reply = result }) ≡ watch_answer sys.old pid p at size flags length) }
 {
     match set_in(sys.processes.get_mut(pid), at, size, flags) {
         Ok(()) => Reply::Used(length),
@@ -82,13 +84,17 @@ fn watch_area(sys: &mut Sys, pid: u32, at: u64, size: u64, flags: u8, length: u6
     }
 }
 
-/// PCWATCH: watches an area, or with no flags watches no more the one that begins there (EINVAL, ENOMEM).
-#[tactic(auto, unfolding(pr_num::specs::Messages::bad_operand))]
+/// PCWATCH: watches an area, or with no flags watches no more the one that begins there (EBUSY where the process has
+/// lent its memory, EINVAL, ENOMEM).
+#[tactic(auto, unfolding(pr_model::specs::Messages::message_answer, pr_num::specs::Messages::bad_operand))]
 pub fn watch(sys: &mut Sys, pid: u32, at: u64, size: u64, flags: u64, length: u64) -> Reply
     requires live { IsSome (live_process sys.old pid) }
     requires columns { bad_operand (message.Watch at size flags) ≡ None }
     ensures { (lwp : Option ℕ) (tail : List ℕ) → Answers sys.old pid lwp (message.Watch at size flags) tail length sys.new result }
 {
+    if has_lent(sys, pid) {
+        return Reply::Fail(Errno::Busy);
+    }
     if flags == 0 {
         return unwatch(sys, pid, at, length);
     }

@@ -1,8 +1,6 @@
 use Rattle.std.proofs.Common.{◌≡◌, ◌==◌, ◌-◌, ◌∷◌, ◌^◌, ◌&&◌, ◌||◌, ℕ, Bool, true, false, eqb, bit_and, inl, inr, arith, Option, Some, None, List, [], cond, refl, sym, subst, ◌∙◌, ap}
 use Rattle.std.proofs.lemmas.Bool.{eqb-true, cases_Bool, not-true, false≢true}
 use Rattle.std.proofs.lemmas.Option.{same_Some}
-use Rattle.std.specs.List.{All, find, list_all}
-use Rattle.std.specs.Option.{option_map}
 use Rattle.pr_num.specs.ById.{change_under, map_each}
 use Rattle.pr_num.specs.Control.{has_flags, klc_mode, stop_again}
 use Rattle.pr_num.specs.Infos.{killed_by}
@@ -19,11 +17,11 @@ use Rattle.pr_model.specs.declared.calls.Reply.{Reply}
 use Rattle.pr_model.specs.declared.calls.Reply.TheVariants as reply
 use Rattle.pr_model.specs.Machines.{traced}
 use Rattle.pr_model.specs.UntracedSteps.{steps_of_call}
-use Rattle.pr_model.specs.Calls.{Answer, refused, opened, open_unless, open_answer, close_held, close_answer, controlled, interrupted_answer, is_interrupted, waited, ready_answer, is_polled_ready, poll_answer, until_answer, interrupt_answer, spawn_unless, spawn_found, spawn_answer, sent_reply, kill_answer, answer_to}
-use Rattle.pr_model.specs.ControlMessages.{aim_of, system_refusal, tail_of, target_of, control_handle, decoded_answer, targeted_answer, held_answer, control_answer, wait_reply}
+use Rattle.pr_model.specs.Calls.{Answer, controlled, spawn_unless, spawn_found, spawn_answer, sent_reply, kill_answer, answer_to}
+use Rattle.pr_model.specs.ControlMessages.{tail_of, control_answer}
 use Rattle.pr_model.specs.Erasure.{uncontrolled_lwp, uncontrolled_process, uncontrolled_system, erased_system}
-use Rattle.pr_model.specs.Handles.{handle_of, open_refusal, with_opened, was_last_writer, released_lwp, released_control, released, with_last_close, after_last_close, with_closed}
-use Rattle.pr_model.specs.Messages.{Controlled, Aim, at_lwp, at_process, found_at, run_found, with_aim_directed, run_answer, with_control, tracing_signals, tracing_faults, tracing_entries, tracing_exits, with_modes, without_modes, read_of, mapped_bytes, read_answer, message_answer, refused as message_refused}
+use Rattle.pr_model.specs.Handles.{with_opened, released_lwp, released_control, released, with_closed}
+use Rattle.pr_model.specs.Messages.{tracing_signals, tracing_faults, tracing_entries, tracing_exits, with_modes, without_modes}
 use Rattle.pr_model.specs.Passive.{is_passive_message, is_passive_write, is_passive_call}
 use Rattle.pr_model.specs.ProcessCalls.{program_named}
 use Rattle.pr_model.specs.Readers.{life_of}
@@ -32,17 +30,12 @@ use Rattle.pr_model.specs.Spawning.{spawn_refusal}
 use Rattle.pr_model.specs.UntracedMachine.{UntracedRun, ends_here, nothing, it}
 use Rattle.pr_laws.proofs.RefusalLemmas.{control-leaves, refused-system}
 use Rattle.pr_erasure.proofs.OutsideLemmas.{StepsFollow, follows-nothing, spawn-follows, kill-follows, refused_sent}
-use Rattle.pr_model.specs.Running.{let_go, run_lwp, lwp_run_refused, with_directive, with_one_run, with_cleared, with_aborted, with_flags_on, without_directive, with_request, without_request, was_requested, if_all_requested, shows_run, run_refused, with_representative_run, with_all_run, with_run}
-use Rattle.pr_model.specs.State.{Places, TracedControl, TracedLwp, TracedProcess, TracedSystem, TracedState, live_process, lwp_of, with_process, with_lwp, with_system, process_of}
-use Rattle.pr_model.specs.Stops.{has_event_stop, directed, with_all_directed, representative}
-use Rattle.pr_model.specs.declared.handles.Held.{Held}
-use Rattle.pr_model.specs.declared.stops.Stop.TheVariants.{Requested}
+use Rattle.pr_model.specs.Running.{let_go, with_directive, without_directive, with_run}
+use Rattle.pr_model.specs.State.{TracedControl, TracedLwp, TracedProcess, TracedSystem, TracedState, with_process, with_system, process_of}
 use Rattle.pr_erasure.specs.Untouched.{IsUntouchedLwp, IsUntouchedProcess, IsUntouched}
 use Rattle.pr_erasure.proofs.BareLemmas.{same-system}
-use Rattle.pr_erasure.proofs.PointLemmas.{directed-hidden, with_all_directed-hidden}
-use Rattle.pr_erasure.proofs.StateLemmas.{map_each-hidden, map_each-all_hidden, with_process-hidden, with_lwp-hidden}
-use Rattle.pr_erasure.proofs.UntouchedLemmas.{KeepsLwps, KeepsProcesses, directed-keeps, lwp-keeps, lwps-keep, process-keeps}
-use Rattle.pr_num.proofs.BoolLemmas.{either}
+use Rattle.pr_erasure.proofs.StateLemmas.{map_each-all_hidden, with_process-hidden, with_lwp-hidden}
+use Rattle.pr_erasure.proofs.UntouchedLemmas.{KeepsLwps, KeepsProcesses, lwp-keeps, lwps-keep, process-keeps}
 use Rattle.pr_model.proofs.StateLemmas.{live_process-found}
 use Rattle.pr_keeps.specs.CallEdits as edit
 use Rattle.pr_keeps.specs.CallEdits.{CallEdit, CloseEdit}

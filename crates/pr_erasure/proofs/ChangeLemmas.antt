@@ -5,14 +5,14 @@ use Rattle.pr_num.specs.declared.signals.Sig.{Sig}
 use Rattle.pr_model.specs.Changes.{Change, files_are, space_is, signals, signals_itself, takes_shared, job_stops, disposition_is, held_is, resumes, forks, reaps, becomes, makes_lwp, suspends, Ending, ends_process, ends_lwp, with_fds, with_space, with_shared_taken, with_job_stop, with_disposition_of, with_held, resumed, with_suspended, changed, all_changed, ended}
 use Rattle.pr_model.specs.Erasure.{erased_lwp, erased_process, erased_system}
 use Rattle.pr_model.specs.Generation.{signalled}
-use Rattle.pr_model.specs.Lives.{with_ended, with_program, with_new_lwp}
+use Rattle.pr_model.specs.Lives.{with_loan_back, with_ended, with_program, with_new_lwp}
 use Rattle.pr_model.specs.Machines.{traced, untraced}
 use Rattle.pr_model.specs.Signals.{is_kill, generated}
-use Rattle.pr_model.specs.State.{TracedLwp, TracedProcess, TracedSystem, with_process, with_lwp}
-use Rattle.pr_erasure.proofs.LifeLemmas.{with_this_ended-erased, with_ended-erased, with_child-erased, with_reaped-erased, with_program-erased, with_new_lwp-erased, with_lwp_ended-erased}
+use Rattle.pr_model.specs.State.{TracedLwp, TracedProcess, TracedSystem, with_process, with_process_if, with_lwp}
+use Rattle.pr_erasure.proofs.LifeLemmas.{with_loan_back-erased, with_this_ended-erased, with_ended-erased, with_child-erased, with_reaped-erased, with_program-erased, with_new_lwp-erased, with_lwp_ended-erased}
 use Rattle.pr_erasure.specs.Suiting.{IsSent, IsProper, AreProper}
 use Rattle.pr_erasure.proofs.SignalLemmas.{signalled-erased}
-use Rattle.pr_erasure.proofs.StateLemmas.{with_process-erased, with_lwp-erased}
+use Rattle.pr_erasure.proofs.StateLemmas.{with_process-erased, with_process_if-erased, with_lwp-erased}
 
 -- What a turn changes of the system, as programs see it: a line a kind of change.
 
@@ -67,8 +67,11 @@ module _ (pid : ℕ) (p : TracedProcess) (id : ℕ) (l : TracedLwp) where
   changed-erased (forks birth args) sent s = unless (eqb s.made pid) s _ (with_child-erased birth pid p l args s)
   changed-erased (reaps child) sent s = unless (eqb child pid) s _ (with_reaped-erased child s)
   changed-erased (becomes program) sent s =
-      with_process-erased s pid (with_program traced id l program) (with_program untraced id (erased_lwp l) program)
-      (λ x found. with_program-erased id l program x)
+      with_process_if-erased (with_process pid (with_program traced id l program) s) p.lender (with_loan_back pid p)
+      (with_loan_back pid (erased_process p)) (with_loan_back-erased pid p)
+      ∙ ap (with_process_if p.lender (with_loan_back pid (erased_process p)))
+      (with_process-erased s pid (with_program traced id l program) (with_program untraced id (erased_lwp l) program)
+      (λ x found. with_program-erased id l program x))
   changed-erased (makes_lwp new regs held) sent s =
       with_process-erased s pid (with_new_lwp traced new regs held) (with_new_lwp untraced new regs held)
       (λ x found. with_new_lwp-erased new regs held x)

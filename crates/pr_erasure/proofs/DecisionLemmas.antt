@@ -17,7 +17,7 @@ use Rattle.pr_model.specs.CallEffects.{call_effect}
 use Rattle.pr_model.specs.Erasure.{erased_lwp, erased_process, erased_system}
 use Rattle.pr_model.specs.LwpCalls.{lwp_create_effect, lwp_suspend_effect, lwp_continue_effect}
 use Rattle.pr_model.specs.MemoryCalls.{path_at, brk_effect, mmap_effect, munmap_effect, mprotect_effect}
-use Rattle.pr_model.specs.ProcessCalls.{program_named, fork_effect, exec_effect, wait_effect}
+use Rattle.pr_model.specs.ProcessCalls.{program_named, fork_effect, vfork_effect, given_up, exec_effect, wait_effect}
 use Rattle.pr_model.specs.Readers.{children_among, children_of, life_of, size_of, sizes_of, total_size, total_has_room}
 use Rattle.pr_model.specs.State.{TracedLwp, TracedProcess, TracedSystem, process_of}
 use Rattle.pr_erasure.proofs.LifeLemmas.{stands-erased}
@@ -77,9 +77,14 @@ fork-erased : (s : TracedSystem) (p : TracedProcess) (id : ℕ) (args : List ℕ
 unfolding fork_effect erased_process size_of
 fork-erased s p id args = rw (room-erased s (mapped_size p.space) 0, made-erased s) refl
 
+vfork-erased : (s : TracedSystem) (p : TracedProcess) (id : ℕ) (args : List ℕ)
+    → vfork_effect (erased_system s) (erased_process p) id args ≡ vfork_effect s p id args
+unfolding vfork_effect erased_process
+vfork-erased s p id args = rw (length-map_each erased_lwp p.lwps, made-erased s) refl
+
 exec-erased : (s : TracedSystem) (p : TracedProcess) (id at : ℕ)
     → exec_effect (erased_system s) (erased_process p) id at ≡ exec_effect s p id at
-unfolding exec_effect erased_process size_of
+unfolding exec_effect given_up erased_process size_of
 exec-erased s p id at = path (path_at p.space at) refl
   where
     named : (name : List ℕ) (o : Option Program) → path_at p.space at ≡ Ok name → program_named s.programs name ≡ o
@@ -91,7 +96,7 @@ exec-erased s p id at = path (path_at p.space at) refl
           ap (λ ps. program_named ps name) (programs-erased s)
               ∙ found,
           found,
-          room-erased s (mapped_size (first_space program)) (mapped_size p.space),
+          room-erased s (mapped_size (first_space program)) (given_up s p id),
         ) refl
 
     path : (r : Result (List ℕ) Errno) → path_at p.space at ≡ r
@@ -143,6 +148,7 @@ pub decided : (s : TracedSystem) (pid : ℕ) (p : TracedProcess) (id : ℕ) (l :
 unfolding call_effect erased_system erased_process erased_lwp munmap_effect mprotect_effect
 decided s pid p id l since sys.Exit args = refl
 decided s pid p id l since sys.Fork args = fork-erased s p id args
+decided s pid p id l since sys.Vfork args = vfork-erased s p id args
 decided s pid p id l since sys.Read args = refl
 decided s pid p id l since sys.Write args = refl
 decided s pid p id l since sys.Open args = refl

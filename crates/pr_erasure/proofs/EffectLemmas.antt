@@ -28,11 +28,11 @@ use Rattle.pr_model.specs.CallEffects.{call_effect}
 use Rattle.pr_model.specs.Changes.{Change, files_are, space_is, signals, disposition_is, held_is, resumes, forks, reaps, becomes, makes_lwp, suspends, ends_process, Effect, does, sleeps, ends, gives, fails, is_over}
 use Rattle.pr_model.specs.FileCallRows.{word_size, refusal_effect, file_effect, read_effect, write_effect, open_effect, close_effect, pipe_effect, dup_effect, lseek_effect, fstat_effect}
 use Rattle.pr_num.specs.Limits.{last_lwp, sleep_limit, transfer_limit}
-use Rattle.pr_model.specs.Lives.{by_fork}
+use Rattle.pr_model.specs.Lives.{by_fork, by_vfork}
 use Rattle.pr_model.specs.LwpCalls.{lwp_create_effect, lwp_suspend_effect, lwp_continue_effect}
 use Rattle.pr_model.specs.LwpTurns.{is_ready}
 use Rattle.pr_model.specs.MemoryCalls.{can_write, path_at, unless_too_big, brk_effect, mmap_effect, munmap_effect, mprotect_effect}
-use Rattle.pr_model.specs.ProcessCalls.{exit_effect, fork_effect, wait_effect, program_named, exec_effect, sleep_effect}
+use Rattle.pr_model.specs.ProcessCalls.{exit_effect, fork_effect, vfork_effect, wait_effect, program_named, exec_effect, sleep_effect}
 use Rattle.pr_model.specs.Readers.{Children, no_child, all_live, first_zombie, children_of, life_of}
 use Rattle.pr_model.specs.SignalCalls.{Sending, refuses, sends_nothing, sends, sending, sent_effect, send_effect, sigaction_effect, sigmask_effect, sigreturn_effect}
 use Rattle.pr_model.specs.State.{TracedLwp, TracedProcess, TracedSystem}
@@ -325,6 +325,13 @@ fork-done s p id args =
     (unless _ (gives s.made (forks by_fork args ∷ [])) (fails Nomem)
     (gave s.made (forks by_fork args ∷ []) (tt, tt)) (failed Nomem)))
 
+vfork-done : (s : TracedSystem) (p : TracedProcess) (id : ℕ) (args : List ℕ) → IsDone (vfork_effect s p id args)
+unfolding vfork_effect
+vfork-done s p id args =
+    unless _ (fails Notsup) _ (failed Notsup)
+    (unless _ (fails Again) (gives s.made (forks by_vfork args ∷ [])) (failed Again)
+    (gave s.made (forks by_vfork args ∷ []) (tt, tt)))
+
 exec-done : (s : TracedSystem) (p : TracedProcess) (id at : ℕ) → IsDone (exec_effect s p id at)
 unfolding exec_effect
 exec-done s p id at = by (path_at p.space at) refl
@@ -465,6 +472,7 @@ pub call-known : (s : TracedSystem) (pid : ℕ) (p : TracedProcess) (id : ℕ) (
 unfolding call_effect is_ready send_effect
 call-known s pid p id l since sys.Exit args = known _ (exit-done (slice_index args 0))
 call-known s pid p id l since sys.Fork args = known _ (fork-done s p id args)
+call-known s pid p id l since sys.Vfork args = known _ (vfork-done s p id args)
 call-known s pid p id l since sys.Read args =
     sleeper _ (read-fine s.files p.fds p.space (slice_index args 0) (slice_index args 1) (slice_index args 2))
 call-known s pid p id l since sys.Write args =

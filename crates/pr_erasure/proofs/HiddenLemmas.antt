@@ -12,20 +12,12 @@ use Rattle.pr_model.specs.Handles.{released}
 use Rattle.pr_model.specs.InstructionEffects.{InstructionEffect, Store, instruction_effect}
 use Rattle.pr_model.specs.InstructionEffects as instruction
 use Rattle.pr_model.specs.LwpTurns.{LwpTurn, turn_of, settled}
-use Rattle.pr_model.specs.Registers.{arguments}
-use Rattle.pr_model.specs.Rows.{Row, requested_row, posted_row, interrupted_row, performed_row, own_taken_row, shared_taken_row, handler_row, caught_row, acted_row, returned_row, ran_row, entered_row, incurred_row, watched_row, executed_row, call_row, row_in, taken_or, signal_row_or, current_row_or, posted_row_or, row_for}
+use Rattle.pr_model.specs.Rows.{Row, requested_row, posted_row, interrupted_row, performed_row, own_taken_row, shared_taken_row, handler_row, returned_row, ran_row, entered_row, incurred_row, watched_row, executed_row, row_for}
 use Rattle.pr_model.specs.Running.{with_run}
-use Rattle.pr_model.specs.Signals.{action_for, own_takeable, shared_takeable}
-use Rattle.pr_model.specs.Machines.{untraced}
-use Rattle.pr_model.specs.Moves.{moved}
-use Rattle.pr_model.specs.Moves as move
 use Rattle.pr_model.specs.State.{TracedLwp, TracedProcess, TracedSystem, with_lwp}
 use Rattle.pr_model.specs.Stops.{directed, with_all_directed}
 use Rattle.pr_model.specs.declared.events.Did.{Did}
 use Rattle.pr_model.specs.declared.events.Did.TheVariants.{Stopped, Ran, Entered, Made, Slept, Woke, Returned, Faulted, Posted, Took, Acted}
-use Rattle.pr_model.specs.declared.lwps.Current.{Current}
-use Rattle.pr_model.specs.declared.lwps.Phase.{Phase}
-use Rattle.pr_model.specs.declared.lwps.Phase.TheVariants as phase
 use Rattle.pr_erasure.proofs.BareLemmas.{same-process, same-system}
 use Rattle.pr_erasure.proofs.CallLemmas.{with_run-hidden, released-hidden}
 use Rattle.pr_erasure.proofs.PointLemmas.{directed-hidden, with_all_directed-hidden}

@@ -10,13 +10,48 @@ use Rattle.pr_num.specs.Files.{Descriptors, with_all_closed}
 use Rattle.pr_model.specs.Erasure.{erased_lwp, erased_pending, erased_phase, erased_process, erased_system}
 use Rattle.pr_num.specs.Spaces.{first_space}
 use Rattle.pr_model.specs.Generation.{signalled}
-use Rattle.pr_model.specs.Lives.{Birth, with_made, orphaned, with_parent_signalled, without_lwp, with_reaped, new_lwp, first_lwp, bare_process, new_process, with_spawned, forked_lwp, forked, with_child, started, with_program, with_new_lwp, uncaught, zombie, with_this_ended, ended_if_live, with_ended, with_lwp_ended}
-use Rattle.pr_model.specs.Machines.{no_marks, traced, untraced}
-use Rattle.pr_model.specs.State.{TracedLwp, TracedProcess, TracedSystem, live_process, lwp_of, with_process}
+use Rattle.pr_model.specs.Lives.{Birth, by_fork, by_vfork, is_id, lent_to, with_lent, with_loan_back, with_lender_of, with_loans_passed, with_made, orphaned, with_parent_signalled, without_lwp, with_reaped, new_lwp, first_lwp, bare_process, new_process, with_spawned, forked_lwp, forked, with_child, started, with_program, with_new_lwp, uncaught, zombie, with_this_ended, ended_if_live, with_ended, with_lwp_ended}
+use Rattle.pr_model.specs.Machines.{UntracedProcess, no_marks, traced, untraced}
+use Rattle.pr_model.specs.State.{TracedLwp, TracedProcess, TracedSystem, live_process, lwp_of, with_process, with_process_if}
 use Rattle.pr_erasure.proofs.SignalLemmas.{signalled-erased}
-use Rattle.pr_erasure.proofs.StateLemmas.{map_each-all, live-erased, lwp-erased, with_process-erased}
+use Rattle.pr_erasure.proofs.StateLemmas.{map_each-all, live-erased, lwp-erased, with_process-erased, with_process_if-erased}
 
 -- How processes and lwps begin and end, as programs see it.
+
+-- ---- loans
+
+pub with_loan_back-erased : (pid : ℕ) (p q : TracedProcess)
+    → erased_process (with_loan_back pid p q) ≡ with_loan_back pid (erased_process p) (erased_process q)
+unfolding erased_process with_loan_back
+with_loan_back-erased pid p q =
+    elim (is_id pid q.borrower) as
+    (λ b. erased_process (cond b (record q { space = p.space; borrower = p.borrower }) q) ≡ cond b
+    (record (erased_process q) { space = p.space; borrower = p.borrower })
+    (erased_process q)) [ true ↦ refl | false ↦ refl ]
+
+with_lender_of-erased : (pid : ℕ) (p q : TracedProcess)
+    → erased_process (with_lender_of pid p q) ≡ with_lender_of pid (erased_process p) (erased_process q)
+unfolding erased_process with_lender_of
+with_lender_of-erased pid p q =
+    elim (is_id pid q.lender) as
+    (λ b. erased_process (cond b (record q { lender = p.lender }) q) ≡ cond b
+    (record (erased_process q) { lender = p.lender }) (erased_process q)) [ true ↦ refl | false ↦ refl ]
+
+with_loans_passed-erased : (pid : ℕ) (p : TracedProcess) (s : TracedSystem)
+    → erased_system (with_loans_passed pid p s) ≡ with_loans_passed pid (erased_process p) (erased_system s)
+unfolding with_loans_passed erased_process
+with_loans_passed-erased pid p s =
+    with_process_if-erased (with_process_if p.borrower (with_lender_of pid p) s) p.lender (with_loan_back pid p)
+    (with_loan_back pid (erased_process p)) (with_loan_back-erased pid p)
+    ∙ ap (with_process_if p.lender (with_loan_back pid (erased_process p)))
+    (with_process_if-erased s p.borrower (with_lender_of pid p) (with_lender_of pid (erased_process p))
+    (with_lender_of-erased pid p))
+
+with_lent-erased : (birth : Birth) (pid child : ℕ) (s : TracedSystem)
+    → erased_system (with_lent birth pid child s) ≡ with_lent birth pid child (erased_system s)
+unfolding erased_process lent_to
+with_lent-erased by_fork pid child s = refl
+with_lent-erased by_vfork pid child s = with_process-erased s pid (lent_to child) (lent_to child) (λ x found. refl)
 
 -- ---- ends
 
@@ -72,13 +107,15 @@ pub with_this_ended-erased : (pid : ℕ) (p : TracedProcess) (status : ℕ) (s :
     (erased_system s)
 unfolding with_this_ended erased_process
 with_this_ended-erased pid p status s =
-    with_parent_signalled-erased p.parent pid status
-    (record s {
+    let left : TracedSystem =
+    record s {
       files = with_all_closed s.files p.fds;
       processes = map_each (orphaned pid)
           (change_under pid (zombie traced status) s.processes);
-    })
-    ∙ ap (with_parent_signalled p.parent pid status) (buried pid p.fds status s)
+    } in
+    with_parent_signalled-erased p.parent pid status (with_loans_passed pid p left)
+    ∙ ap (with_parent_signalled p.parent pid status)
+    (with_loans_passed-erased pid p left ∙ ap (with_loans_passed pid (erased_process p)) (buried pid p.fds status s))
 
 pub with_ended-erased : (pid status : ℕ) (s : TracedSystem)
     → erased_system (with_ended traced pid status s) ≡ with_ended untraced pid status (erased_system s)
@@ -141,11 +178,15 @@ pub with_child-erased : (birth : Birth) (pid : ℕ) (p : TracedProcess) (l : Tra
     (erased_lwp l) args (erased_system s)
 unfolding with_child erased_system
 with_child-erased birth pid p l args s =
-    with_made-erased (forked traced birth pid p l args s.clock) (record s { files = with_all_shared s.files p.fds })
-    ∙ ap (λ q. with_made q (record (erased_system s) { files = with_all_shared s.files p.fds }))
+    let child : UntracedProcess = forked untraced birth pid (erased_process p) (erased_lwp l) args s.clock in
+    let shared : TracedSystem = record s { files = with_all_shared s.files p.fds } in
+    with_made-erased (forked traced birth pid p l args s.clock) (with_lent birth pid s.made shared)
+    ∙ ap (λ q. with_made q (erased_system (with_lent birth pid s.made shared)))
     (forked-erased birth pid p l args s.clock)
-    ∙ ap (λ fds. with_made (forked untraced birth pid (erased_process p) (erased_lwp l) args s.clock)
-    (record (erased_system s) { files = with_all_shared s.files fds })) (sym (fds-erased p))
+    ∙ ap (with_made child) (with_lent-erased birth pid s.made shared)
+    ∙ ap (λ fds. with_made child
+    (with_lent birth pid s.made (record (erased_system s) { files = with_all_shared s.files fds })))
+    (sym (fds-erased p))
 
 -- An lwp that runs another program, and its process with it alone. What is set on the process goes its own way.
 started-erased : (l : TracedLwp) → erased_lwp (started traced l) ≡ started untraced (erased_lwp l)
@@ -161,6 +202,7 @@ with_program-erased id l program p =
     (erased_process p) {
       program = program.name;
       space = first_space program;
+      lender = None;
       dispositions = map uncaught
           p.dispositions;
       lwps = (id, x) ∷ [];

@@ -1,4 +1,5 @@
-use Rattle.std.proofs.Common.{◌≡◌, ◌≢◌, ℕ, Bool, true, false, not, ◌||◌, ◌&&◌, is_some, eqb, ltb, length, Option, Some, None, List, [], ◌∷◌, cond, refl, sym, subst, ◌∙◌, ap}
+use Rattle.std.proofs.Common.{◌≡◌, ◌≢◌, ℕ, Bool, true, false, not, ◌&&◌, is_some, eqb, ltb, length, Option, Some, None, List, [], ◌∷◌, cond, refl, sym, subst, ◌∙◌, ap}
+use Rattle.std.proofs.lemmas.Bool.{or_parts}
 use Rattle.std.specs.Option.{option_map, option_or}
 use Rattle.pr_num.specs.Agents.{agent_id}
 use Rattle.pr_num.specs.Limits.{frame_limit}
@@ -49,8 +50,7 @@ use Rattle.pr_model.proofs.StateLemmas.{live_process-found}
 -- Each row of the turn table, as programs see it: which steps of the untraced machine it is.
 
 -- An lwp that may have a turn and is not directed to stop, in a process of which nothing is watched; it has no mark of
--- a
--- controller, and is not the agent.
+-- a controller, and is not the agent.
 pub record HasTurn (s : TracedSystem) (pid : ℕ) (p : TracedProcess) (id : ℕ) (l : TracedLwp) : Type 0 where
   pub live : live_process s pid ≡ Some p
   pub there : lwp_of p id ≡ Some l
@@ -82,29 +82,24 @@ requested-runs s pid p id l returning =
 
 -- ---- it may make a step
 
-false_left : (a b : Bool) → (a || b) ≡ false → a ≡ false
-false_left true b e = cc
-false_left false b e = refl
-
-false_right : (a b : Bool) → (a || b) ≡ false → b ≡ false
-false_right true b e = cc
-false_right false b e = e
-
-no_job : (o : Option Sig) (agent : Bool) → (is_some o && not agent) ≡ false → agent ≡ false → o ≡ None
-no_job None agent e other = refl
-no_job (Some g) true e other = cc
-no_job (Some g) false e other = cc
+none_there : {A : Type 0} (o : Option A) (excepted : Bool) → (is_some o && not excepted) ≡ false → excepted ≡ false
+    → o ≡ None
+none_there None excepted e other = refl
+none_there (Some x) true e other = cc
+none_there (Some x) false e other = cc
 
 module _ (s : TracedSystem) (pid : ℕ) (p : TracedProcess) (id : ℕ) (l : TracedLwp) (h : HasTurn s pid p id l) where
   may_step : MayStep (erased_system s) pid id (erased_process p) (erased_lwp l)
   unfolding is_held_back erased_process erased_lwp
   may_step =
-      let moves = false_right (is_some l.control.stop) _ h.free in
+      let moves = or_parts l.suspended _ (or_parts (is_some l.control.stop) _ h.free).1 in
+      let may = or_parts (is_some p.job_stop && not (eqb id agent_id)) _ moves.1 in
       record {
         live = live-erased s pid ∙ ap (option_map erased_process) h.live;
         there = lwp-erased p id ∙ ap (option_map erased_lwp) h.there;
-        not_stopped = no_job p.job_stop (eqb id agent_id) (false_right l.suspended _ moves) h.no_agent;
-        not_suspended = false_left l.suspended _ moves;
+        not_stopped = none_there p.job_stop (eqb id agent_id) may.0 h.no_agent;
+        own_memory = none_there p.borrower l.control.directed may.1 h.not_directed;
+        not_suspended = moves.0;
       }
 
   -- a row makes its transition for both machines

@@ -9,9 +9,10 @@ use Rattle.pr_num.specs.Signals.{signal_number}
 use Rattle.pr_num.specs.ById.{under, change_under, map_each, inserted}
 use Rattle.pr_num.proofs.ByIdLaws.{under-change_under, under-change_under_other, under-map_each, under-inserted_other, under-without_id_other}
 use Rattle.pr_parts.specs.SignalRules.{deleted_by}
+use Rattle.pr_keeps.proofs.LoanLemmas.{lent-keeps, loans_passed-keep, process_if-keeps}
 use Rattle.pr_model.specs.Changes.{Change, files_are, space_is, signals, signals_itself, takes_shared, job_stops, disposition_is, held_is, resumes, forks, reaps, becomes, makes_lwp, suspends, with_fds, with_space, with_shared_taken, with_job_stop, with_disposition_of, with_held, resumed, with_suspended, changed, all_changed}
 use Rattle.pr_model.specs.Generation.{ends_job_stop, lwp_without_pending, lwp_with_pending, without_pending, without_job_stop, with_deletions, with_pending, signalled}
-use Rattle.pr_model.specs.Lives.{with_made, orphaned, with_parent_signalled, with_reaped, new_lwp, with_child, started, with_program, with_new_lwp, zombie, with_this_ended, ended_if_live, with_ended}
+use Rattle.pr_model.specs.Lives.{Birth, is_id, lent_to, with_lent, with_loan_back, with_lender_of, with_loans_passed, with_made, orphaned, with_parent_signalled, with_reaped, new_lwp, with_child, started, with_program, with_new_lwp, zombie, with_this_ended, ended_if_live, with_ended}
 use Rattle.pr_model.specs.Machines.{traced}
 use Rattle.pr_model.specs.Signals.{is_kill, generated}
 use Rattle.pr_model.specs.State.{TracedLwp, TracedProcess, TracedSystem, process_of, live_process, lwp_of, with_process, with_lwp}
@@ -131,6 +132,24 @@ module _ (id : ℕ) (phase : Phase) where
             k
       ]
 
+  keeps-loan_back : (pid : ℕ) (p q : TracedProcess) → Keeps id phase q → Keeps id phase (with_loan_back pid p q)
+  unfolding with_loan_back
+  keeps-loan_back pid p q k =
+      elim (is_id pid q.borrower) as
+      (λ b. Keeps id phase (cond b (record q { space = p.space; borrower = p.borrower }) q)) [
+        | true ↦ record { lwp = k.lwp; there = k.there; same = k.same }
+        | false ↦ k
+      ]
+
+  keeps-lender_of : (pid : ℕ) (p q : TracedProcess) → Keeps id phase q → Keeps id phase (with_lender_of pid p q)
+  unfolding with_lender_of
+  keeps-lender_of pid p q k =
+      elim (is_id pid q.lender) as
+      (λ b. Keeps id phase (cond b (record q { lender = p.lender }) q)) [
+        | true ↦ record { lwp = k.lwp; there = k.there; same = k.same }
+        | false ↦ k
+      ]
+
 held-stays : (held : ℕ) (x : TracedLwp) → (with_held held x).phase ≡ x.phase
 unfolding with_held
 held-stays held x = refl
@@ -177,6 +196,22 @@ module _ (pid id : ℕ) (phase : Phase) where
             }
       ]
 
+  -- a process passes its loans on
+  stands-passed : (other : ℕ) (p : TracedProcess) (s : TracedSystem) → Stands pid id phase s
+      → Stands pid id phase (with_loans_passed other p s)
+  stands-passed other p =
+      loans_passed-keep (Stands pid id phase) other p
+      (λ any. stands-process any (with_loan_back other p) (keeps-loan_back id phase other p))
+      (λ any. stands-process any (with_lender_of other p) (keeps-lender_of id phase other p))
+
+  -- a process lends its memory to its child
+  stands-lent : (birth : Birth) (parent child : ℕ) (s : TracedSystem) → Stands pid id phase s
+      → Stands pid id phase (with_lent birth parent child s)
+  unfolding lent_to
+  stands-lent birth parent child =
+      lent-keeps (Stands pid id phase) birth parent child
+      (stands-process parent (lent_to child) (λ q k. same_lwps id phase q (lent_to child q) refl k))
+
   same_processes : (s t : TracedSystem) → t.processes ≡ s.processes → Stands pid id phase s → Stands pid id phase t
   same_processes s t same st = record {
     process = st.process;
@@ -212,13 +247,14 @@ module _ (pid id : ℕ) (phase : Phase) where
   unfolding with_this_ended
   stands-ended other p status apart s st =
       let k = keeps-orphaned id phase other st.process (record { lwp = st.lwp; there = st.there; same = st.same }) in
-      stands-signalled p.parent other status _ (record {
+      stands-signalled p.parent other status _
+      (stands-passed other p _ (record {
         process = orphaned other st.process;
         lwp = k.lwp;
         found = stands-buried other status apart s.processes st.process st.found;
         there = k.there;
         same = k.same;
-      })
+      }))
 
   stands-with_ended : (other status : ℕ) → eqb other pid ≡ false → (s : TracedSystem) → Stands pid id phase s
       → Stands pid id phase (with_ended traced other status s)
@@ -254,6 +290,18 @@ module _ (pid id : ℕ) (phase : Phase) where
         there = st.there;
         same = st.same;
       }
+
+  made-lent : (birth : Birth) (parent child : ℕ) (s : TracedSystem) → (with_lent birth parent child s).made ≡ s.made
+  unfolding with_process
+  made-lent birth parent child s =
+      lent-keeps (λ (t : TracedSystem). t.made ≡ s.made) birth parent child (λ t same. same) s refl
+
+  -- a child is made, which may have the memory of its parent
+  stands-child : (birth : Birth) (parent : ℕ) (p : TracedProcess) (s : TracedSystem) → eqb s.made pid ≡ false
+      → Stands pid id phase s → Stands pid id phase (with_made p (with_lent birth parent s.made s))
+  stands-child birth parent p s apart st =
+      stands-made p (with_lent birth parent s.made s)
+      (ap (λ n. eqb n pid) (made-lent birth parent s.made s) ∙ apart) (stands-lent birth parent s.made s st)
 
   stands-reaped : (child : ℕ) (s : TracedSystem) → eqb child pid ≡ false → Stands pid id phase s
       → Stands pid id phase (with_reaped child s)
@@ -333,10 +381,12 @@ module _ (pid id : ℕ) (phase : Phase) where
         stands-process pid (with_lwp id (resumed frame frames))
         (λ q k. keeps-lwp id phase q id (resumed frame frames) (resumed-stays frame frames) k) s st
     stands-changed (forks birth args) s st =
-        unless-same (eqb s.made pid) s _ (λ apart. stands-made _ _ apart (same_processes s _ refl st)) st
+        unless-same (eqb s.made pid) s _ (λ apart. stands-child birth pid _ _ apart (same_processes s _ refl st)) st
     stands-changed (reaps child) s st = unless-same (eqb child pid) s _ (λ apart. stands-reaped child s apart st) st
     stands-changed (becomes program) s st =
-        stands-process pid (with_program traced id l program) (λ q k. keeps-program program q) s st
+        process_if-keeps (Stands pid id phase) p.lender (with_loan_back pid p)
+        (λ any. stands-process any (with_loan_back pid p) (keeps-loan_back id phase pid p)) _
+        (stands-process pid (with_program traced id l program) (λ q k. keeps-program program q) s st)
     stands-changed (makes_lwp new regs held) s st =
         stands-process pid (with_new_lwp traced new regs held) (keeps-new_lwp new regs held) s st
     stands-changed (suspends other it) s st =

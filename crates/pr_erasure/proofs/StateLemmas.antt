@@ -4,7 +4,7 @@ use Rattle.pr_num.specs.ById.{under, change_under, put_under, map_each}
 use Rattle.pr_num.proofs.ByIdLaws.{under-map_each, map_each-change_under, put_under-found, put_under-same}
 use Rattle.pr_model.specs.Erasure.{uncontrolled_lwp, uncontrolled_process, uncontrolled_system, erased_lwp, erased_process, erased_system}
 use Rattle.pr_model.specs.Machines.{UntracedLwp, UntracedProcess}
-use Rattle.pr_model.specs.State.{TracedLwp, TracedProcess, TracedSystem, process_of, if_live, live_process, lwp_of, with_process, with_lwp, with_lwp_of}
+use Rattle.pr_model.specs.State.{TracedLwp, TracedProcess, TracedSystem, process_of, if_live, live_process, lwp_of, with_process, with_process_if, with_lwp, with_lwp_of}
 
 -- What is found in a state, and what is changed there, as programs see it.
 
@@ -47,6 +47,14 @@ unfolding erased_system with_process
 with_process-erased s pid f g agree =
     ap (λ ps. record (erased_system s) { processes = ps })
     (map_each-change_under erased_process pid f g s.processes agree)
+
+-- the same of a process that may not be there
+pub with_process_if-erased : (s : TracedSystem) (o : Option ℕ) (f : TracedProcess → TracedProcess)
+    (g : UntracedProcess → UntracedProcess)
+    → ((x : TracedProcess) → erased_process (f x) ≡ g (erased_process x))
+    → erased_system (with_process_if o f s) ≡ with_process_if o g (erased_system s)
+with_process_if-erased s None f g agree = refl
+with_process_if-erased s (Some pid) f g agree = with_process-erased s pid f g (λ x found. agree x)
 
 -- a change of a thing that a view does not show
 pub map_each-hidden : {X Y : Type 0} (view : X → Y) (id : ℕ) (f : X → X) (es : List (ℕ × X))

@@ -14,9 +14,10 @@ use Rattle.pr_num.specs.ById.{change_under, map_each, inserted}
 use Rattle.pr_num.proofs.ByIdLaws.{All-change_under, All-map_each, All-inserted, All-without_id}
 use Rattle.pr_parts.specs.FileCalls.{with_all_shared}
 use Rattle.pr_parts.specs.SignalRules.{deleted_by}
+use Rattle.pr_keeps.proofs.LoanLemmas.{lent-keeps, loans_passed-keep, process_if-keeps}
 use Rattle.pr_model.specs.Changes.{Change, files_are, space_is, signals, signals_itself, takes_shared, job_stops, disposition_is, held_is, resumes, forks, reaps, becomes, makes_lwp, suspends, Ending, ends_process, ends_lwp, with_fds, with_space, with_shared_taken, with_job_stop, with_disposition_of, with_held, resumed, with_suspended, changed, all_changed, ended}
 use Rattle.pr_model.specs.Generation.{lwp_without_pending, lwp_with_pending, without_pending, without_job_stop, with_deletions, with_pending, signalled}
-use Rattle.pr_model.specs.Lives.{Birth, with_made, orphaned, with_parent_signalled, without_lwp, with_reaped, new_lwp, bare_process, forked_lwp, forked, with_child, started, with_program, with_new_lwp, zombie, with_this_ended, ended_if_live, with_ended, with_lwp_ended}
+use Rattle.pr_model.specs.Lives.{Birth, is_id, lent_to, with_lent, with_loan_back, with_lender_of, with_loans_passed, with_made, orphaned, with_parent_signalled, without_lwp, with_reaped, new_lwp, bare_process, forked_lwp, forked, with_child, started, with_program, with_new_lwp, zombie, with_this_ended, ended_if_live, with_ended, with_lwp_ended}
 use Rattle.pr_model.specs.LwpTurns.{with_counted, settled}
 use Rattle.pr_model.specs.Machines.{nothing_set, no_marks, nothing_used, zombie_control, exec_control, child_control, birth_marks, call_over, stopped_as_directed, step_taken, fault_incurred, fault_posted, traced}
 use Rattle.pr_model.specs.Moves.{Move, moved}
@@ -182,6 +183,37 @@ process-keeps pid f keeps s u =
           (λ x found un. keeps pid x un) u.processes;
     }
 
+-- ---- loans
+
+loan_back-keeps : (pid : ℕ) (p : TracedProcess) → KeepsProcesses (with_loan_back pid p)
+unfolding with_loan_back
+loan_back-keeps pid p own x u =
+    either (λ y. IsUntouchedProcess (own, y)) (is_id pid x.borrower)
+    (record x { space = p.space; borrower = p.borrower }) x
+    (record { no_kill = u.no_kill; unwatched = u.unwatched; lwps = u.lwps }) u
+
+lender_of-keeps : (pid : ℕ) (p : TracedProcess) → KeepsProcesses (with_lender_of pid p)
+unfolding with_lender_of
+lender_of-keeps pid p own x u =
+    either (λ y. IsUntouchedProcess (own, y)) (is_id pid x.lender) (record x { lender = p.lender }) x
+    (record { no_kill = u.no_kill; unwatched = u.unwatched; lwps = u.lwps }) u
+
+passed-keeps : (pid : ℕ) (p : TracedProcess) (s : TracedSystem) → IsUntouched s
+    → IsUntouched (with_loans_passed pid p s)
+passed-keeps pid p =
+    loans_passed-keep IsUntouched pid p
+    (λ other. process-keeps other (with_loan_back pid p) (loan_back-keeps pid p))
+    (λ other. process-keeps other (with_lender_of pid p) (lender_of-keeps pid p))
+
+lender-keeps : (birth : Birth) (pid child : ℕ) (s : TracedSystem) → IsUntouched s
+    → IsUntouched (with_lent birth pid child s)
+unfolding lent_to
+lender-keeps birth pid child =
+    lent-keeps IsUntouched birth pid child
+    (process-keeps pid (lent_to child) (same_parts (lent_to child) (λ x. refl) (λ x. refl)))
+
+-- ---- ends and beginnings
+
 pub with_this_ended-keeps : (pid : ℕ) (p : TracedProcess) (status : ℕ) (s : TracedSystem) → IsUntouched s
     → IsUntouched (with_this_ended traced pid p status s)
 unfolding with_this_ended with_parent_signalled
@@ -198,10 +230,12 @@ with_this_ended-keeps pid p status s u =
       processes = map_each (orphaned pid)
           (change_under pid (zombie traced status) s.processes);
     } in
-    let it : IsUntouched to = record { processes = left } in
-    either IsUntouched (eqb p.parent 0) to (with_process p.parent (signalled None Cld (of_child pid status)) to) it
+    let passed : TracedSystem = with_loans_passed pid p to in
+    let it : IsUntouched passed = passed-keeps pid p to (record { processes = left }) in
+    either IsUntouched (eqb p.parent 0) passed
+    (with_process p.parent (signalled None Cld (of_child pid status)) passed) it
     (process-keeps p.parent (signalled None Cld (of_child pid status))
-    (signalled-keeps None Cld (of_child pid status)) to it)
+    (signalled-keeps None Cld (of_child pid status)) passed it)
 
 with_ended-keeps : (pid status : ℕ) (s : TracedSystem) → IsUntouched s → IsUntouched (with_ended traced pid status s)
 unfolding with_ended
@@ -301,13 +335,16 @@ module _ (pid : ℕ) (p : TracedProcess) (id : ℕ) (l : TracedLwp) (lu : IsUnto
       (lwp-keeps id (resumed frame frames) (same_control (resumed frame frames) (λ x. refl))) s u
   changed-keeps (forks birth args) proper s u =
       either IsUntouched (eqb s.made pid) s (with_child traced birth pid p l args s) u
-      (made-keeps (forked traced birth pid p l args s.clock) (record s { files = with_all_shared s.files p.fds })
-      (forked-untouched birth pid p l args s.clock) (record { processes = u.processes }))
+      (made-keeps (forked traced birth pid p l args s.clock) _ (forked-untouched birth pid p l args s.clock)
+      (lender-keeps birth pid s.made (record s { files = with_all_shared s.files p.fds })
+      (record { processes = u.processes })))
   changed-keeps (reaps child) proper s u =
       either IsUntouched (eqb child pid) s (with_reaped child s) u
       (record { processes = All-without_id IsUntouchedProcess child s.processes u.processes })
   changed-keeps (becomes program) proper s u =
-      process-keeps pid (with_program traced id l program) (program-keeps program) s u
+      process_if-keeps IsUntouched p.lender (with_loan_back pid p)
+      (λ other. process-keeps other (with_loan_back pid p) (loan_back-keeps pid p)) _
+      (process-keeps pid (with_program traced id l program) (program-keeps program) s u)
   changed-keeps (makes_lwp new regs held) proper s u =
       process-keeps pid (with_new_lwp traced new regs held) (new_lwp-keeps new regs held proper) s u
   changed-keeps (suspends other it) proper s u =

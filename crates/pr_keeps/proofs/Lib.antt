@@ -1,4 +1,5 @@
 pub mod KeepsLemmas
+pub mod LoanLemmas
 pub mod MessageLemmas
 pub mod CallLemmas
 pub mod RowLemmas

@@ -1,10 +1,11 @@
-use Rattle.std.proofs.Common.{◌≡◌, ◌||◌, ℕ, Bool, true, false, not, is_none, is_ok, eqb, leb, cond, Option, Some, None, Result, Ok, Err, List, length, refl, sym, ◌∙◌, ap}
+use Rattle.std.proofs.Common.{◌≡◌, ◌||◌, ℕ, Bool, true, false, not, is_none, is_some, is_ok, eqb, leb, cond, Option, Some, None, Result, Ok, Err, List, length, refl, sym, ◌∙◌, ap}
 use Rattle.std.specs.List.{list_all}
 use Rattle.std.proofs.lemmas.Bool.{or_parts, leb-false}
 use Rattle.pr_num.specs.Control.{has_flags, clear_signal, clear_fault, single_step, abort_call, stop_again}
 use Rattle.pr_num.specs.Limits.{area_limit, lwp_limit}
 use Rattle.pr_num.specs.Signals.{signal_of_number}
 use Rattle.pr_num.specs.Spaces.{bytes_for}
+use Rattle.pr_num.specs.declared.errnos.Errno.TheVariants.{Busy}
 use Rattle.pr_num.specs.declared.mappings.BadByte.{BadByte}
 use Rattle.pr_num.specs.declared.messages.Message.{Message}
 use Rattle.pr_num.specs.declared.messages.Message.TheVariants as message
@@ -13,7 +14,7 @@ use Rattle.pr_parts.specs.AddressSpaces.{with_bytes}
 use Rattle.pr_parts.specs.PendingSignals.{has_room}
 use Rattle.pr_parts.specs.WatchedAreas.{is_taken, with_area, without_area}
 use Rattle.pr_model.specs.Changes.{with_space}
-use Rattle.pr_model.specs.Messages.{Controlled, Aim, at_lwp, at_process, with_signal_set, lwp_without_one, with_held_set, with_registers, with_address, with_control, tracing_signals, tracing_faults, tracing_entries, tracing_exits, with_modes, without_modes, with_areas, lets_agent, with_agent, on_found, aimed_lwp, on_stopped_found, with_aim_directed, run_found, found_at, run_answer, killed, is_kill_of, ssig_answer, pending_at, pending_of_found, target_of_aim, kill_by, kill_answer, process_without_one, unkill_by, unkill_answer, watch_answer, agent_answer, read_of, mapped_bytes, read_answer, write_answer, message_answer}
+use Rattle.pr_model.specs.Messages.{Controlled, Aim, at_lwp, at_process, with_signal_set, lwp_without_one, with_held_set, with_registers, with_address, with_control, tracing_signals, tracing_faults, tracing_entries, tracing_exits, with_modes, without_modes, with_areas, lets_agent, with_agent, on_found, aimed_lwp, on_stopped_found, with_aim_directed, run_found, found_at, run_answer, killed, is_kill_of, ssig_answer, pending_at, pending_of_found, target_of_aim, kill_by, kill_answer, process_without_one, unkill_by, unkill_answer, watch_answer, agent_answer, read_of, mapped_bytes, read_answer, write_answer, unless_lent, refused, message_answer}
 use Rattle.pr_model.specs.Running.{without_current, without_fault, with_step, with_abort, with_directive, without_directive, let_go, if_flag, is_entry_stop, is_asleep, with_cleared, with_aborted, run_lwp, lwp_run_refused, run_refused, shows_run, was_requested, with_request, without_request, if_all_requested, with_flags_on, with_representative_run, with_all_run, with_one_run, runs_one, with_run}
 use Rattle.pr_model.specs.State.{TracedControl, TracedLwp, TracedProcess, TracedSystem, has_agent, lwp_of, with_process, with_lwp}
 use Rattle.pr_model.specs.Stops.{directed, has_event_stop, representative, with_all_directed}
@@ -255,12 +256,20 @@ module _ (s : TracedSystem) (pid : ℕ) (p : TracedProcess) (tail : List ℕ) (l
   read-made m (Err bad) = edit.nothing
   read-made m (Ok bytes) = edit.nothing
 
-  write-made : (at size : ℕ) → Made (message.Write at size) (write_answer s pid p at tail len)
+  write-made : (at size : ℕ) → p.borrower ≡ None → Made (message.Write at size) (write_answer s pid p at tail len)
   unfolding write_answer
-  write-made at size =
+  write-made at size own =
       choice (Made (message.Write at size)) (is_ok (bytes_for 0 p.space at (length tail))) _ _
       (λ mapped. one-process (message.Write at size) (with_space (with_bytes at tail p.space))
-      (process.is_written mapped)) (λ hole. edit.nothing)
+      (process.is_written own mapped)) (λ hole. edit.nothing)
+
+  own-made : (m : Message) (answer : Controlled) → (p.borrower ≡ None → Made m answer)
+      → Made m (unless_lent s pid p answer)
+  own-made m answer made = by p.borrower refl
+    where
+      by : (o : Option ℕ) → p.borrower ≡ o → Made m (cond (is_some o) (refused s Busy) answer)
+      by None own = made own
+      by (Some child) lent = edit.nothing
 
   by-one : (m : Message) (f : TracedLwp → TracedLwp) → ((l : TracedLwp) → LwpEdit m l (f l)) → Edits m f
   unfolding Edits
@@ -294,7 +303,29 @@ module _ (s : TracedSystem) (pid : ℕ) (p : TracedProcess) (tail : List ℕ) (l
       (aimed_lwp s pid p aim)
   message-edit aim (message.Svaddr pc) =
       on_stopped-made (message.Svaddr pc) (with_address pc) (by-one _ _ (λ l. lwp.goes_to)) (aimed_lwp s pid p aim)
-  message-edit aim (message.Watch at size flags) = watch-made at size flags
-  message-edit aim (message.Agent regs) = agent-made regs
+  message-edit aim (message.Watch at size flags) =
+      own-made (message.Watch at size flags) _ (λ own. watch-made at size flags)
+  message-edit aim (message.Agent regs) = own-made (message.Agent regs) _ (λ own. agent-made regs)
   message-edit aim (message.Read at size) = read-made (message.Read at size) (mapped_bytes s pid p at size)
-  message-edit aim (message.Write at size) = write-made at size
+  message-edit aim (message.Write at size) = own-made (message.Write at size) _ (write-made at size)
+
+-- ---- a process that has lent its memory
+
+module _ (s : TracedSystem) (pid child : ℕ) (p : TracedProcess) (lent : p.borrower ≡ Some child) where
+  lent-refused : (answer : Controlled) → unless_lent s pid p answer ≡ refused s Busy
+  lent-refused answer = rw lent refl
+
+  pub watch-refused : (aim : Aim) (at size flags len : ℕ) (tail : List ℕ)
+      → message_answer s pid p aim (message.Watch at size flags) tail len ≡ refused s Busy
+  unfolding message_answer
+  watch-refused aim at size flags len tail = lent-refused _
+
+  pub agent-refused : (aim : Aim) (len : ℕ) (regs tail : List ℕ)
+      → message_answer s pid p aim (message.Agent regs) tail len ≡ refused s Busy
+  unfolding message_answer
+  agent-refused aim len regs tail = lent-refused _
+
+  pub write-refused : (aim : Aim) (at size len : ℕ) (tail : List ℕ)
+      → message_answer s pid p aim (message.Write at size) tail len ≡ refused s Busy
+  unfolding message_answer
+  write-refused aim at size len tail = lent-refused _

@@ -1,12 +1,16 @@
-use Rattle.std.proofs.Common.{◌≡◌, ℕ, Bool, true, false, List, Option, Some, None, refl, inl, inr}
+use Rattle.std.proofs.Common.{◌≡◌, ◌⊎◌, ◌&&◌, ℕ, Bool, true, false, not, is_some, eqb, List, Option, Some, None, refl, inl, inr, true≢false}
+use Rattle.std.proofs.lemmas.Bool.{or_parts}
+use Rattle.pr_num.specs.Agents.{agent_id}
 use Rattle.pr_num.specs.declared.signals.Sig.{Sig}
 use Rattle.pr_num.specs.declared.syscalls.Sysno.{Sysno}
 use Rattle.pr_parts.specs.declared.actions.Action.{Action}
 use Rattle.pr_parts.specs.declared.actions.Action.TheVariants as act
 use Rattle.pr_model.specs.Registers.{arguments}
-use Rattle.pr_model.specs.Rows.{Row, caught_row, acted_row, call_row, row_in, taken_or, signal_row_or, current_row_or, posted_row_or, row_for}
+use Rattle.pr_model.specs.LwpTurns.{is_held_back}
+use Rattle.pr_model.specs.Rows.{Row, requested_row, caught_row, acted_row, call_row, row_in, taken_or, signal_row_or, current_row_or, posted_row_or, row_for}
 use Rattle.pr_model.specs.Signals.{action_for, own_takeable, shared_takeable}
 use Rattle.pr_model.specs.State.{TracedLwp, TracedProcess, TracedSystem}
+use Rattle.pr_model.specs.Stops.{has_event_stop}
 use Rattle.pr_model.specs.UntracedMachine.{is_caught}
 use Rattle.pr_model.specs.declared.lwps.Current.{Current}
 use Rattle.pr_model.specs.declared.lwps.Phase.{Phase}
@@ -16,6 +20,12 @@ use Rattle.pr_keeps.specs.RowKinds.{IsInCall, RowKind}
 use Rattle.pr_keeps.proofs.KeepsLemmas.{choice}
 
 -- Each turn is one of the rows.
+
+lent-or-directed : (borrower : Option ℕ) (directed : Bool) → (is_some borrower && not directed) ≡ false
+    → (directed ≡ true) ⊎ (borrower ≡ None)
+lent-or-directed None directed free = inr refl
+lent-or-directed (Some child) true free = inl refl
+lent-or-directed (Some child) false free = absurd (true≢false free)
 
 module _ (s : TracedSystem) (pid : ℕ) (p : TracedProcess) (id : ℕ) (l : TracedLwp) where
   abbrev Kind : Row → Type 0
@@ -85,3 +95,26 @@ module _ (s : TracedSystem) (pid : ℕ) (p : TracedProcess) (id : ℕ) (l : Trac
   pub row-kind : Kind (row_for s pid p id l)
   unfolding row_for
   row-kind = choice Kind l.control.directed _ _ (λ now. row.stops now) (λ later. phase-kind l.phase refl)
+
+  -- a process that has lent its memory only stops as directed (vfork(2))
+  pub owns-or-stops : is_held_back p id l ≡ false → (row_for s pid p id l ≡ requested_row) ⊎ (p.borrower ≡ None)
+  unfolding is_held_back row_for
+  owns-or-stops free =
+      let goes_on = (or_parts (has_event_stop l) _ free).1 in
+      let unstopped = (or_parts (is_some p.job_stop && not (eqb id agent_id)) _ (or_parts l.suspended _ goes_on).1).1 in
+      by (lent-or-directed p.borrower l.control.directed unstopped)
+    where
+      by : (l.control.directed ≡ true) ⊎ (p.borrower ≡ None)
+          → (row_for s pid p id l ≡ requested_row) ⊎ (p.borrower ≡ None)
+      by (inl now) = inl (rw now refl)
+      by (inr own) = inr own
+
+-- an lwp that is directed to stop is not held back since its process has lent its memory
+pub directed-moves : (p : TracedProcess) (id : ℕ) (l : TracedLwp) → has_event_stop l ≡ false → l.suspended ≡ false
+    → p.job_stop ≡ None → l.control.directed ≡ true → is_held_back p id l ≡ false
+unfolding is_held_back
+directed-moves p id l goes on unstopped directed = rw (goes, on, unstopped, directed) (by (is_some p.borrower))
+  where
+    by : (b : Bool) → (b && false) ≡ false
+    by true = refl
+    by false = refl

@@ -1,4 +1,4 @@
-use Rattle.std.specs.Prelude.{◌≡◌, ◌<◌, ◌==◌, ℕ, true, false, List, Some, is_ok, length}
+use Rattle.std.specs.Prelude.{◌≡◌, ◌<◌, ◌==◌, ℕ, true, false, List, Some, None, is_ok, length}
 use Rattle.pr_num.specs.ById.{map_each}
 use Rattle.pr_num.specs.Limits.{area_limit, lwp_limit}
 use Rattle.pr_num.specs.Signals.{signal_of_number}
@@ -48,8 +48,8 @@ pub data ProcessEdit : Message → List ℕ → TracedProcess → TracedProcess 
   -- there is room for an agent, and none
   gets_agent : {regs tail : List ℕ} {x : TracedProcess} → has_agent x ≡ false → length x.lwps < lwp_limit
       → ProcessEdit (Agent regs) tail x (with_agent regs x)
-  -- all of the range is mapped
-  is_written : {at size : ℕ} {tail : List ℕ} {x : TracedProcess}
+  -- it has its memory to itself, and all of the range is mapped
+  is_written : {at size : ℕ} {tail : List ℕ} {x : TracedProcess} → x.borrower ≡ None
       → is_ok (bytes_for 0 x.space at (length tail)) ≡ true
       → ProcessEdit (Write at size) tail x (with_space (with_bytes at tail x.space) x)
 

@@ -1,6 +1,8 @@
-ghost use Rattle.std.specs.Prelude.{ℕ, List};
+ghost use Rattle.std.specs.Prelude.{◌≡◌, ℕ, List, Some};
+ghost use Rattle.pr_num.specs.declared.errnos.Errno.TheVariants.{Busy};
 ghost use Rattle.pr_num.specs.declared.messages.Message.{Message};
-ghost use Rattle.pr_model.specs.Messages.{Aim, message_answer};
+ghost use Rattle.pr_num.specs.declared.messages.Message.TheVariants.{Watch, Agent, Write};
+ghost use Rattle.pr_model.specs.Messages.{Aim, message_answer, refused};
 ghost use Rattle.pr_model.specs.State.{TracedProcess, TracedSystem};
 ghost use Rattle.pr_keeps.specs.MessageEdits.{MessageEdit};
 
@@ -8,4 +10,14 @@ ghost use Rattle.pr_keeps.specs.MessageEdits.{MessageEdit};
 pub fn messages_make_their_edits()
     ensures { (s : TracedSystem) (pid : ℕ) (p : TracedProcess) (aim : Aim) (m : Message) (tail : List ℕ) (len : ℕ)
         → MessageEdit s pid p m tail (message_answer s pid p aim m tail len).system }
+{}
+
+/// On a process that has lent its memory PCWATCH, PCAGENT and PCWRITE are refused with EBUSY (vfork(2)).
+pub fn lenders_refuse()
+    ensures watch { (s : TracedSystem) (pid child at size flags len : ℕ) (p : TracedProcess) (aim : Aim) (tail : List ℕ)
+        → p.borrower ≡ Some child → message_answer s pid p aim (Watch at size flags) tail len ≡ refused s Busy }
+    ensures agent { (s : TracedSystem) (pid child len : ℕ) (p : TracedProcess) (aim : Aim) (regs tail : List ℕ)
+        → p.borrower ≡ Some child → message_answer s pid p aim (Agent regs) tail len ≡ refused s Busy }
+    ensures write { (s : TracedSystem) (pid child at size len : ℕ) (p : TracedProcess) (aim : Aim) (tail : List ℕ)
+        → p.borrower ≡ Some child → message_answer s pid p aim (Write at size) tail len ≡ refused s Busy }
 {}

@@ -1,4 +1,5 @@
 use Rattle.std.proofs.Common.{◌≡◌, ◌≢◌, ◌&&◌, ℕ, zero, suc, ◌+◌, ◌-◌, ◌<◌, ◌≤◌, Bool, true, false, is_some, is_none, eqb, get_or, map, Option, Some, None, List, [], ◌∷◌, length, cond, refl, sym, subst, ◌∙◌, ap, arith, inl, inr, get_or-set_other}
+use Rattle.std.specs.Option.{option_map}
 use Rattle.std.proofs.lemmas.Bool.{eqb-false, le-leb}
 use Rattle.std.proofs.lemmas.List.Elements.{All-nil, All-cons}
 use Rattle.std.proofs.lemmas.Option.{same_Some}
@@ -6,30 +7,35 @@ use Rattle.pr_num.specs.ById.{inserted}
 use Rattle.pr_num.specs.Control.{has_flags, fork_mode}
 use Rattle.pr_num.specs.Sets.{has_number}
 use Rattle.pr_num.proofs.ByIdLemmas.{rises_from-inserted}
-use Rattle.pr_num.proofs.ByIdLaws.{All-under, All-inserted, length-inserted}
+use Rattle.pr_num.proofs.ByIdLaws.{All-under, All-inserted, length-inserted, under-change_under}
 use Rattle.pr_num.proofs.SetLemmas.{has_number-zero}
 use Rattle.std.proofs.lemmas.List.Elements.{All-weaker}
-use Rattle.pr_num.specs.Limits.{last_lwp, lwp_limit}
+use Rattle.pr_num.specs.Limits.{all_mappings_limit, last_lwp, lwp_limit}
+use Rattle.pr_num.specs.Programs.{Program}
 use Rattle.pr_num.specs.Signals.{signal_number}
+use Rattle.pr_num.specs.Spaces.{first_space, mapped_size}
 use Rattle.pr_num.specs.declared.signals.Sig.{Sig}
 use Rattle.pr_num.specs.declared.signals.Sig.TheVariants.{Kill, Stop}
 use Rattle.pr_file.proofs.CountLemmas.{users-all_shared}
 use Rattle.pr_file.proofs.EndLemmas.{ends-all_shared}
 use Rattle.pr_file.proofs.UserLemmas.{IsFileTable-all_shared}
+use Rattle.pr_parts.specs.FileCalls.{with_all_shared}
 use Rattle.pr_model.specs.Changes.{Change, files_are, space_is, signals, signals_itself, takes_shared, job_stops, disposition_is, held_is, resumes, forks, reaps, becomes, makes_lwp, suspends, with_fds, with_space, with_shared_taken, with_job_stop, with_disposition_of, with_held, resumed, with_suspended, changed, all_changed}
 use Rattle.pr_model.specs.Lawful.{IsHoldable, IsLawfulFrame, IsLawfulLwp, AreUncaught, IsLawfulProcess, IsLawfulSystem}
-use Rattle.pr_model.specs.Lives.{Birth, uncaught, new_lwp, forked_lwp, forked, with_child, started, with_program, with_new_lwp}
+use Rattle.pr_model.specs.Lives.{Birth, by_fork, by_vfork, uncaught, lent_to, with_loan_back, new_lwp, forked_lwp, forked, with_child, started, with_program, with_new_lwp}
 use Rattle.pr_model.specs.Machines.{nothing_set, nothing_used, no_marks, child_control, exec_control, traced}
-use Rattle.pr_model.specs.Readers.{size_of}
+use Rattle.pr_model.specs.ProcessCalls.{given_up}
+use Rattle.pr_model.specs.Readers.{size_of, total_size}
 use Rattle.pr_model.specs.SignalCalls.{can_be_caught}
 use Rattle.pr_model.specs.Signals.{is_kill, disposition_of}
-use Rattle.pr_model.specs.State.{TracedControl, TracedLwp, TracedProcess, TracedSystem, lwp_of, with_process, with_lwp}
+use Rattle.pr_model.specs.State.{TracedControl, TracedLwp, TracedProcess, TracedSystem, lwp_of, process_of, with_process, with_process_if, with_lwp}
 use Rattle.pr_model.specs.declared.frames.Frame.{Frame}
 use Rattle.pr_lawful.proofs.EndLemmas.{generated-lawful}
 use Rattle.pr_lawful.proofs.InfoLemmas.{no-infos, taken-infos}
 use Rattle.pr_lawful.proofs.LocalLemmas.{KeepsLwp, same_sets, live-empty, StaysLawful, Keeps, kept-same, kept-parts, same_rest, same_lwps, keeps-lwp}
+use Rattle.pr_lawful.proofs.LoanLemmas.{back-lawful, lent-lawful, lent-total, total-changed}
 use Rattle.pr_lawful.proofs.SuitingLemmas.{SuitsFiles, SuitsSpace, SuitsFrames, SuitsChild, SuitsProgram, SuitsLwp, SuitsChange, SuitChanges}
-use Rattle.pr_lawful.proofs.SystemLemmas.{replaced, kept, joined, reaped, lives, lives-live, descriptors-open}
+use Rattle.pr_lawful.proofs.SystemLemmas.{Replaces, replaced, kept, Joins, joined, reaped, lives, lives-live, descriptors-open}
 
 -- Each change that suits a lawful system leaves it lawful: a line a kind of change.
 
@@ -95,13 +101,13 @@ space-lawful s pid space user h suits =
 pub shared_taken-keeps : (g : Sig) → Keeps (with_shared_taken g)
 unfolding with_shared_taken
 shared_taken-keeps g pid x =
-    kept-parts pid x (with_shared_taken g x) refl (same_rest x _ refl refl refl refl (taken-infos g x.pending))
+    kept-parts pid x (with_shared_taken g x) refl (same_rest x _ refl refl refl refl refl (taken-infos g x.pending))
     (same_lwps x _ refl refl) refl refl
 
 job_stop-keeps : (g : Sig) → Keeps (with_job_stop g)
 unfolding with_job_stop
 job_stop-keeps g pid x =
-    kept-parts pid x (with_job_stop g x) refl (same_rest x _ refl refl refl refl (λ it. it))
+    kept-parts pid x (with_job_stop g x) refl (same_rest x _ refl refl refl refl refl (λ it. it))
     (same_lwps x _ refl refl) refl refl
 
 -- a signal that can be caught is neither SIGKILL nor SIGSTOP
@@ -125,6 +131,7 @@ disposition-keeps g d catchable pid x = record {
     empty_zombie = record {
       no_lwps = it.empty_zombie.no_lwps;
       no_memory = it.empty_zombie.no_memory;
+      no_loan = it.empty_zombie.no_loan;
       no_files = it.empty_zombie.no_files;
     };
     rising = it.rising;
@@ -261,44 +268,84 @@ uncaught-all : (ds : List ℕ) → AreUncaught ds → AreUncaught (map uncaught 
 unfolding disposition_of
 uncaught-all ds it = record { kill = uncaught-at ds _ it.kill; stop = uncaught-at ds _ it.stop }
 
-program-lawful : (s : TracedSystem) (pid id : ℕ) (l : TracedLwp) (program : _) → pid ≢ 0 → IsLawfulSystem s
-    → SuitsProgram s pid id l program → IsLawfulSystem (with_process pid (with_program traced id l program) s)
+-- a process that runs another program has the memory of that
+program-size : (id : ℕ) (l : TracedLwp) (program : Program) (p : TracedProcess)
+    → size_of (with_program traced id l program p) ≡ mapped_size (first_space program)
+unfolding with_program size_of
+program-size id l program p = refl
+
+-- it gives up no more than it had, and nothing where it has borrowed
+given_up-most : (s : TracedSystem) (p : TracedProcess) (id : ℕ) → given_up s p id ≤ size_of p
+unfolding given_up
+given_up-most s p id =
+    elim (is_some p.lender) as (λ b. cond b 0 (size_of p) ≤ size_of p) [ true ↦ omega arith | false ↦ omega arith ]
+
+given_up-none : (s : TracedSystem) (p : TracedProcess) (id lender : ℕ) → p.lender ≡ Some lender → given_up s p id ≡ 0
+unfolding given_up
+given_up-none s p id lender is = rw is refl
+
+program-replaces : (s : TracedSystem) (pid : ℕ) (p : TracedProcess) (id : ℕ) (l : TracedLwp) (program : Program)
+    → IsLawfulSystem s → SuitsProgram s pid p id l program
+    → Replaces s s.files pid p (with_program traced id l program p)
 unfolding with_program started traced exec_control size_of
-program-lawful s pid id l program user h suits =
-    let own = All-under IsLawfulProcess pid suits.process s.processes h.processes suits.found in
-    let lwp = All-under (IsLawfulLwp suits.process.next_lwp) id l suits.process.lwps own.lwps suits.there in
-    replaced s s.files pid (with_program traced id l program) suits.process h user suits.found (record {
+program-replaces s pid p id l program h suits =
+    let own = All-under IsLawfulProcess pid p s.processes h.processes suits.found in
+    let lwp = All-under (IsLawfulLwp p.next_lwp) id l p.lwps own.lwps suits.there in
+    record {
       lawful = λ it. record {
         has_lwps = record { some = λ other is. omega arith };
-        empty_zombie = live-empty (with_program traced id l program suits.process) suits.live;
+        empty_zombie = live-empty (with_program traced id l program p) suits.live;
         rising = rw (le-leb 0 id (omega arith)) refl;
         lwps =
-            All-cons (IsLawfulLwp suits.process.next_lwp) (id, started traced l) []
+            All-cons (IsLawfulLwp p.next_lwp) (id, started traced l) []
             (record {
               id = lwp.id;
               held = lwp.held;
               frames = All-nil IsLawfulFrame;
               few_frames = omega arith;
-              pending
-                  = lwp.pending;
+              pending = lwp.pending;
               current = lwp.current;
-            }) (All-nil (IsLawfulLwp suits.process.next_lwp));
+            }) (All-nil (IsLawfulLwp p.next_lwp));
         next_lwp = it.next_lwp;
         few_lwps = omega arith;
         descriptors = it.descriptors;
         traced = it.traced;
-        uncaught = uncaught-all suits.process.dispositions it.uncaught;
+        uncaught = uncaught-all p.dispositions it.uncaught;
         pending = it.pending;
         heap_place = suits.heap_place;
         small_space = suits.small;
       };
       parent = refl;
       ended = refl;
-      mapped = suits.mapped;
+      mapped = let room = suits.mapped in let most = given_up-most s p id in omega arith;
       table = h.files.table;
       pipes = h.files.pipes;
       users = λ place. refl;
-    })
+    }
+
+program-lawful : (s : TracedSystem) (pid : ℕ) (p : TracedProcess) (id : ℕ) (l : TracedLwp) (program : Program)
+    → pid ≢ 0 → IsLawfulSystem s → SuitsProgram s pid p id l program
+    → IsLawfulSystem (with_process_if p.lender (with_loan_back pid p)
+    (with_process pid (with_program traced id l program) s))
+program-lawful s pid p id l program user h suits = by p.lender refl
+  where
+    t : TracedSystem
+    t = with_process pid (with_program traced id l program) s
+
+    lawful : IsLawfulSystem t
+    lawful =
+        replaced s s.files pid (with_program traced id l program) p h user suits.found
+        (program-replaces s pid p id l program h suits)
+
+    by : (o : Option ℕ) → p.lender ≡ o → IsLawfulSystem (with_process_if o (with_loan_back pid p) t)
+    by None none = lawful
+    by (Some lender) is =
+        let all = total-changed s pid (with_program traced id l program) p suits.found in
+        let new = program-size id l program p in
+        let kept = given_up-none s p id lender is in
+        let room = suits.mapped in
+        back-lawful t pid p (Some lender) lawful
+        (All-under IsLawfulProcess pid p s.processes h.processes suits.found) (omega arith)
 
 child_control-traced : (c : TracedControl) → has_number c.traced_signals (signal_number Kill) ≡ false
     → has_number (child_control c).traced_signals (signal_number Kill) ≡ false
@@ -312,50 +359,67 @@ child_control-traced c is = by (has_flags c.modes fork_mode)
     by true = is
     by false = has_number-zero (signal_number Kill)
 
+module _ (birth : Birth) (s : TracedSystem) (pid : ℕ) (p : TracedProcess) (l : TracedLwp) (args : List ℕ)
+    (h : IsLawfulSystem s) (suits : SuitsChild birth s pid p l) where
+  -- a child joins the system, once its memory is lent to it where it has that as a loan
+  child-joins : (t : TracedSystem) → t.made ≡ s.made → t.files ≡ s.files → IsLawfulSystem t
+      → lives (process_of t pid) ≡ true → total_size t + size_of p ≤ all_mappings_limit
+      → Joins t (with_all_shared s.files p.fds) (forked traced birth pid p l args s.clock)
+  unfolding forked forked_lwp traced size_of
+  child-joins t made files lawful there mapped =
+      let own = All-under IsLawfulProcess pid p s.processes h.processes suits.found in
+      record {
+        lawful = record {
+          has_lwps = record { some = λ user is. omega arith };
+          empty_zombie = live-empty (forked traced birth pid p l args s.clock) refl;
+          rising = refl;
+          lwps =
+              All-cons (IsLawfulLwp 2) (1, forked_lwp traced birth args p.control l) []
+              (record {
+                id = inl (omega arith);
+                held = suits.held;
+                frames = suits.frames;
+                few_frames = suits.few_frames;
+                pending = no-infos;
+                current = tt;
+              }) (All-nil (IsLawfulLwp 2));
+          next_lwp = omega arith;
+          few_lwps = omega arith;
+          descriptors = own.descriptors;
+          traced = child_control-traced p.control own.traced;
+          uncaught = own.uncaught;
+          pending = no-infos;
+          heap_place = own.heap_place;
+          small_space = own.small_space;
+        };
+        parent = record { parent = inr (lives-live t pid ∙ there) };
+        room = let room = suits.room in omega arith;
+        mapped = mapped;
+        table = IsFileTable-all_shared s.files p.fds h.files.table;
+        pipes = ends-all_shared s.files p.fds h.files.pipes;
+        users = rw files (users-all_shared s.files p.fds (descriptors-open s pid p h suits.found));
+      }
+
+lives-there : (s : TracedSystem) (pid : ℕ) (p : TracedProcess) → process_of s pid ≡ Some p → p.ended ≡ None
+    → lives (process_of s pid) ≡ true
+lives-there s pid p found live = ap lives found ∙ ap (λ (o : Option ℕ). is_none o) live
+
 child-lawful : (birth : Birth) (s : TracedSystem) (pid : ℕ) (p : TracedProcess) (l : TracedLwp) (args : List ℕ)
-    → IsLawfulSystem s → SuitsChild s pid p l → IsLawfulSystem (with_child traced birth pid p l args s)
-unfolding with_child forked forked_lwp traced size_of
-child-lawful birth s pid p l args h suits =
-    let own = All-under IsLawfulProcess pid p s.processes h.processes suits.found in
-    joined s _ (forked traced birth pid p l args s.clock) h (record {
-      lawful = record {
-        has_lwps = record { some = λ user is. omega arith };
-        empty_zombie = live-empty (forked traced birth pid p l args s.clock) refl;
-        rising = refl;
-        lwps =
-            All-cons (IsLawfulLwp 2) (1, forked_lwp traced birth args p.control l) []
-            (record {
-              id = inl
-                  (omega arith);
-              held =
-                  suits.held;
-              frames =
-                  suits.frames;
-              few_frames =
-                  suits.few_frames;
-              pending = no-infos;
-              current = tt;
-            }) (All-nil (IsLawfulLwp 2));
-        next_lwp = omega arith;
-        few_lwps = omega arith;
-        descriptors = own.descriptors;
-        traced = child_control-traced p.control own.traced;
-        uncaught = own.uncaught;
-        pending = no-infos;
-        heap_place = own.heap_place;
-        small_space = own.small_space;
-      };
-      parent =
-          record {
-            parent = inr (lives-live s pid ∙ ap lives suits.found
-                ∙ ap (λ (o : Option ℕ). is_none o) suits.live);
-          };
-      room = suits.room;
-      mapped = suits.mapped;
-      table = IsFileTable-all_shared s.files p.fds h.files.table;
-      pipes = ends-all_shared s.files p.fds h.files.pipes;
-      users = users-all_shared s.files p.fds (descriptors-open s pid p h suits.found);
-    })
+    → pid ≢ 0 → IsLawfulSystem s → SuitsChild birth s pid p l → IsLawfulSystem (with_child traced birth pid p l args s)
+unfolding with_child with_process lent_to
+child-lawful by_fork s pid p l args user h suits =
+    joined s (with_all_shared s.files p.fds) (forked traced by_fork pid p l args s.clock) h
+    (child-joins by_fork s pid p l args h suits s refl refl h (lives-there s pid p suits.found suits.live) suits.mapped)
+child-lawful by_vfork s pid p l args user h suits =
+    let t : TracedSystem = with_process pid (lent_to s.made) s in
+    let there : process_of t pid ≡ Some (lent_to s.made p) =
+    under-change_under pid (lent_to s.made) s.processes ∙ ap (option_map (lent_to s.made)) suits.found in
+    let lawful = lent-lawful s pid s.made p h user suits.found suits.live in
+    let total = lent-total s pid s.made p suits.found in
+    let limit = h.mapped in
+    joined t (with_all_shared s.files p.fds) (forked traced by_vfork pid p l args s.clock) lawful
+    (child-joins by_vfork s pid p l args h suits t refl refl lawful
+    (lives-there t pid (lent_to s.made p) there suits.live) (omega arith))
 
 -- ---- the kinds of change
 
@@ -385,10 +449,10 @@ module _ (pid : ℕ) (p : TracedProcess) (id : ℕ) (l : TracedLwp) (user : pid 
       kept s pid (with_lwp id (resumed frame frames)) user
       (λ x is. keeps-lwp id (resumed frame frames) (resumed-keeps frame frames suits) pid x) h
   changed-lawful (forks birth args) s h suits =
-      unless (eqb s.made pid) s _ h (child-lawful birth s pid p l args h suits)
+      unless (eqb s.made pid) s _ h (child-lawful birth s pid p l args user h suits)
   changed-lawful (reaps child) s h suits =
       unless (eqb child pid) s _ h (reaped s child suits.status suits.zombie h suits.found suits.over)
-  changed-lawful (becomes program) s h suits = program-lawful s pid id l program user h suits
+  changed-lawful (becomes program) s h suits = program-lawful s pid p id l program user h suits
   changed-lawful (makes_lwp new regs held) s h suits = new-lawful s pid new held regs user h suits
   changed-lawful (suspends other suspended) s h suits =
       kept s pid (with_lwp other (with_suspended suspended)) user

@@ -1,4 +1,4 @@
-use Rattle.std.proofs.Common.{◌≡◌, ◌≢◌, ◌&&◌, ◌||◌, ℕ, ◌+◌, ◌*◌, ◌-◌, ◌≤◌, Bool, true, false, is_none, eqb, ltb, leb, cond, Option, Some, None, Result, Ok, Err, List, [], ◌∷◌, ◌++◌, length, refl, sym, ◌∙◌, ap, arith}
+use Rattle.std.proofs.Common.{◌≡◌, ◌≢◌, ◌&&◌, ◌||◌, ℕ, ◌+◌, ◌*◌, ◌-◌, ◌≤◌, Bool, true, false, not, is_none, eqb, ltb, leb, cond, Option, Some, None, Result, Ok, Err, List, [], ◌∷◌, ◌++◌, length, refl, sym, ◌∙◌, ap, arith}
 use Rattle.std.specs.List.{All, list_any, slice_get, sum_by}
 use Rattle.std.specs.Option.{option_map}
 use Rattle.std.specs.Prelude.{slice_index}
@@ -14,7 +14,7 @@ use Rattle.pr_num.specs.ById.{under, rises_from}
 use Rattle.pr_num.specs.Agents.{agent_id}
 use Rattle.pr_num.specs.Files.{FileTable, Descriptors}
 use Rattle.pr_num.specs.KeyedTables.{without_first}
-use Rattle.pr_num.specs.Limits.{last_lwp, lwp_limit, process_limit, signal_count, sleep_limit, transfer_limit}
+use Rattle.pr_num.specs.Limits.{all_mappings_limit, last_lwp, lwp_limit, process_limit, signal_count, sleep_limit, transfer_limit}
 use Rattle.pr_num.specs.Programs.{Program, rounded}
 use Rattle.pr_num.specs.Signals.{signal_number, signal_of_number}
 use Rattle.pr_num.specs.Spaces.{Space, bytes_for, first_space, mapped_size, mapping_limit}
@@ -40,15 +40,15 @@ use Rattle.pr_parts.specs.declared.files.FileNo.TheVariants.{Sleep, NoReader}
 use Rattle.pr_parts.specs.declared.files.Stat.{Stat}
 use Rattle.pr_parts.proofs.SpaceLemmas.{mapped_size-with_bytes, mapped_size-with_protected}
 use Rattle.pr_model.specs.CallEffects.{call_effect}
-use Rattle.pr_model.specs.Changes.{files_are, space_is, reaps, Effect, does, sleeps, ends, gives, fails, with_fds, changed}
+use Rattle.pr_model.specs.Changes.{files_are, space_is, forks, reaps, Effect, does, sleeps, ends, gives, fails, with_fds, changed}
 use Rattle.pr_model.specs.FileCallRows.{read_effect, write_effect, open_effect, close_effect, pipe_effect, dup_effect, lseek_effect, fstat_effect, refusal_effect, file_effect, word_size}
 use Rattle.pr_model.specs.Lawful.{IsLawfulFrame, IsLawfulLwp, IsLawfulProgram, IsLawfulProcess, IsLawfulSystem}
-use Rattle.pr_model.specs.Lives.{with_reaped}
+use Rattle.pr_model.specs.Lives.{Birth, by_fork, by_vfork, with_reaped}
 use Rattle.pr_model.specs.LwpCalls.{lwp_create_effect, lwp_suspend_effect, lwp_continue_effect, can_be_named}
 use Rattle.pr_model.specs.Machines.{traced}
 use Rattle.pr_model.specs.MemoryCalls.{can_write, path_at, brk_effect, mmap_effect, munmap_effect, mprotect_effect, unless_too_big, is_mapped_range, prot_limit}
-use Rattle.pr_model.specs.ProcessCalls.{exit_effect, fork_effect, wait_effect, exec_effect, sleep_effect, program_named}
-use Rattle.pr_model.specs.Readers.{Life, Children, no_child, all_live, first_zombie, child_before, children_among, children_of, life_of, size_of, total_has_room}
+use Rattle.pr_model.specs.ProcessCalls.{exit_effect, fork_effect, vfork_effect, given_up, wait_effect, exec_effect, sleep_effect, program_named}
+use Rattle.pr_model.specs.Readers.{Life, Children, no_child, all_live, first_zombie, child_before, children_among, children_of, life_of, size_of, total_size, total_has_room}
 use Rattle.pr_model.specs.SignalCalls.{Sending, refuses, sends_nothing, sends, sending, sent_effect, send_effect, can_be_caught, sigaction_effect, sigmask_effect, sigreturn_effect}
 use Rattle.pr_model.specs.Signals.{is_kill}
 use Rattle.pr_model.specs.State.{TracedLwp, TracedProcess, TracedSystem, process_of, lwp_of, with_process}
@@ -64,7 +64,7 @@ use Rattle.pr_lawful.proofs.ProgramLemmas.{gap-outside, named-lawful, program-le
 use Rattle.pr_lawful.proofs.FileLemmas.{choice, IsFair, fair-closed, fair-duplicated, fair-opened, fair-piped, fair-sought, fair-written, fair-read, read-ends, read-ordered}
 use Rattle.pr_lawful.proofs.HoldableLemmas.{holdable-holdable}
 use Rattle.pr_lawful.proofs.SignalLemmas.{sent-reaches, standard-reaches}
-use Rattle.pr_lawful.proofs.SuitingLemmas.{SuitsFiles, SuitsSpace, SuitsReaped, SuitChanges}
+use Rattle.pr_lawful.proofs.SuitingLemmas.{SuitsFiles, SuitsSpace, SuitsReaped, SuitChanges, more_mapped}
 use Rattle.pr_num.proofs.SearchLemmas.{All-at}
 
 -- What a system call does suits a lawful system: a line a call.
@@ -440,27 +440,37 @@ module _ (s : TracedSystem) (pid : ℕ) (p : TracedProcess) (id : ℕ) (l : Trac
 
   -- ---- processes
 
+  -- a child, where it and its memory have room
+  child-suits : (birth : Birth) (args : List ℕ) → leb process_limit s.made ≡ false
+      → total_size s + more_mapped birth p ≤ all_mappings_limit → Suits (gives s.made (forks birth args ∷ []))
+  unfolding Suits
+  child-suits birth args room mapped = (
+    record {
+      found = a.found;
+      live = a.live;
+      room = leb-false process_limit s.made room;
+      mapped = mapped;
+      held = own-lwp.held;
+      frames = own-lwp.frames;
+      few_frames = own-lwp.few_frames;
+    },
+    tt,
+  )
+
   fork-suits : (args : List ℕ) → Suits (fork_effect s p id args)
   unfolding fork_effect Suits total_has_room
   fork-suits args =
       choice Suits (eqb id agent_id) _ _ (λ agent. tt) (λ other.
       choice Suits (leb process_limit s.made) _ _ (λ full. tt) (λ room.
       choice Suits (total_has_room s (size_of p) 0) _ _
-      (λ fits. (
-        record {
-          found = a.found;
-          live = a.live;
-          room = leb-false process_limit s.made room;
-          mapped = let limit =
-              leb-true _ _ fits in omega arith;
-          held = own-lwp.held;
-          frames = own-lwp.frames;
-          few_frames =
-              own-lwp.few_frames;
-        },
-        tt,
-      ))
-      (λ big. tt)))
+      (λ fits. let limit = leb-true _ _ fits in child-suits by_fork args room (omega arith)) (λ big. tt)))
+
+  vfork-suits : (args : List ℕ) → Suits (vfork_effect s p id args)
+  unfolding vfork_effect Suits
+  vfork-suits args =
+      choice Suits (eqb id agent_id || not (eqb (length p.lwps) 1)) _ _ (λ refused. tt) (λ alone.
+      choice Suits (leb process_limit s.made) _ _ (λ full. tt)
+      (λ room. let limit = a.lawful.mapped in child-suits by_vfork args room (omega arith)))
 
   exec-suits : (at : ℕ) → Suits (exec_effect s p id at)
   unfolding exec_effect Suits total_has_room
@@ -475,10 +485,9 @@ module _ (s : TracedSystem) (pid : ℕ) (p : TracedProcess) (id : ℕ) (l : Trac
       run name None is found = rw (is, found) (choice Suits (eqb id agent_id) _ _ (λ agent. tt) (λ other. tt))
       run name (Some program) is found =
           rw (is, found) (choice Suits (eqb id agent_id) _ _ (λ agent. tt) (λ other.
-          choice Suits (total_has_room s (mapped_size (first_space program)) (size_of p)) _ _
+          choice Suits (total_has_room s (mapped_size (first_space program)) (given_up s p id)) _ _
           (λ fits. (
             record {
-              process = p;
               found = a.found;
               live = a.live;
               mapped = leb-true _ _ fits;
@@ -619,6 +628,7 @@ module _ (s : TracedSystem) (pid : ℕ) (p : TracedProcess) (id : ℕ) (l : Trac
   unfolding call_effect exit_effect Suits
   call-suits since sys.Exit args = tt
   call-suits since sys.Fork args = fork-suits args
+  call-suits since sys.Vfork args = vfork-suits args
   call-suits since sys.Read args = read-suits (slice_index args 0) (slice_index args 1) (slice_index args 2)
   call-suits since sys.Write args = write-suits (slice_index args 0) (slice_index args 1) (slice_index args 2)
   call-suits since sys.Open args = open-suits (slice_index args 0) (slice_index args 1)

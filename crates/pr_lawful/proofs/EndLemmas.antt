@@ -19,7 +19,7 @@ use Rattle.pr_file.proofs.UserLemmas.{IsFileTable-all_closed}
 use Rattle.pr_model.specs.FirstState.{system_process}
 use Rattle.pr_model.specs.Generation.{signalled}
 use Rattle.pr_model.specs.Lawful.{IsLawfulLwp, IsLawfulProcess, IsNumberedBelow, HasParent, IsLawfulSystem}
-use Rattle.pr_model.specs.Lives.{bare_process, orphaned, with_parent_signalled, without_lwp, zombie, with_this_ended, ended_if_live, with_ended, with_lwp_ended}
+use Rattle.pr_model.specs.Lives.{bare_process, orphaned, with_loans_passed, with_parent_signalled, without_lwp, zombie, with_this_ended, ended_if_live, with_ended, with_lwp_ended}
 use Rattle.pr_model.specs.Machines.{nothing_set, zombie_control, traced}
 use Rattle.pr_model.specs.Readers.{size_of, total_size}
 use Rattle.pr_model.specs.Signals.{is_kill, generated, disposition_of}
@@ -28,6 +28,7 @@ use Rattle.pr_parts.specs.AddressSpaces.{LeavesHeapPlace}
 use Rattle.pr_rec.specs.InRange.{IsInfo}
 use Rattle.pr_lawful.proofs.InfoLemmas.{no-infos}
 use Rattle.pr_lawful.proofs.LocalLemmas.{live-empty, StaysLawful, same_rest, same_lwps, lawful-lwps}
+use Rattle.pr_lawful.proofs.LoanLemmas.{loans-lawful}
 use Rattle.pr_lawful.proofs.SignalLemmas.{MayReach, standard-pends, signalled-keeps}
 use Rattle.pr_lawful.proofs.SumLemmas.{sum-change_under, sum-map_each, count_in, all_users-sum, sizes-sum}
 use Rattle.pr_lawful.proofs.SystemLemmas.{lives, lives-live, parent-same, kept, descriptors-open}
@@ -41,7 +42,12 @@ zombie-lawful : (pid status : ℕ) (p : TracedProcess) → IsLawfulProcess (pid,
 unfolding zombie bare_process traced zombie_control nothing_set disposition_of signal_number
 zombie-lawful pid status p = record {
   has_lwps = record { some = λ user live. absurd (none-some status (sym live)) };
-  empty_zombie = record { no_lwps = λ n is. refl; no_memory = λ n is. refl; no_files = λ n is. refl };
+  empty_zombie = record {
+    no_lwps = λ n is. refl;
+    no_memory = λ n is. refl;
+    no_loan = λ n is. refl;
+    no_files = λ n is. refl;
+  };
   rising = refl;
   lwps = All-nil (IsLawfulLwp 1);
   next_lwp = omega arith;
@@ -60,7 +66,7 @@ orphaned-keeps : (gone : ℕ) (pid : ℕ) (x : TracedProcess) → IsLawfulProces
 unfolding orphaned
 orphaned-keeps gone pid x h =
     elim (eqb x.parent gone) as (λ b. IsLawfulProcess (pid, cond b (record x { parent = 0 }) x)) [
-      | true ↦ lawful-lwps pid x (record x { parent = 0 }) (same_rest x _ refl refl refl refl (λ it. it))
+      | true ↦ lawful-lwps pid x (record x { parent = 0 }) (same_rest x _ refl refl refl refl refl (λ it. it))
           (same_lwps x _ refl refl) refl refl h
       | false ↦ h
     ]
@@ -108,7 +114,8 @@ orphaned-parent s t gone on e h =
 
 -- ---- a process ends
 
--- The system once a process is a zombie and its children are orphans, before its own parent is told.
+-- The system once a process is a zombie and its children are orphans, before what it borrowed or lent is passed on and
+-- its own parent is told.
 abbrev pub buried : ℕ → TracedProcess → ℕ → TracedSystem → TracedSystem
 buried pid p status s = record s {
   files = with_all_closed s.files p.fds;
@@ -139,9 +146,20 @@ still-lives es pid status other apart =
     by None = refl
     by (Some x) = ap (λ (e : Option ℕ). is_none e) (orphaned-ended pid x)
 
+buried-total : (s : TracedSystem) (pid : ℕ) (p : TracedProcess) (status : ℕ) → process_of s pid ≡ Some p
+    → total_size (buried pid p status s) + size_of p ≡ total_size s
+unfolding total_size
+buried-total s pid p status found =
+    let left : List (ℕ × TracedProcess) = change_under pid (zombie traced status) s.processes in
+    let all = sum-change_under size_of pid (zombie traced status) p s.processes found in
+    let orphans = sum-map_each size_of (orphaned pid) (orphaned-size pid) left in
+    let none = zombie-size status p in
+    let before = sizes-sum s.processes in
+    let after = sizes-sum (map_each (orphaned pid) left) in
+    omega arith
+
 buried-lawful : (s : TracedSystem) (pid : ℕ) (p : TracedProcess) (status : ℕ) → IsLawfulSystem s → pid ≢ 0
     → process_of s pid ≡ Some p → IsLawfulSystem (buried pid p status s)
-unfolding total_size
 buried-lawful s pid p status h user found =
     let open_in = descriptors-open s pid p h found in
     let left : List (ℕ × TracedProcess) = change_under pid (zombie traced status) s.processes in
@@ -171,14 +189,7 @@ buried-lawful s pid p status h user found =
           ∙ ap (λ (x : TracedProcess). Some x) (orphaned-first pid user);
       made = h.made;
       programs = h.programs;
-      mapped =
-          let all = sum-change_under size_of pid (zombie traced status) p s.processes found in
-          let orphans = sum-map_each size_of (orphaned pid) (orphaned-size pid) left in
-          let none = zombie-size status p in
-          let before = sizes-sum s.processes in
-          let after = sizes-sum (map_each (orphaned pid) left) in
-          let limit = h.mapped in
-          omega arith;
+      mapped = let freed = buried-total s pid p status found in let limit = h.mapped in omega arith;
       files = record {
         table = IsFileTable-all_closed s.files p.fds h.files.table;
         pipes = ends-all_closed s.files p.fds h.files.pipes;
@@ -225,8 +236,12 @@ pub ended-lawful : (s : TracedSystem) (pid : ℕ) (p : TracedProcess) (status : 
     → process_of s pid ≡ Some p → IsLawfulSystem (with_this_ended traced pid p status s)
 unfolding with_this_ended
 ended-lawful s pid p status h user found =
-    signalled-lawful p.parent pid status (buried pid p status s) (child-info s pid p status h found)
-    (buried-lawful s pid p status h user found)
+    let freed = buried-total s pid p status found in
+    let limit = h.mapped in
+    signalled-lawful p.parent pid status (with_loans_passed pid p (buried pid p status s))
+    (child-info s pid p status h found)
+    (loans-lawful (buried pid p status s) pid p (buried-lawful s pid p status h user found)
+    (All-under IsLawfulProcess pid p s.processes h.processes found) (omega arith))
 
 -- what a live process is, if there is one
 pub found-live : (s : TracedSystem) (pid : ℕ) (p : TracedProcess) → live_process s pid ≡ Some p

@@ -1,6 +1,7 @@
 pub mod SumLemmas
 pub mod LocalLemmas
 pub mod SystemLemmas
+pub mod LoanLemmas
 pub mod SignalLemmas
 pub mod EndLemmas
 pub mod SuitingLemmas

@@ -44,6 +44,7 @@ pub live-empty : (x : TracedProcess) → x.ended ≡ None → IsEmptyZombie x
 live-empty x live = record {
   no_lwps = λ status is. absurd (none-some status (sym live ∙ is));
   no_memory = λ status is. absurd (none-some status (sym live ∙ is));
+  no_loan = λ status is. absurd (none-some status (sym live ∙ is));
   no_files = λ status is. absurd (none-some status (sym live ∙ is));
 }
 
@@ -79,6 +80,7 @@ kept-if pid false x y z one other = other
 -- what decides whether a process is lawful, beside its lwps, its memory and its descriptors, is left
 pub record SameRest (x y : TracedProcess) : Type 0 where
   pub ended : y.ended ≡ x.ended
+  pub borrower : y.borrower ≡ x.borrower
   pub next_lwp : y.next_lwp ≡ x.next_lwp
   pub traced : y.control.traced_signals ≡ x.control.traced_signals
   pub dispositions : y.dispositions ≡ x.dispositions
@@ -100,6 +102,7 @@ lawful-lwps pid x y rest lwps space fds h = record {
         λ status is. nil_from_length y.lwps (lwps.count
         ∙ ap (λ (ls : List (ℕ × TracedLwp)). length ls) (h.empty_zombie.no_lwps status (sym rest.ended ∙ is)));
     no_memory = λ status is. space ∙ h.empty_zombie.no_memory status (sym rest.ended ∙ is);
+    no_loan = λ status is. rest.borrower ∙ h.empty_zombie.no_loan status (sym rest.ended ∙ is);
     no_files = λ status is. fds ∙ h.empty_zombie.no_files status (sym rest.ended ∙ is);
   };
   rising = lwps.rising h.rising;
@@ -148,11 +151,12 @@ mapped_lwps x f keeps = record {
 
 -- ---- changes that keep a process
 
-pub same_rest : (x y : TracedProcess) → y.ended ≡ x.ended → y.next_lwp ≡ x.next_lwp
+pub same_rest : (x y : TracedProcess) → y.ended ≡ x.ended → y.borrower ≡ x.borrower → y.next_lwp ≡ x.next_lwp
     → y.control.traced_signals ≡ x.control.traced_signals → y.dispositions ≡ x.dispositions
     → (IsLawfulPending x.pending → IsLawfulPending y.pending) → SameRest x y
-same_rest x y ended next traced dispositions pending = record {
+same_rest x y ended borrower next traced dispositions pending = record {
   ended = ended;
+  borrower = borrower;
   next_lwp = next;
   traced = traced;
   dispositions = dispositions;
@@ -173,10 +177,10 @@ kept-parts pid x y parent rest lwps space fds = record {
 pub keeps-lwp : (id : ℕ) (f : TracedLwp → TracedLwp) → KeepsLwp f → Keeps (with_lwp id f)
 unfolding with_lwp
 keeps-lwp id f keeps pid x =
-    kept-parts pid x (record x { lwps = change_under id f x.lwps }) refl (same_rest x _ refl refl refl refl (λ it. it))
-    (changed_lwps x id f keeps) refl refl
+    kept-parts pid x (record x { lwps = change_under id f x.lwps }) refl
+    (same_rest x _ refl refl refl refl refl (λ it. it)) (changed_lwps x id f keeps) refl refl
 
 pub keeps-each : (f : TracedLwp → TracedLwp) → KeepsLwp f → Keeps (λ x. record x { lwps = map_each f x.lwps })
 keeps-each f keeps pid x =
-    kept-parts pid x (record x { lwps = map_each f x.lwps }) refl (same_rest x _ refl refl refl refl (λ it. it))
+    kept-parts pid x (record x { lwps = map_each f x.lwps }) refl (same_rest x _ refl refl refl refl refl (λ it. it))
     (mapped_lwps x f keeps) refl refl

@@ -5,18 +5,20 @@ use Rattle.pr_num.specs.Programs.{Program}
 use Rattle.pr_num.specs.Signals.{signal_number}
 use Rattle.pr_num.specs.declared.infos.Info.{Info}
 use Rattle.pr_num.specs.declared.signals.Sig.{Sig}
-use Rattle.pr_num.specs.declared.signals.Sig.TheVariants.{Kill}
+use Rattle.pr_num.specs.declared.signals.Sig.TheVariants.{Cld, Kill}
+use Rattle.pr_keeps.proofs.LoanLemmas.{process_if-keeps, lent-keeps, loans_passed-keep}
 use Rattle.pr_keeps.specs.CallEdits as close
 use Rattle.pr_keeps.specs.CallEdits.{CloseEdit}
 use Rattle.pr_keeps.specs.MessageEdits as message
 use Rattle.pr_keeps.specs.MessageEdits.{MessageEdit}
-use Rattle.pr_num.specs.Infos.{by_controller}
+use Rattle.pr_num.specs.Infos.{by_controller, of_child}
 use Rattle.pr_num.specs.declared.messages.Message.{Message}
+use Rattle.pr_parts.specs.FileCalls.{with_all_shared}
 use Rattle.pr_model.specs.Changes.{Change, files_are, space_is, signals, signals_itself, takes_shared, job_stops, disposition_is, held_is, resumes, forks, reaps, becomes, makes_lwp, suspends, Ending, ends_process, ends_lwp, changed, all_changed, ended}
 use Rattle.pr_model.specs.Generation.{signalled}
 use Rattle.pr_model.specs.Handles.{released}
 use Rattle.pr_model.specs.Lawful.{IsOfMade}
-use Rattle.pr_model.specs.Lives.{Birth, with_made, with_parent_signalled, without_lwp, with_reaped, with_spawned, with_child, with_this_ended, ended_if_live, with_ended, with_lwp_ended}
+use Rattle.pr_model.specs.Lives.{Birth, forked, with_lent, lent_to, with_loan_back, with_lender_of, with_loans_passed, with_made, with_parent_signalled, without_lwp, with_reaped, with_spawned, with_child, with_program, with_this_ended, ended_if_live, with_ended, with_lwp_ended}
 use Rattle.pr_model.specs.LwpTurns.{settled}
 use Rattle.pr_model.specs.Machines.{traced}
 use Rattle.pr_model.specs.Rows.{Row}
@@ -24,6 +26,7 @@ use Rattle.pr_model.specs.Signals.{is_kill, generated}
 use Rattle.pr_model.specs.State.{Places, TracedLwp, TracedProcess, TracedSystem, live_process, with_process, with_lwp_of}
 use Rattle.pr_model.specs.Transitions.{Transition, ended_if, after_transition}
 use Rattle.pr_model.specs.declared.handles.Held.{Held}
+use Rattle.pr_lawful.proofs.EndLemmas.{buried}
 
 -- No step makes the number of processes that were made less.
 
@@ -44,12 +47,29 @@ pub process-grows : (s : TracedSystem) (pid : ℕ) (f : TracedProcess → Traced
 unfolding with_process
 process-grows s pid f = omega arith
 
+grows-on : (s : TracedSystem) (f : TracedProcess → TracedProcess) (pid : ℕ) (t : TracedSystem) → Grows s t
+    → Grows s (with_process pid f t)
+grows-on s f pid t grown = next-grows s t (with_process pid f t) grown (process-grows t pid f)
+
 -- ---- ends
+
+signalled-grows : (parent pid status : ℕ) (s : TracedSystem) → Grows s (with_parent_signalled parent pid status s)
+unfolding with_parent_signalled
+signalled-grows parent pid status s =
+    either-grows (eqb parent 0) s s _ (same-grows s) (process-grows s parent (signalled None Cld (of_child pid status)))
+
+loans-grows : (s : TracedSystem) (pid : ℕ) (p : TracedProcess) → Grows s (with_loans_passed pid p s)
+loans-grows s pid p =
+    loans_passed-keep (Grows s) pid p (grows-on s (with_loan_back pid p)) (grows-on s (with_lender_of pid p)) s
+    (same-grows s)
 
 pub ended-grows : (s : TracedSystem) (pid : ℕ) (p : TracedProcess) (status : ℕ)
     → Grows s (with_this_ended traced pid p status s)
-unfolding with_this_ended with_parent_signalled with_process
-ended-grows s pid p status = either-grows (eqb p.parent 0) s _ _ (omega arith) (omega arith)
+unfolding with_this_ended
+ended-grows s pid p status =
+    let passed = with_loans_passed pid p (buried pid p status s) in
+    next-grows s passed (with_parent_signalled p.parent pid status passed) (loans-grows (buried pid p status s) pid p)
+    (signalled-grows p.parent pid status passed)
 
 with_ended-grows : (s : TracedSystem) (pid status : ℕ) → Grows s (with_ended traced pid status s)
 unfolding with_ended
@@ -97,8 +117,13 @@ spawned-grows s program held = omega arith
 
 child-grows : (birth : Birth) (s : TracedSystem) (pid : ℕ) (p : TracedProcess) (l : TracedLwp) (args : List ℕ)
     → Grows s (with_child traced birth pid p l args s)
-unfolding with_child with_made
-child-grows birth s pid p l args = omega arith
+unfolding with_child
+child-grows birth s pid p l args =
+    let shared : TracedSystem = record s { files = with_all_shared s.files p.fds } in
+    let lent = with_lent birth pid s.made shared in
+    next-grows s lent (with_made (forked traced birth pid p l args s.clock) lent)
+    (lent-keeps (Grows s) birth pid s.made (grows-on s (lent_to s.made) pid) shared (same-grows s))
+    (made-grows lent (forked traced birth pid p l args s.clock))
 
 -- ---- turns: a line a kind of change
 
@@ -119,7 +144,9 @@ module _ (pid : ℕ) (p : TracedProcess) (id : ℕ) (l : TracedLwp) where
   changed-grows (forks birth args) s =
       either-grows (eqb s.made pid) s _ _ (same-grows s) (child-grows birth s pid p l args)
   changed-grows (reaps child) s = either-grows (eqb child pid) s _ _ (same-grows s) (omega arith)
-  changed-grows (becomes program) s = omega arith
+  changed-grows (becomes program) s =
+      process_if-keeps (Grows s) p.lender (with_loan_back pid p) (grows-on s (with_loan_back pid p))
+      (with_process pid (with_program traced id l program) s) (process-grows s pid (with_program traced id l program))
   changed-grows (makes_lwp new regs held) s = omega arith
   changed-grows (suspends other it) s = omega arith
 

@@ -1,6 +1,4 @@
-use Rattle.std.proofs.Common.{◌≡◌, ◌≢◌, ◌||◌, ℕ, ◌<◌, true, false, not, is_ok, eqb, leb, cond, Option, Some, None, Result, Ok, Err, List, length, refl, sym, subst, ◌∙◌, ap, arith, inr, lit≤}
-use Rattle.std.specs.List.{list_all}
-use Rattle.std.proofs.lemmas.Bool.{or_parts, leb-false}
+use Rattle.std.proofs.Common.{◌≡◌, ◌≢◌, ℕ, ◌<◌, false, Some, None, List, length, refl, sym, subst, ◌∙◌, arith, inr, lit≤}
 use Rattle.std.proofs.lemmas.List.Elements.{All-nil}
 use Rattle.std.proofs.lemmas.Option.{same_Some}
 use Rattle.pr_num.proofs.BoolLemmas.{and_false}
@@ -11,10 +9,7 @@ use Rattle.pr_num.specs.Agents.{agent_id}
 use Rattle.pr_num.specs.Infos.{by_controller}
 use Rattle.pr_num.specs.Limits.{lwp_limit, all_signals}
 use Rattle.pr_num.specs.Sets.{has_number}
-use Rattle.pr_num.specs.Spaces.{bytes_for}
-use Rattle.pr_num.specs.Signals.{signal_number, signal_of_number}
-use Rattle.pr_num.specs.declared.infos.Info.{Info}
-use Rattle.pr_num.specs.declared.mappings.BadByte.{BadByte}
+use Rattle.pr_num.specs.Signals.{signal_number}
 use Rattle.pr_num.specs.declared.messages.Message.{Message}
 use Rattle.pr_num.specs.declared.signals.Sig.TheVariants.{Kill}
 use Rattle.pr_parts.specs.AddressSpaces.{with_bytes}
@@ -27,25 +22,19 @@ use Rattle.pr_keeps.specs.ProcessEdits as process
 use Rattle.pr_keeps.specs.ProcessEdits.{ControlEdit, ProcessEdit, ProcessEdits}
 use Rattle.pr_keeps.proofs.KeepsLemmas.{lwp-edits-keep, process-edits-keep}
 use Rattle.pr_model.specs.Changes.{with_space}
-use Rattle.pr_model.specs.Lawful.{IsLawfulFrame, IsLawfulLwp, IsLawfulProcess, IsLawfulSystem}
-use Rattle.pr_model.specs.Lives.{new_lwp, with_this_ended}
-use Rattle.pr_model.specs.Machines.{traced}
-use Rattle.pr_model.specs.Messages.{Controlled, Aim, at_lwp, at_process, with_signal_set, lwp_without_one, with_held_set, with_registers, with_address, with_control, tracing_signals, tracing_faults, tracing_entries, tracing_exits, with_modes, without_modes, with_areas, lets_agent, agent_lwp, with_agent, on_found, aimed_lwp, on_stopped_found, with_aim_directed, run_found, found_at, run_answer, killed, is_kill_of, ssig_answer, pending_of_found, pending_at, target_of_aim, kill_by, kill_answer, process_without_one, unkill_by, unkill_answer, watch_answer, agent_answer, read_of, mapped_bytes, read_answer, write_answer, message_answer}
-use Rattle.pr_model.specs.Readers.{size_of}
-use Rattle.pr_model.specs.Running.{without_current, without_fault, with_step, with_abort, with_directive, without_directive, let_go, if_flag, is_entry_stop, is_asleep, with_abort_from, with_cleared, with_aborted, run_lwp, lwp_run_refused, run_refused, shows_run, was_requested, with_request, without_request, if_all_requested, with_flags_on, with_representative_run, with_all_run, with_one_run, runs_one, with_run}
-use Rattle.pr_model.specs.Signals.{generated}
-use Rattle.pr_model.specs.State.{TracedControl, TracedLwp, TracedProcess, TracedSystem, has_agent, process_of, lwp_of, with_process, with_lwp}
-use Rattle.pr_model.specs.declared.stops.Stop.TheVariants.{Requested}
-use Rattle.pr_model.specs.Stops.{directed, has_event_stop, representative, with_all_directed}
+use Rattle.pr_model.specs.Lawful.{IsLawfulFrame, IsLawfulLwp, IsLawfulSystem}
+use Rattle.pr_model.specs.Lives.{new_lwp}
+use Rattle.pr_model.specs.Messages.{lwp_without_one, with_held_set, with_registers, with_address, tracing_signals, tracing_faults, tracing_entries, tracing_exits, with_modes, without_modes, with_areas, agent_lwp, with_agent}
+use Rattle.pr_model.specs.Running.{without_current, without_fault, with_step, with_abort, with_directive, without_directive, let_go}
+use Rattle.pr_model.specs.State.{TracedControl, TracedLwp, TracedProcess, TracedSystem, has_agent, process_of}
 use Rattle.pr_lawful.proofs.EndLemmas.{ended-lawful, generated-lawful}
 use Rattle.pr_lawful.proofs.HoldableLemmas.{holdable-holdable}
 use Rattle.pr_mem.proofs.HeapPlaceLemmas.{LeavesHeapPlace-with_bytes}
 use Rattle.pr_rec.specs.InRange.{IsInfo}
 use Rattle.pr_lawful.proofs.InfoLemmas.{no-infos, taken-infos}
-use Rattle.pr_lawful.proofs.LocalLemmas.{KeepsLwp, same_sets, keeps-if, live-empty, StaysLawful, Keeps, kept-same, kept-next, kept-if, same_rest, same_lwps, kept-parts, keeps-lwp, keeps-each}
+use Rattle.pr_lawful.proofs.LocalLemmas.{KeepsLwp, live-empty, StaysLawful, kept-same, kept-next, same_rest, same_lwps, kept-parts, keeps-lwp, keeps-each}
 use Rattle.pr_lawful.proofs.SignalLemmas.{MayPend}
-use Rattle.pr_lawful.proofs.SystemLemmas.{Replaces, replaced, kept-replaces}
-use Rattle.pr_lawful.proofs.TransitionLemmas.{directed-keeps, all_directed-keeps}
+use Rattle.pr_lawful.proofs.SystemLemmas.{replaced, kept-replaces}
 
 -- Each edit of a control message leaves a lawful system lawful: a line a kind of edit.
 
@@ -136,6 +125,7 @@ control-kept pid x c traced_too = record {
     empty_zombie = record {
       no_lwps = it.empty_zombie.no_lwps;
       no_memory = it.empty_zombie.no_memory;
+      no_loan = it.empty_zombie.no_loan;
       no_files = it.empty_zombie.no_files;
     };
     rising = it.rising;
@@ -219,9 +209,9 @@ module _ (pid : ℕ) (p : TracedProcess) (live : p.ended ≡ None) where
   edited-process m tail y (process.control_is {c = c} e) = control-kept pid p c (edited-control m p.control c e)
   edited-process m tail y (process.takes_back {g = g} is) =
       kept-parts pid p (record p { pending = without_one g p.pending }) refl
-      (same_rest p _ refl refl refl refl (taken-infos g p.pending)) (same_lwps p _ refl refl) refl refl
+      (same_rest p _ refl refl refl refl refl (taken-infos g p.pending)) (same_lwps p _ refl refl) refl refl
   edited-process m tail y (process.gets_agent {regs = regs} none room) = agent-kept regs none room
-  edited-process m tail y (process.is_written {at = at} mapped) = written-kept at tail
+  edited-process m tail y (process.is_written {at = at} unlent mapped) = written-kept at tail
 
 edits-kept : (pid : ℕ) (p : TracedProcess) → p.ended ≡ None → (m : Message) (tail : List ℕ) (y : TracedProcess)
     → ProcessEdits m tail p y → StaysLawful pid p y

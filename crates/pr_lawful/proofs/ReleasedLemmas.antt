@@ -16,12 +16,14 @@ use Rattle.pr_num.specs.declared.signals.Sig.{Sig}
 use Rattle.pr_num.specs.declared.signals.Sig.TheVariants.{Cld}
 use Rattle.pr_num.proofs.ByIdLaws.{All-under, All-change_under, All-map_each, All-inserted, All-without_id}
 use Rattle.pr_num.proofs.SetLemmas.{has_number-zero}
+use Rattle.pr_parts.specs.FileCalls.{with_all_shared}
 use Rattle.pr_parts.specs.SignalRules.{deleted_by}
+use Rattle.pr_keeps.proofs.LoanLemmas.{process_if-keeps, lent-keeps, loans_passed-keep}
 use Rattle.pr_model.specs.Changes.{Change, files_are, space_is, signals, signals_itself, takes_shared, job_stops, disposition_is, held_is, resumes, forks, reaps, becomes, makes_lwp, suspends, Ending, ends_process, ends_lwp, with_fds, with_space, with_shared_taken, with_job_stop, with_disposition_of, with_held, resumed, with_suspended, changed, all_changed, ended}
 use Rattle.pr_model.specs.Generation.{ends_job_stop, lwp_without_pending, lwp_with_pending, without_pending, without_job_stop, with_deletions, with_pending, signalled}
 use Rattle.pr_model.specs.Handles.{has_writer}
 use Rattle.pr_model.specs.Lawful.{IsReleasedLwp, IsUntraced, IsReleased}
-use Rattle.pr_model.specs.Lives.{Birth, bare_process, with_made, orphaned, with_parent_signalled, without_lwp, with_reaped, new_lwp, new_process, with_spawned, forked, with_child, started, with_program, with_new_lwp, zombie, with_this_ended, ended_if_live, with_ended, with_lwp_ended}
+use Rattle.pr_model.specs.Lives.{Birth, with_lent, bare_process, is_id, lent_to, with_loan_back, with_lender_of, with_made, orphaned, with_parent_signalled, without_lwp, with_reaped, new_lwp, new_process, with_spawned, forked, with_child, started, with_program, with_new_lwp, zombie, with_this_ended, ended_if_live, with_ended, with_lwp_ended}
 use Rattle.pr_model.specs.LwpTurns.{with_counted, settled}
 use Rattle.pr_model.specs.Machines.{nothing_set, no_marks, child_control, exec_control, call_over, step_taken, fault_incurred, fault_posted, traced}
 use Rattle.pr_model.specs.Moves as move
@@ -34,6 +36,7 @@ use Rattle.pr_model.specs.Stops.{with_all_directed}
 use Rattle.pr_model.specs.Transitions.{Transition, ended_if, after_transition}
 use Rattle.pr_model.specs.declared.stops.Point.{Point}
 use Rattle.pr_model.specs.declared.stops.Point.TheVariants.{Signal, Fault, Entry, Exit}
+use Rattle.pr_lawful.proofs.EndLemmas.{buried}
 use Rattle.pr_lawful.proofs.FileLemmas.{choice}
 use Rattle.pr_lawful.proofs.SuitingLemmas.{SuitsChange, SuitChanges, SuitsTransition, is_stop}
 use Rattle.pr_lawful.proofs.TransitionLemmas.{stayed}
@@ -239,19 +242,38 @@ module _ (opens : Places) where
       calm-if (eqb x.parent gone) x (record x { parent = 0 }) x (same_parts x (record x { parent = 0 }) refl refl refl)
       (calm-same x)
 
+  loan_back-calm : (pid : ℕ) (p : TracedProcess) → Calms (with_loan_back pid p)
+  unfolding with_loan_back
+  loan_back-calm pid p x =
+      let back : TracedProcess = record x { space = p.space; borrower = p.borrower } in
+      calm-if (is_id pid x.borrower) x back x (same_parts x back refl refl refl) (calm-same x)
+
+  lender_of-calm : (pid : ℕ) (p : TracedProcess) → Calms (with_lender_of pid p)
+  unfolding with_lender_of
+  lender_of-calm pid p x =
+      let other : TracedProcess = record x { lender = p.lender } in
+      calm-if (is_id pid x.lender) x other x (same_parts x other refl refl refl) (calm-same x)
+
+  calms-on : (f : TracedProcess → TracedProcess) → Calms f → (pid : ℕ) (s : TracedSystem) → AllReleased s
+      → AllReleased (with_process pid f s)
+  calms-on f calm pid s all = calms s pid f calm all
+
   -- a process ends whose zombie is buried among the others
   pub buried-released : (s : TracedSystem) (pid : ℕ) (p : TracedProcess) (status : ℕ)
       → All (IsReleased opens) (change_under pid (zombie traced status) s.processes)
       → AllReleased (with_this_ended traced pid p status s)
   unfolding with_this_ended with_parent_signalled
-  buried-released s pid p status buried =
+  buried-released s pid p status all =
       let left : List (ℕ × TracedProcess) = change_under pid (zombie traced status) s.processes in
       let orphans =
       All-map_each (IsReleased opens) (IsReleased opens) (orphaned pid)
-      (λ e it. calm-released e.0 e.1 (orphaned pid e.1) (orphaned-calm pid e.1) it) left buried in
-      either (eqb p.parent 0) _ _ orphans
+      (λ e it. calm-released e.0 e.1 (orphaned pid e.1) (orphaned-calm pid e.1) it) left all in
+      let passed =
+      loans_passed-keep AllReleased pid p (calms-on (with_loan_back pid p) (loan_back-calm pid p))
+      (calms-on (with_lender_of pid p) (lender_of-calm pid p)) (buried pid p status s) orphans in
+      either (eqb p.parent 0) _ _ passed
       (calms _ p.parent (signalled None Cld (of_child pid status))
-      (signalled-calm None Cld (of_child pid status)) orphans)
+      (signalled-calm None Cld (of_child pid status)) passed)
 
   pub ended-released : (s : TracedSystem) (pid : ℕ) (p : TracedProcess) (status : ℕ) → AllReleased s
       → AllReleased (with_this_ended traced pid p status s)
@@ -306,13 +328,26 @@ module _ (opens : Places) where
       choice (λ (d : TracedControl). (has_flags d.modes klc_mode ≡ false) × (has_flags d.modes rlc_mode ≡ false))
       (has_flags c.modes fork_mode) _ _ (λ inherits. (refl, refl)) (λ starts. (refl, refl))
 
+  forked-released : (birth : Birth) (child pid : ℕ) (p : TracedProcess) (l : TracedLwp) (args : List ℕ) (clock : ℕ)
+      → IsReleased opens (child, forked traced birth pid p l args clock)
+  unfolding forked traced
+  forked-released birth child pid p l args clock =
+      let modes = child-modes p.control in
+      modeless-released child (forked traced birth pid p l args clock) modes.0 modes.1
+
+  lent-calm : (child : ℕ) → Calms (lent_to child)
+  unfolding lent_to
+  lent-calm child x = same_parts x (lent_to child x) refl refl refl
+
   child-released : (birth : Birth) (s : TracedSystem) (pid : ℕ) (p : TracedProcess) (l : TracedLwp) (args : List ℕ)
       → AllReleased s → AllReleased (with_child traced birth pid p l args s)
-  unfolding with_child forked traced
+  unfolding with_child
   child-released birth s pid p l args all =
-      let modes = child-modes p.control in
-      made-released _ (forked traced birth pid p l args s.clock)
-      (modeless-released s.made (forked traced birth pid p l args s.clock) modes.0 modes.1) all
+      let shared : TracedSystem = record s { files = with_all_shared s.files p.fds } in
+      let lent = with_lent birth pid s.made shared in
+      made-released lent (forked traced birth pid p l args s.clock)
+      (forked-released birth lent.made pid p l args s.clock)
+      (lent-keeps AllReleased birth pid s.made (calms-on (lent_to s.made) (lent-calm s.made) pid) shared all)
 
   pub spawned-released : (s : TracedSystem) (program : Program) (held : Bool) → AllReleased s
       → AllReleased (with_spawned traced program held s)
@@ -384,10 +419,12 @@ module _ (opens : Places) where
     changed-released (reaps child) s suits all =
         either (eqb child pid) s _ all (All-without_id (IsReleased opens) child s.processes all)
     changed-released (becomes program) s suits all =
-        process-released s pid (with_program traced id l program) (λ x is it.
-        let same = same_Some suits.process x (sym suits.found ∙ is) in
+        process_if-keeps AllReleased p.lender (with_loan_back pid p)
+        (calms-on (with_loan_back pid p) (loan_back-calm pid p)) (with_process pid (with_program traced id l program) s)
+        (process-released s pid (with_program traced id l program) (λ x is it.
+        let same = same_Some p x (sym suits.found ∙ is) in
         calm-released pid x (with_program traced id l program x)
-        (program-calm id l program x (ap (λ (y : TracedProcess). lwp_of y id) (sym same) ∙ suits.there)) it) all
+        (program-calm id l program x (ap (λ (y : TracedProcess). lwp_of y id) (sym same) ∙ suits.there)) it) all)
     changed-released (makes_lwp new regs held) s suits all =
         calms s pid (with_new_lwp traced new regs held) (new_lwp-calm new regs held) all
     changed-released (suspends other it) s suits all = own s other (with_suspended it) (λ x. refl) all

@@ -12,7 +12,7 @@ use Rattle.pr_model.specs.Lawful.{IsLawfulLwp}
 use Rattle.pr_model.specs.Readers.{life_of}
 use Rattle.pr_model.specs.SignalCalls.{refuses, sends_nothing, sends, sending}
 use Rattle.pr_keeps.specs.MessageEdits.{HasRoomIn}
-use Rattle.pr_model.specs.State.{TracedLwp, TracedProcess, TracedSystem, lwp_of, process_of}
+use Rattle.pr_model.specs.State.{TracedLwp, TracedProcess, TracedSystem, process_of}
 use Rattle.pr_rec.specs.InRange.{IsInfo}
 use Rattle.pr_lawful.proofs.InfoLemmas.{added-infos, deleted-infos}
 use Rattle.pr_lawful.proofs.LocalLemmas.{KeepsLwp, StaysLawful, Keeps, kept-same, kept-next, kept-if, same_rest, same_lwps, changed_one, mapped_lwps, kept-parts}
@@ -126,10 +126,10 @@ pending-keeps : (target : Option ℕ) (g : Sig) (info : Info) (pid : ℕ) (x : T
 unfolding with_pending
 pending-keeps None g info pid x new =
     kept-parts pid x (with_pending None g info x) refl
-    (same_rest x _ refl refl refl refl (added-infos g info x.pending new.fits new.room))
+    (same_rest x _ refl refl refl refl refl (added-infos g info x.pending new.fits new.room))
     (same_lwps x _ refl refl) refl refl
 pending-keeps (Some id) g info pid x new =
-    kept-parts pid x (with_pending (Some id) g info x) refl (same_rest x _ refl refl refl refl (λ it. it))
+    kept-parts pid x (with_pending (Some id) g info x) refl (same_rest x _ refl refl refl refl refl (λ it. it))
     (changed_one x id (lwp_with_pending g info)
     (λ l there it. added-keeps g info x.next_lwp id l new.fits (new.room l there) it)) refl refl
 
@@ -137,7 +137,7 @@ without_pending-keeps : (signals : ℕ) → Keeps (without_pending signals)
 unfolding without_pending
 without_pending-keeps signals pid x =
     kept-parts pid x (without_pending signals x) refl
-    (same_rest x _ refl refl refl refl (deleted-infos signals x.pending))
+    (same_rest x _ refl refl refl refl refl (deleted-infos signals x.pending))
     (let it = mapped_lwps x (lwp_without_pending signals)
     (deleted-keeps signals) in record { count = it.count; rising = it.rising; lawful = it.lawful }) refl refl
 
@@ -145,7 +145,7 @@ without_job_stop-keeps : (g : Sig) → Keeps (without_job_stop g)
 unfolding without_job_stop
 without_job_stop-keeps g pid x =
     kept-if pid (ends_job_stop g) x (record x { job_stop = None }) x
-    (kept-parts pid x (record x { job_stop = None }) refl (same_rest x _ refl refl refl refl (λ it. it))
+    (kept-parts pid x (record x { job_stop = None }) refl (same_rest x _ refl refl refl refl refl (λ it. it))
     (same_lwps x _ refl refl) refl refl) (kept-same pid x)
 
 deletions-keep : (g : Sig) → Keeps (with_deletions g)

@@ -39,11 +39,10 @@ use Rattle.pr_lawful.proofs.HandleLemmas.{all-fixed, alone-before, alone-then, e
 use Rattle.pr_lawful.proofs.InfoLemmas.{no-infos}
 use Rattle.pr_lawful.proofs.ProgramLemmas.{program-leaves, program-small}
 use Rattle.pr_lawful.proofs.LocalLemmas.{KeepsLwp, same_sets, live-empty, Keeps, mapped_lwps}
-use Rattle.pr_lawful.proofs.MadeLemmas.{Grows, closed-grows, either-grows, ended-grows, generated-grows, handles-on, process-grows, same-grows, settled-grows, edit-grows}
+use Rattle.pr_lawful.proofs.MadeLemmas.{Grows, closed-grows, handles-on, settled-grows, edit-grows}
 use Rattle.pr_lawful.proofs.MessageLemmas.{edit-lawful}
 use Rattle.pr_lawful.proofs.ReleasedLemmas.{buried-released, ended-released, generated-released, modeless-released, process-released, settled-released, writer-released, zombie-released}
-use Rattle.pr_lawful.proofs.SystemLemmas.{joined, kept}
-use Rattle.pr_lawful.proofs.TransitionLemmas.{change_under-same}
+use Rattle.pr_lawful.proofs.SystemLemmas.{change_under-same, joined, kept}
 use Rattle.pr_lawful.proofs.TurnLemmas.{acting, row-suits, turn-lawful}
 use Rattle.pr_model.proofs.TurnLemmas.{turn-taken}
 
@@ -163,6 +162,7 @@ released-keeps pid x =
         empty_zombie = record {
           no_lwps = λ status is. ap (map_each released_lwp) (it.empty_zombie.no_lwps status is);
           no_memory = it.empty_zombie.no_memory;
+          no_loan = it.empty_zombie.no_loan;
           no_files = it.empty_zombie.no_files;
         };
         rising = lwps.rising it.rising;

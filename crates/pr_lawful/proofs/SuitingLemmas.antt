@@ -9,8 +9,10 @@ use Rattle.pr_parts.specs.AddressSpaces.{LeavesHeapPlace}
 use Rattle.pr_rec.specs.InRange.{IsInfo}
 use Rattle.pr_model.specs.Changes.{Change, files_are, space_is, signals, signals_itself, takes_shared, job_stops, disposition_is, held_is, resumes, forks, reaps, becomes, makes_lwp, suspends, changed}
 use Rattle.pr_model.specs.Lawful.{IsHoldable, IsLawfulFrame}
+use Rattle.pr_model.specs.Lives.{Birth, by_fork, by_vfork}
 use Rattle.pr_model.specs.Machines.{traced}
 use Rattle.pr_model.specs.Moves.{Move, stays, stops, takes, catches}
+use Rattle.pr_model.specs.ProcessCalls.{given_up}
 use Rattle.pr_model.specs.Readers.{size_of, total_size}
 use Rattle.pr_model.specs.SignalCalls.{can_be_caught}
 use Rattle.pr_model.specs.State.{TracedLwp, TracedProcess, TracedSystem, lwp_of, process_of}
@@ -41,12 +43,17 @@ pub record SuitsSpace (s : TracedSystem) (pid : ℕ) (space : Space) : Type 0 wh
   pub heap_place : All LeavesHeapPlace space
   pub small : mapped_size space ≤ mapping_limit
 
--- a child: there is room for it and for its memory
-pub record SuitsChild (s : TracedSystem) (pid : ℕ) (p : TracedProcess) (l : TracedLwp) : Type 0 where
+-- how many bytes more are mapped once a process has a child: a loan is no more than what was there
+abbrev pub more_mapped : Birth → TracedProcess → ℕ
+more_mapped by_fork p = size_of p
+more_mapped by_vfork p = 0
+
+-- A child: there is room for it and for its memory, and the process in the system is as it was when the turn began.
+pub record SuitsChild (birth : Birth) (s : TracedSystem) (pid : ℕ) (p : TracedProcess) (l : TracedLwp) : Type 0 where
   pub found : process_of s pid ≡ Some p
   pub live : p.ended ≡ None
   pub room : s.made < process_limit
-  pub mapped : total_size s + size_of p ≤ all_mappings_limit
+  pub mapped : total_size s + more_mapped birth p ≤ all_mappings_limit
   pub held : IsHoldable l.held
   pub frames : All IsLawfulFrame l.frames
   pub few_frames : length l.frames ≤ frame_limit
@@ -58,16 +65,17 @@ pub record SuitsReaped (s : TracedSystem) (child : ℕ) : Type 0 where
   pub found : process_of s child ≡ Some zombie
   pub over : zombie.ended ≡ Some status
 
--- another program: it begins within the limit of a space, there is room for its memory, and the lwp that goes on is one
--- of the process
-pub record SuitsProgram (s : TracedSystem) (pid id : ℕ) (l : TracedLwp) (program : Program) : Type 0 where
-  pub process : TracedProcess
-  pub found : process_of s pid ≡ Some process
-  pub live : process.ended ≡ None
-  pub mapped : total_size s + mapped_size (first_space program) ≤ all_mappings_limit + size_of process
+-- Another program: it begins within the limit of a space, there is room for its memory, where a loan that goes back is
+-- not given up, the lwp that goes on is one of the process, and the process in the system is as it was when the turn
+-- began.
+pub record SuitsProgram (s : TracedSystem) (pid : ℕ) (p : TracedProcess) (id : ℕ) (l : TracedLwp)
+    (program : Program) : Type 0 where
+  pub found : process_of s pid ≡ Some p
+  pub live : p.ended ≡ None
+  pub mapped : total_size s + mapped_size (first_space program) ≤ all_mappings_limit + given_up s p id
   pub heap_place : All LeavesHeapPlace (first_space program)
   pub small : mapped_size (first_space program) ≤ mapping_limit
-  pub there : lwp_of process id ≡ Some l
+  pub there : lwp_of p id ≡ Some l
 
 -- an lwp more: it gets the next id, and there is room for it
 pub record SuitsLwp (s : TracedSystem) (pid new held : ℕ) : Type 0 where
@@ -98,9 +106,9 @@ module _ (pid : ℕ) (p : TracedProcess) (id : ℕ) (l : TracedLwp) where
   SuitsChange s (disposition_is g disposition) = can_be_caught g ≡ true
   SuitsChange s (held_is held) = IsHoldable held
   SuitsChange s (resumes frame frames) = SuitsFrames frame.held frames
-  SuitsChange s (forks birth args) = SuitsChild s pid p l
+  SuitsChange s (forks birth args) = SuitsChild birth s pid p l
   SuitsChange s (reaps child) = SuitsReaped s child
-  SuitsChange s (becomes program) = SuitsProgram s pid id l program
+  SuitsChange s (becomes program) = SuitsProgram s pid p id l program
   SuitsChange s (makes_lwp new regs held) = SuitsLwp s pid new held
   SuitsChange s (suspends other suspended) = Unit {0}
 

@@ -1,4 +1,4 @@
-use Rattle.std.proofs.Common.{◌≡◌, ◌≢◌, ◌⊎◌, ℕ, ◌+◌, ◌<◌, ◌≤◌, Bool, true, false, is_none, is_some, Option, Some, None, IsSome, List, cond, refl, sym, subst, ◌∙◌, ap, arith, inl, inr}
+use Rattle.std.proofs.Common.{◌≡◌, ◌≢◌, ◌⊎◌, ℕ, ◌+◌, ◌<◌, ◌≤◌, Bool, true, false, is_none, is_some, eqb, Option, Some, None, IsSome, List, [], ◌∷◌, cond, refl, sym, subst, ◌∙◌, ap, arith, inl, inr}
 use Rattle.std.specs.List.{All}
 use Rattle.std.specs.Option.{option_map, option_and_then}
 use Rattle.std.proofs.lemmas.Bool.{cases_eq, false≢true}
@@ -6,7 +6,7 @@ use Rattle.std.proofs.lemmas.List.Elements.{All-weaker}
 use Rattle.std.proofs.lemmas.Option.{same_Some, none-some}
 use Rattle.pr_num.specs.ById.{under, change_under, inserted, without_id}
 use Rattle.pr_num.proofs.ByIdLemmas.{rises_from-change_under, rises_from-inserted, rises_from-without_id}
-use Rattle.pr_num.proofs.ByIdLaws.{All-under, All-change_under, All-inserted, All-without_id, change_under-none, under-change_under, under-change_under_other, under-inserted_other, under-without_id_other, under-beyond}
+use Rattle.pr_num.proofs.ByIdLaws.{All-under, All-change_under, All-inserted, All-without_id, change_under-alike, change_under-none, under-change_under, under-change_under_other, under-inserted_other, under-without_id_other, under-beyond}
 use Rattle.pr_num.specs.Files.{FileTable, no_descriptors}
 use Rattle.pr_num.specs.Limits.{process_limit, all_mappings_limit}
 use Rattle.pr_parts.specs.FileTables.{AreOpenIn, IsFileTable, PipesHaveEnds, count_at, users_at}
@@ -136,11 +136,27 @@ kept-replaces s pid x y h kept = record {
   users = λ place. ap (λ fds. users_at s.files place + count_at fds place) (sym kept.fds);
 }
 
--- where no process has the id nothing changes
-unfound : (s : TracedSystem) (pid : ℕ) (f : TracedProcess → TracedProcess) → process_of s pid ≡ None
+-- what each change leaves as it is
+pub change_under-same : {X : Type 0} (id : ℕ) (f : X → X) → ((x : X) → f x ≡ x) → (es : List (ℕ × X))
+    → change_under id f es ≡ es
+change_under-same id f same [] = refl
+change_under-same id f same (e ∷ es) =
+    elim (eqb e.0 id) as (λ b. cond b ((e.0, f e.1) ∷ es) (e ∷ change_under id f es) ≡ e ∷ es)
+    [ true ↦ ap (λ x. (e.0, x) ∷ es) (same e.1) | false ↦ ap (λ ds. e ∷ ds) (change_under-same id f same es) ]
+
+-- Nothing changes where no process has the id, or where the one that has it is left as it is.
+pub unfound : (s : TracedSystem) (pid : ℕ) (f : TracedProcess → TracedProcess) → process_of s pid ≡ None
     → with_process pid f s ≡ s
 unfolding with_process
 unfound s pid f none = ap (λ ps. record s { processes = ps }) (change_under-none pid f s.processes none)
+
+pub unchanged : (s : TracedSystem) (pid : ℕ) (f : TracedProcess → TracedProcess) (x : TracedProcess)
+    → process_of s pid ≡ Some x → f x ≡ x → with_process pid f s ≡ s
+unfolding with_process
+unchanged s pid f x found same =
+    ap (λ ps. record s { processes = ps })
+    (change_under-alike pid f (λ y. y) x s.processes found same
+    ∙ change_under-same pid (λ y. y) (λ y. refl) s.processes)
 
 pub kept : (s : TracedSystem) (pid : ℕ) (f : TracedProcess → TracedProcess) → pid ≢ 0
     → ((x : TracedProcess) → process_of s pid ≡ Some x → StaysLawful pid x (f x)) → IsLawfulSystem s

@@ -1,5 +1,4 @@
-use Rattle.std.proofs.Common.{◌≡◌, ◌≢◌, ℕ, Bool, true, false, eqb, Option, Some, None, List, [], ◌∷◌, cond, refl, sym, subst, ◌∙◌, ap}
-use Rattle.pr_num.specs.ById.{change_under}
+use Rattle.std.proofs.Common.{◌≡◌, ◌≢◌, ℕ, Bool, true, false, Option, Some, None, cond, refl, sym, subst, ◌∙◌, ap}
 use Rattle.pr_num.specs.Control.{has_flags, async_mode}
 use Rattle.pr_model.specs.Changes.{Ending, ends_process, ends_lwp, all_changed, ended}
 use Rattle.pr_model.specs.Lawful.{IsLawfulPending, IsLawfulSystem}
@@ -25,7 +24,7 @@ use Rattle.pr_lawful.proofs.InfoLemmas.{added-infos, fault-info, taken-infos}
 use Rattle.pr_lawful.proofs.LocalLemmas.{KeepsLwp, same_sets, keeps-if, Keeps, kept-same, kept-next, kept-if, kept-parts, same_rest, same_lwps, keeps-lwp, keeps-each}
 use Rattle.pr_lawful.proofs.SignalLemmas.{standard-room}
 use Rattle.pr_lawful.proofs.SuitingLemmas.{SuitsMove, SuitsTransition}
-use Rattle.pr_lawful.proofs.SystemLemmas.{kept}
+use Rattle.pr_lawful.proofs.SystemLemmas.{change_under-same, kept}
 
 -- A transition that suits a lawful system leaves it lawful; and so do the counts and the stop that follow it.
 
@@ -101,13 +100,6 @@ moved-keeps (move.catches frames regs held) suits =
 
 -- ---- transitions
 
-pub change_under-same : {X : Type 0} (id : ℕ) (f : X → X) → ((x : X) → f x ≡ x) → (es : List (ℕ × X))
-    → change_under id f es ≡ es
-change_under-same id f same [] = refl
-change_under-same id f same (e ∷ es) =
-    elim (eqb e.0 id) as (λ b. cond b ((e.0, f e.1) ∷ es) (e ∷ change_under id f es) ≡ e ∷ es)
-    [ true ↦ ap (λ x. (e.0, x) ∷ es) (same e.1) | false ↦ ap (λ ds. e ∷ ds) (change_under-same id f same es) ]
-
 pub stayed : (pid id : ℕ) (s : TracedSystem) → with_lwp_of pid id (moved traced move.stays) s ≡ s
 unfolding with_lwp_of with_process with_lwp moved
 stayed pid id s =
@@ -150,7 +142,7 @@ module _ (s : TracedSystem) (pid : ℕ) (p : TracedProcess) (id : ℕ) (l : Trac
 counted-keeps : (did : _) (begun : Bool) → Keeps (with_counted did begun)
 unfolding with_counted
 counted-keeps did begun pid x =
-    kept-parts pid x (with_counted did begun x) refl (same_rest x _ refl refl refl refl (λ it. it))
+    kept-parts pid x (with_counted did begun x) refl (same_rest x _ refl refl refl refl refl (λ it. it))
     (same_lwps x _ refl refl) refl refl
 
 pub directed-keeps : KeepsLwp directed

@@ -24,7 +24,7 @@ use Rattle.pr_model.specs.ControlMessages.{aim_of, tail_of, control_handle, targ
 use Rattle.pr_model.specs.Handles.{handle_of, open_refusal}
 use Rattle.pr_model.specs.Lives.{with_this_ended}
 use Rattle.pr_model.specs.Machines.{traced}
-use Rattle.pr_model.specs.Messages.{Controlled, Aim, at_lwp, at_process, on_found, aimed_lwp, on_stopped_found, found_at, run_found, run_answer, killed, ssig_answer, kill_by, kill_answer as kill_message, unkill_by, unkill_answer, watch_answer, agent_answer, read_of, mapped_bytes, read_answer, write_answer, message_answer, target_of_aim, with_agent, with_areas, with_control, with_signal_set, refused as message_refused}
+use Rattle.pr_model.specs.Messages.{Controlled, Aim, at_lwp, at_process, on_found, aimed_lwp, on_stopped_found, found_at, run_found, run_answer, killed, ssig_answer, kill_by, kill_answer as kill_message, unkill_by, unkill_answer, watch_answer, agent_answer, read_of, mapped_bytes, read_answer, write_answer, message_answer, target_of_aim, unless_lent, with_agent, with_areas, with_control, with_signal_set, refused as message_refused}
 use Rattle.pr_model.specs.ProcessCalls.{program_named}
 use Rattle.pr_model.specs.Readers.{life_of}
 use Rattle.pr_model.specs.Reads.{read_reply}
@@ -143,6 +143,9 @@ module _ (s : TracedSystem) where
     write-leaves at bytes len =
         either _ _ _ (used (with_process pid (with_space (with_bytes at bytes p.space)) s) len) (refusal Io)
 
+    unless_lent-leaves : (c : Controlled) → LeavesSystem c → LeavesSystem (unless_lent s pid p c)
+    unless_lent-leaves c leaves = either _ _ _ (refusal Busy) leaves
+
     message-leaves : (aim : Aim) (m : Message) (tail : List ℕ) (len : ℕ)
         → LeavesSystem (message_answer s pid p aim m tail len)
     unfolding message_answer
@@ -165,10 +168,10 @@ module _ (s : TracedSystem) where
     message-leaves aim (Unset modes) tail len = used _ len
     message-leaves aim (Sreg regs) tail len = stopped-leaves len _ (aimed_lwp s pid p aim)
     message-leaves aim (Svaddr pc) tail len = stopped-leaves len _ (aimed_lwp s pid p aim)
-    message-leaves aim (Watch at size flags) tail len = watch-leaves at size flags len
-    message-leaves aim (Agent regs) tail len = agent-leaves regs len
+    message-leaves aim (Watch at size flags) tail len = unless_lent-leaves _ (watch-leaves at size flags len)
+    message-leaves aim (Agent regs) tail len = unless_lent-leaves _ (agent-leaves regs len)
     message-leaves aim (Read at size) tail len = read-leaves at size
-    message-leaves aim (Write at size) tail len = write-leaves at tail len
+    message-leaves aim (Write at size) tail len = unless_lent-leaves _ (write-leaves at tail len)
 
   decoded-leaves : (h : Held) (p : TracedProcess) (bytes : List ℕ) (r : Result (Message × ℕ) MsgFault)
       → LeavesSystem (decoded_answer s h p bytes r)

@@ -18,7 +18,7 @@ never_returns LwpExit = true
 never_returns _ = false
 
 -- Whether the exit of a call is the stop of a child at its birth: a call that makes a child gives 0 to the child alone
--- (fork(2)). It is no event of the child's.
+-- (fork(2), vfork(2)). It is no event of the child's.
 unfoldable pub is_birth : Sysno → Result ℕ Errno → Bool
 is_birth call (Ok value) = is_fork_call call && (value == 0)
 is_birth call (Err errno) = false

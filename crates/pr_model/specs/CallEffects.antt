@@ -1,11 +1,11 @@
 use Rattle.std.specs.Prelude.{ℕ, List, [], slice_index}
 use Rattle.pr_num.specs.declared.syscalls.Sysno.{Sysno}
-use Rattle.pr_num.specs.declared.syscalls.Sysno.TheVariants.{Exit, Fork, Read, Write, Open, Close, Wait, Getpid, Getppid, Exec, Pipe, Dup, Lseek, Kill, Sigaction, Sigmask, Pause, Sigreturn, Brk, Mmap, Munmap, Mprotect, Time, Sleep, LwpCreate, LwpExit, LwpSuspend, LwpContinue, Fstat, Sigqueue}
+use Rattle.pr_num.specs.declared.syscalls.Sysno.TheVariants.{Exit, Fork, Read, Write, Open, Close, Wait, Getpid, Getppid, Exec, Pipe, Dup, Lseek, Kill, Sigaction, Sigmask, Pause, Sigreturn, Brk, Mmap, Munmap, Mprotect, Time, Sleep, LwpCreate, LwpExit, LwpSuspend, LwpContinue, Fstat, Sigqueue, Vfork}
 use Rattle.pr_model.specs.Changes.{Effect, gives, sleeps, ends, ends_lwp}
 use Rattle.pr_model.specs.FileCallRows.{read_effect, write_effect, open_effect, close_effect, pipe_effect, dup_effect, lseek_effect, fstat_effect}
 use Rattle.pr_model.specs.LwpCalls.{lwp_create_effect, lwp_suspend_effect, lwp_continue_effect}
 use Rattle.pr_model.specs.MemoryCalls.{brk_effect, mmap_effect, munmap_effect, mprotect_effect}
-use Rattle.pr_model.specs.ProcessCalls.{exit_effect, fork_effect, wait_effect, exec_effect, sleep_effect}
+use Rattle.pr_model.specs.ProcessCalls.{exit_effect, fork_effect, vfork_effect, wait_effect, exec_effect, sleep_effect}
 use Rattle.pr_model.specs.Readers.{children_of, life_of}
 use Rattle.pr_model.specs.SignalCalls.{send_effect, sigaction_effect, sigmask_effect, sigreturn_effect}
 use Rattle.pr_num.specs.Infos.{killed_by, queued_by}
@@ -51,3 +51,4 @@ module _ {C H K : Type 0} (s : SystemOf C H K) (pid : ℕ) (p : ProcessOf C H K)
   call_effect since Fstat args = fstat_effect s.files p.fds p.space (slice_index args 0) (slice_index args 1)
   call_effect since Sigqueue args =
       send_effect pid (slice_index args 0) (slice_index args 1) (queued_by pid (slice_index args 2)) (life_of s (slice_index args 0))
+  call_effect since Vfork args = vfork_effect s p id args

@@ -4,11 +4,11 @@ use Rattle.pr_num.specs.Programs.{Program}
 use Rattle.pr_num.specs.Spaces.{Space}
 use Rattle.pr_num.specs.declared.errnos.Errno.{Errno}
 use Rattle.pr_num.specs.declared.signals.Sig.{Sig}
-use Rattle.pr_model.specs.Lives.{Birth, with_child, with_program, with_new_lwp, with_reaped, with_this_ended, with_lwp_ended}
+use Rattle.pr_model.specs.Lives.{Birth, with_loan_back, with_child, with_program, with_new_lwp, with_reaped, with_this_ended, with_lwp_ended}
 use Rattle.pr_model.specs.Machines.{Machine}
 use Rattle.pr_parts.specs.PendingSignals.{without_one}
 use Rattle.pr_model.specs.Signals.{generated, is_kill, with_disposition}
-use Rattle.pr_model.specs.State.{LwpOf, ProcessOf, SystemOf, with_process, with_lwp}
+use Rattle.pr_model.specs.State.{LwpOf, ProcessOf, SystemOf, with_process, with_process_if, with_lwp}
 use Rattle.pr_model.specs.declared.events.Res.{Res}
 use Rattle.pr_model.specs.declared.events.Res.TheVariants.{Value, Error}
 use Rattle.pr_model.specs.declared.frames.Frame.{Frame}
@@ -37,7 +37,7 @@ pub data Change : Type 0 where
   -- a child is made, by a call with these arguments; a zombie child is reaped
   forks : Birth → List ℕ → Change
   reaps : ℕ → Change
-  -- the process runs another program
+  -- the process runs another program, and gives back the memory that it borrowed
   becomes : Program → Change
   -- an lwp is made under an id, with these registers and this held set; one is suspended, or goes on
   makes_lwp : ℕ → List ℕ → ℕ → Change
@@ -109,7 +109,8 @@ module _ {C H K : Type 0} (m : Machine C H K) (pid : ℕ) (p : ProcessOf C H K) 
   changed (resumes frame frames) s = with_process pid (with_lwp id (resumed frame frames)) s
   changed (forks birth args) s = if s.made == pid then s else with_child m birth pid p l args s
   changed (reaps child) s = if child == pid then s else with_reaped child s
-  changed (becomes program) s = with_process pid (with_program m id l program) s
+  changed (becomes program) s =
+      with_process_if p.lender (with_loan_back pid p) (with_process pid (with_program m id l program) s)
   changed (makes_lwp new regs held) s = with_process pid (with_new_lwp m new regs held) s
   changed (suspends other suspended) s = with_process pid (with_lwp other (with_suspended suspended)) s
 

@@ -75,10 +75,11 @@ pub record IsLawfulLwp (next : ℕ) (e : ℕ × TracedLwp) : Type 0 where
 pub record HasLwps (pid : ℕ) (p : TracedProcess) : Type 0 where
   pub some : 0 < pid → p.ended ≡ None → 0 < length p.lwps
 
--- a zombie has no lwp, no memory and no descriptor
+-- a zombie has no lwp, no memory and no descriptor, and has lent nothing
 pub record IsEmptyZombie (p : TracedProcess) : Type 0 where
   pub no_lwps : (status : ℕ) → p.ended ≡ Some status → p.lwps ≡ []
   pub no_memory : (status : ℕ) → p.ended ≡ Some status → p.space ≡ []
+  pub no_loan : (status : ℕ) → p.ended ≡ Some status → p.borrower ≡ None
   pub no_files : (status : ℕ) → p.ended ≡ Some status → p.fds ≡ no_descriptors
 
 -- SIGKILL and SIGSTOP have their default action

@@ -4,7 +4,7 @@ use Rattle.pr_num.specs.Programs.{Program}
 use Rattle.pr_num.specs.Spaces.{first_space, first_registers}
 use Rattle.pr_num.specs.declared.signals.Sig.TheVariants.{Cld}
 use Rattle.pr_num.specs.declared.syscalls.Sysno.{Sysno}
-use Rattle.pr_num.specs.declared.syscalls.Sysno.TheVariants.{Fork}
+use Rattle.pr_num.specs.declared.syscalls.Sysno.TheVariants.{Fork, Vfork}
 use Rattle.pr_parts.specs.FileCalls.{with_all_shared}
 use Rattle.pr_num.specs.ById.{change_under, inserted, map_each, without_id}
 use Rattle.pr_model.specs.Generation.{signalled}
@@ -13,7 +13,7 @@ use Rattle.pr_parts.specs.PendingSignals.{nothing_pending}
 use Rattle.pr_model.specs.Registers.{with_result}
 use Rattle.pr_num.specs.Infos.{of_child}
 use Rattle.pr_num.specs.Limits.{signal_count}
-use Rattle.pr_model.specs.State.{LwpOf, ProcessOf, SystemOf, live_process, lwp_of, with_process}
+use Rattle.pr_model.specs.State.{LwpOf, ProcessOf, SystemOf, live_process, lwp_of, with_process, with_process_if}
 use Rattle.pr_model.specs.declared.events.Res.TheVariants.{Value}
 
 -- How processes and lwps begin and end.
@@ -26,15 +26,52 @@ default_dispositions = replicate signal_count 0
 abbrev pub uncaught : ℕ → ℕ
 uncaught disposition = if nat_lt 1 disposition then 0 else disposition
 
--- how a child is made: with a copy of its parent's memory
+-- how a child is made: with a copy of its parent's memory, or with that memory itself, which is lent to it
 pub data Birth : Type 0 where
   by_fork : Birth
+  by_vfork : Birth
 
 -- the call that makes a child so
 abbrev pub call_of : Birth → Sysno
 call_of by_fork = Fork
+call_of by_vfork = Vfork
+
+-- whose memory a child has, where it is made by this process
+abbrev pub lender_of : Birth → ℕ → Option ℕ
+lender_of by_fork pid = None
+lender_of by_vfork pid = Some pid
+
+-- whether this is the id, if there is one
+abbrev pub is_id : ℕ → Option ℕ → Bool
+is_id pid None = false
+is_id pid (Some other) = other == pid
 
 module _ {C H K : Type 0} where
+  -- ---- lent memory (vfork(2))
+
+  -- a process whose memory is lent to a child
+  unfoldable pub lent_to : ℕ → ProcessOf C H K → ProcessOf C H K
+  lent_to child p = record p { space = []; borrower = Some child }
+
+  -- a system in which a process that makes a child so has lent it its memory
+  abbrev pub with_lent : Birth → ℕ → ℕ → SystemOf C H K → SystemOf C H K
+  with_lent by_fork pid child s = s
+  with_lent by_vfork pid child s = with_process pid (lent_to child) s
+
+  -- A process that ends or runs another program gives what it borrowed back to its lender: the memory, or, where it has
+  -- lent that on, the borrower of it.
+  unfoldable pub with_loan_back : ℕ → ProcessOf C H K → ProcessOf C H K → ProcessOf C H K
+  with_loan_back pid p lender =
+      if is_id pid lender.borrower then record lender { space = p.space; borrower = p.borrower } else lender
+
+  -- A process that ends leaves its own lender, if it has one, to its borrower.
+  unfoldable pub with_lender_of : ℕ → ProcessOf C H K → ProcessOf C H K → ProcessOf C H K
+  with_lender_of pid p borrower = if is_id pid borrower.lender then record borrower { lender = p.lender } else borrower
+
+  unfoldable pub with_loans_passed : ℕ → ProcessOf C H K → SystemOf C H K → SystemOf C H K
+  with_loans_passed pid p s =
+      with_process_if p.lender (with_loan_back pid p) (with_process_if p.borrower (with_lender_of pid p) s)
+
   -- a system with one process more, under the next id
   unfoldable pub with_made : ProcessOf C H K → SystemOf C H K → SystemOf C H K
   with_made p s = record s { made = s.made + 1; processes = inserted s.made p s.processes }
@@ -83,6 +120,8 @@ module _ {C H K : Type 0} (m : Machine C H K) where
     made_at = clock;
     ended = None;
     space = [];
+    lender = None;
+    borrower = None;
     fds = no_descriptors;
     dispositions = default_dispositions;
     pending = nothing_pending;
@@ -114,7 +153,8 @@ module _ {C H K : Type 0} (m : Machine C H K) where
     control = m.at_birth (call_of birth) set;
   }
 
-  -- A forked child: a copy of its parent with that lwp alone, with nothing pending and no job stop.
+  -- A forked child: a copy of its parent with that lwp alone, with nothing pending and no job stop. It has the memory as
+  -- its own, or as a loan.
   unfoldable pub forked : Birth → ℕ → ProcessOf C H K → LwpOf H K → List ℕ → ℕ → ProcessOf C H K
   forked birth pid p l args clock = record {
     parent = pid;
@@ -122,6 +162,8 @@ module _ {C H K : Type 0} (m : Machine C H K) where
     made_at = clock;
     ended = None;
     space = p.space;
+    lender = lender_of birth pid;
+    borrower = None;
     fds = p.fds;
     dispositions = p.dispositions;
     pending = nothing_pending;
@@ -134,18 +176,20 @@ module _ {C H K : Type 0} (m : Machine C H K) where
   -- a system with a forked child, which shares its parent's open files
   unfoldable pub with_child : Birth → ℕ → ProcessOf C H K → LwpOf H K → List ℕ → SystemOf C H K → SystemOf C H K
   with_child birth pid p l args s =
-      with_made (forked birth pid p l args s.clock) (record s { files = with_all_shared s.files p.fds })
+      with_made (forked birth pid p l args s.clock)
+      (with_lent birth pid s.made (record s { files = with_all_shared s.files p.fds }))
 
   -- An lwp that runs another program keeps its held set, its pending signals and what is set on it (exec(2)).
   unfoldable pub started : LwpOf H K → LwpOf H K
   started l = record l { regs = first_registers; frames = [] }
 
-  -- A process that runs another program, with the lwp of this id alone: its space is the program's, it keeps its
-  -- descriptors, the signals that it ignores, and those that are pending.
+  -- A process that runs another program, with the lwp of this id alone: its space is the program's, and no loan; it keeps
+  -- its descriptors, the signals that it ignores, and those that are pending.
   unfoldable pub with_program : ℕ → LwpOf H K → Program → ProcessOf C H K → ProcessOf C H K
   with_program id l program p = record p {
     program = program.name;
     space = first_space program;
+    lender = None;
     dispositions = map uncaught p.dispositions;
     lwps = (id, started l) ∷ [];
     control = m.of_exec p.control;
@@ -164,14 +208,15 @@ module _ {C H K : Type 0} (m : Machine C H K) where
   unfoldable pub zombie : ℕ → ProcessOf C H K → ProcessOf C H K
   zombie status p = record (bare_process p.parent p.program p.made_at) { ended = Some status; control = m.of_zombie p.control }
 
-  -- A live process ends with a wait status: it loses its lwps, its descriptors and its memory, its children get process
-  -- 0 as their parent, and its own parent gets SIGCLD.
+  -- A live process ends with a wait status: it loses its lwps, its descriptors and its memory, what it borrowed or lent
+  -- is passed on, its children get process 0 as their parent, and its own parent gets SIGCLD.
   unfoldable pub with_this_ended : ℕ → ProcessOf C H K → ℕ → SystemOf C H K → SystemOf C H K
   with_this_ended pid p status s =
-      with_parent_signalled p.parent pid status (record s {
+      with_parent_signalled p.parent pid status
+      (with_loans_passed pid p (record s {
         files = with_all_closed s.files p.fds;
         processes = map_each (orphaned pid) (change_under pid (zombie status) s.processes);
-      })
+      }))
 
   abbrev pub ended_if_live : ℕ → ℕ → SystemOf C H K → Option (ProcessOf C H K) → SystemOf C H K
   ended_if_live pid status s None = s

@@ -6,6 +6,7 @@ use Rattle.pr_model.specs.CallEffects.{call_effect}
 use Rattle.pr_model.specs.Changes.{is_over}
 use Rattle.pr_model.specs.Machines.{traced}
 use Rattle.pr_model.specs.Points.{meets, after_meeting}
+use Rattle.pr_model.specs.Readers.{has_lent}
 use Rattle.pr_model.specs.Rows.{Row, row_for}
 use Rattle.pr_model.specs.Signals.{has_takeable}
 use Rattle.pr_model.specs.State.{TracedSystem, TracedProcess, TracedLwp, live_process, lwp_of, with_process}
@@ -23,9 +24,11 @@ use Rattle.pr_model.specs.declared.processes.Usage.{Usage}
 -- ---- who may have a turn
 
 -- Whether an lwp of an id is held back: it stands on an event of interest, or is suspended, or its process is stopped
--- by job control, which does not hold the agent.
+-- by job control, which does not hold the agent, or has lent its memory, which lets it move only to stop as directed.
 unfoldable pub is_held_back : TracedProcess → ℕ → TracedLwp → Bool
-is_held_back p id l = has_event_stop l || (l.suspended || (is_some p.job_stop && not (id == agent_id)))
+is_held_back p id l =
+    has_event_stop l
+    || (l.suspended || ((is_some p.job_stop && not (id == agent_id)) || (has_lent p && not l.control.directed)))
 
 module _ (s : TracedSystem) (pid : ℕ) (p : TracedProcess) (id : ℕ) (l : TracedLwp) where
   -- Whether a call in which an lwp sleeps since some moment is ready: it would not sleep any more. Only these calls may

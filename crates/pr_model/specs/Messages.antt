@@ -24,7 +24,7 @@ use Rattle.pr_model.specs.Running.{without_current, without_fault, run_lwp, lwp_
 use Rattle.pr_num.specs.Infos.{by_controller}
 use Rattle.pr_num.specs.Limits.{area_limit, lwp_limit, signal_count, all_signals}
 use Rattle.pr_model.specs.Signals.{generated, is_kill}
-use Rattle.pr_model.specs.Readers.{space_seen}
+use Rattle.pr_model.specs.Readers.{has_lent, space_seen}
 use Rattle.pr_model.specs.State.{TracedSystem, TracedControl, TracedProcess, TracedLwp, has_agent, lwp_of, with_lwp, with_process}
 use Rattle.pr_model.specs.Stops.{directed, has_event_stop, representative, shown, with_all_directed}
 use Rattle.pr_model.specs.declared.calls.Reply.{Reply}
@@ -250,6 +250,10 @@ module _ (s : TracedSystem) (pid : ℕ) (p : TracedProcess) where
       if is_ok (bytes_for 0 p.space at (length bytes)) then with_process_changed len (with_space (with_bytes at bytes p.space))
       else refused s Io
 
+  -- EBUSY: the process has lent its memory (vfork(2)). Nobody writes, watches or gets an agent there until it is back.
+  abbrev pub unless_lent : Controlled → Controlled
+  unless_lent answer = if has_lent p then refused s Busy else answer
+
   -- the moment at which a wait of so many milliseconds ends; 0 sets no end
   abbrev pub wait_end : ℕ → ℕ
   wait_end ms = if ms == 0 then 0 else s.clock + ms
@@ -276,7 +280,7 @@ module _ (s : TracedSystem) (pid : ℕ) (p : TracedProcess) where
   message_answer aim (Unset modes) tail len = with_set len (without_modes modes)
   message_answer aim (Sreg regs) tail len = on_stopped aim len (with_registers regs)
   message_answer aim (Svaddr pc) tail len = on_stopped aim len (with_address pc)
-  message_answer aim (Watch at size flags) tail len = watch_answer at size flags len
-  message_answer aim (Agent regs) tail len = agent_answer regs len
+  message_answer aim (Watch at size flags) tail len = unless_lent (watch_answer at size flags len)
+  message_answer aim (Agent regs) tail len = unless_lent (agent_answer regs len)
   message_answer aim (Read at size) tail len = read_answer at size
-  message_answer aim (Write at size) tail len = write_answer at tail len
+  message_answer aim (Write at size) tail len = unless_lent (write_answer at tail len)

@@ -1,4 +1,4 @@
-use Rattle.std.specs.Prelude.{◌==◌, ◌+◌, ◌*◌, ◌%◌, ℕ, Bool, List, [], ◌∷◌, Option, Some, None, Result, Ok, Err, find, nat_le, nat_lt, if◌then◌else◌}
+use Rattle.std.specs.Prelude.{◌==◌, ◌+◌, ◌*◌, ◌%◌, ◌||◌, ℕ, Bool, not, List, [], ◌∷◌, Option, Some, None, Result, Ok, Err, find, is_some, length, nat_le, nat_lt, if◌then◌else◌}
 use Rattle.std.specs.Str.{bytes_eq}
 use Rattle.pr_num.specs.Agents.{agent_id}
 use Rattle.pr_num.specs.Programs.{Program}
@@ -9,7 +9,7 @@ use Rattle.pr_num.specs.declared.errnos.Errno.TheVariants.{Inval, Noent, Again, 
 use Rattle.pr_num.specs.Limits.{process_limit, sleep_limit}
 use Rattle.pr_parts.specs.AddressSpaces.{with_bytes}
 use Rattle.pr_model.specs.Changes.{Effect, sleeps, ends, ends_process, gives, fails, forks, becomes, reaps, space_is}
-use Rattle.pr_model.specs.Lives.{by_fork}
+use Rattle.pr_model.specs.Lives.{by_fork, by_vfork}
 use Rattle.pr_model.specs.MemoryCalls.{can_write, path_at}
 use Rattle.pr_model.specs.FileCallRows.{word_size}
 use Rattle.pr_model.specs.Readers.{Children, no_child, all_live, first_zombie, size_of, total_has_room}
@@ -60,6 +60,17 @@ module _ {C H K : Type 0} (s : SystemOf C H K) (p : ProcessOf C H K) (id : ℕ) 
       else (if nat_le process_limit s.made then fails Again
       else (if total_has_room s (size_of p) 0 then gives s.made (forks by_fork args ∷ []) else fails Nomem))
 
+  -- vfork(2): gives the child's id; the child has the memory of the process, as a loan. ENOTSUP: by the agent, or beside
+  -- another lwp; EAGAIN: as many processes were made as can be. No memory is mapped.
+  unfoldable pub vfork_effect : List ℕ → Effect
+  vfork_effect args =
+      if (id == agent_id) || not (length p.lwps == 1) then fails Notsup
+      else (if nat_le process_limit s.made then fails Again else gives s.made (forks by_vfork args ∷ []))
+
+  -- how many bytes a process gives up when it runs another program: a loan goes back
+  unfoldable pub given_up : ℕ
+  given_up = if is_some p.lender then 0 else size_of p
+
   -- exec(2): the process runs the program that a path names. ENOTSUP: by the agent; EFAULT, EINVAL: the path; ENOENT:
   -- no such program; ENOMEM: too much would be mapped.
   unfoldable pub exec_effect : ℕ → Effect
@@ -68,7 +79,7 @@ module _ {C H K : Type 0} (s : SystemOf C H K) (p : ProcessOf C H K) (id : ℕ) 
       found : Option Program → Effect
       found None = fails Noent
       found (Some program) =
-          if total_has_room s (mapped_size (first_space program)) (size_of p) then gives 0 (becomes program ∷ []) else fails Nomem
+          if total_has_room s (mapped_size (first_space program)) given_up then gives 0 (becomes program ∷ []) else fails Nomem
 
       of : Result (List ℕ) Errno → Effect
       of (Err e) = fails e

@@ -1,4 +1,4 @@
-use Rattle.std.specs.Prelude.{◌==◌, ◌+◌, ℕ, Bool, List, [], ◌∷◌, Option, Some, None, nat_le, if◌then◌else◌}
+use Rattle.std.specs.Prelude.{◌==◌, ◌+◌, ℕ, zero, suc, Bool, List, [], ◌∷◌, Option, Some, None, is_some, nat_le, if◌then◌else◌}
 use Rattle.pr_num.specs.Limits.{all_mappings_limit}
 use Rattle.pr_num.specs.Spaces.{Space, mapped_size}
 use Rattle.pr_parts.specs.PendingSignals.{Pending}
@@ -47,16 +47,51 @@ module _ {C H K : Type 0} where
   unfoldable pub children_of : SystemOf C H K → ℕ → Children
   children_of s pid = children_among pid s.processes
 
+  -- ---- lent memory (vfork(2))
+
+  -- whether a process has lent its memory
+  abbrev pub has_lent : ProcessOf C H K → Bool
+  has_lent p = is_some p.borrower
+
+  abbrev borrower_in : Option (ProcessOf C H K) → Option ℕ
+  borrower_in None = None
+  borrower_in (Some p) = p.borrower
+
+  abbrev lender_in : Option (ProcessOf C H K) → Option ℕ
+  lender_in None = None
+  lender_in (Some p) = p.lender
+
+  abbrev space_in : Option (ProcessOf C H K) → Space
+  space_in None = []
+  space_in (Some p) = p.space
+
+  -- to whom the process of an id has lent its memory, whose memory it has, and its own memory
+  unfoldable pub borrower_at : SystemOf C H K → ℕ → Option ℕ
+  borrower_at s pid = borrower_in (process_of s pid)
+
+  unfoldable pub lender_at : SystemOf C H K → ℕ → Option ℕ
+  lender_at s pid = lender_in (process_of s pid)
+
+  unfoldable pub space_at : SystemOf C H K → ℕ → Space
+  space_at s pid = space_in (process_of s pid)
+
+  -- The memory that a process with this borrower and this memory of its own shows: its own, or that of the last of the
+  -- chain of borrowers, of which at most so many are followed.
+  abbrev pub space_shown : SystemOf C H K → ℕ → Option ℕ → Space → Space
+  space_shown s n None space = space
+  space_shown s zero (Some pid) space = []
+  space_shown s (suc n) (Some pid) space = space_shown s n (borrower_at s pid) (space_at s pid)
+
   -- The address space of a process of a system as all that is not the process itself sees it: controllers through its
-  -- files and messages, and the tracer.
+  -- files and messages, and the tracer. No chain of borrowers is longer than the processes that were made.
   abbrev pub space_seen : SystemOf C H K → ProcessOf C H K → Space
-  space_seen s p = p.space
+  space_seen s p = space_shown s s.made p.borrower p.space
 
   -- how many bytes of it are mapped, as controllers see them
   unfoldable pub size_seen : SystemOf C H K → ProcessOf C H K → ℕ
   size_seen s p = mapped_size (space_seen s p)
 
-  -- how many bytes a process has mapped, as every limit counts them
+  -- how many bytes a process has mapped, as every limit counts them: what is lent counts with its borrower
   unfoldable pub size_of : ProcessOf C H K → ℕ
   size_of p = mapped_size p.space
 

@@ -52,6 +52,11 @@ module _ {C H K : Type 0} where
   unfoldable pub with_process : ℕ → (ProcessOf C H K → ProcessOf C H K) → SystemOf C H K → SystemOf C H K
   with_process pid change s = record s { processes = change_under pid change s.processes }
 
+  -- that of an id, if there is one
+  abbrev pub with_process_if : Option ℕ → (ProcessOf C H K → ProcessOf C H K) → SystemOf C H K → SystemOf C H K
+  with_process_if None change s = s
+  with_process_if (Some pid) change s = with_process pid change s
+
   -- an lwp of a process
   abbrev pub lwp_of : ProcessOf C H K → ℕ → Option (LwpOf H K)
   lwp_of p id = under id p.lwps

@@ -20,7 +20,7 @@ use Rattle.pr_rec.specs.declared.lwps.Disposition.TheVariants as disposition
 use Rattle.pr_rec.specs.declared.lwps.LwpStatus.{LwpStatus}
 use Rattle.pr_rec.specs.declared.statuses.Status.{Status}
 use Rattle.pr_parts.specs.PendingSignals.{pending_set}
-use Rattle.pr_model.specs.Readers.{space_seen}
+use Rattle.pr_model.specs.Readers.{has_lent, space_seen}
 use Rattle.pr_model.specs.Registers.{arguments}
 use Rattle.pr_model.specs.Running.{is_asleep}
 use Rattle.pr_model.specs.Signals.{disposition_of}
@@ -162,9 +162,9 @@ abbrev pub status_of_found : TracedProcess → Option (ℕ × TracedLwp) → Lwp
 status_of_found p None = no_lwp
 status_of_found p (Some e) = lwpstatus_of p e.0 e.1
 
--- a process's flags: its modes, and whether it is the system process
+-- a process's flags: its modes, whether it is the system process, and whether it has lent its memory
 unfoldable pub process_flags : ℕ → TracedProcess → ℕ
-process_flags pid p = process_flags_of p.control.modes (pid == 0)
+process_flags pid p = process_flags_of p.control.modes (pid == 0) (has_lent p)
 
 -- the status of the process of an id
 unfoldable pub status_of : TracedSystem → ℕ → TracedProcess → Status

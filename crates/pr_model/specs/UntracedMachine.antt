@@ -29,11 +29,13 @@ use Rattle.pr_model.specs.declared.steps.Step.TheVariants.{Exec, Call, Sleep, Fi
 -- The untraced machine: the system as it runs with no controller. It may choose which lwp goes on; what a step of that
 -- lwp does is determined. A system call is one step.
 
--- Whether an lwp can make a step at all: its process is live and not stopped by job control, and it is not suspended.
+-- Whether an lwp can make a step at all: its process is live, is not stopped by job control and has not lent its
+-- memory, and it is not suspended.
 pub record MayStep (u : UntracedSystem) (pid id : ℕ) (p : UntracedProcess) (l : UntracedLwp) : Type 0 where
   pub live : live_process u pid ≡ Some p
   pub there : lwp_of p id ≡ Some l
   pub not_stopped : p.job_stop ≡ None
+  pub own_memory : p.borrower ≡ None
   pub not_suspended : l.suspended ≡ false
 
 -- a step of the lwp of an id, which makes this transition

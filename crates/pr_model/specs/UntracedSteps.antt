@@ -50,7 +50,7 @@ with_returning p l out m = record m { returning = with_lwp_at p l out m.returnin
 unfoldable pub with_named : ℕ → ℕ → Memory → Memory
 with_named handle pid m = record m { named = with_handle_at handle pid m.named }
 
--- the first lwp of a forked child begins on its way out of fork
+-- the first lwp of a child begins on its way out of the call that made it
 abbrev pub with_child_of : Sysno → Res → Memory → Memory
 with_child_of call (Value child) m = if is_fork_call call then with_returning child 1 true m else m
 with_child_of call result m = m

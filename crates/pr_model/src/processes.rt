@@ -19,7 +19,8 @@ pub struct Usage {
 /// pending signals, `L` its lwps, and `C` what controllers set on it.
 ///
 /// A zombie has ended and waits to be reaped. It has nothing of what stands from `space` on, but for its usage: no
-/// memory, no descriptors, no lwps, no traced events and no modes; its next lwp would be the first.
+/// memory, nothing lent or borrowed, no descriptors, no lwps, no traced events and no modes; its next lwp would be the
+/// first.
 #[derive(Drop)]
 pub struct ProcessOf<S, F, P, L, C> {
     /// The parent's id, 0 once the parent has ended.
@@ -30,7 +31,12 @@ pub struct ProcessOf<S, F, P, L, C> {
     pub made_at: u64,
     /// The wait status of a zombie (wait.h(3HEAD)).
     pub ended: Option<u64>,
+    /// Its mappings; none while it has lent them.
     pub space: S,
+    /// The process whose mappings it has, until it runs another program or either of the two ends (vfork(2)).
+    pub lender: Option<u32>,
+    /// The process to which it has lent its mappings, until they come back.
+    pub borrower: Option<u32>,
     pub fds: F,
     /// For each signal from 1 on: 0 default, 1 ignored, else the address of its handler.
     pub dispositions: [u64; SIGNAL_COUNT],

@@ -108,3 +108,7 @@ agent_flag = 32
 -- beside the modes of a process: it is the system process
 abbrev pub issys_flag : ℕ
 issys_flag = 16
+
+-- it has lent its address space to a child (vfork(2))
+abbrev pub vforkp_flag : ℕ
+vforkp_flag = 32

@@ -16,7 +16,7 @@ abbrev pub fault_count : ℕ
 fault_count = 8
 
 abbrev pub syscall_count : ℕ
-syscall_count = 30
+syscall_count = 31
 
 -- the words of the sets of all of them
 abbrev pub all_signals : ℕ

@@ -104,7 +104,7 @@ first_lwpstatus_ranges =
 -- watched areas, and the status of the representative lwp.
 abbrev pub status_ranges : List Range
 status_ranges =
-    (below 32 ∷ an_id ∷ an_id ∷ any_word ∷ signal_set ∷ signal_set ∷ fault_set ∷ call_set ∷ call_set
+    (below 64 ∷ an_id ∷ an_id ∷ any_word ∷ signal_set ∷ signal_set ∷ fault_set ∷ call_set ∷ call_set
     ∷ any_word ∷ any_word ∷ an_id ∷ any_word ∷ []) ++ lwpstatus_ranges
 
 -- The 12 words of what ps(1) shows of a process: process id, parent's id, number of lwps, whether it is a zombie, its

@@ -2,13 +2,13 @@ use Rattle.std.specs.Prelude.{true, false, ℕ, Bool, Option, List, [], ◌∷�
 use Rattle.std.specs.Str.{bytes_eq}
 use Rattle.pr_num.specs.Tables.{entry_at}
 use Rattle.pr_num.specs.declared.syscalls.Sysno.{Sysno}
-use Rattle.pr_num.specs.declared.syscalls.Sysno.TheVariants.{Exit, Fork, Read, Write, Open, Close, Wait, Getpid, Getppid, Exec, Pipe, Dup, Lseek, Kill, Sigaction, Sigmask, Pause, Sigreturn, Brk, Mmap, Munmap, Mprotect, Time, Sleep, LwpCreate, LwpExit, LwpSuspend, LwpContinue, Fstat, Sigqueue}
+use Rattle.pr_num.specs.declared.syscalls.Sysno.TheVariants.{Exit, Fork, Read, Write, Open, Close, Wait, Getpid, Getppid, Exec, Pipe, Dup, Lseek, Kill, Sigaction, Sigmask, Pause, Sigreturn, Brk, Mmap, Munmap, Mprotect, Time, Sleep, LwpCreate, LwpExit, LwpSuspend, LwpContinue, Fstat, Sigqueue, Vfork}
 use Rattle.pr_num.specs.declared.syscalls.ArgKind.{ArgKind}
 use Rattle.pr_num.specs.declared.syscalls.ArgKind.TheVariants.{Dec, Hex, Text, Buf}
 
 -- every system call, in the order of its number, which counts from 1
 abbrev pub syscalls : List Sysno
-syscalls = Exit ∷ Fork ∷ Read ∷ Write ∷ Open ∷ Close ∷ Wait ∷ Getpid ∷ Getppid ∷ Exec ∷ Pipe ∷ Dup ∷ Lseek ∷ Kill ∷ Sigaction ∷ Sigmask ∷ Pause ∷ Sigreturn ∷ Brk ∷ Mmap ∷ Munmap ∷ Mprotect ∷ Time ∷ Sleep ∷ LwpCreate ∷ LwpExit ∷ LwpSuspend ∷ LwpContinue ∷ Fstat ∷ Sigqueue ∷ []
+syscalls = Exit ∷ Fork ∷ Read ∷ Write ∷ Open ∷ Close ∷ Wait ∷ Getpid ∷ Getppid ∷ Exec ∷ Pipe ∷ Dup ∷ Lseek ∷ Kill ∷ Sigaction ∷ Sigmask ∷ Pause ∷ Sigreturn ∷ Brk ∷ Mmap ∷ Munmap ∷ Mprotect ∷ Time ∷ Sleep ∷ LwpCreate ∷ LwpExit ∷ LwpSuspend ∷ LwpContinue ∷ Fstat ∷ Sigqueue ∷ Vfork ∷ []
 
 -- the number of a call, of this project's own
 unfoldable pub syscall_number : Sysno → ℕ
@@ -42,6 +42,7 @@ syscall_number LwpSuspend = 27
 syscall_number LwpContinue = 28
 syscall_number Fstat = 29
 syscall_number Sigqueue = 30
+syscall_number Vfork = 31
 
 -- the name of a call (section 2 of the manual)
 unfoldable pub syscall_name : Sysno → List ℕ
@@ -75,6 +76,7 @@ syscall_name LwpSuspend = codes "lwp_suspend"
 syscall_name LwpContinue = codes "lwp_continue"
 syscall_name Fstat = codes "fstat"
 syscall_name Sigqueue = codes "sigqueue"
+syscall_name Vfork = codes "vfork"
 
 -- whether these bytes are the whole name of the call
 abbrev pub is_named : List ℕ → Sysno → Bool
@@ -112,6 +114,7 @@ syscall_args LwpSuspend = Dec ∷ []
 syscall_args LwpContinue = Dec ∷ []
 syscall_args Fstat = Dec ∷ Hex ∷ []
 syscall_args Sigqueue = Dec ∷ Dec ∷ Dec ∷ []
+syscall_args Vfork = []
 
 -- whether a call makes a child that begins on its way out of that same call
 unfoldable pub is_fork_call : Sysno → Bool
@@ -145,6 +148,7 @@ is_fork_call LwpSuspend = false
 is_fork_call LwpContinue = false
 is_fork_call Fstat = false
 is_fork_call Sigqueue = false
+is_fork_call Vfork = true
 
 -- whether a call can put its lwp to sleep
 unfoldable pub may_sleep : Sysno → Bool
@@ -178,6 +182,7 @@ may_sleep LwpSuspend = false
 may_sleep LwpContinue = false
 may_sleep Fstat = false
 may_sleep Sigqueue = false
+may_sleep Vfork = false
 
 -- the call of a number, none where no call has it
 unfoldable pub syscall_of_number : ℕ → Option Sysno

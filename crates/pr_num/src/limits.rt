@@ -13,7 +13,7 @@ pub const STANDARD_SIGNAL_COUNT: usize = 31;
 /// Faults, whose numbers count from 1.
 pub const FAULT_COUNT: usize = 8;
 /// System calls, whose numbers count from 1.
-pub const SYSCALL_COUNT: usize = 30;
+pub const SYSCALL_COUNT: usize = 31;
 
 /// Turns of a run.
 pub const TURN_LIMIT: u64 = 100_000;

@@ -1,5 +1,5 @@
 ghost use Rattle.std.specs.Prelude.{⊤, ◌≡◌, [], ◌∷◌, codes};
-ghost use Rattle.pr_num.specs.Flags.{known_bits-five};
+ghost use Rattle.pr_num.specs.Flags.{known_bits-six};
 
 use crate::flags::{FlagBits, KnownFlags, flag};
 use bitflags::{Flag, Flags, bitflag_items};
@@ -15,6 +15,7 @@ bitflag_items! {
         const KLC = 4;
         const ASYNC = 8;
         const ISSYS = 16;
+        const VFORKP = 32;
     }
 }
 
@@ -24,7 +25,7 @@ impl Flags for ProcessBits {
     ghost exact = { ⊤ };
 
     ghost table = { (codes "FORK", 1) ∷ (codes "RLC", 2) ∷ (codes "KLC", 4)
-        ∷ (codes "ASYNC", 8) ∷ (codes "ISSYS", 16) ∷ [] };
+        ∷ (codes "ASYNC", 8) ∷ (codes "ISSYS", 16) ∷ (codes "VFORKP", 32) ∷ [] };
 
     ghost set_of = { λ flags. flags.0 };
 
@@ -42,11 +43,11 @@ impl Flags for ProcessBits {
 }
 
 impl FlagBits for ProcessBits {
-    ghost width = { 5 };
+    ghost width = { 6 };
 
     ghost is_exact = { tt };
 
-    ghost lowest = { known_bits-five _ _ _ _ _ };
+    ghost lowest = { known_bits-six _ _ _ _ _ _ };
 }
 
 /// What a process is and how it is traced (proc(4), "status"). Seen by contracts as the word of its flags, whose
@@ -68,4 +69,7 @@ impl KnownFlags<ProcessBits> {
 
     /// It is the system process (PR_ISSYS).
     pub const ISSYS: ProcessFlags = flag!(ProcessBits::ISSYS);
+
+    /// It has lent its address space to a child (PR_VFORKP).
+    pub const VFORKP: ProcessFlags = flag!(ProcessBits::VFORKP);
 }

@@ -1,7 +1,7 @@
 ghost use Rattle.std.specs.Prelude.{◌≡◌, ◌≢◌, ◌==◌, ◌-◌, ◌^◌, ◌<◌, ◌≤◌, ◌↔◌, ◌&&◌, ◌||◌, ℕ, not, true, false, Some, IsSome, [], ◌∷◌};
 ghost use Rattle.pr_num.specs.Sets.{has_number, union_word, common_word, minus_word, with_number, without_number, set_of_word, least_entry};
 ghost use Rattle.pr_num.specs.Signals.{holdable_word};
-ghost use Rattle.pr_num.specs.Control.{has_flags, fork_mode, rlc_mode, klc_mode, async_mode, watch_read, watch_write, watch_exec, watch_trap_after, prot_read, prot_write, prot_exec, clear_signal, clear_fault, single_step, abort_call, stop_again, issys_flag, stopped_flag, istop_flag, dstop_flag, step_flag, asleep_flag, agent_flag};
+ghost use Rattle.pr_num.specs.Control.{has_flags, fork_mode, rlc_mode, klc_mode, async_mode, watch_read, watch_write, watch_exec, watch_trap_after, prot_read, prot_write, prot_exec, clear_signal, clear_fault, single_step, abort_call, stop_again, issys_flag, vforkp_flag, stopped_flag, istop_flag, dstop_flag, step_flag, asleep_flag, agent_flag};
 
 use crate::lwp_flags::LwpFlags;
 use crate::modes::Modes;
@@ -94,8 +94,8 @@ pub fn words_of_run_flags() -> [u64; 5]
 }
 
 /// The words of the flags of a process.
-pub fn words_of_process_flags() -> [u64; 5]
-    ensures { result ≡ fork_mode ∷ rlc_mode ∷ klc_mode ∷ async_mode ∷ issys_flag ∷ [] }
+pub fn words_of_process_flags() -> [u64; 6]
+    ensures { result ≡ fork_mode ∷ rlc_mode ∷ klc_mode ∷ async_mode ∷ issys_flag ∷ vforkp_flag ∷ [] }
 {
     [
         ProcessFlags::FORK.word(),
@@ -103,6 +103,7 @@ pub fn words_of_process_flags() -> [u64; 5]
         ProcessFlags::KLC.word(),
         ProcessFlags::ASYNC.word(),
         ProcessFlags::ISSYS.word(),
+        ProcessFlags::VFORKP.word(),
     ]
 }
 

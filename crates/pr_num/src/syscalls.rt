@@ -83,6 +83,8 @@ pub enum Sysno {
     Fstat = 29,
     /// Sends a signal with a value to a process.
     Sigqueue = 30,
+    /// Makes a child process that borrows the address space.
+    Vfork = 31,
 }
 
 impl Sysno {
@@ -118,9 +120,10 @@ impl Sysno {
         Sysno::LwpContinue,
         Sysno::Fstat,
         Sysno::Sigqueue,
+        Sysno::Vfork,
     ];
 
-    /// The call of a number, `None` exactly where it is not 1 to 30.
+    /// The call of a number, `None` exactly where it is not 1 to 31.
     #[tactic(auto, unfolding(crate::specs::Syscalls::syscall_of_number))]
     pub fn from_number(n: u64) -> Option<Sysno>
         ensures { result ≡ syscall_of_number n }
@@ -128,7 +131,7 @@ impl Sysno {
         tables::entry_at(&Sysno::ALL, n)
     }
 
-    /// The call's number, 1 to 30.
+    /// The call's number, 1 to 31.
     #[tactic(auto, unfolding(crate::specs::Syscalls::syscall_number))]
     pub fn number(self) -> u64
         ensures value { result ≡ syscall_number self }
@@ -184,6 +187,7 @@ impl Sysno {
             Sysno::LwpContinue => "lwp_continue",
             Sysno::Fstat => "fstat",
             Sysno::Sigqueue => "sigqueue",
+            Sysno::Vfork => "vfork",
         }
     }
 
@@ -223,15 +227,16 @@ impl Sysno {
             Sysno::LwpContinue => &[ArgKind::Dec],
             Sysno::Fstat => &[ArgKind::Dec, ArgKind::Hex],
             Sysno::Sigqueue => &[ArgKind::Dec, ArgKind::Dec, ArgKind::Dec],
+            Sysno::Vfork => &[],
         }
     }
 
-    /// Whether the call makes a child that begins on its way out of that same call (fork(2)).
+    /// Whether the call makes a child that begins on its way out of that same call (fork(2), vfork(2)).
     #[tactic(auto, unfolding(crate::specs::Syscalls::is_fork_call))]
     pub fn is_fork_call(self) -> bool
         ensures { result ≡ is_fork_call self }
     {
-        matches!(self, Sysno::Fork)
+        matches!(self, Sysno::Fork | Sysno::Vfork)
     }
 
     /// Whether the call can put its lwp to sleep.

@@ -63,7 +63,7 @@ pub fn errno_names(errno: Errno)
     ensures none { (bytes : List ℕ) (other : AnyErrno) → errno_of_name bytes ≡ None → bytes ≢ errno_name other }
 {}
 
-/// The numbers of calls are 1 to 30, each of one call.
+/// The numbers of calls are 1 to 31, each of one call.
 pub fn syscall_numbers(syscall: Sysno)
     ensures back { syscall_of_number (syscall_number syscall) ≡ Some syscall }
     ensures only { (n : ℕ) (found : AnySyscall) → syscall_of_number n ≡ Some found → syscall_number found ≡ n }

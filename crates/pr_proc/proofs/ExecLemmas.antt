@@ -3,10 +3,11 @@ use Rattle.std.proofs.lemmas.Bool.{eq-eqb}
 use Rattle.std.proofs.lemmas.Option.{same_Some}
 use Rattle.pr_num.specs.ById.{change_under, put_under, under}
 use Rattle.pr_num.specs.Programs.{Program}
+use Rattle.pr_num.specs.Spaces.{Space}
 use Rattle.pr_num.proofs.ByIdLaws.{put_under-found}
-use Rattle.pr_model.specs.Lives.{with_program}
+use Rattle.pr_model.specs.Lives.{with_loan_back, with_program}
 use Rattle.pr_model.specs.Machines.{traced}
-use Rattle.pr_model.specs.State.{TracedLwp, TracedProcess, TracedSystem, live_process, lwp_of, with_process}
+use Rattle.pr_model.specs.State.{TracedLwp, TracedProcess, TracedSystem, live_process, lwp_of, with_process, with_process_if}
 use Rattle.pr_model.proofs.StateLemmas.{live_process-found}
 
 -- A process that runs another program.
@@ -32,5 +33,18 @@ unfolding with_process
 exec-run s pid id p l o g h es live own given taken step =
     let same : g ≡ h = same_Some g h (sym given ∙ taken) in
     rw same (ap (λ (ds : List (ℕ × TracedProcess)). record s { processes = ds }) (step p (live_process-found s pid p live) l own))
+
+-- and what it borrowed goes back
+pub exec-back : (s left new : TracedSystem) (pid : ℕ) (p q : TracedProcess) (space : Space)
+    → live_process s pid ≡ Some q → live_process s pid ≡ Some p
+    → ((x : TracedProcess) → under pid s.processes ≡ Some x → space ≡ x.space)
+    → ((x : TracedProcess) → x.space ≡ space → x.borrower ≡ q.borrower
+    → new ≡ with_process_if q.lender (with_loan_back pid x) left)
+    → new ≡ with_process_if p.lender (with_loan_back pid p) left
+exec-back s left new pid p q space taken live had back =
+    let same : q ≡ p = same_Some q p (sym taken ∙ live) in
+    let memory = had p (live_process-found s pid p live) in
+    back p (sym memory) (ap (λ (x : TracedProcess). x.borrower) (sym same))
+    ∙ ap (λ (x : TracedProcess). with_process_if x.lender (with_loan_back pid p) left) same
 
 pub ruleset exec_laws = (put_under-alone, under-alone)

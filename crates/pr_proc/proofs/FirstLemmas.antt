@@ -1,4 +1,4 @@
-use Rattle.std.proofs.Common.{◌≡◌, ℕ, ◌+◌, ◌<◌, ◌≤◌, false, List, [], ◌∷◌, None, IsNone, is_some, length, drop, get_or, refl, ap, sym, subst, arith}
+use Rattle.std.proofs.Common.{◌≡◌, ℕ, ◌+◌, ◌<◌, ◌≤◌, List, [], ◌∷◌, None, IsNone, is_some, length, drop, get_or, refl, ap, sym, subst, arith}
 use Rattle.std.specs.List.{All, slice_get}
 use Rattle.std.proofs.lemmas.List.Elements.{All-nil, All-cons, All-weaker}
 use Rattle.pr_num.specs.ById.{inserted, under}
@@ -9,8 +9,6 @@ use Rattle.std.proofs.lemmas.Option.{slice_get_past}
 use Rattle.pr_num.specs.Programs.{Program}
 use Rattle.pr_num.specs.declared.files.StoredFile.{StoredFile}
 use Rattle.pr_model.specs.State.{TracedProcess, TracedSystem, process_of}
-use Rattle.pr_model.specs.Lives.{with_made, with_spawned}
-use Rattle.pr_model.specs.Machines.{traced}
 use Rattle.pr_model.specs.FirstState.{spawned_at, with_spawns, bare_system}
 use Rattle.pr_model.proofs.StateLemmas.{with_spawned-made}
 

@@ -6,6 +6,7 @@ pub mod FirstLemmas
 pub mod ForkLemmas
 pub mod IdLemmas
 pub mod LifeLemmas
+pub mod LoanLemmas
 pub mod OrderLemmas
 pub mod ProgramLemmas
 pub mod SendingLemmas

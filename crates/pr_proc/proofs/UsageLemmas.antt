@@ -7,10 +7,10 @@ use Rattle.pr_num.specs.declared.infos.Info.{Info}
 use Rattle.pr_num.specs.declared.signals.Sig.{Sig}
 use Rattle.pr_parts.specs.SignalRules.{deleted_by}
 use Rattle.pr_model.specs.Generation.{ends_job_stop, signalled, with_deletions, with_pending, without_job_stop, without_pending}
-use Rattle.pr_model.specs.Lives.{bare_process, ended_if_live, orphaned, with_made, with_ended, with_parent_signalled, with_reaped, with_this_ended, zombie}
+use Rattle.pr_model.specs.Lives.{Birth, bare_process, by_fork, by_vfork, ended_if_live, is_id, lent_to, orphaned, with_ended, with_lender_of, with_lent, with_loan_back, with_loans_passed, with_made, with_parent_signalled, with_reaped, with_this_ended, zombie}
 use Rattle.pr_model.specs.Machines.{nothing_set, nothing_used, traced, zombie_control}
 use Rattle.pr_model.specs.Signals.{generated, is_kill}
-use Rattle.pr_model.specs.State.{TracedProcess, TracedSystem, live_process, with_process}
+use Rattle.pr_model.specs.State.{TracedProcess, TracedSystem, live_process, with_process, with_process_if}
 use Rattle.pr_proc.specs.Counts.{AllUsedAtMost, HasUsedAtMost, UsedAtMost}
 
 -- What keeps what processes have used.
@@ -26,6 +26,47 @@ AllUsedAtMost-each : (n : ℕ) (f : TracedProcess → TracedProcess) (ps : List 
 AllUsedAtMost-each n f ps s kept h = record {
   each = All-map_each (HasUsedAtMost n) (HasUsedAtMost n) f (λ e within. subst (UsedAtMost n) (sym (kept e.1)) within) ps h.each;
 }
+
+AllUsedAtMost-with_process_if : (n : ℕ) (o : Option ℕ) (f : TracedProcess → TracedProcess) (s : TracedSystem)
+    → ((p : TracedProcess) → (f p).control.usage ≡ p.control.usage) → AllUsedAtMost n s
+    → AllUsedAtMost n (with_process_if o f s)
+AllUsedAtMost-with_process_if n None f s kept h = h
+AllUsedAtMost-with_process_if n (Some pid) f s kept h = AllUsedAtMost-with_process n pid f s kept h
+
+-- ---- lent memory
+
+lent-usage : (child : ℕ) (p : TracedProcess) → (lent_to child p).control.usage ≡ p.control.usage
+unfolding lent_to
+lent-usage child p = refl
+
+loan_back-usage : (pid : ℕ) (p lender : TracedProcess)
+    → (with_loan_back pid p lender).control.usage ≡ lender.control.usage
+unfolding with_loan_back
+loan_back-usage pid p lender = elim (cases_Bool (is_id pid lender.borrower)) [ inl e ↦ rw e refl | inr e ↦ rw e refl ]
+
+lender_of-usage : (pid : ℕ) (p borrower : TracedProcess)
+    → (with_lender_of pid p borrower).control.usage ≡ borrower.control.usage
+unfolding with_lender_of
+lender_of-usage pid p borrower = elim (cases_Bool (is_id pid borrower.lender)) [ inl e ↦ rw e refl | inr e ↦ rw e refl ]
+
+-- a child takes its maker's memory
+pub AllUsedAtMost-lent : (n : ℕ) (birth : Birth) (pid child : ℕ) (s : TracedSystem) → AllUsedAtMost n s
+    → AllUsedAtMost n (with_lent birth pid child s)
+AllUsedAtMost-lent n by_fork pid child s h = h
+AllUsedAtMost-lent n by_vfork pid child s h = AllUsedAtMost-with_process n pid (lent_to child) s (lent-usage child) h
+
+-- a loan goes back
+pub AllUsedAtMost-loan_back : (n pid : ℕ) (p : TracedProcess) (o : Option ℕ) (s : TracedSystem) → AllUsedAtMost n s
+    → AllUsedAtMost n (with_process_if o (with_loan_back pid p) s)
+AllUsedAtMost-loan_back n pid p o s h =
+    AllUsedAtMost-with_process_if n o (with_loan_back pid p) s (loan_back-usage pid p) h
+
+AllUsedAtMost-loans_passed : (n pid : ℕ) (p : TracedProcess) (s : TracedSystem) → AllUsedAtMost n s
+    → AllUsedAtMost n (with_loans_passed pid p s)
+unfolding with_loans_passed
+AllUsedAtMost-loans_passed n pid p s h =
+    AllUsedAtMost-loan_back n pid p p.lender _
+    (AllUsedAtMost-with_process_if n p.borrower (with_lender_of pid p) s (lender_of-usage pid p) h)
 
 -- ---- the end of a process
 
@@ -66,7 +107,8 @@ AllUsedAtMost-ended n pid p status s h =
     let buried : AllUsedAtMost n (record s { processes = change_under pid (zombie traced status) s.processes }) = record {
       each = All-change_under (HasUsedAtMost n) pid (zombie traced status) s.processes (λ q at within. subst (UsedAtMost n) (sym (zombie-usage status q)) within) h.each;
     } in
-    AllUsedAtMost-signalled n p.parent pid status _ (record { each = (AllUsedAtMost-each n (orphaned pid) _ s (orphaned-usage pid) buried).each })
+    let left = AllUsedAtMost-each n (orphaned pid) _ s (orphaned-usage pid) buried in
+    AllUsedAtMost-signalled n p.parent pid status _ (AllUsedAtMost-loans_passed n pid p _ (record { each = left.each }))
 
 -- what bounds all counts bounds those of a process
 pub AllUsedAtMost-under : (n pid : ℕ) (s : TracedSystem) (p : TracedProcess) → under pid s.processes ≡ Some p → AllUsedAtMost n s → UsedAtMost n p.control.usage

@@ -9,14 +9,17 @@ ghost use Rattle.pr_model.specs.Lives.{orphaned, with_ended, with_parent_signall
 ghost use Rattle.pr_model.specs.Machines.{traced, zombie_control};
 ghost use Rattle.pr_model.specs.State.{live_process, with_process};
 
+use crate::loans::{give_back, leave_lender};
 use crate::signals::tell;
 use crate::{Proc, Sys, live};
 use pr_file::Fds;
+use pr_mem::Space;
 use pr_model::Control;
 use pr_num::limits::SIGNAL_COUNT;
 use pr_num::{ById, FltSet, Info, Modes, Sig, SigSet, SysSet};
 use pr_sig::Pendings;
 use pr_watch::Areas;
+use std::alloc::Global;
 use std::mem;
 
 /// Leaves of what controllers set on a process what a zombie keeps, its usage.
@@ -33,22 +36,25 @@ fn clear_control(control: &mut Control<Areas>)
 }
 
 /// Leaves of a process what a zombie keeps: its parent, program name, moment and usage, and this wait status. Answers
-/// the descriptors that it had.
+/// the memory and the descriptors that it had. Takes no memory.
 #[tactic(auto, unfolding(pr_model::specs::Lives::zombie, pr_model::specs::Lives::bare_process, pr_model::specs::Machines::traced))]
-fn become_zombie(process: &mut Proc, status: u64) -> Fds
+fn become_zombie(alloc: Global, process: &mut Proc, status: u64) -> (Space, Fds)
     ensures process { process.new ≡ zombie traced status process.old }
-    ensures fds { result ≡ process.old.fds }
+    ensures space { result.0 ≡ process.old.space }
+    ensures fds { result.1 ≡ process.old.fds }
 {
+    let space = mem::replace(&mut process.space, Space::new(alloc));
     let fds = mem::replace(&mut process.fds, Fds::new());
     process.ended = Some(status);
-    process.space.clear();
+    process.lender = None;
+    process.borrower = None;
     process.dispositions = [0; SIGNAL_COUNT];
     process.pending = Pendings::new();
     process.job_stop = None;
     process.next_lwp = 1;
     process.lwps.clear();
     clear_control(&mut process.control);
-    fds
+    (space, fds)
 }
 
 /// Gives a child of a process that ended process 0 as its parent.
@@ -89,18 +95,21 @@ fn tell_parent(sys: &mut Sys, parent: u32, pid: u32, status: u64)
     tell_of_child(sys.processes.get_mut(parent), pid, status);
 }
 
-/// Makes a zombie of the process of an id. Answers the descriptors that it had.
+/// Makes a zombie of the process of an id. Answers the memory and the descriptors that it had.
 #[tactic(auto, using(pr_num::proofs::ByIdLaws::by_id_laws, std::proofs::lemmas::Option::same_Some), unfolding(pr_model::specs::State::with_process))]
-fn bury(sys: &mut Sys, pid: u32, status: u64) -> Fds
+fn bury(sys: &mut Sys, pid: u32, status: u64) -> (Space, Fds)
     requires { IsSome (under pid sys.old.processes) }
     ensures system { sys.new ≡ with_process pid (zombie traced status) sys.old }
-    ensures fds { ForSome (under pid sys.old.processes) (λ p. result ≡ p.fds) }
+    ensures space { ForSome (under pid sys.old.processes) (λ p. result.0 ≡ p.space) }
+    ensures fds { ForSome (under pid sys.old.processes) (λ p. result.1 ≡ p.fds) }
 {
-    become_zombie(sys.processes.get_mut(pid), status)
+    let alloc = sys.programs.alloc();
+    become_zombie(alloc, sys.processes.get_mut(pid), status)
 }
 
 /// Ends a live process with a wait status: it becomes a zombie, its descriptors are closed, its children get process
-/// 0 as their parent, and its own parent gets SIGCLD. Takes no memory.
+/// 0 as their parent, memory that it borrowed goes back to its lender, its borrower gets that lender, and its own
+/// parent gets SIGCLD. Copies and takes no memory.
 #[tactic(auto, using(crate::proofs::LifeLemmas::life_laws), unfolding(pr_model::specs::State::with_process))]
 pub fn end(sys: &mut Sys, pid: u32, status: u64)
     requires { IsSome (live_process sys.old pid) }
@@ -108,8 +117,11 @@ pub fn end(sys: &mut Sys, pid: u32, status: u64)
 {
     let process = live(sys, pid).unwrap();
     let parent = process.parent;
-    let mut fds = bury(sys, pid, status);
+    let (lender, borrower) = (process.lender, process.borrower);
+    let (space, mut fds) = bury(sys, pid, status);
     sys.files.close_all(&mut fds);
     orphan_each(&mut sys.processes, pid);
+    leave_lender(sys, pid, borrower, lender);
+    give_back(sys, pid, lender, space, borrower);
     tell_parent(sys, parent, pid, status);
 }

@@ -1,30 +1,32 @@
-//! How a process is forked (fork(2)).
-ghost use Rattle.std.specs.Prelude.{◌≡◌, ◌+◌, ◌<◌, ◌≤◌, ◌^◌, [], ◌∷◌, None, Err, IfOk, IfSome, IsSome, OnOk, OnErr, length};
+//! How a process is forked, and how it lends its memory to a child (fork(2), vfork(2)).
+ghost use Rattle.std.specs.Prelude.{◌≡◌, ◌+◌, ◌<◌, ◌≤◌, ◌^◌, ℕ, List, [], ◌∷◌, None, Err, IfOk, IfSome, IsSome, OnOk, OnErr, length};
 ghost use Rattle.std.specs.Option.{ForSome};
 ghost use Rattle.pr_num.specs.Limits.{descriptor_limit};
 ghost use Rattle.pr_num.specs.ById.{under};
 ghost use Rattle.pr_parts.specs.FileCalls.{with_all_shared};
 ghost use Rattle.pr_parts.specs.FileTables.{HasRoom};
 ghost use Rattle.pr_model.specs.Changes.{with_fds};
-ghost use Rattle.pr_model.specs.Lives.{by_fork, forked_lwp, with_child, with_made};
+ghost use Rattle.pr_model.specs.Lives.{Birth, by_fork, by_vfork, call_of, forked_lwp, lent_to, with_child, with_made};
 ghost use Rattle.pr_model.specs.Machines.{birth_marks, birth_stop, child_control, traced};
 ghost use Rattle.pr_model.specs.Registers.{with_result};
-ghost use Rattle.pr_model.specs.State.{live_process, lwp_of, process_of, with_process};
+ghost use Rattle.pr_model.specs.State.{TracedLwp, live_process, lwp_of, process_of, with_process};
 ghost use Rattle.pr_model.specs.Statuses.{arguments_in};
 ghost use Rattle.pr_model.specs.declared.events.Res.TheVariants.{Value};
-ghost use Rattle.pr_proc.specs.Forks.{bare_child, child_of};
-ghost use Rattle.pr_proc.specs.Refusals.{Says, fork_refusal};
+ghost use Rattle.pr_proc.specs.Forks.{bare_child, with_loan};
+ghost use Rattle.pr_proc.specs.Refusals.{Says, fork_refusal, lend_refusal};
 
 use crate::lwps::no_marks;
 use crate::spawns::{add_process, nothing_set, one_lwp};
 use crate::{Lwp, Proc, ProcNo, Sys, arguments_in, live, size_of, total_has_room};
 use pr_file::Fds;
+use pr_mem::Space;
 use pr_model::{Control, Frame, Frames, LwpControl, LwpOf, Phase, ProcessOf, Res, Stop, Usage};
 use pr_num::limits::PROCESS_LIMIT;
 use pr_num::{Modes, NoMemory, Sysno};
 use pr_sig::Pendings;
 use pr_watch::Areas;
 use std::alloc::Global;
+use std::mem;
 
 fn same(frame: &Frame) -> Frame
     ensures { result ≡ frame.now }
@@ -119,14 +121,15 @@ fn with_zero(regs: [u64; 11]) -> [u64; 11]
     regs
 }
 
-/// The lwp of a forked child, on its way out of fork with 0 as its result: it has the registers, the held set and the
-/// frames of the lwp that called fork, and nothing pending.
+/// The lwp of a child, on its way out of the call that made it with 0 as its result: it has the registers, the held set
+/// and the frames of the lwp that made the call, and nothing pending.
 #[tactic(auto, unfolding(pr_model::specs::Lives::forked_lwp, pr_model::specs::Machines::traced))]
-fn forked_lwp(lwp: &Lwp, frames: Frames, args: [u64; 6], control: &Control<Areas>) -> Lwp
+fn forked_lwp(call: Sysno, lwp: &Lwp, frames: Frames, control: &Control<Areas>) -> Lwp
     requires { frames ≡ lwp.now.frames }
-    ensures { result ≡ forked_lwp traced by_fork args control.now lwp.now }
+    ensures { (birth : Birth) → call ≡ call_of birth → result ≡ forked_lwp traced birth (arguments_in lwp.now.regs lwp.now.phase) control.now lwp.now }
 {
     let regs = lwp.regs;
+    let args = arguments_in(lwp);
     LwpOf {
         regs: with_zero(regs),
         held: lwp.held,
@@ -135,37 +138,35 @@ fn forked_lwp(lwp: &Lwp, frames: Frames, args: [u64; 6], control: &Control<Areas
         frames,
         suspended: false,
         phase: Phase::Exiting {
-            call: Sysno::Fork,
+            call,
             args,
             result: Res::Value(0),
         },
-        control: birth_marks(Sysno::Fork, control),
+        control: birth_marks(call, control),
     }
 }
 
-/// A copy of a process with this lwp alone, with nothing pending, no job stop and no descriptor yet.
-#[tactic(auto, unfolding(crate::specs::Forks::bare_child, pr_model::specs::Lives::forked, pr_model::specs::Changes::with_fds, pr_model::specs::Machines::traced))]
+/// A copy of a process with this lwp alone, with nothing pending and no job stop, and no memory and no descriptor yet.
+#[tactic(auto, unfolding(crate::specs::Forks::bare_child, pr_model::specs::Lives::forked, pr_model::specs::Machines::traced))]
 fn bare_child(
     alloc: Global,
     pid: u32,
     process: &Proc,
-    lwp: &Lwp,
-    frames: Frames,
-    args: [u64; 6],
+    lwp: Lwp,
     clock: u64,
 ) -> Result<Proc, NoMemory>
-    requires { frames ≡ lwp.now.frames }
-    ensures { IfOk result (λ child. child ≡ bare_child by_fork pid process.now lwp.now args clock) }
+    ensures { IfOk result (λ child. (birth : Birth) → (args : List ℕ) → (l : TracedLwp) → lwp ≡ forked_lwp traced birth args process.now.control l → child ≡ bare_child birth pid process.now l args clock) }
 {
-    let space = process.space.copy(alloc)?;
-    let lwps = one_lwp(alloc, 1, forked_lwp(lwp, frames, args, &process.control))?;
+    let lwps = one_lwp(alloc, 1, lwp)?;
     let dispositions = process.dispositions;
     Ok(ProcessOf {
         parent: pid,
         program: process.program,
         made_at: clock,
         ended: None,
-        space,
+        space: Space::new(alloc),
+        lender: None,
+        borrower: None,
         fds: Fds::new(),
         dispositions,
         pending: Pendings::new(),
@@ -176,26 +177,26 @@ fn bare_child(
     })
 }
 
-/// A child of the live process of an id, forked by an lwp of it, before it stands in the system.
+/// A child of the live process of an id, made by this call of an lwp of it, before it stands in the system: it has no
+/// memory and no descriptor yet.
 #[tactic(auto, using(pr_num::proofs::ByIdLaws::by_id_laws, crate::proofs::LifeLemmas::life_laws))]
-fn made_child(alloc: Global, sys: &mut Sys, pid: u32, lwp: u32) -> Result<Proc, NoMemory>
+fn made_child(
+    alloc: Global,
+    sys: &mut Sys,
+    pid: u32,
+    lwp: u32,
+    call: Sysno,
+) -> Result<Proc, NoMemory>
     requires live { IsSome (live_process sys.old pid) }
     requires lwp { IfSome (live_process sys.old pid) (λ p. IsSome (lwp_of p lwp)) }
     ensures same { sys.new ≡ sys.old }
-    ensures child { IfOk result (λ child. ForSome (live_process sys.old pid) (λ p. ForSome (lwp_of p lwp) (λ l. child ≡ bare_child by_fork pid p l (arguments_in l.regs l.phase) sys.old.clock))) }
+    ensures child { IfOk result (λ child. (birth : Birth) → call ≡ call_of birth → ForSome (live_process sys.old pid) (λ p. ForSome (lwp_of p lwp) (λ l. child ≡ bare_child birth pid p l (arguments_in l.regs l.phase) sys.old.clock))) }
 {
     let frames = frames_of(sys.processes.get_mut(pid), lwp);
     let process = live(sys, pid).unwrap();
-    let forking = process.lwps.get(lwp).unwrap();
-    bare_child(
-        alloc,
-        pid,
-        process,
-        forking,
-        frames,
-        arguments_in(forking),
-        sys.clock,
-    )
+    let caller = process.lwps.get(lwp).unwrap();
+    let first = forked_lwp(call, caller, frames, &process.control);
+    bare_child(alloc, pid, process, first, sys.clock)
 }
 
 #[tactic(auto, unfolding(pr_model::specs::Changes::with_fds))]
@@ -270,7 +271,65 @@ pub fn fork(alloc: Global, sys: &mut Sys, pid: u32, lwp: u32) -> Result<u32, Pro
     if !total_has_room(sys, size, 0) {
         return Err(ProcNo::NoSpace);
     }
-    let child = made_child(alloc, sys, pid, lwp)?;
+    let mut child = made_child(alloc, sys, pid, lwp, Sysno::Fork)?;
+    child.space = live(sys, pid).unwrap().space.copy(alloc)?;
     add_child(sys, pid, child)?;
+    Ok(id)
+}
+
+/// Takes a process's memory, which it lends to a child.
+#[tactic(auto, unfolding(pr_model::specs::Lives::lent_to))]
+fn lend_space(alloc: Global, process: &mut Proc, child: u32) -> Space
+    ensures process { process.new ≡ lent_to child process.old }
+    ensures space { result ≡ process.old.space }
+{
+    process.borrower = Some(child);
+    mem::replace(&mut process.space, Space::new(alloc))
+}
+
+/// Gives a child the memory of its parent, which is its lender.
+#[tactic(auto, unfolding(crate::specs::Forks::with_loan))]
+fn borrow(child: &mut Proc, lender: u32, space: Space)
+    ensures { child.new ≡ with_loan lender space child.old }
+{
+    child.space = space;
+    child.lender = Some(lender);
+}
+
+/// Moves the memory of the process of an id to a child of it, as a loan. Copies and takes no memory.
+#[tactic(auto, using(pr_num::proofs::ByIdLaws::by_id_laws), unfolding(pr_model::specs::State::with_process, pr_model::specs::Lives::lent_to, crate::specs::Forks::with_loan))]
+fn lend_memory(alloc: Global, sys: &mut Sys, pid: u32, child: u32)
+    requires lender { IsSome (under pid sys.old.processes) }
+    requires borrower { IsSome (under child sys.old.processes) }
+    ensures { ForSome (under pid sys.old.processes) (λ p. sys.new ≡ with_process child (with_loan pid p.space) (with_process pid (lent_to child) sys.old)) }
+{
+    let space = lend_space(alloc, sys.processes.get_mut(pid), child);
+    borrow(sys.processes.get_mut(child), pid, space);
+}
+
+/// Makes a child of a live process by an lwp of it, with the arguments of the call in which that is, lends it the
+/// process's memory, which is not copied, and answers the child's id (vfork(2)). `Again` comes exactly where 4,096
+/// processes were made, and memory runs out only where that is not so. After an error the system is as it was.
+#[tactic(auto, unfolding(crate::specs::Refusals::lend_refusal))]
+pub fn lend(alloc: Global, sys: &mut Sys, pid: u32, lwp: u32) -> Result<u32, ProcNo>
+    requires live { IsSome (live_process sys.old pid) }
+    requires lwp { IfSome (live_process sys.old pid) (λ p. IsSome (lwp_of p lwp)) }
+    // no process has the next id
+    requires free { process_of sys.old sys.old.made ≡ None }
+    // open files can count a child's descriptors too
+    requires users { HasRoom sys.old.files descriptor_limit }
+    ensures ok { OnOk result (ForSome (live_process sys.old pid) (λ p. ForSome (lwp_of p lwp) (λ l. sys.new ≡ with_child traced by_vfork pid p l (arguments_in l.regs l.phase) sys.old))) }
+    ensures child { IfOk result (λ child. child ≡ sys.old.made) }
+    ensures refused { Says result (lend_refusal sys.old) }
+    ensures memory { result ≡ Err ProcNo.NoMemory → lend_refusal sys.old ≡ None }
+    ensures err { OnErr result (sys.new ≡ sys.old) }
+{
+    let id = sys.made;
+    if id >= PROCESS_LIMIT as u32 {
+        return Err(ProcNo::Again);
+    }
+    let child = made_child(alloc, sys, pid, lwp, Sysno::Vfork)?;
+    add_child(sys, pid, child)?;
+    lend_memory(alloc, sys, pid, id);
     Ok(id)
 }

@@ -1,10 +1,12 @@
 //! The programs that processes can run.
-ghost use Rattle.std.specs.Prelude.{◌≡◌, ◌<◌, ◌≤◌, IfSome, Some, length, position, slice_get, option_and_then};
+ghost use Rattle.std.specs.Prelude.{◌≡◌, ◌<◌, ◌≤◌, [], IfSome, Some, length, position, slice_get, option_and_then};
 ghost use Rattle.pr_num.specs.Limits.{program_limit};
 ghost use Rattle.pr_model.specs.ProcessCalls.{is_program_of, program_named};
 
 use crate::Sys;
 use pr_asm::Program;
+use pr_mem::Space;
+use std::alloc::Global;
 use std::marker::Model;
 
 /// Programs at places that count from 0, seen by contracts as their list: at most 256, as many as a scenario has, so that
@@ -12,10 +14,12 @@ use std::marker::Model;
 #[derive(Drop)]
 pub struct Programs {
     programs: Vec<Program>,
+    /// The address space of no process: nothing is mapped in it.
+    empty: Space,
 }
 
 impl Model for Programs {
-    ghost use Rattle.std.specs.Prelude.{◌≤◌, List, length};
+    ghost use Rattle.std.specs.Prelude.{◌≡◌, ◌≤◌, List, [], length};
     ghost use Rattle.pr_num.specs.Limits.{program_limit};
     ghost use Rattle.pr_num.specs.Programs.{Program as ProgramValue};
 
@@ -23,7 +27,7 @@ impl Model for Programs {
 
     ghost view = { λ all. all.programs.items };
 
-    ghost invariant = { λ all. length all.programs.items ≤ program_limit };
+    ghost invariant = { λ all. (length all.programs.items ≤ program_limit) × (all.empty ≡ []) };
 }
 
 impl Programs {
@@ -32,7 +36,20 @@ impl Programs {
         requires { length programs.items ≤ program_limit }
         ensures { result ≡ programs.items }
     {
-        Programs { programs }
+        let empty = Space::new(*programs.allocator());
+        Programs { programs, empty }
+    }
+
+    /// What the programs took their memory from.
+    pub(crate) fn alloc(&self) -> Global {
+        *self.programs.allocator()
+    }
+
+    /// A space in which nothing is mapped.
+    pub(crate) fn empty_space(&self) -> &Space
+        ensures { result.now ≡ [] }
+    {
+        &self.empty
     }
 
     pub fn len(&self) -> u32

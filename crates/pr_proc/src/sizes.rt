@@ -1,7 +1,9 @@
 //! How much memory processes have mapped.
-ghost use Rattle.std.specs.Prelude.{◌≡◌, ◌+◌, ◌<◌, ◌≤◌, IfSome, IfNone};
+ghost use Rattle.std.specs.Prelude.{◌≡◌, ◌+◌, ◌<◌, ◌≤◌, ℕ, IfSome, IfNone};
 ghost use Rattle.pr_num.specs.Limits.{mapping_limit};
+ghost use Rattle.pr_model.specs.ProcessCalls.{given_up};
 ghost use Rattle.pr_model.specs.Readers.{size_of, sizes_of, total_has_room};
+ghost use Rattle.pr_model.specs.State.{TracedSystem};
 
 use crate::{Proc, Sys};
 use pr_num::ById;
@@ -15,6 +17,19 @@ pub fn size_of(process: &Proc) -> u64
 {
     let _ = process.space.mappings();
     process.space.mapped()
+}
+
+/// How many bytes a process gives up when it runs another program: a loan goes back.
+#[tactic(auto, unfolding(pr_model::specs::ProcessCalls::given_up))]
+pub(crate) fn given_up(process: &Proc) -> u64
+    ensures size { (s : TracedSystem) (lwp : ℕ) → result ≡ given_up s process.now lwp }
+    ensures limit { result ≤ mapping_limit }
+{
+    if process.lender.is_some() {
+        0
+    } else {
+        size_of(process)
+    }
 }
 
 /// What is left of so many bytes once each of some processes has its own of them; `None` where they are too few.

@@ -68,6 +68,8 @@ pub(crate) fn bare_process(alloc: Global, parent: u32, name: Name, clock: u64) -
         made_at: clock,
         ended: None,
         space: Space::new(alloc),
+        lender: None,
+        borrower: None,
         fds: Fds::new(),
         dispositions: [0; SIGNAL_COUNT],
         pending: Pendings::new(),

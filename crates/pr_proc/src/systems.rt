@@ -32,11 +32,25 @@ pub fn live(sys: &Sys, pid: u32) -> Option<&Proc>
     Some(process)
 }
 
-/// The address space of a process of a system as controllers see it, through its files and by messages.
+/// The address space of a process of a system as controllers see it, through its files and by messages: its own, or
+/// that of the last of the chain of its borrowers, which is no longer than the processes that were made.
 pub fn seen<'a>(sys: &'a Sys, process: &'a Proc) -> &'a Space
     ensures { result.now ≡ space_seen sys.now process.now }
 {
-    &process.space
+    let mut shown = process;
+    for _ in 0..sys.made {
+        let Some(borrower) = shown.borrower else {
+            return &shown.space;
+        };
+        let Some(next) = sys.processes.get(borrower) else {
+            return sys.programs.empty_space();
+        };
+        shown = next;
+    }
+    if shown.borrower.is_some() {
+        return sys.programs.empty_space();
+    }
+    &shown.space
 }
 
 /// Whether a process has an agent.

@@ -1,4 +1,4 @@
-use Rattle.std.proofs.Common.{◌≡◌, ◌⊎◌, ◌&&◌, ◌||◌, ℕ, ◌+◌, ◌*◌, ◌-◌, ◌^◌, ◌<◌, ◌≤◌, true, false, is_none, IsSome, eqb, ltb, leb, Option, Some, None, Result, Ok, Err, List, [], ◌∷◌, ◌++◌, length, get_or, set, replicate, take, refl, arith, inl, inr}
+use Rattle.std.proofs.Common.{◌≡◌, ◌⊎◌, ◌&&◌, ◌||◌, ℕ, ◌+◌, ◌*◌, ◌-◌, ◌^◌, ◌<◌, ◌≤◌, true, false, is_none, IsSome, eqb, ltb, leb, Option, Some, None, Result, Ok, Err, List, [], ◌∷◌, ◌++◌, length, get_or, set, replicate, take, refl, arith, inl, inr, ◌==◌, not}
 use Rattle.std.specs.List.{All, list_any, slice_get}
 use Rattle.std.specs.Option.{option_and_then}
 use Rattle.std.proofs.lemmas.Bool.{and_parts, eqb-false, or_parts, false≢true, leb-true, ltb-false, ltb-true}
@@ -40,8 +40,8 @@ use Rattle.pr_model.specs.FileCallRows.{read_effect, write_effect, open_effect, 
 use Rattle.pr_model.specs.Lawful.{HasParent, IsLawfulSystem, IsNumberedBelow}
 use Rattle.pr_model.specs.LwpCalls.{lwp_create_effect, lwp_suspend_effect, lwp_continue_effect, can_be_named, made_registers}
 use Rattle.pr_model.specs.MemoryCalls.{can_write, path_at, brk_effect, mmap_effect, munmap_effect, mprotect_effect, unless_too_big, is_mapped_range, prot_limit}
-use Rattle.pr_model.specs.Lives.{by_fork}
-use Rattle.pr_model.specs.ProcessCalls.{exit_effect, fork_effect, is_program_of, wait_effect, exec_effect, sleep_effect, program_named}
+use Rattle.pr_model.specs.Lives.{by_fork, by_vfork}
+use Rattle.pr_model.specs.ProcessCalls.{exit_effect, fork_effect, is_program_of, wait_effect, exec_effect, sleep_effect, program_named, vfork_effect, given_up}
 use Rattle.pr_model.specs.Readers.{Life, Children, no_child, all_live, first_zombie, child_before, children_among, children_of, life_of, size_of, total_has_room}
 use Rattle.pr_model.specs.Registers.{with_sp}
 use Rattle.pr_model.specs.SignalCalls.{Sending, refuses, sends_nothing, sends, sending, sent_effect, send_effect, can_be_caught, sigaction_effect, sigmask_effect, sigreturn_effect}
@@ -369,6 +369,14 @@ module _ (s : TracedSystem) (pid : ℕ) (p : TracedProcess) (id : ℕ) (l : Trac
       choice IsEffectInRange (total_has_room s (size_of p) 0) _ _
       (λ fits. (omega arith, one-change (forks by_fork args) given)) (λ big. refusal)))
 
+  vfork-call : (args : List ℕ) → AreArguments args → IsEffectInRange (vfork_effect s p id args)
+  unfolding vfork_effect
+  vfork-call args given =
+      let made = a.lawful.made in
+      choice IsEffectInRange ((id == agent_id) || not (length p.lwps == 1)) _ _ (λ refused. refusal) (λ alone.
+      choice IsEffectInRange (leb process_limit s.made) _ _ (λ full. refusal)
+      (λ room. (omega arith, one-change (forks by_vfork args) given)))
+
   exec-call : (at : ℕ) → IsEffectInRange (exec_effect s p id at)
   unfolding exec_effect
   exec-call at = by (path_at p.space at) refl
@@ -379,7 +387,7 @@ module _ (s : TracedSystem) (pid : ℕ) (p : TracedProcess) (id : ℕ) (l : Trac
           rw (is, found) (choice IsEffectInRange (eqb id agent_id) _ _ (λ agent. refusal) (λ other. refusal))
       named name (Some program) is found =
           rw (is, found) (choice IsEffectInRange (eqb id agent_id) _ _ (λ agent. refusal) (λ other.
-          choice IsEffectInRange (total_has_room s (mapped_size (first_space program)) (size_of p)) _ _
+          choice IsEffectInRange (total_has_room s (mapped_size (first_space program)) (given_up s p id)) _ _
           (λ fits. (omega arith, one-change (becomes program) (named-range s.programs name program h.programs found)))
           (λ big. refusal)))
 
@@ -509,6 +517,7 @@ module _ (s : TracedSystem) (pid : ℕ) (p : TracedProcess) (id : ℕ) (l : Trac
   unfolding call_effect exit_effect dup_effect lseek_effect
   call-range since sys.Exit args given = omega arith
   call-range since sys.Fork args given = fork-call args given
+  call-range since sys.Vfork args given = vfork-call args given
   call-range since sys.Read args given = read-call (get_or args 0 0) (get_or args 1 0) (get_or args 2 0)
   call-range since sys.Write args given =
       write-call (get_or args 0 0) (get_or args 1 0) (get_or args 2 0) (word_at args 1 given.words)

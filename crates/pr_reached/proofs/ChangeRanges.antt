@@ -3,6 +3,7 @@ use Rattle.std.specs.List.{All}
 use Rattle.std.proofs.Math.ListN.{length-set}
 use Rattle.std.proofs.lemmas.List.{length-map}
 use Rattle.std.proofs.lemmas.List.Elements.{All-nil, All-cons, All-from_recursion, All-head, All-map, All-set, All-tail, All-weaker}
+use Rattle.pr_keeps.proofs.LoanLemmas.{lent-keeps, process_if-keeps}
 use Rattle.pr_num.proofs.ByIdLaws.{All-inserted}
 use Rattle.pr_num.specs.Control.{has_flags, fork_mode}
 use Rattle.pr_num.specs.Files.{Descriptors}
@@ -15,13 +16,13 @@ use Rattle.pr_parts.specs.FileCalls.{with_all_shared}
 use Rattle.pr_parts.specs.PendingSignals.{without_one}
 use Rattle.pr_lawful.proofs.FileLemmas.{choice}
 use Rattle.pr_model.specs.Changes.{Change, files_are, space_is, signals, signals_itself, takes_shared, job_stops, disposition_is, held_is, resumes, forks, reaps, becomes, makes_lwp, suspends, with_fds, with_space, with_shared_taken, with_job_stop, with_disposition_of, with_held, resumed, with_suspended, changed, all_changed}
-use Rattle.pr_model.specs.Lives.{Birth, bare_process, first_lwp, forked, forked_lwp, new_lwp, new_process, started, uncaught, with_child, with_new_lwp, with_program, with_spawned}
+use Rattle.pr_model.specs.Lives.{Birth, bare_process, first_lwp, forked, forked_lwp, new_lwp, new_process, started, uncaught, with_child, with_new_lwp, with_program, with_spawned, lent_to, with_lent, with_loan_back}
 use Rattle.pr_model.specs.Machines.{child_control, exec_control, no_marks, traced}
 use Rattle.pr_model.specs.Signals.{is_kill}
 use Rattle.pr_model.specs.State.{TracedControl, TracedLwp, TracedProcess, TracedSystem, lwp_of, with_lwp}
 use Rattle.pr_model.specs.declared.frames.Frame.{Frame}
 use Rattle.pr_model.specs.declared.lwps.LwpControl.{LwpControl}
-use Rattle.pr_reached.proofs.EndRanges.{default-dispositions, generated-range, job-kept, nothing-set, pending-kept}
+use Rattle.pr_reached.proofs.EndRanges.{default-dispositions, generated-range, job-kept, nothing-set, pending-kept, lent_to-keeps, loaned_back-range}
 use Rattle.pr_reached.proofs.FileRanges.{all_shared-range}
 use Rattle.pr_reached.proofs.MemoryRanges.{first-range}
 use Rattle.pr_reached.proofs.PendingRanges.{nothing-words, taken-words}
@@ -128,7 +129,8 @@ child-range : (birth : Birth) (s : TracedSystem) (pid : ℕ) (p : TracedProcess)
     → IsInRange (with_child traced birth pid p l args s)
 unfolding with_child forked traced
 child-range birth s pid p l args given own own_lwp h =
-    made-range (record s { files = with_all_shared s.files p.fds }) (forked traced birth pid p l args s.clock) (record {
+    let shared : TracedSystem = record s { files = with_all_shared s.files p.fds } in
+    made-range (with_lent birth pid s.made shared) (forked traced birth pid p l args s.clock) (record {
       program = own.program;
       made_at = let now = h.clock in omega arith;
       ended = tt;
@@ -139,7 +141,9 @@ child-range birth s pid p l args given own own_lwp h =
           All-cons LwpInRange (1, forked_lwp traced birth args p.control l) []
           (forked_lwp-range birth args p.control l given own_lwp) (All-nil LwpInRange);
       control = child-control p.control own.control;
-    }) (with_files s (with_all_shared s.files p.fds) (all_shared-range s.files p.fds h.files) h)
+    }) (lent-keeps IsInRange birth pid s.made
+    (λ t it. changed-one t pid (lent_to s.made) (lent_to-keeps s.made) it) shared
+    (with_files s (with_all_shared s.files p.fds) (all_shared-range s.files p.fds h.files) h))
 
 -- ---- exec, and a new lwp
 
@@ -331,7 +335,8 @@ module _ (pid : ℕ) (p : TracedProcess) (id : ℕ) (l : TracedLwp) (own : IsPro
   changed-range (reaps child) s it h =
       choice IsInRange (child == pid) _ _ (λ itself. h) (λ apart. reaped-range s child h)
   changed-range (becomes program) s it h =
-      changed-one s pid (with_program traced id l program) (program-keeps id l program own_lwp it) h
+      process_if-keeps IsInRange p.lender (with_loan_back pid p) (loaned_back-range pid p own) _
+      (changed-one s pid (with_program traced id l program) (program-keeps id l program own_lwp it) h)
   changed-range (makes_lwp new regs held) s it h =
       changed-one s pid (with_new_lwp traced new regs held) (new-keeps new held regs it.0 it.1) h
   changed-range (suspends other suspended) s it h =

@@ -20,7 +20,7 @@ use Rattle.pr_model.specs.State.{TracedState, TracedSystem}
 use Rattle.pr_model.specs.declared.calls.Call.{Call}
 use Rattle.pr_reached.proofs.CallRanges.{named-range}
 use Rattle.pr_reached.proofs.ChangeRanges.{spawned-range}
-use Rattle.pr_reached.proofs.EndRanges.{generated-range, signal-word, this_ended-range}
+use Rattle.pr_reached.proofs.EndRanges.{generated-range, signal-word, this_ended-range, live-range}
 use Rattle.pr_reached.proofs.MessageRanges.{IsReadMessage, edit-range}
 use Rattle.pr_reached.proofs.ProcessRanges.{KeepsLwp, KeepsProcess, LwpInRange, changed-one, with_marks}
 use Rattle.pr_reached.specs.ByteHistories.{IsOfBytes}
@@ -58,7 +58,8 @@ released-keeps x h = record {
 
 closed-range : (s : TracedSystem) (pid : ℕ) (t : TracedSystem) → CloseEdit s pid t → IsInRange s → IsInRange t
 closed-range s pid t edit.nothing h = h
-closed-range s pid t (edit.kills p live mode) h = this_ended-range s pid p (signal_number Kill) (signal-word Kill) h
+closed-range s pid t (edit.kills p live mode) h =
+    this_ended-range s pid p (signal_number Kill) (signal-word Kill) (live-range s pid p h live) h
 closed-range s pid t (edit.releases p live spares mode) h = changed-one s pid released released-keeps h
 
 -- ---- the message with which bytes begin

@@ -1,6 +1,9 @@
-use Rattle.std.proofs.Common.{◌==◌, ℕ, is_none, length, Option, Some, None, List, refl, arith}
+use Rattle.std.proofs.Common.{◌==◌, ℕ, is_none, length, Option, Some, None, List, refl, arith, ◌≡◌, []}
 use Rattle.std.proofs.lemmas.List.Elements.{All-nil, All-replicate}
-use Rattle.pr_num.proofs.ByIdLaws.{All-change_under, All-map_each, All-without_id}
+use Rattle.pr_num.specs.Spaces.{Space}
+use Rattle.pr_lawful.proofs.EndLemmas.{found-live}
+use Rattle.pr_keeps.proofs.LoanLemmas.{loans_passed-keep}
+use Rattle.pr_num.proofs.ByIdLaws.{All-change_under, All-map_each, All-without_id, All-under}
 use Rattle.pr_num.proofs.NumberedLemmas.{signal_number-range}
 use Rattle.pr_num.specs.ById.{without_id}
 use Rattle.pr_num.specs.Infos.{of_child}
@@ -15,15 +18,15 @@ use Rattle.pr_parts.specs.SignalRules.{deleted_by}
 use Rattle.pr_lawful.proofs.FileLemmas.{choice}
 use Rattle.pr_model.specs.Changes.{Ending, ends_lwp, ends_process, ended}
 use Rattle.pr_model.specs.Generation.{ends_job_stop, lwp_with_pending, lwp_without_pending, signalled, with_deletions, with_pending, without_job_stop, without_pending}
-use Rattle.pr_model.specs.Lives.{bare_process, default_dispositions, ended_if_live, orphaned, with_ended, with_lwp_ended, with_parent_signalled, with_this_ended, without_lwp, zombie}
+use Rattle.pr_model.specs.Lives.{bare_process, default_dispositions, ended_if_live, orphaned, with_ended, with_lwp_ended, with_parent_signalled, with_this_ended, without_lwp, zombie, is_id, lent_to, with_loan_back, with_lender_of, with_loans_passed}
 use Rattle.pr_model.specs.Machines.{nothing_set, traced, zombie_control}
 use Rattle.pr_model.specs.Signals.{generated, is_kill}
-use Rattle.pr_model.specs.State.{TracedProcess, TracedSystem, live_process, with_lwp}
+use Rattle.pr_model.specs.State.{TracedProcess, TracedSystem, live_process, with_lwp, with_process}
 use Rattle.pr_reached.proofs.FileRanges.{all_closed-range}
 use Rattle.pr_reached.proofs.MemoryRanges.{nothing-mapped}
 use Rattle.pr_reached.proofs.PendingRanges.{added-words, deleted-words, nothing-words}
 use Rattle.pr_reached.proofs.ProcessRanges.{KeepsLwp, KeepsProcess, LwpInRange, ProcessInRange, changed-each, changed-one, keeps-one, with_lwps, with_pending_set}
-use Rattle.pr_reached.specs.InRange.{AreDispositions, HasWord, HaveWords, IsAreaInRange, IsControlInRange, IsInRange, IsShortName, IsProcessInRange}
+use Rattle.pr_reached.specs.InRange.{AreDispositions, HasWord, HaveWords, IsAreaInRange, IsControlInRange, IsInRange, IsShortName, IsProcessInRange, IsSpaceInRange}
 
 -- A signal that is sent, and the end of a process or of an lwp, leave a system in range.
 
@@ -177,11 +180,53 @@ parent_told-range parent pid status s fits h =
     (λ other. changed-one s parent (signalled None Cld (of_child pid status))
     (signalled-keeps None Cld (of_child pid status) fits) h)
 
-pub this_ended-range : (s : TracedSystem) (pid : ℕ) (p : TracedProcess) (status : ℕ) → IsWord status → IsInRange s
-    → IsInRange (with_this_ended traced pid p status s)
+-- ---- lent memory
+
+with_loans : (x : TracedProcess) (space : Space) (lender borrower : Option ℕ) → IsSpaceInRange space
+    → IsProcessInRange x
+    → IsProcessInRange (record x { space = space; lender = lender; borrower = borrower })
+with_loans x space lender borrower it h = record {
+  program = h.program;
+  made_at = h.made_at;
+  ended = h.ended;
+  space = it;
+  dispositions = h.dispositions;
+  pending = h.pending;
+  lwps = h.lwps;
+  control = h.control;
+}
+
+loan_back-keeps : (pid : ℕ) (p : TracedProcess) → IsProcessInRange p → KeepsProcess (with_loan_back pid p)
+unfolding with_loan_back
+loan_back-keeps pid p own x h =
+    choice IsProcessInRange (is_id pid x.borrower) _ _
+    (λ lent. with_loans x p.space x.lender p.borrower own.space h) (λ other. h)
+
+lender_of-keeps : (pid : ℕ) (p : TracedProcess) → KeepsProcess (with_lender_of pid p)
+unfolding with_lender_of
+lender_of-keeps pid p x h =
+    choice IsProcessInRange (is_id pid x.lender) _ _
+    (λ borrowed. with_loans x x.space p.lender x.borrower h.space h) (λ other. h)
+
+pub lent_to-keeps : (child : ℕ) → KeepsProcess (lent_to child)
+unfolding lent_to
+lent_to-keeps child x h = with_loans x [] x.lender (Some child) nothing-mapped h
+
+pub loaned_back-range : (pid : ℕ) (p : TracedProcess) → IsProcessInRange p → (other : ℕ) (s : TracedSystem)
+    → IsInRange s → IsInRange (with_process other (with_loan_back pid p) s)
+loaned_back-range pid p own other s h = changed-one s other (with_loan_back pid p) (loan_back-keeps pid p own) h
+
+passed-range : (pid : ℕ) (p : TracedProcess) → IsProcessInRange p → (s : TracedSystem) → IsInRange s
+    → IsInRange (with_loans_passed pid p s)
+passed-range pid p own =
+    loans_passed-keep IsInRange pid p (loaned_back-range pid p own)
+    (λ other s h. changed-one s other (with_lender_of pid p) (lender_of-keeps pid p) h)
+
+pub this_ended-range : (s : TracedSystem) (pid : ℕ) (p : TracedProcess) (status : ℕ) → IsWord status
+    → IsProcessInRange p → IsInRange s → IsInRange (with_this_ended traced pid p status s)
 unfolding with_this_ended
-this_ended-range s pid p status fits h =
-    parent_told-range p.parent pid status _ fits (record {
+this_ended-range s pid p status fits own h =
+    parent_told-range p.parent pid status _ fits (passed-range pid p own _ (record {
       programs = h.programs;
       clock = h.clock;
       files = all_closed-range s.files p.fds h.files;
@@ -189,12 +234,17 @@ this_ended-range s pid p status fits h =
           changed-each _ (orphaned pid) (orphaned-keeps pid)
           (All-change_under ProcessInRange pid (zombie traced status) s.processes
           (λ x there it. zombie-range status fits x it) h.processes);
-    })
+    }))
 
-ended_if_live-range : (pid status : ℕ) (s : TracedSystem) (o : Option TracedProcess) → IsWord status → IsInRange s
-    → IsInRange (ended_if_live traced pid status s o)
-ended_if_live-range pid status s None fits h = h
-ended_if_live-range pid status s (Some p) fits h = this_ended-range s pid p status fits h
+-- a live process is in range
+pub live-range : (s : TracedSystem) (pid : ℕ) (p : TracedProcess) → IsInRange s → live_process s pid ≡ Some p
+    → IsProcessInRange p
+live-range s pid p h live = All-under ProcessInRange pid p s.processes h.processes (found-live s pid p live).0
+
+ended_if_live-range : (pid status : ℕ) (s : TracedSystem) (o : Option TracedProcess) → live_process s pid ≡ o
+    → IsWord status → IsInRange s → IsInRange (ended_if_live traced pid status s o)
+ended_if_live-range pid status s None is fits h = h
+ended_if_live-range pid status s (Some p) is fits h = this_ended-range s pid p status fits (live-range s pid p h is) h
 
 pub signal-word : (g : Sig) → IsWord (signal_number g)
 signal-word g = let most = (signal_number-range g).1 in omega arith
@@ -205,7 +255,7 @@ pub generated-range : (s : TracedSystem) (pid : ℕ) (target : Option ℕ) (g : 
 unfolding generated with_ended
 generated-range s pid target g info new h =
     choice IsInRange (is_kill g) _ _
-    (λ kill. ended_if_live-range pid (signal_number g) s (live_process s pid) (signal-word g) h)
+    (λ kill. ended_if_live-range pid (signal_number g) s (live_process s pid) refl (signal-word g) h)
     (λ other. changed-one s pid (signalled target g info) (signalled-keeps target g info new) h)
 
 without_lwp-keeps : (id : ℕ) → KeepsProcess (without_lwp id)
@@ -218,9 +268,9 @@ IsEndingInRange (ends_process status) = IsWord status
 IsEndingInRange ends_lwp = Unit {0}
 
 pub ended-range : (s : TracedSystem) (pid : ℕ) (p : TracedProcess) (id : ℕ) (how : Ending) → IsEndingInRange how
-    → IsInRange s → IsInRange (ended traced pid p id how s)
+    → IsProcessInRange p → IsInRange s → IsInRange (ended traced pid p id how s)
 unfolding ended with_lwp_ended
-ended-range s pid p id (ends_process status) fits h = this_ended-range s pid p status fits h
-ended-range s pid p id ends_lwp fits h =
-    choice IsInRange (length p.lwps == 1) _ _ (λ last. this_ended-range s pid p 0 (omega arith) h)
+ended-range s pid p id (ends_process status) fits own h = this_ended-range s pid p status fits own h
+ended-range s pid p id ends_lwp fits own h =
+    choice IsInRange (length p.lwps == 1) _ _ (λ last. this_ended-range s pid p 0 (omega arith) own h)
     (λ more. changed-one s pid (without_lwp id) (without_lwp-keeps id) h)

@@ -4,6 +4,7 @@ use Rattle.std.specs.Option.{unwrap_or}
 use Rattle.std.proofs.lemmas.List.{length-append, length-replicate}
 use Rattle.std.proofs.lemmas.List.Elements.{All-append, All-cons, All-head, All-map, All-nil, All-replicate, All-tail, All-weaker}
 use Rattle.std.proofs.lemmas.List.Sums.{sum_by-cons}
+use Rattle.pr_reached.proofs.MemoryRanges.{nothing-mapped}
 use Rattle.pr_num.proofs.ByIdLaws.{All-under}
 use Rattle.pr_num.proofs.SearchLemmas.{All-at}
 use Rattle.pr_num.specs.Files.{Descriptors, FileTable}
@@ -23,14 +24,14 @@ use Rattle.pr_parts.specs.FileTables.{IsOpenPlace, at_place}
 use Rattle.pr_rec.specs.InRange.{IsFdEntry, IsListEntry, IsMapEntry, IsNameField, IsPsinfo, IsWatchEntry}
 use Rattle.pr_lawful.proofs.FileLemmas.{choice}
 use Rattle.pr_model.specs.Lawful.{HasParent, IsLawfulProcess, IsLawfulSystem, IsNumberedBelow}
-use Rattle.pr_model.specs.Readers.{size_seen}
+use Rattle.pr_model.specs.Readers.{size_seen, space_seen}
 use Rattle.pr_model.specs.Records.{fd_entries_from, fd_entry_before, fd_entry_of, fds_of, list_entries, list_entry_of, list_of, map_entry_of, map_of, mapping_name, psinfo_of, watch_entry_of, watch_of}
 use Rattle.pr_model.specs.State.{TracedProcess, TracedSystem, process_of}
 use Rattle.pr_reached.proofs.CallRanges.{parent-below, parent-id, process-id}
 use Rattle.pr_reached.proofs.ProcessRanges.{ProcessInRange, process-range}
-use Rattle.pr_reached.proofs.RecordRanges.{lstatus-of-range, lwpstatus-of-range, size-word, status-range}
+use Rattle.pr_reached.proofs.RecordRanges.{lstatus-of-range, lwpstatus-of-range, size-word, status-range, seen-word, shown-one}
 use Rattle.pr_reached.specs.AllRecords.{AreRecordsInRange}
-use Rattle.pr_reached.specs.InRange.{AreFilesInRange, IsAreaInRange, IsFileInRange, IsInRange, IsMappingInRange, IsShortName, IsProcessInRange, IsWordIf}
+use Rattle.pr_reached.specs.InRange.{AreFilesInRange, IsAreaInRange, IsFileInRange, IsInRange, IsMappingInRange, IsShortName, IsProcessInRange, IsWordIf, IsSpaceInRange}
 
 -- The other records of a lawful system in range have their fields in their ranges: what ps(1) shows, mappings, watched
 -- areas, descriptors, and the list of processes.
@@ -71,7 +72,7 @@ psinfo-range s pid p lawful h found =
       parent = omega arith;
       lwps = let few = own.few_lwps in omega arith;
       wait_status = status-word p.ended ranged.ended;
-      mapped = let size = size-word s pid p lawful found in omega arith;
+      mapped = let size = seen-word s pid p lawful found in omega arith;
       made_at = ranged.made_at;
       program = name-field p.program ranged.program;
     }
@@ -112,13 +113,21 @@ maps-range program (m ∷ space) named small all =
     (maps-range program space named (All-tail (IsWithin all_mappings_limit) m space small)
     (All-tail IsMappingInRange m space all))
 
+-- what a process shows is in range
+pub seen-range : (s : TracedSystem) (pid : ℕ) (p : TracedProcess) → IsInRange s → process_of s pid ≡ Some p
+    → IsSpaceInRange (space_seen s p)
+seen-range s pid p h found =
+    shown-one IsSpaceInRange s nothing-mapped (λ other q there. (process-range s other q h there).space) s.made
+    p.borrower p.space (process-range s pid p h found).space
+
 pub map-range : (s : TracedSystem) (pid : ℕ) (p : TracedProcess) → IsLawfulSystem s → IsInRange s
     → process_of s pid ≡ Some p → All IsMapEntry (map_of s p)
 unfolding map_of
 map-range s pid p lawful h found =
     let ranged = process-range s pid p h found in
-    maps-range p.program p.space ranged.program
-    (each-within all_mappings_limit p.space (size-word s pid p lawful found)) ranged.space.mappings
+    maps-range p.program (space_seen s p) ranged.program
+    (each-within all_mappings_limit (space_seen s p) (seen-word s pid p lawful found))
+    (seen-range s pid p h found).mappings
 
 -- ---- watched areas
 

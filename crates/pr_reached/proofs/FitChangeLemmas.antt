@@ -1,5 +1,6 @@
 use Rattle.std.proofs.Common.{◌≡◌, ◌⊎◌, ◌==◌, ◌&&◌, ℕ, Bool, false, is_some, Option, Some, None, List, [], ◌∷◌, refl, inl, inr}
 use Rattle.std.proofs.lemmas.List.Elements.{All-nil, All-cons}
+use Rattle.pr_keeps.proofs.LoanLemmas.{lent-keeps, process_if-keeps}
 use Rattle.pr_num.specs.Control.{has_flags, fork_mode}
 use Rattle.pr_num.specs.Programs.{Program}
 use Rattle.pr_num.specs.Sets.{has_number}
@@ -8,7 +9,7 @@ use Rattle.pr_num.specs.declared.syscalls.Sysno.{Sysno}
 use Rattle.pr_parts.specs.FileCalls.{with_all_shared}
 use Rattle.pr_lawful.proofs.FileLemmas.{choice}
 use Rattle.pr_model.specs.Changes.{Change, files_are, space_is, signals, signals_itself, takes_shared, job_stops, disposition_is, held_is, resumes, forks, reaps, becomes, makes_lwp, suspends, with_fds, with_space, with_shared_taken, with_job_stop, with_disposition_of, with_held, resumed, with_suspended, changed, all_changed}
-use Rattle.pr_model.specs.Lives.{Birth, bare_process, call_of, first_lwp, forked, forked_lwp, new_lwp, new_process, with_child, with_new_lwp, with_program, with_spawned, started}
+use Rattle.pr_model.specs.Lives.{Birth, bare_process, call_of, first_lwp, forked, forked_lwp, new_lwp, new_process, with_child, with_new_lwp, with_program, with_spawned, started, lent_to, with_lent, with_loan_back}
 use Rattle.pr_model.specs.Machines.{birth_marks, birth_stop, no_marks, traced}
 use Rattle.pr_model.specs.Signals.{is_kill}
 use Rattle.pr_model.specs.State.{TracedControl, TracedLwp, TracedProcess, TracedSystem, lwp_of, with_lwp}
@@ -16,7 +17,7 @@ use Rattle.pr_model.specs.declared.events.Res.TheVariants.{Value}
 use Rattle.pr_model.specs.declared.stops.Stop.{Stop}
 use Rattle.pr_model.specs.declared.stops.Stop.TheVariants.{SysExit}
 use Rattle.pr_reached.proofs.FitLemmas.{KeepsFit, KeepsProcess, LwpFits, changed-one, exiting-fits, keeps-more, keeps-one, made-fits, nothing-spares, reaped-fits, same_place, stopless-fits, taken-spares}
-use Rattle.pr_reached.proofs.FitSignalLemmas.{generated-fits}
+use Rattle.pr_reached.proofs.FitSignalLemmas.{generated-fits, loaned_back-fits}
 use Rattle.pr_reached.specs.Fits.{IsFitLwp, IsFitProcess, IsFitSystem}
 
 -- What begins leaves a system fit, and so does each change that a turn makes beside its lwp.
@@ -60,15 +61,21 @@ forked_lwp-fits birth args c l =
       | inr exit ↦ exiting-fits child (call_of birth) args (Value 0) exit refl nothing-spares
     ]
 
+lent_to-keeps : (child : ℕ) → KeepsProcess (lent_to child)
+unfolding lent_to
+lent_to-keeps child x h = record { lwps = h.lwps; pending = h.pending }
+
 child-fits : (s : TracedSystem) (birth : Birth) (pid : ℕ) (p : TracedProcess) (l : TracedLwp) (args : List ℕ)
     → IsFitSystem s → IsFitSystem (with_child traced birth pid p l args s)
 unfolding with_child forked
 child-fits s birth pid p l args h =
     let child : TracedLwp = forked_lwp traced birth args p.control l in
-    made-fits (record s { files = with_all_shared s.files p.fds }) (forked traced birth pid p l args s.clock) (record {
+    let shared : TracedSystem = record s { files = with_all_shared s.files p.fds } in
+    made-fits (with_lent birth pid s.made shared) (forked traced birth pid p l args s.clock) (record {
       lwps = All-cons LwpFits (1, child) [] (forked_lwp-fits birth args p.control l) (All-nil LwpFits);
       pending = nothing-spares;
-    }) (record { processes = h.processes })
+    }) (lent-keeps IsFitSystem birth pid s.made
+    (λ t it. changed-one t pid (lent_to s.made) (lent_to-keeps s.made) it) shared (record { processes = h.processes }))
 
 new-keeps : (new held : ℕ) (regs : List ℕ) → KeepsProcess (with_new_lwp traced new regs held)
 unfolding with_new_lwp traced
@@ -132,7 +139,8 @@ module _ (pid : ℕ) (p : TracedProcess) (id : ℕ) (l : TracedLwp) (own : IsFit
       choice IsFitSystem (s.made == pid) _ _ (λ own_id. h) (λ apart. child-fits s birth pid p l args h)
   changed-fits (reaps child) s h = choice IsFitSystem (child == pid) _ _ (λ itself. h) (λ apart. reaped-fits s child h)
   changed-fits (becomes program) s h =
-      changed-one s pid (with_program traced id l program) (program-keeps id l program own) h
+      process_if-keeps IsFitSystem p.lender (with_loan_back pid p) (loaned_back-fits pid p) _
+      (changed-one s pid (with_program traced id l program) (program-keeps id l program own) h)
   changed-fits (makes_lwp new regs held) s h =
       changed-one s pid (with_new_lwp traced new regs held) (new-keeps new held regs) h
   changed-fits (suspends other suspended) s h =

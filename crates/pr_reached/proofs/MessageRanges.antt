@@ -3,6 +3,7 @@ use Rattle.std.specs.List.{All}
 use Rattle.std.proofs.lemmas.Bool.{and_parts, ltb-true}
 use Rattle.std.proofs.lemmas.List.Elements.{All-head, All-tail}
 use Rattle.std.proofs.lemmas.Option.{none-some}
+use Rattle.pr_num.proofs.ByIdLaws.{All-under}
 use Rattle.pr_num.proofs.SetLemmas.{minus_word-le, union_word-lt, without_number-le}
 use Rattle.pr_num.proofs.TableLaws.{All-without_first}
 use Rattle.pr_parts.proofs.ByAddressLemmas.{All-placed, length-placed, length-without_first}
@@ -38,7 +39,7 @@ use Rattle.pr_reached.proofs.ChangeRanges.{new_lwp-range, space-keeps}
 use Rattle.pr_reached.proofs.EndRanges.{generated-range, pending-kept, signal-word, this_ended-range}
 use Rattle.pr_reached.proofs.MemoryRanges.{with_bytes-range}
 use Rattle.pr_reached.proofs.PendingRanges.{taken-words}
-use Rattle.pr_reached.proofs.ProcessRanges.{KeepsLwp, changed-found, keeps-each, keeps-more, keeps-one, with_marks, with_pending_set}
+use Rattle.pr_reached.proofs.ProcessRanges.{KeepsLwp, changed-found, keeps-each, keeps-more, keeps-one, with_marks, with_pending_set, ProcessInRange}
 use Rattle.pr_reached.proofs.RegisterRanges.{registers-set}
 use Rattle.pr_reached.specs.InRange.{IsAreaInRange, IsControlInRange, IsInRange, IsLwpInRange, IsPhaseInRange, IsProcessInRange}
 
@@ -255,7 +256,7 @@ edited-process m tail x y (process.gets_agent {regs = regs} none room) it h =
     keeps-more agent_id (agent_lwp regs) x
     (new_lwp-range regs _ _ (record { words = it.words; count = it.count })
     (holdable-set all_signals (omega arith))) h
-edited-process m tail x y (process.is_written {at = at} mapped) it h =
+edited-process m tail x y (process.is_written {at = at} own mapped) it h =
     space-keeps (with_bytes at tail x.space) (with_bytes-range at tail it.tail_bytes x.space h.space) x h
 
 -- ---- the system
@@ -266,6 +267,8 @@ edit-range s pid p m tail t nothing found it h = h
 edit-range s pid p m tail t (a_process f edits) found it h =
     changed-found s pid p f found
     (process-edits-keep m tail IsProcessInRange (λ x y e. edited-process m tail x y e it) p (f p) edits) h
-edit-range s pid p m tail t an_end found it h = this_ended-range s pid p (signal_number Kill) (signal-word Kill) h
+edit-range s pid p m tail t an_end found it h =
+    this_ended-range s pid p (signal_number Kill) (signal-word Kill)
+    (All-under ProcessInRange pid p s.processes h.processes found) h
 edit-range s pid p m tail t (a_signal target g is room) found it h =
     generated-range s pid target g by_controller (omega arith) h

@@ -1,4 +1,6 @@
 use Rattle.std.proofs.Common.{ℕ, List}
+use Rattle.pr_lending.proofs.StartLemmas.{first-lends}
+use Rattle.pr_lending.proofs.HistoryLemmas.{history-lends}
 use Rattle.pr_num.specs.Programs.{Program}
 use Rattle.pr_num.specs.declared.files.StoredFile.{StoredFile}
 use Rattle.pr_lawful.proofs.HistoryLemmas.{history-state}
@@ -20,6 +22,7 @@ pub first-reached : (programs : List Program) (files : List StoredFile) (spawns 
     → IsStart programs files spawns → IsStartInRange programs files → IsReached (first_state programs files spawns)
 first-reached programs files spawns start ranged = record {
   lawful = first-lawful programs files spawns start;
+  lending = first-lends programs files spawns;
   fit = first-fits programs files spawns;
   in_range = first-state-range programs files spawns ranged;
 }
@@ -28,6 +31,7 @@ pub later-reached : (n : ℕ) (s : TracedState) (h : List Entry) → IsReached s
     → IsReached (state_after s h)
 later-reached n s h reached bytes legal = record {
   lawful = history-state n s h reached.lawful legal;
+  lending = history-lends n s h reached.lawful reached.lending legal;
   fit = history-fits n s h reached.lawful reached.fit legal;
   in_range = history-range n s h reached.lawful reached.in_range bytes legal;
 }

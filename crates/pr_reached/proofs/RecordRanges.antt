@@ -1,4 +1,4 @@
-use Rattle.std.proofs.Common.{◌≡◌, ◌==◌, ◌+◌, ◌^◌, ◌<◌, ◌≤◌, ◌⊎◌, ℕ, Bool, true, false, cond, is_some, length, replicate, Option, Some, None, List, [], ◌∷◌, refl, ap, arith, inl, inr}
+use Rattle.std.proofs.Common.{◌≡◌, ◌==◌, ◌+◌, ◌^◌, ◌<◌, ◌≤◌, ◌⊎◌, ℕ, Bool, true, false, cond, is_some, length, replicate, Option, Some, None, List, [], ◌∷◌, refl, ap, arith, inl, inr, zero, suc}
 use Rattle.std.specs.List.{All, find}
 use Rattle.std.specs.Option.{IfSome, option_map, option_or}
 use Rattle.std.proofs.lemmas.List.Elements.{All-cons, All-head, All-nil, All-replicate, All-tail}
@@ -21,7 +21,7 @@ use Rattle.pr_rec.specs.declared.lwp_flags.LwpMarks.{LwpMarks}
 use Rattle.pr_lawful.proofs.FileLemmas.{choice}
 use Rattle.pr_lawful.proofs.RecordLemmas.{lwpstatus-info}
 use Rattle.pr_model.specs.Lawful.{IsLawfulLwp, IsLawfulProcess, IsLawfulSystem}
-use Rattle.pr_model.specs.Readers.{size_of, sizes_of, total_size}
+use Rattle.pr_model.specs.Readers.{size_of, sizes_of, total_size, borrower_at, has_lent, space_at, space_seen, space_shown}
 use Rattle.pr_model.specs.Records.{lstatus_of, statuses_of_lwps}
 use Rattle.pr_model.specs.State.{TracedLwp, TracedProcess, TracedSystem, has_agent, lwp_of, process_of}
 use Rattle.pr_model.specs.Statuses.{arguments_in, fault_address_in, info_in, lwp_flags, lwpstatus_of, process_flags, result_in, status_of, status_of_found, value_of, what_of_stop, what_shown}
@@ -237,6 +237,27 @@ pub size-word : (s : TracedSystem) (pid : ℕ) (p : TracedProcess) → IsLawfulS
 unfolding total_size size_of
 size-word s pid p h found = let own = size-within pid p s.processes found in let all = h.mapped in omega arith
 
+-- What a process shows is a memory that one of the processes has, or none; so what holds of none and of each process's
+-- holds of it.
+pub shown-one : (P : Space → Type 0) (s : TracedSystem) → P []
+    → ((pid : ℕ) (p : TracedProcess) → process_of s pid ≡ Some p → P p.space)
+    → (n : ℕ) (o : Option ℕ) (space : Space) → P space → P (space_shown s n o space)
+unfolding space_at
+shown-one P s none each n None space own = own
+shown-one P s none each zero (Some pid) space own = none
+shown-one P s none each (suc n) (Some pid) space own =
+    shown-one P s none each n (borrower_at s pid) (space_at s pid) (of (process_of s pid) refl)
+  where
+    of : (o : Option TracedProcess) → process_of s pid ≡ o → P (space_at s pid)
+    of None is = rw is none
+    of (Some p) is = rw is (each pid p is)
+
+pub seen-word : (s : TracedSystem) (pid : ℕ) (p : TracedProcess) → IsLawfulSystem s → process_of s pid ≡ Some p
+    → mapped_size (space_seen s p) ≤ all_mappings_limit
+seen-word s pid p h found =
+    shown-one (λ (space : Space). mapped_size space ≤ all_mappings_limit) s (omega arith)
+    (λ other q there. size-word s other q h there) s.made p.borrower p.space (size-word s pid p h found)
+
 -- a heap is no larger than all that is mapped
 heap-within : (space : Space) → heap_size space ≤ mapped_size space
 heap-within [] = omega arith
@@ -254,8 +275,8 @@ heap-within (m ∷ space) =
 
 -- ---- the status of a process
 
-process-flags-below : (modes : ℕ) (system : Bool) → modes < 2 ^ 4 → process_flags_of modes system < 2 ^ 5
-process-flags-below modes system few = omega (arith, flag-le system 16)
+process-flags-below : (modes : ℕ) (system lent : Bool) → modes < 2 ^ 4 → process_flags_of modes system lent < 2 ^ 6
+process-flags-below modes system lent few = omega (arith, flag-le system 16, flag-le lent 32)
 
 pub status-range : (s : TracedSystem) (pid : ℕ) (p : TracedProcess) → IsLawfulSystem s → IsInRange s
     → process_of s pid ≡ Some p → IsStatus (status_of s pid p)
@@ -266,7 +287,7 @@ status-range s pid p lawful h found =
     let id_below = process-id s pid p lawful found in
     let parent_below = parent-id s pid p lawful found in
     record {
-      flags = process-flags-below p.control.modes (pid == 0) ranged.control.modes;
+      flags = process-flags-below p.control.modes (pid == 0) (has_lent p) ranged.control.modes;
       id = omega arith;
       parent = omega arith;
       lwps = let few = own.few_lwps in omega arith;
@@ -276,7 +297,8 @@ status-range s pid p lawful h found =
       traced_entries = ranged.control.entries;
       traced_exits = ranged.control.exits;
       heap_base = omega arith;
-      heap_size = let whole = size-word s pid p lawful found in let heap = heap-within p.space in omega arith;
+      heap_size =
+          let whole = seen-word s pid p lawful found in let heap = heap-within (space_seen s p) in omega arith;
       agent = let bit = flag-le (has_agent p) agent_id in omega arith;
       areas = let few = ranged.control.few_areas in omega arith;
       lwp = representative-status pid p own ranged (representative p) (representative-range pid p own ranged);

@@ -69,7 +69,7 @@ module _ (s : TracedSystem) (pid : ℕ) (p : TracedProcess) (id : ℕ) (l : Trac
   ended_if-range : (o : Option Ending) (t : TracedSystem) → IsEndingIf o → IsInRange t
       → IsInRange (ended_if traced pid p id l o t)
   ended_if-range None t it ranged = ranged
-  ended_if-range (Some how) t it ranged = ended-range t pid p id how it ranged
+  ended_if-range (Some how) t it ranged = ended-range t pid p id how it (acting-process s pid p id l a h) ranged
 
   settled-range : (row : Row) → IsTransitionInRange row.transition → IsInRange (settled s pid p id l row).system
   unfolding settled after_transition with_lwp_of

@@ -1,5 +1,6 @@
 use Rattle.std.proofs.Common.{◌&&◌, ◌==◌, ℕ, Bool, is_none, is_some, length, Option, Some, None, List, [], ◌∷◌, arith}
 use Rattle.std.specs.List.{All}
+use Rattle.pr_keeps.proofs.LoanLemmas.{lent-keeps, loans_passed-keep, process_if-keeps}
 use Rattle.pr_num.proofs.ByIdLaws.{All-change_under, All-inserted, All-map_each, All-without_id}
 use Rattle.pr_num.specs.ById.{change_under}
 use Rattle.pr_num.specs.Control.{has_flags, async_mode, fork_mode}
@@ -14,7 +15,7 @@ use Rattle.pr_parts.specs.SignalRules.{deleted_by}
 use Rattle.pr_lawful.proofs.FileLemmas.{choice}
 use Rattle.pr_model.specs.Changes.{Change, files_are, space_is, signals, signals_itself, takes_shared, job_stops, disposition_is, held_is, resumes, forks, reaps, becomes, makes_lwp, suspends, Ending, ends_lwp, ends_process, all_changed, changed, ended, with_disposition_of, with_fds, with_job_stop, with_shared_taken, with_space}
 use Rattle.pr_model.specs.Generation.{ends_job_stop, signalled, with_deletions, with_pending, without_job_stop, without_pending}
-use Rattle.pr_model.specs.Lives.{Birth, bare_process, ended_if_live, forked, new_process, orphaned, with_child, with_ended, with_lwp_ended, with_made, with_new_lwp, with_parent_signalled, with_program, with_reaped, with_spawned, with_this_ended, without_lwp, zombie}
+use Rattle.pr_model.specs.Lives.{Birth, bare_process, ended_if_live, forked, new_process, orphaned, with_child, with_ended, with_lwp_ended, with_made, with_new_lwp, with_parent_signalled, with_program, with_reaped, with_spawned, with_this_ended, without_lwp, zombie, is_id, lent_to, with_lent, with_loan_back, with_lender_of, with_loans_passed}
 use Rattle.pr_model.specs.Machines.{child_control, exec_control, nothing_set, nothing_used, traced, zombie_control}
 use Rattle.pr_model.specs.Points.{after_meeting, is_traced, with_others_directed, with_stop_at}
 use Rattle.pr_model.specs.Signals.{generated, is_kill}
@@ -89,12 +90,19 @@ module _ (most : ℕ) where
       choice (λ (x : TracedControl). IsUsedWithin most x.usage) (has_flags c.modes fork_mode) _ _
       (λ forks. nothing-used most) (λ alone. nothing-used most)
 
+  lent_to-keeps : (child : ℕ) → Keeps (lent_to child)
+  unfolding lent_to
+  lent_to-keeps child x h = h
+
   forked-used : (birth : Birth) (s : TracedSystem) (pid : ℕ) (p : TracedProcess) (l : TracedLwp) (args : List ℕ)
       → HaveUsed most s → HaveUsed most (with_child traced birth pid p l args s)
   unfolding with_child forked traced
   forked-used birth s pid p l args h =
-      used-made (record s { files = with_all_shared s.files p.fds }) (forked traced birth pid p l args s.clock)
-      (child-used p.control) (record { processes = h.processes })
+      used-made (with_lent birth pid s.made (record s { files = with_all_shared s.files p.fds }))
+      (forked traced birth pid p l args s.clock) (child-used p.control)
+      (lent-keeps (HaveUsed most) birth pid s.made
+      (λ t it. used-one t pid (lent_to s.made) (lent_to-keeps s.made) it)
+      (record s { files = with_all_shared s.files p.fds }) (record { processes = h.processes }))
 
   zombie-keeps : (status : ℕ) → Keeps (zombie traced status)
   unfolding zombie traced zombie_control
@@ -104,6 +112,24 @@ module _ (most : ℕ) where
   unfolding orphaned
   orphaned-keeps gone x h = choice IsUsed (x.parent == gone) _ _ (λ own. h) (λ other. h)
 
+  loan_back-keeps : (pid : ℕ) (p : TracedProcess) → Keeps (with_loan_back pid p)
+  unfolding with_loan_back
+  loan_back-keeps pid p x h = choice IsUsed (is_id pid x.borrower) _ _ (λ lent. h) (λ other. h)
+
+  lender_of-keeps : (pid : ℕ) (p : TracedProcess) → Keeps (with_lender_of pid p)
+  unfolding with_lender_of
+  lender_of-keeps pid p x h = choice IsUsed (is_id pid x.lender) _ _ (λ borrowed. h) (λ other. h)
+
+  loaned_back-used : (pid : ℕ) (p : TracedProcess) (other : ℕ) (s : TracedSystem) → HaveUsed most s
+      → HaveUsed most (with_process other (with_loan_back pid p) s)
+  loaned_back-used pid p other s h = used-one s other (with_loan_back pid p) (loan_back-keeps pid p) h
+
+  passed-used : (pid : ℕ) (p : TracedProcess) (s : TracedSystem) → HaveUsed most s
+      → HaveUsed most (with_loans_passed pid p s)
+  passed-used pid p =
+      loans_passed-keep (HaveUsed most) pid p (loaned_back-used pid p)
+      (λ other s h. used-one s other (with_lender_of pid p) (lender_of-keeps pid p) h)
+
   pub this_ended-used : (s : TracedSystem) (pid : ℕ) (p : TracedProcess) (status : ℕ) → HaveUsed most s
       → HaveUsed most (with_this_ended traced pid p status s)
   unfolding with_this_ended with_parent_signalled
@@ -112,9 +138,10 @@ module _ (most : ℕ) where
       All-change_under UsedWithin pid (zombie traced status) s.processes
       (λ x there it. zombie-keeps status x it) h.processes in
       let left = All-map_each UsedWithin UsedWithin (orphaned pid) (λ e it. orphaned-keeps pid e.1 it) _ over in
-      choice (HaveUsed most) (p.parent == 0) _ _ (λ first. record { processes = left })
+      let passed = passed-used pid p _ (record { processes = left }) in
+      choice (HaveUsed most) (p.parent == 0) _ _ (λ first. passed)
       (λ other. used-one _ p.parent (signalled None Cld (of_child pid status))
-      (signalled-keeps None Cld (of_child pid status)) (record { processes = left }))
+      (signalled-keeps None Cld (of_child pid status)) passed)
 
   ended_if-used : (pid status : ℕ) (s : TracedSystem) (o : Option TracedProcess) → HaveUsed most s
       → HaveUsed most (ended_if_live traced pid status s o)
@@ -192,7 +219,8 @@ module _ (most : ℕ) where
         choice (HaveUsed most) (child == pid) _ _ (λ itself. h)
         (λ apart. record { processes = All-without_id UsedWithin child s.processes h.processes })
     changed-used (becomes program) s h =
-        used-one s pid (with_program traced id l program) (program-keeps id l program) h
+        process_if-keeps (HaveUsed most) p.lender (with_loan_back pid p) (loaned_back-used pid p) _
+        (used-one s pid (with_program traced id l program) (program-keeps id l program) h)
     changed-used (makes_lwp new regs held) s h =
         used-one s pid (with_new_lwp traced new regs held) (new-keeps new held regs) h
     changed-used (suspends other suspended) s h = used-one s pid (with_lwp other _) (lwp-keeps other _) h

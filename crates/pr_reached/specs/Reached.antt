@@ -1,3 +1,4 @@
+use Rattle.pr_lending.specs.Lending.{AreLending}
 use Rattle.pr_model.specs.Lawful.{IsLawful}
 use Rattle.pr_model.specs.State.{TracedState}
 use Rattle.pr_reached.specs.Fits.{IsFitSystem}
@@ -7,5 +8,6 @@ use Rattle.pr_reached.specs.InRange.{IsInRange}
 
 pub record IsReached (s : TracedState) : Type 0 where
   pub lawful : IsLawful s
+  pub lending : AreLending s.system
   pub fit : IsFitSystem s.system
   pub in_range : IsInRange s.system

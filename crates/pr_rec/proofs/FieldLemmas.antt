@@ -131,7 +131,7 @@ signal_most s = ((signal_numbers-range (signal_number s)).0 (ap is_some (signal_
 fault_most : (f : Flt) → fault_number f ≤ 8
 fault_most f = ((fault_numbers-range (fault_number f)).0 (ap is_some (fault_of_number-number f))).1
 
-call_most : (c : Sysno) → syscall_number c ≤ 30
+call_most : (c : Sysno) → syscall_number c ≤ syscall_count
 call_most c = ((syscall_numbers-range (syscall_number c)).0 (ap is_some (syscall_of_number-number c))).1
 
 -- what a stop is about has a number below 40
@@ -153,7 +153,7 @@ pub fault_small : (o : Option Flt) → number_or_zero fault_number o < fault_cou
 fault_small = small_entry fault_number 8 fault_most
 
 pub call_small : (o : Option Sysno) → number_or_zero syscall_number o < syscall_count + 1
-call_small = small_entry syscall_number 30 call_most
+call_small = small_entry syscall_number syscall_count call_most
 
 pub reason_small : (o : Option StopReason) → number_or_zero reason_number o < 8
 reason_small = small_entry reason_number 7 (λ r. ((reason_numbers-range (reason_number r)).0 (ap is_some (reason_of_number-number r))).1)

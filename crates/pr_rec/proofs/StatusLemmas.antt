@@ -20,7 +20,7 @@ pub status-ranged : (s : Status) → IsStatus s → AreRanged status_ranges (sta
 status-ranged s h = (lt-ltb _ _ h.flags, (lt-ltb _ _ h.id, (lt-ltb _ _ h.parent, (word-any _ h.lwps, (lt-ltb _ _ h.pending, (lt-ltb _ _ h.traced_signals, (lt-ltb _ _ h.traced_faults, (lt-ltb _ _ h.traced_entries, (lt-ltb _ _ h.traced_exits, (word-any _ h.heap_base, (word-any _ h.heap_size, (lt-ltb _ _ h.agent, (word-any _ h.areas, lwpstatus-ranged s.lwp h.lwp)))))))))))))
 
 -- what the types of its fields and its words tell of it
-pub status-typed : (s : Status) → s.flags < 2 ^ 5 → s.id < 2 ^ 32 → s.parent < 2 ^ 32 → s.pending < 2 ^ signal_count → s.traced_signals < 2 ^ signal_count → s.traced_faults < 2 ^ fault_count → s.traced_entries < 2 ^ syscall_count → s.traced_exits < 2 ^ syscall_count → s.agent < 2 ^ 32 → All IsWord (own_words_of s) → IsLwpStatus s.lwp → IsStatus s
+pub status-typed : (s : Status) → s.flags < 2 ^ 6 → s.id < 2 ^ 32 → s.parent < 2 ^ 32 → s.pending < 2 ^ signal_count → s.traced_signals < 2 ^ signal_count → s.traced_faults < 2 ^ fault_count → s.traced_entries < 2 ^ syscall_count → s.traced_exits < 2 ^ syscall_count → s.agent < 2 ^ 32 → All IsWord (own_words_of s) → IsLwpStatus s.lwp → IsStatus s
 status-typed s flags id parent pending signals faults entries exits agent fit lwp =
     let words : List ℕ = own_words_of s in
     record {

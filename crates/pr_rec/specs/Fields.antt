@@ -1,5 +1,5 @@
 use Rattle.std.specs.Prelude.{ℕ, zero, suc, Bool, true, false, List, [], ◌∷◌, Option, Some, None, take, drop, replicate, slice_index, ◌+◌}
-use Rattle.pr_num.specs.Control.{stopped_flag, istop_flag, dstop_flag, step_flag, asleep_flag, agent_flag, issys_flag}
+use Rattle.pr_num.specs.Control.{stopped_flag, istop_flag, dstop_flag, step_flag, asleep_flag, agent_flag, issys_flag, vforkp_flag}
 use Rattle.pr_num.specs.Words.{word_of}
 use Rattle.pr_num.specs.declared.files.Access.{Access}
 use Rattle.pr_num.specs.declared.files.Access.TheVariants.{Read, Write, Both}
@@ -51,9 +51,9 @@ lwp_flags_of m =
     flag_if m.stopped stopped_flag + flag_if m.on_event istop_flag + flag_if m.directed dstop_flag + flag_if m.step step_flag
     + flag_if m.asleep asleep_flag + flag_if m.agent agent_flag
 
--- the flags of a process: its modes, and whether it is the system process
-abbrev pub process_flags_of : ℕ → Bool → ℕ
-process_flags_of modes system = modes + flag_if system issys_flag
+-- the flags of a process: its modes, whether it is the system process, and whether it has lent its address space
+abbrev pub process_flags_of : ℕ → Bool → Bool → ℕ
+process_flags_of modes system lent = modes + flag_if system issys_flag + flag_if lent vforkp_flag
 
 -- the first so many words of bytes
 abbrev pub front_words : ℕ → List ℕ → List ℕ

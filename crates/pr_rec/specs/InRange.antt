@@ -46,7 +46,7 @@ pub record IsLwpStatus (l : LwpStatus) : Type 0 where
   pub sizes : HasArraySizes l
 
 pub record IsStatus (s : Status) : Type 0 where
-  pub flags : s.flags < 2 ^ 5
+  pub flags : s.flags < 2 ^ 6
   pub id : s.id < 2 ^ 32
   pub parent : s.parent < 2 ^ 32
   pub lwps : IsWord s.lwps

@@ -62,7 +62,7 @@ impl Column {
     pub(crate) const LWP_FLAGS: Column = Column::Below(64);
 
     /// The flags of a process.
-    pub(crate) const PROCESS_FLAGS: Column = Column::Below(32);
+    pub(crate) const PROCESS_FLAGS: Column = Column::Below(64);
 
     /// How a process disposes of a signal.
     pub(crate) const DISPOSITION: Column = Column::Below(3);

@@ -50,7 +50,7 @@ pub fn what_is_encoded_is_decoded()
 /// and what stands for an lwp where there is none.
 pub fn what_fills_records_is_in_range()
     ensures lwp_flags { (marks : LwpMarks) → lwp_flags_of marks < 2 ^ 6 }
-    ensures process_flags { (modes : ℕ) (system : Bool) → modes < 2 ^ 4 → process_flags_of modes system < 2 ^ 5 }
+    ensures process_flags { (modes : ℕ) (system lent : Bool) → modes < 2 ^ 4 → process_flags_of modes system lent < 2 ^ 6 }
     ensures signal { (s : Sig) → signal_number s < signal_count + 1 }
     ensures fault { (f : Flt) → fault_number f < signal_count + 1 }
     ensures call { (c : Sysno) → syscall_number c < signal_count + 1 }

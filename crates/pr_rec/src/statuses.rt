@@ -105,7 +105,7 @@ impl Status {
     /// The words of the process itself.
     fn own_words(&self) -> [u64; 13]
         ensures words { result ≡ own_words_of self.now }
-        ensures flags { self.now.flags < 2 ^ 5 }
+        ensures flags { self.now.flags < 2 ^ 6 }
         ensures id { self.now.id < 2 ^ 32 }
         ensures parent { self.now.parent < 2 ^ 32 }
         ensures pending { self.now.pending < 2 ^ signal_count }
@@ -134,7 +134,7 @@ impl Status {
 
     fn from_words(words: &[u64]) -> Status
         requires size { length words.now ≡ 46 }
-        requires flags { slice_index words.now 0 < 2 ^ 5 }
+        requires flags { slice_index words.now 0 < 2 ^ 6 }
         requires id { slice_index words.now 1 < 2 ^ 32 }
         requires parent { slice_index words.now 2 < 2 ^ 32 }
         requires pending { slice_index words.now 4 < 2 ^ signal_count }

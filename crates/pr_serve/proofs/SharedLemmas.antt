@@ -16,15 +16,16 @@ use Rattle.pr_world.specs.declared.ends.End.{End}
 use Rattle.pr_world.proofs.RestLemmas.{all-rest, next-acts}
 use Rattle.pr_world.proofs.RunLemmas.{signalled-lawful}
 use Rattle.pr_serve.proofs.InputLemmas.{input-range}
+use Rattle.pr_serve.proofs.ReadingLemmas.{taken}
 use Rattle.pr_serve.proofs.RunEndLemmas.{status_cases}
 use Rattle.pr_serve.proofs.RunLemmas.{first_world-places}
 use Rattle.pr_serve.specs.Answers.{Answer, IsEndOf, MayAnswer, MayAnswerRead, RunText, ShowsEnd, end_status, ran, ran_so, refused_at, run_shown}
 use Rattle.pr_serve.specs.Ends.{EndsAs}
-use Rattle.pr_serve.specs.Giving.{Responds, RespondsOne, StopsEarly}
+use Rattle.pr_serve.specs.Giving.{IsCutShort, RanOutLate, Responds, RespondsOne, StopsEarly}
 use Rattle.pr_serve.specs.Histories.{HistoryIsKept, IsLedTo, IsMadeByThreads, RanOutEarly, by_threads}
 use Rattle.pr_serve.specs.Inputs.{Took, scenario_of_input, taken_of}
 use Rattle.pr_serve.specs.Made.{LeftWith, StoppedThreads}
-use Rattle.pr_serve.specs.Rows.{Ends, EndsRun, GivesOne, OneRanOut, RanOutAfter, RanOutReading, Reads}
+use Rattle.pr_serve.specs.Rows.{Ends, EndsRun, EndsUnsaid, GivesOne, OneRanOut, RanOutAfter, RanOutReading, Reads, TellsEndOfOne}
 use Rattle.pr_serve.specs.Statuses.{IsWhole}
 use Rattle.pr_serve.specs.declared.commands.Showing.{Showing}
 use Rattle.pr_serve.specs.declared.outcomes.Status.{Status}
@@ -142,25 +143,109 @@ shared-kept showing old new status h r = by (status_cases status)
 
 -- ---- a scenario is run
 
-module _ (showing : Showing) (status : Status) (h : List Entry) (w v : Option (List ℕ)) where
-  run_given : (s : Result Scenario ScenFault) → (IsWhole status → GivesOne (MayAnswerRead showing s) status h w v) → IfOk s (λ scenario. IsWhole status → EndsRun scenario status h)
+-- An answer that shows the end of a run says how it ended.
+shown-ends : (showing : Showing) (s : Scenario) (answer : Answer) (h : List Entry) → ShowsEnd showing s answer
+    → h ≡ answer.history → EndsRun s answer.status h
+shown-ends showing s answer h shown is =
+    let w = shown.world in
+    let history = ap (λ (a : Answer). a.history) shown.is ∙ shown-history (run_shown showing) w in
+    let status = ap (λ (a : Answer). a.status) shown.is ∙ shown-status (run_shown showing) w in
+    record {
+      led = record { world = w; came = shown.ends.came; is = is ∙ history };
+      ends = subst (EndsAs s.turns w) (sym status) (end-ends s w shown.ends);
+    }
+
+-- One of the answers that may come, of which this became.
+abbrev Became : (Answer → Type 0) → (Answer → Type 0) → Type 0
+Became May Is = (answer : Answer) × May answer × Is answer
+
+module _ (showing : Showing) (old new : Ends) (status : Status) (h : List Entry) where
+  abbrev cut_short : Answer → Type 0
+  cut_short answer = IsCutShort answer h old.written new.written
+
+  abbrev ran_out : Answer → Type 0
+  ran_out answer = RanOutLate answer h old.written new.written
+
+  abbrev unwritten : Type 0
+  unwritten = new.written ≡ old.written
+
+  -- what is known of the answers that may come
+  record Gives (May : Answer → Type 0) : Type 0 where
+    whole : IsWhole status → GivesOne May status h old.written new.written
+    cut : status ≡ WriteFailed → Became May cut_short
+    memory : status ≡ OutOfMemory → unwritten ⊎ Became May ran_out
+
+  unsaid : (s : Scenario) (Is : Answer → Type 0) → ((answer : Answer) → Is answer → h ≡ answer.history)
+      → Became (ShowsEnd showing s) Is → EndsUnsaid showing s h Is
+  unsaid s Is history (answer, shown, is) = record {
+    answer = answer;
+    shows = shown;
+    ends = shown-ends showing s answer h shown (history answer is);
+    became = is;
+  }
+
+  run_given : (s : Result Scenario ScenFault) → Gives (MayAnswerRead showing s)
+      → IfOk s (λ scenario. TellsEndOfOne showing scenario old new status h)
   run_given (Err fault) gives = tt
-  run_given (Ok s) gives = λ whole.
-      let one = gives whole in
-      let shown : ShowsEnd showing s one.answer = one.may in
-      record {
-        led = record { world = shown.world; came = shown.ends.came; is = one.given.history_is ∙ (ap (λ (a : Answer). a.history) shown.is ∙ shown-history (run_shown showing) shown.world) };
-        ends = subst (EndsAs s.turns shown.world) (sym (one.given.status_is ∙ (ap (λ (a : Answer). a.status) shown.is ∙ shown-status (run_shown showing) shown.world))) (end-ends s shown.world shown.ends);
-      }
+  run_given (Ok s) gives = record {
+    given = λ whole.
+        let one = gives.whole whole in
+        let ends = shown-ends showing s one.answer h one.may one.given.history_is in
+        subst (λ (x : Status). EndsRun s x h) (sym one.given.status_is) ends;
+    cut = λ is. unsaid s cut_short (λ answer c. c.history_is) (gives.cut is);
+    memory = λ is.
+        ⊎_elim (λ (none : unwritten). inl none)
+        (λ (late : Became (ShowsEnd showing s) ran_out). inr (unsaid s ran_out (λ answer c. c.history_is) late))
+        (gives.memory is);
+  }
 
-  run_left : (left : Option (List ℕ)) → (IsWhole status → IfSome left (λ input. GivesOne (MayAnswer showing (taken_of scenario_limit input)) status h w v))
-      → IfSome left (λ input. IfOk (scenario_of_input (taken_of scenario_limit input)) (λ scenario. IsWhole status → EndsRun scenario status h))
-  run_left None gives = tt
-  run_left (Some left) gives = run_given (scenario_of_input (taken_of scenario_limit left)) gives
+  -- The input was read of the bytes that were left.
+  module _ (left : List ℕ) (known : old.left ≡ Some left) where
+    abbrev MayKnown : Answer → Type 0
+    MayKnown answer = MayAnswer showing (taken_of scenario_limit left) answer
 
-pub shares-scenario : (showing : Showing) (old new : Ends) (status : Status) (h : List Entry) → Reads scenario_limit (MayAnswer showing) by_threads old new status h
-    → IfSome old.left (λ input. IfOk (scenario_of_input (taken_of scenario_limit input)) (λ scenario. IsWhole status → EndsRun scenario status h))
-shares-scenario showing old new status h r = run_left showing status h old.written new.written old.left r.answers
+    may-known : (input : Option (List ℕ)) (answer : Answer) → Took scenario_limit old.left new.left input
+        → MayAnswer showing input answer → MayKnown answer
+    may-known input answer took may =
+        let here = subst (λ (o : Option (List ℕ)). Took scenario_limit o new.left input) known took in
+        let is = taken scenario_limit new.left left input here in
+        subst (λ (i : Option (List ℕ)). MayAnswer showing i answer) is may
+
+    memory-known : RanOutReading old new h ⊎ RanOutAfter scenario_limit (MayAnswer showing) by_threads old new h
+        → unwritten ⊎ Became MayKnown ran_out
+    memory-known (inl early) = inl early.nothing.unwritten
+    memory-known (inr after) =
+        ⊎_elim
+        (λ (early : RanOutEarly by_threads after.input h old.written new.written). inl early.unwritten)
+        (λ (late : OneRanOut (MayAnswer showing after.input) h old.written new.written).
+        inr (late.answer, may-known after.input late.answer after.took late.may, late.ran_out))
+        after.ran_out
+
+    gives-known : Reads scenario_limit (MayAnswer showing) by_threads old new status h → Gives MayKnown
+    gives-known r = record {
+      whole = λ whole. subst (λ (o : Option (List ℕ)). IfSome o (λ input.
+          GivesOne (MayAnswer showing (taken_of scenario_limit input)) status h old.written new.written))
+          known (r.answers whole);
+      cut = λ is. let c = r.cut is in (c.answer, may-known c.input c.answer c.took c.may, c.cut);
+      memory = λ is. memory-known (r.memory is);
+    }
+
+-- how the run of an input ended, which is a scenario
+abbrev TellsEndOf : Showing → Ends → Ends → Status → List Entry → Option (List ℕ) → Type 0
+TellsEndOf showing old new status h left = IfSome left (λ input.
+    IfOk (scenario_of_input (taken_of scenario_limit input)) (λ scenario.
+    TellsEndOfOne showing scenario old new status h))
+
+pub shares-scenario : (showing : Showing) (old new : Ends) (status : Status) (h : List Entry)
+    → Reads scenario_limit (MayAnswer showing) by_threads old new status h
+    → TellsEndOf showing old new status h old.left
+shares-scenario showing old new status h r = of old.left refl
+  where
+    of : (o : Option (List ℕ)) → old.left ≡ o → TellsEndOf showing old new status h o
+    of None unknown = tt
+    of (Some left) known =
+        run_given showing old new status h (scenario_of_input (taken_of scenario_limit left))
+        (gives-known showing old new status h left known r)
 
 -- ---- the parts of an answer to an input
 

@@ -6,7 +6,7 @@ use Rattle.pr_model.specs.declared.events.Entry.{Entry}
 use Rattle.pr_num.specs.Limits.{checked_limit, scenario_limit}
 use Rattle.pr_run_laws.specs.ScenarioRuns.{first_state_of, run_of}
 use Rattle.pr_scen.specs.Scenarios.{Scenario}
-use Rattle.pr_serve.specs.Answers.{Answer, MayAnswer, RunText, answer_to, check_of, explained, generated, judged, plain_shown, run_shown}
+use Rattle.pr_serve.specs.Answers.{Answer, MayAnswer, RunText, ShowsEnd, answer_to, check_of, explained, generated, judged, plain_shown, run_shown}
 use Rattle.pr_serve.specs.Checks.{checked_of_input}
 use Rattle.pr_serve.specs.Ends.{EndsAs}
 use Rattle.pr_serve.specs.Giving.{IsGiven, IsCutShort, RanOutLate, Responds}
@@ -156,6 +156,25 @@ pub record EndsRun (s : Scenario) (status : Status) (history : List Entry) : Typ
   pub led : IsLedTo s history
   pub ends : EndsAs s.turns led.world status
 
+-- The run that an answer shows ended as the answer's status says, and this became of the answer.
+pub record EndsUnsaid (showing : Showing) (s : Scenario) (history : List Entry)
+    (Became : Answer → Type 0) : Type 0 where
+  pub answer : Answer
+  pub shows : ShowsEnd showing s answer
+  pub ends : EndsRun s answer.status history
+  pub became : Became answer
+
+-- The status of an answer that was given whole says how the run ended that threads made, and so does that of the answer
+-- itself where its text was cut short by a write that failed or for memory. Where memory ran out and no text was begun,
+-- nothing was written, and there need be no answer.
+pub record TellsEndOfOne (showing : Showing) (s : Scenario) (old new : Ends) (status : Status)
+    (history : List Entry) : Type 0 where
+  pub given : IsWhole status → EndsRun s status history
+  pub cut : status ≡ WriteFailed
+      → EndsUnsaid showing s history (λ answer. IsCutShort answer history old.written new.written)
+  pub memory : status ≡ OutOfMemory → (new.written ≡ old.written)
+      ⊎ EndsUnsaid showing s history (λ answer. RanOutLate answer history old.written new.written)
+
 -- The judgement of a history was given: it is legal from the first state of the scenario, with its controllers, or this
 -- entry is the first that is not.
 pub record IsJudged (s : Scenario) (entries : List Entry) (old new : Ends) (status : Status) (history : List Entry) : Type 0 where
@@ -180,7 +199,8 @@ abbrev pub DoesWork : Work → Ends → Ends → Status → List Entry → Type 
 DoesWork (Runs showing) old new status history = EndsRounds (run_shown showing) old.left status
 DoesWork Strips old new status history = EndsRounds plain_shown old.left status
 DoesWork (Shares showing workers) old new status history =
-    IfSome old.left (λ left. IfOk (scenario_of_input (taken_of scenario_limit left)) (λ scenario. IsWhole status → EndsRun scenario status history))
+    IfSome old.left (λ left. IfOk (scenario_of_input (taken_of scenario_limit left)) (λ scenario.
+    TellsEndOfOne showing scenario old new status history))
 DoesWork Checks old new status history =
     IfSome old.left (λ left. IfOk (checked_of_input (taken_of checked_limit left)) (λ read. IsWhole status → IsJudged read.0 read.1 old new status history))
 DoesWork _ old new status history = Unit {0}

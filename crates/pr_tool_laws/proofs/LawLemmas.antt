@@ -11,6 +11,7 @@ use Rattle.pr_model.specs.declared.events.Entry.{Entry}
 use Rattle.pr_model.specs.declared.tools.ToolKind.{ToolKind}
 use Rattle.pr_model.specs.declared.tools.ToolKind.TheVariants.{Pflags, Psig, Pstack, Pmap, Pfiles, Pstop, Prun, Pwait, Ptree}
 use Rattle.pr_num.specs.Programs.{Program}
+use Rattle.pr_tools.specs.RecordTexts.{text_of_record}
 use Rattle.pr_tools.specs.Steps.{after, after_in_pwait, after_in_reader, file_of, first_step, way_out}
 use Rattle.pr_tools.specs.Tools.{ToolState, fed, first_tool, has_ended, next_call_of, printed, text_of}
 use Rattle.pr_tools.specs.declared.steps.Step.{Step}
@@ -208,12 +209,24 @@ pwait-reads = record {
 }
 
 pstop-quiet : other.IsQuiet Pstop
-unfolding first_step bytes_shown text_of IsToolRead
-pstop-quiet = record { starts = refl; shows = λ pid s. refl; says = λ t programs. refl; calls = λ k pid s c. tt }
+unfolding first_step bytes_shown text_of text_of_record IsToolRead
+pstop-quiet = record {
+  starts = refl;
+  shows = λ pid s. refl;
+  says = λ t programs. refl;
+  shows-nothing = λ pid. refl;
+  calls = λ k pid s c. tt;
+}
 
 prun-quiet : other.IsQuiet Prun
-unfolding first_step bytes_shown text_of IsToolRead
-prun-quiet = record { starts = refl; shows = λ pid s. refl; says = λ t programs. refl; calls = λ k pid s c. tt }
+unfolding first_step bytes_shown text_of text_of_record IsToolRead
+prun-quiet = record {
+  starts = refl;
+  shows = λ pid s. refl;
+  says = λ t programs. refl;
+  shows-nothing = λ pid. refl;
+  calls = λ k pid s c. tt;
+}
 
 kind-law : (n k : ℕ) (kind : ToolKind) (pid : ℕ) (first : TracedState) → reads_once kind ≡ true → Law n k kind pid first
 unfolding reads_once

@@ -23,7 +23,8 @@ use Rattle.pr_tools.specs.declared.steps.Step.TheVariants as step
 use Rattle.pr_tool_laws.proofs.KindLemmas.{fed-kind}
 use Rattle.pr_tool_laws.proofs.StageLemmas.{same-answer}
 use Rattle.pr_tool_laws.proofs.ToolLemmas.{HasRead, Showed, having_read, read-goes-on, read-still, showed-here, showed-still, still-going, text-printed}
-use Rattle.pr_tool_laws.specs.Reads.{IsToolRead, bytes_shown, text_made}
+use Rattle.pr_tool_laws.specs.Reads.{IsToolRead, bytes_shown}
+use Rattle.pr_tools.specs.RecordTexts.{text_of_record}
 
 -- The stages of the tools that open no file of a record: ptree makes one call; pstop and prun print nothing.
 
@@ -91,6 +92,7 @@ pub record IsQuiet (kind : ToolKind) : Type 0 where
   pub starts : first_step kind ≡ step.OpenCtl
   pub shows : (pid : ℕ) (s : TracedState) → bytes_shown kind pid s.system ≡ Some []
   pub says : (t : ToolState) (programs : List Program) → text_of t programs kind ≡ []
+  pub shows-nothing : (pid : ℕ) → text_of_record kind pid [] ≡ []
   pub calls : (k pid : ℕ) (s : TracedState) (c : Call) → IsToolRead kind k pid s c
 
 module _ (k : ℕ) (kind : ToolKind) (pid : ℕ) (first : TracedState) (quiet : IsQuiet kind) where
@@ -120,15 +122,14 @@ module _ (k : ℕ) (kind : ToolKind) (pid : ℕ) (first : TracedState) (quiet : 
   -- it has made a call, and prints nothing
   pub record IsSilent (h : List Entry) (t : ToolState) (programs : List Program) : Type 0 where
     pub showed : Showed k kind pid first h []
-    pub text : printed t programs ≡ text_made kind pid []
+    pub text : printed t programs ≡ text_of_record kind pid []
 
   pub ended-quiet : (h : List Entry) (t : ToolState) (programs : List Program) → has_ended t ≡ true → t.refusal ≡ None
       → QuietStage h t → IsSilent h t programs
-  unfolding text_made
   ended-quiet h t programs ended accepted (at_first same) = absurd (starting t same ended)
   ended-quiet h t programs ended accepted (has_called is showed) = record {
     showed = showed;
     text =
         text-printed k kind pid first t programs ended accepted ∙ ap (text_of t programs) is ∙ quiet.says t programs
-        ∙ sym (quiet.says _ []);
+        ∙ sym (quiet.shows-nothing pid);
   }

@@ -7,19 +7,21 @@ use Rattle.pr_keeps.specs.CallEdits.{CallEdit, CloseEdit}
 use Rattle.pr_keeps.specs.MessageEdits as message
 use Rattle.pr_keeps.specs.MessageEdits.{MessageEdit}
 use Rattle.pr_keeps.proofs.CallLemmas.{call-edit, close-edit}
+use Rattle.pr_keeps.proofs.LoanLemmas.{lent-keeps, loans_passed-keep, process_if-keeps}
+use Rattle.pr_parts.specs.FileCalls.{with_all_shared}
 use Rattle.pr_num.specs.Infos.{by_controller, killed_by}
 use Rattle.pr_num.specs.declared.messages.Message.{Message}
 use Rattle.pr_lawful.specs.Starts.{IsStart}
 use Rattle.pr_model.proofs.TurnLemmas.{turn-taken}
 use Rattle.pr_model.specs.Calls.{Answer, answer_to}
-use Rattle.pr_model.specs.Changes.{Change, signals, signals_itself, forks, reaps, Ending, ends_process, ends_lwp, all_changed, changed, ended}
+use Rattle.pr_model.specs.Changes.{Change, signals, signals_itself, forks, reaps, becomes, Ending, ends_process, ends_lwp, all_changed, changed, ended}
 use Rattle.pr_model.specs.ControlMessages.{tail_of}
 use Rattle.pr_model.specs.FirstState.{bare_system, first_state, spawned_at, with_spawns}
 use Rattle.pr_model.specs.Generation.{signalled}
 use Rattle.pr_model.specs.Handles.{released, with_closed, with_opened}
 use Rattle.pr_model.specs.Lawful.{IsLawful}
 use Rattle.pr_model.specs.Legal.{IsLegal, IsLegalEntry, after, state_after}
-use Rattle.pr_model.specs.Lives.{ended_if_live, with_child, with_ended, with_lwp_ended, with_made, with_parent_signalled, with_reaped, with_spawned, with_this_ended, without_lwp, Birth}
+use Rattle.pr_model.specs.Lives.{ended_if_live, lent_to, with_child, with_ended, with_lender_of, with_loan_back, with_loans_passed, with_lwp_ended, with_made, with_parent_signalled, with_reaped, with_spawned, with_this_ended, without_lwp, Birth}
 use Rattle.pr_model.specs.LwpTurns.{LwpTurn, settled, turn_of}
 use Rattle.pr_model.specs.Machines.{traced}
 use Rattle.pr_model.specs.Rows.{Row}
@@ -51,16 +53,27 @@ either-same : (b : Bool) (s t u : TracedSystem) → Same s t → Same s u → Sa
 either-same true s t u one other = one
 either-same false s t u one other = other
 
-process-same : (s : TracedSystem) (pid : ℕ) (f : TracedProcess → TracedProcess) → Same s (with_process pid f s)
+process-stays : (s : TracedSystem) (f : TracedProcess → TracedProcess) (pid : ℕ) (t : TracedSystem) → Same s t
+    → Same s (with_process pid f t)
 unfolding with_process
-process-same s pid f = refl
+process-stays s f pid t same = same
+
+process-same : (s : TracedSystem) (pid : ℕ) (f : TracedProcess → TracedProcess) → Same s (with_process pid f s)
+process-same s pid f = process-stays s f pid s refl
 
 -- ---- ends
+
+passed-same : (s : TracedSystem) (pid : ℕ) (p : TracedProcess) (t : TracedSystem) → Same s t
+    → Same s (with_loans_passed pid p t)
+passed-same s pid p =
+    loans_passed-keep (Same s) pid p (process-stays s (with_loan_back pid p)) (process-stays s (with_lender_of pid p))
 
 ended-same : (s : TracedSystem) (pid : ℕ) (p : TracedProcess) (status : ℕ)
     → Same s (with_this_ended traced pid p status s)
 unfolding with_this_ended with_parent_signalled with_process
-ended-same s pid p status = either-same (p.parent == 0) s _ _ refl refl
+ended-same s pid p status =
+    let passed = passed-same s pid p _ refl in
+    either-same (p.parent == 0) s _ _ passed passed
 
 live_ended-same : (s : TracedSystem) (pid status : ℕ) → Same s (with_ended traced pid status s)
 unfolding with_ended
@@ -91,7 +104,9 @@ spawned-same s program held = refl
 child-same : (s : TracedSystem) (birth : Birth) (pid : ℕ) (p : TracedProcess) (l : TracedLwp) (args : List ℕ)
     → Same s (with_child traced birth pid p l args s)
 unfolding with_child with_made
-child-same s birth pid p l args = refl
+child-same s birth pid p l args =
+    lent-keeps (Same s) birth pid s.made (process-stays s (lent_to s.made) pid)
+    (record s { files = with_all_shared s.files p.fds }) refl
 
 -- ---- turns: a line a kind of change
 
@@ -103,6 +118,8 @@ module _ (pid : ℕ) (p : TracedProcess) (id : ℕ) (l : TracedLwp) where
   changed-same (signals_itself g info) s = either-same (is_kill g) s _ _ refl (generated-same s pid (Some id) g info)
   changed-same (forks birth args) s = either-same (s.made == pid) s _ _ refl (child-same s birth pid p l args)
   changed-same (reaps child) s = either-same (child == pid) s _ _ refl refl
+  changed-same (becomes program) s =
+      process_if-keeps (Same s) p.lender (with_loan_back pid p) (process-stays s (with_loan_back pid p)) _ refl
   changed-same _ s = refl
 
   all_changed-same : (cs : List Change) (s : TracedSystem) → Same s (all_changed traced pid p id l cs s)

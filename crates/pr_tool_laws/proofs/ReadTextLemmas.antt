@@ -19,10 +19,10 @@ use Rattle.pr_rec.specs.RecordWords.{fd_entry_words_of, list_entry_words_of, psi
 use Rattle.pr_rec.specs.InRange.{IsPsinfo}
 use Rattle.pr_tools.specs.Ptree.{ids_rise, ptree_text}
 use Rattle.pr_tools.specs.Steps.{file_of, record_room}
-use Rattle.pr_tools.specs.Tools.{first_tool, text_of}
 use Rattle.pr_tool_laws.proofs.ReadBackLemmas.{lwps-length, pfiles-shown, pflags-shown, pmap-shown, psig-shown, ptree-shown, pwait-shown}
 use Rattle.pr_tool_laws.specs.OneState.{AreDescriptorsRead, AreDispositionsRead, AreLwpsRead, AreMappingsRead, AreProcessesRead, IsReadBack}
-use Rattle.pr_tool_laws.specs.Reads.{bytes_shown, text_made, text_read}
+use Rattle.pr_tool_laws.specs.Reads.{bytes_shown, text_read}
+use Rattle.pr_tools.specs.RecordTexts.{text_of_record}
 use Rattle.pr_tool_laws.specs.TextsOfRecords.{descriptors_text, dispositions_text, end_text, lwps_text, mappings_text}
 use Rattle.pr_tool_laws.specs.ToolTexts.{tool_text}
 
@@ -41,50 +41,50 @@ module _ (kind : ToolKind) (pid : ℕ) (line : TracedProcess → List ℕ) (reco
     (gives : (p : TracedProcess) → reply_of (Some p) ≡ Some (part_read (record_of p) 0 read_limit))
     (none : reply_of None ≡ None) (room : record_room kind ≡ read_limit) where
   file-shown : (o : Option TracedProcess)
-      → IfSome o (λ p. (length (record_of p) ≤ read_limit) × (text_made kind pid (record_of p) ≡ line p))
-      → option_map (text_made kind pid) (option_map (take (record_room kind)) (reply_of o)) ≡ option_map line o
-  file-shown None is = ap (λ r. option_map (text_made kind pid) (option_map (take (record_room kind)) r)) none
+      → IfSome o (λ p. (length (record_of p) ≤ read_limit) × (text_of_record kind pid (record_of p) ≡ line p))
+      → option_map (text_of_record kind pid) (option_map (take (record_room kind)) (reply_of o)) ≡ option_map line o
+  file-shown None is = ap (λ r. option_map (text_of_record kind pid) (option_map (take (record_room kind)) r)) none
   file-shown (Some p) is =
       let whole : take (record_room kind) (part_read (record_of p) 0 read_limit) ≡ record_of p =
       whole-read kind (record_of p) is.0 (omega (arith, room, is.0)) in
-      ap (λ r. option_map (text_made kind pid) (option_map (take (record_room kind)) r)) (gives p)
-      ∙ ap (λ bytes. Some (text_made kind pid bytes)) whole ∙ ap (λ text. Some text) is.1
+      ap (λ r. option_map (text_of_record kind pid) (option_map (take (record_room kind)) r)) (gives p)
+      ∙ ap (λ bytes. Some (text_of_record kind pid bytes)) whole ∙ ap (λ text. Some text) is.1
 
 -- ---- a row a tool
 
 -- a record is no longer than a read, and its text is this
 abbrev IsShownAs : ToolKind → ℕ → List ℕ → List ℕ → Type 0
-IsShownAs kind pid bytes text = (length bytes ≤ read_limit) × (text_made kind pid bytes ≡ text)
+IsShownAs kind pid bytes text = (length bytes ≤ read_limit) × (text_of_record kind pid bytes ≡ text)
 
 lwps-shown : (pid : ℕ) (p : TracedProcess) → AreLwpsRead p
     → IsShownAs Pflags pid (lstatus_bytes (lstatus_of p)) (lwps_text pid (lstatus_of p))
-unfolding text_made text_of first_tool
+unfolding text_of_record
 lwps-shown pid p are =
     let size = lwps-length pid (lstatus_of p) are.few are.fields in
     (omega (arith, size, are.few), pflags-shown pid (lstatus_of p) are.few are.fields)
 
 dispositions-shown : (pid : ℕ) (p : TracedProcess) → AreDispositionsRead p
     → IsShownAs Psig pid (sigact_bytes p.dispositions) (dispositions_text pid p.dispositions)
-unfolding text_made text_of first_tool sigact_bytes
+unfolding text_of_record sigact_bytes
 dispositions-shown pid p are =
     let size = length-words_bytes p.dispositions in
     (omega (arith, size, are.whole), psig-shown pid p.dispositions are.whole are.words)
 
 mappings-shown : (pid : ℕ) (s : TracedSystem) (p : TracedProcess) → AreMappingsRead s p
     → IsShownAs Pmap pid (map_bytes (map_of s p)) (mappings_text pid (map_of s p))
-unfolding text_made text_of first_tool
+unfolding text_of_record
 mappings-shown pid s p are = (are.few, pmap-shown pid (map_of s p) are.fields)
 
 descriptors-shown : (pid : ℕ) (s : TracedSystem) (p : TracedProcess) → AreDescriptorsRead s p
     → IsShownAs Pfiles pid (fds_bytes (fds_of s.files p)) (descriptors_text pid (fds_of s.files p))
-unfolding text_made text_of first_tool fds_bytes
+unfolding text_of_record fds_bytes
 descriptors-shown pid s p are =
     let size = length-entries fd_entry_words_of 8 (λ _. refl) (fds_of s.files p) in
     (omega (arith, size, are.few), pfiles-shown pid (fds_of s.files p) are.fields)
 
 end-shown : (pid : ℕ) (s : TracedSystem) (p : TracedProcess) → IsPsinfo (psinfo_of s pid p)
     → IsShownAs Pwait pid (psinfo_bytes (psinfo_of s pid p)) (end_text (psinfo_of s pid p))
-unfolding text_made text_of first_tool psinfo_bytes psinfo_of
+unfolding text_of_record psinfo_bytes psinfo_of
 end-shown pid s p is =
     let size = length-words_bytes (psinfo_words_of (psinfo_of s pid p)) in
     (omega (arith, size), pwait-shown pid (psinfo_of s pid p) is refl)
@@ -115,7 +115,7 @@ list-rises (e ∷ es) rising = of (cases_eq e.0 0)
         rw (ne_eqb e.0 0 some, more) (rise-after es e.0 (e.0 + 1) (omega arith) (rises_from-tail 0 e es rising))
 
 tree-shown : (pid : ℕ) (s : TracedSystem) → AreProcessesRead s → text_read Ptree pid s ≡ tool_text Ptree pid s
-unfolding text_read bytes_shown tool_text text_made text_of first_tool list_bytes list_of record_room
+unfolding text_read bytes_shown tool_text text_of_record list_bytes list_of record_room
 tree-shown pid s are =
     let size = length-entries list_entry_words_of 6 (λ _. refl) (list_of s) in
     let whole : take (record_room Ptree) (list_bytes (list_of s)) ≡ list_bytes (list_of s) =
@@ -125,18 +125,13 @@ tree-shown pid s are =
 
 -- ---- all tools
 
-made-quiet : (kind : ToolKind) (pid : ℕ) → text_of (record (first_tool kind pid) { bytes = [] }) [] kind ≡ []
-    → text_made kind pid [] ≡ []
-unfolding text_made
-made-quiet kind pid quiet = quiet
+pstop-shown : (pid : ℕ) → text_of_record Pstop pid [] ≡ []
+unfolding text_of_record
+pstop-shown pid = refl
 
-pstop-shown : (pid : ℕ) → text_made Pstop pid [] ≡ []
-unfolding text_of
-pstop-shown pid = made-quiet Pstop pid refl
-
-prun-shown : (pid : ℕ) → text_made Prun pid [] ≡ []
-unfolding text_of
-prun-shown pid = made-quiet Prun pid refl
+prun-shown : (pid : ℕ) → text_of_record Prun pid [] ≡ []
+unfolding text_of_record
+prun-shown pid = refl
 
 pub read-back : (kind : ToolKind) (pid : ℕ) (s : TracedSystem) → IsReadBack kind pid s
     → text_read kind pid s ≡ tool_text kind pid s

@@ -16,10 +16,11 @@ use Rattle.pr_model.specs.declared.tools.ToolKind.{ToolKind}
 use Rattle.pr_num.specs.Limits.{read_limit}
 use Rattle.pr_num.specs.declared.errnos.Errno.{Errno}
 use Rattle.pr_num.specs.declared.errnos.Errno.TheVariants.{Inval}
-use Rattle.pr_tools.specs.Handles.{nothing_open}
+use Rattle.pr_tools.specs.Handles.{handle_at, nothing_open, with_handle}
 use Rattle.pr_tools.specs.Replies.{is_passed_over, refusal_in}
-use Rattle.pr_tools.specs.Steps.{after as step_after, file_of, first_step, record_room, way_out}
+use Rattle.pr_tools.specs.Steps.{after as step_after, file_of, first_step, record_place, record_room, way_out}
 use Rattle.pr_tools.specs.Tools.{ToolState, accepted, advanced, call_of, fed, first_tool, next_call_of, with_next, with_record}
+use Rattle.pr_tools.specs.declared.handles.Opened.{Opened}
 use Rattle.pr_tools.specs.declared.steps.Step.{Step}
 use Rattle.pr_tools.specs.declared.steps.Step.TheVariants as step
 use Rattle.pr_tool_laws.proofs.StandingLemmas.{Stands}
@@ -28,10 +29,14 @@ use Rattle.pr_tool_laws.specs.Reads.{IsToolRead, ReadsFile, bytes_shown, record_
 
 -- The tools that open one file of a process, read it once and close it; pwait waits for its end in between.
 
+-- it has the file of its record open
+abbrev pub with_record_open : ℕ → Opened
+with_record_open number = with_handle nothing_open record_place (Some number)
+
 -- a tool that has opened the file of its record
 abbrev pub with_file : ToolKind → ℕ → Step → ℕ → ToolState
 with_file kind pid next number =
-    record (first_tool kind pid) { opened = record nothing_open { file = Some number }; step = next }
+    record (first_tool kind pid) { opened = with_record_open number; step = next }
 
 -- a step of a tool with its file open: it reads, or it waits and then reads
 abbrev pub IsWithFile : ToolKind → Step → Type 0
@@ -101,11 +106,11 @@ module _ (kind : ToolKind) (pid : ℕ) (is : IsReader kind) where
 
   pub read-call : (number : ℕ)
       → next_call_of (with_file kind pid step.ReadFile number) ≡ Some (call.Read number 0 read_limit)
-  unfolding next_call_of call_of
+  unfolding next_call_of call_of handle_at with_handle nothing_open
   read-call number = refl
 
   pub wait-call : (number : ℕ) → next_call_of (with_file kind pid step.AwaitEnd number) ≡ Some (call.Poll (number ∷ []))
-  unfolding next_call_of call_of
+  unfolding next_call_of call_of handle_at with_handle nothing_open
   wait-call number = refl
 
   step-with-file : (t : ToolState) (next : Step) → IsWithFile kind next → with_next t next ≡ record t { step = next }
@@ -119,7 +124,7 @@ module _ (kind : ToolKind) (pid : ℕ) (is : IsReader kind) where
   opened-fed number =
       rw (is.starts)
       (step-with-file
-      (record (first_tool kind pid) { opened = record nothing_open { file = Some number }; step = step.OpenFile })
+      (record (first_tool kind pid) { opened = with_record_open number; step = step.OpenFile })
       (step_after kind step.OpenFile) is.opens)
 
   pub open-refused : (e : Errno) → WasRefused (fed (first_tool kind pid) (reply.Fail e))
@@ -128,7 +133,7 @@ module _ (kind : ToolKind) (pid : ℕ) (is : IsReader kind) where
 
   pub read-fed : (number : ℕ) (bytes : List ℕ)
       → fed (with_file kind pid step.ReadFile number) (reply.Bytes bytes) ≡ having_read kind pid
-      (record nothing_open { file = Some number }) (take (record_room kind) bytes)
+      (with_record_open number) (take (record_room kind) bytes)
   unfolding fed refusal_in accepted advanced with_record with_next bytes_in first_tool
   read-fed number bytes = rw (is.reads) refl
 

@@ -29,20 +29,22 @@ use Rattle.pr_rec.specs.RecordBytes.{lstatus_bytes}
 use Rattle.pr_tools.specs.Handles.{without_last}
 use Rattle.pr_tools.specs.Replies.{bytes_read, is_passed_over, is_unmapped}
 use Rattle.pr_tools.specs.Stacks.{process_stands, walk_after, walk_in, with_frame}
-use Rattle.pr_tools.specs.Tools.{ToolState, accepted, fed, first_tool, next_call_of, short_read, stop_bytes, with_walk}
+use Rattle.pr_tools.specs.Calls.{short_read, stop_bytes}
+use Rattle.pr_tools.specs.Tools.{ToolState, accepted, fed, first_tool, next_call_of, with_walk}
 use Rattle.pr_tools.specs.declared.stacks.CallFrame.{CallFrame}
 use Rattle.pr_tools.specs.declared.stacks.Walk.{Walk}
 use Rattle.pr_tools.specs.declared.steps.Step.{Step}
 use Rattle.pr_tools.specs.declared.steps.Step.TheVariants as step
 use Rattle.pr_tool_laws.proofs.StackHalts.{HaltsWith}
-use Rattle.pr_tool_laws.proofs.StackReads.{control_of, memory-gone, memory-there, memory_of, new-stands, old-stands, read-answer, status-gone, status-there, status-whole, status_of, stop-halts}
-use Rattle.pr_tool_laws.proofs.StackStages.{HasFrames, HasReadAll, Holds, Reads, Seen, memory_then, So, StackStage, Walks, at_first, goes, has_control, has_read, has_status, refused, seen-here, seen-still, still-read}
+use Rattle.pr_tool_laws.proofs.StackReads.{control_of, halts-here, memory-gone, memory-there, memory_of, new-stands, old-stands, own-seen, read-answer, status-gone, status-there, status-whole, status_of, stop-halts}
+use Rattle.pr_tool_laws.proofs.StackStages.{HasFrames, HasReadAll, Holds, Reads, Seen, So, StackStage, Walks, at_first, goes, has_control, has_read, has_status, refused, seen-here, seen-still, still-read}
 use Rattle.pr_tool_laws.proofs.StackSteps as steps
 use Rattle.pr_tool_laws.proofs.StackSteps.{Ends, IsEnding, Notes, no_notes, pstack_at, unless-refused, wait-used, with_control, with_memory, with_status}
 use Rattle.pr_tool_laws.proofs.StackTexts.{first-shown}
 use Rattle.pr_tool_laws.proofs.StackWalks.{HasWalked, room, walk-begins, walk-goes}
 use Rattle.pr_tool_laws.proofs.StandingLemmas.{Stands}
 use Rattle.pr_tool_laws.specs.Reads.{IsToolRead}
+use Rattle.pr_tools.specs.SpaceStacks.{first_instruction}
 use Rattle.pr_tool_laws.specs.Stacks.{HasStopped}
 use Rattle.pr_truss_laws.proofs.OpensLemmas.{Opens, Refuses, looking-stays, only_looks, open-opens, plain-leaves}
 
@@ -55,14 +57,6 @@ module _ (n k pid : ℕ) (first : TracedState) (h : List Entry) (c : Call) (a : 
 
   abbrev longer : List Entry
   longer = h ++ call_entry k c a.reply ∷ []
-
-  -- the memory of the process in the state that is shown
-  abbrev memory_of_seen : {g : List Entry} → Seen n k pid first g → Space
-  memory_of_seen seen = memory_then n k pid first seen
-
-  -- what a read of it gives
-  abbrev seen_at : {g : List Entry} → Seen n k pid first g → ℕ → List ℕ
-  seen_at seen from = mapped_from (memory_of_seen seen) from short_read
 
   -- the stage after the call
   abbrev Next : ToolState → Type 0
@@ -227,9 +221,9 @@ module _ (n k pid : ℕ) (first : TracedState) (h : List Entry) (c : Call) (a : 
             (let stops = stop-halts s k control pid a holds.holds_control its goes_on.0 in (none, stops.0, stops.1))
 
     -- where the system stays, so does what was said of it
-    halts-still : (space : Space) → a.state.system ≡ s.system → HaltsWith pid space s.system
-        → HaltsWith pid space a.state.system
-    halts-still space same halts = subst (HaltsWith pid space) (sym same) halts
+    halts-still : (was : TracedProcess) → a.state.system ≡ s.system → HaltsWith pid was s.system
+        → HaltsWith pid was a.state.system
+    halts-still was same halts = subst (HaltsWith pid was) (sym same) halts
 
     -- the wait is over
     stopped-here : c ≡ call.CtlWait control 0 stop_bytes → ((e : Errno) → a.reply ≢ reply.Fail e)
@@ -253,10 +247,10 @@ module _ (n k pid : ℕ) (first : TracedState) (h : List Entry) (c : Call) (a : 
           file = refl;
         }
 
-    wait-stage : notes.frames ≡ [] → (space : Space) → HaltsWith pid space s.system → notes.until ≡ 0
+    wait-stage : notes.frames ≡ [] → (was : TracedProcess) → HaltsWith pid was s.system → notes.until ≡ 0
         → next_call_of (at step.AwaitStop) ≡ Some c → Next (fed (at step.AwaitStop) a.reply)
     unfolding is_passed_over So
-    wait-stage none space halts endless next = of (unless-refused (at step.AwaitStop) a.reply (λ e. refl))
+    wait-stage none was halts endless next = of (unless-refused (at step.AwaitStop) a.reply (λ e. refl))
       where
         call_is : next_call_of (at step.AwaitStop) ≡ Some (call.CtlWait control 0 stop_bytes)
         call_is =
@@ -277,17 +271,17 @@ module _ (n k pid : ℕ) (first : TracedState) (h : List Entry) (c : Call) (a : 
             going (fed (at step.AwaitStop) a.reply) step.ReadFile notes still.0 (goes_on.1
             ∙ steps.waited pid notes (with_memory control status memory) a.reply) (
               none,
-              (space, halts-still space still.1 halts),
+              (was, halts-still was still.1 halts),
               stopped-here
                   (its-call (at step.AwaitStop) (call.CtlWait control 0 stop_bytes) call_is next) goes_on.0,
             )
 
     -- ---- the status of all lwps
 
-    status-stage : notes.frames ≡ [] → (space : Space) → HaltsWith pid space s.system → HasStopped k pid first h
+    status-stage : notes.frames ≡ [] → (was : TracedProcess) → HaltsWith pid was s.system → HasStopped k pid first h
         → next_call_of (at step.ReadFile) ≡ Some c → Next (fed (at step.ReadFile) a.reply)
     unfolding is_passed_over So IsToolRead
-    status-stage none space halts stopped next = by (live_process s.system pid) refl
+    status-stage none was halts stopped next = by (live_process s.system pid) refl
       where
         call_is : next_call_of (at step.ReadFile) ≡ Some (call.Read status 0 read_limit)
         call_is = steps.status-call pid control status memory notes
@@ -330,17 +324,20 @@ module _ (n k pid : ℕ) (first : TracedState) (h : List Entry) (c : Call) (a : 
             ∙ steps.status-read pid notes (with_memory control status memory)
             (part_read (lstatus_bytes (lstatus_of p)) 0 read_limit)) (record {
               seen = seen-here n k pid first h c a.reply p reads stopped live own.0;
-              halts =
-                  halts-still (space_seen s.system p) still.1
-                  (subst (λ (x : Space). HaltsWith pid x s.system) (sym own.1) halts);
+              halts = halts-still p still.1 (halts-here pid p s.system live own.0);
               status = λ are. status-whole p are;
               none = none;
             })
 
     -- ---- memory
 
-    -- the bytes that are read of it stand in memory as it was
-    module _ (space : Space) (halts : HaltsWith pid space s.system) (p : Step) (from : ℕ)
+    -- What is read of it stands in some memory: in that which the process had, if it had lent nothing.
+    record IsOfMemory (was : TracedProcess) (from : ℕ) : Type 0 where
+      space : Space
+      gives : a.reply ≡ unless_none (mapped_from space from short_read)
+      own : was.borrower ≡ None → space ≡ was.space
+
+    module _ (was : TracedProcess) (halts : HaltsWith pid was s.system) (p : Step) (from : ℕ)
         (its : answer_to s k (call.Read memory from short_read) ≡ Some a)
         (counts : is_passed_over p Noent ≡ false) where
       memory-replies : a.reply ≡ file_read s.system pid 0 from short_read file.Mem
@@ -348,31 +345,34 @@ module _ (n k pid : ℕ) (first : TracedState) (h : List Entry) (c : Call) (a : 
           ap (λ (x : Answer). x.reply)
           (read-answer s memory from short_read (memory_of k pid) a refl holds.holds_memory its)
 
-      memory-read : IsSome (fed (at p) a.reply).refusal ⊎ (a.reply ≡ unless_none (mapped_from space from short_read))
+      memory-read : IsSome (fed (at p) a.reply).refusal ⊎ IsOfMemory was from
       memory-read = by (live_process s.system pid) refl
         where
           by : (o : Option TracedProcess) → live_process s.system pid ≡ o
-              → IsSome (fed (at p) a.reply).refusal ⊎ (a.reply ≡ unless_none (mapped_from space from short_read))
+              → IsSome (fed (at p) a.reply).refusal ⊎ IsOfMemory was from
           by None gone =
               inl (subst (λ (r : Reply). IsSome (fed (at p) r).refusal) (sym (memory-replies
               ∙ memory-gone s.system pid from gone)) (steps.refused-now (at p) Noent counts))
           by (Some q) live =
-              inr (memory-replies ∙ memory-there s.system pid from q live
-              ∙ ap (λ (x : Space). unless_none (mapped_from x from short_read)) (halts.each q live).1)
+              let keeps = (halts.each q live).1 in
+              inr (record {
+                space = space_seen s.system q;
+                gives = memory-replies ∙ memory-there s.system pid from q live;
+                own = λ none. let kept = keeps.own none in own-seen s.system q kept.0 ∙ kept.1;
+              })
 
       -- no more than was asked for
-      memory-fits : a.reply ≡ unless_none (mapped_from space from short_read)
-          → length (mapped_from space from short_read) ≤ short_read
-      memory-fits is =
-          steps.memory-few memory from short_read (mapped_from space from short_read)
-          (ap (has_shape (call.Read memory from short_read)) (sym is)
+      memory-fits : (read : IsOfMemory was from) → length (mapped_from read.space from short_read) ≤ short_read
+      memory-fits read =
+          steps.memory-few memory from short_read (mapped_from read.space from short_read)
+          (ap (has_shape (call.Read memory from short_read)) (sym read.gives)
           ∙ machine-shaped s k (call.Read memory from short_read) a lawful.system its)
 
     -- the next frame is read, or all were
     walking : (t : ToolState) (p : Step) (later : Notes) (next : Option Walk) → a.state.opens ≡ s.opens
         → t ≡ with_walk (pstack_at pid (with_memory control status memory) p later) next
-        → (seen : Seen n k pid first longer) → HaltsWith pid (memory_of_seen seen) a.state.system
-        → HasFrames n k pid first seen.process (memory_of_seen seen) later next → Next t
+        → (seen : Seen n k pid first longer) → HaltsWith pid seen.process a.state.system
+        → HasFrames n k pid first seen.process later next → Next t
     unfolding So
     walking t p later None same is seen halts read =
         let ends = steps.walked pid later (with_memory control status memory) p in
@@ -399,7 +399,7 @@ module _ (n k pid : ℕ) (first : TracedState) (h : List Entry) (c : Call) (a : 
     text-stage : Reads n k pid first h s.system notes → next_call_of (at step.ReadText) ≡ Some c
         → Next (fed (at step.ReadText) a.reply)
     unfolding is_passed_over is_unmapped
-    text-stage reads next = of (memory-read (memory_of_seen reads.seen) reads.halts step.ReadText text_base its refl)
+    text-stage reads next = of (memory-read reads.seen.process reads.halts step.ReadText text_base its refl)
       where
         its : answer_to s k (call.Read memory text_base short_read) ≡ Some a
         its =
@@ -409,25 +409,26 @@ module _ (n k pid : ℕ) (first : TracedState) (h : List Entry) (c : Call) (a : 
         still : (a.state.opens ≡ s.opens) × (a.state.system ≡ s.system)
         still = looks-still (call.Read memory text_base short_read) refl its
 
-        of : IsSome (fed (at step.ReadText) a.reply).refusal ⊎ (a.reply ≡ unless_none (seen_at reads.seen text_base))
+        of : IsSome (fed (at step.ReadText) a.reply).refusal ⊎ IsOfMemory reads.seen.process text_base
             → Next (fed (at step.ReadText) a.reply)
         of (inl was) = refused was
-        of (inr is) =
+        of (inr read) =
+            let bytes : List ℕ = mapped_from read.space text_base short_read in
             walking (fed (at step.ReadText) a.reply) step.ReadText
-            (record notes { first = steps.first_of pid notes (seen_at reads.seen text_base) }) (walk_in notes.bytes 8)
-            still.0
-            (ap (fed (at step.ReadText)) is
-            ∙ steps.text-read pid notes (with_memory control status memory) (seen_at reads.seen text_base))
+            (record notes { first = steps.first_of pid notes bytes }) (walk_in notes.bytes 8) still.0
+            (ap (fed (at step.ReadText)) read.gives
+            ∙ steps.text-read pid notes (with_memory control status memory) bytes)
             (seen-still n k pid first h (call_entry k c a.reply) reads.seen)
-            (halts-still (memory_of_seen reads.seen) still.1 reads.halts)
+            (halts-still reads.seen.process still.1 reads.halts)
             (record {
               status = reads.status;
-              instruction =
-                  first-shown (memory_of_seen reads.seen)
-                  (memory-fits (memory_of_seen reads.seen) reads.halts step.ReadText text_base its refl is);
-              frames = λ are.
+              instruction = λ own.
+                  first-shown read.space
+                  (memory-fits reads.seen.process reads.halts step.ReadText text_base its refl read)
+                  ∙ ap first_instruction (read.own own);
+              frames = λ own are.
                   let lwps = lstatus_of reads.seen.process in
-                  let space : Space = memory_of_seen reads.seen in
+                  let space : Space = reads.seen.process.space in
                   let begun = walk-begins lwps are.few are.fields space in
                   let none = reads.none in
                   subst (λ (bytes : List ℕ). HasWalked lwps space notes.frames (walk_in bytes 8))
@@ -440,7 +441,7 @@ module _ (n k pid : ℕ) (first : TracedState) (h : List Entry) (c : Call) (a : 
         → Next (fed (at step.ReadFrame) a.reply)
     unfolding is_passed_over is_unmapped
     frame-stage walks next =
-        of (memory-read (memory_of_seen walks.seen) walks.halts step.ReadFrame walks.next.frame its refl)
+        of (memory-read walks.seen.process walks.halts step.ReadFrame walks.next.frame its refl)
       where
         its : answer_to s k (call.Read memory walks.next.frame short_read) ≡ Some a
         its =
@@ -450,30 +451,34 @@ module _ (n k pid : ℕ) (first : TracedState) (h : List Entry) (c : Call) (a : 
         still : (a.state.opens ≡ s.opens) × (a.state.system ≡ s.system)
         still = looks-still (call.Read memory walks.next.frame short_read) refl its
 
-        of : IsSome (fed (at step.ReadFrame) a.reply).refusal
-            ⊎ (a.reply ≡ unless_none (seen_at walks.seen walks.next.frame))
+        of : IsSome (fed (at step.ReadFrame) a.reply).refusal ⊎ IsOfMemory walks.seen.process walks.next.frame
             → Next (fed (at step.ReadFrame) a.reply)
         of (inl was) = refused was
-        of (inr is) =
+        of (inr read) =
+            let frame : List ℕ = mapped_from read.space walks.next.frame short_read in
             walking (fed (at step.ReadFrame) a.reply) step.ReadFrame
-            (record notes { frames = with_frame room notes.frames walks.next (seen_at walks.seen walks.next.frame) })
-            (walk_after notes.bytes walks.next (seen_at walks.seen walks.next.frame)) still.0
-            (ap (fed (at step.ReadFrame)) is
-            ∙ steps.frame-read pid notes (with_memory control status memory) walks.next walks.is
-            (seen_at walks.seen walks.next.frame))
+            (record notes { frames = with_frame room notes.frames walks.next frame })
+            (walk_after notes.bytes walks.next frame) still.0
+            (ap (fed (at step.ReadFrame)) read.gives
+            ∙ steps.frame-read pid notes (with_memory control status memory) walks.next walks.is frame)
             (seen-still n k pid first h (call_entry k c a.reply) walks.seen)
-            (halts-still (memory_of_seen walks.seen) still.1 walks.halts)
+            (halts-still walks.seen.process still.1 walks.halts)
             (record {
               status = walks.read.status;
               instruction = walks.read.instruction;
-              frames = λ are.
+              frames = λ own are.
                   let lwps = lstatus_of walks.seen.process in
-                  let space : Space = memory_of_seen walks.seen in
-                  let read : List ℕ = seen_at walks.seen walks.next.frame in
+                  let space : Space = walks.seen.process.space in
                   let goes_on =
-                  walk-goes lwps are.few are.fields space walks.next notes.frames (walks.read.frames are) in
-                  subst (λ (bytes : List ℕ). HasWalked lwps space (with_frame room notes.frames walks.next read)
-                  (walk_after bytes walks.next read)) (sym (walks.read.status are)) goes_on;
+                  walk-goes lwps are.few are.fields space walks.next notes.frames (walks.read.frames own are) in
+                  let here : HasWalked lwps space (with_frame room notes.frames walks.next frame)
+                  (walk_after (lstatus_bytes lwps) walks.next frame) =
+                  subst (λ (x : Space). HasWalked lwps space
+                  (with_frame room notes.frames walks.next (mapped_from x walks.next.frame short_read))
+                  (walk_after (lstatus_bytes lwps) walks.next (mapped_from x walks.next.frame short_read)))
+                  (sym (read.own own)) goes_on in
+                  subst (λ (bytes : List ℕ). HasWalked lwps space (with_frame room notes.frames walks.next frame)
+                  (walk_after bytes walks.next frame)) (sym (walks.read.status are)) here;
             })
 
     -- ---- all of them

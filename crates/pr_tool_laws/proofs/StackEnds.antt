@@ -1,12 +1,10 @@
 use Rattle.pr_num.specs.Spaces.{Space}
 use Rattle.std.proofs.Common.{◌≡◌, ℕ, true, List, Option, Some, None, IfSome, is_some, option_map, refl, sym, subst, ap, ◌∙◌}
 use Rattle.std.proofs.lemmas.Bool.{false≢true}
-use Rattle.std.proofs.lemmas.Option.{same_Some}
 use Rattle.pr_lawful.proofs.HistoryLemmas.{history-state}
 use Rattle.pr_lawful.proofs.UseLemmas.{live-lawful}
 use Rattle.pr_model.specs.Lawful.{IsLawful, IsLawfulSystem}
 use Rattle.pr_model.specs.Legal.{IsLegal, state_after}
-use Rattle.pr_model.specs.Readers.{space_seen}
 use Rattle.pr_model.specs.Records.{lstatus_of}
 use Rattle.pr_model.specs.State.{TracedProcess, TracedState, TracedSystem}
 use Rattle.pr_model.specs.declared.calls.Call.{Call}
@@ -23,17 +21,18 @@ use Rattle.pr_tools.specs.declared.handles.Opened.{Opened}
 use Rattle.pr_tools.specs.declared.stacks.CallFrame.{CallFrame}
 use Rattle.pr_tools.specs.declared.steps.Step.{Step}
 use Rattle.pr_tools.specs.declared.steps.Step.TheVariants as step
+use Rattle.pr_tool_laws.proofs.StackReads.{own-seen}
 use Rattle.pr_tool_laws.proofs.StackStages.{HasReadAll, IsGoing, So, StackStage, at_first, goes, has_control, has_read, has_status, refused}
 use Rattle.pr_tool_laws.proofs.StackSteps as steps
 use Rattle.pr_tool_laws.proofs.StackSteps.{Notes, no_notes, pstack_at, with_control, with_memory, with_status}
 use Rattle.pr_tool_laws.proofs.StackTexts.{stacks-shown}
-use Rattle.pr_tool_laws.proofs.StackWalks.{walked-all}
+use Rattle.pr_tool_laws.proofs.StackWalks.{all_frames, walked-all}
 use Rattle.pr_tool_laws.proofs.ToolLemmas.{still-going, text-printed}
 use Rattle.pr_tool_laws.proofs.WholeLemmas.{all-read, front-bytes, front-legal}
 use Rattle.pr_tool_laws.specs.OneState.{AreLwpsRead, IsReadBack}
-use Rattle.pr_tool_laws.specs.Stacks.{ShowsOneStack, first_instruction, stacks_in, stacks_text}
+use Rattle.pr_tools.specs.SpaceStacks.{first_instruction}
+use Rattle.pr_tool_laws.specs.Stacks.{ShowsOneStack, stacks_in, stacks_text}
 use Rattle.pr_tool_laws.specs.ToolTexts.{reads_once}
-use Rattle.pr_truss_laws.specs.Stills.{IsHalting}
 
 -- What pstack prints in the end is the text of the stacks in the state that it read.
 
@@ -105,15 +104,16 @@ module _ (n k pid : ℕ) (first : TracedState) where
       subst (λ (o : Option TracedProcess). IfSome o AreLwpsRead) seen.live
       (all-read pid at system range Pflags refl) in
       let rises = (live-lawful at pid p system seen.live).rising in
-      let space : Space = space_seen at p in
-      let frames = walked-all (lstatus_of p) space all.notes.frames (all.read.frames are) in
-      let text : printed t programs ≡ stacks_text pid programs at p =
+      let status : List ℕ = lstatus_bytes (lstatus_of p) in
+      let text : p.borrower ≡ None → printed t programs ≡ stacks_text pid programs at p =
+      λ own.
+      let frames = walked-all (lstatus_of p) p.space all.notes.frames (all.read.frames own are) in
       text-read h t programs ended accepted all are
       ∙ ap (λ (b : List ℕ). pstack_text pid b all.notes.first all.notes.frames programs) (all.read.status are)
-      ∙ ap (λ (i : Option (List ℕ)). pstack_text pid
-      (lstatus_bytes (lstatus_of p)) i all.notes.frames programs) all.read.instruction
-      ∙ ap (λ (fs : List CallFrame). pstack_text pid (lstatus_bytes (lstatus_of p)) (first_instruction space) fs
-      programs) frames
+      ∙ ap (λ (i : Option (List ℕ)). pstack_text pid status i all.notes.frames programs) (all.read.instruction own)
+      ∙ ap (λ (fs : List CallFrame). pstack_text pid status (first_instruction p.space) fs programs) frames
+      ∙ ap (λ (x : Space). pstack_text pid status (first_instruction x) (all_frames x (lstatus_of p)) programs)
+      (sym (own-seen at p own))
       ∙ stacks-shown pid at p programs are rises in
       record {
         before = seen.before;
@@ -123,6 +123,9 @@ module _ (n k pid : ℕ) (first : TracedState) where
         place = seen.place;
         reads = seen.reads;
         stopped = seen.stopped;
-        still = λ q there. subst IsHalting (same_Some p q (sym seen.live ∙ there)) seen.still;
-        shown = ap (option_map (stacks_text pid programs at)) seen.live ∙ ap (λ (x : List ℕ). Some x) (sym text);
+        process = p;
+        lives = seen.live;
+        still = seen.still;
+        shown = λ own.
+            ap (option_map (stacks_text pid programs at)) seen.live ∙ ap (λ (x : List ℕ). Some x) (sym (text own));
       }

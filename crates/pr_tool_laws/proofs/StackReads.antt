@@ -5,7 +5,7 @@ use Rattle.pr_model.specs.ControlMessages.{targeted_answer}
 use Rattle.pr_model.specs.Handles.{handle_of, is_control}
 use Rattle.pr_model.specs.Messages.{message_answer}
 use Rattle.pr_model.specs.Reads.{file_read, file_reply, mapped_from, of_process, part_read, read_process, unless_none}
-use Rattle.pr_model.specs.Readers.{space_seen}
+use Rattle.pr_model.specs.Readers.{space_seen, space_shown}
 use Rattle.pr_model.specs.Records.{lstatus_of}
 use Rattle.pr_model.specs.Replies.{until_in}
 use Rattle.pr_model.specs.State.{Places, TracedProcess, TracedState, TracedSystem, live_process}
@@ -18,19 +18,19 @@ use Rattle.pr_model.specs.declared.calls.Reply.TheVariants as reply
 use Rattle.pr_model.specs.declared.handles.Held.{Held}
 use Rattle.pr_model.specs.declared.tools.ToolKind.TheVariants.{Pstack}
 use Rattle.pr_num.specs.Limits.{read_limit}
-use Rattle.pr_num.specs.Spaces.{Space}
 use Rattle.pr_num.specs.declared.errnos.Errno.{Errno}
 use Rattle.pr_num.specs.declared.errnos.Errno.TheVariants.{Noent}
 use Rattle.pr_num.specs.declared.messages.Message.TheVariants as message
 use Rattle.pr_rec.specs.RecordBytes.{lstatus_bytes}
 use Rattle.pr_tools.specs.Steps.{record_room}
-use Rattle.pr_tools.specs.Tools.{short_read, stop_bytes}
+use Rattle.pr_tools.specs.Calls.{short_read, stop_bytes}
 use Rattle.pr_tool_laws.proofs.ReadBackLemmas.{lwps-length}
 use Rattle.pr_tool_laws.proofs.ReadTextLemmas.{whole-read}
 use Rattle.pr_tool_laws.proofs.ReaderLemmas.{handle-read}
 use Rattle.pr_tool_laws.proofs.StackHalts.{HaltsWith}
 use Rattle.pr_tool_laws.proofs.StandingLemmas.{Stands}
 use Rattle.pr_tool_laws.specs.OneState.{AreLwpsRead}
+use Rattle.pr_truss_laws.proofs.FrameLemmas.{memory-self}
 use Rattle.pr_truss_laws.proofs.OpensLemmas.{Opens, held_by, own-free, own-mine, own-other, own-set}
 use Rattle.pr_truss_laws.proofs.OwnTurnLemmas.{all-directed}
 use Rattle.pr_truss_laws.proofs.TakenLemmas.{ctl-is, stop-directs, stop-reads, taken-unless}
@@ -67,21 +67,28 @@ module _ (s : TracedState) (k : ℕ) (held : Held) (own : held.controller ≡ k)
       ap (λ (x : Places). handle_of x k number) granted.is ∙ own-other s.opens k granted.place number (Some held) apart
       ∙ stands
 
--- ---- a request to stop
+-- ---- a process that halts
 
-directed-memory : (p : TracedProcess) → KeepsMemory p (with_all_directed p)
-unfolding with_all_directed
-directed-memory p = record { space = refl }
+-- it is as it is here
+pub halts-here : (pid : ℕ) (p : TracedProcess) (s : TracedSystem) → live_process s pid ≡ Some p → IsHalting p
+    → HaltsWith pid p s
+halts-here pid p s live halting = record {
+  each = λ q there.
+      subst (λ (x : TracedProcess). IsHalting x × KeepsMemory p x) (same_Some p q (sym live ∙ there))
+      (halting, memory-self p);
+}
+
+-- ---- a request to stop
 
 -- Where it is not refused, the process does nothing but stop from then on, and the wait for it has no end of its own.
 pub stop-halts : (s : TracedState) (k c pid : ℕ) (a : Answer) → handle_of s.opens k c ≡ Some (control_of k pid)
     → answer_to s k (call.Ctl c stop_bytes) ≡ Some a → ((e : Errno) → a.reply ≢ reply.Fail e)
-    → ((space : Space) × HaltsWith pid space a.state.system) × (until_in a.reply ≡ 0)
+    → ((was : TracedProcess) × HaltsWith pid was a.state.system) × (until_in a.reply ≡ 0)
 unfolding message_answer until_in
 stop-halts s k c pid a stands given accepted = by (live_process s.system pid) refl
   where
     by : (o : Option TracedProcess) → live_process s.system pid ≡ o
-        → ((space : Space) × HaltsWith pid space a.state.system) × (until_in a.reply ≡ 0)
+        → ((was : TracedProcess) × HaltsWith pid was a.state.system) × (until_in a.reply ≡ 0)
     by None none =
         absurd (accepted Noent
         (ap (λ (x : Answer). x.reply) (ctl-is s k c (control_of k pid) stands refl stop_bytes a given)
@@ -89,16 +96,12 @@ stop-halts s k c pid a stands given accepted = by (live_process s.system pid) re
         (targeted_answer s.system (control_of k pid) o stop_bytes).reply) none))
     by (Some p) live =
         let later = stop-directs s k c (control_of k pid) stands refl p live a given accepted in
-        let kept = directed-memory p in
-        let halts : HaltsWith pid (space_seen s.system p) a.state.system = record {
-          each = λ q there.
-              let same : with_all_directed p ≡ q = same_Some (with_all_directed p) q (sym later ∙ there) in
-              (subst IsHalting same (all-directed p), ap (λ (x : TracedProcess). x.space) (sym same) ∙ kept.space);
-        } in
+        let halts : HaltsWith pid (with_all_directed p) a.state.system =
+        halts-here pid (with_all_directed p) a.state.system later (all-directed p) in
         let taken =
         taken-unless s k c
         (control_of k pid) stands refl p live stop_bytes message.Stop a stop-reads given accepted in
-        ((space_seen s.system p, halts), ap (λ (x : Answer). until_in x.reply) taken.is)
+        ((with_all_directed p, halts), ap (λ (x : Answer). until_in x.reply) taken.is)
 
 -- ---- a read
 
@@ -130,6 +133,10 @@ module _ (s : TracedSystem) (pid : ℕ) where
       → file_read s pid 0 from short_read file.Mem ≡ unless_none (mapped_from (space_seen s p) from short_read)
   unfolding file_read read_process file_reply
   memory-there from p live = ap (of_process s pid 0 from short_read file.Mem) live
+
+-- who has lent nothing shows his own memory
+pub own-seen : (s : TracedSystem) (p : TracedProcess) → p.borrower ≡ None → space_seen s p ≡ p.space
+own-seen s p none = ap (λ (o : Option ℕ). space_shown s s.made o p.space) none
 
 -- one read has the status of all lwps
 pub status-whole : (p : TracedProcess) → AreLwpsRead p

@@ -2,7 +2,6 @@ use Rattle.std.proofs.Common.{◌≡◌, ◌∷◌, ◌++◌, ℕ, List, [], Opt
 use Rattle.pr_api.specs.Entries.{call_entry}
 use Rattle.pr_model.specs.Lawful.{IsLawful}
 use Rattle.pr_model.specs.Legal.{IsLegalEntry, after, state_after}
-use Rattle.pr_model.specs.Readers.{space_seen}
 use Rattle.pr_model.specs.Records.{lstatus_of}
 use Rattle.pr_model.specs.State.{TracedProcess, TracedState, TracedSystem, live_process}
 use Rattle.pr_model.specs.declared.calls.Call.{Call}
@@ -14,9 +13,9 @@ use Rattle.pr_model.specs.declared.events.Actor.{Actor}
 use Rattle.pr_model.specs.declared.events.Entry.{Entry}
 use Rattle.pr_model.specs.declared.handles.Held.{Held}
 use Rattle.pr_model.specs.declared.tools.ToolKind.TheVariants.{Pstack}
-use Rattle.pr_num.specs.Spaces.{Space}
 use Rattle.pr_rec.specs.RecordBytes.{lstatus_bytes}
-use Rattle.pr_tools.specs.Tools.{ToolState, first_tool, stop_bytes}
+use Rattle.pr_tools.specs.Calls.{stop_bytes}
+use Rattle.pr_tools.specs.Tools.{ToolState, first_tool}
 use Rattle.pr_tools.specs.declared.handles.Opened.{Opened}
 use Rattle.pr_tools.specs.declared.stacks.Walk.{Walk}
 use Rattle.pr_tools.specs.declared.steps.Step.{Step}
@@ -29,7 +28,8 @@ use Rattle.pr_tool_laws.proofs.StandingLemmas.{IsOther, Stands, others-keep}
 use Rattle.pr_tool_laws.proofs.ToolLemmas.{place-still}
 use Rattle.pr_tool_laws.specs.OneState.{AreLwpsRead}
 use Rattle.pr_tool_laws.specs.Reads.{IsToolRead}
-use Rattle.pr_tool_laws.specs.Stacks.{HasStopped, first_instruction}
+use Rattle.pr_tools.specs.SpaceStacks.{first_instruction}
+use Rattle.pr_tool_laws.specs.Stacks.{HasStopped}
 use Rattle.pr_truss_laws.proofs.ForeignLemmas.{exclusive-sole}
 use Rattle.pr_truss_laws.specs.Stills.{IsHalting}
 
@@ -103,33 +103,30 @@ module _ (n k pid : ℕ) (first : TracedState) where
     still = seen.still;
   }
 
-  -- the memory of the process in that state
-  abbrev pub memory_then : {h : List Entry} → Seen h → Space
-  memory_then seen = space_seen (state_after first seen.before).system seen.process
-
   -- the status of all lwps, where a read has all of it
   abbrev pub HasStatus : TracedProcess → Notes → Type 0
   HasStatus p notes = AreLwpsRead p → notes.bytes ≡ lstatus_bytes (lstatus_of p)
 
-  -- the first instruction, and the frames so far, with the next one
-  pub record HasFrames (p : TracedProcess) (space : Space) (notes : Notes) (next : Option Walk) : Type 0 where
+  -- The first instruction, and the frames so far, with the next one: of the memory of the process, if it had lent
+  -- nothing.
+  pub record HasFrames (p : TracedProcess) (notes : Notes) (next : Option Walk) : Type 0 where
     pub status : HasStatus p notes
-    pub instruction : notes.first ≡ first_instruction space
-    pub frames : AreLwpsRead p → HasWalked (lstatus_of p) space notes.frames next
+    pub instruction : p.borrower ≡ None → notes.first ≡ first_instruction p.space
+    pub frames : p.borrower ≡ None → AreLwpsRead p → HasWalked (lstatus_of p) p.space notes.frames next
 
   -- it read the status, and the process keeps its memory
   pub record Reads (h : List Entry) (s : TracedSystem) (notes : Notes) : Type 0 where
     pub seen : Seen h
-    pub halts : HaltsWith pid (memory_then seen) s
+    pub halts : HaltsWith pid seen.process s
     pub status : HasStatus seen.process notes
     pub none : notes.frames ≡ []
 
   pub record Walks (h : List Entry) (s : TracedSystem) (notes : Notes) : Type 0 where
     pub seen : Seen h
-    pub halts : HaltsWith pid (memory_then seen) s
+    pub halts : HaltsWith pid seen.process s
     pub next : Walk
     pub is : notes.walk ≡ Some next
-    pub read : HasFrames seen.process (memory_then seen) notes (Some next)
+    pub read : HasFrames seen.process notes (Some next)
 
   -- ---- the stages
 
@@ -137,9 +134,10 @@ module _ (n k pid : ℕ) (first : TracedState) where
   unfoldable pub So : List Entry → TracedSystem → Notes → Step → Type 0
   So h s notes step.ReadFirst = notes ≡ no_notes
   So h s notes step.Stop = notes.frames ≡ []
-  So h s notes step.AwaitStop = (notes.frames ≡ []) × ((space : Space) × HaltsWith pid space s) × (notes.until ≡ 0)
+  So h s notes step.AwaitStop =
+      (notes.frames ≡ []) × ((was : TracedProcess) × HaltsWith pid was s) × (notes.until ≡ 0)
   So h s notes step.ReadFile =
-      (notes.frames ≡ []) × ((space : Space) × HaltsWith pid space s) × HasStopped k pid first h
+      (notes.frames ≡ []) × ((was : TracedProcess) × HaltsWith pid was s) × HasStopped k pid first h
   So h s notes step.ReadText = Reads h s notes
   So h s notes step.ReadFrame = Walks h s notes
   So h s notes _ = ⊥
@@ -162,7 +160,7 @@ module _ (n k pid : ℕ) (first : TracedState) where
     pub is : t ≡ pstack_at pid opened next notes
     pub ends : IsEnding next
     pub seen : Seen h
-    pub read : HasFrames seen.process (memory_then seen) notes None
+    pub read : HasFrames seen.process notes None
 
   pub still-read : (h : List Entry) (e : Entry) (t : ToolState) → HasReadAll h t → HasReadAll (h ++ e ∷ []) t
   still-read h e t all = record {
@@ -204,12 +202,12 @@ module _ (n k pid : ℕ) (first : TracedState) where
         others-keep number held n s actor it legal (subst (λ (j : ℕ). IsOther j actor it) (sym own) other) stands
 
     -- the tool has the process open exclusively
-    others-kept : (control : ℕ) → Stands s.opens control (control_of k pid) → (space : Space)
-        → HaltsWith pid space s.system → HaltsWith pid space next_state.system
-    others-kept control stands space halts =
+    others-kept : (control : ℕ) → Stands s.opens control (control_of k pid) → (was : TracedProcess)
+        → HaltsWith pid was s.system → HaltsWith pid was next_state.system
+    others-kept control stands was halts =
         let mine : Held = control_of k pid in
         let sole = exclusive-sole s k control mine lawful stands refl in
-        others-halt n s k pid lawful sole (pid-made s control mine lawful stands) actor it space legal other halts
+        others-halt n s k pid lawful sole (pid-made s control mine lawful stands) actor it was legal other halts
 
     others-so : (control : ℕ) (notes : Notes) (next : Step) → Stands s.opens control (control_of k pid)
         → So h s.system notes next → So longer next_state.system notes next
@@ -222,13 +220,13 @@ module _ (n k pid : ℕ) (first : TracedState) where
         (so.0, (so.1.0, others-kept control stands so.1.0 so.1.1), stopped-still h entry so.2)
     others-so control notes step.ReadText stands so = record {
       seen = seen-still h entry so.seen;
-      halts = others-kept control stands (memory_then so.seen) so.halts;
+      halts = others-kept control stands so.seen.process so.halts;
       status = so.status;
       none = so.none;
     }
     others-so control notes step.ReadFrame stands so = record {
       seen = seen-still h entry so.seen;
-      halts = others-kept control stands (memory_then so.seen) so.halts;
+      halts = others-kept control stands so.seen.process so.halts;
       next = so.next;
       is = so.is;
       read = so.read;

@@ -12,11 +12,12 @@ use Rattle.pr_model.specs.declared.tools.ToolKind.TheVariants.{Pstack}
 use Rattle.pr_num.specs.Layout.{text_base}
 use Rattle.pr_num.specs.Limits.{read_limit}
 use Rattle.pr_num.specs.declared.errnos.Errno.{Errno}
-use Rattle.pr_tools.specs.Handles.{nothing_open, without_last}
+use Rattle.pr_tools.specs.Handles.{handle_at, nothing_open, with_handle, without_last}
 use Rattle.pr_tools.specs.Replies.{bytes_read, is_passed_over, is_unmapped, refusal_in}
 use Rattle.pr_tools.specs.Stacks.{process_stands, walk_after, walk_in, with_frame}
-use Rattle.pr_tools.specs.Steps.{after, after_in_pstack, ctl_mode_of, file_of, first_step, frame_room, record_room}
-use Rattle.pr_tools.specs.Tools.{ToolState, accepted, advanced, answered, at_step, call_of, fed, first_tool, next_call_of, refused, short_read, stop_bytes, with_answer, with_closed, with_first, with_next, with_record, with_run_next, with_walk}
+use Rattle.pr_tools.specs.Steps.{after, after_in_pstack, control_place, ctl_mode_of, file_of, first_step, frame_room, memory_place, record_place, record_room}
+use Rattle.pr_tools.specs.Calls.{short_read, stop_bytes}
+use Rattle.pr_tools.specs.Tools.{ToolState, accepted, advanced, answered, at_step, call_of, fed, first_tool, next_call_of, refused, with_answer, with_closed, with_first, with_next, with_record, with_run_next, with_walk}
 use Rattle.pr_tools.specs.declared.handles.Opened.{Opened}
 use Rattle.pr_tools.specs.declared.stacks.CallFrame.{CallFrame}
 use Rattle.pr_tools.specs.declared.stacks.Walk.{Walk}
@@ -58,13 +59,13 @@ pstack_at pid opened next notes = record {
 }
 
 abbrev pub with_control : ℕ → Opened
-with_control control = record { ctl = Some control; file = None; memory = None }
+with_control control = with_handle nothing_open control_place (Some control)
 
 abbrev pub with_status : ℕ → ℕ → Opened
-with_status control status = record { ctl = Some control; file = Some status; memory = None }
+with_status control status = with_handle (with_control control) record_place (Some status)
 
 abbrev pub with_memory : ℕ → ℕ → ℕ → Opened
-with_memory control status memory = record { ctl = Some control; file = Some status; memory = Some memory }
+with_memory control status memory = with_handle (with_status control status) memory_place (Some memory)
 
 -- the steps of a process whose stacks were read: it is run, and its files are closed
 abbrev pub IsEnding : Step → Type 0
@@ -152,28 +153,28 @@ module _ (pid : ℕ) where
     at next = pstack_at pid (with_memory control status memory) next notes
 
     pub look-call : next_call_of (at step.ReadFirst) ≡ Some (call.Read status 0 read_limit)
-    unfolding next_call_of call_of
+    unfolding next_call_of call_of handle_at with_handle nothing_open
     look-call = refl
 
     pub stop-call : next_call_of (at step.Stop) ≡ Some (call.Ctl control stop_bytes)
-    unfolding next_call_of call_of
+    unfolding next_call_of call_of handle_at with_handle nothing_open
     stop-call = refl
 
     pub wait-call : next_call_of (at step.AwaitStop) ≡ Some (call.CtlWait control notes.until stop_bytes)
-    unfolding next_call_of call_of
+    unfolding next_call_of call_of handle_at with_handle nothing_open
     wait-call = refl
 
     pub status-call : next_call_of (at step.ReadFile) ≡ Some (call.Read status 0 read_limit)
-    unfolding next_call_of call_of
+    unfolding next_call_of call_of handle_at with_handle nothing_open
     status-call = refl
 
     pub text-call : next_call_of (at step.ReadText) ≡ Some (call.Read memory text_base short_read)
-    unfolding next_call_of call_of
+    unfolding next_call_of call_of handle_at with_handle nothing_open
     text-call = refl
 
     pub frame-call : (w : Walk) → notes.walk ≡ Some w
         → next_call_of (at step.ReadFrame) ≡ Some (call.Read memory w.frame short_read)
-    unfolding next_call_of call_of
+    unfolding next_call_of call_of handle_at with_handle nothing_open
     frame-call w is = rw is refl
 
   -- ---- what replies make of it

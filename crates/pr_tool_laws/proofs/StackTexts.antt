@@ -21,12 +21,13 @@ use Rattle.pr_tools.specs.Pstack as tool
 use Rattle.pr_tools.specs.Pstack.{frame_line, frame_line_of, program_of}
 use Rattle.pr_tools.specs.Steps.{read_frames}
 use Rattle.pr_tools.specs.Texts.{header, line_end, lwp_label}
-use Rattle.pr_tools.specs.Tools.{short_read}
+use Rattle.pr_tools.specs.Calls.{short_read}
 use Rattle.pr_tools.specs.declared.stacks.CallFrame.{CallFrame}
 use Rattle.pr_tool_laws.proofs.ReadBackLemmas.{lwps-back}
 use Rattle.pr_tool_laws.proofs.StackWalks.{all_frames, frame_at, frames_of}
 use Rattle.pr_tool_laws.specs.OneState.{AreLwpsRead}
-use Rattle.pr_tool_laws.specs.Stacks.{first_instruction, returns_from, stack_text, stacks_text}
+use Rattle.pr_tools.specs.SpaceStacks.{first_instruction, lwp_stack, lwps_stacks, returns_from}
+use Rattle.pr_tool_laws.specs.Stacks.{stacks_text}
 
 -- Of the frames of all lwps each lwp has its own in its text, since no two lwps have one id.
 
@@ -79,8 +80,8 @@ module _ (program : Option Program) where
     lwp-text : (front back : List CallFrame) (l : LwpStatus) → flat_map (frame_line_of program l.id) front ≡ []
         → flat_map (frame_line_of program l.id) back ≡ []
         → tool.stack_text program (front ++ (frames_of space l ++ back))
-        (lwpstatus_words_of l) ≡ stack_text program space l
-    unfolding tool.stack_text stack_text
+        (lwpstatus_words_of l) ≡ lwp_stack program space l
+    unfolding tool.stack_text lwp_stack
     lwp-text front back l before after =
         let lines = frame_line_of program l.id in
         let all : flat_map lines (front ++ (frames_of space l ++ back)) ≡ flat_map (frame_line program)
@@ -95,7 +96,7 @@ module _ (program : Option Program) where
     lwp-texts : (es : List (ℕ × TracedLwp)) (front : List CallFrame) (low : ℕ) → HaveNoLines low front
         → rises_from low es ≡ true
         → flat_map (tool.stack_text program (front ++ all_frames space (statuses_of_lwps p es)))
-        (map lwpstatus_words_of (statuses_of_lwps p es)) ≡ flat_map (stack_text program space) (statuses_of_lwps p es)
+        (map lwpstatus_words_of (statuses_of_lwps p es)) ≡ flat_map (lwp_stack program space) (statuses_of_lwps p es)
     unfolding lwpstatus_of
     lwp-texts [] front low none rises = refl
     lwp-texts (e ∷ es) front low none rises =
@@ -114,7 +115,7 @@ module _ (program : Option Program) where
         sym (append_assoc front (frames_of space l) back) in
         ap (λ (text : List ℕ). text ++ flat_map
         (tool.stack_text program (front ++ (frames_of space l ++ back))) words) own
-        ∙ ap (λ (text : List ℕ). stack_text program space l ++ text)
+        ∙ ap (λ (text : List ℕ). lwp_stack program space l ++ text)
         (ap (λ (frames : List CallFrame). flat_map (tool.stack_text program frames) words) same ∙ rest)
 
 -- ---- the text of a process
@@ -124,7 +125,7 @@ pub stacks-shown : (pid : ℕ) (s : TracedSystem) (p : TracedProcess) (programs 
     → IsRising p.lwps
     → tool.pstack_text pid (lstatus_bytes (lstatus_of p)) (first_instruction (space_seen s p))
     (all_frames (space_seen s p) (lstatus_of p)) programs ≡ stacks_text pid programs s p
-unfolding tool.pstack_text stacks_text lstatus_of
+unfolding tool.pstack_text stacks_text lwps_stacks lstatus_of
 stacks-shown pid s p programs are rises =
     let space : Space = space_seen s p in
     let lwps = statuses_of_lwps p p.lwps in

@@ -13,12 +13,12 @@ use Rattle.pr_rec.specs.declared.lwps.LwpStatus.{LwpStatus}
 use Rattle.pr_tools.proofs.StackLemmas.{walk_in-none, walk_in-step}
 use Rattle.pr_tools.specs.Stacks.{frame_pointer, goes_on, is_frame, walk_after, walk_from, walk_in, with_frame}
 use Rattle.pr_tools.specs.Steps.{read_frames}
-use Rattle.pr_tools.specs.Tools.{short_read}
+use Rattle.pr_tools.specs.Calls.{short_read}
 use Rattle.pr_tools.specs.declared.stacks.CallFrame.{CallFrame}
 use Rattle.pr_tools.specs.declared.stacks.Walk.{Walk}
 use Rattle.pr_tool_laws.proofs.ReadBackLemmas.{lwps-length}
 use Rattle.pr_tool_laws.proofs.StackWords.{status-id, status-pointer}
-use Rattle.pr_tool_laws.specs.Stacks.{return_and, returns_from}
+use Rattle.pr_tools.specs.SpaceStacks.{return_and, returns_from}
 
 -- The frames that are read one by one of memory that stays are those of the stacks of all lwps, in their order.
 

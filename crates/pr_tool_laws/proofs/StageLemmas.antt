@@ -20,13 +20,12 @@ use Rattle.pr_model.specs.declared.events.Entry.{Entry}
 use Rattle.pr_model.specs.declared.handles.Held.{Held}
 use Rattle.pr_model.specs.declared.tools.ToolKind.{ToolKind}
 use Rattle.pr_num.specs.Limits.{read_limit}
-use Rattle.pr_tools.specs.Handles.{nothing_open}
 use Rattle.pr_tools.specs.Replies.{refusal_in}
 use Rattle.pr_tools.specs.Steps.{after as step_after, file_of, record_room}
 use Rattle.pr_tools.specs.Tools.{ToolState, fed, first_tool, has_ended, next_call_of}
 use Rattle.pr_tools.specs.declared.steps.Step.{Step}
 use Rattle.pr_tools.specs.declared.steps.Step.TheVariants as step
-use Rattle.pr_tool_laws.proofs.ReaderLemmas.{HasAwaited, IsRead, IsReader, IsWithFile, bytes-given, first-call, handle-read, open-refused, opened-fed, read-call, read-fed, read-refused, reply-read, wait-call, wait-fed, with_file}
+use Rattle.pr_tool_laws.proofs.ReaderLemmas.{HasAwaited, IsRead, IsReader, IsWithFile, bytes-given, first-call, handle-read, open-refused, opened-fed, read-call, read-fed, read-refused, reply-read, wait-call, wait-fed, with_file, with_record_open}
 use Rattle.pr_tool_laws.proofs.StandingLemmas.{IsOther, Stands, others-keep}
 use Rattle.pr_tool_laws.proofs.ToolLemmas.{HasRead, WasRefused, read-goes-on, read-still, refused-closes, showed-here, showed-still, still-going}
 use Rattle.pr_tool_laws.specs.Reads.{IsToolRead, bytes_shown}
@@ -183,7 +182,7 @@ module _ (n k : ℕ) (kind : ToolKind) (pid : ℕ) (first : TracedState) (reader
         reader.shows pid s.system ∙ ap (λ r. option_map (take (record_room kind)) (bytes_in r)) reads
         ∙ bytes-given kind pid reader bytes in
         let has : HasRead k kind pid first longer (fed (with_file kind pid step.ReadFile number) a.reply) = record {
-          opened = record nothing_open { file = Some number };
+          opened = with_record_open number;
           bytes = take (record_room kind) bytes;
           is = ap (fed (with_file kind pid step.ReadFile number)) answers ∙ read-fed kind pid reader number bytes;
           showed = showed-here k kind pid first h c a.reply (take (record_room kind) bytes) own shows;

@@ -19,7 +19,8 @@ use Rattle.pr_tools.specs.Tools.{ToolState, accepted, fed, first_tool, has_ended
 use Rattle.pr_tools.specs.declared.handles.Opened.{Opened}
 use Rattle.pr_tools.specs.declared.steps.Step.TheVariants as step
 use Rattle.pr_tool_laws.specs.OneState.{IsOfOneState, IsReadBack}
-use Rattle.pr_tool_laws.specs.Reads.{IsToolRead, bytes_shown, text_made, text_read}
+use Rattle.pr_tool_laws.specs.Reads.{IsToolRead, bytes_shown, text_read}
+use Rattle.pr_tools.specs.RecordTexts.{text_of_record}
 use Rattle.pr_tool_laws.specs.ToolTexts.{reads_once, tool_text}
 
 -- The last stages of a tool: it has read, or it was refused, and closes what it opened.
@@ -132,13 +133,12 @@ module _ (k : ℕ) (kind : ToolKind) (pid : ℕ) (first : TracedState) where
   -- ---- the text in the end
 
   text-made : (opened : Opened) (bytes : List ℕ) (programs : List Program) → reads_once kind ≡ true
-      → text_of (having_read kind pid opened bytes) programs kind ≡ text_made kind pid bytes
-  unfolding text_made text_of reads_once
+      → text_of (having_read kind pid opened bytes) programs kind ≡ text_of_record kind pid bytes
+  unfolding text_of_record text_of reads_once first_tool
   text-made opened bytes programs once = of kind once
     where
       of : (other : ToolKind) → reads_once other ≡ true
-          → text_of (having_read kind pid opened bytes) programs other ≡ text_of
-          (record (first_tool kind pid) { bytes = bytes }) [] other
+          → text_of (having_read kind pid opened bytes) programs other ≡ text_of_record other pid bytes
       of Pflags once = refl
       of Psig once = refl
       of Pstack once = absurd (cc)
@@ -155,7 +155,8 @@ module _ (k : ℕ) (kind : ToolKind) (pid : ℕ) (first : TracedState) where
   text-printed t programs ended accepted = rw (ended, accepted) refl
 
   pub text-read : (h : List Entry) (t : ToolState) (programs : List Program) (once : reads_once kind ≡ true)
-      (has : HasRead h t) → has_ended t ≡ true → t.refusal ≡ None → printed t programs ≡ text_made kind pid has.bytes
+      (has : HasRead h t) → has_ended t ≡ true → t.refusal ≡ None
+      → printed t programs ≡ text_of_record kind pid has.bytes
   unfolding first_tool
   text-read h t programs once has ended accepted =
       text-printed t programs ended accepted ∙ ap (λ (u : ToolState). text_of u programs u.kind) has.is
@@ -164,13 +165,13 @@ module _ (k : ℕ) (kind : ToolKind) (pid : ℕ) (first : TracedState) where
   -- the text that is made of what was read at a place; and what is read back is given
   unfoldable pub of-one-state :
       ((s : TracedSystem) → IsReadBack kind pid s → text_read kind pid s ≡ tool_text kind pid s)
-      → (h : List Entry) (text bytes : List ℕ) → text ≡ text_made kind pid bytes → Showed h bytes
+      → (h : List Entry) (text bytes : List ℕ) → text ≡ text_of_record kind pid bytes → Showed h bytes
       → IsOfOneState k kind pid first h text
   unfolding text_read
   of-one-state back h text bytes made showed =
       let at = (state_after first showed.before).system in
       let read : text_read kind pid at ≡ Some text =
-      ap (option_map (text_made kind pid)) showed.shows ∙ ap (λ (x : List ℕ). Some x) (sym made) in
+      ap (option_map (text_of_record kind pid)) showed.shows ∙ ap (λ (x : List ℕ). Some x) (sym made) in
       record {
         before = showed.before;
         call = showed.call;

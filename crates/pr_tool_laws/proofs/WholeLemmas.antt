@@ -23,14 +23,11 @@ use Rattle.pr_num.specs.Limits.{list_limit, read_limit, spawn_limit}
 use Rattle.pr_num.specs.Programs.{Program}
 use Rattle.pr_num.specs.declared.files.OpenFile.{OpenFile}
 use Rattle.pr_parts.specs.FileTables.{at_place}
-use Rattle.pr_reached.proofs.EntryRanges.{records-range}
+use Rattle.pr_reached.proofs.EntryRanges.{records-range, seen-range}
 use Rattle.pr_reached.proofs.HistoryRanges.{history-range}
-use Rattle.pr_reached.proofs.MappedLemmas.{few-mappings}
-use Rattle.pr_reached.proofs.ProcessRanges.{process-range}
 use Rattle.pr_reached.specs.AllRecords.{AreRecordsInRange, HasRecordsInRange}
 use Rattle.pr_reached.specs.ByteHistories.{HasBytes, IsEntryOfBytes}
-use Rattle.pr_reached.specs.InRange.{IsInRange}
-use Rattle.pr_reached.specs.Mapped.{HasFewMappings}
+use Rattle.pr_reached.specs.InRange.{IsInRange, IsSpaceInRange}
 use Rattle.pr_rec.proofs.EntryLemmas.{length-entries}
 use Rattle.pr_rec.specs.InRange.{IsPsinfo}
 use Rattle.pr_rec.specs.RecordBytes.{list_bytes, map_bytes}
@@ -72,7 +69,8 @@ unfolding fds_of
 descriptors-within files p = entries-within files 0 p.fds
 
 -- 64 bytes for each mapping
-map-within : (s : TracedSystem) (p : TracedProcess) → HasFewMappings p → length (map_bytes (map_of s p)) ≤ read_limit
+map-within : (s : TracedSystem) (p : TracedProcess) → IsSpaceInRange (space_seen s p)
+    → length (map_bytes (map_of s p)) ≤ read_limit
 unfolding map_bytes map_of
 map-within s p h =
     let bytes = length-entries map_entry_words_of 8 (λ _. refl) (map_of s p) in
@@ -131,7 +129,7 @@ module _ (pid : ℕ) (s : TracedSystem) (lawful : IsLawfulSystem s) (ranged : Is
   mappings-read =
       of-live (AreMappingsRead s) (λ p live own records. record {
         fields = records.mappings;
-        few = map-within s p (few-mappings p (process-range s pid p ranged (found-live s pid p live).0));
+        few = map-within s p (seen-range s pid p ranged (found-live s pid p live).0);
       }) (live_process s pid) refl
 
   descriptors-read : IfSome (live_process s pid) (AreDescriptorsRead s)

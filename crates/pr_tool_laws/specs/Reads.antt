@@ -13,8 +13,8 @@ use Rattle.pr_model.specs.declared.tools.ToolKind.{ToolKind}
 use Rattle.pr_model.specs.declared.tools.ToolKind.TheVariants.{Pflags, Psig, Pstack, Pmap, Pfiles, Pstop, Prun, Pwait, Ptree}
 use Rattle.pr_num.specs.Limits.{read_limit}
 use Rattle.pr_rec.specs.RecordBytes.{list_bytes}
+use Rattle.pr_tools.specs.RecordTexts.{text_of_record}
 use Rattle.pr_tools.specs.Steps.{file_of, record_room}
-use Rattle.pr_tools.specs.Tools.{first_tool, text_of}
 
 -- By which call a tool reads, what it reads in one state, and the text that it makes of that.
 
@@ -62,10 +62,6 @@ bytes_shown Ptree pid s = Some (take (record_room Ptree) (list_bytes (list_of s)
 
 -- ---- the text
 
--- the text that a tool makes of the bytes that it read
-unfoldable pub text_made : ToolKind → ℕ → List ℕ → List ℕ
-text_made kind pid bytes = text_of (record (first_tool kind pid) { bytes = bytes }) [] kind
-
 -- the text of a tool that reads in this state
 unfoldable pub text_read : ToolKind → ℕ → TracedSystem → Option (List ℕ)
-text_read kind pid s = option_map (text_made kind pid) (bytes_shown kind pid s)
+text_read kind pid s = option_map (text_of_record kind pid) (bytes_shown kind pid s)

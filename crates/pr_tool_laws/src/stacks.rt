@@ -19,7 +19,8 @@ ghost use Rattle.pr_world.specs.Protocol.{Follows, controllers_at};
 /// In a legal history that follows the protocol of its controllers, from a lawful state in range or from a first state,
 /// and in which controllers write bytes, a pstack that has finished, and was not refused, prints the stacks of one
 /// state, although it reads frame by frame: of the one that it finds when it reads the status of all lwps, after it has
-/// waited for the process to stop. This is so whatever programs it takes its labels from.
+/// waited for the process to stop. This is so whatever programs it takes its labels from. Of the stacks of a process
+/// that has lent its memory in that state nothing is said (vfork(2)).
 pub fn pstack_shows_one_state()
     ensures later { (controllers : List ControllerState) (n k : ℕ) (pid : ℕ) (s : TracedState) (h : List Entry) (t : ToolState)
         → (programs : List Program)

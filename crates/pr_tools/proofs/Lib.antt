@@ -3,4 +3,5 @@ pub mod FieldLemmas
 pub mod SignalLemmas
 pub mod StackLemmas
 pub mod TextLemmas
+pub mod TotalLemmas
 pub mod TreeLemmas

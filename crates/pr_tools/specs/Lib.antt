@@ -1,3 +1,4 @@
+pub mod Calls
 pub mod Entries
 pub mod Handles
 pub mod Pfiles
@@ -7,8 +8,10 @@ pub mod Psig
 pub mod Pstack
 pub mod Ptree
 pub mod Pwait
+pub mod RecordTexts
 pub mod Refusals
 pub mod Replies
+pub mod SpaceStacks
 pub mod Stacks
 pub mod Steps
 pub mod Texts

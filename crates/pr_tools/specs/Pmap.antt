@@ -1,7 +1,8 @@
 -- The text of pmap(1): the mappings of a process.
-use Rattle.std.specs.Prelude.{ℕ, ◌/◌, List, [], ◌∷◌, ◌++◌, Option, Some, None, slice_index, drop, sum_by, codes, decimal, if◌then◌else◌}
+use Rattle.std.specs.Prelude.{ℕ, ◌/◌, ◌≤◌, ◌<◌, ◌^◌, ◌⊎◌, List, [], ◌∷◌, ◌++◌, length, IfSome, Option, Some, None, slice_index, drop, sum_by, codes, decimal, if◌then◌else◌}
 use Rattle.std.specs.List.{flat_map}
 use Rattle.pr_num.specs.Control.{has_flags, prot_read, prot_write, prot_exec}
+use Rattle.pr_num.specs.Limits.{read_limit}
 use Rattle.pr_num.specs.Records.{map_entry_ranges}
 use Rattle.pr_num.specs.Spaces.{kind_of_number}
 use Rattle.pr_num.specs.declared.mappings.MappingKind.{MappingKind}
@@ -57,6 +58,11 @@ total_line total = codes " total " ++ decimal total ++ codes "K" ++ line_end
 abbrev pub mapping_lines : Option (List (List ℕ)) → List ℕ
 mapping_lines None = []
 mapping_lines (Some mappings) = flat_map mapping_line mappings ++ total_line (sum_by units mappings)
+
+-- These are few mappings, or small ones: the sum of their sizes is a word.
+abbrev pub HasTotal : List ℕ → Type 0
+HasTotal bytes =
+    (length bytes ≤ read_limit) ⊎ IfSome (entries_in map_entry_ranges bytes) (λ ms. sum_by units ms < 2 ^ 64)
 
 -- the text of a process, of its mappings
 unfoldable pub pmap_text : ℕ → List ℕ → List ℕ

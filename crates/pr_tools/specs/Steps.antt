@@ -99,6 +99,16 @@ file_of Prun = file.Status
 file_of Pwait = file.Psinfo
 file_of Ptree = file.Status
 
+-- The places of the files that a tool has open: it opens them in this order, those that it needs.
+abbrev pub control_place : ℕ
+control_place = 0
+
+abbrev pub record_place : ℕ
+record_place = 1
+
+abbrev pub memory_place : ℕ
+memory_place = 2
+
 -- how a tool opens the control file: pstack lets nobody else control the process meanwhile
 unfoldable pub ctl_mode_of : ToolKind → Mode
 ctl_mode_of Pstack = mode.WriteExcl

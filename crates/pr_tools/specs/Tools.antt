@@ -3,30 +3,25 @@
 use Rattle.std.specs.Prelude.{ℕ, Bool, false, List, [], ◌∷◌, Option, Some, None, is_none, option_map, length, take, nat_le, if◌then◌else◌}
 use Rattle.pr_num.specs.Layout.{text_base}
 use Rattle.pr_num.specs.Limits.{read_limit}
-use Rattle.pr_num.specs.Messages.{spelling}
 use Rattle.pr_num.specs.Programs.{Program}
 use Rattle.pr_num.specs.declared.errnos.Errno.{Errno}
-use Rattle.pr_num.specs.declared.messages.Message.TheVariants as message
+use Rattle.pr_model.specs.ToolNames.{tool_name}
 use Rattle.pr_model.specs.declared.calls.Call.{Call}
 use Rattle.pr_model.specs.declared.calls.Call.TheVariants as call
 use Rattle.pr_model.specs.declared.calls.File.TheVariants as file
 use Rattle.pr_model.specs.declared.calls.Mode.TheVariants as mode
 use Rattle.pr_model.specs.declared.calls.Reply.{Reply}
 use Rattle.pr_model.specs.declared.tools.ToolKind.{ToolKind}
-use Rattle.pr_model.specs.declared.tools.ToolKind.TheVariants.{Pflags, Psig, Pstack, Pmap, Pfiles, Pstop, Prun, Pwait, Ptree}
-use Rattle.pr_tools.specs.Handles.{nothing_open, last_open, without_last}
-use Rattle.pr_tools.specs.Pfiles.{pfiles_text}
-use Rattle.pr_tools.specs.Pflags.{pflags_text}
-use Rattle.pr_tools.specs.Pmap.{pmap_text}
-use Rattle.pr_tools.specs.Psig.{psig_text}
+use Rattle.pr_model.specs.declared.tools.ToolKind.TheVariants.{Pstack}
+use Rattle.pr_tools.specs.Calls.{short_read, stop_bytes, direct_bytes, run_bytes}
+use Rattle.pr_tools.specs.Handles.{nothing_open, handle_at, with_handle, last_open, without_last}
 use Rattle.pr_tools.specs.Pstack.{pstack_text}
-use Rattle.pr_tools.specs.Ptree.{ptree_text}
-use Rattle.pr_tools.specs.Pwait.{pwait_text}
+use Rattle.pr_tools.specs.RecordTexts.{text_of_record}
 use Rattle.pr_tools.specs.Refusals.{refusal_line}
 use Rattle.pr_model.specs.Replies.{number_of, opened_in, until_in}
 use Rattle.pr_tools.specs.Replies.{bytes_read, refusal_in}
 use Rattle.pr_tools.specs.Stacks.{process_stands, walk_in, walk_after, with_frame}
-use Rattle.pr_tools.specs.Steps.{first_step, after, way_out, file_of, ctl_mode_of, record_room, frame_room}
+use Rattle.pr_tools.specs.Steps.{first_step, after, way_out, file_of, ctl_mode_of, control_place, record_place, memory_place, record_room, frame_room}
 use Rattle.pr_tools.specs.declared.handles.Opened.{Opened}
 use Rattle.pr_tools.specs.declared.stacks.CallFrame.{CallFrame}
 use Rattle.pr_tools.specs.declared.stacks.Walk.{Walk}
@@ -67,19 +62,15 @@ first_tool kind pid = record {
 
 -- ---- its calls
 
--- how many bytes an instruction has, and a frame
-abbrev pub short_read : ℕ
-short_read = 16
+-- the handles of its files
+abbrev pub control_file : ToolState → ℕ
+control_file s = number_of (handle_at s.opened control_place)
 
--- the messages of the tools: stop and wait, direct to stop, run (proc(4))
-abbrev pub stop_bytes : List ℕ
-stop_bytes = spelling message.Stop []
+abbrev pub record_file : ToolState → ℕ
+record_file s = number_of (handle_at s.opened record_place)
 
-abbrev pub direct_bytes : List ℕ
-direct_bytes = spelling message.Dstop []
-
-abbrev pub run_bytes : List ℕ
-run_bytes = spelling (message.Run 0) []
+abbrev pub memory_file : ToolState → ℕ
+memory_file s = number_of (handle_at s.opened memory_place)
 
 -- the frame that comes next; where none does, 0
 abbrev pub frame_of : Option Walk → ℕ
@@ -91,17 +82,17 @@ unfoldable pub call_of : ToolState → Step → Option Call
 call_of s OpenCtl = Some (call.Open s.pid 0 file.Ctl (ctl_mode_of s.kind))
 call_of s OpenFile = Some (call.Open s.pid 0 (file_of s.kind) mode.Read)
 call_of s OpenMemory = Some (call.Open s.pid 0 file.Mem mode.Read)
-call_of s ReadFirst = Some (call.Read (number_of s.opened.file) 0 read_limit)
-call_of s Stop = Some (call.Ctl (number_of s.opened.ctl) stop_bytes)
-call_of s AwaitStop = Some (call.CtlWait (number_of s.opened.ctl) s.until stop_bytes)
-call_of s Direct = Some (call.Ctl (number_of s.opened.ctl) direct_bytes)
-call_of s AwaitEnd = Some (call.Poll (number_of s.opened.file ∷ []))
-call_of s ReadFile = Some (call.Read (number_of s.opened.file) 0 read_limit)
-call_of s ReadText = Some (call.Read (number_of s.opened.memory) text_base short_read)
-call_of s ReadFrame = Some (call.Read (number_of s.opened.memory) (frame_of s.walk) short_read)
-call_of s Run = Some (call.Ctl (number_of s.opened.ctl) run_bytes)
+call_of s ReadFirst = Some (call.Read (record_file s) 0 read_limit)
+call_of s Stop = Some (call.Ctl (control_file s) stop_bytes)
+call_of s AwaitStop = Some (call.CtlWait (control_file s) s.until stop_bytes)
+call_of s Direct = Some (call.Ctl (control_file s) direct_bytes)
+call_of s AwaitEnd = Some (call.Poll (record_file s ∷ []))
+call_of s ReadFile = Some (call.Read (record_file s) 0 read_limit)
+call_of s ReadText = Some (call.Read (memory_file s) text_base short_read)
+call_of s ReadFrame = Some (call.Read (memory_file s) (frame_of s.walk) short_read)
+call_of s Run = Some (call.Ctl (control_file s) run_bytes)
 call_of s ListAll = Some call.List
-call_of s Release = Some (call.Ctl (number_of s.opened.ctl) run_bytes)
+call_of s Release = Some (call.Ctl (control_file s) run_bytes)
 call_of s Close = option_map call.Close (last_open s.opened)
 
 -- the call that a tool makes next; none where it has finished
@@ -156,9 +147,9 @@ with_closed s = record s { opened = without_last s.opened }
 
 -- what a reply makes of a tool that it does not refuse, a row a step
 unfoldable pub accepted : ToolState → Reply → Step → ToolState
-accepted s r OpenCtl = advanced (record s { opened = record s.opened { ctl = opened_in r } })
-accepted s r OpenFile = advanced (record s { opened = record s.opened { file = opened_in r } })
-accepted s r OpenMemory = advanced (record s { opened = record s.opened { memory = opened_in r } })
+accepted s r OpenCtl = advanced (record s { opened = with_handle s.opened control_place (opened_in r) })
+accepted s r OpenFile = advanced (record s { opened = with_handle s.opened record_place (opened_in r) })
+accepted s r OpenMemory = advanced (record s { opened = with_handle s.opened memory_place (opened_in r) })
 accepted s r ReadFirst = advanced (record s { stood = process_stands (bytes_read r) })
 accepted s r Stop = advanced (record s { until = until_in r })
 accepted s r AwaitStop = advanced s
@@ -192,20 +183,13 @@ has_ended s = is_none (next_call_of s)
 
 -- the text of a tool that was not refused, of what it read
 unfoldable pub text_of : ToolState → List Program → ToolKind → List ℕ
-text_of s programs Pflags = pflags_text s.pid s.bytes
-text_of s programs Psig = psig_text s.pid s.bytes
 text_of s programs Pstack = pstack_text s.pid s.bytes s.first s.frames programs
-text_of s programs Pmap = pmap_text s.pid s.bytes
-text_of s programs Pfiles = pfiles_text s.pid s.bytes
-text_of s programs Pstop = []
-text_of s programs Prun = []
-text_of s programs Pwait = pwait_text s.pid s.bytes
-text_of s programs Ptree = ptree_text s.bytes
+text_of s programs kind = text_of_record kind s.pid s.bytes
 
 -- its text, or the line of its refusal
 abbrev pub report : ToolState → List Program → Option Errno → List ℕ
 report s programs None = text_of s programs s.kind
-report s programs (Some e) = refusal_line s.kind s.pid e
+report s programs (Some e) = refusal_line (tool_name s.kind) s.pid e
 
 -- what a tool prints: nothing until it has finished
 unfoldable pub printed : ToolState → List Program → List ℕ

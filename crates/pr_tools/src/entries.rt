@@ -1,5 +1,5 @@
 //! Records one after the other.
-ghost use Rattle.std.specs.Prelude.{◌≡◌, ◌*◌, ◌/◌, ◌<◌, drop, length, map, option_map, IfOk, IfSome};
+ghost use Rattle.std.specs.Prelude.{◌≡◌, ◌*◌, ◌/◌, ◌<◌, ◌≤◌, drop, take, length, map, option_map, IfOk, IfSome};
 ghost use Rattle.std.specs.Result.{result_ok};
 ghost use Rattle.pr_num.specs.Records.{lwpstatus_ranges, map_entry_ranges, fd_entry_ranges, list_entry_ranges};
 ghost use Rattle.pr_rec.specs.Reading.{record_read};
@@ -20,6 +20,18 @@ pub fn bytes_from(bytes: &[u8], place: usize) -> &[u8]
         &bytes[place..]
     } else {
         &[]
+    }
+}
+
+/// The first bytes, `most` where there are more.
+pub fn front(bytes: &[u8], most: usize) -> &[u8]
+    ensures value { result.now ≡ take most bytes.now }
+    ensures within { length result.now ≤ most }
+{
+    if bytes.len() > most {
+        &bytes[..most]
+    } else {
+        bytes
     }
 }
 

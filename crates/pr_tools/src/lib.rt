@@ -2,6 +2,7 @@
 //! the end prints what it read.
 #![tactic(auto)]
 
+mod calls;
 mod decoding;
 mod descriptor_lines;
 mod dispositions;
@@ -12,6 +13,7 @@ mod lwp_lines;
 mod mapping_lines;
 mod names;
 mod process_lines;
+mod record_texts;
 mod refusals;
 mod replies;
 mod stack_lines;
@@ -20,4 +22,12 @@ mod steps;
 mod texts;
 mod tools;
 
+pub use calls::{ctl, poll, wait};
+pub use entries::front;
+pub use handles::Opened;
+pub use record_texts::{push_record, text_of_record};
+pub use refusals::push_refusal;
+pub use replies::bytes_read;
+pub use stacks::{CallFrame, Walk, frame_in, is_frame, process_stands, walk_after, walk_in};
+pub use texts::Text;
 pub use tools::Tool;

@@ -1,10 +1,9 @@
 //! The text of pmap.
-ghost use Rattle.std.specs.Prelude.{◌≡◌, ◌≤◌, ◌+◌, ◌++◌, length, map, sum_by, IfOk, OnOk};
+ghost use Rattle.std.specs.Prelude.{◌≡◌, ◌≤◌, ◌<◌, ◌^◌, ◌⊎◌, ◌+◌, ◌++◌, length, map, sum_by, IfOk, OnOk};
 ghost use Rattle.std.specs.List.{flat_map};
-ghost use Rattle.pr_num.specs.Limits.{read_limit};
 ghost use Rattle.pr_num.specs.Spaces.{kind_number, kind_of_number};
 ghost use Rattle.pr_rec.specs.RecordWords.{map_entry_words_of};
-ghost use Rattle.pr_tools.specs.Pmap.{access_letter, prot_text, kind_text, named, units, place_text, mapping_line, total_line, pmap_text};
+ghost use Rattle.pr_tools.specs.Pmap.{access_letter, prot_text, kind_text, named, units, place_text, mapping_line, total_line, HasTotal, pmap_text};
 
 use crate::entries::entries_in;
 use crate::names::name_in;
@@ -93,7 +92,7 @@ fn push_mapping(text: &mut Text, mapping: &MapEntry) -> Result<(), NoMemory>
 
 /// The lines of the mappings. Answers the sum of their sizes.
 fn push_mappings(text: &mut Text, mappings: &[MapEntry]) -> Result<u64, NoMemory>
-    requires { length mappings.now ≤ 1024 }
+    requires { (length mappings.now ≤ 1024) ⊎ (sum_by units (map map_entry_words_of mappings.now) < 2 ^ 64) }
     ensures lines { OnOk result (text.new ≡ text.old ++ flat_map mapping_line (map map_entry_words_of mappings.now)) }
     ensures total { IfOk result (λ total. total ≡ sum_by units (map map_entry_words_of mappings.now)) }
 {
@@ -119,7 +118,7 @@ fn push_total(text: &mut Text, total: u64) -> Result<(), NoMemory>
 /// The text of a process, of its mappings.
 #[tactic(auto, unfolding(crate::specs::Pmap::pmap_text))]
 pub fn push_pmap(alloc: Global, text: &mut Text, pid: u32, bytes: &[u8]) -> Result<(), NoMemory>
-    requires { length bytes.now ≤ read_limit }
+    requires { HasTotal bytes.now }
     ensures { OnOk result (text.new ≡ text.old ++ pmap_text pid bytes.now) }
 {
     text.header(pid)?;

@@ -40,6 +40,13 @@ pub enum Step {
     Close,
 }
 
+/// The places of the files that a tool has open: it opens them in this order, those that it needs.
+pub const CONTROL: usize = 0;
+
+pub const RECORD: usize = 1;
+
+pub const MEMORY: usize = 2;
+
 /// The most frames of a stack that are read: its first one is the pc, and it has 64 at most.
 pub const READ_FRAMES: u32 = 63;
 

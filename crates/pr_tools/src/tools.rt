@@ -1,33 +1,30 @@
 //! A tool as a controller of the kernel.
-ghost use Rattle.std.specs.Prelude.{◌≡◌, ◌++◌, [], ◌∷◌, length, take, nat_le, Some, None, Ok, IfOk, OnOk, if◌then◌else◌};
+ghost use Rattle.std.specs.Prelude.{◌≡◌, ◌++◌, length, take, nat_le, Some, None, Ok, IfOk, OnOk, if◌then◌else◌};
 ghost use Rattle.pr_num.specs.Limits.{read_limit};
-ghost use Rattle.pr_num.specs.Messages.{spelling, tail_length};
-ghost use Rattle.pr_model.specs.Replies.{number_of};
+ghost use Rattle.pr_tools.specs.Calls.{short_read};
 ghost use Rattle.pr_tools.specs.Steps.{frame_room};
 ghost use Rattle.pr_tools.specs.Stacks.{with_frame};
-ghost use Rattle.pr_tools.specs.Tools.{first_tool, frame_of, call_of, next_call_of, at_step, with_run_next, with_walk, with_next, advanced, with_record, with_first, with_answer, with_closed, accepted, refused, fed, has_ended, text_of, report, printed};
+ghost use Rattle.pr_tools.specs.Tools.{first_tool, record_file, memory_file, frame_of, call_of, next_call_of, at_step, with_run_next, with_walk, with_next, advanced, with_record, with_first, with_answer, with_closed, accepted, refused, fed, has_ended, text_of, report, printed};
 
-use crate::descriptor_lines::push_pfiles;
-use crate::dispositions::push_psig;
-use crate::ends::push_pwait;
+use crate::calls::{ctl, poll, wait};
+use crate::entries::front;
 use crate::handles::Opened;
-use crate::lwp_lines::push_pflags;
-use crate::mapping_lines::push_pmap;
-use crate::process_lines::push_ptree;
+use crate::record_texts::push_record;
 use crate::refusals::push_refusal;
 use crate::replies::{bytes_read, refusal_in};
 use crate::stack_lines::push_pstack;
 use crate::stacks::{CallFrame, Walk, frame_in, is_frame, process_stands, walk_after, walk_in};
 use crate::steps::{
-    Step, after, ctl_mode_of, file_of, first_step, frame_room, record_room, way_out,
+    CONTROL, MEMORY, RECORD, Step, after, ctl_mode_of, file_of, first_step, frame_room,
+    record_room, way_out,
 };
 use crate::texts::Text;
 use pr_asm::Program;
-use pr_model::{Call, File, Mode, Reply, ToolKind, number_of, opened_in, until_in};
-use pr_msg::{Message, encode};
+use pr_model::{Call, File, Mode, Reply, ToolKind, number_of, opened_in, tool_name, until_in};
+use pr_msg::Message;
 use pr_num::layout::TEXT_BASE;
 use pr_num::limits::READ_LIMIT;
-use pr_num::{Bytes, Errno, Handles, Instruction, NoMemory};
+use pr_num::{Bytes, Errno, Instruction, NoMemory};
 use std::alloc::Global;
 use std::marker::Model;
 
@@ -68,42 +65,6 @@ impl Model for Tool {
     ghost invariant = { λ t. (length t.bytes.items ≤ record_room t.kind) × (record_room t.kind ≤ vec_capacity t.bytes) × (frame_room t.kind ≤ vec_capacity t.frames) };
 }
 
-/// The call that writes a control message.
-fn ctl(alloc: Global, handle: Option<u32>, message: &Message) -> Result<Call, NoMemory>
-    requires { tail_length message.now ≡ 0 }
-    ensures { IfOk result (λ call. call ≡ Call.Ctl (number_of handle) (spelling message.now [])) }
-{
-    let bytes = encode(alloc, message, &[])?;
-    Ok(Call::Ctl {
-        handle: number_of(handle),
-        bytes,
-    })
-}
-
-/// The call that waits for the stop of a process.
-#[tactic(auto, unfolding(pr_num::specs::Messages::tail_length))]
-fn wait(alloc: Global, handle: Option<u32>, until: u64) -> Result<Call, NoMemory>
-    ensures { IfOk result (λ call. call ≡ Call.CtlWait (number_of handle) until (spelling Message.Stop [])) }
-{
-    let bytes = encode(alloc, &Message::Stop, &[])?;
-    Ok(Call::CtlWait {
-        handle: number_of(handle),
-        until,
-        bytes,
-    })
-}
-
-/// The call that waits until a process has ended.
-fn poll(alloc: Global, handle: Option<u32>) -> Result<Call, NoMemory>
-    ensures { IfOk result (λ call. call ≡ Call.Poll (number_of handle ∷ [])) }
-{
-    let mut handles = Vec::new(alloc);
-    handles.push(number_of(handle))?;
-    Ok(Call::Poll {
-        handles: Handles::from_vec(handles),
-    })
-}
-
 /// The address of the frame that comes next.
 fn frame_of(walk: &Option<Walk>) -> u64
     ensures { result ≡ frame_of walk.now }
@@ -111,17 +72,6 @@ fn frame_of(walk: &Option<Walk>) -> u64
     match walk {
         None => 0,
         Some(walk) => walk.frame,
-    }
-}
-
-/// The first bytes, `most` where there are more.
-fn front(bytes: &[u8], most: usize) -> &[u8]
-    ensures { result.now ≡ take most bytes.now }
-{
-    if bytes.len() > most {
-        &bytes[..most]
-    } else {
-        bytes
     }
 }
 
@@ -174,10 +124,10 @@ impl Tool {
 
     /// The call that reads a record.
     fn read_file(&self) -> Call
-        ensures { result ≡ Call.Read (number_of self.now.opened.file) 0 read_limit }
+        ensures { result ≡ Call.Read (record_file self.now) 0 read_limit }
     {
         Call::Read {
-            handle: number_of(self.opened.file),
+            handle: number_of(self.opened.at(RECORD)),
             at: 0,
             len: READ_LIMIT,
         }
@@ -185,10 +135,10 @@ impl Tool {
 
     /// The call that reads 16 bytes of memory.
     fn read_memory(&self, at: u64) -> Call
-        ensures { result ≡ Call.Read (number_of self.now.opened.memory) at 16 }
+        ensures { result ≡ Call.Read (memory_file self.now) at short_read }
     {
         Call::Read {
-            handle: number_of(self.opened.memory),
+            handle: number_of(self.opened.at(MEMORY)),
             at,
             len: SHORT_READ,
         }
@@ -220,13 +170,17 @@ impl Tool {
             Step::OpenFile => self.open(file_of(self.kind), Mode::Read),
             Step::OpenMemory => self.open(File::Mem, Mode::Read),
             Step::ReadFirst | Step::ReadFile => self.read_file(),
-            Step::Stop => ctl(alloc, self.opened.ctl, &Message::Stop)?,
-            Step::AwaitStop => wait(alloc, self.opened.ctl, self.until)?,
-            Step::Direct => ctl(alloc, self.opened.ctl, &Message::Dstop)?,
-            Step::AwaitEnd => poll(alloc, self.opened.file)?,
+            Step::Stop => ctl(alloc, self.opened.at(CONTROL), &Message::Stop)?,
+            Step::AwaitStop => wait(alloc, self.opened.at(CONTROL), self.until)?,
+            Step::Direct => ctl(alloc, self.opened.at(CONTROL), &Message::Dstop)?,
+            Step::AwaitEnd => poll(alloc, self.opened.at(RECORD))?,
             Step::ReadText => self.read_memory(TEXT_BASE),
             Step::ReadFrame => self.read_memory(frame_of(&self.walk)),
-            Step::Run | Step::Release => ctl(alloc, self.opened.ctl, &Message::Run { flags: 0 })?,
+            Step::Run | Step::Release => ctl(
+                alloc,
+                self.opened.at(CONTROL),
+                &Message::Run { flags: 0 },
+            )?,
             Step::List => Call::List,
             Step::Close => return Ok(self.close()),
         };
@@ -360,15 +314,15 @@ impl Tool {
     {
         match self.step {
             Step::OpenCtl => {
-                self.opened.ctl = opened_in(reply);
+                self.opened = self.opened.with(CONTROL, opened_in(reply));
                 self.advance();
             }
             Step::OpenFile => {
-                self.opened.file = opened_in(reply);
+                self.opened = self.opened.with(RECORD, opened_in(reply));
                 self.advance();
             }
             Step::OpenMemory => {
-                self.opened.memory = opened_in(reply);
+                self.opened = self.opened.with(MEMORY, opened_in(reply));
                 self.advance();
             }
             Step::ReadFirst => {
@@ -437,8 +391,6 @@ impl Tool {
         ensures { OnOk result (text.new ≡ text.old ++ text_of self.now programs.now self.now.kind) }
     {
         match self.kind {
-            ToolKind::Pflags => push_pflags(alloc, text, self.pid, &self.bytes),
-            ToolKind::Psig => push_psig(text, self.pid, &self.bytes),
             ToolKind::Pstack => push_pstack(
                 alloc,
                 text,
@@ -448,11 +400,7 @@ impl Tool {
                 &self.frames,
                 programs,
             ),
-            ToolKind::Pmap => push_pmap(alloc, text, self.pid, &self.bytes),
-            ToolKind::Pfiles => push_pfiles(alloc, text, self.pid, &self.bytes),
-            ToolKind::Pstop | ToolKind::Prun => Ok(()),
-            ToolKind::Pwait => push_pwait(text, self.pid, &self.bytes),
-            ToolKind::Ptree => push_ptree(alloc, text, &self.bytes),
+            kind => push_record(alloc, text, kind, self.pid, &self.bytes),
         }
     }
 
@@ -467,7 +415,7 @@ impl Tool {
     {
         match self.refusal {
             None => self.push_text(alloc, text, programs),
-            Some(errno) => push_refusal(text, self.kind, self.pid, errno),
+            Some(errno) => push_refusal(text, tool_name(self.kind).as_bytes(), self.pid, errno),
         }
     }
 

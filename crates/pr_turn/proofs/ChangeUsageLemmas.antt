@@ -11,7 +11,7 @@ use Rattle.pr_model.specs.Signals.{is_kill}
 use Rattle.pr_model.specs.State.{TracedControl, TracedLwp, TracedProcess, TracedSystem, lwp_of, with_lwp, with_lwp_of}
 use Rattle.pr_model.specs.Transitions.{Transition, after_transition, ended_if}
 use Rattle.pr_proc.specs.Counts.{AllUsedAtMost}
-use Rattle.pr_proc.proofs.UsageLemmas.{AllUsedAtMost-ended, AllUsedAtMost-generated, AllUsedAtMost-made, AllUsedAtMost-reaped, AllUsedAtMost-with_process}
+use Rattle.pr_proc.proofs.UsageLemmas.{AllUsedAtMost-ended, AllUsedAtMost-generated, AllUsedAtMost-lent, AllUsedAtMost-loan_back, AllUsedAtMost-made, AllUsedAtMost-reaped, AllUsedAtMost-with_process}
 
 -- The transition of a turn keeps what bounds the counts of use.
 
@@ -22,7 +22,10 @@ child-usage c = elim (cases_Bool (has_flags c.modes fork_mode)) [ inl on ↦ rw 
 
 child-used : (birth : Birth) (n pid : ℕ) (p : TracedProcess) (l : TracedLwp) (args : List ℕ) (s : TracedSystem) → AllUsedAtMost n s → AllUsedAtMost n (with_child traced birth pid p l args s)
 unfolding with_child forked traced
-child-used birth n pid p l args s h = AllUsedAtMost-made n _ (record s { files = with_all_shared s.files p.fds }) (child-usage p.control) (record { each = h.each })
+child-used birth n pid p l args s h =
+    AllUsedAtMost-made n _ _ (child-usage p.control)
+    (AllUsedAtMost-lent n birth pid s.made (record s { files = with_all_shared s.files p.fds })
+    (record { each = h.each }))
 
 new_lwp-usage : (id : ℕ) (regs : List ℕ) (held : ℕ) (p : TracedProcess) → (with_new_lwp traced id regs held p).control.usage ≡ p.control.usage
 unfolding with_new_lwp
@@ -55,7 +58,9 @@ module _ (n pid : ℕ) (p : TracedProcess) (id : ℕ) (l : TracedLwp) where
   changed-used (resumes frame frames) s h = AllUsedAtMost-with_process n pid _ s (λ q. lwp-usage id _ q) h
   changed-used (forks birth args) s h = unless-used n (s.made == pid) s _ h (child-used birth n pid p l args s h)
   changed-used (reaps child) s h = unless-used n (child == pid) s _ h (AllUsedAtMost-reaped n child s h)
-  changed-used (becomes program) s h = AllUsedAtMost-with_process n pid _ s (λ q. program-usage id l program q) h
+  changed-used (becomes program) s h =
+      AllUsedAtMost-loan_back n pid p p.lender _
+      (AllUsedAtMost-with_process n pid _ s (λ q. program-usage id l program q) h)
   changed-used (makes_lwp new regs held) s h = AllUsedAtMost-with_process n pid _ s (λ q. new_lwp-usage new regs held q) h
   changed-used (suspends other suspended) s h = AllUsedAtMost-with_process n pid _ s (λ q. lwp-usage other _ q) h
 

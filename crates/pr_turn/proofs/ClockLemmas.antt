@@ -3,11 +3,11 @@ use Rattle.pr_num.specs.Signals.{signal_number}
 use Rattle.pr_num.specs.declared.infos.Info.{Info}
 use Rattle.pr_num.specs.declared.signals.Sig.{Sig}
 use Rattle.pr_model.specs.Changes.{Change, files_are, space_is, signals, signals_itself, takes_shared, job_stops, disposition_is, held_is, resumes, forks, reaps, becomes, makes_lwp, suspends, Ending, ends_process, ends_lwp, all_changed, changed, ended}
-use Rattle.pr_model.specs.Lives.{ended_if_live, with_child, with_ended, with_lwp_ended, with_made, with_parent_signalled, with_reaped, with_this_ended}
+use Rattle.pr_model.specs.Lives.{Birth, by_fork, by_vfork, ended_if_live, with_child, with_ended, with_lender_of, with_lent, with_loan_back, with_loans_passed, with_lwp_ended, with_made, with_parent_signalled, with_reaped, with_this_ended}
 use Rattle.pr_model.specs.Machines.{traced}
 use Rattle.pr_model.specs.Rows.{row_for}
 use Rattle.pr_model.specs.Signals.{generated, is_kill}
-use Rattle.pr_model.specs.State.{TracedLwp, TracedProcess, TracedSystem, live_process, with_lwp_of, with_process}
+use Rattle.pr_model.specs.State.{TracedLwp, TracedProcess, TracedSystem, live_process, with_lwp_of, with_process, with_process_if}
 use Rattle.pr_model.specs.Transitions.{Transition, after_transition, ended_if}
 use Rattle.pr_turn.specs.Turns.{TurnMakes}
 use Rattle.pr_turn.specs.declared.making.Made.{Made}
@@ -19,9 +19,32 @@ either-clock : (b : Bool) (s t : TracedSystem) (clock : ℕ) → s.clock ≡ clo
 either-clock true s t clock h k = h
 either-clock false s t clock h k = k
 
+-- ---- lent memory
+
+if-clock : (o : Option ℕ) (f : TracedProcess → TracedProcess) (s : TracedSystem)
+    → (with_process_if o f s).clock ≡ s.clock
+unfolding with_process
+if-clock None f s = refl
+if-clock (Some pid) f s = refl
+
+lent-clock : (birth : Birth) (pid child : ℕ) (s : TracedSystem) → (with_lent birth pid child s).clock ≡ s.clock
+unfolding with_process
+lent-clock by_fork pid child s = refl
+lent-clock by_vfork pid child s = refl
+
+passed-clock : (pid : ℕ) (p : TracedProcess) (s : TracedSystem) → (with_loans_passed pid p s).clock ≡ s.clock
+unfolding with_loans_passed
+passed-clock pid p s =
+    if-clock p.lender (with_loan_back pid p) (with_process_if p.borrower (with_lender_of pid p) s)
+    ∙ if-clock p.borrower (with_lender_of pid p) s
+
+-- ---- ends
+
 pub this_ended-clock : (pid : ℕ) (p : TracedProcess) (status : ℕ) (s : TracedSystem) → (with_this_ended traced pid p status s).clock ≡ s.clock
 unfolding with_this_ended with_parent_signalled with_process
-this_ended-clock pid p status s = either-clock (p.parent == 0) _ _ s.clock refl refl
+this_ended-clock pid p status s =
+    let passed = passed-clock pid p _ in
+    either-clock (p.parent == 0) _ _ s.clock passed passed
 
 if_live-clock : (pid status : ℕ) (s : TracedSystem) (o : Option TracedProcess) → (ended_if_live traced pid status s o).clock ≡ s.clock
 if_live-clock pid status s None = refl
@@ -43,9 +66,10 @@ module _ (pid : ℕ) (p : TracedProcess) (id : ℕ) (l : TracedLwp) where
   changed-clock (disposition_is g disposition) s = refl
   changed-clock (held_is held) s = refl
   changed-clock (resumes frame frames) s = refl
-  changed-clock (forks birth args) s = either-clock (s.made == pid) _ _ s.clock refl refl
+  changed-clock (forks birth args) s =
+      either-clock (s.made == pid) _ _ s.clock refl (lent-clock birth pid s.made _)
   changed-clock (reaps child) s = either-clock (child == pid) _ _ s.clock refl refl
-  changed-clock (becomes program) s = refl
+  changed-clock (becomes program) s = if-clock p.lender (with_loan_back pid p) _
   changed-clock (makes_lwp new regs held) s = refl
   changed-clock (suspends other suspended) s = refl
 

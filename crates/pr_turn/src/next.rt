@@ -70,12 +70,15 @@ pub enum NextTurn {
 }
 
 /// Whether an lwp is held back: it stands on an event of interest, or is suspended, or its process is stopped by job
-/// control, which does not hold the agent.
+/// control, which does not hold the agent, or has lent its memory, which lets it move only to stop as directed.
 #[tactic(auto, unfolding(pr_model::specs::LwpTurns::is_held_back))]
 pub fn is_held_back(process: &Proc, id: u32, lwp: &Lwp) -> bool
     ensures { result ≡ is_held_back process.now id lwp.now }
 {
-    lwp.control.stop.is_some() || lwp.suspended || (process.job_stop.is_some() && id != AGENT)
+    lwp.control.stop.is_some()
+        || lwp.suspended
+        || (process.job_stop.is_some() && id != AGENT)
+        || (process.borrower.is_some() && !lwp.control.directed)
 }
 
 /// Whether a signal is pending for an lwp, or for its process, that the lwp does not hold.

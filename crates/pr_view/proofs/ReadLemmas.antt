@@ -1,7 +1,6 @@
-use Rattle.std.proofs.Common.{◌≡◌, ◌*◌, ℕ, All, List, [], ◌∷◌, drop, length, map, slice_get, take, Some, Result, Ok, Err, IfOk, ◌∙◌, ap, refl, sym, subst, arith}
+use Rattle.std.proofs.Common.{◌≡◌, ◌*◌, ℕ, All, List, [], ◌∷◌, drop, length, map, take, Result, Ok, Err, IfOk, ◌∙◌, ap, refl, sym, subst, arith}
 use Rattle.std.proofs.lemmas.List.{append-nil, drop_at, take_at}
-use Rattle.std.proofs.lemmas.List.Elements.{All-cons, All-get_or, All-head, All-nil, All-tail}
-use Rattle.std.proofs.lemmas.Option.{get_or_from_slice_get, slice_get_within}
+use Rattle.std.proofs.lemmas.List.Elements.{All-cons, All-head, All-nil, All-tail}
 use Rattle.pr_num.specs.Records.{Range, EncodesRecord, entries_words, fd_entry_ranges, list_entry_ranges, lwpstatus_ranges, map_entry_ranges, psinfo_ranges, status_ranges, usage_ranges, watch_entry_ranges}
 use Rattle.pr_num.specs.Words.{word_bytes, words_bytes}
 use Rattle.pr_codec.proofs.WordLemmas.{length-word_bytes, length-words_bytes}

@@ -268,7 +268,7 @@ pub fn status_of(sys: &Sys, pid: u32, process: &Proc) -> Status
     ensures { result ≡ status_of sys.now pid process.now }
 {
     Status {
-        flags: flags_of_process(process.control.modes, pid == 0),
+        flags: flags_of_process(process.control.modes, pid == 0, process.borrower.is_some()),
         id: pid,
         parent: process.parent,
         lwps: process.lwps.len() as u64,

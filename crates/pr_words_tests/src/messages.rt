@@ -33,9 +33,9 @@ const ENCODINGS: [(Message, &[u8], &[&str]); 13] = [
         &["0b00000000000000", "ffffffff7f000000"],
     ),
     (
-        Message::Sentry { calls: 0x3fff_ffff },
+        Message::Sentry { calls: 0x7fff_ffff },
         b"",
-        &["0e00000000000000", "ffffff3f00000000"],
+        &["0e00000000000000", "ffffff7f00000000"],
     ),
     (
         Message::Sexit { calls: 2 },

@@ -7,17 +7,18 @@ use pr_rec::*;
 use std::alloc::{AllocError, Global};
 use std::test::Fail;
 
-/// The words of a status. From the 14th on they are those of its lwp: it is stopped on an event, at the entry of write,
-/// with the current signal SIGRT0, which process 9 queued with a value, and the errno EAGAIN.
+/// The words of a status, of a process that has lent its memory. From the 14th on they are those of its lwp: it is
+/// stopped on an event, at the entry of write, with the current signal SIGRT0, which process 9 queued with a value, and
+/// the errno EAGAIN.
 const STATUS: [u64; 46] = [
-    9,
+    41,
     7,
     1,
     2,
     0x40_0000_0000,
     3,
     0x80,
-    0x2000_0000,
+    0x6000_0000,
     5,
     0x10_0000,
     4_096,
@@ -94,14 +95,14 @@ const MAPPING: [u8; 64] = [
 
 /// Words out of their range, each at the byte of a status at which it begins.
 const BAD: [(usize, u64); 22] = [
-    (0, 32),
+    (0, 64),
     (8, 1 << 32),
     (16, 1 << 32),
     (32, 1 << 39),
     (40, 1 << 39),
     (48, 1 << 8),
-    (56, 1 << 30),
-    (64, 1 << 30),
+    (56, 1 << 31),
+    (64, 1 << 31),
     (88, 1 << 32),
     (104, 64),
     (112, 1 << 32),
@@ -109,7 +110,7 @@ const BAD: [(usize, u64); 22] = [
     (128, 40),
     (136, 40),
     (144, 9),
-    (160, 31),
+    (160, 32),
     (224, 13),
     (232, 1 << 39),
     (240, 1 << 39),
@@ -161,14 +162,14 @@ fn lwp() -> LwpStatus {
 
 fn status() -> Status {
     Status {
-        flags: flags_of_process(Modes::FORK.union(Modes::ASYNC), false),
+        flags: flags_of_process(Modes::FORK.union(Modes::ASYNC), false, true),
         id: 7,
         parent: 1,
         lwps: 2,
         pending: SigSet::empty().with(Sig::Rt7),
         traced_signals: SigSet::empty().with(Sig::Hup).with(Sig::Int),
         traced_faults: FltSet::empty().with(Flt::Izdiv),
-        traced_entries: SysSet::empty().with(Sysno::Sigqueue),
+        traced_entries: SysSet::empty().with(Sysno::Sigqueue).with(Sysno::Vfork),
         traced_exits: SysSet::empty().with(Sysno::Exit).with(Sysno::Read),
         heap_base: 0x10_0000,
         heap_size: 4_096,

@@ -59,7 +59,18 @@ fn calls_and_their_arguments(rt: HostRuntime) {
     assert!(rt; Sysno::Sigqueue.args() == [ArgKind::Dec, ArgKind::Dec, ArgKind::Dec].as_slice());
     assert!(rt; Sysno::Read.args() == [ArgKind::Dec, ArgKind::Buf, ArgKind::Dec].as_slice());
     assert!(rt; Sysno::Read.may_sleep() && !Sysno::Sigqueue.may_sleep());
-    assert!(rt; Sysno::from_number(31).is_none() && Sysno::from_name(b"truss").is_none());
+    assert!(rt; Sysno::from_number(32).is_none() && Sysno::from_name(b"truss").is_none());
+}
+
+// The two calls that make a child, and one that makes none.
+#[test]
+fn calls_that_make_a_child(rt: HostRuntime) {
+    assert!(rt; Sysno::from_name(b"vfork") == Some(Sysno::Vfork));
+    assert!(rt; Sysno::from_number(31) == Some(Sysno::Vfork));
+    assert!(rt; Sysno::Vfork.number() == 31 && Sysno::Vfork.name() == "vfork");
+    assert!(rt; Sysno::Vfork.args().is_empty() && !Sysno::Vfork.may_sleep());
+    assert!(rt; Sysno::Vfork.is_fork_call() && Sysno::Fork.is_fork_call());
+    assert!(rt; !Sysno::Exec.is_fork_call());
 }
 
 #[test]
@@ -72,7 +83,7 @@ fn words_of_sets(rt: HostRuntime) {
     assert!(rt; both.minus(SigSet::all().holdable()).first() == Some(Sig::Kill));
     assert!(rt; FltSet::all().word() == 0xff && FltSet::from_word(0x100).is_none());
     assert!(rt; FltSet::empty().with(Flt::Izdiv).word() == 0x80);
-    assert!(rt; SysSet::all().word() == 0x3fff_ffff && SysSet::from_word(1 << 30).is_none());
+    assert!(rt; SysSet::all().word() == 0x7fff_ffff && SysSet::from_word(1 << 31).is_none());
     assert!(rt; SysSet::all().without(Sysno::Exit).first() == Some(Sysno::Fork));
 }
 

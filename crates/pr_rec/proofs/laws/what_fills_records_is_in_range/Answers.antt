@@ -16,7 +16,7 @@ returns-clause-lwp_flags c m =
     omega (arith, flag_if-le m.stopped 1, flag_if-le m.on_event 2, flag_if-le m.directed 4, flag_if-le m.step 8, flag_if-le m.asleep 16, flag_if-le m.agent 32)
 
 pub returns-clause-process_flags : goal.returns-clause-process_flags
-returns-clause-process_flags c modes system few = omega (arith, flag_if-le system 16)
+returns-clause-process_flags c modes system lent few = omega (arith, flag_if-le system 16, flag_if-le lent 32)
 
 pub returns-clause-signal : goal.returns-clause-signal
 returns-clause-signal c s = signal_number-lt s

@@ -1,0 +1,11 @@
+pub mod LoanLemmas
+pub mod PassLemmas
+pub mod LifeLemmas
+pub mod BirthLemmas
+pub mod ChangeLemmas
+pub mod EffectLemmas
+pub mod TurnLemmas
+pub mod CallLemmas
+pub mod HistoryLemmas
+pub mod SpaceLemmas
+pub mod StartLemmas

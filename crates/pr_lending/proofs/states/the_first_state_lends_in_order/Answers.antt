@@ -1,0 +1,5 @@
+use Rattle.pr_lending.proofs.StartLemmas.{first-lends}
+use Rattle.pr_lending.proofs.states.the_first_state_lends_in_order.Goals as goal
+
+pub returns : goal.returns
+returns c = first-lends

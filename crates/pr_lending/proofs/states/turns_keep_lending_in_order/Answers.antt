@@ -1,0 +1,5 @@
+use Rattle.pr_lending.proofs.TurnLemmas.{turn-lends}
+use Rattle.pr_lending.proofs.states.turns_keep_lending_in_order.Goals as goal
+
+pub returns : goal.returns
+returns c = turn-lends
