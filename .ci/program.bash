@@ -1,8 +1,14 @@
-# Sourced by proclab, build and .ci/own; it does nothing by itself. It says where the proved program stands, and whether
-# that is of this state.
+# Sourced by proclab, which phist is too, by build and by .ci/own; it does nothing by itself. It says where a proved
+# program stands, and whether that is of this state.
 
 top=$(cd "$(dirname "${BASH_SOURCE[0]}")/.." && pwd)
-program=$top/crates/proclab/out/proclab
+
+# program_of NAME: where the proved program of a name stands
+program_of() {
+  printf '%s' "$top/crates/$1/out/$1"
+}
+
+program=$(program_of proclab)
 
 # is_current: whether the proved program is there, and no source has changed since the text that it was made from
 is_current() {

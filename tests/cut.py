@@ -48,7 +48,7 @@ schedule c0*2, 1/1*3 clock c1
 '''
 
 CALLS = "exit fork read write open close wait getpid getppid exec pipe dup lseek kill sigaction sigmask pause sigreturn brk " \
-        "mmap munmap mprotect time sleep lwp_create lwp_exit lwp_suspend lwp_continue fstat sigqueue".split()
+        "mmap munmap mprotect time sleep lwp_create lwp_exit lwp_suspend lwp_continue fstat sigqueue vfork".split()
 SIGNALS = "HUP INT QUIT ILL TRAP ABRT EMT FPE KILL BUS SEGV SYS PIPE ALRM TERM USR1 USR2 CLD PWR WINCH URG POLL STOP TSTP " \
           "CONT TTIN TTOU VTALRM PROF XCPU XFSZ RT0 RT1 RT2 RT3 RT4 RT5 RT6 RT7".split()
 FAULTS = "FLTILL FLTBPT FLTTRACE FLTWATCH FLTACCESS FLTBOUNDS FLTSTACK FLTIZDIV".split()

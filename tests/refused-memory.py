@@ -91,9 +91,70 @@ tool psig 1
 tool pflags 1
 """
 
-EXAMPLES = ["alone", "stop-and-look", "truss-two-calls", "truss-two-processes", "truss-a-pipeline", "truss-interrupted",
-            "looks-at-a-process", "where-it-stands", "a-family-and-its-end", "watchpoint", "agent", "two-lwps",
-            "catches-a-signal", "untraced-steps", "kept-and-judged", "changed-and-judged", "not-a-scenario"]
+# A lender whose space comes back twice: its first borrower execs. Its second one lends the space on and is killed by the
+# borrower of that, which has the first lender's space then, and ends.
+LENDINGS = """turns 400
+program other
+space more, 4096
+sys getpid
+set r1, 3
+sys exit
+end
+program lender
+text path, "other"
+space kept, 8
+set r6, kept
+set r1, 0x102000
+sys brk
+sys vfork
+jz r0, execs
+set r1, kept
+sys wait
+sys vfork
+jz r0, lends_on
+set r1, 0
+sys wait
+ld r1, r6, 0
+sys exit
+execs:
+st r0, r6, 0
+set r1, path
+sys exec
+lends_on:
+sys vfork
+jz r0, kills
+pause:
+sys pause
+jmp pause
+kills:
+sys getppid
+mov r1, r0
+set r2, 9
+sys kill
+set r3, 5
+st r3, r6, 0
+set r1, 6
+sys exit
+end
+spawn lender
+truss -f -s !CLD -p 1
+script
+open s 1 status r
+open a 1 as r
+open m 1 map r
+until 2
+read s 0 400
+read a 0x80000 16
+read m 0 400
+poll s
+end
+tool pmap 2
+tool pstack 1
+"""
+
+EXAMPLES = ["alone", "stop-and-look", "truss-two-calls", "truss-vfork", "truss-two-processes", "truss-a-pipeline",
+            "truss-interrupted", "looks-at-a-process", "where-it-stands", "a-family-and-its-end", "watchpoint", "agent",
+            "two-lwps", "catches-a-signal", "untraced-steps", "kept-and-judged", "changed-and-judged", "not-a-scenario"]
 
 
 def words_of(name):
@@ -108,6 +169,8 @@ def scenarios():
             yield name, words_of(name), text.read(), False
     yield "many things", ["run"], MANY_THINGS.encode(), False
     yield "many things", ["plain"], MANY_THINGS.encode(), False
+    yield "lendings", ["run"], LENDINGS.encode(), False
+    yield "lendings", ["plain"], LENDINGS.encode(), False
     yield "the usage line", [], b"", False
     yield "gen", ["gen", "3"], b"", False
     with open(os.path.join(TOP, "examples/truss-on-several-threads.in"), "rb") as text:

@@ -1,8 +1,8 @@
 #!/usr/bin/env python3
 """Rivals: random scenarios in which two to six controllers (scripts, trusses, tools) open the same processes, stop,
-run and kill them and interrupt one another. Each is run by `run` and by `run -j 1`, `-j 4` and `-j 16`, and what was
-written is handed to `check`. A run passes where it ends within the given seconds with status 0, 3 or 4, writes
-nothing to standard error, and its history is legal to the last entry.
+run and kill them and interrupt one another; lenders and borrowers of a vfork are among them. Each is run by `run` and
+by `run -j 1`, `-j 4` and `-j 16`, and what was written is handed to `check`. A run passes where it ends within the
+given seconds with status 0, 3 or 4, writes nothing to standard error, and its history is legal to the last entry.
 
 A scenario is made of its seed alone. What fails is printed with its seed, and `--seed SEED --count 1` runs it again;
 `--show SEED` prints the scenario. With `--minutes M` it goes on to new seeds for so long. The last line is
@@ -36,12 +36,42 @@ PROGRAMS = {
     "stops": "sys getpid/mov r4, r0/mov r1, r4/set r2, 24/sys kill/mov r1, r4/set r2, 34/set r3, 7/sys sigqueue"
              "/set r1, 0/sys exit",
 }
-CALLS = ["exit", "fork", "read", "write", "wait", "getpid", "kill", "pause", "sleep", "lwp_create", "sigqueue"]
+# What a program does after a vfork in the parent: it waits for the child and ends.
+WAITS = "/set r1, 0/sys wait/set r1, 0/sys exit/child:"
+# Programs that lend their space to a child, which exits, execs, lends it on, dozes, kills its lender, stops, or dies.
+LENDERS = {
+    "lends": "space x, 8/set r6, x/set r5, 1/set r4, 3/again:/sys vfork/jz r0, child/set r1, 0/sys wait/sub r4, r5"
+             "/jnz r4, again/ld r1, r6, 0/sys exit/child:/st r4, r6, 0/sys getppid/set r1, 3/sys exit",
+    "execs": 'text path "lends"/sys vfork/jz r0, child' + WAITS + "/set r1, path/sys exec/set r1, 9/sys exit",
+    "fails": 'text path "nobody"/text other "sleeps"/sys vfork/jz r0, child' + WAITS
+             + "/set r1, path/sys exec/sys getpid/set r1, other/sys exec",
+    "chains": "space x, 8/set r6, x/set r5, 1/set r4, 3/again:/sys vfork/jnz r0, parent/sub r4, r5/jnz r4, again"
+              "/st r5, r6, 0/set r1, 1/sys sleep/set r1, 1/sys exit/parent:/set r1, 0/sys wait/ld r1, r6, 0/sys exit",
+    "orphans": 'text path "loop"/sys vfork/jnz r0, parent/sys vfork/jnz r0, parent/sys getpid/set r1, path/sys exec'
+               "/parent:/set r1, 2/sys exit",
+    "dozes": "sys vfork/jz r0, child" + WAITS + "/set r1, 5/sys sleep/sys pause/set r1, 0/sys exit",
+    "kills": "sys vfork/jz r0, child" + WAITS + "/sys getppid/mov r1, r0/set r2, 9/sys kill/set r1, 2/sys sleep"
+             "/sys getpid/set r1, 0/sys exit",
+    "pauses": "set r1, 16/set r2, handler/sys sigaction/sys vfork/jz r0, child" + WAITS + "/sys getpid/mov r4, r0"
+              "/mov r1, r4/set r2, 16/sys kill/mov r1, r4/set r2, 24/sys kill/bpt/handler:/sys sigreturn",
+    "both": 'text path "forks"/sys vfork/jz r0, child' + WAITS + "/sys fork/jz r0, leaf/sys vfork/jz r0, leaf"
+            "/set r1, path/sys exec/leaf:/sys getppid/set r1, 4/sys exit",
+}
+PROGRAMS.update(LENDERS)
+CALLS = ["exit", "fork", "read", "write", "wait", "getpid", "kill", "pause", "sleep", "lwp_create", "sigqueue",
+         "vfork", "exec"]
 SIGNALS = ["HUP", "INT", "TERM", "USR1", "CLD", "TSTP", "CONT", "TRAP", "STOP", "RT1"]
 FAULTS = ["FLTBPT", "FLTIZDIV", "FLTTRACE", "FLTWATCH", "FLTACCESS"]
 TOOLS = ["pflags", "psig", "pstack", "pmap", "pfiles", "pstop", "prun", "pwait"]
 READS = ["status", "lstatus", "psinfo", "map", "usage", "as", "sigact", "watch", "fds"]
 PIDS = [1, 1, 1, 2, 2, 3, 4]
+# Messages that a process refuses while its space is lent, and the stop that it still obeys.
+REFUSED_TO_LENDERS = ["watch 0x80000 8 2", "watch 0x80000 0 0", "write 0x80000 0102030405060708", "stop", "dstop",
+                      "agent 0 0 0 0 0 0 0 0 0x701000 0 0x10000"]
+
+
+def a_program(rng):
+    return rng.choice(list(rng.choice([PROGRAMS, LENDERS])))
 
 
 def some(rng, names):
@@ -63,7 +93,8 @@ def message(rng):
         rng.choice(["csig", "cfault", "svaddr 0x10000", "agent 0 0 0 0 0 0 0 0 0x701000 0 0x10000"]),
         rng.choice(["watch 0x80000 8 %d", "watch 0x10010 16 %d"]) % rng.choice([0, 1, 2, 4, 12]),
         rng.choice(["read 0x80000 16", "write 0x80008 00ff", "raw 0500000000000000", "sreg 1 2 3 4 5 6 7 8 9 10 0x10000"]),
-    ], [8, 8, 2, 3, 4, 2, 2, 3, 1, 2, 1])[0].strip()
+        " ".join(rng.sample(REFUSED_TO_LENDERS, rng.choice([1, 2, 3]))),
+    ], [8, 8, 2, 3, 4, 2, 2, 3, 1, 2, 1, 4])[0].strip()
 
 
 def script_line(rng, controllers):
@@ -76,8 +107,8 @@ def script_line(rng, controllers):
         "read %s %d %d" % (rng.choice("stl"), rng.choice([0, 0, 104, 0x80000]), rng.choice([1, 344, 4096])),
         "poll " + " ".join(rng.sample("cslt", rng.randint(1, 3))),
         "interrupt %d" % rng.randrange(controllers),
-        "kill %d %d" % (pid, rng.choice([0, 2, 9, 15, 16, 18, 23, 25, 33])),
-        "spawn %s%s" % (rng.choice(list(PROGRAMS)), rng.choice(["", " held"])),
+        "kill %d %d" % (pid, rng.choice([0, 2, 9, 9, 15, 16, 18, 23, 25, 33])),
+        "spawn %s%s" % (a_program(rng), rng.choice(["", " held"])),
         "until %d" % rng.randint(0, 12),
         "list",
         "close " + rng.choice("cstl"),
@@ -89,7 +120,7 @@ def truss_line(rng):
     words += rng.choice([[], ["-t", some(rng, CALLS)], ["-t", "!" + some(rng, CALLS)]])
     words += rng.choice([[], ["-s", "!CLD"], ["-m", some(rng, FAULTS)]])
     pids = "+".join(str(pid) for pid in sorted({rng.choice(PIDS) for _ in range(rng.randint(1, 3))}))
-    return " ".join(["truss"] + words + rng.choice([[rng.choice(list(PROGRAMS))], ["-p", pids], ["-p", pids]]))
+    return " ".join(["truss"] + words + rng.choice([[a_program(rng)], ["-p", pids], ["-p", pids]]))
 
 
 def controller(rng, controllers):
@@ -107,11 +138,11 @@ def scenario(seed):
     lines = ["turns %d" % rng.choice([100, 400, 1000, 3000])]
     for name, text in PROGRAMS.items():
         lines += ["program " + name] + text.split("/") + ["end"]
-    lines += ["spawn " + rng.choice(list(PROGRAMS)) for _ in range(rng.randint(1, 3))]
+    lines += ["spawn " + a_program(rng) for _ in range(rng.randint(1, 3))]
     controllers = rng.randint(2, 6)
     for _ in range(controllers):
         lines += controller(rng, controllers)
-    actors = ["c%d" % k for k in range(controllers)] + ["1/1", "1/1", "2/1", "1/2", "clock"]
+    actors = ["c%d" % k for k in range(controllers)] + ["1/1", "1/1", "2/1", "3/1", "1/2", "clock"]
     for _ in range(rng.choice([0, 1, 2])):
         lines.append("schedule " + " ".join("%s*%d" % (rng.choice(actors), rng.randint(1, 9)) for _ in range(8)))
     return "\n".join(lines) + "\n"
@@ -169,7 +200,7 @@ def main():
         options.seed = int(time.time())
     print("seeds from %d on" % options.seed, flush=True)
     statuses, refusals = collections.Counter(), collections.Counter()
-    scenarios = passed = failed = entries = 0
+    scenarios = passed = failed = entries = vforks = 0
     with concurrent.futures.ThreadPoolExecutor(os.cpu_count()) as pool:
         waiting = collections.deque()
         coming = seeds(options)
@@ -185,12 +216,13 @@ def main():
             for words, (wrong, status, out) in results:
                 statuses[status] += 1
                 entries += int(out[8:out.index("\n")]) if out else 0
+                vforks += len(re.findall(r" made vfork = ", out))
                 refusals.update(re.findall(r"-> fail (E\w+)", out))
                 passed, failed = (passed + 1, failed) if wrong is None else (passed, failed + 1)
                 if wrong is not None:
                     print("seed %d, %s: %s" % (seed, " ".join(words), wrong), flush=True)
-    print("%d scenarios, %d entries; statuses %s; refused calls of controllers %s"
-          % (scenarios, entries, dict(statuses), dict(refusals.most_common())))
+    print("%d scenarios, %d entries, %d vforks; statuses %s; refused calls of controllers %s"
+          % (scenarios, entries, vforks, dict(statuses), dict(refusals.most_common())))
     print("%d passed, %d failed" % (passed, failed))
     return 1 if failed else 0
 
