@@ -52,3 +52,41 @@ fn a_failed_write_leaves_the_whole_history(rt: HostRuntime) -> Result<(), Fail> 
     }
     Ok(())
 }
+
+/// A process that makes more moves than a block of lines has room for.
+const LONG: &str = "turns 9000\nprogram p\nagain:\njmp again\nend\nspawn p\n";
+
+/// A scenario that is refused.
+const REFUSED: &str = "turns 5\nprogram p\nsys getpit\nend\n";
+
+// Whichever of the writes fails, what the ones before it took is a prefix of the whole text, and the history is that of
+// the whole run; of a refusal there is none.
+#[test]
+fn each_write_may_fail(rt: HostRuntime) -> Result<(), Fail> {
+    let alloc = rt.alloc();
+    for (words, input, least) in [
+        (["run"].as_slice(), LONG, 3),
+        (["run"].as_slice(), REFUSED, 1),
+        (["check"].as_slice(), REFUSED, 1),
+    ] {
+        let mut whole = source(alloc, input.as_bytes(), &[])?;
+        let mut text = MemSink::new(alloc, 2 * MUCH, Vec::new(alloc))?;
+        let made = call(&rt, alloc, words, &mut whole, &mut text, &OpenGate)?;
+        assert!(rt; least <= text.calls(), "{input}");
+        for failing in 0..text.calls() {
+            let mut source = source(alloc, input.as_bytes(), &[])?;
+            let mut sink = MemSink::new(alloc, 2 * MUCH, [failing].to_vec(alloc)?)?;
+            let outcome = call(&rt, alloc, words, &mut source, &mut sink, &OpenGate)?;
+            assert_eq!(rt; outcome.status, 6, "write {failing}");
+            assert_eq!(rt; sink.calls(), failing.saturating_add(1), "write {failing}");
+            assert!(rt; text.bytes().starts_with(sink.bytes()), "write {failing}");
+            assert!(rt; sink.bytes().len() < text.bytes().len(), "write {failing}");
+            assert_eq!(rt;
+                text_of(alloc, &outcome.history)?.as_slice(),
+                text_of(alloc, &made.history)?.as_slice(),
+                "write {failing}"
+            );
+        }
+    }
+    Ok(())
+}
