@@ -1,2 +1,2 @@
 pub mod ExclusionLemmas
-pub mod KeyLemmas
+pub mod PlaceLemmas

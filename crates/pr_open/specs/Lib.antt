@@ -1,3 +1,2 @@
 pub mod Exclusion
-pub mod Keys
 pub mod Opening

@@ -1,39 +1,34 @@
-ghost use Rattle.std.specs.Prelude.{◌≡◌, ◌==◌, ◌<◌, length, replicate, is_none, position, None, Some, Err, IfOk, IfErr, IfSome, OnErr, slice_set, slice_index_or};
-ghost use Rattle.std.specs.List.{list_any};
-ghost use Rattle.slab.specs.Slab.{get};
+ghost use Rattle.std.specs.Prelude.{◌≡◌, ◌==◌, ◌<◌, length, None, Some, Err, IfOk, IfErr, OnErr, slice_set, slice_index_or};
 ghost use Rattle.pr_model.specs.Handles.{is_exclusive, is_writer, is_exclusive_writer, has_writer, has_exclusive_writer, conflicts, handle_of};
 ghost use Rattle.pr_model.specs.State.{nothing_open};
 ghost use Rattle.pr_num.specs.Limits.{handle_limit};
-ghost use Rattle.pr_open.specs.Keys.{held_at};
 
 use crate::OpenNo;
 use pr_model::{Held, Mode};
 use pr_num::NoMemory;
 use pr_num::limits::HANDLE_LIMIT;
-use slab::Slab;
+use pr_slots::Slots;
 use std::alloc::Global;
 use std::marker::Model;
 
 /// The open handles of the process file system, by number, seen by contracts as the list of the places for them.
 ///
-/// A handle's number is the least that was free, whatever key the slab picks for it.
+/// A handle's number is the least that was free.
 #[derive(Drop)]
 pub struct Opens {
-    held: Slab<Held>,
-    // The key of each number.
-    keys: Vec<Option<usize>>,
+    held: Slots<Held>,
 }
 
 impl Model for Opens {
-    ghost use Rattle.std.specs.Prelude.{List, Option};
+    ghost use Rattle.std.specs.Prelude.{◌≡◌, List, Option, length};
+    ghost use Rattle.pr_num.specs.Limits.{handle_limit};
     ghost use Rattle.pr_model.specs.declared.handles.Held.{Held as HeldRecord};
-    ghost use Rattle.pr_open.specs.Keys.{places_of, IsKeyed};
 
     ghost Value = { List (Option HeldRecord) };
 
-    ghost view = { λ opens. places_of opens.held opens.keys.items };
+    ghost view = { λ opens. opens.held };
 
-    ghost invariant = { λ opens. IsKeyed opens.held opens.keys.items };
+    ghost invariant = { λ opens. length opens.held ≡ handle_limit };
 }
 
 impl Opens {
@@ -46,9 +41,8 @@ impl Opens {
     pub fn new(alloc: Global) -> Result<Opens, NoMemory>
         ensures { IfOk result (λ opens. opens ≡ nothing_open) }
     {
-        let held = Slab::with_capacity(alloc, Opens::PLACES)?;
-        let keys = no_keys(alloc)?;
-        Ok(Opens { held, keys })
+        let held = Slots::new(alloc, Opens::PLACES)?;
+        Ok(Opens { held })
     }
 
     /// Opens a handle, with the least free number. It is `Busy` where the process is open for writing and one of both
@@ -61,11 +55,10 @@ impl Opens {
         if self.conflicts(h.pid, h.mode) {
             return Err(OpenNo::Busy);
         }
-        let Some(number) = least_free(&self.keys) else {
+        let Some(number) = self.held.least_free() else {
             return Err(OpenNo::Full);
         };
-        let key = self.held.insert_reserved(h);
-        self.keys[number] = Some(key);
+        self.held.put(number, h);
         Ok(number as u32)
     }
 
@@ -75,10 +68,7 @@ impl Opens {
         ensures ok { IfOk result (λ h. handle_of self.now controller handle ≡ Some h.now) }
         ensures err { IfErr result (λ refusal. (refusal ≡ OpenNo.BadHandle) × (handle_of self.now controller handle ≡ None)) }
     {
-        let Some(key) = key_of(&self.keys, handle) else {
-            return Err(OpenNo::BadHandle);
-        };
-        let Some(h) = self.held.get(key) else {
+        let Some(h) = self.held.get(handle as usize) else {
             return Err(OpenNo::BadHandle);
         };
         if h.controller != controller {
@@ -94,32 +84,22 @@ impl Opens {
         ensures err { IfErr result (λ refusal. (refusal ≡ OpenNo.BadHandle) × (handle_of self.old controller handle ≡ None) × (self.new ≡ self.old)) }
     {
         let h = *self.get(controller, handle)?;
-        self.remove(handle);
+        self.held.take(handle as usize);
         Ok(h)
-    }
-
-    /// Frees a number.
-    fn remove(&mut self, number: u32)
-        ensures { self.new ≡ slice_set self.old number None }
-    {
-        if let Some(key) = key_of(&self.keys, number) {
-            self.held.try_remove(key);
-            self.keys[number as usize] = None;
-        }
     }
 
     /// Whether somebody has the process open for writing.
     pub fn writable(&self, pid: u32) -> bool
         ensures { result ≡ has_writer pid self.now }
     {
-        any_writer(&self.held, &self.keys, pid)
+        any_writer(&self.held, pid)
     }
 
     /// Whether somebody has the process open for writing exclusively.
     fn has_exclusive_writer(&self, pid: u32) -> bool
         ensures { result ≡ has_exclusive_writer pid self.now }
     {
-        any_exclusive_writer(&self.held, &self.keys, pid)
+        any_exclusive_writer(&self.held, pid)
     }
 
     /// Whether an open in this mode conflicts with handles that are open.
@@ -134,50 +114,12 @@ impl Opens {
     }
 }
 
-/// Keys of no numbers.
-#[tactic(auto, using(crate::proofs::KeyLemmas::more_none))]
-fn no_keys(alloc: Global) -> Result<Vec<Option<usize>>, NoMemory>
-    ensures { IfOk result (λ keys. keys.items ≡ replicate handle_limit None) }
-{
-    let mut keys = Vec::with_capacity(alloc, Opens::PLACES)?;
-    for _ in 0..Opens::PLACES {
-        keys.push(None)?;
-    }
-    Ok(keys)
-}
-
 fn is_exclusive(mode: Mode) -> bool
     ensures { result ≡ is_exclusive mode }
 {
     match mode {
         Mode::WriteExcl => true,
         Mode::Read | Mode::Write => false,
-    }
-}
-
-/// The least number that has no key.
-fn least_free(keys: &[Option<usize>]) -> Option<usize>
-    ensures { result ≡ position is_none keys.now }
-{
-    keys.iter().position(|key| key.is_none())
-}
-
-/// The key of a number.
-fn key_of(keys: &[Option<usize>], number: u32) -> Option<usize>
-    ensures { result ≡ slice_index_or keys.now number None }
-{
-    match keys.get(number as usize) {
-        Some(key) => *key,
-        None => None,
-    }
-}
-
-fn held_at(slab: &Slab<Held>, key: Option<usize>) -> Option<Held>
-    ensures { result ≡ held_at slab.now key }
-{
-    match key {
-        None => None,
-        Some(key) => slab.get(key).copied(),
     }
 }
 
@@ -199,15 +141,24 @@ fn is_exclusive_writer(held: Option<Held>, pid: u32) -> bool
     }
 }
 
-fn any_writer(slab: &Slab<Held>, keys: &[Option<usize>], pid: u32) -> bool
-    ensures { result ≡ list_any (λ key. is_writer pid (held_at slab.now key)) keys.now }
+fn any_writer(held: &Slots<Held>, pid: u32) -> bool
+    ensures { result ≡ has_writer pid held.now }
 {
-    keys.iter().any(|key| is_writer(held_at(slab, *key), pid))
+    for number in 0..held.places() {
+        if is_writer(held.get(number).copied(), pid) {
+            return true;
+        }
+    }
+    false
 }
 
-fn any_exclusive_writer(slab: &Slab<Held>, keys: &[Option<usize>], pid: u32) -> bool
-    ensures { result ≡ list_any (λ key. is_exclusive_writer pid (held_at slab.now key)) keys.now }
+fn any_exclusive_writer(held: &Slots<Held>, pid: u32) -> bool
+    ensures { result ≡ has_exclusive_writer pid held.now }
 {
-    keys.iter()
-        .any(|key| is_exclusive_writer(held_at(slab, *key), pid))
+    for number in 0..held.places() {
+        if is_exclusive_writer(held.get(number).copied(), pid) {
+            return true;
+        }
+    }
+    false
 }

@@ -1,5 +1,5 @@
 use Rattle.std.proofs.Common.{◌≡◌, replicate, None}
-use Rattle.pr_open.proofs.opens.no_keys.Given as goal
+use Rattle.pr_slots.proofs.slots.no_keys.Given as goal
 
 abbrev pub invariant-loop : goal.invariant-loop
 invariant-loop l = l.keys.items ≡ replicate l.counter None

@@ -1,0 +1,7 @@
+use Rattle.std.proofs.Common.{◌≡◌, false, take}
+use Rattle.std.specs.List.{list_any}
+use Rattle.pr_model.specs.Handles.{is_writer}
+use Rattle.pr_open.proofs.opens.any_writer.Given as goal
+
+abbrev pub invariant-loop-number : goal.invariant-loop-number
+invariant-loop-number l = list_any (is_writer l.fn.pid) (take l.number l.fn.held) ≡ false
