@@ -4,7 +4,7 @@ with those of one byte. Where a read fails the status is 5, and nothing was writ
 nothing, the status is 6, and what the writes before it took is there and no more: a prefix of the whole text. Where
 each read and each write takes one byte and none fails, status and text are those of the whole run.
 
-Of more than 2,000 reads or writes of one byte some 500 fail in turn, the first and the last among them. A word names
+Of more than 2,000 reads or writes of one byte some 60 fail in turn, the first and the last among them. A word names
 another proclab than the proved one. It needs a C compiler. The last line is 'N passed, M failed'.
 """
 import concurrent.futures
@@ -68,7 +68,7 @@ class Ends:
 
 def some(count):
     """The numbers up to this one, or some of many."""
-    step = 1 if count <= 2000 else count // 500
+    step = 1 if count <= 2000 else count // 60
     return sorted(set(range(1, count + 1, step)) | ({count} if count else set()))
 
 
