@@ -7,6 +7,7 @@ use Rattle.pr_truss_laws.proofs.EndedLemmas.{closes-ended}
 use Rattle.pr_truss_laws.proofs.ExchangeLemmas.{makes-front, makes-rest}
 use Rattle.pr_truss_laws.proofs.InterruptLemmas.{leaves-interrupted}
 use Rattle.pr_truss_laws.proofs.KnownLemmas.{after-knows, first-knows, opens-known}
+use Rattle.pr_truss_laws.proofs.LineLemmas.{keeps-lines, tells-selected}
 use Rattle.pr_truss_laws.proofs.PollsLemmas.{polls-own}
 use Rattle.pr_truss_laws.proofs.RefusalLemmas.{tells-refusals}
 use Rattle.pr_truss_laws.specs.Business.{DoesItsBusiness, OpensWhatItKnows}
@@ -33,4 +34,6 @@ does-business o xs makes = record {
   polls = polls-own o xs makes;
   leaves = leaves-interrupted o xs makes;
   ended = closes-ended o xs makes;
+  events = tells-selected o xs;
+  lines = keeps-lines o xs;
 }

@@ -18,6 +18,7 @@ pub mod HeldLemmas
 pub mod InterruptLemmas
 pub mod KnownLemmas
 pub mod LeavingLemmas
+pub mod LineLemmas
 pub mod LookLemmas
 pub mod OneEventLemmas
 pub mod OpeningLemmas

@@ -18,13 +18,15 @@ use Rattle.pr_rec.specs.declared.lwps.LwpStatus.{LwpStatus}
 use Rattle.pr_truss.specs.Messages.{message_call}
 use Rattle.pr_truss.specs.Openings.{pid_in}
 use Rattle.pr_truss.specs.Records.{child_of, event_stops, status_lwp}
+use Rattle.pr_truss.specs.Reports.{all_reports}
 use Rattle.pr_truss.specs.Trusses.{first_truss}
 use Rattle.pr_truss.specs.declared.reports.Report.{Report}
 use Rattle.pr_truss.specs.declared.reports.Report.TheVariants.{CannotStart, CannotTrace}
 use Rattle.pr_truss_laws.specs.Exchanges.{Closes, Exchange, errno_in, truss_after}
+use Rattle.pr_truss_laws.specs.Lines.{KeepsItsLines, TellsSelected}
 
 -- That truss(1) does its own business alone: what it calls, which processes it opens, what it tells of refusals, which
--- processes it waits for, and what it does once it was interrupted or a process has ended.
+-- processes it waits for, what it does once it was interrupted or a process has ended, and what it prints.
 
 -- ---- its calls
 
@@ -183,7 +185,8 @@ pub record IsHeld (pid handle : ℕ) (xs : List Exchange) : Type 0 where
   pub gives : handle_in reply ≡ handle
   pub unclosed : Closes handle after → ⊥
 
--- Each poll names every process whose control file truss has open, and nothing but control files that it opened.
+-- Each poll names every process whose control file truss has open, nothing but control files that it opened, and at
+-- least one: a poll of none would never end.
 pub record PollsItsOwn (xs : List Exchange) : Type 0 where
   pub all : (before after : List Exchange) (reply : Reply) (handles : List ℕ) (pid handle : ℕ)
       → xs ≡ before ++ record { call = call.Poll handles; reply = reply } ∷ after → IsHeld pid handle before
@@ -191,6 +194,8 @@ pub record PollsItsOwn (xs : List Exchange) : Type 0 where
   pub only : (before after : List Exchange) (reply : Reply) (handles : List ℕ) (handle : ℕ)
       → xs ≡ before ++ record { call = call.Poll handles; reply = reply } ∷ after → IsAmong handle handles
       → (pid : ℕ) × WasGiven pid Ctl handle before
+  pub some : (before after : List Exchange) (reply : Reply)
+      → xs ≡ before ++ record { call = call.Poll []; reply = reply } ∷ after → ⊥
 
 -- ---- once it was interrupted
 
@@ -241,7 +246,8 @@ pub record ClosesWhatEnded (xs : List Exchange) : Type 0 where
 
 -- Truss makes its own calls alone, opens no process but those that it was given, made or was told of, reports a refusal
 -- as such only where a call of that process was refused, waits for all that it holds, closes what has ended before it
--- does anything else, and once it was interrupted does nothing but leave its processes.
+-- does anything else, and once it was interrupted does nothing but leave its processes. It prints no event that is not
+-- selected, and its lines stay where they stand.
 pub record DoesItsBusiness (o : Options) (xs : List Exchange) : Type 0 where
   pub calls : AreItsCalls o.program xs
   pub opens : OpensWhatItKnows o xs
@@ -249,3 +255,5 @@ pub record DoesItsBusiness (o : Options) (xs : List Exchange) : Type 0 where
   pub polls : PollsItsOwn xs
   pub leaves : LeavesOnInterrupt xs
   pub ended : ClosesWhatEnded xs
+  pub events : All (TellsSelected o) (all_reports (truss_after (first_truss o) xs))
+  pub lines : KeepsItsLines o xs

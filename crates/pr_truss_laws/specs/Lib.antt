@@ -2,6 +2,7 @@ pub mod Business
 pub mod Exchanges
 pub mod Given
 pub mod Handles
+pub mod Lines
 pub mod Polled
 pub mod Runs
 pub mod Stills
