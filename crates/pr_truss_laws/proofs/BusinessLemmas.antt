@@ -10,6 +10,7 @@ use Rattle.pr_truss_laws.proofs.KnownLemmas.{after-knows, first-knows, opens-kno
 use Rattle.pr_truss_laws.proofs.LineLemmas.{keeps-lines, tells-selected}
 use Rattle.pr_truss_laws.proofs.PollsLemmas.{polls-own}
 use Rattle.pr_truss_laws.proofs.RefusalLemmas.{tells-refusals}
+use Rattle.pr_truss_laws.proofs.SentLemmas.{sends-in-order}
 use Rattle.pr_truss_laws.specs.Business.{DoesItsBusiness, OpensWhatItKnows}
 use Rattle.pr_truss_laws.specs.Exchanges.{Exchange, Makes, truss_after}
 
@@ -29,6 +30,7 @@ opens-own o xs makes = record {
 pub does-business : (o : Options) (xs : List Exchange) → Makes (first_truss o) xs → DoesItsBusiness o xs
 does-business o xs makes = record {
   calls = own-calls o xs makes;
+  sends = sends-in-order o xs makes;
   opens = opens-own o xs makes;
   refusals = tells-refusals o xs makes;
   polls = polls-own o xs makes;

@@ -34,6 +34,7 @@ pub mod PollsLemmas
 pub mod RefusalLemmas
 pub mod ReleaseLemmas
 pub mod ReplySteps
+pub mod SentLemmas
 pub mod SequenceLemmas
 pub mod StillLemmas
 pub mod StoresLemmas

@@ -5,5 +5,6 @@ pub mod Handles
 pub mod Lines
 pub mod Polled
 pub mod Runs
+pub mod Sent
 pub mod Stills
 pub mod Told
