@@ -36,6 +36,7 @@ pub mod ReleaseLemmas
 pub mod ReplySteps
 pub mod SentLemmas
 pub mod SequenceLemmas
+pub mod SoonLemmas
 pub mod StillLemmas
 pub mod StoresLemmas
 pub mod TakenLemmas

@@ -25,6 +25,7 @@ use Rattle.pr_truss.specs.declared.reports.Report.TheVariants.{CannotStart, Cann
 use Rattle.pr_truss_laws.specs.Exchanges.{Closes, Exchange, errno_in, truss_after}
 use Rattle.pr_truss_laws.specs.Lines.{KeepsItsLines, TellsSelected}
 use Rattle.pr_truss_laws.specs.Sent.{SendsInOrder}
+use Rattle.pr_truss_laws.specs.Soon.{PollsSoon}
 
 -- That truss(1) does its own business alone: what it calls, which processes it opens, what it tells of refusals, which
 -- processes it waits for, what it does once it was interrupted or a process has ended, and what it prints.
@@ -246,15 +247,16 @@ pub record ClosesWhatEnded (xs : List Exchange) : Type 0 where
 -- ---- all of it
 
 -- Truss makes its own calls alone, sends each message in its place, opens no process but those that it was given, made
--- or was told of, reports a refusal as such only where a call of that process was refused, waits for all that it holds,
--- closes what has ended before it does anything else, and once it was interrupted does nothing but leave its processes.
--- It prints no event that is not selected, and its lines stay where they stand.
+-- or was told of, reports a refusal as such only where a call of that process was refused, waits soon for all that it
+-- holds, closes what has ended before it does anything else, and once it was interrupted does nothing but leave its
+-- processes. It prints no event that is not selected, and its lines stay where they stand.
 pub record DoesItsBusiness (o : Options) (xs : List Exchange) : Type 0 where
   pub calls : AreItsCalls o.program xs
   pub sends : SendsInOrder o xs
   pub opens : OpensWhatItKnows o xs
   pub refusals : TellsItsRefusals o xs
   pub polls : PollsItsOwn xs
+  pub soon : PollsSoon o xs
   pub leaves : LeavesOnInterrupt xs
   pub ended : ClosesWhatEnded xs
   pub events : All (TellsSelected o) (all_reports (truss_after (first_truss o) xs))

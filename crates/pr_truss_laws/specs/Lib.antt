@@ -6,5 +6,6 @@ pub mod Lines
 pub mod Polled
 pub mod Runs
 pub mod Sent
+pub mod Soon
 pub mod Stills
 pub mod Told
