@@ -1,9 +1,10 @@
 #!/usr/bin/env python3
 """Wrong trusses, each of which the laws refuse. A patch of tests/wrong-trusses turns a definition of pr_truss and its
-code alike: its line 'does:' says what such a truss does, and 'law:' names the law that is false of it. In a copy of the
-crates pr_truss has to be proved with the patch, since its code does what its definitions say, and pr_truss_laws or
-pr_report_laws must not be. A line is printed for each truss, with the functions whose proofs it breaks: those of the
-first of the two crates that is refused. It is no part of the gate: a truss takes some minutes.
+code alike: its line 'does:' says what such a truss does, 'law:' names the law that is false of it, and 'why:' tells of
+a run that shows this. In a copy of the crates pr_truss has to be proved with the patch, since its code does what its
+definitions say, and pr_truss_laws or pr_report_laws must not be. A line is printed for each truss, with the functions
+of the first of the two that are not proved: where a patch changes what replies do, the proofs of most laws break, also
+of those that are true of such a truss. It is no part of the gate: a truss takes some minutes.
 
 Words name patches, or the fronts of their names; without words all are tried. --in FOLDER keeps the copy, with what was
 proved and what rt said, and a later call begins there. The last line is 'N passed, M failed'. It needs rt and patch;
@@ -94,14 +95,14 @@ def prove(room, crate, word, log):
 
 
 def head_of(patch):
-    """The lines 'does:' and 'law:' of a patch."""
+    """The lines before the changes of a patch."""
     with open(patch) as file:
-        return dict(re.findall(r"^(does|law): (.*)$", file.read(), re.MULTILINE))
+        return dict(re.findall(r"^(does|law|why): (.*)$", file.read(), re.MULTILINE))
 
 
 def refused_in(said):
     """The functions that a check did not prove."""
-    return sorted(set(re.findall(r"^fn \w+::([\w:]+): not proved", said, re.MULTILINE)))
+    return sorted(set(re.findall(r"^fn \w+::([\w:]+): (?:not proved|no proof)", said, re.MULTILINE)))
 
 
 def try_truss(room, name):
@@ -113,7 +114,7 @@ def try_truss(room, name):
     for crate in LAWS:
         proved, said = prove(room, crate, "check", name)
         if not proved:
-            return "", "%s: %s" % (crate, ", ".join(refused_in(said)) or "see its log")
+            return "", "%s refuses %s" % (crate, ", ".join(refused_in(said)) or "it: see its log")
     return "no law refuses it", ""
 
 

@@ -8,6 +8,7 @@ use Rattle.pr_truss_laws.proofs.ExchangeLemmas.{makes-front, makes-rest}
 use Rattle.pr_truss_laws.proofs.InterruptLemmas.{leaves-interrupted}
 use Rattle.pr_truss_laws.proofs.KnownLemmas.{after-knows, first-knows, opens-known}
 use Rattle.pr_truss_laws.proofs.LineLemmas.{keeps-lines, tells-selected}
+use Rattle.pr_truss_laws.proofs.OpenTimes.{opens-in-time}
 use Rattle.pr_truss_laws.proofs.PollsLemmas.{polls-own}
 use Rattle.pr_truss_laws.proofs.RefusalLemmas.{tells-refusals}
 use Rattle.pr_truss_laws.proofs.SentLemmas.{sends-in-order}
@@ -33,6 +34,7 @@ does-business o xs makes = record {
   calls = own-calls o xs makes;
   sends = sends-in-order o xs makes;
   opens = opens-own o xs makes;
+  in_time = opens-in-time o xs makes;
   refusals = tells-refusals o xs makes;
   polls = polls-own o xs makes;
   soon = polls-soon o xs makes;

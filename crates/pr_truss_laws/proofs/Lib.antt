@@ -21,6 +21,7 @@ pub mod LeavingLemmas
 pub mod LineLemmas
 pub mod LookLemmas
 pub mod OneEventLemmas
+pub mod OpenTimes
 pub mod OpeningLemmas
 pub mod OpensLemmas
 pub mod OptionLemmas

@@ -1,4 +1,4 @@
-use Rattle.std.specs.Prelude.{◌≡◌, ◌≢◌, ◌⊎◌, ◌&&◌, ◌==◌, ℕ, Bool, true, false, List, [], ◌∷◌, ◌++◌, Option, Some, None, All, slice_get}
+use Rattle.std.specs.Prelude.{◌≡◌, ◌≢◌, ◌≤◌, ◌⊎◌, ◌&&◌, ◌==◌, ℕ, Bool, true, false, List, [], ◌∷◌, ◌++◌, Option, Some, None, All, length, slice_get}
 use Rattle.std.specs.Option.{option_and_then}
 use Rattle.pr_line.specs.declared.options.Options.{Options}
 use Rattle.pr_model.specs.Replies.{bytes_in, handle_in}
@@ -108,6 +108,24 @@ pub data IsKnown (o : Options) (pid : ℕ) (xs : List Exchange) : Type 0 where
 pub record OpensWhatItKnows (o : Options) (xs : List Exchange) : Type 0 where
   pub each : (before after : List Exchange) (reply : Reply) (pid id : ℕ) (file : File) (mode : Mode)
       → xs ≡ before ++ record { call = call.Open pid id file mode; reply = reply } ∷ after → IsKnown o pid before
+
+-- A read among these told of a child, and at most one call came since: that which reads the memory for a line.
+pub record WasJustTold (child : ℕ) (xs : List Exchange) : Type 0 where
+  pub lwp : LwpStatus
+  pub read : WasRead lwp xs
+  pub forked : child_of lwp ≡ Some child
+  pub soon : length read.after ≤ 1
+
+-- When truss opens the control file of a process: where the options name it; where it was made; or, where truss follows
+-- children, right after it was told of it.
+pub data MayOpen (o : Options) (pid : ℕ) (xs : List Exchange) : Type 0 where
+  by_name : (place : ℕ) → slice_get o.pids place ≡ Some pid → MayOpen o pid xs
+  as_made : WasMade pid xs → MayOpen o pid xs
+  just_told : o.follow ≡ true → WasJustTold pid xs → MayOpen o pid xs
+
+pub record OpensInTime (o : Options) (xs : List Exchange) : Type 0 where
+  pub each : (before after : List Exchange) (reply : Reply) (pid : ℕ)
+      → xs ≡ before ++ record { call = call.Open pid 0 Ctl WriteExcl; reply = reply } ∷ after → MayOpen o pid before
 
 -- Each process of which truss opens a file in these exchanges is the child of a fork of which a read among them told
 -- before, and truss follows children.
@@ -247,13 +265,14 @@ pub record ClosesWhatEnded (xs : List Exchange) : Type 0 where
 -- ---- all of it
 
 -- Truss makes its own calls alone, sends each message in its place, opens no process but those that it was given, made
--- or was told of, reports a refusal as such only where a call of that process was refused, waits soon for all that it
+-- or was told of, and these right then, reports a refusal as such only where a call of that process was refused, waits soon for all that it
 -- holds, closes what has ended before it does anything else, and once it was interrupted does nothing but leave its
 -- processes. It prints no event that is not selected, and its lines stay where they stand.
 pub record DoesItsBusiness (o : Options) (xs : List Exchange) : Type 0 where
   pub calls : AreItsCalls o.program xs
   pub sends : SendsInOrder o xs
   pub opens : OpensWhatItKnows o xs
+  pub in_time : OpensInTime o xs
   pub refusals : TellsItsRefusals o xs
   pub polls : PollsItsOwn xs
   pub soon : PollsSoon o xs
