@@ -129,14 +129,16 @@ module _ (o : Options) (s : TrussState) (r : Reply) (same : s.options ≡ o) whe
       → ComesAfter o (call_of s stage) (call_of v next)
   unfolding call_of
   learns-sends stage goes place t v f (step.opening_goes {now = now} {next = next} after) options traced =
-      subst (λ p. Comes o (opening_call p (traced_at s place) now) (Some (opening_call v.options (traced_at v place) next)))
+      subst
+      (λ p. Comes o (opening_call p (traced_at s place) now) (Some (opening_call v.options (traced_at v place) next)))
       (sym same)
       (subst (λ p. Comes o (opening_call o (traced_at s place) now) (Some (opening_call p (traced_at v place) next)))
       (sym options)
       (subst (λ u. Comes o (opening_call o (traced_at s place) now) (Some (opening_call o u next)))
       (sym (ap (λ ts. at_place ts place) traced ∙ set-at s.traced place t f.0))
       (opening-follows o r (traced_at s place) now next (ap (λ p. step_after p r now) (sym same) ∙ after))))
-  learns-sends stage goes place t v f (step.child_goes {parent = parent} {now = now} {next = next} after) options traced =
+  learns-sends stage goes place t v f (step.child_goes {parent = parent} {now = now} {next = next} after) options
+      traced =
       subst (λ u. Comes o (child_call (traced_at s place) now) (Some (child_call u next)))
       (sym (ap (λ ts. at_place ts place) traced ∙ set-at s.traced place t (last-within s.traced parent place f.0)))
       (child-follows o r (traced_at s place) now next after)
@@ -221,7 +223,8 @@ named-first o None = (tt, refl)
 named-first o (Some pid) = (λ sent. absurd (false≢true sent), refl)
 
 program-first : (o : Options) (p : Option (List ℕ))
-    → (IsReady o [] (call_of (first_of_program o p) (first_of_program o p).stage)) × ((first_of_program o p).options ≡ o)
+    → (IsReady o [] (call_of (first_of_program o p) (first_of_program o p).stage))
+    × ((first_of_program o p).options ≡ o)
 unfolding call_of
 program-first o None = named-first o (slice_get o.pids 0)
 program-first o (Some program) = (λ sent. absurd (false≢true sent), refl)

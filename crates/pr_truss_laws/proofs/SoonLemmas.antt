@@ -327,8 +327,8 @@ module _ (s : TrussState) (r : Reply) where
   turns-near stage next busy step.frees_on = omega arith
   turns-near stage next busy step.has_finished = absurd busy
 
-  opens-near : (stage next : Stage) (pid : ℕ) (leaving : Bool) (ts : List Traced) → Opens (length s.traced) stage pid next
-      → part leaving ts next + 13 ≤ part s.leaving s.traced stage
+  opens-near : (stage next : Stage) (pid : ℕ) (leaving : Bool) (ts : List Traced)
+      → Opens (length s.traced) stage pid next → part leaving ts next + 13 ≤ part s.leaving s.traced stage
   opens-near stage next pid leaving ts step.new_given = omega arith
   opens-near stage next pid leaving ts step.new_child = omega arith
 
@@ -336,7 +336,8 @@ module _ (s : TrussState) (r : Reply) where
       → Learns s r stage place t next → part leaving ts next + 1 ≤ part s.leaving s.traced stage
   learns-near stage goes place t leaving ts (step.opening_goes {now = now} {next = next} after) =
       opening-nears s.options r now next after
-  learns-near stage goes place t leaving ts (step.child_goes {now = now} {next = next} after) = child-nears now next after
+  learns-near stage goes place t leaving ts (step.child_goes {now = now} {next = next} after) =
+      child-nears now next after
 
   step-near : (stage : Stage) (v : TrussState) → IsBusy stage → Fits s.traced stage → ReplyStep s r stage v
       → far v + 1 ≤ was stage
@@ -394,6 +395,7 @@ polls-soon o xs makes = record {
       let s = truss_after (first_truss o) before in
       let made = subst (Makes (first_truss o)) is makes in
       let here = makes-rest (first_truss o) before (between ++ after) made in
-      let it = nears between s (after-fits before (first_truss o) (first-fits o)) (makes-front s between after here) none in
+      let fits = after-fits before (first_truss o) (first-fits o) in
+      let it = nears between s fits (makes-front s between after here) none in
       omega (arith, it, part-most s.leaving s.traced s.stage);
 }

@@ -9,8 +9,8 @@ use Rattle.pr_truss_laws.specs.Exchanges.{Exchange, truss_after}
 pub record IsNoPoll (x : Exchange) : Type 0 where
   pub other : (handles : List ℕ) → x.call ≢ Poll handles
 
--- How many calls come at most before it polls: 38 to look at one process and to open its child, or to open a process; 12
--- for each process that it traces, if it leaves them; and 40 for each process that it is still to open.
+-- How many calls come at most before it polls: 38 to look at one process and to open its child, or to open a process;
+-- 12 for each process that it traces, if it leaves them; and 40 for each process that it is still to open.
 abbrev pub calls_without_poll : TrussState → ℕ
 calls_without_poll s = 38 + 12 * length s.traced + 40 * (length s.options.pids - s.begun)
 
