@@ -32,7 +32,7 @@ is_spawning (Spawning program) = true
 is_spawning _ = false
 
 on-started : (u v : TrussState) (given : Bool) → GoesOn u given v → is_spawning v.stage ≡ false
-on-started u v given (step.polls _) = refl
+on-started u v given (step.polls _ _) = refl
 on-started u v given _ = refl
 
 over-started : (u v : TrussState) (place : ℕ) (pid : Option ℕ) → StopOver u place pid v → is_spawning v.stage ≡ false

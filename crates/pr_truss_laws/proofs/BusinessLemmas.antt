@@ -7,8 +7,12 @@ use Rattle.pr_truss_laws.proofs.EndedLemmas.{closes-ended}
 use Rattle.pr_truss_laws.proofs.ExchangeLemmas.{makes-front, makes-rest}
 use Rattle.pr_truss_laws.proofs.InterruptLemmas.{leaves-interrupted}
 use Rattle.pr_truss_laws.proofs.KnownLemmas.{after-knows, first-knows, opens-known}
+use Rattle.pr_truss_laws.proofs.LineLemmas.{keeps-lines, tells-selected}
+use Rattle.pr_truss_laws.proofs.OpenTimes.{opens-in-time}
 use Rattle.pr_truss_laws.proofs.PollsLemmas.{polls-own}
 use Rattle.pr_truss_laws.proofs.RefusalLemmas.{tells-refusals}
+use Rattle.pr_truss_laws.proofs.SentLemmas.{sends-in-order}
+use Rattle.pr_truss_laws.proofs.SoonLemmas.{polls-soon}
 use Rattle.pr_truss_laws.specs.Business.{DoesItsBusiness, OpensWhatItKnows}
 use Rattle.pr_truss_laws.specs.Exchanges.{Exchange, Makes, truss_after}
 
@@ -28,9 +32,14 @@ opens-own o xs makes = record {
 pub does-business : (o : Options) (xs : List Exchange) → Makes (first_truss o) xs → DoesItsBusiness o xs
 does-business o xs makes = record {
   calls = own-calls o xs makes;
+  sends = sends-in-order o xs makes;
   opens = opens-own o xs makes;
+  in_time = opens-in-time o xs makes;
   refusals = tells-refusals o xs makes;
   polls = polls-own o xs makes;
+  soon = polls-soon o xs makes;
   leaves = leaves-interrupted o xs makes;
   ended = closes-ended o xs makes;
+  events = tells-selected o xs;
+  lines = keeps-lines o xs;
 }

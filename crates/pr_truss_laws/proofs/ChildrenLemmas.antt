@@ -61,7 +61,7 @@ record Follows (o : Options) (xs : List Exchange) (s : TrussState) : Type 0 wher
 on-follows : (o : Options) (xs : List Exchange) (u v : TrussState) (given : Bool) → given ≡ false → GoesOn u given v
     → FollowsStage o xs v.traced v.stage
 on-follows o xs u v given goes (step.finishes _) = tt
-on-follows o xs u v given goes (step.polls _) = tt
+on-follows o xs u v given goes (step.polls _ _) = tt
 on-follows o xs u v given goes (step.unfollows _ _ _) = tt
 on-follows o xs u v given goes (step.closes_first _ _ _) = tt
 on-follows o xs u v given goes (step.opens_next _) = absurd (false≢true (sym goes))

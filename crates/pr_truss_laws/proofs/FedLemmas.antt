@@ -143,7 +143,7 @@ module _ (pid h : ℕ) where
       by false = refl
 
   on-here : (u v : TrussState) (given : Bool) → GoesOn u given v → here v ≡ sum u.traced + 0
-  on-here u v given (step.polls _) = refl
+  on-here u v given (step.polls _ _) = refl
   on-here u v given _ = refl
 
   over-here : (u v : TrussState) (place : ℕ) (child : Option ℕ) → StopOver u place child v → here v ≡ sum u.traced + 0

@@ -60,7 +60,7 @@ goes-on u given = by_test (GoesOn u given) u.leaving _ _ (left-on u given) (by (
     by : (first : Option Traced) → slice_get u.traced 0 ≡ first → u.leaving ≡ false
         → GoesOn u given (polls_or_finished u first)
     by None is off = finishes is
-    by (Some t) is off = polls off
+    by (Some t) is off = polls off is
 
 pub opens-next : (u : TrussState) → GoesOn u true (with_next_opening u)
 unfolding with_next_opening

@@ -144,6 +144,7 @@ pub on-fits : (u v : TrussState) (given : Bool) → GoesOn u given v → Fits v.
 on-fits u v given (step.finishes none) = empty-list u.traced none
 on-fits u v given (step.unfollows on first attached) = slice_get_within u.traced 0 _ first
 on-fits u v given (step.closes_first on first attached) = (slice_get_within u.traced 0 _ first, tt)
+on-fits u v given (step.polls _ first) = slice_get_within u.traced 0 _ first
 on-fits u v given _ = tt
 
 over-fits : (u v : TrussState) (place : ℕ) (pid : Option ℕ) → place < length u.traced → StopOver u place pid v
@@ -212,7 +213,6 @@ module _ (s : TrussState) (r : Reply) where
       let last = f.1 in omega (arith, last.behind, last.last, length-remove s.traced place f.0)
   step-fits stage v f (step.turns (step.is_named is)) = named-place s.traced _ _ is
   step-fits stage v f (step.turns (step.starts _)) = tt
-  step-fits stage v f (step.turns step.polls_again) = tt
   step-fits stage v f (step.turns _) = f
 
 pub fed-fits : (s : TrussState) (r : Reply) → Fits s.traced s.stage → Fits (fed s r).traced (fed s r).stage

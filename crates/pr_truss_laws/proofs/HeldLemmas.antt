@@ -89,7 +89,7 @@ abbrev pub Fits : List Traced → Stage → Type 0
 Fits ts (Spawning program) = Unit {0}
 Fits ts (OpeningControl pid) = Unit {0}
 Fits ts (Opening place step) = (place < length ts) × IsFresh (at_place ts place) step
-Fits ts Polling = Unit {0}
+Fits ts Polling = 0 < length ts
 Fits ts (ReadingStatus place) = place < length ts
 Fits ts (ReadingText place lwp at len) = place < length ts
 Fits ts (OpeningChildControl parent pid) = parent < length ts

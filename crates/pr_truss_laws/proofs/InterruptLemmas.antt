@@ -56,7 +56,7 @@ never b off on = absurd (false≢true (sym off ∙ on))
 
 on-left : (u v : TrussState) (given : Bool) → given ≡ false → u.leaving ≡ true → GoesOn u given v → IsLeft v
 on-left u v given goes on (step.finishes _) = record { leaving = on; stage = refl }
-on-left u v given goes on (step.polls off) = never u.leaving off on
+on-left u v given goes on (step.polls off _) = never u.leaving off on
 on-left u v given goes on (step.unfollows _ _ _) = record { leaving = on; stage = refl }
 on-left u v given goes on (step.closes_first _ _ _) = record { leaving = on; stage = refl }
 on-left u v given goes on (step.opens_next _) = absurd (false≢true (sym goes))

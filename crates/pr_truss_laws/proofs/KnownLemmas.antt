@@ -348,7 +348,7 @@ module _ (o : Options) (xs : List Exchange) (s : TrussState) (x : Exchange) (k :
       → KnowsStage o with_it v.traced v.stage
   on-known u v given same (step.opens_next {pid = pid} is) =
       named u.begun (subst (λ (p : Options). slice_get p.pids u.begun ≡ Some pid) same is)
-  on-known u v given same (step.polls _) = tt
+  on-known u v given same (step.polls _ _) = tt
   on-known u v given same _ = tt
 
   over-known : (u v : TrussState) (place : ℕ) (pid : Option ℕ) → KnowsChild o with_it pid → StopOver u place pid v

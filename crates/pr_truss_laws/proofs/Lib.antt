@@ -18,8 +18,10 @@ pub mod HeldLemmas
 pub mod InterruptLemmas
 pub mod KnownLemmas
 pub mod LeavingLemmas
+pub mod LineLemmas
 pub mod LookLemmas
 pub mod OneEventLemmas
+pub mod OpenTimes
 pub mod OpeningLemmas
 pub mod OpensLemmas
 pub mod OptionLemmas
@@ -33,7 +35,9 @@ pub mod PollsLemmas
 pub mod RefusalLemmas
 pub mod ReleaseLemmas
 pub mod ReplySteps
+pub mod SentLemmas
 pub mod SequenceLemmas
+pub mod SoonLemmas
 pub mod StillLemmas
 pub mod StoresLemmas
 pub mod TakenLemmas

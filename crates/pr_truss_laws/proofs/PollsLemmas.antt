@@ -1,5 +1,6 @@
-use Rattle.std.proofs.Common.{◌≡◌, ◌≢◌, ◌==◌, ◌≤◌, ◌+◌, ℕ, zero, suc, true, false, Option, Some, None, List, [], ◌∷◌, ◌++◌, map, refl, sym, subst, ap, ◌∙◌, arith, inl, inr, ◌⊎◌}
+use Rattle.std.proofs.Common.{◌≡◌, ◌≢◌, ◌==◌, ◌≤◌, ◌<◌, ◌+◌, ℕ, zero, suc, true, false, Option, Some, None, List, [], ◌∷◌, ◌++◌, map, length, refl, sym, subst, ap, ◌∙◌, arith, inl, inr, ◌⊎◌}
 use Rattle.std.proofs.lemmas.Bool.{cases_Bool, eq-eqb, eqb-true}
+use Rattle.std.proofs.lemmas.List.{length-map}
 use Rattle.std.proofs.lemmas.List.Sums.{sum_by-append}
 use Rattle.std.proofs.lemmas.Option.{none-some, same_Some}
 use Rattle.std.specs.List.{All, slice_get, sum_by}
@@ -319,5 +320,17 @@ module _ (o : Options) (xs : List Exchange) (makes : Makes (first_truss o) xs) w
       control-at before s.traced among.place handle
       (subst (λ hs. slice_get hs among.place ≡ Some handle) (sym it.names) among.is) k.each
 
+  some-named : (before after : List Exchange) (reply : Reply)
+      → xs ≡ before ++ record { call = call.Poll []; reply = reply } ∷ after → ⊥
+  some-named before after reply is =
+      let poll : Exchange = record { call = call.Poll []; reply = reply } in
+      let s : TrussState = truss_after (first_truss o) before in
+      let at = made-at before after poll is in
+      let it = next-polls s [] at.0 in
+      let k = knows-at before after poll is in
+      let some : 0 < length s.traced = subst (Fits s.traced) it.stage k.fits in
+      let none : length (map (λ (t : Traced). t.control) s.traced) ≡ 0 = ap length it.names in
+      omega (arith, some, none, length-map s.traced (λ (t : Traced). t.control))
+
   pub polls-own : PollsItsOwn xs
-  polls-own = record { all = all-named; only = only-named }
+  polls-own = record { all = all-named; only = only-named; some = some-named }

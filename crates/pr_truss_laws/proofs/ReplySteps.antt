@@ -41,7 +41,8 @@ use Rattle.pr_truss_laws.proofs.AnswerLemmas.{Refuses}
 -- next process that it was given comes first.
 pub data GoesOn (u : TrussState) : Bool → TrussState → Type 0 where
   finishes : {given : Bool} → slice_get u.traced 0 ≡ None → GoesOn u given (with_stage u Finished)
-  polls : {given : Bool} → u.leaving ≡ false → GoesOn u given (with_stage u Polling)
+  polls : {given : Bool} {t : Traced} → u.leaving ≡ false → slice_get u.traced 0 ≡ Some t
+      → GoesOn u given (with_stage u Polling)
   unfollows : {given : Bool} {t : Traced} → u.leaving ≡ true → slice_get u.traced 0 ≡ Some t → t.attached ≡ true
       → GoesOn u given (with_stage u Unfollowing)
   closes_first : {given : Bool} {t : Traced} → u.leaving ≡ true → slice_get u.traced 0 ≡ Some t → t.attached ≡ false
@@ -66,7 +67,7 @@ pub record IsStaged (u v : TrussState) : Type 0 where
   pub reports : v.reports ≡ u.reports
 
 pub on-staged : {u v : TrussState} {given : Bool} → GoesOn u given v → IsStaged u v
-on-staged (polls _) = record { options = refl; traced = refl; leaving = refl; reports = refl }
+on-staged (polls _ _) = record { options = refl; traced = refl; leaving = refl; reports = refl }
 on-staged _ = record { options = refl; traced = refl; leaving = refl; reports = refl }
 
 pub over-staged : {u v : TrussState} {place : ℕ} {pid : Option ℕ} → StopOver u place pid v → IsStaged u v

@@ -177,7 +177,7 @@ Both b ts stage = OwnStage b ts stage × Others b ts stage
 on-both : (u v : TrussState) (given : Bool) → All (Keeps u.leaving) u.traced → GoesOn u given v
     → Both v.leaving v.traced v.stage
 on-both u v given all (step.finishes _) = (tt, all)
-on-both u v given all (step.polls off) = (off, all)
+on-both u v given all (step.polls off _) = (off, all)
 on-both u v given all (step.closes_first _ _ _) = (tt, All-removed (Keeps u.leaving) u.traced 0 all)
 on-both u v given all (step.opens_next _) = (tt, all)
 on-both u v given all (step.unfollows {t = t} on first attached) =

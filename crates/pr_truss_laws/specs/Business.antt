@@ -1,4 +1,4 @@
-use Rattle.std.specs.Prelude.{◌≡◌, ◌≢◌, ◌⊎◌, ◌&&◌, ◌==◌, ℕ, Bool, true, false, List, [], ◌∷◌, ◌++◌, Option, Some, None, All, slice_get}
+use Rattle.std.specs.Prelude.{◌≡◌, ◌≢◌, ◌≤◌, ◌⊎◌, ◌&&◌, ◌==◌, ℕ, Bool, true, false, List, [], ◌∷◌, ◌++◌, Option, Some, None, All, length, slice_get}
 use Rattle.std.specs.Option.{option_and_then}
 use Rattle.pr_line.specs.declared.options.Options.{Options}
 use Rattle.pr_model.specs.Replies.{bytes_in, handle_in}
@@ -18,13 +18,17 @@ use Rattle.pr_rec.specs.declared.lwps.LwpStatus.{LwpStatus}
 use Rattle.pr_truss.specs.Messages.{message_call}
 use Rattle.pr_truss.specs.Openings.{pid_in}
 use Rattle.pr_truss.specs.Records.{child_of, event_stops, status_lwp}
+use Rattle.pr_truss.specs.Reports.{all_reports}
 use Rattle.pr_truss.specs.Trusses.{first_truss}
 use Rattle.pr_truss.specs.declared.reports.Report.{Report}
 use Rattle.pr_truss.specs.declared.reports.Report.TheVariants.{CannotStart, CannotTrace}
 use Rattle.pr_truss_laws.specs.Exchanges.{Closes, Exchange, errno_in, truss_after}
+use Rattle.pr_truss_laws.specs.Lines.{KeepsItsLines, TellsSelected}
+use Rattle.pr_truss_laws.specs.Sent.{SendsInOrder}
+use Rattle.pr_truss_laws.specs.Soon.{PollsSoon}
 
 -- That truss(1) does its own business alone: what it calls, which processes it opens, what it tells of refusals, which
--- processes it waits for, and what it does once it was interrupted or a process has ended.
+-- processes it waits for, what it does once it was interrupted or a process has ended, and what it prints.
 
 -- ---- its calls
 
@@ -105,6 +109,24 @@ pub record OpensWhatItKnows (o : Options) (xs : List Exchange) : Type 0 where
   pub each : (before after : List Exchange) (reply : Reply) (pid id : ℕ) (file : File) (mode : Mode)
       → xs ≡ before ++ record { call = call.Open pid id file mode; reply = reply } ∷ after → IsKnown o pid before
 
+-- A read among these told of a child, and at most one call came since: that which reads the memory for a line.
+pub record WasJustTold (child : ℕ) (xs : List Exchange) : Type 0 where
+  pub lwp : LwpStatus
+  pub read : WasRead lwp xs
+  pub forked : child_of lwp ≡ Some child
+  pub soon : length read.after ≤ 1
+
+-- When truss opens the control file of a process: where the options name it; where it was made; or, where truss follows
+-- children, right after it was told of it.
+pub data MayOpen (o : Options) (pid : ℕ) (xs : List Exchange) : Type 0 where
+  by_name : (place : ℕ) → slice_get o.pids place ≡ Some pid → MayOpen o pid xs
+  as_made : WasMade pid xs → MayOpen o pid xs
+  just_told : o.follow ≡ true → WasJustTold pid xs → MayOpen o pid xs
+
+pub record OpensInTime (o : Options) (xs : List Exchange) : Type 0 where
+  pub each : (before after : List Exchange) (reply : Reply) (pid : ℕ)
+      → xs ≡ before ++ record { call = call.Open pid 0 Ctl WriteExcl; reply = reply } ∷ after → MayOpen o pid before
+
 -- Each process of which truss opens a file in these exchanges is the child of a fork of which a read among them told
 -- before, and truss follows children.
 pub record OpensChildrenAlone (o : Options) (xs : List Exchange) : Type 0 where
@@ -183,7 +205,8 @@ pub record IsHeld (pid handle : ℕ) (xs : List Exchange) : Type 0 where
   pub gives : handle_in reply ≡ handle
   pub unclosed : Closes handle after → ⊥
 
--- Each poll names every process whose control file truss has open, and nothing but control files that it opened.
+-- Each poll names every process whose control file truss has open, nothing but control files that it opened, and at
+-- least one: a poll of none would never end.
 pub record PollsItsOwn (xs : List Exchange) : Type 0 where
   pub all : (before after : List Exchange) (reply : Reply) (handles : List ℕ) (pid handle : ℕ)
       → xs ≡ before ++ record { call = call.Poll handles; reply = reply } ∷ after → IsHeld pid handle before
@@ -191,6 +214,8 @@ pub record PollsItsOwn (xs : List Exchange) : Type 0 where
   pub only : (before after : List Exchange) (reply : Reply) (handles : List ℕ) (handle : ℕ)
       → xs ≡ before ++ record { call = call.Poll handles; reply = reply } ∷ after → IsAmong handle handles
       → (pid : ℕ) × WasGiven pid Ctl handle before
+  pub some : (before after : List Exchange) (reply : Reply)
+      → xs ≡ before ++ record { call = call.Poll []; reply = reply } ∷ after → ⊥
 
 -- ---- once it was interrupted
 
@@ -239,13 +264,19 @@ pub record ClosesWhatEnded (xs : List Exchange) : Type 0 where
 
 -- ---- all of it
 
--- Truss makes its own calls alone, opens no process but those that it was given, made or was told of, reports a refusal
--- as such only where a call of that process was refused, waits for all that it holds, closes what has ended before it
--- does anything else, and once it was interrupted does nothing but leave its processes.
+-- Truss makes its own calls alone, sends each message in its place, opens no process but those that it was given,
+-- made or was told of, and these right then, reports a refusal as such only where a call of that process was refused,
+-- waits soon for all that it holds, closes what has ended before it does anything else, and once it was interrupted
+-- does nothing but leave its processes. It prints no event that is not selected, and its lines stay where they stand.
 pub record DoesItsBusiness (o : Options) (xs : List Exchange) : Type 0 where
   pub calls : AreItsCalls o.program xs
+  pub sends : SendsInOrder o xs
   pub opens : OpensWhatItKnows o xs
+  pub in_time : OpensInTime o xs
   pub refusals : TellsItsRefusals o xs
   pub polls : PollsItsOwn xs
+  pub soon : PollsSoon o xs
   pub leaves : LeavesOnInterrupt xs
   pub ended : ClosesWhatEnded xs
+  pub events : All (TellsSelected o) (all_reports (truss_after (first_truss o) xs))
+  pub lines : KeepsItsLines o xs

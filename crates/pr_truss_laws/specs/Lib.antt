@@ -2,7 +2,10 @@ pub mod Business
 pub mod Exchanges
 pub mod Given
 pub mod Handles
+pub mod Lines
 pub mod Polled
 pub mod Runs
+pub mod Sent
+pub mod Soon
 pub mod Stills
 pub mod Told

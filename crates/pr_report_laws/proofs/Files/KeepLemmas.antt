@@ -181,7 +181,7 @@ module _ (P : ℕ → File → Mode → ℕ → Type 0) where
   pub on-keeps : (u v : TrussState) (given : Bool) → (given ≡ true → u.leaving ≡ false) → Base u.leaving u
       → GoesOn u given v → Keeps v
   on-keeps u v given stays b (step.finishes none) = to u Finished b tt b.rests tt tt
-  on-keeps u v given stays b (step.polls off) = to u Polling b off b.rests tt tt
+  on-keeps u v given stays b (step.polls off _) = to u Polling b off b.rests tt tt
   on-keeps u v given stays b (step.closes_first {t = t} on first off) =
       closing-keeps u 0 (slice_get_within u.traced 0 t first) b
   on-keeps u v given stays b (step.unfollows {t = t} on first attached) =

@@ -60,7 +60,7 @@ pub record IsFresh (s : TrussState) : Type 0 where
 
 on-fresh : (u v : TrussState) (given : Bool) → (given ≡ true → u.leaving ≡ false) → NoneSeen u → GoesOn u given v
     → IsFresh v
-on-fresh u v given stays n (step.polls off) = record { stays = off; unseen = n }
+on-fresh u v given stays n (step.polls off _) = record { stays = off; unseen = n }
 on-fresh u v given stays n (step.opens_next _) = record { stays = stays refl; unseen = n }
 on-fresh u v given stays n _ = record { stays = tt; unseen = n }
 

@@ -42,7 +42,7 @@ use Rattle.pr_report_laws.specs.Shown.{LwpEvent, event_reported, event_told, sho
 -- ---- stages at which no event waits for its memory
 
 on-pending : (u v : TrussState) (given : Bool) → GoesOn u given v → pending_at v v.stage ≡ []
-on-pending u v given (step.polls _) = refl
+on-pending u v given (step.polls _ _) = refl
 on-pending u v given _ = refl
 
 over-pending : (u v : TrussState) (place : ℕ) (child : Option ℕ) → StopOver u place child v → pending_at v v.stage ≡ []

@@ -103,7 +103,7 @@ module _ (o : Options) (t : TrussState) (r : Reply) (same : t.options ≡ o) whe
       ap (option_and_then (asked_range o)) new.is ∙ ap (λ (p : Options). asked_range p e) (sym same)
 
   on-asks : (rs : List Report) (u v : TrussState) (given : Bool) → GoesOn u given v → Asks o t rs v.stage
-  on-asks rs u v given (step.polls _) = tt
+  on-asks rs u v given (step.polls _ _) = tt
   on-asks rs u v given _ = tt
 
   over-asks : (rs : List Report) (u v : TrussState) (place : ℕ) (pid : Option ℕ) → StopOver u place pid v

@@ -37,7 +37,7 @@ use Rattle.pr_report_laws.specs.Unfollowed.{HasUnfollowed}
 
 module _ (t : TrussState) (r : Reply) where
   on-other : (u v : TrussState) (given : Bool) → GoesOn u given v → v.stage ≡ ReadingLwps → ⊥
-  on-other u v given (step.polls _) is = cc
+  on-other u v given (step.polls _ _) is = cc
   on-other u v given _ is = cc
 
   over-other : (u v : TrussState) (place : ℕ) (child : Option ℕ) → StopOver u place child v → v.stage ≡ ReadingLwps → ⊥

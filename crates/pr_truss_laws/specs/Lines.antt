@@ -1,0 +1,41 @@
+use Rattle.std.specs.Prelude.{◌≡◌, ℕ, true, false, List, [], ◌++◌, Some}
+use Rattle.pr_line.specs.Events.{event_of}
+use Rattle.pr_line.specs.Selections.{is_selected}
+use Rattle.pr_line.specs.declared.events.Event.{Event}
+use Rattle.pr_line.specs.declared.options.Options.{Options}
+use Rattle.pr_rec.specs.declared.lwps.LwpStatus.{LwpStatus}
+use Rattle.pr_truss.specs.Printing.{printed}
+use Rattle.pr_truss.specs.Reports.{pending_at}
+use Rattle.pr_truss.specs.Trusses.{first_truss}
+use Rattle.pr_truss.specs.declared.reports.Report.{Report}
+use Rattle.pr_truss.specs.declared.reports.Report.TheVariants as report
+use Rattle.pr_truss_laws.specs.Exchanges.{Exchange, truss_after}
+
+-- What truss(1) prints: of events those alone that the options select, and lines that stay where they stand.
+
+-- ---- the events
+
+-- an lwp stands on an event that the options select
+pub record StandsOnSelected (o : Options) (l : LwpStatus) : Type 0 where
+  pub event : Event
+  pub tells : event_of l ≡ Some event
+  pub selected : is_selected o event ≡ true
+
+-- Where a report is one of an event, the lwp in it stands on one that the options select.
+abbrev pub TellsSelected : Options → Report → Type 0
+TellsSelected o (report.Event pid l text) = StandsOnSelected o l
+TellsSelected o _ = Unit {0}
+
+-- ---- the lines
+
+-- a text begins with this one
+pub record BeginsWith (front text : List ℕ) : Type 0 where
+  pub more : List ℕ
+  pub is : text ≡ front ++ more
+
+-- What truss prints after these exchanges begins with what it would have printed after any of them, where it had no
+-- memory to read for a line then. So its lines stand in the order in which it learnt them. With -c it prints counts.
+pub record KeepsItsLines (o : Options) (xs : List Exchange) : Type 0 where
+  pub each : o.count ≡ false → (before after : List Exchange) → xs ≡ before ++ after
+      → pending_at (truss_after (first_truss o) before) (truss_after (first_truss o) before).stage ≡ []
+      → BeginsWith (printed (truss_after (first_truss o) before)) (printed (truss_after (first_truss o) xs))

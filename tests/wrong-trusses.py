@@ -1,0 +1,142 @@
+#!/usr/bin/env python3
+"""Wrong trusses, each of which the laws refuse. A patch of tests/wrong-trusses turns a definition of pr_truss and its
+code alike: its line 'does:' says what such a truss does, 'law:' names the law that is false of it, and 'why:' tells of
+a run that shows this. In a copy of the crates pr_truss has to be proved with the patch, since its code does what its
+definitions say, and pr_truss_laws or pr_report_laws must not be. A line is printed for each truss, with the functions
+of the first of the two that are not proved: where a patch changes what replies do, the proofs of most laws break, also
+of those that are true of such a truss. It is no part of the gate: a truss takes some minutes.
+
+Words name patches, or the fronts of their names; without words all are tried. --in FOLDER keeps the copy, with what was
+proved and what rt said, and a later call begins there. The last line is 'N passed, M failed'. It needs rt and patch;
+what this checkout has built of the crates below is copied.
+"""
+import argparse
+import os
+import re
+import shutil
+import subprocess
+import tempfile
+
+from checks import TOP, Checks
+
+PATCHES = os.path.join(TOP, "tests/wrong-trusses")
+TRUSS = "crates/pr_truss"
+PARTS = ("src", "specs", "proofs")
+LAWS = ["pr_truss_laws", "pr_report_laws"]
+
+
+def crates_below(names):
+    """These crates and all of the repository that they stand on, with what each names."""
+    needs = {}
+    with open(os.path.join(TOP, "crates.txt")) as file:
+        for line in file:
+            head, _, below = line.partition("#")[0].partition(":")
+            if below:
+                needs[head.split()[0]] = below.split()
+    found, left = {}, list(names)
+    while left:
+        name = left.pop()
+        if name in needs and name not in found:
+            found[name] = needs[name]
+            left += needs[name]
+    return found
+
+
+def copy_crates(room):
+    """Fills the copy, where it has no crates yet."""
+    if os.path.exists(os.path.join(room, "crates")):
+        return
+    skipped = shutil.ignore_patterns("must-fail", "incremental")
+    with open(os.path.join(room, "crates.txt"), "w") as file:
+        for name, below in crates_below(LAWS).items():
+            shutil.copytree(os.path.join(TOP, "crates", name), os.path.join(room, "crates", name), ignore=skipped)
+            file.write("%s: %s\n" % (name, " ".join(below)))
+    shutil.copy(os.path.join(TOP, "HANDLES"), room)
+
+
+def read(path):
+    with open(path, "rb") as file:
+        return file.read()
+
+
+def files_of(folder):
+    """The source files of a crate, by their paths in it."""
+    found = set()
+    for part in PARTS:
+        for path, _, names in os.walk(os.path.join(folder, part)):
+            found |= {os.path.relpath(os.path.join(path, name), folder) for name in names}
+    return found
+
+
+def renew(room, patch):
+    """Puts pr_truss into the copy, with a patch or without one. What stays as it was is not touched."""
+    work = tempfile.mkdtemp(dir=room)
+    for part in PARTS:
+        shutil.copytree(os.path.join(TOP, TRUSS, part), os.path.join(work, TRUSS, part))
+    if patch:
+        subprocess.run(["patch", "-s", "-p1", "-d", work, "-i", patch], check=True)
+    new, old = os.path.join(work, TRUSS), os.path.join(room, TRUSS)
+    for file in files_of(old) - files_of(new):
+        os.remove(os.path.join(old, file))
+    for file in files_of(new):
+        target = os.path.join(old, file)
+        if not os.path.exists(target) or read(target) != read(os.path.join(new, file)):
+            os.makedirs(os.path.dirname(target), exist_ok=True)
+            shutil.copyfile(os.path.join(new, file), target)
+    shutil.rmtree(work)
+
+
+def prove(room, crate, word, log):
+    """Whether a crate is proved by `rt check` or `rt lib`, and what rt said."""
+    said = subprocess.run(["rt", word], cwd=os.path.join(room, "crates", crate), capture_output=True, text=True)
+    with open(os.path.join(room, "%s.%s.log" % (log, crate)), "w") as file:
+        file.write(said.stdout + said.stderr)
+    return said.returncode == 0, said.stdout + said.stderr
+
+
+def head_of(patch):
+    """The lines before the changes of a patch."""
+    with open(patch) as file:
+        return dict(re.findall(r"^(does|law|why): (.*)$", file.read(), re.MULTILINE))
+
+
+def refused_in(said):
+    """The functions that a check did not prove."""
+    return sorted(set(re.findall(r"^fn \w+::([\w:]+): (?:not proved|no proof)", said, re.MULTILINE)))
+
+
+def try_truss(room, name):
+    """What is wrong with a patch, and what refused it."""
+    renew(room, os.path.join(PATCHES, name + ".patch"))
+    proved, _ = prove(room, "pr_truss", "lib", name)
+    if not proved:
+        return "pr_truss does not meet its own definitions", ""
+    for crate in LAWS:
+        proved, said = prove(room, crate, "check", name)
+        if not proved:
+            return "", "%s refuses %s" % (crate, ", ".join(refused_in(said)) or "it: see its log")
+    return "no law refuses it", ""
+
+
+def main():
+    words = argparse.ArgumentParser()
+    words.add_argument("--in", dest="room")
+    words.add_argument("names", nargs="*")
+    asked = words.parse_args()
+    room = os.path.abspath(asked.room or tempfile.mkdtemp())
+    os.makedirs(room, exist_ok=True)
+    copy_crates(room)
+    checks = Checks()
+    for name in sorted(file[: -len(".patch")] for file in os.listdir(PATCHES)):
+        if not asked.names or any(name.startswith(front) for front in asked.names):
+            head = head_of(os.path.join(PATCHES, name + ".patch"))
+            wrong, refused = try_truss(room, name)
+            checks.check("%s, as %s" % (name, head["does"]), wrong, refused)
+    renew(room, None)
+    if not asked.room:
+        shutil.rmtree(room)
+    checks.end()
+
+
+if __name__ == "__main__":
+    main()
