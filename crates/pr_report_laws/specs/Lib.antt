@@ -1,9 +1,15 @@
+pub mod AsChildren
 pub mod AtBirth
 pub mod Attachments
 pub mod Births
 pub mod Follows
 pub mod Freed
 pub mod Grips
+pub mod HeldEvents
+pub mod HeldForks
+pub mod HeldGrips
+pub mod HeldMemories
+pub mod Holds
 pub mod Lineages
 pub mod Memories
 pub mod Named
@@ -12,6 +18,7 @@ pub mod Reads
 pub mod Releases
 pub mod Reported
 pub mod SeenTo
+pub mod SetModes
 pub mod Shown
 pub mod Unfollowed
 pub mod Watching
