@@ -5,4 +5,5 @@ pub mod HoldEnds
 pub mod HoldEvents
 pub mod HoldPlaces
 pub mod OverEnds
+pub mod PositionLaws
 pub mod SetReleases

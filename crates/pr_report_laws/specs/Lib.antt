@@ -14,6 +14,7 @@ pub mod Lineages
 pub mod Memories
 pub mod Named
 pub mod Newborn
+pub mod Positions
 pub mod Reads
 pub mod Releases
 pub mod Reported

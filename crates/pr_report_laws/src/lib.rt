@@ -11,6 +11,7 @@ mod lineages;
 mod memories;
 mod named;
 mod newborns;
+mod positions;
 mod reads;
 mod releases;
 mod reports;
@@ -47,6 +48,7 @@ pub use memories::{
 };
 pub use named::what_a_poll_named_is_run_or_closed_within_twelve_calls;
 pub use newborns::{a_followed_child_does_nothing_before_it_is_watched, no_process_is_made_twice};
+pub use positions::a_process_stands_in_one_of_four_ways_with_truss;
 pub use reads::{
     truss_reads_the_traced_events, truss_reads_the_traced_events_of_what_it_never_followed,
 };

@@ -130,7 +130,7 @@ module _ (n k : ℕ) (o : Options) (pid : ℕ) (s : TracedState) (h : List Entry
 
   -- ---- a process that truss never opened as a child
 
-  never-followed : IsNeverOpenedAsChild k pid h → IsNeverFollowed k o pid h
+  pub never-followed : IsNeverOpenedAsChild k pid h → IsNeverFollowed k o pid h
   never-followed w = record {
     none = λ before later e opening handle parent is own stage given.
         by before later e opening handle parent is own stage given;
