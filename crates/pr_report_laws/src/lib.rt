@@ -55,9 +55,8 @@ pub use reads::{
 pub use releases::{
     the_modes_stay_as_truss_has_set_them, truss_is_granted_the_modes,
     truss_kills_nothing_that_it_closes, truss_sets_the_modes_of_what_it_sets_free,
-    truss_sets_the_modes_of_what_it_traces, what_truss_has_set_is_released,
-    what_truss_has_set_by_its_messages_is_released, what_truss_has_set_stays_set,
-    what_truss_traces_is_released,
+    truss_sets_the_modes_of_what_it_traces, what_truss_has_set_by_its_messages_is_released,
+    what_truss_has_set_is_released, what_truss_has_set_stays_set, what_truss_traces_is_released,
 };
 pub use reports::{
     truss_shows_the_selected_events, truss_shows_the_selected_events_of_what_it_never_followed,

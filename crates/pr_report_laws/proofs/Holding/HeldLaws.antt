@@ -52,6 +52,12 @@ use Rattle.pr_report_laws.specs.Watching.{watches}
 
 -- What truss has read and shown, in the words of the hold.
 
+-- the open of a child
+opens-so : (pid : ℕ) (t : TrussState) (x : Exchange) (of : ℕ) → next_call_of t ≡ Some x.call
+    → t.stage ≡ OpeningChildControl of pid → x.call ≡ open_control pid
+unfolding call_of
+opens-so pid t x of next at = stage-called t x (OpeningChildControl of pid) (open_control pid) next at refl
+
 module _ (n k : ℕ) (o : Options) (pid : ℕ) (s : TracedState) (h : List Entry) (run : IsTrussRun n k o s h) where
   held-before : (before later : List Entry) → h ≡ before ++ later → watches (truss_at k o before) pid ≡ true
       → HasHold k o pid s before
@@ -145,7 +151,7 @@ module _ (n k : ℕ) (o : Options) (pid : ℕ) (s : TracedState) (h : List Entry
           let front = front-run n k o s before (e ∷ later) all in
           let t : TrussState = truss_at k o before in
           let next : next_call_of t ≡ Some opening.call = subst (MakesNext t) own (run-next n k o s before e one) in
-          let called = opens-so t opening parent next stage in
+          let called = opens-so pid t opening parent next stage in
           let same = same-exchange opening (open_control pid) (Handle handle) called given in
           let knows : Knows o (exchanges k before) t =
           after-knows o (exchanges k before) [] (first_truss o) (first-knows o) front.makes in
@@ -157,11 +163,6 @@ module _ (n k : ℕ) (o : Options) (pid : ℕ) (s : TracedState) (h : List Entry
           (cons-exchanges k e later
           ∙ ap (λ (x : Option Exchange). cons_option x (exchanges k later))
           (own ∙ ap (λ (x : Exchange). Some x) same))) its.was_told
-        where
-          opens-so : (t : TrussState) (x : Exchange) (of : ℕ) → next_call_of t ≡ Some x.call
-              → t.stage ≡ OpeningChildControl of pid → x.call ≡ open_control pid
-          unfolding call_of
-          opens-so t x of next at = stage-called t x (OpeningChildControl of pid) (open_control pid) next at refl
 
   -- ---- why truss lets it go
 

@@ -124,9 +124,11 @@ module _ (n k : ℕ) (o : Options) (s : TracedState) (before : List Entry) (e : 
       → opening_call was.options (traced_at was place) step ≡ sets → Released m (Opening place step)
   unfolding opening_call
   opening-sets m place opening.SetRelease at is =
-      rw (eq-eqb (traced_at was place).pid held.pid
-      (place-own place (Opening place opening.SetRelease) at refl (same-handle is)),
-      granted-accepted w.reply w.granted) refl
+      rw (
+        eq-eqb (traced_at was place).pid held.pid
+            (place-own place (Opening place opening.SetRelease) at refl (same-handle is)),
+        granted-accepted w.reply w.granted,
+      ) refl
   opening-sets m place opening.ClearModes at is =
       not-release (message.Unset all_modes) _ clear-reads (same-bytes is) (λ same. cc)
   opening-sets m place opening.Stop at is = not-release message.Stop _ stop-reads (same-bytes is) (λ same. cc)
@@ -151,9 +153,11 @@ module _ (n k : ℕ) (o : Options) (s : TracedState) (before : List Entry) (e : 
       → child_call (traced_at was place) step ≡ sets → Released m (OpeningChild parent place step)
   unfolding child_call
   child-sets m parent place child.SetRelease at is =
-      rw (eq-eqb (traced_at was place).pid held.pid
-      (place-own place (OpeningChild parent place child.SetRelease) at refl (same-handle is)),
-      granted-accepted w.reply w.granted) refl
+      rw (
+        eq-eqb (traced_at was place).pid held.pid
+            (place-own place (OpeningChild parent place child.SetRelease) at refl (same-handle is)),
+        granted-accepted w.reply w.granted,
+      ) refl
   child-sets m parent place child.Start at is =
       not-release (message.Run 0) _ run-reads (same-bytes is) (λ same. cc)
   child-sets m parent place child.OpenStatus at is = cc
@@ -164,10 +168,12 @@ module _ (n k : ℕ) (o : Options) (s : TracedState) (before : List Entry) (e : 
       → freeing_call pid step ≡ sets → Released m (FreeingChild pid step)
   unfolding freeing_call
   freeing-sets m pid (freeing.SetRelease control) at is =
-      rw (eq-eqb pid held.pid
-      (its-own pid control (freed-file k was now files pid control (freeing.SetRelease control) at refl)
-      (same-handle is)),
-      granted-accepted w.reply w.granted) refl
+      rw (
+        eq-eqb pid held.pid
+            (its-own pid control (freed-file k was now files pid control (freeing.SetRelease control) at refl)
+            (same-handle is)),
+        granted-accepted w.reply w.granted,
+      ) refl
   freeing-sets m pid freeing.OpenControl at is = cc
   freeing-sets m pid (freeing.Close control) at is = cc
 
@@ -269,7 +275,7 @@ module _ (n k : ℕ) (o : Options) (s : TracedState) (h : List Entry) (run : IsT
       let files : HasFiles k (truss_at k o h) (state_after s h) = r.files in (
         (traced_at (truss_at k o h) w.0).control,
         subst (λ x. IsFileOf k (state_after s h) x (traced_at (truss_at k o h) w.0).control file.Ctl WriteExcl) i.of
-        (files.control w.0 i.within),
+            (files.control w.0 i.within),
       )
 
 -- It is refused for no live process but process 0.
