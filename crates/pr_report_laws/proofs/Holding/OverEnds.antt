@@ -51,7 +51,7 @@ use Rattle.pr_report_laws.specs.Watching.{is_away, place_of, watches, with_excha
 
 -- Where truss lets a process go, it does not watch it any more: it closes the files of what has ended.
 
-abbrev ended : Reply
+abbrev pub ended : Reply
 ended = reply.Fail Noent
 
 abbrev goes : Option Call → Option ℕ
@@ -59,13 +59,13 @@ goes (Some c) = goes_to c
 goes None = None
 
 -- the files of the process are closed then
-record ClosesIt (t : TrussState) (pid : ℕ) : Type 0 where
-  place : ℕ
-  next : AfterClosing
-  within : place < length t.traced
-  own : (traced_at t place).pid ≡ pid
-  stage : (fed t ended).stage ≡ Closing place next
-  same : (fed t ended).traced ≡ t.traced
+pub record ClosesIt (t : TrussState) (pid : ℕ) : Type 0 where
+  pub place : ℕ
+  pub next : AfterClosing
+  pub within : place < length t.traced
+  pub own : (traced_at t place).pid ≡ pid
+  pub stage : (fed t ended).stage ≡ Closing place next
+  pub same : (fed t ended).traced ≡ t.traced
 
 module _ (k : ℕ) (t : TrussState) (s : TracedState) (g : Reaches k t s) (pid handle : ℕ) (held : Held)
     (there : handle_of s.opens k handle ≡ Some held) (of : held.pid ≡ pid) (on : watches t pid ≡ true) where

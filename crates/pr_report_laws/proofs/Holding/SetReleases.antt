@@ -292,4 +292,4 @@ grants-release n k o s before e run number r held p its there control live some 
     (ap answer_of (sym y.reply)
     ∙ release-granted (state_after s before) k number held there control p live some y.answer y.is)
 
-pub ruleset sets = (releases-set, releases-held, grants-release)
+pub ruleset set_releases = (releases-set, releases-held, grants-release)
