@@ -1,12 +1,11 @@
-use Rattle.std.proofs.Common.{◌≡◌, ◌≢◌, ◌==◌, ◌≤◌, ◌++◌, ℕ, zero, suc, Bool, true, false, cond, Option, Some, None, List, [], ◌∷◌, ◌⊎◌, append_assoc, inl, inr, length, replicate, refl, sym, ◌∙◌, ap, subst}
+use Rattle.std.proofs.Common.{◌≡◌, ◌≢◌, ◌==◌, ◌++◌, ℕ, zero, suc, Bool, true, false, cond, Option, Some, None, List, [], ◌∷◌, ◌⊎◌, append_assoc, inl, inr, replicate, refl, sym, ◌∙◌, ap, subst}
 use Rattle.std.proofs.lemmas.Bool.{eqb-true, eqb-false, false≢true}
 use Rattle.std.proofs.lemmas.List.{append-nil}
-use Rattle.std.specs.List.{All, cons_option, slice_get}
+use Rattle.std.specs.List.{cons_option, slice_get}
 use Rattle.std.specs.Option.{option_and_then}
 use Rattle.pr_report_laws.proofs.Watching.Unfollowing.{left-unfollowed}
 use Rattle.pr_report_laws.specs.Shown.{LwpEvent}
 use Rattle.pr_line.specs.Selections.{is_selected}
-use Rattle.pr_api.specs.Entries.{turn_entry}
 use Rattle.pr_line.specs.declared.options.Options.{Options}
 use Rattle.pr_model.specs.Handles.{handle_of, own}
 use Rattle.pr_model.specs.Legal.{IsLegal, after, state_after}
@@ -38,7 +37,7 @@ use Rattle.pr_report_laws.specs.Attachments.{HasFollowed, IsLetGo}
 use Rattle.pr_report_laws.specs.Watching.{watches}
 use Rattle.pr_truss.specs.Feeding.{fed}
 use Rattle.pr_truss.specs.NextCalls.{next_call_of}
-use Rattle.pr_truss.specs.Trusses.{TrussState, first_truss, traced_at}
+use Rattle.pr_truss.specs.Trusses.{TrussState, first_truss}
 use Rattle.pr_truss_laws.proofs.GivenLemmas.{given-handled, handled-so-far}
 use Rattle.pr_truss_laws.proofs.OwnLemmas.{nothing-open}
 use Rattle.pr_truss_laws.proofs.BusinessLemmas.{does-business}

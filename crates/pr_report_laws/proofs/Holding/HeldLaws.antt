@@ -15,8 +15,7 @@ use Rattle.pr_truss.specs.Trusses.{TrussState, first_truss}
 use Rattle.pr_truss.specs.declared.reports.Report.{Report}
 use Rattle.pr_truss.specs.declared.stages.Stage.TheVariants.{OpeningChildControl}
 use Rattle.pr_truss_laws.proofs.KnownLemmas.{IsChild, Knows, KnowsStage, after-knows, first-knows}
-use Rattle.pr_truss_laws.specs.Business.{WasTold}
-use Rattle.pr_truss_laws.specs.Exchanges.{Exchange, exchange_of, exchanges, truss_after, truss_at}
+use Rattle.pr_truss_laws.specs.Exchanges.{Exchange, exchange_of, exchanges, truss_at}
 use Rattle.pr_truss_laws.specs.Runs.{IsTrussRun}
 use Rattle.pr_report_laws.proofs.Files.FileSteps.{MakesNext}
 use Rattle.pr_report_laws.proofs.Files.WatchHistories.{cons-exchanges, exchanges-both, run-next}

@@ -37,12 +37,11 @@ use Rattle.pr_report_laws.proofs.Files.FileUses.{lwps-read, memory-read, stage-c
 use Rattle.pr_report_laws.proofs.Files.WatchHistories.{IsAnswered, Reaches, exchange-answered, run-front, run-last, run-next, run-reaches, truss_at-push}
 use Rattle.pr_report_laws.proofs.Holding.EndReplies.{lwps-told, reply-gone}
 use Rattle.pr_report_laws.proofs.Invariant.StandLemmas.{Stands}
-use Rattle.pr_report_laws.proofs.Machine.GoneLaws.{GivesBytes}
 use Rattle.pr_report_laws.proofs.Memory.WatchMemory.{HasInterrupt, reached-comes, run-recalls}
 use Rattle.pr_report_laws.proofs.Replies.StageChanges.{Asks, Ends, away_before, gone, is_new, looked, runs, status, text, unfollows}
 use Rattle.pr_report_laws.proofs.Replies.WatchedPlaces.{IsWatched, place-watched, watched-place}
 use Rattle.pr_report_laws.proofs.Watching.EndLaws.{stage-called, watched-after}
-use Rattle.pr_report_laws.specs.Holds.{IsToldOfEnd, LetsGoIn, leaves_it, told_end}
+use Rattle.pr_report_laws.specs.Holds.{LetsGoIn, leaves_it, told_end}
 use Rattle.pr_report_laws.specs.Watching.{watches, with_exchange}
 
 -- Where truss comes to watch a process no more, the entry tells it: a call to a handle of the process was refused with

@@ -1,4 +1,4 @@
-use Rattle.std.proofs.Common.{◌≡◌, ◌++◌, ◌⊎◌, ℕ, Bool, true, false, cond, Option, Some, List, [], ◌∷◌, refl, sym, subst, ap, ap₂, ◌∙◌, append_assoc, inl, inr}
+use Rattle.std.proofs.Common.{◌≡◌, ◌++◌, ◌⊎◌, ℕ, Bool, true, false, cond, List, [], ◌∷◌, refl, sym, subst, ap, ap₂, ◌∙◌, append_assoc, inl, inr}
 use Rattle.std.proofs.lemmas.Bool.{cases_Bool}
 use Rattle.std.proofs.lemmas.List.{append-nil}
 use Rattle.pr_line.specs.declared.options.Options.{Options}
@@ -18,7 +18,6 @@ use Rattle.pr_report_laws.proofs.Watching.GripLaws.{IsUnwatched, events_watched-
 use Rattle.pr_report_laws.proofs.Watching.HistoryParts.{front-run, truss_at-both}
 use Rattle.pr_report_laws.proofs.Watching.OnceLaws.{PastAfter, past-after, past-let}
 use Rattle.pr_report_laws.proofs.Watching.QuietOpenings.{own-logs}
-use Rattle.pr_report_laws.specs.Grips.{GetsHold}
 use Rattle.pr_report_laws.specs.Holds.{CameHeld, HasHold, IsHold, IsNeverHeld, KeepsHold, LetsGoIn, LetsGoThen, ends_in, in_hold, leaves_it, never, not_yet, told_end}
 use Rattle.pr_report_laws.specs.Watching.{events_watched, told_of, watches}
 

@@ -14,7 +14,7 @@ use Rattle.pr_report_laws.proofs.Watching.BeginsOnlyLaws.{stays-off, watched-ope
 use Rattle.pr_report_laws.proofs.Watching.HistoryParts.{front-run}
 use Rattle.pr_report_laws.proofs.Watching.OnceLaws.{hold-off, hold-on, watched-once}
 use Rattle.pr_report_laws.specs.Grips.{GetsHold}
-use Rattle.pr_report_laws.specs.Holds.{CameHeld, HasHold, IsHold, IsNeverHeld, KeepsHold, LetsGoIn, LetsGoThen, ends_in, in_hold, never, not_yet}
+use Rattle.pr_report_laws.specs.Holds.{CameHeld, HasHold, KeepsHold, LetsGoIn, LetsGoThen, ends_in, in_hold, never, not_yet}
 use Rattle.pr_report_laws.specs.Watching.{watches}
 
 -- Truss watches a process just while it has hold of it.

@@ -8,7 +8,6 @@ use Rattle.pr_model.specs.Legal.{state_after}
 use Rattle.pr_model.specs.Replies.{number_of}
 use Rattle.pr_model.specs.State.{TracedState}
 use Rattle.pr_model.specs.declared.calls.Call.{Call}
-use Rattle.pr_model.specs.declared.calls.Call.TheVariants as call
 use Rattle.pr_model.specs.declared.calls.File.{File}
 use Rattle.pr_model.specs.declared.calls.File.TheVariants as file
 use Rattle.pr_model.specs.declared.calls.Mode.{Mode}
@@ -38,7 +37,7 @@ use Rattle.pr_truss.specs.declared.stages.Stage.TheVariants.{Opening, ReadingSta
 use Rattle.pr_truss_laws.proofs.HeldLemmas.{Fits, at_place}
 use Rattle.pr_truss_laws.proofs.OwnLemmas.{Owns}
 use Rattle.pr_truss_laws.specs.Business.{goes_to}
-use Rattle.pr_truss_laws.specs.Exchanges.{exchange_of, truss_at}
+use Rattle.pr_truss_laws.specs.Exchanges.{truss_at}
 use Rattle.pr_truss_laws.specs.Runs.{IsTrussRun}
 use Rattle.pr_report_laws.proofs.Files.FileLaws.{HasFiles, IsFileOf}
 use Rattle.pr_report_laws.proofs.Files.FileSteps.{MakesNext}

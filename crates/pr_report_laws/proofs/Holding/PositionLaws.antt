@@ -1,4 +1,4 @@
-use Rattle.std.proofs.Common.{◌≡◌, ◌⊎◌, ◌++◌, ℕ, true, Option, Some, List, [], ◌∷◌, refl, sym, subst, ap, ap₂, ◌∙◌, append_assoc, inl, inr}
+use Rattle.std.proofs.Common.{◌≡◌, ◌⊎◌, ◌++◌, ℕ, true, Some, List, [], ◌∷◌, sym, subst, ap, ap₂, ◌∙◌, append_assoc, inl, inr}
 use Rattle.std.proofs.lemmas.Bool.{false≢true}
 use Rattle.std.proofs.lemmas.List.{append-nil}
 use Rattle.std.proofs.lemmas.Option.{none-some, same_Some}
@@ -26,9 +26,8 @@ use Rattle.pr_report_laws.proofs.Reading.ReadLaws.{are-read}
 use Rattle.pr_report_laws.proofs.UnopenedChildren.Births.{births, unfollowed-births}
 use Rattle.pr_report_laws.specs.AsChildren.{IsNeverOpenedAsChild}
 use Rattle.pr_report_laws.specs.AtBirth.{IsTracedBy}
-use Rattle.pr_report_laws.specs.Holds.{HasHold}
 use Rattle.pr_report_laws.specs.Lineages.{IsLeftToTruss}
-use Rattle.pr_report_laws.specs.Positions.{Position, StandsSo, StandsWithTruss, Tally}
+use Rattle.pr_report_laws.specs.Positions.{Position, StandsWithTruss, Tally}
 use Rattle.pr_report_laws.specs.Reads.{traced, traces}
 use Rattle.pr_report_laws.specs.Shown.{LwpEvent, picked}
 use Rattle.pr_report_laws.specs.Watching.{events_watched, place_of, told_of, watches}

@@ -1,4 +1,4 @@
-use Rattle.std.proofs.Common.{◌≡◌, ◌≢◌, ◌++◌, ◌||◌, ℕ, true, Option, Some, None, Ok, List, [], ◌∷◌, refl, sym, subst, ap, ◌∙◌, append_assoc, arith}
+use Rattle.std.proofs.Common.{◌≡◌, ◌≢◌, ◌++◌, ◌||◌, ℕ, true, Some, None, List, [], ◌∷◌, refl, sym, subst, ap, ◌∙◌, append_assoc, arith}
 use Rattle.std.proofs.lemmas.Bool.{eq-eqb}
 use Rattle.std.proofs.lemmas.List.{append-nil}
 use Rattle.std.proofs.lemmas.Option.{same_Some}
@@ -49,11 +49,9 @@ use Rattle.pr_report_laws.proofs.Releasing.ReleaseGrants.{release-granted, relea
 use Rattle.pr_report_laws.proofs.Releasing.ReleaseLaws.{modes-push, set-stays, traced-set}
 use Rattle.pr_report_laws.proofs.Releasing.ReleaseSteps.{modes_told, truss-releases}
 use Rattle.pr_report_laws.proofs.Replies.WatchedPlaces.{IsWatched, watched-place}
-use Rattle.pr_report_laws.proofs.Watching.HistoryParts.{front-run}
 use Rattle.pr_report_laws.specs.Holds.{HasHold}
 use Rattle.pr_report_laws.specs.Releases.{Modes, has_set_at, is_opened_past, modes_next, modes_set, released}
 use Rattle.pr_report_laws.specs.SetModes.{HasSetRelease, SetsRelease}
-use Rattle.pr_report_laws.specs.Watching.{watches}
 
 -- What truss has set, by its messages and their replies alone, is released when truss closes the control file.
 

@@ -1,5 +1,4 @@
-use Rattle.std.proofs.Common.{◌≡◌, ◌==◌, ◌-◌, ◌%◌, ◌^◌, ℕ, suc, Bool, true, false, List, [], ◌∷◌, ◌++◌, None, Some, ◌⊎◌}
-use Rattle.pr_line.specs.declared.events.Event.{Event}
+use Rattle.std.proofs.Common.{◌≡◌, ◌-◌, ◌%◌, ◌^◌, ℕ, true, false, List, [], ◌∷◌, ◌++◌, None, Some, ◌⊎◌}
 use Rattle.pr_line.specs.declared.options.Options.{Options}
 use Rattle.pr_model.specs.State.{TracedLwp, TracedProcess, TracedState, has_agent, live_process, lwp_of}
 use Rattle.pr_model.specs.Stops.{has_event_stop}
@@ -9,15 +8,13 @@ use Rattle.pr_num.specs.Signals.{signal_number}
 use Rattle.pr_num.specs.declared.signals.Sig.TheVariants.{Kill}
 use Rattle.pr_truss.specs.Messages.{traced_entries, traced_exits, traced_faults, traced_signals}
 use Rattle.pr_truss.specs.Trusses.{TrussState, traced_at}
-use Rattle.pr_truss.specs.declared.stages.AfterClosing.TheVariants.{RunParent}
 use Rattle.pr_truss.specs.declared.stages.ChildStep.{ChildStep}
 use Rattle.pr_truss.specs.declared.stages.OpeningStep.{OpeningStep}
 use Rattle.pr_truss.specs.declared.stages.OpeningStep.TheVariants as opening
-use Rattle.pr_truss.specs.declared.stages.Stage.{Stage}
-use Rattle.pr_truss.specs.declared.stages.Stage.TheVariants.{Opening, ReadingStatus, ReadingText, OpeningChildControl, OpeningChild, Running, Closing}
-use Rattle.pr_truss_laws.specs.Stills.{IsHalting, IsQuiet}
-use Rattle.pr_report_laws.proofs.Invariant.Positions.{HasEvent, IsAtBirth, IsTracedBy, Waits, met_in}
-use Rattle.pr_report_laws.proofs.Invariant.Tallies.{IsWhole, Tally, unread}
+use Rattle.pr_truss.specs.declared.stages.Stage.TheVariants.{Opening, OpeningChild}
+use Rattle.pr_truss_laws.specs.Stills.{IsHalting}
+use Rattle.pr_report_laws.proofs.Invariant.Positions.{IsAtBirth, IsTracedBy, Waits, met_in}
+use Rattle.pr_report_laws.proofs.Invariant.Tallies.{Tally}
 pub use Rattle.pr_report_laws.specs.Positions.{Position, goes, has_event, has_read, is_named, old_stops, stop_read}
 use Rattle.pr_report_laws.specs.Shown.{LwpEvent}
 use Rattle.pr_report_laws.specs.Watching.{is_away, place_of, watches}
