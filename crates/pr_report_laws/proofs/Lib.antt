@@ -5,6 +5,7 @@ pub mod Invariant
 pub mod Memory
 pub mod Watching
 pub mod UnopenedChildren
+pub mod Holding
 pub mod FollowedChildren
 pub mod NewbornChildren
 pub mod Reading

@@ -6,10 +6,12 @@ mod attachments;
 mod children;
 mod follows;
 mod grips;
+mod holds;
 mod lineages;
 mod memories;
 mod named;
 mod newborns;
+mod positions;
 mod reads;
 mod releases;
 mod reports;
@@ -25,6 +27,11 @@ pub use follows::{
     no_freeing_of_a_child_is_interrupted, no_opening_of_a_child_is_interrupted,
 };
 pub use grips::{the_grip_of_a_process_is_the_watch_of_it, truss_gets_hold_of_a_process_once};
+pub use holds::{
+    no_child_is_left_of_a_process_that_truss_had_hold_of, truss_has_one_grip_of_a_process,
+    truss_lets_a_process_go_for_a_reason, truss_shows_what_came_while_it_had_hold_of_a_process,
+    truss_watches_a_process_while_it_has_hold_of_it,
+};
 pub use lineages::{
     a_child_that_is_left_to_truss_does_nothing_before_it_is_watched,
     each_process_is_left_to_truss_where_all_children_are,
@@ -41,14 +48,15 @@ pub use memories::{
 };
 pub use named::what_a_poll_named_is_run_or_closed_within_twelve_calls;
 pub use newborns::{a_followed_child_does_nothing_before_it_is_watched, no_process_is_made_twice};
+pub use positions::a_process_stands_in_one_of_four_ways_with_truss;
 pub use reads::{
     truss_reads_the_traced_events, truss_reads_the_traced_events_of_what_it_never_followed,
 };
 pub use releases::{
     the_modes_stay_as_truss_has_set_them, truss_is_granted_the_modes,
     truss_kills_nothing_that_it_closes, truss_sets_the_modes_of_what_it_sets_free,
-    truss_sets_the_modes_of_what_it_traces, what_truss_has_set_is_released,
-    what_truss_has_set_stays_set, what_truss_traces_is_released,
+    truss_sets_the_modes_of_what_it_traces, what_truss_has_set_by_its_messages_is_released,
+    what_truss_has_set_is_released, what_truss_has_set_stays_set, what_truss_traces_is_released,
 };
 pub use reports::{
     truss_shows_the_selected_events, truss_shows_the_selected_events_of_what_it_never_followed,

@@ -1,4 +1,4 @@
-ghost use Rattle.std.specs.Prelude.{◌≡◌, ◌≢◌, ◌<◌, ◌++◌, ℕ, true, false, List, [], ◌∷◌, Some, length};
+ghost use Rattle.std.specs.Prelude.{◌≡◌, ◌≢◌, ◌<◌, ◌++◌, ℕ, true, false, List, [], ◌∷◌, None, Some, length};
 ghost use Rattle.pr_laws.specs.LastCloses.{IsReleased};
 ghost use Rattle.pr_line.specs.declared.options.Options.{Options};
 ghost use Rattle.pr_model.specs.Calls.{Answer, answer_to};
@@ -18,7 +18,10 @@ ghost use Rattle.pr_truss.specs.Trusses.{traced_at};
 ghost use Rattle.pr_truss.specs.declared.replies.Answer.TheVariants.{Accepted};
 ghost use Rattle.pr_truss.specs.declared.stages.FreeingStep.TheVariants.{Close as Free};
 ghost use Rattle.pr_truss.specs.declared.stages.Stage.TheVariants.{FreeingChild};
-ghost use Rattle.pr_truss_laws.specs.Exchanges.{truss_at};
+ghost use Rattle.pr_report_laws.specs.Holds.{HasHold};
+ghost use Rattle.pr_report_laws.specs.SetModes.{HasSetRelease};
+ghost use Rattle.pr_model.specs.declared.calls.Reply.{Reply};
+ghost use Rattle.pr_truss_laws.specs.Exchanges.{errno_in, exchange_of, truss_at};
 ghost use Rattle.pr_truss_laws.specs.Runs.{IsTrussRun};
 
 /// In a legal history of a lawful state, in which a truss with nothing open makes its calls: as long as truss has the
@@ -111,4 +114,27 @@ pub fn truss_is_granted_the_modes()
         → handle_of s.opens k number ≡ Some held → held.file ≡ Ctl → live_process s.system held.pid ≡ Some p
         → held.pid ≢ 0 → answer_to s k (message_call number (Set rlc_mode)) ≡ Some a
         → answer_of a.reply ≡ Accepted }
+{}
+
+/// What truss has set by its messages is released, told by the messages and their replies alone. A live process of which
+/// truss has set PR_RLC by a control file, which it has had open since, is released when truss closes that file; so is
+/// one of which it has hold, by whatever control file. The message is refused for no live process but process 0.
+#[tactic(auto, using(crate::proofs::Holding::SetReleases::set_releases))]
+pub fn what_truss_has_set_by_its_messages_is_released()
+    ensures set { (n k : ℕ) (o : Options) (s : TracedState) (h : List Entry) → IsTrussRun n k o s h → (number : ℕ)
+        (held : Held) (p : TracedProcess) (a : Answer) → HasSetRelease k number held s h
+        → live_process (state_after s h).system held.pid ≡ Some p
+        → answer_to (state_after s h) k (Close number) ≡ Some a
+        → (q : TracedProcess) × ((live_process a.state.system held.pid ≡ Some q) × IsReleased q) }
+    ensures held { (n k : ℕ) (o : Options) (s : TracedState) (h : List Entry) → IsTrussRun n k o s h → (pid : ℕ)
+        → HasHold k o pid s h → (number : ℕ) (held : Held) (p : TracedProcess) (a : Answer)
+        → handle_of (state_after s h).opens k number ≡ Some held → held.pid ≡ pid → is_control held.file ≡ true
+        → live_process (state_after s h).system held.pid ≡ Some p
+        → answer_to (state_after s h) k (Close number) ≡ Some a
+        → (q : TracedProcess) × ((live_process a.state.system held.pid ≡ Some q) × IsReleased q) }
+    ensures granted { (n k : ℕ) (o : Options) (s : TracedState) (before : List Entry) (e : Entry)
+        → IsTrussRun n k o s (before ++ e ∷ []) → (number : ℕ) (r : Reply) (held : Held) (p : TracedProcess)
+        → exchange_of k e ≡ Some (record { call = message_call number (Set rlc_mode); reply = r })
+        → handle_of (state_after s before).opens k number ≡ Some held → held.file ≡ Ctl
+        → live_process (state_after s before).system held.pid ≡ Some p → held.pid ≢ 0 → errno_in r ≡ None }
 {}

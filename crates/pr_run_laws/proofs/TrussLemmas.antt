@@ -1,17 +1,15 @@
-use Rattle.std.proofs.Common.{◌≡◌, ◌==◌, ◌≤◌, ◌++◌, ℕ, zero, suc, Bool, true, false, cond, Option, Some, None, List, [], ◌∷◌, ◌⊎◌, append_assoc, inl, inr, length, replicate, refl, sym, ◌∙◌, ap, subst}
+use Rattle.std.proofs.Common.{◌≡◌, ◌≢◌, ◌==◌, ◌++◌, ℕ, zero, suc, Bool, true, false, cond, Option, Some, None, List, [], ◌∷◌, ◌⊎◌, append_assoc, inl, inr, replicate, refl, sym, ◌∙◌, ap, subst}
 use Rattle.std.proofs.lemmas.Bool.{eqb-true, eqb-false, false≢true}
 use Rattle.std.proofs.lemmas.List.{append-nil}
-use Rattle.std.specs.List.{All, cons_option, slice_get}
+use Rattle.std.specs.List.{cons_option, slice_get}
 use Rattle.std.specs.Option.{option_and_then}
 use Rattle.pr_report_laws.proofs.Watching.Unfollowing.{left-unfollowed}
 use Rattle.pr_report_laws.specs.Shown.{LwpEvent}
-use Rattle.pr_report_laws.specs.Reported.{IsKilled, IsMissed, IsReported}
 use Rattle.pr_line.specs.Selections.{is_selected}
-use Rattle.pr_api.specs.Entries.{turn_entry}
 use Rattle.pr_line.specs.declared.options.Options.{Options}
-use Rattle.pr_model.specs.Handles.{handle_of, is_control, own}
+use Rattle.pr_model.specs.Handles.{handle_of, own}
 use Rattle.pr_model.specs.Legal.{IsLegal, after, state_after}
-use Rattle.pr_model.specs.State.{Places, TracedState, nothing_open}
+use Rattle.pr_model.specs.State.{Places, TracedProcess, TracedState, live_process, nothing_open}
 use Rattle.pr_model.specs.declared.calls.Call.{Call}
 use Rattle.pr_model.specs.declared.calls.File.TheVariants.{Ctl}
 use Rattle.pr_model.specs.declared.calls.Mode.TheVariants.{WriteExcl}
@@ -24,39 +22,37 @@ use Rattle.pr_model.specs.declared.events.Entry.{Entry}
 use Rattle.pr_model.specs.declared.handles.Held.{Held}
 use Rattle.pr_reached.specs.ByteHistories.{HasBytes}
 use Rattle.pr_reached.specs.Reached.{IsReached}
-use Rattle.pr_report_laws.proofs.Watching.BeginLaws.{finished-watches-none, followed-watches, opened-watches}
-use Rattle.pr_report_laws.proofs.Watching.BeginsOnlyLaws.{watched-opened}
-use Rattle.pr_report_laws.proofs.UnopenedChildren.Births.{left-report, unfollowed-report}
+use Rattle.pr_report_laws.proofs.Watching.BeginLaws.{finished-watches-none}
 use Rattle.pr_report_laws.proofs.Watching.EndLaws.{watched-let}
-use Rattle.pr_report_laws.proofs.Memory.EventMemory.{lineage-memories, unfollowed-memories}
-use Rattle.pr_report_laws.proofs.Reading.ReadLaws.{lineage-reads, unfollowed-reads}
 use Rattle.pr_report_laws.proofs.UnopenedChildren.LeftChildren.{left-front}
-use Rattle.pr_report_laws.proofs.Files.FileLaws.{HasFiles, IsFileOf}
-use Rattle.pr_report_laws.proofs.Files.FileUses.{freed-file}
+use Rattle.pr_report_laws.proofs.Files.FileLaws.{IsFileOf}
 use Rattle.pr_report_laws.proofs.FollowedChildren.FollowCalm.{never-kept, never-left}
 use Rattle.pr_report_laws.proofs.FollowedChildren.FollowLaws.{read-followed}
 use Rattle.pr_report_laws.proofs.FollowedChildren.FreedLaws.{read-freed}
 use Rattle.pr_report_laws.proofs.Memory.MemoryReads.{read-texts}
 use Rattle.pr_report_laws.proofs.NewbornChildren.NewbornLaws.{left-forked, left-rests, left-silent, left-unstarted}
-use Rattle.pr_report_laws.proofs.Releasing.ReleaseLaws.{freed-set, set-stays, traced-set}
-use Rattle.pr_report_laws.proofs.Releasing.ReleaseSteps.{truss-releases}
-use Rattle.pr_report_laws.proofs.Files.WatchHistories.{exchanges-both, makes-front, makes-rest, run-reaches}
+use Rattle.pr_report_laws.proofs.Files.WatchHistories.{exchanges-both, makes-front}
 use Rattle.pr_tool_laws.proofs.WholeLemmas.{front-bytes, front-legal}
-use Rattle.pr_report_laws.specs.Attachments.{HasFollowed, HasOpened, IsLetGo}
-use Rattle.pr_report_laws.specs.Releases.{modes_set, released}
+use Rattle.pr_report_laws.specs.Attachments.{HasFollowed, IsLetGo}
 use Rattle.pr_report_laws.specs.Watching.{watches}
 use Rattle.pr_truss.specs.Feeding.{fed}
 use Rattle.pr_truss.specs.NextCalls.{next_call_of}
-use Rattle.pr_truss.specs.Trusses.{TrussState, first_truss, traced_at}
-use Rattle.pr_truss.specs.declared.stages.FreeingStep.TheVariants.{Close as Free}
+use Rattle.pr_truss.specs.Trusses.{TrussState, first_truss}
 use Rattle.pr_truss_laws.proofs.GivenLemmas.{given-handled, handled-so-far}
 use Rattle.pr_truss_laws.proofs.OwnLemmas.{nothing-open}
 use Rattle.pr_truss_laws.proofs.BusinessLemmas.{does-business}
-use Rattle.pr_report_laws.proofs.SeenChildren.NoneLeft.{none-left}
 use Rattle.pr_report_laws.proofs.Watching.NamedSoon.{soon-done}
-use Rattle.pr_report_laws.proofs.Watching.GripLaws.{grips-held}
+use Rattle.pr_report_laws.proofs.Holding.HeldLaws.{cares-for-children, gripped-once, lets-go-for-reason, moments-while-held, read-while-held, shown-while-held}
+use Rattle.pr_report_laws.proofs.Holding.HoldPlaces.{gets-off, hold-watched, unwatched-hold}
+use Rattle.pr_report_laws.proofs.Holding.SetReleases.{grants-release, holds-control, releases-held, releases-set}
+use Rattle.pr_report_laws.specs.Grips.{GetsHold}
+use Rattle.pr_report_laws.specs.HeldEvents.{DiedHeld, IsLacking, ShowsHeld}
+use Rattle.pr_report_laws.specs.Holds.{HasHold, LetsGoIn}
+use Rattle.pr_num.specs.Control.{rlc_mode}
+use Rattle.pr_num.specs.declared.messages.Message.TheVariants.{Set}
+use Rattle.pr_truss.specs.Messages.{message_call}
 use Rattle.pr_report_laws.specs.Lineages.{IsLeftToTruss}
-use Rattle.pr_truss_laws.specs.Exchanges.{Ends, Exchange, Makes, exchange_in, exchange_of, exchanges, truss_after, truss_at}
+use Rattle.pr_truss_laws.specs.Exchanges.{Ends, Exchange, Makes, errno_in, exchange_in, exchange_of, exchanges, truss_after, truss_at}
 use Rattle.pr_truss_laws.specs.Handles.{HasNothingOpen}
 use Rattle.pr_truss_laws.specs.Runs.{IsTrussRun}
 use Rattle.pr_world.specs.Controllers.{after_reply, call_by, next_call, with_fed}
@@ -168,31 +164,19 @@ module _ (n k : ℕ) (o : Options) (first : TracedState) (h : List Entry) (run :
       → IsTrussRun n k o first (before ++ e ∷ [])
   entry-run before later e is = front-run (before ++ e ∷ []) later (is ∙ sym (append_assoc before (e ∷ []) later))
 
-  -- ---- the watch of a process ends for a reason
+  -- ---- it lets a process go for a reason
 
-  let-go : (before later : List Entry) (e : Entry) (pid : ℕ) → h ≡ before ++ e ∷ later
-      → watches (truss_at k o before) pid ≡ true → watches (truss_at k o (before ++ e ∷ [])) pid ≡ false
-      → IsLetGo k pid first before e
-  let-go before later e pid is on off = watched-let n k o pid first before e (entry-run before later e is) on off
-
-  -- ---- it begins by an opening
-
-  opens : (before later : List Entry) (pid : ℕ) → h ≡ before ++ later
-      → HasOpened k o pid before ⊎ HasFollowed k pid before → watches (truss_at k o before) pid ≡ true
-  opens before later pid is (inl opened) = opened-watches n k o pid first before (front-run before later is) opened
-  opens before later pid is (inr followed) =
-      followed-watches n k o pid first before (front-run before later is) followed
-
-  begins : (before later : List Entry) (e : Entry) (pid : ℕ) → h ≡ before ++ e ∷ later
-      → watches (truss_at k o before) pid ≡ false → watches (truss_at k o (before ++ e ∷ [])) pid ≡ true
-      → HasOpened k o pid (before ++ e ∷ []) ⊎ HasFollowed k pid (before ++ e ∷ [])
-  begins before later e pid is off on = watched-opened n k o pid first before e (entry-run before later e is) off on
+  let-go : (before later : List Entry) (e : Entry) (pid : ℕ) → h ≡ before ++ e ∷ later → HasHold k o pid first before
+      → LetsGoIn k pid first before e → IsLetGo k pid first before e
+  let-go before later e pid is held goes =
+      lets-go-for-reason n k o pid first before e (entry-run before later e is) held goes
 
   newborn : IsReached first → HasBytes h → (before later : List Entry) (e : Entry) (pid : ℕ)
-      → IsLeftToTruss k o pid first h → h ≡ before ++ e ∷ later → watches (truss_at k o before) pid ≡ false
+      → IsLeftToTruss k o pid first h → h ≡ before ++ e ∷ later → GetsHold k o pid before e
       → HasFollowed k pid (before ++ e ∷ []) → IsNewborn o pid first (before ++ e ∷ [])
-  newborn reached bytes before later e pid left is off followed =
+  newborn reached bytes before later e pid left is gets followed =
       let it = entry-run before later e is in
+      let off = gets-off n k o pid first before e it gets in
       let split : h ≡ (before ++ e ∷ []) ++ later = is ∙ sym (append_assoc before (e ∷ []) later) in
       let those : HasBytes (before ++ e ∷ []) = front-bytes (before ++ e ∷ []) later (subst HasBytes split bytes) in
       let its : IsLeftToTruss k o pid first (before ++ e ∷ []) =
@@ -229,7 +213,9 @@ module _ (n k : ℕ) (o : Options) (first : TracedState) (h : List Entry) (run :
         entry = e;
         behind = later;
         is = refl;
-        reason = subst (λ g. IsLetGo k pid first g e) (sym (append-nil before)) (let-go before later e pid is on off);
+        reason =
+            subst (λ g. IsLetGo k pid first g e) (sym (append-nil before))
+            (watched-let n k o pid first before e (entry-run before later e is) on off);
       }
 
   -- ---- the children of forks
@@ -258,49 +244,47 @@ module _ (n k : ℕ) (o : Options) (first : TracedState) (h : List Entry) (run :
   }
 
   releases : Releases k o first h
-  releases =
-      let r = run-reaches n k o first h run in
-      let files : HasFiles k (truss_at k o h) (state_after first h) = r.files in
-      record {
-        each = truss-releases n k o first h run;
-        traced = traced-set n k o first h run;
-        traced_control =
-            λ place within. control-of (traced_at (truss_at k o h) place).pid
-            (traced_at (truss_at k o h) place).control (state_after first h) (files.control place within);
-        freed = freed-set n k o first h run;
-        freed_control =
-            λ pid control is. control-of pid control (state_after first h)
-            (freed-file k (truss_at k o h) (state_after first h) files pid control (Free control) is refl);
-      }
+  releases = record {
+    set = releases-set n k o first h run;
+    held = releases-held n k o first h run;
+    controls = λ pid g.
+        let c = holds-control n k o first h run pid g in (c.0, control-of pid c.0 (state_after first h) c.1);
+  }
 
-  stays-set : (before later : List Entry) (e : Entry) (number : ℕ) (held : Held) → h ≡ before ++ e ∷ later
-      → handle_of (state_after first before).opens k number ≡ Some held → is_control held.file ≡ true
-      → modes_set k o held.pid before ≡ released → modes_set k o held.pid (before ++ e ∷ []) ≡ released
-  stays-set before later e number held is =
+  granted : (before later : List Entry) (e : Entry) (number : ℕ) (r : Reply) (held : Held) (p : TracedProcess)
+      → h ≡ before ++ e ∷ later
+      → exchange_of k e ≡ Some (record { call = message_call number (Set rlc_mode); reply = r })
+      → handle_of (state_after first before).opens k number ≡ Some held → held.file ≡ Ctl
+      → live_process (state_after first before).system held.pid ≡ Some p → held.pid ≢ 0 → errno_in r ≡ None
+  granted before later e number r held p is =
       let it = entry-run before later e is in
-      set-stays n k o first before e it number held
+      grants-release n k o first before e it number r held p
 
   -- ---- the end
 
-  -- what is watched no more lacks an event only where SIGKILL ended it
-  lost-by-kill : (pid : ℕ) (missing : List LwpEvent) → watches (truss_at k o h) pid ≡ false
-      → IsMissed (is_selected o) k o pid first h missing → IsLostByKill k o pid first h missing
+  -- what truss has no hold of any more lacks an event only where SIGKILL ended it
+  lost-by-kill : (pid : ℕ) (missing : List LwpEvent) → (HasHold k o pid first h → ⊥)
+      → IsLacking (is_selected o) k o pid first h missing → IsLostByKill k o pid first h missing
   lost-by-kill pid missing over m =
       record { event = m.event; one = m.one; killed = by m.cause; unread = m.unread }
     where
-      by : (watches (truss_at k o h) pid ≡ true) ⊎ IsKilled k pid (first_truss o) first h
-          → IsKilled k pid (first_truss o) first h
-      by (inl on) = absurd (false≢true (sym over ∙ on))
+      by : HasHold k o pid first h ⊎ DiedHeld k o pid first h → DiedHeld k o pid first h
+      by (inl held) = absurd (over held)
       by (inr killed) = killed
 
-  shown-all : (pid : ℕ) → watches (truss_at k o h) pid ≡ false → IsReported k o pid first h
-      → HasShownAll k o pid first h
-  shown-all pid over r = record { missing = r.missing; is = r.is; few = by r.few }
+  shown-all : (pid : ℕ) → (HasHold k o pid first h → ⊥) → ShowsHeld k o pid first h → HasShownAll k o pid first h
+  shown-all pid over r = record {
+    logged = r.logged;
+    held = r.held;
+    missing = r.missing;
+    is = r.is;
+    few = by r.few;
+  }
     where
-      by : (r.missing ≡ []) ⊎ IsMissed (is_selected o) k o pid first h r.missing
+      by : (r.missing ≡ []) ⊎ IsLacking (is_selected o) k o pid first h r.missing
           → (r.missing ≡ []) ⊎ IsLostByKill k o pid first h r.missing
       by (inl none) = inl none
-      by (inr missed) = inr (lost-by-kill pid r.missing over missed)
+      by (inr lacks) = inr (lost-by-kill pid r.missing over lacks)
 
   done : next_call_of (truss_at k o h) ≡ None → HasDone k o first h
   done finished =
@@ -308,10 +292,19 @@ module _ (n k : ℕ) (o : Options) (first : TracedState) (h : List Entry) (run :
       record {
         handled = given-handled o (exchanges k h) ends;
         nothing_open = nothing-open n k o first h run.nothing_open run.legal ends;
-        watches_none = λ pid. finished-watches-none k o pid h finished;
-        lets_go = λ before later pid is on. was-let pid (finished-watches-none k o pid h finished) later before is on;
-        shows = λ pid reported. shown-all pid (finished-watches-none k o pid h finished) reported;
+        holds_none = none;
+        lets_go =
+            λ before later pid is held.
+            was-let pid (off pid) later before is
+            (hold-watched n k o pid first before (front-run before later is) held);
+        shows = λ pid shown. shown-all pid (none pid) shown;
       }
+    where
+      off : (pid : ℕ) → watches (truss_at k o h) pid ≡ false
+      off pid = finished-watches-none k o pid h finished
+
+      none : (pid : ℕ) → HasHold k o pid first h → ⊥
+      none pid = unwatched-hold n k o pid first h run (off pid)
 
 pub truss-kept : (controllers : List ControllerState) (n : ℕ) (first : TracedState) (h : List Entry) (k : ℕ)
     (o : Options) → IsReached first → HasBytes h → slice_get controllers k ≡ Some (Truss (first_truss o))
@@ -330,23 +323,18 @@ truss-kept controllers n first h k o reached bytes at none legal follows =
       business = does-business o (exchanges k h) stays.0;
       opens = record {
         handled = handled-so-far o (exchanges k h) stays.0;
-        watched = opens n k o first h run;
-        begins = begins n k o first h run;
-        grips = λ pid. grips-held n k o pid first h reached run bytes;
+        grips = λ pid. gripped-once n k o pid first h reached run bytes;
       };
       shows = record {
-        reads = λ pid left. lineage-reads n k o pid first h reached run bytes left;
-        reads_unfollowed = λ pid unfollowed. unfollowed-reads n k o pid first h reached run bytes unfollowed;
-        shows = λ pid left. left-report n k o pid first h reached run bytes left;
-        shows_unfollowed = λ pid unfollowed. unfollowed-report n k o pid first h reached run bytes unfollowed;
+        reads = λ pid of. read-while-held n k o pid first h reached run bytes of;
+        shows = λ pid of. shown-while-held n k o pid first h reached run bytes of;
         texts = read-texts n k o first h run;
-        moments = λ pid left. lineage-memories n k o pid first h reached run bytes left;
-        moments_unfollowed = λ pid unfollowed. unfollowed-memories n k o pid first h reached run bytes unfollowed;
+        moments = λ pid of. moments-while-held n k o pid first h reached run bytes of;
       };
       follows = record {
         children = children n k o first h run;
         newborn = newborn n k o first h run reached bytes;
-        leaves_none = λ follow finished. none-left n k o first h follow reached run bytes finished;
+        leaves_none = λ follow finished. cares-for-children n k o first h follow reached run bytes finished;
       };
       lets_go = record {
         soon = soon-done n k o first h run;
@@ -356,7 +344,7 @@ truss-kept controllers n first h k o reached bytes at none legal follows =
       };
       releases = record {
         releases = λ before later is. releases n k o first before (front-run n k o first h run before later is);
-        stays_set = stays-set n k o first h run;
+        granted = granted n k o first h run;
       };
       done = done n k o first h run;
     }

@@ -1,45 +1,49 @@
-use Rattle.std.specs.Prelude.{◌≡◌, ◌≢◌, ◌<◌, ◌≤◌, ◌⊎◌, ◌++◌, ℕ, true, false, List, [], ◌∷◌, Option, Some, None, length}
+use Rattle.std.specs.Prelude.{◌≡◌, ◌≢◌, ◌⊎◌, ◌++◌, ℕ, true, List, [], ◌∷◌, Option, Some, None}
 use Rattle.std.specs.Prelude.{slice_get}
 use Rattle.std.specs.List.{All}
 use Rattle.pr_report_laws.specs.Unfollowed.{HasUnfollowed}
 use Rattle.pr_line.specs.Selections.{is_selected}
 use Rattle.pr_line.specs.declared.options.Options.{Options}
-use Rattle.pr_model.specs.Events.{events_from}
+use Rattle.pr_model.specs.Events.{Logged, events_from}
 use Rattle.pr_model.specs.Handles.{handle_of, is_control}
 use Rattle.pr_model.specs.Legal.{state_after}
 use Rattle.pr_model.specs.Calls.{Answer, answer_to}
 use Rattle.pr_model.specs.State.{TracedProcess, TracedState, live_process}
 use Rattle.pr_model.specs.declared.calls.Call.{Call}
 use Rattle.pr_model.specs.declared.calls.Call.TheVariants.{Close}
+use Rattle.pr_model.specs.declared.calls.File.TheVariants.{Ctl}
+use Rattle.pr_model.specs.declared.calls.Reply.{Reply}
 use Rattle.pr_model.specs.declared.events.Entry.{Entry}
 use Rattle.pr_model.specs.declared.handles.Held.{Held}
+use Rattle.pr_num.specs.Control.{rlc_mode}
+use Rattle.pr_num.specs.declared.messages.Message.TheVariants.{Set}
 use Rattle.pr_truss.specs.Feeding.{fed}
+use Rattle.pr_truss.specs.Messages.{message_call}
 use Rattle.pr_truss.specs.NextCalls.{next_call_of}
 use Rattle.pr_truss.specs.Trusses.{first_truss, traced_at}
 use Rattle.pr_truss.specs.declared.processes.Traced.{Traced}
 use Rattle.pr_truss.specs.declared.reports.Report.{Report}
-use Rattle.pr_truss.specs.declared.stages.FreeingStep.TheVariants.{Close as Free}
-use Rattle.pr_truss.specs.declared.stages.Stage.TheVariants.{FreeingChild}
-use Rattle.pr_report_laws.specs.Births.{IsNeverFollowed}
+use Rattle.pr_report_laws.specs.AsChildren.{IsNeverOpenedAsChild}
 use Rattle.pr_report_laws.specs.Lineages.{IsLeftToTruss}
-use Rattle.pr_report_laws.specs.Reads.{HasRead}
 use Rattle.pr_report_laws.specs.Follows.{IsFollowedUp, IsLeftChild, ReadsFork}
 use Rattle.pr_report_laws.specs.Freed.{IsInterruptedFreeing, IsSetFree, ReadsLastFork}
-use Rattle.pr_report_laws.specs.Attachments.{HasFollowed, HasOpened, IsLetGo}
+use Rattle.pr_report_laws.specs.Attachments.{HasFollowed, IsLetGo}
 use Rattle.pr_laws.specs.LastCloses.{IsReleased}
-use Rattle.pr_report_laws.specs.Memories.{AreOfTheirEvents, HaveTheirTexts}
+use Rattle.pr_report_laws.specs.HeldEvents.{DiedHeld, IsUnanswered, ReadsHeld, ShowsHeld}
+use Rattle.pr_report_laws.specs.HeldForks.{CaresForChildren}
+use Rattle.pr_report_laws.specs.HeldGrips.{HasOneGrip}
+use Rattle.pr_report_laws.specs.HeldMemories.{StandAtTheirEvents}
+use Rattle.pr_report_laws.specs.Holds.{CameHeld, HasHold, LetsGoIn}
+use Rattle.pr_report_laws.specs.Memories.{HaveTheirTexts}
 use Rattle.pr_report_laws.specs.Newborn.{IsNoTurnOf, WasForked, WasSpawned}
-use Rattle.pr_report_laws.specs.Releases.{has_set_at, modes_set, released}
-use Rattle.pr_report_laws.specs.Reported.{IsReported, IsKilled, IsUnread}
+use Rattle.pr_report_laws.specs.SetModes.{HasSetRelease}
 use Rattle.pr_report_laws.specs.Shown.{selected, LwpEvent, shown}
-use Rattle.pr_report_laws.specs.Watching.{watches, events_watched}
-use Rattle.pr_truss_laws.specs.Exchanges.{Exchange, Makes, exchanges, truss_after, truss_at}
+use Rattle.pr_truss_laws.specs.Exchanges.{Exchange, Makes, errno_in, exchange_of, exchanges, truss_after, truss_at}
 use Rattle.pr_truss_laws.specs.Given.{IsHandled, IsHandledSoFar}
 use Rattle.pr_truss_laws.specs.Handles.{HasNothingOpen}
 use Rattle.pr_truss_laws.specs.Business.{DoesItsBusiness}
-use Rattle.pr_report_laws.specs.Grips.{HasGrips, IsLeftIn}
+use Rattle.pr_report_laws.specs.Grips.{GetsHold, IsLeftIn}
 use Rattle.pr_report_laws.specs.Named.{IsSoonDone}
-use Rattle.pr_report_laws.specs.SeenTo.{LeavesNoChild}
 use Rattle.pr_world.specs.ControllerStates.{ControllerState, Truss}
 use Rattle.pr_world.specs.Protocol.{controllers_at}
 
@@ -55,37 +59,39 @@ pub record WasLetGo (k pid : ℕ) (first : TracedState) (before later : List Ent
   pub is : later ≡ between ++ entry ∷ behind
   pub reason : IsLetGo k pid first (before ++ between) entry
 
--- Of the selected events that came while truss watched a process just this last one is missing: SIGKILL ended the
--- process while truss watched it, before a read of it gave truss an answer.
+-- Of the selected events that came while truss had hold of a process just this last one is missing: SIGKILL ended the
+-- process while truss had hold of it, before a read of it gave truss an answer.
 pub record IsLostByKill (k : ℕ) (o : Options) (pid : ℕ) (first : TracedState) (h : List Entry)
     (missing : List LwpEvent) : Type 0 where
   pub event : LwpEvent
   pub one : missing ≡ event ∷ []
-  pub killed : IsKilled k pid (first_truss o) first h
-  pub unread : IsUnread (is_selected o) k o pid first h event
+  pub killed : DiedHeld k o pid first h
+  pub unread : IsUnanswered (is_selected o) k o pid first h event
 
--- What a truss that has finished has shown of a process: all that was selected of its events while truss watched it,
+-- What a truss that has finished has shown of a process: all that was selected of its events while truss had hold of it,
 -- each once and in order, or all but the last one of a process that SIGKILL ended.
 pub record HasShownAll (k : ℕ) (o : Options) (pid : ℕ) (first : TracedState) (h : List Entry) : Type 0 where
+  pub logged : List Logged
+  pub held : CameHeld k o pid first h logged
   pub missing : List LwpEvent
-  pub is : selected o pid (events_watched k pid (first_truss o) first h) ≡ shown pid (truss_at k o h) ++ missing
+  pub is : selected o pid logged ≡ shown pid (truss_at k o h) ++ missing
   pub few : (missing ≡ []) ⊎ IsLostByKill k o pid first h missing
 
 -- A truss that has finished: each process that it was given was attached or its refusal is reported, unless it was
--- interrupted before; it has nothing open, and it watches no process any more. Each process that it watched was let go:
--- it had ended, or truss had been interrupted. Where the events of a process are shown at all, all are, but perhaps the
--- last one of a process that SIGKILL ended.
+-- interrupted before; it has nothing open, and it has hold of no process any more. Each process that it had hold of was
+-- let go: it had ended, or truss had been interrupted. Where the events of a process are shown at all, all are, but
+-- perhaps the last one of a process that SIGKILL ended.
 pub record HasDone (k : ℕ) (o : Options) (first : TracedState) (h : List Entry) : Type 0 where
   pub handled : IsHandled o o.program (truss_at k o h).reports (exchanges k h)
   pub nothing_open : HasNothingOpen k (state_after first h)
-  pub watches_none : (pid : ℕ) → watches (truss_at k o h) pid ≡ false
-  pub lets_go : (before later : List Entry) (pid : ℕ) → h ≡ before ++ later → watches (truss_at k o before) pid ≡ true
+  pub holds_none : (pid : ℕ) → HasHold k o pid first h → ⊥
+  pub lets_go : (before later : List Entry) (pid : ℕ) → h ≡ before ++ later → HasHold k o pid first before
       → WasLetGo k pid first before later
-  pub shows : (pid : ℕ) → IsReported k o pid first h → HasShownAll k o pid first h
+  pub shows : (pid : ℕ) → ShowsHeld k o pid first h → HasShownAll k o pid first h
 
 -- ---- the children of forks
 
--- A child that truss watches from the end of this history on: a fork made it and no controller did, no lwp of it has
+-- A child that truss has hold of from the end of this history on: a fork made it and no controller did, no lwp of it has
 -- had a turn, and so no event of it that the options select has come.
 pub record IsNewborn (o : Options) (pid : ℕ) (first : TracedState) (h : List Entry) : Type 0 where
   pub forked : WasForked pid h
@@ -123,94 +129,82 @@ pub record HasControl (k pid number : ℕ) (s : TracedState) : Type 0 where
   pub of : held.pid ≡ pid
   pub control : is_control held.file ≡ true
 
--- What this truss leaves when it closes a control file after this history: a process of which it has set PR_RLC is
--- released, if it lives. Nothing of it is traced or watched then, and no lwp of it stands on an event, is directed to
--- stop, or has a mark. Truss has set PR_RLC of each process that it traces, once it is attached or its opening is past
--- that step, and of a child that it sets free. It has the control file of each of these open.
+-- What this truss leaves when it closes a control file after this history: a process of which it has set PR_RLC by that
+-- file is released, if it lives, and so is one of which it has hold. Nothing of it is traced or watched then, and no lwp
+-- of it stands on an event, is directed to stop, or has a mark. It has the control file open of each process of which it
+-- has hold.
 pub record Releases (k : ℕ) (o : Options) (first : TracedState) (h : List Entry) : Type 0 where
-  pub each : (number : ℕ) (held : Held) (p : TracedProcess) (a : Answer)
-      → handle_of (state_after first h).opens k number ≡ Some held → is_control held.file ≡ true
-      → modes_set k o held.pid h ≡ released → live_process (state_after first h).system held.pid ≡ Some p
+  pub set : (number : ℕ) (held : Held) (p : TracedProcess) (a : Answer) → HasSetRelease k number held first h
+      → live_process (state_after first h).system held.pid ≡ Some p
       → answer_to (state_after first h) k (Close number) ≡ Some a
       → (q : TracedProcess) × ((live_process a.state.system held.pid ≡ Some q) × IsReleased q)
-  pub traced : (place : ℕ) → place < length (truss_at k o h).traced → has_set_at (truss_at k o h) place ≡ true
-      → modes_set k o (traced_at (truss_at k o h) place).pid h ≡ released
-  pub traced_control : (place : ℕ) → place < length (truss_at k o h).traced
-      → HasControl k (traced_at (truss_at k o h) place).pid (traced_at (truss_at k o h) place).control
-      (state_after first h)
-  pub freed : (pid control : ℕ) (p : TracedProcess) → (truss_at k o h).stage ≡ FreeingChild pid (Free control)
-      → pid ≢ 0 → live_process (state_after first h).system pid ≡ Some p → modes_set k o pid h ≡ released
-  pub freed_control : (pid control : ℕ) → (truss_at k o h).stage ≡ FreeingChild pid (Free control)
-      → HasControl k pid control (state_after first h)
+  pub held : (pid : ℕ) → HasHold k o pid first h → (number : ℕ) (held : Held) (p : TracedProcess) (a : Answer)
+      → handle_of (state_after first h).opens k number ≡ Some held → held.pid ≡ pid → is_control held.file ≡ true
+      → live_process (state_after first h).system held.pid ≡ Some p
+      → answer_to (state_after first h) k (Close number) ≡ Some a
+      → (q : TracedProcess) × ((live_process a.state.system held.pid ≡ Some q) × IsReleased q)
+  pub controls : (pid : ℕ) → HasHold k o pid first h → (number : ℕ) × HasControl k pid number (state_after first h)
 
 -- ---- what it opens
 
 -- Truss opens, in their order, the processes that it was given, as far as it has come: each is attached, or its refusal
--- is reported. It watches a process right after it has opened it, begins to watch one in no other way, gets hold of a
--- process at most once, and from the wait of an opening on the process does nothing until it is watched.
+-- is reported. It gets hold of a process by the whole opening of it, at most once, and from the wait of the opening on
+-- the process does nothing until truss has hold of it.
 pub record OpensItsOwn (k : ℕ) (o : Options) (first : TracedState) (h : List Entry) : Type 0 where
   pub handled : IsHandledSoFar o (next_call_of (truss_at k o h)) o.program (truss_at k o h).reports (exchanges k h)
-  pub watched : (before later : List Entry) (pid : ℕ) → h ≡ before ++ later
-      → HasOpened k o pid before ⊎ HasFollowed k pid before → watches (truss_at k o before) pid ≡ true
-  pub begins : (before later : List Entry) (e : Entry) (pid : ℕ) → h ≡ before ++ e ∷ later
-      → watches (truss_at k o before) pid ≡ false → watches (truss_at k o (before ++ e ∷ [])) pid ≡ true
-      → HasOpened k o pid (before ++ e ∷ []) ⊎ HasFollowed k pid (before ++ e ∷ [])
-  pub grips : (pid : ℕ) → HasGrips k o pid first h
+  pub grips : (pid : ℕ) → HasOneGrip k o pid first h
 
 -- ---- what it shows
 
--- Of each process truss has read the events that it traces and that came while it watched the process, each by a read of
--- its own, and has shown those of them that the options select. Where it follows children, this is said only of a
--- process of which it never got hold as the child of a fork, or that is left to truss: of this process, and of those that
--- it descends from, no other controller was granted a handle for writing between the fork that made it and its opening.
+-- Of each process truss has read the events that it traces and that came while it had hold of the process, each by a
+-- read of its own, and has shown those of them that the options select. Where it follows children, this is said only of
+-- a process that it never opened as the child of a fork, or that is left to truss: of this process, and of those that it
+-- descends from, no other controller was granted a handle for writing between the fork that made it and its opening.
 -- The memory that stands in the line of an event is that of the state in which truss read it, and on the same condition
 -- that of the state right after the event, unless SIGKILL ended the process before truss read.
 pub record ShowsItsEvents (k : ℕ) (o : Options) (first : TracedState) (h : List Entry) : Type 0 where
-  pub reads : (pid : ℕ) → IsLeftToTruss k o pid first h → HasRead k o pid first h
-  pub reads_unfollowed : (pid : ℕ) → IsNeverFollowed k o pid h → HasRead k o pid first h
-  pub shows : (pid : ℕ) → IsLeftToTruss k o pid first h → IsReported k o pid first h
-  pub shows_unfollowed : (pid : ℕ) → IsNeverFollowed k o pid h → IsReported k o pid first h
+  pub reads : (pid : ℕ) → IsLeftToTruss k o pid first h ⊎ IsNeverOpenedAsChild k pid h → ReadsHeld k o pid first h
+  pub shows : (pid : ℕ) → IsLeftToTruss k o pid first h ⊎ IsNeverOpenedAsChild k pid h → ShowsHeld k o pid first h
   pub texts : HaveTheirTexts k o first h (truss_at k o h).reports
-  pub moments : (pid : ℕ) → IsLeftToTruss k o pid first h
-      → AreOfTheirEvents k o pid first h (truss_at k o h).reports
-  pub moments_unfollowed : (pid : ℕ) → IsNeverFollowed k o pid h
-      → AreOfTheirEvents k o pid first h (truss_at k o h).reports
+  pub moments : (pid : ℕ) → IsLeftToTruss k o pid first h ⊎ IsNeverOpenedAsChild k pid h
+      → StandAtTheirEvents k o pid first h (truss_at k o h).reports
 
 -- ---- what it follows
 
 -- With -f each child of a fork that truss reads is opened or set free, or its refusal is reported; a child that is left
--- to truss does nothing before it is watched; and when truss has finished no child is left that a fork of a process
--- made while truss watched that process.
+-- to truss does nothing before truss has hold of it; and when truss has finished no child is left that a fork of a
+-- process made while truss had hold of that process.
 pub record FollowsItsChildren (k : ℕ) (o : Options) (first : TracedState) (h : List Entry) : Type 0 where
   pub children : o.follow ≡ true → HandlesChildren k o h
   pub newborn : (before later : List Entry) (e : Entry) (pid : ℕ) → IsLeftToTruss k o pid first h
-      → h ≡ before ++ e ∷ later → watches (truss_at k o before) pid ≡ false → HasFollowed k pid (before ++ e ∷ [])
+      → h ≡ before ++ e ∷ later → GetsHold k o pid before e → HasFollowed k pid (before ++ e ∷ [])
       → IsNewborn o pid first (before ++ e ∷ [])
-  pub leaves_none : o.follow ≡ true → next_call_of (truss_at k o h) ≡ None → LeavesNoChild k o first h
+  pub leaves_none : o.follow ≡ true → next_call_of (truss_at k o h) ≡ None → CaresForChildren k o first h
 
 -- ---- what it runs and lets go
 
--- At most twelve calls after a poll has named a process truss runs it, or closes a file of it. It lets a process go for a
--- reason alone: the process has ended, or truss was interrupted. Before its last look at a process that it leaves it has
--- the children of that process followed no more.
+-- At most twelve calls after a poll has named a process truss runs it, or closes a file of it. Where it lets a process
+-- go, the process has ended, or truss was interrupted. Before its last look at a process that it leaves it has the
+-- children of that process followed no more.
 pub record LetsItsProcessesGo (k : ℕ) (o : Options) (first : TracedState) (h : List Entry) : Type 0 where
   pub soon : IsSoonDone k first h
   pub unfollows : (before later : List Entry) (e : Entry) (pid : ℕ) → h ≡ before ++ e ∷ later
       → IsLeftIn k pid first before e → HasUnfollowed k pid (state_after first before) before
   pub lets_go : (before later : List Entry) (e : Entry) (pid : ℕ) → h ≡ before ++ e ∷ later
-      → watches (truss_at k o before) pid ≡ true → watches (truss_at k o (before ++ e ∷ [])) pid ≡ false
-      → IsLetGo k pid first before e
+      → HasHold k o pid first before → LetsGoIn k pid first before e → IsLetGo k pid first before e
 
 -- ---- what it releases
 
--- Wherever it has come to, truss releases the processes of which it has set PR_RLC when it closes their control files;
--- and what it has set so stays set while it has the control file open, also where the opening of the process is broken
--- off.
+-- Wherever it has come to, truss releases the processes of which it has hold, and all of which it has set PR_RLC, when it
+-- closes their control files, also where the opening of a process is broken off. The message by which it sets PR_RLC is
+-- refused for no live process but process 0.
 pub record ReleasesItsProcesses (k : ℕ) (o : Options) (first : TracedState) (h : List Entry) : Type 0 where
   pub releases : (before later : List Entry) → h ≡ before ++ later → Releases k o first before
-  pub stays_set : (before later : List Entry) (e : Entry) (number : ℕ) (held : Held) → h ≡ before ++ e ∷ later
-      → handle_of (state_after first before).opens k number ≡ Some held → is_control held.file ≡ true
-      → modes_set k o held.pid before ≡ released → modes_set k o held.pid (before ++ e ∷ []) ≡ released
+  pub granted : (before later : List Entry) (e : Entry) (number : ℕ) (reply : Reply) (held : Held) (p : TracedProcess)
+      → h ≡ before ++ e ∷ later
+      → exchange_of k e ≡ Some (record { call = message_call number (Set rlc_mode); reply = reply })
+      → handle_of (state_after first before).opens k number ≡ Some held → held.file ≡ Ctl
+      → live_process (state_after first before).system held.pid ≡ Some p → held.pid ≢ 0 → errno_in reply ≡ None
 
 -- ---- all of it
 

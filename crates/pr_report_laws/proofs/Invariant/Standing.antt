@@ -1,5 +1,4 @@
-use Rattle.std.proofs.Common.{◌≡◌, ◌==◌, ◌-◌, ◌%◌, ◌^◌, ℕ, suc, Bool, true, false, List, [], ◌∷◌, ◌++◌, None, Some, ◌⊎◌}
-use Rattle.pr_line.specs.declared.events.Event.{Event}
+use Rattle.std.proofs.Common.{◌≡◌, ◌-◌, ◌%◌, ◌^◌, ℕ, true, false, List, [], ◌∷◌, ◌++◌, None, Some, ◌⊎◌}
 use Rattle.pr_line.specs.declared.options.Options.{Options}
 use Rattle.pr_model.specs.State.{TracedLwp, TracedProcess, TracedState, has_agent, live_process, lwp_of}
 use Rattle.pr_model.specs.Stops.{has_event_stop}
@@ -9,15 +8,14 @@ use Rattle.pr_num.specs.Signals.{signal_number}
 use Rattle.pr_num.specs.declared.signals.Sig.TheVariants.{Kill}
 use Rattle.pr_truss.specs.Messages.{traced_entries, traced_exits, traced_faults, traced_signals}
 use Rattle.pr_truss.specs.Trusses.{TrussState, traced_at}
-use Rattle.pr_truss.specs.declared.stages.AfterClosing.TheVariants.{RunParent}
 use Rattle.pr_truss.specs.declared.stages.ChildStep.{ChildStep}
 use Rattle.pr_truss.specs.declared.stages.OpeningStep.{OpeningStep}
 use Rattle.pr_truss.specs.declared.stages.OpeningStep.TheVariants as opening
-use Rattle.pr_truss.specs.declared.stages.Stage.{Stage}
-use Rattle.pr_truss.specs.declared.stages.Stage.TheVariants.{Opening, ReadingStatus, ReadingText, OpeningChildControl, OpeningChild, Running, Closing}
-use Rattle.pr_truss_laws.specs.Stills.{IsHalting, IsQuiet}
-use Rattle.pr_report_laws.proofs.Invariant.Positions.{HasEvent, IsAtBirth, IsTracedBy, Waits, met_in}
-use Rattle.pr_report_laws.proofs.Invariant.Tallies.{IsWhole, Tally, unread}
+use Rattle.pr_truss.specs.declared.stages.Stage.TheVariants.{Opening, OpeningChild}
+use Rattle.pr_truss_laws.specs.Stills.{IsHalting}
+use Rattle.pr_report_laws.proofs.Invariant.Positions.{IsAtBirth, IsTracedBy, Waits, met_in}
+use Rattle.pr_report_laws.proofs.Invariant.Tallies.{Tally}
+pub use Rattle.pr_report_laws.specs.Positions.{Position, goes, has_event, has_read, is_named, old_stops, stop_read}
 use Rattle.pr_report_laws.specs.Shown.{LwpEvent}
 use Rattle.pr_report_laws.specs.Watching.{is_away, place_of, watches}
 
@@ -31,22 +29,6 @@ pub record Accounted (Why : Type 0) (tally : Tally) : Type 0 where
   pub missing : List LwpEvent
   pub is : tally.came ≡ tally.told ++ missing
   pub few : (missing ≡ []) ⊎ ((event : LwpEvent) × ((missing ≡ event ∷ []) × Why))
-
--- ---- what a stage of truss has to do with a process at a place
-
--- truss has read the stop of the process, and has not run it yet
-abbrev pub has_read : Stage → ℕ → Bool
-has_read (ReadingText at lwp from len) place = at == place
-has_read (OpeningChildControl parent child) place = parent == place
-has_read (OpeningChild parent at step) place = parent == place
-has_read (Running at) place = at == place
-has_read (Closing at (RunParent parent)) place = parent == place
-has_read _ place = false
-
--- a poll named the process
-abbrev pub is_named : Stage → ℕ → Bool
-is_named (ReadingStatus at) place = at == place
-is_named _ place = false
 
 -- ---- the opening of a process
 
@@ -119,24 +101,6 @@ pub record Prepares (o : Options) (pid : ℕ) (t : TrussState) (s : TracedState)
       → (traced_at t place).pid ≡ pid → live_process s.system pid ≡ Some p → IsAtBirth o p
   pub new : (parent place : ℕ) (step : ChildStep) → t.stage ≡ OpeningChild parent place step
       → (traced_at t place).old ≡ 0
-
--- ---- a process that is watched
-
--- How a live process stands that truss watches at a place, where it counts so many stops as old.
-pub data Position (o : Options) (stage : Stage) (place old : ℕ) (p : TracedProcess)
-    (tally : Tally) : Type 0 where
-  -- truss has read the stop
-  stop_read : has_read stage place ≡ true → Waits p (suc old) → IsWhole tally → Position o stage place old p tally
-  -- old stops
-  old_stops : (n : ℕ) → has_read stage place ≡ false → old ≡ suc n → Waits p (suc n) → IsWhole tally
-      → Position o stage place old p tally
-  -- no stop
-  goes : has_read stage place ≡ false → is_named stage place ≡ false → old ≡ 0 → IsQuiet p → IsWhole tally
-      → Position o stage place old p tally
-  -- an event that is not read yet
-  has_event : (id : ℕ) (event : Event) → has_read stage place ≡ false → old ≡ 0 → HasEvent p id event
-      → (is_named stage place ≡ true → Waits p 1) → tally.came ≡ tally.told ++ unread tally id event
-      → Position o stage place old p tally
 
 -- ---- all
 

@@ -1,28 +1,11 @@
-use Rattle.std.proofs.Common.{◌≡◌, ◌++◌, ℕ, Bool, cond, None, Some, Option, List, [], ◌∷◌, sym, subst, ap, ◌∙◌}
+use Rattle.std.proofs.Common.{◌≡◌, ◌++◌, ℕ, Bool, None, Some, Option, List, [], sym, subst, ap, ◌∙◌}
 use Rattle.std.proofs.lemmas.List.{append-nil}
 use Rattle.pr_line.specs.declared.events.Event.{Event}
 use Rattle.pr_report_laws.specs.Shown.{LwpEvent}
+pub use Rattle.pr_report_laws.specs.Positions.{IsWhole, Tally, if_in, unread}
 
 -- What is accounted for of a process. The events that are picked of it may be those that truss traces, or those that
 -- the options select: what is proved of how many of them came and were told is the same.
-
--- Which events are picked; those of them that came so far; and those that truss was told so far.
-pub record Tally : Type 0 where
-  pub picks : Event → Bool
-  pub came : List LwpEvent
-  pub told : List LwpEvent
-
--- truss was told all that came
-abbrev pub IsWhole : Tally → Type 0
-IsWhole y = y.came ≡ y.told
-
--- an event, if it is picked
-abbrev pub if_in : (Event → Bool) → LwpEvent → List LwpEvent
-if_in picks e = cond (picks e.event) (e ∷ []) []
-
--- an event of an lwp that truss is still to be told, if it is picked
-abbrev pub unread : Tally → ℕ → Event → List LwpEvent
-unread y id event = if_in y.picks (record { id = id; event = event })
 
 -- more came
 abbrev pub with_came : Tally → List LwpEvent → Tally

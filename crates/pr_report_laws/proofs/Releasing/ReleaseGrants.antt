@@ -25,7 +25,7 @@ unfolding first_message message_code operands nth_word word_bytes word_of messag
     with_tail encoded_length unpadded_length tail_length operand_count
 clear-whole = refl
 
-release-whole : first_message (spelling (message.Set rlc_mode) []) ≡ Ok (message.Set rlc_mode, 16)
+pub release-whole : first_message (spelling (message.Set rlc_mode) []) ≡ Ok (message.Set rlc_mode, 16)
 unfolding first_message message_code operands nth_word word_bytes word_of message_read one_word in_columns bad_operand
     with_tail encoded_length unpadded_length tail_length operand_count
 release-whole = refl

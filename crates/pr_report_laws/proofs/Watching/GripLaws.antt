@@ -55,7 +55,7 @@ others-selected o pid (l ∷ ls) all =
 
 -- ---- what comes while truss watches
 
-events_watched-append : (k pid : ℕ) (t : TrussState) (s : TracedState) (xs ys : List Entry)
+pub events_watched-append : (k pid : ℕ) (t : TrussState) (s : TracedState) (xs ys : List Entry)
     → events_watched k pid t s (xs ++ ys) ≡ events_watched k pid t s xs ++ events_watched k pid
     (truss_after t (exchanges k xs)) (state_after s xs) ys
 events_watched-append k pid t s [] ys =
@@ -70,11 +70,11 @@ events_watched-append k pid t s (x ∷ xs) ys =
     (state_after (after s x) xs) ys) (sym (after-next k t x xs))
 
 -- in no entry is the process watched
-record IsUnwatched (k pid : ℕ) (t : TrussState) (h : List Entry) : Type 0 where
-  off : (before later : List Entry) (e : Entry) → h ≡ before ++ e ∷ later
+pub record IsUnwatched (k pid : ℕ) (t : TrussState) (h : List Entry) : Type 0 where
+  pub off : (before later : List Entry) (e : Entry) → h ≡ before ++ e ∷ later
       → watches (truss_after t (exchanges k before)) pid ≡ false
 
-unwatched-none : (k pid : ℕ) (h : List Entry) (t : TrussState) (s : TracedState) → IsUnwatched k pid t h
+pub unwatched-none : (k pid : ℕ) (h : List Entry) (t : TrussState) (s : TracedState) → IsUnwatched k pid t h
     → events_watched k pid t s h ≡ []
 unwatched-none k pid [] t s w = refl
 unwatched-none k pid (e ∷ h) t s w =
@@ -154,7 +154,7 @@ module _ (n k : ℕ) (o : Options) (pid : ℕ) (s : TracedState) where
   Run h = IsTrussRun n k o s h
 
   -- where the last entry makes truss watch a process
-  front-unwatched : (before : List Entry) (e : Entry) → Run (before ++ e ∷ [])
+  pub front-unwatched : (before : List Entry) (e : Entry) → Run (before ++ e ∷ [])
       → watches (truss_at k o before) pid ≡ false → watches (truss_at k o (before ++ e ∷ [])) pid ≡ true
       → IsUnwatched k pid (first_truss o) (before ++ e ∷ [])
   front-unwatched before e run off on = record {
