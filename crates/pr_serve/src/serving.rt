@@ -43,7 +43,7 @@ pub fn serve<R: Threads + Wait + Sync, S: Source, K: Sink, G: Gate + Sync>(
 
     // However the call ends, there is no history, or it is that of a run. Then it is legal and follows the protocol;
     // where it is passive, or no controller is a script, tracing is transparent in it; each truss has shown of each
-    // process exactly the selected events that came while it watched the process, as `IsReported` says, on the
+    // process exactly the selected events that came while it had hold of it, as `ShowsHeld` says, on the
     // conditions of `ShowsItsEvents`, and all else that `IsTrussKept` says is so of it; the memory in a line is that of
     // the state in which truss read it; and each tool that has finished, and was not refused, prints what stands in one
     // state.
