@@ -1,9 +1,9 @@
 -- The mappings of a core are no larger than the core.
-use Rattle.std.proofs.Common.{◌≡◌, ◌+◌, ◌/◌, ◌<◌, ◌≤◌, ◌^◌, ℕ, List, [], ◌∷◌, ◌++◌, length, map, sum_by, All, Some, IfSome, refl, sym, ap, subst, ◌∙◌, arith, inr, length-append}
+use Rattle.std.proofs.Common.{◌≡◌, ◌+◌, ◌/◌, ◌<◌, ◌≤◌, ◌^◌, ℕ, List, [], ◌∷◌, ◌++◌, length, map, sum_by, All, Some, IfSome, refl, sym, subst, arith, inr, length-append}
 use Rattle.std.specs.List.{flat_map}
 use Rattle.std.proofs.lemmas.List.Sums.{sum_by-cons}
-use Rattle.pr_num.specs.Records.{counted_words, entries_words, map_entry_ranges}
-use Rattle.pr_num.specs.Words.{word_bytes, words_bytes}
+use Rattle.pr_num.specs.Records.{map_entry_ranges}
+use Rattle.pr_num.specs.Words.{word_bytes}
 use Rattle.pr_rec.proofs.MapEntryLemmas.{map_entry-ranged, map_entry_take}
 use Rattle.pr_rec.specs.InRange.{IsMapEntry}
 use Rattle.pr_rec.specs.RecordBytes.{map_bytes}
@@ -12,7 +12,7 @@ use Rattle.pr_rec.specs.declared.mappings.MapEntry.{MapEntry}
 use Rattle.pr_tools.proofs.ReadBackLemmas.{all-back}
 use Rattle.pr_tools.specs.Entries.{entries_in}
 use Rattle.pr_tools.specs.Pmap.{HasTotal, units}
-use Rattle.pr_core.specs.CoreBytes.{core_bytes, encoded, section, psinfo_kind, lstatus_kind, sigact_kind, map_kind, fds_kind, memory_kind}
+use Rattle.pr_core.specs.CoreBytes.{core_bytes, encoded, section, memory_kind}
 use Rattle.pr_core.specs.CoreRanges.{IsCore}
 use Rattle.pr_core.specs.Cores.{CoreState, CoreWords, core_words}
 
