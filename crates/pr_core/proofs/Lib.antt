@@ -6,12 +6,15 @@ pub mod DigitLemmas
 pub mod EntryLemmas
 pub mod ExtentLemmas
 pub mod FaultLemmas
+pub mod FrameLemmas
+pub mod MemoryByteLemmas
 pub mod PieceLemmas
 pub mod PieceStandLemmas
 pub mod PlaceLemmas
 pub mod RecordStandLemmas
 pub mod RecordsLemmas
 pub mod SectionStandLemmas
+pub mod SizeLemmas
 pub mod SnapshotLemmas
 pub mod StandLemmas
 pub mod StepLemmas

@@ -10,7 +10,7 @@ use Rattle.pr_num.specs.declared.mappings.Mapping.{Mapping}
 use Rattle.pr_rec.specs.RecordBytes.{fds_bytes, lstatus_bytes, map_bytes, sigact_bytes}
 use Rattle.pr_tools.specs.RecordTexts.{text_of_record}
 use Rattle.pr_tools.specs.SpaceStacks.{lwps_stacks}
-use Rattle.pr_core.specs.CoreTools.{core_space, space_with, tool_over_core}
+use Rattle.pr_core.specs.CoreTools.{core_space, record_of, space_with, tool_over_core}
 use Rattle.pr_core.specs.Snapshots.{snapshot}
 
 -- mappings, with the bytes that they had
@@ -28,12 +28,12 @@ module _ (pid : ℕ) (s : TracedSystem) (p : TracedProcess) where
   module _ (programs : List Program) where
     pub pflags-snapshot : tool_over_core Pflags (snapshot pid s p) programs
         ≡ text_of_record Pflags pid (lstatus_bytes (lstatus_of p))
-    unfolding tool_over_core snapshot
+    unfolding tool_over_core record_of snapshot
     pflags-snapshot = refl
 
     pub psig-snapshot : tool_over_core Psig (snapshot pid s p) programs
         ≡ text_of_record Psig pid (sigact_bytes p.dispositions)
-    unfolding tool_over_core snapshot
+    unfolding tool_over_core record_of snapshot
     psig-snapshot = refl
 
     pub pstack-snapshot : tool_over_core Pstack (snapshot pid s p) programs
@@ -43,10 +43,10 @@ module _ (pid : ℕ) (s : TracedSystem) (p : TracedProcess) where
 
     pub pmap-snapshot : tool_over_core Pmap (snapshot pid s p) programs
         ≡ text_of_record Pmap pid (map_bytes (map_of s p))
-    unfolding tool_over_core snapshot
+    unfolding tool_over_core record_of snapshot
     pmap-snapshot = refl
 
     pub pfiles-snapshot : tool_over_core Pfiles (snapshot pid s p) programs
         ≡ text_of_record Pfiles pid (fds_bytes (fds_of s.files p))
-    unfolding tool_over_core snapshot fds_bytes
+    unfolding tool_over_core record_of snapshot fds_bytes
     pfiles-snapshot = refl

@@ -27,14 +27,27 @@ space_with (m ∷ ms) (bytes ∷ memory) = mapping_with m bytes ∷ space_with m
 unfoldable pub core_space : CoreState → Space
 core_space c = space_with c.maps c.memory
 
+-- the bytes of the record of a core that a tool shows, a row a tool; pstack shows more than a record, and what the others
+-- show is no part of a core
+unfoldable pub record_of : ToolKind → CoreState → List ℕ
+record_of Pflags c = lstatus_bytes c.lwps
+record_of Psig c = sigact_bytes c.sigact
+record_of Pstack c = []
+record_of Pmap c = map_bytes c.maps
+record_of Pfiles c = words_bytes (entries_words c.fds)
+record_of Pstop c = []
+record_of Prun c = []
+record_of Pwait c = []
+record_of Ptree c = []
+
 -- The text of a tool over a core, a row a tool; the labels of stacks are those of programs. What is no part of a core
 -- has no text.
 unfoldable pub tool_over_core : ToolKind → CoreState → List Program → List ℕ
-tool_over_core Pflags c programs = text_of_record Pflags c.pid (lstatus_bytes c.lwps)
-tool_over_core Psig c programs = text_of_record Psig c.pid (sigact_bytes c.sigact)
+tool_over_core Pflags c programs = text_of_record Pflags c.pid (record_of Pflags c)
+tool_over_core Psig c programs = text_of_record Psig c.pid (record_of Psig c)
 tool_over_core Pstack c programs = lwps_stacks c.pid programs (core_space c) c.lwps
-tool_over_core Pmap c programs = text_of_record Pmap c.pid (map_bytes c.maps)
-tool_over_core Pfiles c programs = text_of_record Pfiles c.pid (words_bytes (entries_words c.fds))
+tool_over_core Pmap c programs = text_of_record Pmap c.pid (record_of Pmap c)
+tool_over_core Pfiles c programs = text_of_record Pfiles c.pid (record_of Pfiles c)
 tool_over_core Pstop c programs = []
 tool_over_core Prun c programs = []
 tool_over_core Pwait c programs = []

@@ -25,7 +25,7 @@ use Rattle.pr_tools.specs.declared.handles.Opened.{Opened}
 use Rattle.pr_core.specs.CoreBytes.{core_version, section, memory_kind}
 use Rattle.pr_core.specs.GcoreStages.{kind_of_part, file_of_part, place_of_part, control_place, status_place, memory_place, stage_after, way_out}
 use Rattle.pr_core.specs.declared.gcore_stages.GcorePart.{GcorePart}
-use Rattle.pr_core.specs.declared.gcore_stages.GcorePart.TheVariants.{Psinfo, Lstatus, Sigact, Map, Fds}
+use Rattle.pr_core.specs.declared.gcore_stages.GcorePart.TheVariants.{Lstatus, Map}
 use Rattle.pr_core.specs.declared.gcore_stages.GcoreStage.{GcoreStage}
 use Rattle.pr_core.specs.declared.gcore_stages.GcoreStage.TheVariants.{OpenCtl, OpenStatus, OpenPart, OpenMemory, ReadFirst, Stop, AwaitStop, ReadStatus, ReadPart, ReadMemory, Run, Release, Close}
 use Rattle.pr_core.specs.declared.memory_walks.MemoryWalk.{MemoryWalk}

@@ -1,4 +1,5 @@
 pub mod CoreBytes
+pub mod CoreMemory
 pub mod CoreRanges
 pub mod CoreReading
 pub mod CoreText

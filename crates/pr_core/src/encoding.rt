@@ -47,7 +47,7 @@ fn push_words(out: &mut Vec<u8>, words: &[u64]) -> Result<(), NoMemory>
 }
 
 /// The record of descriptors.
-fn write_fds(alloc: Global, fds: &[[u64; 8]]) -> Result<Bytes, NoMemory>
+pub(crate) fn write_fds(alloc: Global, fds: &[[u64; 8]]) -> Result<Bytes, NoMemory>
     ensures { IfOk result (λ bytes. bytes ≡ words_bytes (entries_words fds.now)) }
 {
     let mut out = Vec::new(alloc);

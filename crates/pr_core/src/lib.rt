@@ -1,7 +1,11 @@
-//! gcore(1) as a controller of the kernel, and the bytes of a core both ways: what it writes of a process.
+//! gcore(1) as a controller of the kernel, the bytes of a core both ways, which is what it writes of a process, and the
+//! proc tools over a core.
 #![tactic(auto)]
 
 mod core_lines;
+mod core_memory;
+mod core_stacks;
+mod core_tools;
 mod cores;
 mod decoding;
 mod encoding;
@@ -18,6 +22,7 @@ mod sections;
 mod snapshots;
 mod words;
 
+pub use core_tools::tool_over_core;
 pub use cores::Core;
 pub use faults::CoreFault;
 pub use gcores::Gcore;

@@ -23,7 +23,7 @@ pub struct MemoryWalk {
 }
 
 /// The word at a place where one stands.
-fn word_at(bytes: &[u8], at: usize) -> u64
+pub(crate) fn word_at(bytes: &[u8], at: usize) -> u64
     requires { at + 8 ≤ length bytes.now }
     ensures { result ≡ word_at bytes.now at }
 {

@@ -1,5 +1,6 @@
 pub mod EntryLemmas
 pub mod FieldLemmas
+pub mod ReadBackLemmas
 pub mod SignalLemmas
 pub mod StackLemmas
 pub mod TextLemmas

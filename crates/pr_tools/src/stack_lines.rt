@@ -37,7 +37,7 @@ fn find_program<'a>(programs: &'a [Program], bytes: &[u8; Instruction::SIZE]) ->
 
 /// The first program that begins with the first instruction of a process, where that was read.
 #[tactic(auto, unfolding(crate::specs::Pstack::program_of))]
-fn program_of<'a>(
+pub fn program_of<'a>(
     programs: &'a [Program],
     first: Option<[u8; Instruction::SIZE]>,
 ) -> Option<&'a Program>
@@ -76,7 +76,7 @@ fn push_symbol(text: &mut Text, program: Option<&Program>, pc: u64) -> Result<()
 
 /// The line of a frame.
 #[tactic(auto, unfolding(crate::specs::Pstack::frame_line))]
-fn push_frame(text: &mut Text, program: Option<&Program>, pc: u64) -> Result<(), NoMemory>
+pub fn push_frame(text: &mut Text, program: Option<&Program>, pc: u64) -> Result<(), NoMemory>
     ensures { OnOk result (text.new ≡ text.old ++ frame_line (option_copied program.entry) pc) }
 {
     text.text(b"  ")?;

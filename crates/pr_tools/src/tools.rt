@@ -76,7 +76,7 @@ fn frame_of(walk: &Option<Walk>) -> u64
 }
 
 /// The first instruction in these bytes, where there are enough.
-fn instruction_in(bytes: &[u8]) -> Option<[u8; Instruction::SIZE]>
+pub fn instruction_in(bytes: &[u8]) -> Option<[u8; Instruction::SIZE]>
     ensures { result ≡ (if nat_le 16 (length bytes.now) then Some (take 16 bytes.now) else None) }
 {
     if bytes.len() < Instruction::SIZE {
