@@ -204,13 +204,13 @@ led-end s history range led =
     let end = told-end s (as_machine m w) range (machine-told w m) come few in
     subst (HasEnd s) (same ∙ sym led.is) end
 
+first-none : (s : Scenario) → (first_world s).kernel.history ≡ []
+unfolding first_world kernel_of
+first-none s = refl
+
 -- and one of which nothing was made yet
 pub first-end : (s : Scenario) → IsScenarioInRange s → HasEnd s []
 first-end s range =
-    let none : (first_world s).kernel.history ≡ [] = first-none s in
+    let none = first-none s in
     let few = omega (arith, ap length none) in
     subst (HasEnd s) none (told-end s (first_world s) range (first-told s) (came-first (first_world s)) few)
-  where
-    first-none : (s : Scenario) → (first_world s).kernel.history ≡ []
-    unfolding first_world kernel_of
-    first-none s = refl
