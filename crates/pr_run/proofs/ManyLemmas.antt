@@ -1,4 +1,4 @@
-use Rattle.std.proofs.Common.{◌≡◌, ◌<◌, ◌≤◌, ◌+◌, ◌-◌, ◌++◌, inl, inr, ℕ, Bool, true, false, Option, Some, None, is_none, is_some, IsSome, Result, Ok, Err, IfOk, OnErr, zero, suc, ◌&&◌, ◌||◌, List, [], ◌∷◌, All, length, cond, nat_lt, nat_le, flat_map, map, take, drop, append-nil, refl, sym, ◌∙◌, ap, subst, arith}
+use Rattle.std.proofs.Common.{◌≡◌, ◌<◌, ◌≤◌, ◌+◌, ◌-◌, ◌++◌, ◌⊎◌, inl, inr, ℕ, Bool, true, false, Option, Some, None, is_none, is_some, IsSome, Result, Ok, Err, IfOk, OnErr, zero, suc, ◌&&◌, ◌||◌, List, [], ◌∷◌, All, length, cond, nat_lt, nat_le, flat_map, map, take, drop, append-nil, refl, sym, ◌∙◌, ap, subst, arith}
 use borrow.Author.Tests.{ltb-true, ltb-false}
 use Rattle.std.proofs.Math.Bool.{or-false, or-true}
 use Rattle.std.proofs.lemmas.List.{length-map, take_all, take_at, drop_all, drop_at}

@@ -1,4 +1,4 @@
-use Rattle.std.proofs.Common.{◌≡◌, ◌∙◌, ◌+◌, ◌++◌, ◌||◌, Bool, List, true, All, sym, ap, subst, length, take, drop, arith}
+use Rattle.std.proofs.Common.{◌≡◌, ◌∙◌, ◌+◌, ◌++◌, ◌||◌, ◌<◌, Bool, List, true, All, sym, ap, subst, length, take, drop, arith}
 use Rattle.std.specs.List.{list_any}
 use Rattle.std.proofs.Math.Bool.{or-true}
 use Rattle.pr_lock.specs.Seats.{IsOutside, own_of, saw_over, shares_of}
@@ -28,8 +28,9 @@ ended-requires g c =
     let items = c.in_ok-seats.seats in
     let many : length seats ≡ length items.items = omega (arith, c.work.auto.seats, ap length c.deref_mut.ensures.value) in
     let back = written-back seats items.items items.len many (omega (arith, items.ok)) in
-    let some = omega (arith, many, items.ok, c.in_ok-seats.ensures.workers.1, c.requires.some) in
-    let over = all-over (first_world g.Q.Kernel.view lock) c.args.workers lock seats c.work.ensures.seats (omega (arith, c.requires.some)) some in
+    let some : 0 < length seats = omega (arith, many, items.ok, c.in_ok-seats.ensures.workers.1, c.requires.some) in
+    let one : 0 < c.args.workers = omega (arith, c.requires.some) in
+    let over = all-over (first_world g.Q.Kernel.view lock) c.args.workers lock seats c.work.ensures.seats one some in
     let any = ap (λ (l : List (Seat _ LoggedEntry)). list_any (λ seat. saw_over seat) l) back ∙ over in
     c.close.ensures.stays
     (c.gather.ensures.over ∙ (ap (λ (b : Bool). saw_over c.seats_of.new.seat || b) any ∙ or-true (saw_over c.seats_of.new.seat)))
