@@ -200,7 +200,8 @@ led-end s history range led =
     let m = state_after (first_state_of s) led.came.led.entries in
     let same = machine-history w m in
     let come = machine-came (first_world s) w m (run-of s w led.came).state led.came in
-    let few = omega (arith, led.within, ap length led.is, ap length same) in
+    let few : length (as_machine m w).kernel.history ≤ s.turns =
+    omega (arith, led.within, ap length led.is, ap length same) in
     let end = told-end s (as_machine m w) range (machine-told w m) come few in
     subst (HasEnd s) (same ∙ sym led.is) end
 
@@ -212,5 +213,5 @@ first-none s = refl
 pub first-end : (s : Scenario) → IsScenarioInRange s → HasEnd s []
 first-end s range =
     let none = first-none s in
-    let few = omega (arith, ap length none) in
+    let few : length (first_world s).kernel.history ≤ s.turns = omega (arith, ap length none) in
     subst (HasEnd s) none (told-end s (first_world s) range (first-told s) (came-first (first_world s)) few)

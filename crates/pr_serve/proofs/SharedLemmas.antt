@@ -160,6 +160,7 @@ shared-kept showing old new status h r = by (status_cases status)
 -- An answer that shows the end of a run says how it ended.
 shown-ends : (showing : Showing) (s : Scenario) (answer : Answer) (h : List Entry) → ShowsEnd showing s answer
     → h ≡ answer.history → EndsRun s answer.status h
+unfolding led-shown
 shown-ends showing s answer h shown is =
     let w = shown.world in
     let status = ap (λ (a : Answer). a.status) shown.is ∙ shown-status (run_shown showing) w in
