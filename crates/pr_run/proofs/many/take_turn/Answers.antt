@@ -1,4 +1,4 @@
-use Rattle.std.proofs.Common.{◌≡◌, ◌∙◌, ℕ, List, IsSome, is_some, true, sym, ap, subst, None, arith}
+use Rattle.std.proofs.Common.{◌≡◌, ◌∙◌, ℕ, List, true, sym, ap, subst, None, arith}
 use Rattle.pr_lock.specs.History.{StandIn, StartsWith}
 use Rattle.pr_lock.specs.Seats.{entered_of, first_of, own_of, saw_over}
 use Rattle.pr_world.specs.Worlds.{seen}
