@@ -1,5 +1,5 @@
 -- Each step of a seat keeps the rule of the lock.
-use Rattle.std.proofs.Common.{◌≡◌, ◌≢◌, ℕ, zero, suc, ◌+◌, ◌<◌, ◌≤◌, false, List, [], ◌∷◌, ◌++◌, length, set, slice_set, slice_index, map, slice_get, Option, None, Some, is_some, unwrap_or, IfSome, IsSomeAnd, sum_by, cond, ◌==◌, sym, ap, refl, ◌∙◌, subst, ◌⊎◌, inl, inr, ⊎_elim, arith, le-ltb, lt-ltb}
+use Rattle.std.proofs.Common.{◌≡◌, ◌≢◌, ℕ, zero, suc, ◌+◌, ◌<◌, ◌≤◌, ◌||◌, Bool, true, false, List, [], ◌∷◌, ◌++◌, length, set, slice_set, slice_index, map, slice_get, Option, None, Some, is_some, unwrap_or, IfSome, IsSomeAnd, sum_by, cond, ◌==◌, sym, ap, refl, ◌∙◌, subst, ◌⊎◌, inl, inr, ⊎_elim, arith, le-ltb, lt-ltb}
 use Rattle.std.proofs.lemmas.List.Elements.{All-nil, All-append}
 use Rattle.std.proofs.lemmas.List.Sums.{sum_by-append, sum_by_push}
 use mathlib.Core.Option.{some, some-injective, some-ne-none, none}
@@ -13,7 +13,7 @@ use Rattle.pr_lock.specs.declared.views.Origin.{Origin}
 use Rattle.pr_lock.specs.declared.views.View.{View}
 use Rattle.pr_lock.specs.History.{StartsWith, StandIn, AreAll, added, times_at}
 use Rattle.pr_lock.specs.Rule.{one_if, newcomer, Fits, KeepsRule}
-use Rattle.pr_lock.specs.Steps.{shares_in, begun, holding, departed, lessened, offspring, joined, spent, Begins, HasTaken, Tries, Leaves, carried_entries}
+use Rattle.pr_lock.specs.Steps.{shares_in, begun, holding, departed, lessened, offspring, joined, spent, Begins, HasTaken, Tries, Leaves, carried_entries, carried_over}
 use Rattle.pr_lock.proofs.Sums.{set_at, sum_by-at, sum_by-same_at, one_of_sum, two_of_sum, sum_by-only}
 use Rattle.pr_lock.proofs.Histories.{StartsWith-itself, StartsWith-longer, StartsWith-longer_of, StartsWith-whole, StandIn-longer, StandIn-added, IsInOrder-added, times_at-added, longer-whole}
 
@@ -21,12 +21,18 @@ zero_or_one : (n : ℕ) → n < 2 → (n ≡ 0) ⊎ (n ≡ 1)
 zero_or_one zero small = inl refl
 zero_or_one (suc n) small = inr (omega arith)
 
-module _ {V I : Type 0} (entries : V → List I) (comes : V → V → Type 0) (made : Origin V) where
+-- what comes of one of two, comes where one of them is so
+of_either : (a b : Bool) (P : Type 0) → (a ≡ true → P) → (b ≡ true → P) → (a || b) ≡ true → P
+of_either true b P one other e = one refl
+of_either false b P one other e = other e
+
+module _ {V I : Type 0} (entries : V → List I) (over : V → Bool) (comes : V → V → Type 0) (made : Origin V) where
   -- a lock opens with the first seat, which has no share yet
   pub opens : (value : V) (slots : List (Option V)) → slots ≡ Some value ∷ [] → made.first.value ≡ value → entries value ≡ [] → comes value value
-      → KeepsRule entries comes made (opening (0 ∷ 0 ∷ []) slots (newcomer {V = V} {I = I} made))
+      → KeepsRule entries over comes made (opening (0 ∷ 0 ∷ []) slots (newcomer {V = V} {I = I} made))
   opens value slots one first empty source = record {
     log = [];
+    ended = over value;
     held = 0;
     begun = 0;
     slot = some (Some value);
@@ -34,7 +40,7 @@ module _ {V I : Type 0} (entries : V → List I) (comes : V → V → Type 0) (m
     homes = ap (map some) one;
     bit = omega arith;
     inside = refl;
-    at_home = λ _. record { value = value; is = refl; stands = empty; source = subst (comes value) (sym first) source };
+    at_home = λ _. record { value = value; is = refl; stands = empty; ends = refl; source = subst (comes value) (sym first) source };
     fits = λ seat v at. only seat v at;
     whole = (0, newcomer made, refl, refl);
     once = λ at. ap one_if (sym (le-ltb at 0 (omega arith)));
@@ -43,20 +49,20 @@ module _ {V I : Type 0} (entries : V → List I) (comes : V → V → Type 0) (m
     after = λ e. absurd (omega arith);
   }
     where
-      fresh : Fits made [] (newcomer {V = V} {I = I} made)
-      fresh = record { source = refl; inside = tt; begins = refl; stand = All-nil (λ e. Rattle.std.specs.Prelude.slice_get [] e.0 ≡ Some e.1); idle = λ _. (refl, refl, refl) }
+      fresh : Fits made [] (over value) (newcomer {V = V} {I = I} made)
+      fresh = record { source = refl; inside = tt; begins = refl; stand = All-nil (λ e. Rattle.std.specs.Prelude.slice_get [] e.0 ≡ Some e.1); saw = λ (e : false ≡ true). cc; knows = tt; idle = λ _. (refl, refl, refl) }
 
-      only : (seat : ℕ) (v : View V I) → get_elem? (newcomer {V = V} {I = I} made ∷ []) seat ≡ some v → Fits made [] v
-      only zero v at = subst (Fits made []) (some-injective (newcomer made) v at) fresh
+      only : (seat : ℕ) (v : View V I) → get_elem? (newcomer {V = V} {I = I} made ∷ []) seat ≡ some v → Fits made [] (over value) v
+      only zero v at = subst (Fits made [] (over value)) (some-injective (newcomer made) v at) fresh
       only (suc seat) v at = absurd (some-ne-none v (sym at))
 
   -- what the seats know, where one of them changes
-  fits_set : (log : List I) (views : List (View V I)) (id : ℕ) (w : View V I)
-      → ((seat : ℕ) (v : View V I) → seat ≢ id → get_elem? views seat ≡ some v → Fits made log v)
-      → Fits made log w
-      → (seat : ℕ) (v : View V I) → get_elem? (set views id w) seat ≡ some v → Fits made log v
-  fits_set log views id w others mine seat v at =
-      ⊎_elim (λ t. subst (Fits made log) t.1 mine) (λ t. others seat v t.0 t.1) (at_set views id seat w v at)
+  fits_set : (log : List I) (ended : Bool) (views : List (View V I)) (id : ℕ) (w : View V I)
+      → ((seat : ℕ) (v : View V I) → seat ≢ id → get_elem? views seat ≡ some v → Fits made log ended v)
+      → Fits made log ended w
+      → (seat : ℕ) (v : View V I) → get_elem? (set views id w) seat ≡ some v → Fits made log ended v
+  fits_set log ended views id w others mine seat v at =
+      ⊎_elim (λ t. subst (Fits made log ended) t.1 mine) (λ t. others seat v t.0 t.1) (at_set views id seat w v at)
 
   -- some seat has seen the whole history, where one of them changes that has seen as much as before
   whole_set : (log : List I) (views : List (View V I)) (id : ℕ) (v w : View V I) → get_elem? views id ≡ some v → w.seen ≡ v.seen
@@ -71,12 +77,12 @@ module _ {V I : Type 0} (entries : V → List I) (comes : V → V → Type 0) (m
   source_of None value is source = tt
   source_of (Some x) value is source = subst (λ (y : Origin V). comes value y.first.value) (sym is) source
 
-  found_held : (s : State (Option V) (View V I)) (kept : KeepsRule entries comes made s) → slice_index s.words 0 ≡ kept.held
+  found_held : (s : State (Option V) (View V I)) (kept : KeepsRule entries over comes made s) → slice_index s.words 0 ≡ kept.held
   found_held s kept = ap (λ ws. slice_index ws 0) kept.words
 
   -- the first seat gets its shares
   pub begins : (slots id : ℕ) (m : Me (Option V) (View V I)) → m ≡ (newcomer made, [])
-      → Allows (KeepsRule entries comes made) slots id m 1 (λ _. 1) (Begins m)
+      → Allows (KeepsRule entries over comes made) slots id m 1 (λ _. 1) (Begins m)
   begins slots id m is s kept long at small =
       let v = m.0 in
       let new : v ≡ newcomer made = ap (λ p. p.0) is in
@@ -90,6 +96,7 @@ module _ {V I : Type 0} (entries : V → List I) (comes : V → V → Type 0) (m
         tt,
         record {
           log = kept.log;
+          ended = kept.ended;
           held = kept.held;
           begun = 1;
           slot = kept.slot;
@@ -98,12 +105,14 @@ module _ {V I : Type 0} (entries : V → List I) (comes : V → V → Type 0) (m
           bit = kept.bit;
           inside = sum_by-same_at (λ (u : View V I). one_if (is_some u.entered)) s.views id v (begun v) at refl ∙ kept.inside;
           at_home = kept.at_home;
-          fits = fits_set kept.log s.views id (begun v) (λ seat u apart there. kept.fits seat u there)
+          fits = fits_set kept.log kept.ended s.views id (begun v) (λ seat u apart there. kept.fits seat u there)
               (record {
                 source = f.source;
                 inside = f.inside;
                 begins = f.begins;
                 stand = f.stand;
+                saw = f.saw;
+                knows = f.knows;
                 idle = λ _. (ap (λ (u : View V I). u.entered) new, ap (λ (u : View V I). u.own) new, ap (λ (u : View V I). u.seen) new);
               });
           whole = whole_set kept.log s.views id v (begun v) at refl kept.whole;
@@ -116,41 +125,42 @@ module _ {V I : Type 0} (entries : V → List I) (comes : V → V → Type 0) (m
       )
 
   -- a seat finds the lock free, and takes the value
-  holds_after : (s : State (Option V) (View V I)) (kept : KeepsRule entries comes made s) (id : ℕ) (v : View V I) → get_elem? s.views id ≡ some v
-      → v.entered ≡ None → 0 < v.shares → kept.held ≡ 0 → (log : List I) → log ≡ kept.log
-      → KeepsRule entries comes made (record { words = slice_set s.words 0 1; homes = slice_set s.homes 0 none; views = slice_set s.views id (holding v log) })
-  holds_after s kept id v at idle some_share free log same =
+  holds_after : (s : State (Option V) (View V I)) (kept : KeepsRule entries over comes made s) (id : ℕ) (v : View V I) → get_elem? s.views id ≡ some v
+      → v.entered ≡ None → 0 < v.shares → kept.held ≡ 0 → (log : List I) → log ≡ kept.log → (ended : Bool) → ended ≡ kept.ended
+      → KeepsRule entries over comes made (record { words = slice_set s.words 0 1; homes = slice_set s.homes 0 none; views = slice_set s.views id (holding v log ended) })
+  holds_after s kept id v at idle some_share free log same ended known =
       let f = kept.fits id v at in
       let out : one_if (is_some v.entered) ≡ 0 = ap (λ (o : Option (List I)). one_if (is_some o)) idle in
       record {
         log = kept.log;
+        ended = kept.ended;
         held = 1;
         begun = kept.begun;
         slot = none;
         words = ap (λ ws. slice_set ws 0 1) kept.words;
         homes = ap (λ hs. slice_set hs 0 none) kept.homes;
         bit = omega arith;
-        inside = omega (arith, sum_by-at (λ (u : View V I). one_if (is_some u.entered)) s.views id v (holding v log) at, kept.inside, free, out);
+        inside = omega (arith, sum_by-at (λ (u : View V I). one_if (is_some u.entered)) s.views id v (holding v log ended) at, kept.inside, free, out);
         at_home = λ e. absurd (omega arith);
-        fits = fits_set kept.log s.views id (holding v log) (λ seat u apart there. kept.fits seat u there)
-            (record { source = f.source; inside = same; begins = f.begins; stand = f.stand; idle = λ e. absurd (omega (arith, e, some_share)) });
-        whole = whole_set kept.log s.views id v (holding v log) at refl kept.whole;
-        once = λ place. sum_by-same_at (λ (u : View V I). times_at place u.own) s.views id v (holding v log) at refl ∙ kept.once place;
-        opened = ap (λ n. n + kept.begun) (sum_by-same_at (λ (u : View V I). one_if u.fresh) s.views id v (holding v log) at refl) ∙ kept.opened;
-        before = λ e. sum_by-same_at (λ (u : View V I). u.shares) s.views id v (holding v log) at refl ∙ kept.before e;
-        after = λ e. sum_by-same_at (λ (u : View V I). u.shares) s.views id v (holding v log) at refl ∙ kept.after e;
+        fits = fits_set kept.log kept.ended s.views id (holding v log ended) (λ seat u apart there. kept.fits seat u there)
+            (record { source = f.source; inside = same; begins = f.begins; stand = f.stand; saw = λ e. sym known ∙ e; knows = known; idle = λ e. absurd (omega (arith, e, some_share)) });
+        whole = whole_set kept.log s.views id v (holding v log ended) at refl kept.whole;
+        once = λ place. sum_by-same_at (λ (u : View V I). times_at place u.own) s.views id v (holding v log ended) at refl ∙ kept.once place;
+        opened = ap (λ n. n + kept.begun) (sum_by-same_at (λ (u : View V I). one_if u.fresh) s.views id v (holding v log ended) at refl) ∙ kept.opened;
+        before = λ e. sum_by-same_at (λ (u : View V I). u.shares) s.views id v (holding v log ended) at refl ∙ kept.before e;
+        after = λ e. sum_by-same_at (λ (u : View V I). u.shares) s.views id v (holding v log ended) at refl ∙ kept.after e;
       }
 
   -- a seat finds the lock taken, and nothing changes
-  same_after : (s : State (Option V) (View V I)) (kept : KeepsRule entries comes made s) (id : ℕ) (v : View V I) → get_elem? s.views id ≡ some v
-      → kept.held ≡ 1 → KeepsRule entries comes made (record { words = slice_set s.words 0 1; homes = s.homes; views = slice_set s.views id v })
+  same_after : (s : State (Option V) (View V I)) (kept : KeepsRule entries over comes made s) (id : ℕ) (v : View V I) → get_elem? s.views id ≡ some v
+      → kept.held ≡ 1 → KeepsRule entries over comes made (record { words = slice_set s.words 0 1; homes = s.homes; views = slice_set s.views id v })
   same_after s kept id v at busy =
       let words : s.words ≡ slice_set s.words 0 1 = kept.words ∙ (ap (λ held. held ∷ kept.begun ∷ []) busy ∙ sym (ap (λ ws. slice_set ws 0 1) kept.words)) in
       let views : s.views ≡ slice_set s.views id v = sym (set_again s.views id v at) in
-      subst (KeepsRule entries comes made) (λ i. record { words = words i; homes = s.homes; views = views i }) kept
+      subst (KeepsRule entries over comes made) (λ i. record { words = words i; homes = s.homes; views = views i }) kept
 
   pub tries : (slots id : ℕ) (m : Me (Option V) (View V I)) → m.0.entered ≡ None → 0 < m.0.shares
-      → Allows (KeepsRule entries comes made) slots id m 0 (λ _. 1) (Tries entries comes m)
+      → Allows (KeepsRule entries over comes made) slots id m 0 (λ _. 1) (Tries entries over comes m)
   tries slots id m idle some_share s kept long at small =
       let v = m.0 in
       let f = kept.fits id v at in
@@ -159,16 +169,17 @@ module _ {V I : Type 0} (entries : V → List I) (comes : V → V → Type 0) (m
       (λ (free : kept.held ≡ 0).
       let home = kept.at_home free in
       let log = entries home.value in (
-        holding v log,
+        holding v log (over home.value),
         takes 0 (Some home.value),
         ap (λ hs. get_elem? hs 0) kept.homes ∙ ap some home.is,
-        holds_after s kept id v at idle some_share free log home.stands,
+        holds_after s kept id v at idle some_share free log home.stands (over home.value) home.ends,
         record {
           free = λ _. record {
             value = home.value;
             is = refl;
             begins = subst (λ l. StartsWith l v.seen) (sym home.stands) f.begins;
             stand = subst (λ l. StandIn l v.own) (sym home.stands) f.stand;
+            stays = λ e. home.ends ∙ f.saw e;
             source = source_of v.origin home.value f.source home.source;
           };
           taken = λ busy. absurd (busy (found ∙ free));
@@ -186,8 +197,11 @@ module _ {V I : Type 0} (entries : V → List I) (comes : V → V → Type 0) (m
   entered_is : (log old : List I) (entered : Option (List I)) → IfSome entered (λ l. l ≡ log) → entered ≡ Some old → old ≡ log
   entered_is log old entered inside is = subst (λ (o : Option (List I)). IfSome o (λ l. l ≡ log)) is inside
 
+  known_is : (ended was : Bool) (old : List I) (entered : Option (List I)) → IfSome entered (λ _. was ≡ ended) → entered ≡ Some old → was ≡ ended
+  known_is ended was old entered knows is = subst (λ (o : Option (List I)). IfSome o (λ _. was ≡ ended)) is knows
+
   -- one seat at most is inside
-  outside : (s : State (Option V) (View V I)) (kept : KeepsRule entries comes made s) (id seat : ℕ) (v u : View V I) → get_elem? s.views id ≡ some v
+  outside : (s : State (Option V) (View V I)) (kept : KeepsRule entries over comes made s) (id seat : ℕ) (v u : View V I) → get_elem? s.views id ≡ some v
       → get_elem? s.views seat ≡ some u → seat ≢ id → one_if (is_some v.entered) ≡ 1 → u.entered ≡ None
   outside s kept id seat v u at there apart inside =
       none_where u.entered (omega (arith, two_of_sum (λ (x : View V I). one_if (is_some x.entered)) s.views id seat v u at there apart, inside, kept.inside, kept.bit))
@@ -197,20 +211,22 @@ module _ {V I : Type 0} (entries : V → List I) (comes : V → V → Type 0) (m
       none_where (Some l) e = absurd (omega (arith, e))
 
   -- a seat gives the value back, with a longer history
-  home_after : (s : State (Option V) (View V I)) (kept : KeepsRule entries comes made s) (id : ℕ) (v : View V I) (homes : List (logic.Option (Option V))) (old : List I) (value : V)
-      → get_elem? s.views id ≡ some v → v.entered ≡ Some old → 0 < v.shares → StartsWith (entries value) old → comes value made.first.value
+  home_after : (s : State (Option V) (View V I)) (kept : KeepsRule entries over comes made s) (id : ℕ) (v : View V I) (homes : List (logic.Option (Option V))) (old : List I) (value : V)
+      → get_elem? s.views id ≡ some v → v.entered ≡ Some old → 0 < v.shares → StartsWith (entries value) old → (v.over ≡ true → over value ≡ true) → comes value made.first.value
       → homes ≡ slice_set s.homes 0 (some (Some value))
-      → KeepsRule entries comes made (record { words = slice_set s.words 0 0; homes = homes; views = slice_set s.views id (departed v (entries value)) })
-  home_after s kept id v homes old value at entered some_share grown source put =
+      → KeepsRule entries over comes made (record { words = slice_set s.words 0 0; homes = homes; views = slice_set s.views id (departed v (entries value) (over value)) })
+  home_after s kept id v homes old value at entered some_share grown stays source put =
       let log = entries value in
-      let w = departed v log in
+      let w = departed v log (over value) in
       let f = kept.fits id v at in
       let inside : one_if (is_some v.entered) ≡ 1 = ap (λ (o : Option (List I)). one_if (is_some o)) entered in
       let was : old ≡ kept.log = entered_is kept.log old v.entered f.inside entered in
       let longer : StartsWith log kept.log = subst (StartsWith log) was grown in
+      let known : v.over ≡ kept.ended = known_is kept.ended v.over old v.entered f.knows entered in
       let new : added (unwrap_or v.entered []) log ≡ added kept.log log = ap (λ (o : Option (List I)). added (unwrap_or o []) log) entered ∙ ap (λ l. added l log) was in
       record {
         log = log;
+        ended = over value;
         held = 0;
         begun = kept.begun;
         slot = some (Some value);
@@ -218,15 +234,18 @@ module _ {V I : Type 0} (entries : V → List I) (comes : V → V → Type 0) (m
         homes = put ∙ ap (λ hs. slice_set hs 0 (some (Some value))) kept.homes;
         bit = omega arith;
         inside = omega (arith, sum_by-at (λ (u : View V I). one_if (is_some u.entered)) s.views id v w at, kept.inside, kept.bit, inside);
-        at_home = λ _. record { value = value; is = refl; stands = refl; source = source };
-        fits = fits_set log s.views id w
+        at_home = λ _. record { value = value; is = refl; stands = refl; ends = refl; source = source };
+        fits = fits_set log (over value) s.views id w
             (λ seat u apart there.
             let g = kept.fits seat u there in
+            let out = sym (outside s kept id seat v u at there apart inside) in
             record {
               source = g.source;
-              inside = subst (λ (o : Option (List I)). IfSome o (λ l. l ≡ log)) (sym (outside s kept id seat v u at there apart inside)) tt;
+              inside = subst (λ (o : Option (List I)). IfSome o (λ l. l ≡ log)) out tt;
               begins = StartsWith-longer kept.log log u.seen g.begins longer;
               stand = StandIn-longer kept.log log u.own g.stand longer;
+              saw = λ e. stays (known ∙ g.saw e);
+              knows = subst (λ (o : Option (List I)). IfSome o (λ _. u.over ≡ over value)) out tt;
               idle = g.idle;
             })
             (record {
@@ -234,6 +253,8 @@ module _ {V I : Type 0} (entries : V → List I) (comes : V → V → Type 0) (m
               inside = tt;
               begins = StartsWith-itself log;
               stand = All-append (λ e. slice_get log e.0 ≡ Some e.1) v.own (added (unwrap_or v.entered []) log) (StandIn-longer kept.log log v.own f.stand longer) (StandIn-added (unwrap_or v.entered []) log);
+              saw = λ e. e;
+              knows = tt;
               idle = λ e. absurd (omega (arith, e, some_share));
             });
         whole = (id, w, set_at s.views id v w at, refl);
@@ -247,28 +268,31 @@ module _ {V I : Type 0} (entries : V → List I) (comes : V → V → Type 0) (m
       }
 
   pub leaves : (slots id : ℕ) (m before : Me (Option V) (View V I)) (old : List I) (value : V)
-      → m ≡ (before.0, (0, Some value) ∷ rest before.1) → before.0.entered ≡ Some old → 0 < before.0.shares → StartsWith (entries value) old → comes value made.first.value
-      → Allows (KeepsRule entries comes made) slots id m 0 (λ _. 0) (Leaves entries m)
-  leaves slots id m before old value now entered some_share grown source s kept long at small =
+      → m ≡ (before.0, (0, Some value) ∷ rest before.1) → before.0.entered ≡ Some old → 0 < before.0.shares → StartsWith (entries value) old → (before.0.over ≡ true → over value ≡ true) → comes value made.first.value
+      → Allows (KeepsRule entries over comes made) slots id m 0 (λ _. 0) (Leaves entries over m)
+  leaves slots id m before old value now entered some_share grown stays source s kept long at small =
       let f = kept.fits id m.0 at in
       let view : m.0 ≡ before.0 = ap (λ x. x.0) now in
       let holds : m.0.entered ≡ Some old = ap (λ v. v.entered) view ∙ entered in
       let was : old ≡ kept.log = entered_is kept.log old m.0.entered f.inside holds in
       let new : unwrap_or m.0.entered [] ≡ kept.log = ap (λ o. unwrap_or o []) holds ∙ was in
       let carried : carried_entries entries m.1 ≡ entries value = ap (λ x. carried_entries entries x.1) now in
+      let ends : carried_over over m.1 ≡ over value = ap (λ x. carried_over over x.1) now in
       let homes : put_back s.homes m.1 ≡ slice_set s.homes 0 (some (Some value)) = ap (λ x. put_back s.homes x.1) now in (
-        departed m.0 (entries value),
+        departed m.0 (entries value) (over value),
         gives,
         tt,
-        home_after s kept id m.0 (put_back s.homes m.1) old value at holds (subst (λ v. 0 < v.shares) (sym view) some_share) grown source homes,
+        home_after s kept id m.0 (put_back s.homes m.1) old value at holds (subst (λ v. 0 < v.shares) (sym view) some_share) grown
+            (λ e. stays (sym (ap (λ v. v.over) view) ∙ e)) source homes,
         record {
-          is = ap (λ log. (departed m.0 log, rest m.1)) (sym carried);
+          is = ap (λ log. (departed m.0 log (over value), rest m.1)) (sym carried)
+              ∙ ap (λ o. (departed m.0 (carried_entries entries m.1) o, rest m.1)) (sym ends);
           order = IsInOrder-added (unwrap_or m.0.entered []) (entries value) m.0.own (subst (λ log. StandIn log m.0.own) (sym new) f.stand);
         },
       )
 
   -- a seat gives a share to a new seat
-  pub splits : (id : ℕ) (v : View V I) → 2 ≤ v.shares → Splits (KeepsRule entries comes made) id v (lessened v) (offspring v)
+  pub splits : (id : ℕ) (v : View V I) → 2 ≤ v.shares → Splits (KeepsRule entries over comes made) id v (lessened v) (offspring v)
   splits id v two s kept at =
       let w = lessened v in
       let n = offspring v in
@@ -278,6 +302,7 @@ module _ {V I : Type 0} (entries : V → List I) (comes : V → V → Type 0) (m
       let whole = whole_set kept.log s.views id v w at refl kept.whole in
       record {
         log = kept.log;
+        ended = kept.ended;
         held = kept.held;
         begun = kept.begun;
         slot = kept.slot;
@@ -288,8 +313,8 @@ module _ {V I : Type 0} (entries : V → List I) (comes : V → V → Type 0) (m
         at_home = kept.at_home;
         fits = λ seat u there.
             ⊎_elim
-            (fits_set kept.log s.views id w (λ other x apart is. kept.fits other x is) (record { source = f.source; inside = f.inside; begins = f.begins; stand = f.stand; idle = λ e. absurd (omega (arith, e, two)) }) seat u)
-            (λ (same : n ≡ u). subst (Fits made kept.log) same (record { source = f.source; inside = tt; begins = f.begins; stand = All-nil (λ e. slice_get kept.log e.0 ≡ Some e.1); idle = λ e. absurd (omega (arith, e)) }))
+            (fits_set kept.log kept.ended s.views id w (λ other x apart is. kept.fits other x is) (record { source = f.source; inside = f.inside; begins = f.begins; stand = f.stand; saw = f.saw; knows = f.knows; idle = λ e. absurd (omega (arith, e, two)) }) seat u)
+            (λ (same : n ≡ u). subst (Fits made kept.log kept.ended) same (record { source = f.source; inside = tt; begins = f.begins; stand = All-nil (λ e. slice_get kept.log e.0 ≡ Some e.1); saw = f.saw; knows = tt; idle = λ e. absurd (omega (arith, e)) }))
             (at_snoc (slice_set s.views id w) n u seat there);
         whole = (whole.0, whole.1, at_longer (slice_set s.views id w) (n ∷ []) whole.0 whole.1 whole.2, whole.3);
         once = λ place. sum_is (λ u. times_at place u.own) (omega arith) ∙ kept.once place;
@@ -299,9 +324,9 @@ module _ {V I : Type 0} (entries : V → List I) (comes : V → V → Type 0) (m
       }
 
   -- a seat takes in another
-  pub joins : (id : ℕ) (v : View V I) (other : ℕ) (w : View V I) → 0 < v.shares → w.entered ≡ None → w.fresh ≡ false
-      → Joins (KeepsRule entries comes made) id v other w (joined v w) spent
-  joins id v other w some_share idle old s kept at apart there =
+  pub joins : (id : ℕ) (v : View V I) (other : ℕ) (w : View V I) → 0 < v.shares → v.entered ≡ None → w.entered ≡ None → w.fresh ≡ false
+      → Joins (KeepsRule entries over comes made) id v other w (joined v w) spent
+  joins id v other w some_share out idle old s kept at apart there =
       let both = joined v w in
       let none : View V I = spent in
       let views = slice_set s.views id both in
@@ -316,6 +341,7 @@ module _ {V I : Type 0} (entries : V → List I) (comes : V → V → Type 0) (m
       set_else views other id none (λ e. apart (sym e)) ∙ set_at s.views id v both at in
       record {
         log = kept.log;
+        ended = kept.ended;
         held = kept.held;
         begun = kept.begun;
         slot = kept.slot;
@@ -324,16 +350,18 @@ module _ {V I : Type 0} (entries : V → List I) (comes : V → V → Type 0) (m
         bit = kept.bit;
         inside = sum_is (λ u. one_if (is_some u.entered)) (omega (arith, outside)) ∙ kept.inside;
         at_home = kept.at_home;
-        fits = fits_set kept.log views other none
-            (λ seat u _ is. fits_set kept.log s.views id both (λ third x _ here. kept.fits third x here)
+        fits = fits_set kept.log kept.ended views other none
+            (λ seat u _ is. fits_set kept.log kept.ended s.views id both (λ third x _ here. kept.fits third x here)
             (record {
               source = f.source;
               inside = f.inside;
               begins = StartsWith-longer_of kept.log v.seen w.seen f.begins g.begins;
               stand = All-append (λ e. slice_get kept.log e.0 ≡ Some e.1) v.own w.own f.stand g.stand;
+              saw = of_either v.over w.over (kept.ended ≡ true) f.saw g.saw;
+              knows = subst (λ (o : Option (List I)). IfSome o (λ _. both.over ≡ kept.ended)) (sym out) tt;
               idle = λ e. absurd (omega (arith, e, some_share));
             }) seat u is)
-            (record { source = tt; inside = tt; begins = refl; stand = All-nil (λ e. slice_get kept.log e.0 ≡ Some e.1); idle = λ _. (refl, refl, refl) });
+            (record { source = tt; inside = tt; begins = refl; stand = All-nil (λ e. slice_get kept.log e.0 ≡ Some e.1); saw = λ (e : false ≡ true). cc; knows = tt; idle = λ _. (refl, refl, refl) });
         whole =
             let seat = kept.whole.0 in
             let u = kept.whole.1 in
@@ -356,10 +384,11 @@ module _ {V I : Type 0} (entries : V → List I) (comes : V → V → Type 0) (m
   pub record Ends (v : View V I) (value : V) : Type 0 where
     pub seen : entries value ≡ v.seen
     pub all : AreAll (entries value) v.own
+    pub stays : v.over ≡ true → over value ≡ true
     pub source : comes value made.first.value
 
   pub ends : (id : ℕ) (v : View V I) (words : List ℕ) (slots : List (Option V)) (last : Option V) → v.entered ≡ None → v.shares ≡ made.seats → 0 < v.shares
-      → Final (Seen (KeepsRule entries comes made) id v) words slots → get_elem? slots 0 ≡ some last → IsSomeAnd last (Ends v)
+      → Final (Seen (KeepsRule entries over comes made) id v) words slots → get_elem? slots 0 ≡ some last → IsSomeAnd last (Ends v)
   ends id v words slots last idle all some_share (s, (kept, at), _, _, values) there =
       let shares = one_of_sum (λ (u : View V I). u.shares) s.views id v at in
       let begun : kept.begun ≡ 1 =
@@ -390,25 +419,27 @@ module _ {V I : Type 0} (entries : V → List I) (comes : V → V → Type 0) (m
                   sym (sum_by-only (λ (u : View V I). times_at place u.own) s.views id v at (λ seat u apart there. ap (times_at place) (others seat u apart there).1))
                   ∙ (kept.once place ∙ ap one_if (lt-ltb place (length kept.log) below));
             });
+        stays = λ e. home.ends ∙ f.saw e;
         source = home.source;
       })
 
-module _ {V I : Type 0} (entries : V → List I) (comes : V → V → Type 0) where
+module _ {V I : Type 0} (entries : V → List I) (over : V → Bool) (comes : V → V → Type 0) where
   -- what a seat has that took the value out of the slot
   pub record Took (before : Me (Option V) (View V I)) (view : View V I) (value : V) : Type 0 where
-    pub view_is : view ≡ holding before.0 (entries value)
+    pub view_is : view ≡ holding before.0 (entries value) (over value)
     pub begins : StartsWith (entries value) before.0.seen
     pub stand : StandIn (entries value) before.0.own
+    pub stays : before.0.over ≡ true → over value ≡ true
     pub source : IfSome before.0.origin (λ o. comes value o.first.value)
 
   abbrev first_slot : List (ℕ × Option V) → Option V
   first_slot [] = None
   first_slot (slot ∷ slots) = slot.1
 
-  pub took-slot : (before after : Me (Option V) (View V I)) (taken : HasTaken entries comes before after) → after.1 ≡ (0, Some taken.value) ∷ rest after.1
+  pub took-slot : (before after : Me (Option V) (View V I)) (taken : HasTaken entries over comes before after) → after.1 ≡ (0, Some taken.value) ∷ rest after.1
   took-slot before after taken = subst (λ (m : Me (Option V) (View V I)). m.1 ≡ (0, Some taken.value) ∷ rest m.1) (sym taken.is) refl
 
-  pub took : (before after : Me (Option V) (View V I)) → HasTaken entries comes before after → (result : Option V) → after.1 ≡ (0, result) ∷ rest after.1 → IsSomeAnd result (Took before after.0)
+  pub took : (before after : Me (Option V) (View V I)) → HasTaken entries over comes before after → (result : Option V) → after.1 ≡ (0, result) ∷ rest after.1 → IsSomeAnd result (Took before after.0)
   took before after taken result there =
       subst (λ (o : Option V). IsSomeAnd o (Took before after.0)) (ap first_slot (sym (took-slot before after taken) ∙ there))
-      (record { view_is = ap (λ m. m.0) taken.is; begins = taken.begins; stand = taken.stand; source = taken.source })
+      (record { view_is = ap (λ m. m.0) taken.is; begins = taken.begins; stand = taken.stand; stays = taken.stays; source = taken.source })

@@ -1,5 +1,5 @@
 -- What contracts say of a seat and its lock.
-use Rattle.std.specs.Prelude.{◌≡◌, ℕ, ◌<◌, false, None, Some, unwrap_or, List, [], ◌∷◌}
+use Rattle.std.specs.Prelude.{◌≡◌, ℕ, ◌<◌, Bool, false, None, Some, unwrap_or, List, [], ◌∷◌}
 use Rattle.pr_lock.specs.declared.seats.Seat.{Seat}
 use Rattle.pr_lock.specs.declared.seats.Shared.{Shared}
 
@@ -20,6 +20,10 @@ module _ {V I : Type 0} where
   -- that it took in
   abbrev pub own_of : Seat V I → List (ℕ × I)
   own_of seat = seat.seat.me.0.own
+
+  -- whether the seat has seen that the value is over
+  abbrev pub saw_over : Seat V I → Bool
+  saw_over seat = seat.seat.me.0.over
 
   -- its shares of the lock
   abbrev pub shares_of : Seat V I → ℕ

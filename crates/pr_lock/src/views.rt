@@ -24,6 +24,8 @@ pub struct View<V, I> {
     pub own: LinkedList<(u64, I)>,
     /// The history that was entered, between `enter` and `leave`.
     pub entered: Option<LinkedList<I>>,
+    /// The value was over when the seat saw it last.
+    pub over: bool,
     /// Its shares of the lock.
     pub shares: u32,
 }
@@ -34,7 +36,7 @@ pub struct OneHistory;
 impl<V: Logged> TableRule<Option<V>, View<V, V::Item>, Origin<V>> for OneHistory {
     ghost use Rattle.pr_lock.specs.Rule.{KeepsRule, newcomer};
 
-    ghost holds = { KeepsRule V.entries V.comes };
+    ghost holds = { KeepsRule V.entries V.over V.comes };
 
     ghost first = { newcomer };
 }
@@ -54,7 +56,7 @@ pub struct Try;
 impl<V: Logged> Play<Option<V>, View<V, V::Item>> for Try {
     ghost use Rattle.pr_lock.specs.Steps.{Tries};
 
-    ghost then = { λ _. Tries V.entries V.comes };
+    ghost then = { λ _. Tries V.entries V.over V.comes };
 }
 
 /// A seat gives the value back.
@@ -63,7 +65,7 @@ pub struct Leave;
 impl<V: Logged> Play<Option<V>, View<V, V::Item>> for Leave {
     ghost use Rattle.pr_lock.specs.Steps.{Leaves};
 
-    ghost then = { λ _. Leaves V.entries };
+    ghost then = { λ _. Leaves V.entries V.over };
 }
 
 /// A share goes to a new seat.

@@ -1,22 +1,22 @@
-use Rattle.std.proofs.Common.{◌≡◌, ◌<◌, ◌≤◌, ◌+◌, ◌-◌, ◌++◌, inl, inr, ℕ, Bool, true, false, Option, Some, None, is_none, is_some, Result, Ok, Err, IfOk, zero, suc, ◌&&◌, ◌||◌, List, [], ◌∷◌, All, length, cond, nat_lt, nat_le, flat_map, map, take, drop, append-nil, refl, sym, ◌∙◌, ap, subst, arith}
+use Rattle.std.proofs.Common.{◌≡◌, ◌<◌, ◌≤◌, ◌+◌, ◌-◌, ◌++◌, ◌⊎◌, inl, inr, ℕ, Bool, true, false, Option, Some, None, is_none, is_some, IsSome, Result, Ok, Err, IfOk, OnErr, zero, suc, ◌&&◌, ◌||◌, List, [], ◌∷◌, All, length, cond, nat_lt, nat_le, flat_map, map, take, drop, append-nil, refl, sym, ◌∙◌, ap, subst, arith}
 use borrow.Author.Tests.{ltb-true, ltb-false}
 use Rattle.std.proofs.Math.Bool.{or-false, or-true}
 use Rattle.std.proofs.lemmas.List.{length-map, take_all, take_at, drop_all, drop_at}
 use Rattle.std.proofs.lemmas.List.Elements.{All-append, All-cons, All-head, All-nil}
 use Rattle.std.proofs.lemmas.Bool.Decides.{nat_tests}
 use Rattle.std.proofs.lemmas.Option.{none-some, same_Some}
-use Rattle.std.specs.List.{enumerate_from, slice_get, slice_index_or}
+use Rattle.std.specs.List.{enumerate_from, list_any, slice_get, slice_index_or}
 use Rattle.std.specs.Option.{ForSome, option_and_then}
-use Rattle.pr_api.specs.Views.{IsLawful}
+use Rattle.pr_api.specs.Views.{IsLawful, KernelView}
 use Rattle.pr_lock.specs.History.{AreAll, IsInOrder, StandIn, StartsWith, added}
-use Rattle.pr_lock.specs.Seats.{IsOutside, own_of, seen_of, shares_of}
+use Rattle.pr_lock.specs.Seats.{IsOutside, own_of, saw_over, seen_of, shares_of}
 use Rattle.pr_lock.specs.declared.seats.Seat.{Seat}
 use Rattle.pr_lock.specs.declared.seats.Shared.{Shared}
 use Rattle.pr_model.specs.declared.events.Actor.{Actor}
 use Rattle.pr_model.specs.declared.events.Actor.TheVariants.{Controller, Clock}
 use Rattle.pr_model.specs.declared.events.Entry.{Entry}
 use Rattle.pr_world.proofs.ProtocolLemmas.{controllers_at-count}
-use Rattle.pr_world.proofs.RestLemmas.{either, from_lwp-next, mapped-back}
+use Rattle.pr_world.proofs.RestLemmas.{all-rest, either, from_lwp-next, mapped-back}
 use Rattle.pr_world.proofs.RunLemmas.{came-on}
 use Rattle.pr_num.proofs.ListLemmas.{take-next}
 use Rattle.pr_num.specs.declared.memory.NoMemory.{NoMemory}
@@ -24,17 +24,22 @@ use Rattle.pr_world.specs.Controllers.{call_by, has_finished, next_call}
 use Rattle.pr_world.specs.ControllerStates.{ControllerState}
 use Rattle.pr_world.specs.Moves.{entry_of}
 use Rattle.pr_world.specs.Runs.{CameFrom}
-use Rattle.pr_world.specs.Worlds.{WorldState, as_lwp, can_act, clock_if_awaited, end_of, ended_as, first_lwp, from_lwp}
+use Rattle.pr_world.specs.Worlds.{WorldState, as_lwp, can_act, clock_if_awaited, end_of, ended_as, first_lwp, from_lwp, goes_on, next_actor, seen}
 use Rattle.pr_world.specs.declared.ends.End.{End}
 use Rattle.pr_run.proofs.OneLemmas.{full-ends}
 use Rattle.pr_run.proofs.LogLemmas.{all-entries, each-stands, entries-append, entries-of_each, order-entries, order-log, stands-apart, log-at, log-next}
-use Rattle.pr_run.specs.ManyRuns.{AtPlaces, GoesOn, HasLeft, HasMade, HasWorked, IsMadeBy, IsMovedBy, IsNextOf, IsReady, IsTurnOf, IsWorkOf, MakesTurn, MovesNext, Rests, is_done, is_finished, last_lwp, lwp_of, next_for, next_of_controller, next_on_processor}
+use Rattle.pr_run.specs.ManyRuns.{AtPlaces, GoesOn, HasLeft, HasMade, HasStopped, HasWorked, IsMadeBy, IsMovedBy, IsNextOf, IsReady, IsTurnOf, IsWorkOf, MakesTurn, MovesNext, Rests, is_done, is_finished, last_lwp, lwp_of, next_for, next_of_controller, next_on_processor, is_over}
 use Rattle.pr_run.specs.Logs.{behind, entries_of, log_of}
 use Rattle.pr_run.specs.declared.shared_worlds.LoggedEntry.{LoggedEntry}
+use Rattle.pr_run.specs.declared.shared_worlds.SharedWorld.{SharedWorld}
 use Rattle.pr_run.specs.declared.workers.Progress.{Progress}
 use Rattle.pr_run.specs.declared.workers.Progress.TheVariants.{Moved, Idle, Done}
 
 -- The turns of workers.
+
+pub or-of : (a b c : Bool) → ((a || b) || c) ≡ (a || (b || c))
+or-of true b c = refl
+or-of false b c = refl
 
 -- ---- who moves next
 
@@ -81,6 +86,9 @@ next-moves processors worker last w a e = of (nat_lt worker processors) refl e
         record { acts = it.0; its = subst (IsMovedBy processors worker) (sym it.1) behind }
 
 -- ---- who has nothing more to do
+
+within-less : (a b : ℕ) → a < b → nat_lt a b ≡ true
+within-less a b h = grind (arith, nat_tests)
 
 not_within : (a b : ℕ) → b < a → nat_le a b ≡ false
 not_within a b h = grind (arith, nat_tests)
@@ -130,6 +138,72 @@ pub full-done : (w : WorldState) (processors worker : ℕ) → w.kernel.places �
 unfolding is_done ended_as
 full-done w processors worker full =
     ap (λ (b : Bool). is_some (cond b None (Some (end_of w))) || is_finished processors worker w) (full-ends w full)
+
+-- where a worker of the processor has nothing more to do, the world has ended
+done-ended : (processors worker : ℕ) (w : WorldState) → worker < processors → is_done processors worker w ≡ true
+    → is_some (ended_as w) ≡ true
+unfolding is_done
+done-ended processors worker w h e =
+    let ended : Bool = is_some (ended_as w) in
+    sym (or-false ended) ∙ (ap (λ (b : Bool). ended || b) (processor-moves_on w processors worker h) ∙ e)
+
+-- ---- what is over stays so
+
+-- a world in which an actor moves goes on
+move-goes_on : (processors worker : ℕ) (old new : Option (ℕ × ℕ)) (w v : WorldState) → IsLawful w.kernel
+    → MovesNext processors worker old new w v → goes_on w ≡ true
+unfolding goes_on
+move-goes_on processors worker old new w v lawful m = of (next_actor w) refl
+  where
+    place : nat_lt (length w.kernel.history) w.kernel.places ≡ true
+    place = within-less (length w.kernel.history) w.kernel.places m.place
+
+    of : (next : Option Actor) → next_actor w ≡ next
+        → (nat_lt (length w.kernel.history) w.kernel.places && is_some (next_actor w)) ≡ true
+    of None rest = let no : true ≡ false = sym m.moves.leads.acts ∙ all-rest w m.actor lawful rest in cc
+    of (Some a) next = ap (λ (b : Bool). b && is_some (next_actor w)) place ∙ ap is_some next
+
+-- a world that has ended is as it is after a turn
+pub turn-stays : (processors worker : ℕ) (old new : Option (ℕ × ℕ)) (w v : WorldState) → IsLawful w.kernel
+    → IsTurnOf processors worker old new w v → is_some (ended_as w) ≡ true → is_some (ended_as v) ≡ true
+unfolding ended_as
+turn-stays processors worker old new w v lawful (inl r) ended = subst (λ (x : WorldState). is_some (ended_as x) ≡ true) (sym r.world) ended
+turn-stays processors worker old new w v lawful (inr m) ended =
+    let goes = move-goes_on processors worker old new w v lawful m in
+    let no : is_some (ended_as w) ≡ false = ap (λ (b : Bool). is_some (cond b None (Some (end_of w)))) goes in
+    let never : true ≡ false = sym ended ∙ no in
+    cc
+
+pub over-on : (r : Option NoMemory) (w v : WorldState) → (is_some (ended_as w) ≡ true → is_some (ended_as v) ≡ true)
+    → (is_some r || is_some (ended_as w)) ≡ true → (is_some r || is_some (ended_as v)) ≡ true
+over-on None w v on e = on e
+over-on (Some x) w v on e = refl
+
+module _ {Q : Type 0} (view : Q → KernelView) (shared : SharedWorld Q) where
+  pub ended-over : is_some (ended_as (seen view shared.world)) ≡ true → is_over view shared ≡ true
+  ended-over e = ap (λ (b : Bool). is_some shared.refusal || b) e ∙ or-true (is_some shared.refusal)
+
+  pub refused-over : IsSome shared.refusal → is_over view shared ≡ true
+  refused-over e = ap (λ (b : Bool). b || is_some (ended_as (seen view shared.world))) e
+
+  -- what is over has ended, where memory was not refused
+  pub over-ends : is_over view shared ≡ true → shared.refusal ≡ None → goes_on (seen view shared.world) ≡ false
+  unfolding ended_as
+  over-ends over none = of (goes_on (seen view shared.world)) refl
+    where
+      ended : is_some (ended_as (seen view shared.world)) ≡ true
+      ended = sym (ap (λ (r : Option NoMemory). is_some r || is_some (ended_as (seen view shared.world))) none) ∙ over
+
+      of : (b : Bool) → goes_on (seen view shared.world) ≡ b → goes_on (seen view shared.world) ≡ false
+      of true goes =
+          let no = ap (λ (b : Bool). is_some (cond b None (Some (end_of (seen view shared.world))))) goes in
+          let never : true ≡ false = sym ended ∙ no in
+          cc
+      of false goes = goes
+
+pub on-refused : {T E : Type 0} (r : Result T E) (A B : Type 0) → OnErr r A → (A → B) → OnErr r B
+on-refused (Ok x) A B a f = tt
+on-refused (Err e) A B a f = f a
 
 -- ---- one turn
 
@@ -213,16 +287,18 @@ module _ (processors worker : ℕ) (old new : Option (ℕ × ℕ)) (w v : WorldS
 
 -- a worker that has nothing more to do, left in that world
 pub done-left : {V : Type 0} (first : WorldState) (processors worker : ℕ) (old new : Option (ℕ × ℕ)) (w v : WorldState) (r : Result Progress NoMemory) (seat : Seat V LoggedEntry)
-    → IfOk r (λ progress. MakesTurn processors worker old new w v progress) → IsLawful w.kernel → CameFrom first w → seen_of seat ≡ log_of v.kernel.history → IfOk r (λ progress. progress ≡ Done → HasLeft first processors worker seat)
-done-left first processors worker old new w v (Err x) seat made lawful came seen = tt
-done-left first processors worker old new w v (Ok Moved) seat made lawful came seen = λ e. cc
-done-left first processors worker old new w v (Ok Idle) seat made lawful came seen = λ e. cc
-done-left first processors worker old new w v (Ok Done) seat made lawful came seen = λ e. record {
+    → IfOk r (λ progress. MakesTurn processors worker old new w v progress) → IsLawful w.kernel → CameFrom first w → seen_of seat ≡ log_of v.kernel.history
+    → (is_some (ended_as v) ≡ true → saw_over seat ≡ true) → IfOk r (λ progress. progress ≡ Done → HasLeft first processors worker seat)
+done-left first processors worker old new w v (Err x) seat made lawful came seen over = tt
+done-left first processors worker old new w v (Ok Moved) seat made lawful came seen over = λ e. cc
+done-left first processors worker old new w v (Ok Idle) seat made lawful came seen over = λ e. cc
+done-left first processors worker old new w v (Ok Done) seat made lawful came seen over = λ e. record {
   world = w;
   lawful = lawful;
   came = came;
   seen = seen ∙ ap (λ (x : WorldState). log_of x.kernel.history) made.0.world;
   done = made.1;
+  over = λ ended. over (ap (λ (x : WorldState). is_some (ended_as x)) made.0.world ∙ ended);
 }
 
 -- ---- the entries of a worker
@@ -310,6 +386,27 @@ written-back xs items n same all =
 module _ {V : Type 0} (first : WorldState) (processors : ℕ) (lock : Shared V LoggedEntry) where
   pub ready-worked : (worker : ℕ) (seat : Seat V LoggedEntry) → IsReady lock seat → HasWorked first processors lock worker seat
   ready-worked worker seat ready = record { outside = ready.outside; share = ready.share; made = record { work = λ history stand. no-work first history processors worker (own_of seat) ready.none } }
+
+  -- where a worker of the processor has made its last turn, all is over
+  stopped-over : (worker : ℕ) (seat : Seat V LoggedEntry) → worker < processors
+      → HasStopped first processors lock worker seat → saw_over seat ≡ true
+  stopped-over worker seat h stopped = of stopped.stops
+    where
+      of : HasLeft first processors worker seat ⊎ (saw_over seat ≡ true) → saw_over seat ≡ true
+      of (inl left) = left.over (done-ended processors worker left.world h left.done)
+      of (inr over) = over
+
+  -- One of the workers is one of the processor.
+  pub all-over : (seats : List (Seat V LoggedEntry)) → AtPlaces (HasStopped first processors lock) seats
+      → 0 < processors → 0 < length seats → list_any (λ seat. saw_over seat) seats ≡ true
+  all-over [] stopped some many = absurd (omega arith)
+  all-over (seat ∷ seats) stopped some many =
+      ap (λ (b : Bool). b || list_any (λ (x : Seat V LoggedEntry). saw_over x) seats)
+      (stopped-over 0 seat some (stopped 0 seat many))
+
+  pub all-worked : (seats : List (Seat V LoggedEntry)) → AtPlaces (HasStopped first processors lock) seats
+      → AtPlaces (HasWorked first processors lock) seats
+  all-worked seats stopped = λ k d h. (stopped k d h).worked
 
   pub all-out : (seats : List (Seat V LoggedEntry)) → AtPlaces (HasWorked first processors lock) seats → All (λ seat. IsOutside seat lock × (shares_of seat ≡ 1)) seats
   all-out seats worked = λ k d h. let it = worked k d h in (it.outside, it.share)

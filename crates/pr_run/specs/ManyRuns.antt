@@ -2,7 +2,7 @@ use Rattle.std.specs.Prelude.{◌≡◌, ◌<◌, ◌+◌, ◌-◌, ◌⊎◌, �
 use Rattle.std.specs.Option.{option_or}
 use Rattle.pr_api.specs.Views.{IsLawful, KernelView}
 use Rattle.pr_lock.specs.History.{AreAll, IsInOrder, StandIn}
-use Rattle.pr_lock.specs.Seats.{IsOutside, first_of, own_of, seen_of, shares_of}
+use Rattle.pr_lock.specs.Seats.{IsOutside, first_of, own_of, saw_over, seen_of, shares_of}
 use Rattle.pr_lock.specs.declared.seats.Seat.{Seat}
 use Rattle.pr_lock.specs.declared.seats.Shared.{Shared}
 use Rattle.pr_model.specs.declared.events.Actor.{Actor}
@@ -57,8 +57,9 @@ unfoldable pub is_done : ℕ → ℕ → WorldState → Bool
 is_done processors worker w = is_some (ended_as w) || is_finished processors worker w
 
 -- The actor that the worker moves next made its move. Where that is an lwp, the worker goes on after it, and else from
--- the first lwp on.
+-- the first lwp on. There was a place for the entry.
 pub record MovesNext (processors worker : ℕ) (old new : Option (ℕ × ℕ)) (w v : WorldState) : Type 0 where
+  pub place : length w.kernel.history < w.kernel.places
   pub actor : Actor
   pub next : next_for processors worker old w ≡ Some actor
   pub moves : Moves w actor v
@@ -79,6 +80,10 @@ MakesTurn processors worker old new w v Done = Rests old new w v × (is_done pro
 -- whatever came of a turn: at most one move, of the actor that comes next
 abbrev pub IsTurnOf : ℕ → ℕ → Option (ℕ × ℕ) → Option (ℕ × ℕ) → WorldState → WorldState → Type 0
 IsTurnOf processors worker old new w v = Rests old new w v ⊎ MovesNext processors worker old new w v
+
+-- Whether what lies under the lock is over: memory was refused to a worker, or the world has ended. It stays so.
+abbrev pub is_over : {Q : Type 0} → (Q → KernelView) → SharedWorld Q → Bool
+is_over view shared = is_some shared.refusal || is_some (ended_as (seen view shared.world))
 
 -- ---- all turns
 
@@ -142,13 +147,21 @@ pub record HasWorked {V : Type 0} (first : WorldState) (processors : ℕ) (lock 
   pub made : HasMade first processors worker (own_of seat)
 
 -- A worker left where it had nothing more to do: in a world that came from the first one, and whose history its seat
--- has seen.
+-- has seen; and also that all is over, where that world had ended.
 pub record HasLeft {V : Type 0} (first : WorldState) (processors worker : ℕ) (seat : Seat V LoggedEntry) : Type 0 where
   pub world : WorldState
   pub lawful : IsLawful world.kernel
   pub came : CameFrom first world
   pub seen : seen_of seat ≡ log_of world.kernel.history
   pub done : is_done processors worker world ≡ true
+  pub over : is_some (ended_as world) ≡ true → saw_over seat ≡ true
+
+-- A worker that has made its last turn. It left where it had nothing more to do, or its seat has seen that all is over;
+-- and no worker of the processor left but where all was over.
+pub record HasStopped {V : Type 0} (first : WorldState) (processors : ℕ) (lock : Shared V LoggedEntry) (worker : ℕ)
+    (seat : Seat V LoggedEntry) : Type 0 where
+  pub worked : HasWorked first processors lock worker seat
+  pub stops : HasLeft first processors worker seat ⊎ (saw_over seat ≡ true)
 
 -- The entries of a history are those that these workers made in a run from the first world on, each once: so many that
 -- share the processor, and one for each controller.

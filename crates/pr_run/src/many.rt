@@ -1,13 +1,15 @@
 //! Runs of a world on several threads.
-ghost use Rattle.std.specs.Prelude.{◌≡◌, ◌+◌, ◌≤◌, ◌<◌, ◌^◌, ◌++◌, [], None, Some, All, length, flat_map, vec_len, IfOk, OnOk, IsOkUnless};
-ghost use Rattle.pr_lock.specs.Seats.{IsOutside, first_of, own_of, shares_of};
+ghost use Rattle.std.specs.Prelude.{◌≡◌, ◌+◌, ◌≤◌, ◌<◌, ◌^◌, ◌++◌, ◌||◌, true, [], None, Some, All, length, flat_map, vec_len, IfOk, OnErr, OnOk, IsOkUnless};
+ghost use Rattle.std.specs.List.{list_any};
+ghost use Rattle.pr_lock.specs.Seats.{IsOutside, first_of, own_of, saw_over, shares_of};
 ghost use Rattle.pr_num.specs.Limits.{worker_limit};
 ghost use Rattle.pr_run.specs.Logs.{entries_of};
-ghost use Rattle.pr_run.specs.ManyRuns.{AtPlaces, HasLeft, HasWorked, IsMadeBy, IsReady, first_world, last_lwp};
+ghost use Rattle.pr_run.specs.ManyRuns.{AtPlaces, HasLeft, HasStopped, HasWorked, IsMadeBy, IsReady, first_world, is_over, last_lwp};
 ghost use Rattle.pr_run.specs.declared.workers.Progress.TheVariants.{Done};
 ghost use Rattle.pr_world.specs.Runs.{CameFrom};
 ghost use Rattle.pr_world.specs.Worlds.{ended_as, seen};
 
+use crate::one::end;
 use crate::shared_worlds::SharedWorld;
 use crate::workers::{Progress, Worker};
 use pr_api::Kernel;
@@ -36,6 +38,7 @@ fn take_turn<R: Wait, Q: Kernel + Send>(
     ensures last { last.new ≡ last_lwp None (entries_of (own_of seat.new)) }
     ensures done { IfOk result (λ progress. progress ≡ Done
         → HasLeft (first_world Q.view lock.now) worker.processors worker.number seat.new) }
+    ensures refused { OnErr result (saw_over seat.new ≡ true) }
 {
     let mut shared = lock.enter(rt, seat);
     let progress = shared.take_turn(worker, last);
@@ -43,29 +46,29 @@ fn take_turn<R: Wait, Q: Kernel + Send>(
     progress
 }
 
-/// All turns of a worker, until it has nothing more to do, or memory was refused, to it or to another one. It passes
-/// the gate before each, outside the lock.
+/// All turns of a worker, until it has nothing more to do, or memory was refused, to it or to another one, which left
+/// its mark beside the world. It passes the gate before each, outside the lock.
 fn take_turns<R: Wait, Q: Kernel + Send, G: Gate>(
     rt: &R,
     lock: &Shared<SharedWorld<Q>>,
     seat: &mut Seat<SharedWorld<Q>>,
     worker: Worker,
     gate: &G,
-) -> Result<(), NoMemory>
+)
     requires seat { IsReady lock.now seat.old }
     requires number { worker.number < worker.processors + length (first_of lock.now).world.controllers }
-    ensures seat { HasWorked (first_world Q.view lock.now) worker.processors lock.now worker.number seat.new }
-    ensures left { OnOk result (HasLeft (first_world Q.view lock.now) worker.processors worker.number seat.new) }
+    ensures { HasStopped (first_world Q.view lock.now) worker.processors lock.now worker.number seat.new }
 {
     let mut last = None;
     let mut turn = 0u64;
     for _ in rt.forever() {
         gate.pass(worker.number, turn);
         turn = turn.saturating_add(1);
-        match take_turn(rt, lock, seat, worker, &mut last)? {
-            Progress::Moved => {}
-            Progress::Idle => thread::yield_now(),
-            Progress::Done => return Ok(()),
+        match take_turn(rt, lock, seat, worker, &mut last) {
+            Ok(Progress::Moved) => {}
+            Ok(Progress::Idle) => thread::yield_now(),
+            Ok(Progress::Done) => return,
+            Err(_) => return,
         }
     }
     unreachable!()
@@ -102,7 +105,7 @@ fn work<R: Threads + Wait + Sync, Q: Kernel + Send, G: Gate + Sync>(
     requires few { length seats.old < 2 ^ 32 }
     requires number { length seats.old ≤ processors + length (first_of lock.now).world.controllers }
     requires seats { All (IsReady lock.now) seats.old }
-    ensures seats { AtPlaces (HasWorked (first_world Q.view lock.now) processors lock.now) seats.new }
+    ensures seats { AtPlaces (HasStopped (first_world Q.view lock.now) processors lock.now) seats.new }
 {
     let threads = seats.len().max(1);
     thread::for_each_mut(
@@ -113,19 +116,18 @@ fn work<R: Threads + Wait + Sync, Q: Kernel + Send, G: Gate + Sync>(
             requires few { number < 2 ^ 32 }
             requires number { number < processors + length (first_of lock.now).world.controllers }
             requires seat { IsReady lock.now seat.old }
-            ensures { HasWorked (first_world Q.view lock.entry.now) processors lock.entry.now number seat.new }
+            ensures { HasStopped (first_world Q.view lock.entry.now) processors lock.entry.now number seat.new }
         {
             let worker = Worker {
                 processors,
                 number: number as u32,
             };
-            // A refusal has left its mark beside the world.
-            let _ = take_turns(rt, lock, seat, worker, gate);
+            take_turns(rt, lock, seat, worker, gate);
         },
     );
 }
 
-/// All seats in one.
+/// All seats in one, which has seen that all is over, if one of them has.
 fn gather<Q: Kernel + Send>(
     lock: &Shared<SharedWorld<Q>>,
     seat: &mut Seat<SharedWorld<Q>>,
@@ -136,23 +138,11 @@ fn gather<Q: Kernel + Send>(
     ensures lock { IsOutside seat.new lock.now }
     ensures shares { shares_of seat.new ≡ shares_of seat.old + vec_len seats }
     ensures own { own_of seat.new ≡ own_of seat.old ++ flat_map (λ seat. own_of seat) seats.items }
+    ensures over { saw_over seat.new ≡ saw_over seat.old || list_any (λ seat. saw_over seat) seats.items }
 {
     for other in seats {
         lock.join(seat, other);
     }
-}
-
-/// How a world ended that its workers left because it had ended. It asks until it has, which is once.
-fn end<R: Wait, Q: Kernel>(rt: &R, world: &mut World<Q>) -> Result<End, NoMemory>
-    ensures value { IfOk result (λ end. ended_as (seen Q.view world.old) ≡ Some end) }
-    ensures same { world.new ≡ world.old }
-{
-    for _ in rt.forever() {
-        if let Some(end) = world.ended()? {
-            return Ok(end);
-        }
-    }
-    unreachable!()
 }
 
 /// A kernel has no more entries than places. Does nothing.
@@ -164,8 +154,9 @@ fn keep_within<Q: Kernel>(kernel: &Q)
     prove!(entries <= places);
 }
 
-/// The world that workers left, and how its run ended.
-fn ended<R: Wait, Q: Kernel>(rt: &R, shared: SharedWorld<Q>) -> (World<Q>, Result<End, NoMemory>)
+/// The world that workers left where all was over, and how its run ended: it had, unless memory was refused.
+fn ended<Q: Kernel>(shared: SharedWorld<Q>) -> (World<Q>, Result<End, NoMemory>)
+    requires { is_over Q.view shared ≡ true }
     ensures world { result.0 ≡ shared.world }
     ensures within { length (Q.view result.0.kernel).history ≤ (Q.view result.0.kernel).places }
     ensures end { IfOk result.1 (λ end. ended_as (seen Q.view result.0) ≡ Some end) }
@@ -173,7 +164,7 @@ fn ended<R: Wait, Q: Kernel>(rt: &R, shared: SharedWorld<Q>) -> (World<Q>, Resul
     let SharedWorld { mut world, refusal } = shared;
     let end = match refusal {
         Some(refusal) => Err(refusal),
-        None => end(rt, &mut world),
+        None => end(&mut world),
     };
     keep_within(world.kernel());
     (world, end)
@@ -181,8 +172,10 @@ fn ended<R: Wait, Q: Kernel>(rt: &R, shared: SharedWorld<Q>) -> (World<Q>, Resul
 
 /// Makes the run of a world by workers, each in a thread of its own: so many that share the processor and move lwps and
 /// the clock, and one for each controller. They take the world in turn under a lock, in any order; its schedule is not
-/// used. It ends where the world has ended, and says how; where memory runs out on the way, the world is handed back as
-/// it stands. It waits for its workers: what is said here holds if it returns.
+/// used. A worker leaves where the world has ended, its controller has finished, or memory was refused, and one of the
+/// processor never where its controller has: so the world has ended when all have left, and it says how. Where memory
+/// runs out on the way, the world is handed back as it stands. It waits for its workers, and for nothing else once they
+/// have left: what is said here holds if it returns.
 pub fn run_many<R: Threads + Wait + Sync, Q: Kernel + Send, G: Gate + Sync>(
     rt: &R,
     alloc: Global,
@@ -217,5 +210,5 @@ pub fn run_many<R: Threads + Wait + Sync, Q: Kernel + Send, G: Gate + Sync>(
     let mut seats = seats_of(alloc, &lock, &mut seat, count)?;
     work(rt, &lock, &mut seats, workers, gate);
     gather(&lock, &mut seat, seats);
-    Ok(ended(rt, lock.close(seat)))
+    Ok(ended(lock.close(seat)))
 }

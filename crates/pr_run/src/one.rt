@@ -24,7 +24,7 @@ fn advance<Q: Kernel>(world: &mut World<Q>) -> Result<bool, NoMemory>
 }
 
 /// How a world has ended that does not go on.
-fn end<Q: Kernel>(world: &mut World<Q>) -> Result<End, NoMemory>
+pub(crate) fn end<Q: Kernel>(world: &mut World<Q>) -> Result<End, NoMemory>
     requires { goes_on (seen Q.view world.old) ≡ false }
     ensures value { IfOk result (λ end. ended_as (seen Q.view world.old) ≡ Some end) }
     ensures same { world.new ≡ world.old }

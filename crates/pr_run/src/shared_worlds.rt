@@ -1,7 +1,7 @@
 //! What lies under the lock of a run on several threads.
-ghost use Rattle.std.specs.Prelude.{◌≡◌, ◌+◌, ◌<◌, None, IsSome, IfOk, OnOk, OnErr, length};
+ghost use Rattle.std.specs.Prelude.{◌≡◌, ◌+◌, ◌<◌, true, None, IsSome, IfOk, OnOk, OnErr, length};
 ghost use Rattle.pr_api.specs.Views.{IsLawful};
-ghost use Rattle.pr_run.specs.ManyRuns.{IsTurnOf, MakesTurn};
+ghost use Rattle.pr_run.specs.ManyRuns.{IsTurnOf, MakesTurn, is_over};
 ghost use Rattle.pr_world.specs.Runs.{CameFrom};
 ghost use Rattle.pr_world.specs.Worlds.{WorldState, seen};
 
@@ -28,12 +28,15 @@ pub struct SharedWorld<Q> {
 
 impl<Q: Kernel> Logged for SharedWorld<Q> {
     ghost use Rattle.pr_run.specs.Logs.{log_of};
+    ghost use Rattle.pr_run.specs.ManyRuns.{is_over};
     ghost use Rattle.pr_world.specs.Runs.{CameFrom};
     ghost use Rattle.pr_world.specs.Worlds.{seen};
 
     type Item = LoggedEntry;
 
     ghost entries = { λ shared. log_of (Q.view shared.world.kernel).history };
+
+    ghost over = { is_over Q.view };
 
     ghost comes = { λ shared first. CameFrom (seen Q.view first.world) (seen Q.view shared.world) };
 
@@ -62,6 +65,7 @@ impl<Q: Kernel> SharedWorld<Q> {
         ensures unmarked { OnOk result (self.new.refusal ≡ None) }
         ensures refused { OnErr result
             (IsSome self.new.refusal × (self.new.world ≡ self.old.world) × (last.new ≡ last.old)) }
+        ensures stays { is_over Q.view self.old ≡ true → is_over Q.view self.new ≡ true }
         ensures marked { IsSome self.old.refusal → self.new ≡ self.old }
     {
         if let Some(refusal) = self.refusal {

@@ -5,6 +5,7 @@ pub mod GivingLemmas
 pub mod InputLemmas
 pub mod MadeLemmas
 pub mod MarkLemmas
+pub mod OnwardLemmas
 pub mod PieceLemmas
 pub mod ReadingLemmas
 pub mod ReportLemmas

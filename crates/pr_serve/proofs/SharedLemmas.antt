@@ -6,6 +6,8 @@ use Rattle.pr_model.specs.declared.events.Actor.{Actor}
 use Rattle.pr_model.specs.declared.events.Entry.{Entry}
 use Rattle.pr_num.specs.Limits.{scenario_limit}
 use Rattle.pr_num.specs.declared.memory.NoMemory.{NoMemory}
+use Rattle.pr_run_laws.specs.Prefixes.{IsPrefix}
+use Rattle.pr_run_laws.specs.ScenarioRanges.{IsScenarioInRange}
 use Rattle.pr_run_laws.specs.ScenarioRuns.{IsKept, first_world}
 use Rattle.pr_run_laws.proofs.KeptLemmas.{came-kept}
 use Rattle.pr_scen.specs.Scenarios.{Scenario}
@@ -16,16 +18,16 @@ use Rattle.pr_world.specs.declared.ends.End.{End}
 use Rattle.pr_world.proofs.RestLemmas.{all-rest, next-acts}
 use Rattle.pr_world.proofs.RunLemmas.{signalled-lawful}
 use Rattle.pr_serve.proofs.InputLemmas.{input-range}
+use Rattle.pr_serve.proofs.OnwardLemmas.{HasEnd, first-end, led-end, led-places}
 use Rattle.pr_serve.proofs.ReadingLemmas.{taken}
 use Rattle.pr_serve.proofs.RunEndLemmas.{status_cases}
-use Rattle.pr_serve.proofs.RunLemmas.{first_world-places}
 use Rattle.pr_serve.specs.Answers.{Answer, IsEndOf, MayAnswer, MayAnswerRead, RunText, ShowsEnd, end_status, ran, ran_so, refused_at, run_shown}
 use Rattle.pr_serve.specs.Ends.{EndsAs}
 use Rattle.pr_serve.specs.Giving.{IsCutShort, RanOutLate, Responds, RespondsOne, StopsEarly}
 use Rattle.pr_serve.specs.Histories.{HistoryIsKept, IsLedTo, IsMadeByThreads, RanOutEarly, by_threads}
 use Rattle.pr_serve.specs.Inputs.{Took, scenario_of_input, taken_of}
 use Rattle.pr_serve.specs.Made.{LeftWith, StoppedThreads}
-use Rattle.pr_serve.specs.Rows.{Ends, EndsRun, EndsUnsaid, GivesOne, OneRanOut, RanOutAfter, RanOutReading, Reads, TellsEndOfOne}
+use Rattle.pr_serve.specs.Rows.{Ends, EndsRun, EndsUnsaid, GivesOne, OneRanOut, RanOutAfter, RanOutReading, Reads, TellsEndOfOne, WouldEnd}
 use Rattle.pr_serve.specs.Statuses.{IsWhole}
 use Rattle.pr_serve.specs.declared.commands.Showing.{Showing}
 use Rattle.pr_serve.specs.declared.outcomes.Status.{Status}
@@ -61,9 +63,6 @@ over-ends w turns lawful over within places = of (next_actor w) refl over
         by false unfinished = inr (inr (refl, record { rest = λ actor. all-rest w actor lawful rest; unfinished = unfinished }))
     of (Some actor) next over = inr (inl (refl, record { mover = actor; can_move = next-acts w actor next; full = full turns (length w.kernel.history) w.kernel.places over within places }))
 
-led-places : (s : Scenario) (w : WorldState) → CameFrom (first_world s) w → w.kernel.places ≡ s.turns
-led-places s w came = came.led.places ∙ first_world-places s
-
 end-ends : (s : Scenario) (w : WorldState) → IsEndOf s w → EndsAs s.turns w (end_status (end_of w))
 end-ends s w e = over-ends w s.turns (signalled-lawful w e.told) e.over e.within (led-places s w e.came)
 
@@ -77,15 +76,18 @@ shown-status : (text : RunText) (w : WorldState) → (ran text w).status ≡ end
 unfolding ran ran_so
 shown-status text w = refl
 
-left-stopped : (s : Scenario) (w : WorldState) (h : List Entry) (old new : Option (List ℕ)) → CameFrom (first_world s) w → LeftWith w.kernel.history h old new → StoppedThreads s h old new
-left-stopped s w h old new came left = record { unwritten = left.unwritten; so_far = inr (record { world = w; came = came; is = left.is }) }
+left-stopped : (s : Scenario) (w : WorldState) (h : List Entry) (old new : Option (List ℕ)) → CameFrom (first_world s) w → length w.kernel.history ≤ w.kernel.places → LeftWith w.kernel.history h old new → StoppedThreads s h old new
+left-stopped s w h old new came within left = record {
+  unwritten = left.unwritten;
+  so_far = inr (record { world = w; came = came; is = left.is; within = omega (arith, within, ap length left.is, led-places s w came) });
+}
 
-responds-left : (answer : Answer) (s : Scenario) (w : WorldState) (status : Status) (h : List Entry) (old new : Option (List ℕ)) (before after : ℕ) → CameFrom (first_world s) w → Responds answer (LeftWith w.kernel.history h old new) status h old new before after → Responds answer (StoppedThreads s h old new) status h old new before after
-responds-left answer s w status h old new before after came r = record {
+responds-left : (answer : Answer) (s : Scenario) (w : WorldState) (status : Status) (h : List Entry) (old new : Option (List ℕ)) (before after : ℕ) → CameFrom (first_world s) w → length w.kernel.history ≤ w.kernel.places → Responds answer (LeftWith w.kernel.history h old new) status h old new before after → Responds answer (StoppedThreads s h old new) status h old new before after
+responds-left answer s w status h old new before after came within r = record {
   whole = r.whole;
   cut = r.cut;
   rose = r.rose;
-  memory = λ m. ⊎_elim (λ (left : LeftWith w.kernel.history h old new). inl (left-stopped s w h old new came left)) (λ late. inr late) (r.memory m);
+  memory = λ m. ⊎_elim (λ (left : LeftWith w.kernel.history h old new). inl (left-stopped s w h old new came within left)) (λ late. inr late) (r.memory m);
   no_fault = r.no_fault;
   read = r.read;
 }
@@ -97,14 +99,26 @@ shown-one showing s w (Ok end) status h old new before after came told within en
     inl (record {
       answer = ran (run_shown showing) w;
       may = record { world = w; ends = record { came = came; told = told; over = is-over w end ended; within = within }; is = refl };
-      responds = responds-left (ran (run_shown showing) w) s w status h old new before after came shown;
+      responds = responds-left (ran (run_shown showing) w) s w status h old new before after came within shown;
     })
 shown-one showing s w (Err e) status h old new before after came told within ended shown stopped =
-    inr (record { status_is = stopped.status_is; left = left-stopped s w h old new came stopped.left; no_fault = stopped.no_fault })
+    inr (record { status_is = stopped.status_is; left = left-stopped s w h old new came within stopped.left; no_fault = stopped.no_fault })
 
 -- ---- the history is kept
 
 module _ (showing : Showing) where
+  led-shown : (s : Scenario) (answer : Answer) (h : List Entry) → ShowsEnd showing s answer → h ≡ answer.history
+      → IsLedTo s h
+  led-shown s answer h shown is =
+      let w = shown.world in
+      let same = is ∙ (ap (λ (a : Answer). a.history) shown.is ∙ shown-history (run_shown showing) w) in
+      record {
+        world = w;
+        came = shown.ends.came;
+        is = same;
+        within = omega (arith, shown.ends.within, ap length same, led-places s w shown.ends.came);
+      }
+
   of_led : (old new input : Option (List ℕ)) (h : List Entry) → Took scenario_limit old new input → IsMadeByThreads input h → HistoryIsKept by_threads old new h
   of_led old new input h took made =
       inr (record { input = input; took = took; made = made; kept = subst (λ (x : List Entry). IsKept made.scenario x) (sym made.led.is) (came-kept made.scenario made.led.world (input-range input made.scenario made.read) made.led.came) })
@@ -114,7 +128,7 @@ module _ (showing : Showing) where
   of_read old new input (Err fault) answer h read took may is = inl (is ∙ ap (λ (a : Answer). a.history) may)
   of_read old new input (Ok s) answer h read took may is =
       of_led old new input h took
-      (record { scenario = s; read = read; led = record { world = may.world; came = may.ends.came; is = is ∙ (ap (λ (a : Answer). a.history) may.is ∙ shown-history (run_shown showing) may.world) } })
+      (record { scenario = s; read = read; led = led-shown s answer h may is })
 
   of_answer : (old new input : Option (List ℕ)) (answer : Answer) (h : List Entry) → Took scenario_limit old new input → MayAnswer showing input answer → h ≡ answer.history → HistoryIsKept by_threads old new h
   of_answer old new input answer h took may is = of_read old new input (scenario_of_input input) answer h refl took may is
@@ -146,12 +160,12 @@ shared-kept showing old new status h r = by (status_cases status)
 -- An answer that shows the end of a run says how it ended.
 shown-ends : (showing : Showing) (s : Scenario) (answer : Answer) (h : List Entry) → ShowsEnd showing s answer
     → h ≡ answer.history → EndsRun s answer.status h
+unfolding led-shown
 shown-ends showing s answer h shown is =
     let w = shown.world in
-    let history = ap (λ (a : Answer). a.history) shown.is ∙ shown-history (run_shown showing) w in
     let status = ap (λ (a : Answer). a.status) shown.is ∙ shown-status (run_shown showing) w in
     record {
-      led = record { world = w; came = shown.ends.came; is = is ∙ history };
+      led = led-shown showing s answer h shown is;
       ends = subst (EndsAs s.turns w) (sym status) (end-ends s w shown.ends);
     }
 
@@ -166,14 +180,16 @@ module _ (showing : Showing) (old new : Ends) (status : Status) (h : List Entry)
   abbrev ran_out : Answer → Type 0
   ran_out answer = RanOutLate answer h old.written new.written
 
-  abbrev unwritten : Type 0
-  unwritten = new.written ≡ old.written
+  -- memory ran out before a text was begun
+  record Unsaid (input : Option (List ℕ)) : Type 0 where
+    unwritten : new.written ≡ old.written
+    so_far : (h ≡ []) ⊎ IsMadeByThreads input h
 
-  -- what is known of the answers that may come
-  record Gives (May : Answer → Type 0) : Type 0 where
+  -- what is known of the answers that may come to an input
+  record Gives (input : Option (List ℕ)) (May : Answer → Type 0) : Type 0 where
     whole : IsWhole status → GivesOne May status h old.written new.written
     cut : status ≡ WriteFailed → Became May cut_short
-    memory : status ≡ OutOfMemory → unwritten ⊎ Became May ran_out
+    memory : status ≡ OutOfMemory → Unsaid input ⊎ Became May ran_out
 
   unsaid : (s : Scenario) (Is : Answer → Type 0) → ((answer : Answer) → Is answer → h ≡ answer.history)
       → Became (ShowsEnd showing s) Is → EndsUnsaid showing s h Is
@@ -184,17 +200,47 @@ module _ (showing : Showing) (old new : Ends) (status : Status) (h : List Entry)
     became = is;
   }
 
-  run_given : (s : Result Scenario ScenFault) → Gives (MayAnswerRead showing s)
-      → IfOk s (λ scenario. TellsEndOfOne showing scenario old new status h)
-  run_given (Err fault) gives = tt
-  run_given (Ok s) gives = record {
+  same_scenario : (s t : Scenario) → (let read : Result Scenario ScenFault = Ok s in read) ≡ Ok t → s ≡ t
+  same_scenario s t is = cc
+
+  -- the run goes on to an end
+  would_end : (s : Scenario) (input : Option (List ℕ)) → scenario_of_input input ≡ Ok s → Unsaid input
+      → WouldEnd showing s old new h
+  would_end s input read early =
+      let w = end.world in
+      let answer = ran (run_shown showing) w in
+      let shows : ShowsEnd showing s answer = record { world = w; ends = end.ends; is = refl } in
+      record {
+        unwritten = early.unwritten;
+        answer = answer;
+        shows = shows;
+        ends = shown-ends showing s answer answer.history shows refl;
+        begins = subst (IsPrefix h) (sym (shown-history (run_shown showing) w)) end.begins;
+      }
+    where
+      range : IsScenarioInRange s
+      range = input-range input s read
+
+      of : (h ≡ []) ⊎ IsMadeByThreads input h → HasEnd s h
+      of (inl none) = subst (HasEnd s) (sym none) (first-end s range)
+      of (inr made) =
+          let same = same_scenario made.scenario s (sym made.read ∙ read) in
+          led-end s h range (subst (λ (t : Scenario). IsLedTo t h) same made.led)
+
+      end : HasEnd s h
+      end = of early.so_far
+
+  run_given : (input : Option (List ℕ)) (s : Result Scenario ScenFault) → scenario_of_input input ≡ s
+      → Gives input (MayAnswerRead showing s) → IfOk s (λ scenario. TellsEndOfOne showing scenario old new status h)
+  run_given input (Err fault) read gives = tt
+  run_given input (Ok s) read gives = record {
     given = λ whole.
         let one = gives.whole whole in
         let ends = shown-ends showing s one.answer h one.may one.given.history_is in
         subst (λ (x : Status). EndsRun s x h) (sym one.given.status_is) ends;
     cut = λ is. unsaid s cut_short (λ answer c. c.history_is) (gives.cut is);
     memory = λ is.
-        ⊎_elim (λ (none : unwritten). inl none)
+        ⊎_elim (λ (early : Unsaid input). inl (would_end s input read early))
         (λ (late : Became (ShowsEnd showing s) ran_out). inr (unsaid s ran_out (λ answer c. c.history_is) late))
         (gives.memory is);
   }
@@ -204,24 +250,35 @@ module _ (showing : Showing) (old new : Ends) (status : Status) (h : List Entry)
     abbrev MayKnown : Answer → Type 0
     MayKnown answer = MayAnswer showing (taken_of scenario_limit left) answer
 
+    input-known : (input : Option (List ℕ)) → Took scenario_limit old.left new.left input
+        → input ≡ taken_of scenario_limit left
+    input-known input took =
+        taken scenario_limit new.left left input
+        (subst (λ (o : Option (List ℕ)). Took scenario_limit o new.left input) known took)
+
     may-known : (input : Option (List ℕ)) (answer : Answer) → Took scenario_limit old.left new.left input
         → MayAnswer showing input answer → MayKnown answer
     may-known input answer took may =
-        let here = subst (λ (o : Option (List ℕ)). Took scenario_limit o new.left input) known took in
-        let is = taken scenario_limit new.left left input here in
-        subst (λ (i : Option (List ℕ)). MayAnswer showing i answer) is may
+        subst (λ (i : Option (List ℕ)). MayAnswer showing i answer) (input-known input took) may
+
+    early-known : (input : Option (List ℕ)) → Took scenario_limit old.left new.left input
+        → RanOutEarly by_threads input h old.written new.written → Unsaid (taken_of scenario_limit left)
+    early-known input took early = record {
+      unwritten = early.unwritten;
+      so_far = subst (λ (i : Option (List ℕ)). (h ≡ []) ⊎ IsMadeByThreads i h) (input-known input took) early.left;
+    }
 
     memory-known : RanOutReading old new h ⊎ RanOutAfter scenario_limit (MayAnswer showing) by_threads old new h
-        → unwritten ⊎ Became MayKnown ran_out
-    memory-known (inl early) = inl early.nothing.unwritten
+        → Unsaid (taken_of scenario_limit left) ⊎ Became MayKnown ran_out
+    memory-known (inl early) = inl (record { unwritten = early.nothing.unwritten; so_far = inl early.nothing.no_history })
     memory-known (inr after) =
         ⊎_elim
-        (λ (early : RanOutEarly by_threads after.input h old.written new.written). inl early.unwritten)
+        (λ (early : RanOutEarly by_threads after.input h old.written new.written). inl (early-known after.input after.took early))
         (λ (late : OneRanOut (MayAnswer showing after.input) h old.written new.written).
         inr (late.answer, may-known after.input late.answer after.took late.may, late.ran_out))
         after.ran_out
 
-    gives-known : Reads scenario_limit (MayAnswer showing) by_threads old new status h → Gives MayKnown
+    gives-known : Reads scenario_limit (MayAnswer showing) by_threads old new status h → Gives (taken_of scenario_limit left) MayKnown
     gives-known r = record {
       whole = λ whole. subst (λ (o : Option (List ℕ)). IfSome o (λ input.
           GivesOne (MayAnswer showing (taken_of scenario_limit input)) status h old.written new.written))
@@ -244,7 +301,8 @@ shares-scenario showing old new status h r = of old.left refl
     of : (o : Option (List ℕ)) → old.left ≡ o → TellsEndOf showing old new status h o
     of None unknown = tt
     of (Some left) known =
-        run_given showing old new status h (scenario_of_input (taken_of scenario_limit left))
+        run_given showing old new status h (taken_of scenario_limit left)
+        (scenario_of_input (taken_of scenario_limit left)) refl
         (gives-known showing old new status h left known r)
 
 -- ---- the parts of an answer to an input

@@ -1,4 +1,4 @@
-use Rattle.std.specs.Prelude.{◌≡◌, ◌≤◌, ◌⊎◌, ℕ, List, [], Option, Ok}
+use Rattle.std.specs.Prelude.{◌≡◌, ◌≤◌, ◌⊎◌, ℕ, List, [], Option, Ok, length}
 use Rattle.pr_model.specs.declared.events.Entry.{Entry}
 use Rattle.pr_num.specs.Limits.{scenario_limit}
 use Rattle.pr_run_laws.specs.Prefixes.{IsPrefix}
@@ -27,11 +27,13 @@ pub record IsAfterMoves (input : Option (List ℕ)) (history : List Entry) : Typ
   pub is : history ≡ history_after moves scenario
   pub prefix : IsPrefix history (run_of scenario).kernel.history
 
--- The history of a world to which the first world of a scenario was led, in whatever order its actors moved.
+-- The history of a world to which the first world of a scenario was led, in whatever order its actors moved. It has no
+-- more entries than the scenario has turns.
 pub record IsLedTo (s : Scenario) (history : List Entry) : Type 0 where
   pub world : WorldState
   pub came : CameFrom (first_world s) world
   pub is : history ≡ world.kernel.history
+  pub within : length history ≤ s.turns
 
 -- A history that threads made of an input.
 pub record IsMadeByThreads (input : Option (List ℕ)) (history : List Entry) : Type 0 where

@@ -4,6 +4,7 @@ use Rattle.pr_io.specs.Reading.{Came, CameWithin}
 use Rattle.pr_judge.specs.Judgements.{Judges}
 use Rattle.pr_model.specs.declared.events.Entry.{Entry}
 use Rattle.pr_num.specs.Limits.{checked_limit, scenario_limit}
+use Rattle.pr_run_laws.specs.Prefixes.{IsPrefix}
 use Rattle.pr_run_laws.specs.ScenarioRuns.{first_state_of, run_of}
 use Rattle.pr_scen.specs.Scenarios.{Scenario}
 use Rattle.pr_serve.specs.Answers.{Answer, MayAnswer, RunText, ShowsEnd, answer_to, check_of, explained, generated, judged, plain_shown, run_shown}
@@ -164,15 +165,24 @@ pub record EndsUnsaid (showing : Showing) (s : Scenario) (history : List Entry)
   pub ends : EndsRun s answer.status history
   pub became : Became answer
 
+-- Nothing was written, and what was made of the run is left, or nothing. It begins the run of an answer that may come,
+-- whose status says how that ended.
+pub record WouldEnd (showing : Showing) (s : Scenario) (old new : Ends) (history : List Entry) : Type 0 where
+  pub unwritten : new.written ≡ old.written
+  pub answer : Answer
+  pub shows : ShowsEnd showing s answer
+  pub ends : EndsRun s answer.status answer.history
+  pub begins : IsPrefix history answer.history
+
 -- The status of an answer that was given whole says how the run ended that threads made, and so does that of the answer
 -- itself where its text was cut short by a write that failed or for memory. Where memory ran out and no text was begun,
--- nothing was written, and there need be no answer.
+-- the run could have ended as the status of such an answer says.
 pub record TellsEndOfOne (showing : Showing) (s : Scenario) (old new : Ends) (status : Status)
     (history : List Entry) : Type 0 where
   pub given : IsWhole status → EndsRun s status history
   pub cut : status ≡ WriteFailed
       → EndsUnsaid showing s history (λ answer. IsCutShort answer history old.written new.written)
-  pub memory : status ≡ OutOfMemory → (new.written ≡ old.written)
+  pub memory : status ≡ OutOfMemory → WouldEnd showing s old new history
       ⊎ EndsUnsaid showing s history (λ answer. RanOutLate answer history old.written new.written)
 
 -- The judgement of a history was given: it is legal from the first state of the scenario, with its controllers, or this

@@ -1,7 +1,9 @@
-use Rattle.std.proofs.Common.{◌≡◌, ◌++◌, ◌∙◌, List, ℕ, sym, ap, flat_map, length, arith, append_assoc}
+use Rattle.std.proofs.Common.{◌≡◌, ◌++◌, ◌∙◌, ◌||◌, Bool, List, ℕ, sym, ap, flat_map, length, arith, append_assoc}
 use Rattle.std.proofs.lemmas.List.Elements.{All-head, All-rest, All-same}
-use Rattle.pr_lock.specs.Seats.{IsOutside, own_of, shares_of}
+use Rattle.std.specs.List.{list_any}
+use Rattle.pr_lock.specs.Seats.{IsOutside, own_of, saw_over, shares_of}
 use Rattle.pr_lock.specs.declared.seats.Seat.{Seat}
+use Rattle.pr_run.proofs.ManyLemmas.{or-of}
 use Rattle.pr_run.specs.declared.shared_worlds.LoggedEntry.{LoggedEntry}
 use Rattle.pr_run.proofs.many.gather.Goals as goal
 
@@ -23,4 +25,7 @@ loop-other-preserved g c =
       own = ap (λ (o : List (ℕ × LoggedEntry)). o ++ flat_map (λ seat. own_of seat) left) own
           ∙ (append_assoc (own_of c.loop-other.seat) (own_of other) (flat_map (λ seat. own_of seat) left)
           ∙ (ap (λ (l : List (Seat _ LoggedEntry)). own_of c.loop-other.seat ++ flat_map (λ seat. own_of seat) l) (sym next) ∙ so_far.own));
+      over = ap (λ (b : Bool). b || list_any (λ (seat : Seat _ LoggedEntry). saw_over seat) left) c.join.ensures.over
+          ∙ (or-of (saw_over c.loop-other.seat) (saw_over other) (list_any (λ (seat : Seat _ LoggedEntry). saw_over seat) left)
+          ∙ (ap (λ (l : List (Seat _ LoggedEntry)). saw_over c.loop-other.seat || list_any (λ seat. saw_over seat) l) (sym next) ∙ so_far.over));
     }

@@ -1,8 +1,8 @@
-use Rattle.std.proofs.Common.{◌≡◌, ◌∙◌, ℕ, List, sym, ap, subst, None, arith}
+use Rattle.std.proofs.Common.{◌≡◌, ◌∙◌, ℕ, List, true, sym, ap, subst, None, arith}
 use Rattle.pr_lock.specs.History.{StandIn, StartsWith}
-use Rattle.pr_lock.specs.Seats.{entered_of, first_of, own_of}
+use Rattle.pr_lock.specs.Seats.{entered_of, first_of, own_of, saw_over}
 use Rattle.pr_world.specs.Worlds.{seen}
-use Rattle.pr_run.proofs.ManyLemmas.{came-count, done-left, turn-grows, turn-work}
+use Rattle.pr_run.proofs.ManyLemmas.{came-count, done-left, ended-over, on-refused, refused-over, turn-grows, turn-work}
 use Rattle.pr_run.specs.ManyRuns.{HasMade, first_world, last_lwp}
 use Rattle.pr_run.specs.Logs.{entries_of, log_of}
 use Rattle.pr_run.specs.declared.shared_worlds.LoggedEntry.{LoggedEntry}
@@ -26,6 +26,10 @@ leave-requires-clause-grown g c κs within =
     let grown = turn-grows c.args.worker.processors c.args.worker.number c.args.last.now c.take_turn-progress.new.last w v c.take_turn-progress.ensures.turn in
     subst (StartsWith (log_of v.kernel.history)) (sym c.enter-shared.ensures.lock.1) grown
 
+pub leave-requires-clause-stays : goal.leave-requires-clause-stays
+leave-requires-clause-stays g c κs within =
+    λ over. c.take_turn-progress.ensures.stays (sym c.enter-shared.ensures.over ∙ over)
+
 pub returns : goal.returns
 returns g c =
     let view = g.Q.Kernel.view in
@@ -45,6 +49,7 @@ returns g c =
     let stand : StandIn (log_of w.kernel.history) (own_of entered) = subst (StandIn (log_of w.kernel.history)) (sym own) c.enter-shared.ensures.stand in
     let last = c.requires.last ∙ ap (λ (l : List (ℕ × LoggedEntry)). last_lwp None (entries_of l)) (sym own) in
     let grown = turn-work first p n old new w v (own_of entered) c.take_turn-progress.ensures.turn lawful came made last (own_of c.leave.new.seat) (entered_of entered) stand c.enter-shared.ensures.lock.1 c.leave.ensures.own c.leave.ensures.order in
+    let shared = c.take_turn-progress.new.self in
     record {
       seat = record {
         outside = c.leave.ensures.lock;
@@ -52,5 +57,8 @@ returns g c =
         made = grown.made;
       };
       last = grown.last;
-      done = done-left first p n old new w v c.take_turn-progress.result c.leave.new.seat c.take_turn-progress.ensures.made lawful came c.leave.ensures.seen;
+      done = done-left first p n old new w v c.take_turn-progress.result c.leave.new.seat c.take_turn-progress.ensures.made lawful came c.leave.ensures.seen
+          (λ ended. c.leave.ensures.over ∙ ended-over view shared ended);
+      refused = on-refused c.take_turn-progress.result _ (saw_over c.leave.new.seat ≡ true) c.take_turn-progress.ensures.refused
+          (λ refused. c.leave.ensures.over ∙ refused-over view shared refused.0);
     }
