@@ -11,14 +11,14 @@ use Rattle.pr_hidden.specs.Sparing.{AreWithin, are_spared, has_byte, is_apart, i
 
 -- ---- every byte of a space changed, by its address
 
-over_bytes : (ℕ → ℕ → ℕ) → ℕ → List ℕ → List ℕ
+unfoldable pub over_bytes : (ℕ → ℕ → ℕ) → ℕ → List ℕ → List ℕ
 over_bytes f address [] = []
 over_bytes f address (b ∷ bs) = f address b ∷ over_bytes f (address + 1) bs
 
-over_mapping : (ℕ → ℕ → ℕ) → Mapping → Mapping
+unfoldable pub over_mapping : (ℕ → ℕ → ℕ) → Mapping → Mapping
 over_mapping f m = record m { bytes = over_bytes f m.at m.bytes }
 
-pub over : (ℕ → ℕ → ℕ) → Space → Space
+unfoldable pub over : (ℕ → ℕ → ℕ) → Space → Space
 over f [] = []
 over f (m ∷ ms) = over_mapping f m ∷ over f ms
 
@@ -51,6 +51,11 @@ over-nothing : (space : Space) → over (λ a b. b) space ≡ space
 unfolding over over_mapping
 over-nothing [] = refl
 over-nothing (m ∷ ms) = rw (bytes-nothing m.at m.bytes, over-nothing ms) refl
+
+pub length-over : (f : ℕ → ℕ → ℕ) (a : ℕ) (bs : List ℕ) → length (over_bytes f a bs) ≡ length bs
+unfolding over_bytes
+length-over f a [] = refl
+length-over f a (b ∷ bs) = ap suc (length-over f (a + 1) bs)
 
 -- ---- writes
 

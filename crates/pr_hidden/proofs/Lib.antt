@@ -1,7 +1,16 @@
+pub mod AccessLemmas
 pub mod ByteLemmas
+pub mod CallCovers
 pub mod ChangeCovers
+pub mod FileCovers
+pub mod InstructionCovers
 pub mod LifeCovers
+pub mod MappingLemmas
+pub mod MoveCovers
 pub mod PatchLemmas
+pub mod PointCovers
+pub mod RowCovers
 pub mod SeenLemmas
 pub mod SignalCovers
 pub mod StateCovers
+pub mod TurnCovers
