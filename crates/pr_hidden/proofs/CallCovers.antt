@@ -423,3 +423,5 @@ module _ (covers : Covers) (s : TracedSystem) (pid : ℕ) (p : TracedProcess) (i
       (life-uncovered covers s (slice_index args 0))
       ∙ sym (send-left c.patches pid (slice_index args 0) (slice_index args 1) (queued_by pid (slice_index args 2))
       (life_of s (slice_index args 0))).same
+
+pub ruleset follows = (call-uncovered)

@@ -120,3 +120,5 @@ module _ (covers : Covers) (pid : ℕ) (p : TracedProcess) (id : ℕ) (l : Trace
   unfolding ended
   ended-beneath (ends_process status) s may = this_ended-uncovered covers pid p status s may.returnable
   ended-beneath ends_lwp s may = lwp_ended-uncovered covers pid p id s may
+
+pub ruleset follows = (changed-uncovered)

@@ -137,3 +137,10 @@ module _ (ps : List Patch) (space : Space) (areas : List Area) where
       by (Ok bytes) is =
           rw (bytes-spared ps prot_exec (pc_of regs) 16 space parts.0 ∙ is, is)
           (fetched-same (hit_in watch_exec areas (pc_of regs) 16) regs bytes (rw is at parts.1))
+
+pub same-instruction : (ps : List Patch) (space : Space) (areas : List Area) (regs : List ℕ)
+    → spares_instruction ps space regs ≡ true
+    → instruction_effect (patched ps space) areas regs ≡ instruction_effect space areas regs
+same-instruction ps space areas regs spared = (instruction-same ps space areas regs spared).same
+
+pub ruleset follows = (same-instruction)

@@ -3,13 +3,16 @@ pub mod ByteLemmas
 pub mod CallCovers
 pub mod ChangeCovers
 pub mod FileCovers
+pub mod HiddenCovers
 pub mod InstructionCovers
 pub mod LifeCovers
 pub mod MappingLemmas
 pub mod MoveCovers
+pub mod OneLemmas
 pub mod PatchLemmas
 pub mod PointCovers
 pub mod RowCovers
+pub mod RunCovers
 pub mod SeenLemmas
 pub mod SignalCovers
 pub mod StateCovers

@@ -126,3 +126,5 @@ pub patched-none : (ps : List Patch) → patched ps [] ≡ []
 unfolding with_bytes
 patched-none [] = refl
 patched-none (p ∷ ps) = ap (with_bytes p.at p.bytes) (patched-none ps)
+
+pub ruleset hides = (hidden-store)

@@ -63,7 +63,7 @@ caught-row ps own l c handler (Exiting call args result) = handled-row ps own l 
 caught-row ps own l c handler (Faulted f address) = handled-row ps own l c handler
 
 -- what an instruction stores is stored alike in both spaces
-stored-patched : (ps : List Patch) → AreWithin ps → (space : Space) (store : Option Store) → StoreSpares ps store
+pub stored-patched : (ps : List Patch) → AreWithin ps → (space : Space) (store : Option Store) → StoreSpares ps store
     → stored_in (patched ps space) store ≡ patched_changes ps (stored_in space store)
 unfolding stored_in
 stored-patched ps within space None spares = refl

@@ -1,4 +1,5 @@
 use Rattle.std.proofs.Common.{◌≡◌, ◌≢◌, ◌&&◌, ◌||◌, ℕ, Bool, true, false, not, is_some, Option, Some, None, List, cond, refl, sym, subst, ◌∙◌, ap}
+use Rattle.std.proofs.lemmas.Option.{same_Some}
 use Rattle.std.specs.Option.{option_map}
 use Rattle.pr_num.specs.declared.faults.Flt.TheVariants.{Trace}
 use Rattle.pr_num.specs.declared.syscalls.Sysno.{Sysno}
@@ -147,44 +148,86 @@ module _ (covers : Covers) (s : TracedSystem) (pid : ℕ) (p : TracedProcess) (i
   unfolding uncovered_lwp
   phase-same = refl
 
-held-same : (c : Cover) (p : TracedProcess) (id : ℕ) (own : Bool) (l : TracedLwp)
+pub held-same : (c : Cover) (p : TracedProcess) (id : ℕ) (own : Bool) (l : TracedLwp)
     → is_held_back (uncovered_process c p) id (uncovered_lwp own l) ≡ is_held_back p id l
 unfolding is_held_back uncovered_process uncovered_lwp step_taken
 held-same c p id own l = refl
 
 -- ---- a turn
 
+-- what a turn is of the lwp that has it
+pub record TurnHere (s : TracedSystem) (pid : ℕ) (p : TracedProcess) (id : ℕ) (l : TracedLwp) (t : LwpTurn) : Type 0 where
+  pub free : is_held_back p id l ≡ false
+  pub goes : may_go_on s pid p id l l.phase ≡ true
+  pub is : t ≡ settled s pid p id l (row_for s pid p id l)
+
+pub turn-here : (s : TracedSystem) (pid id : ℕ) (t : LwpTurn) (p : TracedProcess) (l : TracedLwp)
+    → live_process s pid ≡ Some p → lwp_of p id ≡ Some l → turn_of s pid id ≡ Some t → TurnHere s pid p id l t
+turn-here s pid id t p l live there turn =
+    let taken = turn-taken s pid id t turn in
+    let same : taken.process ≡ p = same_Some taken.process p (sym taken.live ∙ live) in
+    let lwp : taken.lwp ≡ l = same_Some taken.lwp l (sym taken.there ∙ ap (λ q. lwp_of q id) same ∙ there) in
+    subst (λ q. TurnHere s pid q id l t) same
+    (subst (λ m. TurnHere s pid taken.process id m t) lwp
+    (record { free = taken.free; goes = taken.goes; is = taken.is }))
+
 -- a turn that an lwp may have is made
-made-turn : (u : TracedSystem) (pid id : ℕ) (q : TracedProcess) (m : TracedLwp) → live_process u pid ≡ Some q
+pub made-turn : (u : TracedSystem) (pid id : ℕ) (q : TracedProcess) (m : TracedLwp) → live_process u pid ≡ Some q
     → lwp_of q id ≡ Some m → is_held_back q id m ≡ false → may_go_on u pid q id m m.phase ≡ true
     → turn_of u pid id ≡ Some (settled u pid q id m (row_for u pid q id m))
 unfolding turn_of may_turn
 made-turn u pid id q m live there free goes = rw (live, there, free, goes) refl
 
-pub turn-uncovered : (covers : Covers) (s : TracedSystem) (pid id : ℕ) (t : LwpTurn) → turn_of s pid id ≡ Some t
-    → ((p : TracedProcess) (l : TracedLwp) → live_process s pid ≡ Some p → lwp_of p id ≡ Some l
-    → IsOpenTurn covers s pid p id l)
-    → turn_of (uncovered covers s) pid id ≡ Some (record { system = uncovered covers t.system; turned = t.turned })
-turn-uncovered covers s pid id t turn asks =
-    let taken = turn-taken s pid id t turn in
-    let p = taken.process in
-    let l = taken.lwp in
+-- an lwp stands without what is hidden
+pub live-beneath : (covers : Covers) (s : TracedSystem) (pid : ℕ) (p : TracedProcess) → live_process s pid ≡ Some p
+    → live_process (uncovered covers s) pid ≡ Some (uncovered_process (covers pid) p)
+live-beneath covers s pid p live =
+    live-uncovered covers s pid ∙ ap (option_map (uncovered_process (covers pid))) live
+
+pub lwp-beneath : (c : Cover) (p : TracedProcess) (id : ℕ) (l : TracedLwp) → c.agent ≡ false → c.faulted id ≡ false
+    → lwp_of p id ≡ Some l → lwp_of (uncovered_process c p) id ≡ Some (uncovered_lwp false l)
+lwp-beneath c p id l no_agent no_fault there =
+    lwp-uncovered c p id (no_agent-keeps c no_agent id) ∙ ap (option_map (uncovered_lwp (c.faulted id))) there
+    ∙ ap (λ (b : Bool). Some (uncovered_lwp b l)) no_fault
+
+-- the turn of an lwp, and what it leaves, without what is hidden
+pub record TurnBeneath (covers : Covers) (s : TracedSystem) (pid : ℕ) (p : TracedProcess) (id : ℕ) (l : TracedLwp) (t : LwpTurn) : Type 0 where
+  pub goes :
+      may_go_on (uncovered covers s) pid (uncovered_process (covers pid) p) id (uncovered_lwp false l)
+      (uncovered_lwp false l).phase ≡ true
+  pub is :
+      settled (uncovered covers s) pid (uncovered_process (covers pid) p) id (uncovered_lwp false l)
+      (row_for (uncovered covers s) pid (uncovered_process (covers pid) p) id (uncovered_lwp false l))
+      ≡ record { system = uncovered covers t.system; turned = t.turned }
+
+pub turn-beneath : (covers : Covers) (s : TracedSystem) (pid : ℕ) (p : TracedProcess) (id : ℕ) (l : TracedLwp) (t : LwpTurn)
+    → TurnHere s pid p id l t → IsOpenTurn covers s pid p id l → TurnBeneath covers s pid p id l t
+turn-beneath covers s pid p id l t here it =
     let c = covers pid in
-    let it = asks p l taken.live taken.there in
     let q = uncovered_process c p in
     let m = uncovered_lwp false l in
     let u = uncovered covers s in
-    let live : live_process u pid ≡ Some q = live-uncovered covers s pid ∙ ap (option_map (uncovered_process c)) taken.live in
-    let there : lwp_of q id ≡ Some m =
-        lwp-uncovered c p id (no_agent-keeps c it.no_agent id) ∙ ap (option_map (uncovered_lwp (c.faulted id))) taken.there
-        ∙ ap (λ (b : Bool). Some (uncovered_lwp b l)) it.no_fault in
-    let goes : may_go_on u pid q id m m.phase ≡ true =
-        ap (may_go_on u pid q id m) (phase-same covers s pid p id l c it.no_agent it.within)
-        ∙ goes-same covers s pid p id l c it.no_agent it.within it.spares l.phase refl ∙ taken.goes in
-    let row = row_for s pid p id l in
-    made-turn u pid id q m live there (held-same c p id false l ∙ taken.free) goes
-    ∙ ap (λ (r : Row). Some (settled u pid q id m r))
-    (row-uncovered covers s pid p id l c it.no_agent it.within it.spares it.not_stepped)
-    ∙ ap (λ (x : LwpTurn). Some x) (settled-uncovered covers s pid p id l row it.no_fault it.allows)
-    ∙ ap (λ (x : LwpTurn). Some (let r : LwpTurn = record { system = uncovered covers x.system; turned = x.turned } in r))
-    (sym taken.is)
+    record {
+      goes =
+          ap (may_go_on u pid q id m) (phase-same covers s pid p id l c it.no_agent it.within)
+          ∙ goes-same covers s pid p id l c it.no_agent it.within it.spares l.phase refl ∙ here.goes;
+      is =
+          ap (λ (r : Row). settled u pid q id m r)
+          (row-uncovered covers s pid p id l c it.no_agent it.within it.spares it.not_stepped)
+          ∙ settled-uncovered covers s pid p id l (row_for s pid p id l) it.no_fault it.allows
+          ∙ ap (λ (x : LwpTurn). let r : LwpTurn = record { system = uncovered covers x.system; turned = x.turned } in r)
+          (sym here.is);
+    }
+
+pub turn-uncovered : (covers : Covers) (s : TracedSystem) (pid id : ℕ) (t : LwpTurn) (p : TracedProcess) (l : TracedLwp)
+    → turn_of s pid id ≡ Some t → live_process s pid ≡ Some p → lwp_of p id ≡ Some l → IsOpenTurn covers s pid p id l
+    → turn_of (uncovered covers s) pid id ≡ Some (record { system = uncovered covers t.system; turned = t.turned })
+turn-uncovered covers s pid id t p l turn live there it =
+    let here = turn-here s pid id t p l live there turn in
+    let beneath = turn-beneath covers s pid p id l t here it in
+    made-turn (uncovered covers s) pid id (uncovered_process (covers pid) p) (uncovered_lwp false l)
+    (live-beneath covers s pid p live) (lwp-beneath (covers pid) p id l it.no_agent it.no_fault there)
+    (held-same (covers pid) p id false l ∙ here.free) beneath.goes
+    ∙ ap (λ (x : LwpTurn). Some x) beneath.is
+
+pub ruleset follows = (turn-uncovered)
