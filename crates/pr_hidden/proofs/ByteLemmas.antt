@@ -143,7 +143,7 @@ spared-past (p ∷ ps) a within past = by (has_byte a p) refl (spared-past ps a 
     beyond : has_byte a p ≡ true → ⊥
     beyond has =
         let low : a < p.at + length p.bytes =
-            ltb-true a (p.at + length p.bytes) (and_parts (leb p.at a) (ltb a (p.at + length p.bytes)) has).1 in
+        ltb-true a (p.at + length p.bytes) (and_parts (leb p.at a) (ltb a (p.at + length p.bytes)) has).1 in
         let limit = within.0 in omega arith
 
     by : (t : Bool) → has_byte a p ≡ t → is_spared ps a ≡ true → (not (has_byte a p) && is_spared ps a) ≡ true

@@ -41,8 +41,8 @@ use Rattle.pr_hidden.proofs.FileCovers.{can-spared, close-patched, file-patched,
 use Rattle.pr_hidden.proofs.MappingLemmas.{gap-patched, has_range-patched, heap-patched, mapped-patched, mapped_range-patched, mapping-patched, protected-patched, without_range-patched}
 use Rattle.pr_hidden.proofs.StateCovers.{lwps-uncovered, no_agent-keeps, process-uncovered, stands-uncovered}
 
--- What system calls do, without what is hidden: a line a call. A call that spares the patches does the same in the space
--- as programs have it.
+-- What system calls do, without what is hidden: a line a call. A call that spares the patches does the same in the
+-- space as programs have it.
 
 -- ---- what calls read of the rest of the system
 
@@ -226,8 +226,14 @@ exec-uncovered covers s c p id at spared = path (eqb id agent_id) refl (path_at 
         ≡ patched_effect c.patches (exec_effect s p id at)
     named name None other is found = rw (other, same_path ∙ is, is, found) refl
     named name (Some program) other is found =
-        rw (other, same_path ∙ is, is, found, given_up-uncovered covers s c p id,
-        room-uncovered covers s (mapped_size (first_space program)) (given_up s p id))
+        rw (
+          other,
+          same_path ∙ is,
+          is,
+          found,
+          given_up-uncovered covers s c p id,
+          room-uncovered covers s (mapped_size (first_space program)) (given_up s p id),
+        )
         (fits program (total_has_room s (mapped_size (first_space program)) (given_up s p id)))
 
     path : (b : Bool) → eqb id agent_id ≡ b → (r : Result (List ℕ) Errno) → path_at p.space at ≡ r → exec_effect (uncovered covers s) (uncovered_process c p) id at

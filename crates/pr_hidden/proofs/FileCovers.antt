@@ -52,8 +52,11 @@ pipe-most t pipe most bytes is = by (eqb (length (pipe_bytes t pipe)) 0) refl (h
     by true empty true writer = absurd (waits (rw (empty, writer) at is))
     by true empty false none = omega (arith, ap length (same_Ok [] bytes (rw (empty, none) at is)))
     by false some w writer =
-        omega (arith, ap length (same_Ok (take most (pipe_bytes t pipe)) bytes (rw some at is)),
-        take-most most (pipe_bytes t pipe))
+        omega (
+          arith,
+          ap length (same_Ok (take most (pipe_bytes t pipe)) bytes (rw some at is)),
+          take-most most (pipe_bytes t pipe),
+        )
 
 fd-most : (t : FileTable) (fds : Descriptors) (fd most : ℕ) (bytes : List ℕ) → (read_fd t fds fd most).bytes ≡ Ok bytes
     → length bytes ≤ most
@@ -63,8 +66,11 @@ fd-most t fds fd most bytes is = by (open_for_reading t fds fd) refl
     targeted : (o : OpenFile) (place : ℕ) (target : Target) → o.target ≡ target
         → (read_open t place o most).bytes ≡ Ok bytes → length bytes ≤ most
     targeted o place (File file) to it =
-        omega (arith, take-most most (drop o.offset (contents t (File file))),
-        ap length (same_Ok (bytes_from (contents t (File file)) o.offset most) bytes (rw to at it)))
+        omega (
+          arith,
+          take-most most (drop o.offset (contents t (File file))),
+          ap length (same_Ok (bytes_from (contents t (File file)) o.offset most) bytes (rw to at it)),
+        )
     targeted o place (PipeReader pipe) to it = pipe-most t pipe most bytes (rw to at it)
     targeted o place (PipeWriter pipe) to it = pipe-most t pipe most bytes (rw to at it)
 

@@ -255,5 +255,7 @@ agent-unseen covers s pid p id l m _ rising live none (stores at bytes covered) 
     (live_process-found s pid p live) (covered_store (covers pid) p at bytes covered)
 
 pub ruleset patching = (patches-hidden)
+
 pub ruleset clearing = (cleared-hidden)
+
 pub ruleset agents = (agent-made, agent-unseen, agent-gone)

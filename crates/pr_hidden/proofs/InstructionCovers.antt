@@ -14,7 +14,8 @@ use Rattle.pr_hidden.specs.Covers.{Patch, patched}
 use Rattle.pr_hidden.specs.Sparing.{are_spared, spares_data, spares_decoded, spares_fetched, spares_instruction}
 use Rattle.pr_hidden.proofs.AccessLemmas.{bytes-spared}
 
--- An instruction that spares the patches does the same in the space as programs have it, and what it stores spares them.
+-- An instruction that spares the patches does the same in the space as programs have it, and what it stores spares
+-- them.
 
 -- what an effect stores spares the patches
 abbrev pub StoreSpares : List Patch → Option Store → Type 0

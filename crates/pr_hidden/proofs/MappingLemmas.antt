@@ -103,8 +103,10 @@ module _ (f : ℕ → ℕ → ℕ) where
   unfolding over_bytes
   bytes-left a [] leaves = refl
   bytes-left a (b ∷ bs) leaves =
-      rw (leaves a (omega arith) (omega arith) b,
-      bytes-left (a + 1) bs (λ x low high. leaves x (omega arith) (omega arith))) refl
+      rw (
+        leaves a (omega arith) (omega arith) b,
+        bytes-left (a + 1) bs (λ x low high. leaves x (omega arith) (omega arith)),
+      ) refl
 
   mapping-left : (m : Mapping) → Leaves f m.at (length m.bytes) → over_mapping f m ≡ m
   unfolding over_mapping
@@ -145,10 +147,17 @@ module _ (f : ℕ → ℕ → ℕ) where
   resized-bytes size a bs leaves =
       let kept : length (take size bs) ≤ size = omega (arith, length-take size bs) in
       let all : length (take size bs ++ replicate (size - length bs) 0) ≤ size =
-          omega (arith, length-append (take size bs) (replicate {A = ℕ} (size - length bs) 0), length-take size bs,
-          length-replicate {A = ℕ} (size - length bs) 0) in
-      rw (length-over f a bs, take-over size a bs,
-      bytes-left a (take size bs) (λ x low high. leaves x low (omega arith))) (sym
+      omega (
+        arith,
+        length-append (take size bs) (replicate {A = ℕ} (size - length bs) 0),
+        length-take size bs,
+        length-replicate {A = ℕ} (size - length bs) 0,
+      ) in
+      rw (
+        length-over f a bs,
+        take-over size a bs,
+        bytes-left a (take size bs) (λ x low high. leaves x low (omega arith)),
+      ) (sym
       (bytes-left a (take size bs ++ replicate (size - length bs) 0) (λ x low high. leaves x low (omega arith))))
 
   resized-over : (size : ℕ) → Leaves f heap_base size → (m : Mapping) → is_break_heap m ≡ true

@@ -42,8 +42,8 @@ module _ {X Y Z : Type 0} (keeps : ℕ → Bool) (view new : ℕ → X → Y) (l
             let it : e.1 ≡ x = same_Some e.1 x (ap (λ b. cond b (Some e.1) (under id es)) (sym here) ∙ found) in
             let stays : keeps e.0 ≡ true = ap keeps is ∙ kept in
             let one : last (new e.0 (f e.1)) ≡ last (g (view e.0 e.1)) =
-                ap (λ n. last (new n (f e.1))) is ∙ ap (λ y. last (new id (f y))) it ∙ same
-                ∙ ap (λ y. last (g (view id y))) (sym it) ∙ ap (λ n. last (g (view n e.1))) (sym is) in
+            ap (λ n. last (new n (f e.1))) is ∙ ap (λ y. last (new id (f y))) it ∙ same
+            ∙ ap (λ y. last (g (view id y))) (sym it) ∙ ap (λ n. last (g (view n e.1))) (sym is) in
             rw (here, stays, here) (ap (λ z. (e.0, z) ∷ map_each last (seen_under keeps new es)) one
             ∙ ap (λ zs. (e.0, last (g (view e.0 e.1))) ∷ zs) (behind (e.0 + 1) es (omega (arith, is)) tail))
         | inr other ↦

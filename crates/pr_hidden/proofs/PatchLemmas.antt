@@ -84,7 +84,7 @@ apart-spares p [] apart a low high = refl
 apart-spares p (q ∷ qs) apart a low high =
     let parts = and_parts (is_apart p q) (is_apart_from p qs) apart in
     let of_p : has_byte a p ≡ true =
-        and_from (leb p.at a) (ltb a (p.at + length p.bytes)) (le-leb p.at a low) (lt-ltb a (p.at + length p.bytes) high) in
+    and_from (leb p.at a) (ltb a (p.at + length p.bytes)) (le-leb p.at a low) (lt-ltb a (p.at + length p.bytes) high) in
     by (has_byte a q) refl (λ of_q. apart-out p q parts.0 a of_p of_q) (apart-spares p qs parts.1 a low high)
   where
     by : (t : Bool) → has_byte a q ≡ t → (has_byte a q ≡ true → ⊥) → is_spared qs a ≡ true
@@ -102,7 +102,7 @@ patched-append (p ∷ ps) qs space = ap (with_bytes p.at p.bytes) (patched-appen
 same-range : (p : Patch) (ps : List Patch) → Covered (p ∷ ps) p.at (length p.bytes)
 same-range p ps a low high =
     let has : has_byte a p ≡ true =
-        and_from (leb p.at a) (ltb a (p.at + length p.bytes)) (le-leb p.at a low) (lt-ltb a (p.at + length p.bytes) high) in
+    and_from (leb p.at a) (ltb a (p.at + length p.bytes)) (le-leb p.at a low) (lt-ltb a (p.at + length p.bytes) high) in
     rw has refl
 
 -- Bytes that are written where a patch with what stood there is noted are nothing to programs.

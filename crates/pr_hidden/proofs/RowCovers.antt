@@ -172,14 +172,14 @@ module _ (covers : Covers) (s : TracedSystem) (pid : ℕ) (p : TracedProcess) (i
       current-row l.current _ _ (λ current.
       taken-row (own_takeable l) (shared_takeable p l) _ _ (λ own shared.
       let it =
-          instruction-same c.patches p.space p.control.areas l.regs
-          (spares.instruction (record {
-            not_directed = going;
-            in_program = is;
-            no_current = current;
-            none_own = own;
-            none_shared = shared;
-          })) in
+      instruction-same c.patches p.space p.control.areas l.regs
+      (spares.instruction (record {
+        not_directed = going;
+        in_program = is;
+        no_current = current;
+        none_own = own;
+        none_shared = shared;
+      })) in
       λ other. ap (executed_row q m) it.same
       ∙ executed-row within (instruction_effect p.space p.control.areas l.regs) it.spares other))
   phase-row none within spares going (Entered call) is =

@@ -91,7 +91,7 @@ instruction-row : (s : TracedSystem) (pid : ℕ) (p : TracedProcess) (id : ℕ) 
 unfolding row_for signal_row_or row_in
 instruction-row s pid p id l r =
     let rest : Phase → Row = λ phase. posted_row_or s pid p id l phase
-        (current_row_or s pid p id l l.current (signal_row_or s pid p id l phase (row_in s pid p id l phase))) in
+    (current_row_or s pid p id l l.current (signal_row_or s pid p id l phase (row_in s pid p id l phase))) in
     let row = executed_row p l (instruction_effect p.space p.control.areas l.regs) in
     ap (λ b. cond b requested_row (rest l.phase)) r.not_directed ∙ ap rest r.in_program
     ∙ ap (λ o. current_row_or s pid p id l o (taken_or s pid p id l (own_takeable l) (shared_takeable p l) row))
@@ -104,7 +104,7 @@ return-row : (s : TracedSystem) (pid : ℕ) (p : TracedProcess) (id : ℕ) (l : 
 unfolding row_for signal_row_or row_in
 return-row s pid p id l call r =
     let rest : Phase → Row = λ phase. posted_row_or s pid p id l phase
-        (current_row_or s pid p id l l.current (signal_row_or s pid p id l phase (row_in s pid p id l phase))) in
+    (current_row_or s pid p id l l.current (signal_row_or s pid p id l phase (row_in s pid p id l phase))) in
     let row = returned_row p l call in
     ap (λ b. cond b requested_row (rest l.phase)) r.not_directed ∙ ap rest r.on_its_way
     ∙ ap (λ o. current_row_or s pid p id l o (taken_or s pid p id l (own_takeable l) (shared_takeable p l) row))
@@ -137,7 +137,7 @@ breakpoint-hidden covers s pid id t p l address turn st r effect no_agent no_fau
     let here = turn-here s pid id t p l st.live st.there turn in
     let new = with_cover pid (with_fault id true (covers pid)) covers in
     let row : row_for s pid p id l ≡ incurred_row Bpt address =
-        instruction-row s pid p id l r ∙ ap (executed_row p l) effect ∙ faulted-row p l Bpt address in
+    instruction-row s pid p id l r ∙ ap (executed_row p l) effect ∙ faulted-row p l Bpt address in
     ap (λ (x : LwpTurn). seen new x.system) here.is
     ∙ ap (λ (x : Row). seen new (settled s pid p id l x).system) row
     ∙ settled-seen new s pid p id l (incurred_row Bpt address)
@@ -215,9 +215,10 @@ stored-stands : (s : TracedSystem) (pid : ℕ) (p : TracedProcess) (id : ℕ) (l
     → (new : TracedProcess) × Stands (all_changed traced pid p id l (stored_in p.space store) s) pid new id l
 unfolding all_changed changed stored_in
 stored-stands s pid p id l None st = (p, st)
-stored-stands s pid p id l (Some store) st =
-    (with_space (with_bytes store.at store.bytes p.space) p,
-    stands-space s pid p id l (with_bytes store.at store.bytes p.space) st)
+stored-stands s pid p id l (Some store) st = (
+  with_space (with_bytes store.at store.bytes p.space) p,
+  stands-space s pid p id l (with_bytes store.at store.bytes p.space) st,
+)
 
 stored-allowed : (covers : Covers) (s : TracedSystem) (pid : ℕ) (p : TracedProcess) (id : ℕ) (l : TracedLwp)
     (store : Option Store) → AllowsAll covers pid p id l (stored_in p.space store) s
@@ -345,12 +346,12 @@ module _ (covers : Covers) (s : TracedSystem) (pid id : ℕ) (p : TracedProcess)
       let same = instruction-same (covers pid).patches p.space p.control.areas l.regs spared in
       let beneath = beneath-instruction (covers pid) p l r in
       let row : row_for u pid q id m ≡ instruction_row Ran None (ran q.space regs store) =
-          instruction-row u pid q id m beneath
-          ∙ ap (executed_row q m) (beneath-effect (covers pid) p l ∙ same.same ∙ effect)
-          ∙ beneath-row (covers pid) p l regs store in
+      instruction-row u pid q id m beneath
+      ∙ ap (executed_row q m) (beneath-effect (covers pid) p l ∙ same.same ∙ effect)
+      ∙ beneath-row (covers pid) p l regs store in
       let goes : may_go_on u pid q id m m.phase ≡ true = ap (may_go_on u pid q id m) beneath.in_program in
       let run = row-runs u pid q id m
-          (λ directed. has-turn covers s pid p id l st.live st.there no_agent no_fault here.free un directed) goes false in
+      (λ directed. has-turn covers s pid p id l st.live st.there no_agent no_fault here.free un directed) goes false in
       subst (λ v. UntracedRun (seen covers s) (Exec pid id ∷ []) v)
       (sym (step-left t regs store turn r effect marked within
       (subst (EffectSpares (covers pid).patches) effect same.spares)))
@@ -358,6 +359,9 @@ module _ (covers : Covers) (s : TracedSystem) (pid id : ℕ) (p : TracedProcess)
       (erased_system (settled u pid q id m x).system)) row run)
 
 pub ruleset opens = (open-runs)
+
 pub ruleset steps = (step-runs)
+
 pub ruleset breakpoints = (breakpoint-hidden)
+
 pub ruleset returns = (stepped_return-hidden)

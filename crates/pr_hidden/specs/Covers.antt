@@ -8,8 +8,8 @@ use Rattle.pr_model.specs.State.{TracedLwp, TracedProcess, TracedSystem}
 use Rattle.pr_model.specs.declared.lwps.Phase.{Phase}
 use Rattle.pr_model.specs.declared.lwps.Phase.TheVariants.{User, Faulted}
 
--- What a controller hides from the programs that run: a debugger writes breakpoints into their text and steps over them,
--- and an agent runs system calls in a process for it.
+-- What a controller hides from the programs that run: a debugger writes breakpoints into their text and steps over
+-- them, and an agent runs system calls in a process for it.
 
 -- the bytes that programs have at an address, where a controller has written others
 pub record Patch : Type 0 where

@@ -14,8 +14,8 @@ use Rattle.pr_model.specs.declared.lwps.Phase.TheVariants.{User, Entered, Asleep
 use Rattle.pr_hidden.specs.Covers.{Patch, Cover, Covers, no_cover, keeps_lwp, patched}
 use Rattle.pr_hidden.specs.Sparing.{AreWithin, spares_call, spares_instruction}
 
--- What changes, calls and turns are without what is hidden: the same, but that the space which they leave is as programs
--- have it; and what they ask for that.
+-- What changes, calls and turns are without what is hidden: the same, but that the space which they leave is as
+-- programs have it; and what they ask for that.
 
 abbrev pub patched_change : List Patch → Change → Change
 patched_change ps (space_is space) = space_is (patched ps space)
@@ -110,8 +110,8 @@ pub record SparesPatches (ps : List Patch) (p : TracedProcess) (l : TracedLwp) :
   pub asleep : (call : Sysno) (args : List ℕ) (since : ℕ) → l.phase ≡ Asleep call args since
       → spares_call ps p.space call args ≡ true
 
--- The turn of an lwp, in a process of which no agent is hidden, is nothing of a controller's: the lwp stands at no fault
--- that is hidden and incurs no FLTTRACE, touches no patch, and may change what it changes.
+-- The turn of an lwp, in a process of which no agent is hidden, is nothing of a controller's: the lwp stands at no
+-- fault that is hidden and incurs no FLTTRACE, touches no patch, and may change what it changes.
 pub record IsOpenTurn (covers : Covers) (s : TracedSystem) (pid : ℕ) (p : TracedProcess) (id : ℕ) (l : TracedLwp) : Type 0 where
   pub no_agent : (covers pid).agent ≡ false
   pub no_fault : (covers pid).faulted id ≡ false

@@ -39,8 +39,8 @@ pub record IsUnhampered (p : TracedProcess) (id : ℕ) (l : TracedLwp) : Type 0 
   pub no_abort : l.control.abort ≡ false
   pub unwatched : p.control.areas ≡ []
 
--- whether the turn of an lwp is its way out of a call: it is not directed to stop, and has no signal to act on or to take
--- first
+-- whether the turn of an lwp is its way out of a call: it is not directed to stop, and has no signal to act on or to
+-- take first
 pub record GoesBack (p : TracedProcess) (l : TracedLwp) (call : Sysno) : Type 0 where
   pub not_directed : l.control.directed ≡ false
   pub args : List ℕ

@@ -15,7 +15,8 @@ use Rattle.pr_model.specs.InstructionEffects.{Decoded, faults_itself, enters_cal
 use Rattle.pr_model.specs.Registers.{pc_of}
 use Rattle.pr_hidden.specs.Covers.{Patch}
 
--- Which memory an instruction and a system call touch, and whether they spare the places where a controller has written.
+-- Which memory an instruction and a system call touch, and whether they spare the places where a controller has
+-- written.
 
 -- whether a patch has the byte at an address
 abbrev pub has_byte : ℕ → Patch → Bool
@@ -73,8 +74,8 @@ abbrev pub spares_gap : List Patch → ℕ → Option ℕ → Bool
 spares_gap ps size None = true
 spares_gap ps size (Some at) = are_spared ps at size
 
--- The memory that a call asks for, whether it is granted or not: a buffer, a path, words that it stores, the heap, and a
--- mapping that it makes. The other calls touch none.
+-- The memory that a call asks for, whether it is granted or not: a buffer, a path, words that it stores, the heap, and
+-- a mapping that it makes. The other calls touch none.
 unfoldable pub spares_call : List Patch → Space → Sysno → List ℕ → Bool
 spares_call ps space Read args = are_spared ps (slice_index args 1) (slice_index args 2)
 spares_call ps space Write args = are_spared ps (slice_index args 1) (slice_index args 2)

@@ -12,8 +12,8 @@ ghost use Rattle.pr_hidden.specs.Following.{Allows, patched_change, patched_effe
 ghost use Rattle.pr_hidden.specs.Sparing.{AreWithin, spares_call, spares_instruction};
 
 /// Whatever a turn changes of the system, the system without what is hidden changes alike, but that the space which is
-/// left is as programs have it. A child is made and a program run without patches there; an lwp is made where no agent is
-/// hidden; and a process that is killed returns what it borrowed as it is seen there.
+/// left is as programs have it. A child is made and a program run without patches there; an lwp is made where no agent
+/// is hidden; and a process that is killed returns what it borrowed as it is seen there.
 #[tactic(auto, using(crate::proofs::ChangeCovers::follows))]
 pub fn changes_are_followed()
     ensures { (covers : Covers) (pid : ℕ) (p : TracedProcess) (id : ℕ) (l : TracedLwp) (c : Change) (s : TracedSystem)
@@ -32,8 +32,8 @@ pub fn calls_spare_patches()
         ≡ patched_effect c.patches (call_effect s pid p id l since call args) }
 {}
 
-/// An instruction that touches no patch, neither with its fetch nor with its data, does the same in the space as programs
-/// have it, also where areas are watched.
+/// An instruction that touches no patch, neither with its fetch nor with its data, does the same in the space as
+/// programs have it, also where areas are watched.
 #[tactic(auto, using(crate::proofs::InstructionCovers::follows))]
 pub fn instructions_spare_patches()
     ensures { (patches : List Patch) (space : Space) (areas : List Area) (regs : List ℕ) → spares_instruction patches space regs ≡ true

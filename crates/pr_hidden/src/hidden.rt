@@ -31,8 +31,8 @@ pub fn clearing_an_own_fault_is_hidden()
         → seen (with_cover pid (with_fault id false (covers pid)) covers) (with_lwp_of pid id without_fault s) ≡ seen covers s }
 {}
 
-/// The agent of a controller comes (PCAGENT) and goes (lwp_exit(2)) without a trace, and whatever it does between, it is
-/// not seen, as long as it changes nothing but patched bytes of its own memory.
+/// The agent of a controller comes (PCAGENT) and goes (lwp_exit(2)) without a trace, and whatever it does between, it
+/// is not seen, as long as it changes nothing but patched bytes of its own memory.
 #[tactic(auto, using(crate::proofs::HiddenCovers::agents))]
 pub fn an_own_agent_is_hidden()
     ensures comes { (covers : Covers) (s : TracedSystem) (pid : ℕ) (p : TracedProcess) (regs : List ℕ)

@@ -4,8 +4,8 @@ ghost use Rattle.pr_parts.specs.AddressSpaces.{with_bytes};
 ghost use Rattle.pr_hidden.specs.Covers.{Patch, patched};
 ghost use Rattle.pr_hidden.specs.Sparing.{is_apart_from, is_spared};
 
-/// A breakpoint that is planted is hidden: where a controller writes bytes over others, and notes those others as a patch
-/// that has no byte in common with the patches there, programs have what they had.
+/// A breakpoint that is planted is hidden: where a controller writes bytes over others, and notes those others as a
+/// patch that has no byte in common with the patches there, programs have what they had.
 #[tactic(auto, using(crate::proofs::PatchLemmas::planted))]
 pub fn bytes_written_where_a_patch_is_noted_are_hidden()
     ensures { (p : Patch) (patches : List Patch) (bytes : List ℕ) (space : Space) → is_apart_from p patches ≡ true

@@ -22,8 +22,8 @@ pub fn open_turns_are_steps()
         → UntracedRun (seen covers s) (steps_of_turn returning pid id t.turned.did) (seen covers t.system) }
 {}
 
-/// A turn that runs into a breakpoint of the controller's is nothing: programs see what they saw before, once the lwp is
-/// noted as one at a fault of the controller's.
+/// A turn that runs into a breakpoint of the controller's is nothing: programs see what they saw before, once the lwp
+/// is noted as one at a fault of the controller's.
 #[tactic(auto, using(crate::proofs::RunCovers::breakpoints))]
 pub fn breakpoints_are_hidden()
     ensures { (covers : Covers) (s : TracedSystem) (pid id : ℕ) (t : LwpTurn) (p : TracedProcess) (l : TracedLwp) (address : ℕ)
@@ -32,7 +32,8 @@ pub fn breakpoints_are_hidden()
         → seen (with_cover pid (with_fault id true (covers pid)) covers) t.system ≡ seen covers s }
 {}
 
-/// A turn that a controller makes an lwp take by a step mark, and that ends at FLTTRACE, is the instruction that it ran.
+/// A turn that a controller makes an lwp take by a step mark, and that ends at FLTTRACE, is the instruction that it
+/// ran.
 #[tactic(auto, using(crate::proofs::RunCovers::steps))]
 pub fn stepped_instructions_are_instructions()
     ensures { (covers : Covers) (s : TracedSystem) (pid id : ℕ) (p : TracedProcess) (l : TracedLwp)

@@ -4,8 +4,8 @@ ghost use Rattle.pr_model.specs.State.{TracedLwp, TracedProcess, TracedSystem, l
 ghost use Rattle.pr_hidden.specs.Covers.{Covers, uncovered};
 ghost use Rattle.pr_hidden.specs.Following.{IsOpenTurn};
 
-/// A turn that is nothing of a controller's is the same turn without what is hidden: it did the same, with the same stop,
-/// and what it leaves is what it leaves of the system, without what is hidden.
+/// A turn that is nothing of a controller's is the same turn without what is hidden: it did the same, with the same
+/// stop, and what it leaves is what it leaves of the system, without what is hidden.
 #[tactic(auto, using(crate::proofs::TurnCovers::follows))]
 pub fn turns_are_followed()
     ensures { (covers : Covers) (s : TracedSystem) (pid id : ℕ) (t : LwpTurn) (p : TracedProcess) (l : TracedLwp)
