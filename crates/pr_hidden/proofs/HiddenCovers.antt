@@ -29,7 +29,7 @@ use Rattle.pr_hidden.specs.Hiding.{AreCovered, ChangesOwn, IsSeenAlike, Stands, 
 use Rattle.pr_hidden.proofs.OneLemmas.{come-hidden, go-hidden, one-followed}
 use Rattle.pr_hidden.proofs.PatchLemmas.{hidden-store}
 use Rattle.pr_hidden.proofs.PointCovers.{counted-uncovered, meeting-uncovered}
-use Rattle.pr_hidden.proofs.SeenLemmas.{seen-hidden}
+use Rattle.pr_hidden.proofs.SeenLemmas.{seen-alike, seen-hidden}
 use Rattle.pr_hidden.proofs.StateCovers.{with_process-uncovered}
 
 -- What controllers do that is hidden: programs see the state before it.
@@ -194,8 +194,9 @@ agent_made : (c : Cover) (regs : List ℕ) (p : TracedProcess) → c.agent ≡ f
     → uncovered_process (with_own_agent true c) (with_agent regs p) ≡ uncovered_process c p
 unfolding uncovered_process with_agent
 agent_made c regs p none free =
-    rw none (ap (λ ls. record p { space = patched c.patches p.space; lwps = ls })
-    (come-hidden (lwp_beneath c) agent_id (agent_lwp regs) p.lwps free))
+    ap (λ ls. record p { space = patched c.patches p.space; lwps = ls })
+    (come-hidden (lwp_beneath c) agent_id (agent_lwp regs) p.lwps free
+    ∙ seen-alike all_kept (keeps_lwp c) (lwp_beneath c) (λ id. rw none refl) p.lwps)
 
 pub agent-made : (covers : Covers) (s : TracedSystem) (pid : ℕ) (p : TracedProcess) (regs : List ℕ)
     → IsRising s.processes → live_process s pid ≡ Some p → (covers pid).agent ≡ false → lwp_of p agent_id ≡ None
@@ -208,8 +209,9 @@ agent_gone : (c : Cover) (p : TracedProcess) → c.agent ≡ true → IsRising p
     → uncovered_process (with_own_agent false c) (without_lwp agent_id p) ≡ uncovered_process c p
 unfolding uncovered_process without_lwp
 agent_gone c p own rising =
-    rw own (ap (λ ls. record p { space = patched c.patches p.space; lwps = ls })
-    (go-hidden (lwp_beneath c) agent_id 0 p.lwps rising))
+    ap (λ ls. record p { space = patched c.patches p.space; lwps = ls })
+    (go-hidden (lwp_beneath c) agent_id 0 p.lwps rising
+    ∙ seen-alike (λ id. not (eqb id agent_id)) (keeps_lwp c) (lwp_beneath c) (λ id. rw own refl) p.lwps)
 
 pub agent-gone : (covers : Covers) (s : TracedSystem) (pid : ℕ) (p : TracedProcess) → IsRising s.processes
     → live_process s pid ≡ Some p → IsRising p.lwps → (covers pid).agent ≡ true

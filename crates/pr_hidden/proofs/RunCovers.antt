@@ -206,7 +206,7 @@ stands-space s pid p id l space st = record {
       ∙ ap (option_map (with_space space)) (live_process-found s pid p st.live))
       ∙ ap (λ b. cond b (Some (with_space space p)) None) (live_process-live s pid p st.live);
   there = st.there;
-  processes = rises_from-change_under 0 pid (with_space space) s.processes st.processes;
+  processes = rises_from-change_under 0 pid (with_space space) s.processes ∙ st.processes;
   lwps = st.lwps;
 }
 

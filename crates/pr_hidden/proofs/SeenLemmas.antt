@@ -120,3 +120,10 @@ module _ {X Y : Type 0} (keeps : ℕ → Bool) (view : ℕ → X → Y) where
   unfolding Keeping
   seen-length all [] = refl
   seen-length all (e ∷ es) = rw (all e.0) (ap suc (seen-length all es))
+
+-- ---- which are kept, said in two ways
+
+pub seen-alike : {X Y : Type 0} (one other : ℕ → Bool) (view : ℕ → X → Y) → ((id : ℕ) → one id ≡ other id)
+    → (es : List (ℕ × X)) → seen_under one view es ≡ seen_under other view es
+seen-alike one other view same [] = refl
+seen-alike one other view same (e ∷ es) = rw (same e.0, seen-alike one other view same es) refl
