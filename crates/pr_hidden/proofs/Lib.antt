@@ -15,5 +15,6 @@ pub mod RowCovers
 pub mod RunCovers
 pub mod SeenLemmas
 pub mod SignalCovers
+pub mod StandLemmas
 pub mod StateCovers
 pub mod TurnCovers

@@ -9,13 +9,13 @@ use Rattle.pr_hidden.proofs.ByteLemmas.{Spares, covered-byte, over, over-over, o
 -- Stores and patches.
 
 -- whether a store has a byte
-abbrev stores_byte : ℕ → List ℕ → ℕ → Bool
+abbrev pub stores_byte : ℕ → List ℕ → ℕ → Bool
 stores_byte at xs a = has_byte a (record { at = at; bytes = xs })
 
-stored-low : (at : ℕ) (xs : List ℕ) (a : ℕ) → stores_byte at xs a ≡ true → at ≤ a
+pub stored-low : (at : ℕ) (xs : List ℕ) (a : ℕ) → stores_byte at xs a ≡ true → at ≤ a
 stored-low at xs a has = leb-true at a (and_parts (leb at a) (ltb a (at + length xs)) has).0
 
-stored-high : (at : ℕ) (xs : List ℕ) (a : ℕ) → stores_byte at xs a ≡ true → a < at + length xs
+pub stored-high : (at : ℕ) (xs : List ℕ) (a : ℕ) → stores_byte at xs a ≡ true → a < at + length xs
 stored-high at xs a has = ltb-true a (at + length xs) (and_parts (leb at a) (ltb a (at + length xs)) has).1
 
 -- ---- a store that spares the patches is the same to programs

@@ -364,4 +364,4 @@ pub ruleset steps = (step-runs)
 
 pub ruleset breakpoints = (breakpoint-hidden)
 
-pub ruleset returns = (stepped_return-hidden)
+pub ruleset return_steps = (stepped_return-hidden)

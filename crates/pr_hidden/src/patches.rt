@@ -1,5 +1,5 @@
-ghost use Rattle.std.specs.Prelude.{◌≡◌, ◌≤◌, ◌<◌, ◌+◌, ◌++◌, ◌∷◌, true, false, length, ℕ, List};
-ghost use Rattle.pr_num.specs.Spaces.{Space};
+ghost use Rattle.std.specs.Prelude.{◌≡◌, ◌≤◌, ◌<◌, ◌+◌, ◌^◌, ◌++◌, ◌∷◌, true, false, length, ℕ, List, Ok};
+ghost use Rattle.pr_num.specs.Spaces.{IsSpace, Space, bytes_for};
 ghost use Rattle.pr_parts.specs.AddressSpaces.{with_bytes};
 ghost use Rattle.pr_hidden.specs.Covers.{Patch, patched};
 ghost use Rattle.pr_hidden.specs.Sparing.{is_apart_from, is_spared};
@@ -27,4 +27,11 @@ pub fn stores_into_patches_are_hidden()
     ensures { (patches : List Patch) (at : ℕ) (bytes : List ℕ)
         → ((address : ℕ) → at ≤ address → address < at + length bytes → is_spared patches address ≡ false) → (space : Space)
         → patched patches (with_bytes at bytes space) ≡ patched patches space }
+{}
+
+/// What PCREAD reads of a space stands there: written back it changes nothing. So it can be noted as a patch.
+#[tactic(auto, using(crate::proofs::StandLemmas::stands))]
+pub fn what_is_read_stands_there()
+    ensures { (space : Space) (at : ℕ) (bytes : List ℕ) → IsSpace space → at + length bytes ≤ 2 ^ 64
+        → bytes_for 0 space at (length bytes) ≡ Ok bytes → with_bytes at bytes space ≡ space }
 {}

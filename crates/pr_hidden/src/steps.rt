@@ -45,7 +45,7 @@ pub fn stepped_instructions_are_instructions()
 {}
 
 /// The same mark on the way out of a call is the return from it, of which programs see nothing.
-#[tactic(auto, using(crate::proofs::RunCovers::returns))]
+#[tactic(auto, using(crate::proofs::RunCovers::return_steps))]
 pub fn stepped_returns_are_hidden()
     ensures { (covers : Covers) (s : TracedSystem) (pid id : ℕ) (t : LwpTurn) (p : TracedProcess) (l : TracedLwp) (call : AnyCall)
         → turn_of s pid id ≡ Some t → Stands s pid p id l → GoesBack p l call → l.control.step ≡ true → (covers pid).agent ≡ false
