@@ -363,5 +363,3 @@ pub ruleset opens = (open-runs)
 pub ruleset steps = (step-runs)
 
 pub ruleset breakpoints = (breakpoint-hidden)
-
-pub ruleset return_steps = (stepped_return-hidden)

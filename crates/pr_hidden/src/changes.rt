@@ -19,15 +19,18 @@ pub fn changes_are_followed()
     ensures { (covers : Covers) (pid : ℕ) (p : TracedProcess) (id : ℕ) (l : TracedLwp) (c : Change) (s : TracedSystem)
         → Allows covers s pid p id c
         → uncovered covers (changed traced pid p id l c s)
-        ≡ changed traced pid (uncovered_process (covers pid) p) id (uncovered_lwp ((covers pid).faulted id) l) (patched_change (covers pid).patches c) (uncovered covers s) }
+        ≡ changed traced pid (uncovered_process (covers pid) p) id (uncovered_lwp ((covers pid).faulted id) l)
+        (patched_change (covers pid).patches c) (uncovered covers s) }
 {}
 
 /// A system call that touches no patch, in a process of which no agent is hidden, does the same without what is hidden,
 /// but that the space which it leaves is as programs have it.
 #[tactic(auto, using(crate::proofs::CallCovers::follows))]
 pub fn calls_spare_patches()
-    ensures { (covers : Covers) (s : TracedSystem) (pid : ℕ) (p : TracedProcess) (id : ℕ) (own : Bool) (l : TracedLwp) (c : Cover)
-        → c.agent ≡ false → AreWithin c.patches → (since : ℕ) (call : AnyCall) (args : List ℕ) → spares_call c.patches p.space call args ≡ true
+    ensures { (covers : Covers) (s : TracedSystem) (pid : ℕ) (p : TracedProcess) (id : ℕ) (own : Bool)
+        (l : TracedLwp) (c : Cover)
+        → c.agent ≡ false → AreWithin c.patches → (since : ℕ) (call : AnyCall) (args : List ℕ)
+        → spares_call c.patches p.space call args ≡ true
         → call_effect (uncovered covers s) pid (uncovered_process c p) id (uncovered_lwp own l) since call args
         ≡ patched_effect c.patches (call_effect s pid p id l since call args) }
 {}
@@ -36,6 +39,7 @@ pub fn calls_spare_patches()
 /// programs have it, also where areas are watched.
 #[tactic(auto, using(crate::proofs::InstructionCovers::follows))]
 pub fn instructions_spare_patches()
-    ensures { (patches : List Patch) (space : Space) (areas : List Area) (regs : List ℕ) → spares_instruction patches space regs ≡ true
+    ensures { (patches : List Patch) (space : Space) (areas : List Area) (regs : List ℕ)
+        → spares_instruction patches space regs ≡ true
         → instruction_effect (patched patches space) areas regs ≡ instruction_effect space areas regs }
 {}

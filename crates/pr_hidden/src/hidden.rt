@@ -20,15 +20,19 @@ ghost use Rattle.pr_hidden.specs.Hiding.{ChangesOwn, IsSeenAlike, Stands, with_f
 pub fn patching_is_hidden()
     ensures { (covers : Covers) (s : TracedSystem) (pid : ℕ) (p : TracedProcess) (patches : List Patch) (space : Space)
         → IsRising s.processes → live_process s pid ≡ Some p → IsSeenAlike patches space (covers pid).patches p.space
-        → seen (with_cover pid (with_patches patches (covers pid)) covers) (with_process pid (with_space space) s) ≡ seen covers s }
+        → seen (with_cover pid (with_patches patches (covers pid)) covers) (with_process pid (with_space space) s)
+        ≡ seen covers s }
 {}
 
 /// A fault of the controller's that is cleared (PRCFAULT, PCCFAULT) is hidden: it was none to the programs before.
 #[tactic(auto, using(crate::proofs::HiddenCovers::clearing))]
 pub fn clearing_an_own_fault_is_hidden()
-    ensures { (covers : Covers) (s : TracedSystem) (pid : ℕ) (p : TracedProcess) (id : ℕ) (l : TracedLwp) (f : AnyFault) (address : ℕ)
-        → Stands s pid p id l → keeps_lwp (covers pid) id ≡ true → (covers pid).faulted id ≡ true → l.phase ≡ Faulted f address
-        → seen (with_cover pid (with_fault id false (covers pid)) covers) (with_lwp_of pid id without_fault s) ≡ seen covers s }
+    ensures { (covers : Covers) (s : TracedSystem) (pid : ℕ) (p : TracedProcess) (id : ℕ) (l : TracedLwp)
+        (f : AnyFault) (address : ℕ)
+        → Stands s pid p id l → keeps_lwp (covers pid) id ≡ true → (covers pid).faulted id ≡ true
+        → l.phase ≡ Faulted f address
+        → seen (with_cover pid (with_fault id false (covers pid)) covers) (with_lwp_of pid id without_fault s)
+        ≡ seen covers s }
 {}
 
 /// The agent of a controller comes (PCAGENT) and goes (lwp_exit(2)) without a trace, and whatever it does between, it
@@ -37,11 +41,15 @@ pub fn clearing_an_own_fault_is_hidden()
 pub fn an_own_agent_is_hidden()
     ensures comes { (covers : Covers) (s : TracedSystem) (pid : ℕ) (p : TracedProcess) (regs : List ℕ)
         → IsRising s.processes → live_process s pid ≡ Some p → (covers pid).agent ≡ false → lwp_of p agent_id ≡ None
-        → seen (with_cover pid (with_own_agent true (covers pid)) covers) (with_process pid (with_agent regs) s) ≡ seen covers s }
-    ensures moves { (covers : Covers) (s : TracedSystem) (pid : ℕ) (p : TracedProcess) (id : ℕ) (l : TracedLwp) (m : Move) (cs : List Change)
-        → IsRising s.processes → live_process s pid ≡ Some p → keeps_lwp (covers pid) id ≡ false → ChangesOwn (covers pid).patches p.space cs
+        → seen (with_cover pid (with_own_agent true (covers pid)) covers) (with_process pid (with_agent regs) s)
+        ≡ seen covers s }
+    ensures moves { (covers : Covers) (s : TracedSystem) (pid : ℕ) (p : TracedProcess) (id : ℕ) (l : TracedLwp)
+        (m : Move) (cs : List Change)
+        → IsRising s.processes → live_process s pid ≡ Some p → keeps_lwp (covers pid) id ≡ false
+        → ChangesOwn (covers pid).patches p.space cs
         → seen covers (with_lwp_of pid id (moved traced m) (all_changed traced pid p id l cs s)) ≡ seen covers s }
     ensures goes { (covers : Covers) (s : TracedSystem) (pid : ℕ) (p : TracedProcess)
         → IsRising s.processes → live_process s pid ≡ Some p → IsRising p.lwps → (covers pid).agent ≡ true
-        → seen (with_cover pid (with_own_agent false (covers pid)) covers) (with_process pid (without_lwp agent_id) s) ≡ seen covers s }
+        → seen (with_cover pid (with_own_agent false (covers pid)) covers)
+        (with_process pid (without_lwp agent_id) s) ≡ seen covers s }
 {}

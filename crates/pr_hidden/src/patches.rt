@@ -25,7 +25,8 @@ pub fn what_is_written_back_is_no_patch()
 #[tactic(auto, using(crate::proofs::PatchLemmas::hides))]
 pub fn stores_into_patches_are_hidden()
     ensures { (patches : List Patch) (at : ℕ) (bytes : List ℕ)
-        → ((address : ℕ) → at ≤ address → address < at + length bytes → is_spared patches address ≡ false) → (space : Space)
+        → ((address : ℕ) → at ≤ address → address < at + length bytes → is_spared patches address ≡ false)
+        → (space : Space)
         → patched patches (with_bytes at bytes space) ≡ patched patches space }
 {}
 

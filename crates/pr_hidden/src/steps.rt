@@ -16,7 +16,8 @@ ghost use Rattle.pr_hidden.specs.Sparing.{AreWithin, spares_instruction};
 /// its steps from what programs see before it, and they lead to what programs see after it.
 #[tactic(auto, using(crate::proofs::RunCovers::opens))]
 pub fn open_turns_are_steps()
-    ensures { (covers : Covers) (s : TracedSystem) (pid id : ℕ) (t : LwpTurn) (p : TracedProcess) (l : TracedLwp) (returning : Bool)
+    ensures { (covers : Covers) (s : TracedSystem) (pid id : ℕ) (t : LwpTurn) (p : TracedProcess) (l : TracedLwp)
+        (returning : Bool)
         → turn_of s pid id ≡ Some t → live_process s pid ≡ Some p → lwp_of p id ≡ Some l
         → IsOpenTurn covers s pid p id l → IsUnhampered p id l
         → UntracedRun (seen covers s) (steps_of_turn returning pid id t.turned.did) (seen covers t.system) }
@@ -26,9 +27,11 @@ pub fn open_turns_are_steps()
 /// is noted as one at a fault of the controller's.
 #[tactic(auto, using(crate::proofs::RunCovers::breakpoints))]
 pub fn breakpoints_are_hidden()
-    ensures { (covers : Covers) (s : TracedSystem) (pid id : ℕ) (t : LwpTurn) (p : TracedProcess) (l : TracedLwp) (address : ℕ)
+    ensures { (covers : Covers) (s : TracedSystem) (pid id : ℕ) (t : LwpTurn) (p : TracedProcess) (l : TracedLwp)
+        (address : ℕ)
         → turn_of s pid id ≡ Some t → Stands s pid p id l → RunsInstruction p l
-        → instruction_effect p.space p.control.areas l.regs ≡ faults Bpt address → (covers pid).agent ≡ false → (covers pid).faulted id ≡ false
+        → instruction_effect p.space p.control.areas l.regs ≡ faults Bpt address → (covers pid).agent ≡ false
+        → (covers pid).faulted id ≡ false
         → seen (with_cover pid (with_fault id true (covers pid)) covers) t.system ≡ seen covers s }
 {}
 
@@ -40,14 +43,17 @@ pub fn stepped_instructions_are_instructions()
         → Stands s pid p id l → (covers pid).agent ≡ false → (covers pid).faulted id ≡ false
         → (t : LwpTurn) (regs : List ℕ) (store : Option Store) → turn_of s pid id ≡ Some t → RunsInstruction p l
         → instruction_effect p.space p.control.areas l.regs ≡ runs regs store → l.control.step ≡ true
-        → AreWithin (covers pid).patches → spares_instruction (covers pid).patches p.space l.regs ≡ true → IsUnhampered p id l
-        → UntracedRun (seen covers s) (Exec pid id ∷ []) (seen (with_cover pid (with_fault id true (covers pid)) covers) t.system) }
+        → AreWithin (covers pid).patches → spares_instruction (covers pid).patches p.space l.regs ≡ true
+        → IsUnhampered p id l
+        → UntracedRun (seen covers s) (Exec pid id ∷ [])
+        (seen (with_cover pid (with_fault id true (covers pid)) covers) t.system) }
 {}
 
 /// The same mark on the way out of a call is the return from it, of which programs see nothing.
-#[tactic(auto, using(crate::proofs::RunCovers::return_steps))]
 pub fn stepped_returns_are_hidden()
-    ensures { (covers : Covers) (s : TracedSystem) (pid id : ℕ) (t : LwpTurn) (p : TracedProcess) (l : TracedLwp) (call : AnyCall)
-        → turn_of s pid id ≡ Some t → Stands s pid p id l → GoesBack p l call → l.control.step ≡ true → (covers pid).agent ≡ false
+    ensures { (covers : Covers) (s : TracedSystem) (pid id : ℕ) (t : LwpTurn) (p : TracedProcess) (l : TracedLwp)
+        (call : AnyCall)
+        → turn_of s pid id ≡ Some t → Stands s pid p id l → GoesBack p l call → l.control.step ≡ true
+        → (covers pid).agent ≡ false
         → seen (with_cover pid (with_fault id true (covers pid)) covers) t.system ≡ seen covers s }
 {}

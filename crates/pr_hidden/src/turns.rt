@@ -9,6 +9,8 @@ ghost use Rattle.pr_hidden.specs.Following.{IsOpenTurn};
 #[tactic(auto, using(crate::proofs::TurnCovers::follows))]
 pub fn turns_are_followed()
     ensures { (covers : Covers) (s : TracedSystem) (pid id : ℕ) (t : LwpTurn) (p : TracedProcess) (l : TracedLwp)
-        → turn_of s pid id ≡ Some t → live_process s pid ≡ Some p → lwp_of p id ≡ Some l → IsOpenTurn covers s pid p id l
-        → turn_of (uncovered covers s) pid id ≡ Some (record { system = uncovered covers t.system; turned = t.turned }) }
+        → turn_of s pid id ≡ Some t → live_process s pid ≡ Some p → lwp_of p id ≡ Some l
+        → IsOpenTurn covers s pid p id l
+        → turn_of (uncovered covers s) pid id
+        ≡ Some (record { system = uncovered covers t.system; turned = t.turned }) }
 {}
