@@ -15,7 +15,7 @@ use Rattle.pr_model.specs.Messages.{agent_lwp, with_agent}
 use Rattle.pr_model.specs.Moves.{Move, incurs, moved, traps}
 use Rattle.pr_model.specs.Points.{after_meeting}
 use Rattle.pr_model.specs.Rows.{Row}
-use Rattle.pr_model.specs.Running.{without_fault}
+use Rattle.pr_model.specs.Running.{with_step, without_fault}
 use Rattle.pr_model.specs.State.{TracedLwp, TracedProcess, TracedSystem, has_agent, live_process, lwp_of, process_of, with_lwp, with_lwp_of, with_process}
 use Rattle.pr_model.specs.Transitions.{after_transition}
 use Rattle.pr_model.specs.declared.lwps.Phase.{Phase}
@@ -30,7 +30,7 @@ use Rattle.pr_hidden.proofs.OneLemmas.{come-hidden, go-hidden, one-followed}
 use Rattle.pr_hidden.proofs.PatchLemmas.{hidden-store}
 use Rattle.pr_hidden.proofs.PointCovers.{counted-uncovered, meeting-uncovered}
 use Rattle.pr_hidden.proofs.SeenLemmas.{seen-alike, seen-hidden}
-use Rattle.pr_hidden.proofs.StateCovers.{with_process-uncovered}
+use Rattle.pr_hidden.proofs.StateCovers.{with_lwp-uncovered, with_process-uncovered}
 
 -- What controllers do that is hidden: programs see the state before it.
 
@@ -255,6 +255,23 @@ agent-unseen covers s pid p id l m _ rising live none (stores at bytes covered) 
     lwp-unseen covers (with_process pid (with_space (with_bytes at bytes p.space)) s) pid id (moved traced m) none
     ∙ same_cover-hidden covers s pid p (with_space (with_bytes at bytes p.space)) rising
     (live_process-found s pid p live) (covered_store (covers pid) p at bytes covered)
+
+-- ---- a step mark
+
+step_mark : (own : Bool) (l : TracedLwp) → uncovered_lwp own (with_step l) ≡ kept-lwp (uncovered_lwp own l)
+unfolding uncovered_lwp with_step step_taken kept-lwp
+step_mark own l = refl
+
+pub marked-hidden : (covers : Covers) (s : TracedSystem) (pid id : ℕ)
+    → seen covers (with_lwp_of pid id with_step s) ≡ seen covers s
+unfolding with_lwp_of
+marked-hidden covers s pid id =
+    ap erased_system
+    (with_process-uncovered covers s pid (with_lwp id with_step) (with_lwp id kept-lwp)
+    (λ x. with_lwp-uncovered (covers pid) x id with_step kept-lwp (step_mark ((covers pid).faulted id))))
+    ∙ unmoved (uncovered covers s) pid id
+
+pub ruleset marking = (marked-hidden)
 
 pub ruleset patching = (patches-hidden)
 

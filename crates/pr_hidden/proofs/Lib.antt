@@ -1,4 +1,5 @@
 pub mod AccessLemmas
+pub mod BareCovers
 pub mod ByteLemmas
 pub mod CallCovers
 pub mod ChangeCovers

@@ -4,15 +4,26 @@ ghost use Rattle.pr_num.specs.ById.{IsRising};
 ghost use Rattle.pr_num.specs.Spaces.{Space};
 ghost use Rattle.pr_num.specs.declared.faults.Flt.{Flt as AnyFault};
 ghost use Rattle.pr_model.specs.Changes.{Change, all_changed, with_space};
+ghost use Rattle.pr_model.specs.Erasure.{uncontrolled_system};
 ghost use Rattle.pr_model.specs.Lives.{without_lwp};
 ghost use Rattle.pr_model.specs.Machines.{traced};
 ghost use Rattle.pr_model.specs.Messages.{with_agent};
 ghost use Rattle.pr_model.specs.Moves.{Move, moved};
-ghost use Rattle.pr_model.specs.Running.{without_fault};
+ghost use Rattle.pr_model.specs.Running.{with_step, without_fault};
 ghost use Rattle.pr_model.specs.State.{TracedLwp, TracedProcess, TracedSystem, live_process, lwp_of, with_lwp_of, with_process};
 ghost use Rattle.pr_model.specs.declared.lwps.Phase.TheVariants.{Faulted};
 ghost use Rattle.pr_hidden.specs.Covers.{Covers, Patch, keeps_lwp, seen, with_cover};
 ghost use Rattle.pr_hidden.specs.Hiding.{ChangesOwn, IsSeenAlike, Stands, with_fault, with_own_agent, with_patches};
+
+/// What leaves a state but for what controllers set, as a stop, a run, or a traced set, leaves what programs see,
+/// whatever is hidden of it; and so does a step mark.
+#[tactic(auto, using(crate::proofs::BareCovers::controls, crate::proofs::HiddenCovers::marking))]
+pub fn what_controllers_set_is_hidden()
+    ensures set { (covers : Covers) (s t : TracedSystem) → uncontrolled_system t ≡ uncontrolled_system s
+        → seen covers t ≡ seen covers s }
+    ensures marked { (covers : Covers) (s : TracedSystem) (pid id : ℕ)
+        → seen covers (with_lwp_of pid id with_step s) ≡ seen covers s }
+{}
 
 /// Patches that come and go with the memory under them are hidden: programs see nothing of it where they have the same
 /// space after it as before.

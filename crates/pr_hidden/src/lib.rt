@@ -9,7 +9,10 @@ mod steps;
 mod turns;
 
 pub use changes::{calls_spare_patches, changes_are_followed, instructions_spare_patches};
-pub use hidden::{an_own_agent_is_hidden, clearing_an_own_fault_is_hidden, patching_is_hidden};
+pub use hidden::{
+    an_own_agent_is_hidden, clearing_an_own_fault_is_hidden, patching_is_hidden,
+    what_controllers_set_is_hidden,
+};
 pub use patches::{
     bytes_written_where_a_patch_is_noted_are_hidden, stores_into_patches_are_hidden,
     what_is_read_stands_there, what_is_written_back_is_no_patch,
