@@ -1,0 +1,4 @@
+pub mod Covers
+pub mod Following
+pub mod Hiding
+pub mod Sparing
