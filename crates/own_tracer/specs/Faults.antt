@@ -1,4 +1,4 @@
-use Rattle.std.specs.Prelude.{◌≡◌, ◌-◌, ◌==◌, ◌×◌, ◌++◌, ℕ, Bool, true, false, List, [], ◌∷◌, Some, if◌then◌else◌}
+use Rattle.std.specs.Prelude.{◌≡◌, ◌-◌, ◌==◌, ◌++◌, ℕ, Bool, true, false, List, [], ◌∷◌, Some, if◌then◌else◌}
 use Rattle.pr_api.specs.Entries.{call_entry}
 use Rattle.pr_model.specs.declared.calls.Call.TheVariants.{Poll}
 use Rattle.pr_model.specs.declared.calls.Reply.{Reply}

@@ -1,4 +1,4 @@
-use Rattle.std.specs.Prelude.{◌≡◌, ◌×◌, ◌++◌, ℕ, Bool, true, false, not, List, [], ◌∷◌, Result, Ok, Err, Some}
+use Rattle.std.specs.Prelude.{◌≡◌, ◌++◌, ℕ, Bool, true, false, not, List, [], ◌∷◌, Result, Ok, Err, Some}
 use Rattle.pr_api.specs.Views.{KernelView, kernel_of}
 use Rattle.pr_model.specs.Legal.{IsLegal, state_after}
 use Rattle.pr_model.specs.State.{TracedState}

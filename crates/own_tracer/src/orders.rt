@@ -24,7 +24,7 @@ pub enum Order {
 }
 
 /// The control message of an order (proc(4)).
-#[tactic(auto, unfolding(crate::specs::Orders::message_of))]
+#[tactic(auto, unfolding(crate::specs::Orders::message_of, pr_num::specs::Messages::tail_length))]
 fn message_of(order: Order) -> Message
     ensures value { result ≡ message_of order }
     ensures tail { tail_length result ≡ 0 }

@@ -52,9 +52,13 @@ fn tick<Q: Kernel>(kern: &mut Q) -> bool
     ensures few { length (Q.view kern.new).history ≤ length (Q.view kern.old).history + 1 }
     ensures places { (Q.view kern.new).places ≡ (Q.view kern.old).places }
 {
-    if !kern.sleeper() || kern.clock() >= CLOCK_LIMIT {
+    if !kern.sleeper() {
         return false;
     }
-    kern.tick();
-    true
+    let clock = kern.clock();
+    if clock < CLOCK_LIMIT {
+        kern.tick();
+        return true;
+    }
+    false
 }

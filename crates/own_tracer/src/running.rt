@@ -61,7 +61,10 @@ fn run_alone<Q: Kernel>(kern: &mut Q, mut programs: Programs) -> Result<(), NoMe
     ensures { OnOk result (Goes HoldsNothing (Q.view kern.old) (Q.view kern.new)) }
 {
     for _ in 0..kern.places() {
-        if kern.entries() == kern.places() || !programs.advance(kern)? {
+        if kern.entries() == kern.places() {
+            return Ok(());
+        }
+        if !programs.advance(kern)? {
             return Ok(());
         }
     }
