@@ -114,7 +114,7 @@ pub spare-spares : (g : Grip) (s : TracedState) (a : Answer) → Holds g s
 spare-spares g s a h is = record {
   holds = sent-holds g s h Spare a is;
   spares = λ q now. let w = was g s h Spare a is (without_modes klc_mode) (spare-row s.system g.pid) q now in
-  subst (λ (x : TracedProcess). has_flags x.control.modes klc_mode ≡ false) (sym w.1.1) (spared w.0);
+      subst (λ (x : TracedProcess). has_flags x.control.modes klc_mode ≡ false) (sym w.1.1) (spared w.0);
 }
 
 pub release-readies : (g : Grip) (s : TracedState) (a : Answer) → IsSpared g s
@@ -122,10 +122,10 @@ pub release-readies : (g : Grip) (s : TracedState) (a : Answer) → IsSpared g s
 release-readies g s a h is = record {
   holds = sent-holds g s h.holds Release a is;
   spares = λ q now. let w = was g s h.holds Release a is (with_modes rlc_mode) (release-row s.system g.pid) q now in
-  subst (λ (x : TracedProcess). has_flags x.control.modes klc_mode ≡ false) (sym w.1.1)
-  (still-spared w.0 ∙ h.spares w.0 w.1.0);
+      subst (λ (x : TracedProcess). has_flags x.control.modes klc_mode ≡ false) (sym w.1.1)
+      (still-spared w.0 ∙ h.spares w.0 w.1.0);
   runs = λ q now. let w = was g s h.holds Release a is (with_modes rlc_mode) (release-row s.system g.pid) q now in
-  subst (λ (x : TracedProcess). has_flags x.control.modes rlc_mode ≡ true) (sym w.1.1) (releases w.0);
+      subst (λ (x : TracedProcess). has_flags x.control.modes rlc_mode ≡ true) (sym w.1.1) (releases w.0);
 }
 
 -- ---- the close

@@ -3,3 +3,4 @@ pub mod HoldingLemmas
 pub mod LeavingLemmas
 pub mod OrderLemmas
 pub mod RunLemmas
+pub mod ScenarioLemmas

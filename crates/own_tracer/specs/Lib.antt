@@ -4,3 +4,4 @@ pub mod Going
 pub mod Orders
 pub mod Running
 pub mod Stances
+pub mod Telling

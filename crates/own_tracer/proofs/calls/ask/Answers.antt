@@ -7,4 +7,4 @@ returns-clause-told g c =
     let view = g.Q.Kernel.view in
     on-ok c.call.result (IsCalled 0 c.args.call (view c.args.kern.now) (view c.call.new.self)) _
     (λ called told. call-told c.args.call (view c.args.kern.now) (view c.call.new.self) called told
-    (g.Q.Kernel.lawful c.call.new.self)) c.call.ensures.ok
+    (g.met.Q.Kernel.lawful c.call.new.self)) c.call.ensures.ok

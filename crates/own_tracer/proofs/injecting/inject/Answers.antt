@@ -17,7 +17,7 @@ returns-clause-goes g c =
     subst (λ call. IsCalled 0 call (view c.args.kern.now) (view c.ask.new.kern)) c.in_ok-poll.ensures
     c.in_ok-ask.ensures.called in
     inject-goes c.args.grip c.order.result (view c.args.kern.now) (view c.ask.new.kern) (view c.send.new.kern)
-    (g.Q.Kernel.lawful c.ask.new.kern) (g.Q.Kernel.lawful c.send.new.kern) c.requires.stands one
+    (g.met.Q.Kernel.lawful c.ask.new.kern) (g.met.Q.Kernel.lawful c.send.new.kern) c.requires.stands one
     c.in_ok-taken.ensures.called
 
 pub returns-clause-injects : goal.returns-clause-injects

@@ -14,6 +14,6 @@ returns g c =
     let view = g.Q.Kernel.view in
     on-ok c.ask.result (IsCalled 0 (Close c.args.grip.control) (view c.send-2.new.kern) (view c.ask.new.kern)) _
     (λ three. leave-goes c.args.grip (view c.args.kern.now) (view c.send.new.kern) (view c.send-2.new.kern)
-    (view c.ask.new.kern) (g.Q.Kernel.lawful c.send.new.kern) (g.Q.Kernel.lawful c.send-2.new.kern)
-    (g.Q.Kernel.lawful c.ask.new.kern) c.requires.stands c.in_ok-send.ensures.called c.in_ok-send-2.ensures.called
+    (view c.ask.new.kern) (g.met.Q.Kernel.lawful c.send.new.kern) (g.met.Q.Kernel.lawful c.send-2.new.kern)
+    (g.met.Q.Kernel.lawful c.ask.new.kern) c.requires.stands c.in_ok-send.ensures.called c.in_ok-send-2.ensures.called
     three) c.ask.ensures.called

@@ -7,7 +7,10 @@ use Rattle.own_tracer.proofs.running.run.Goals as goal
 pub run_alone-requires : goal.run_alone-requires
 run_alone-requires g c =
     let before = c.in_ok-inject_all.ensures in
-    left-nothing c.in_ok-inject_all.field-0 c.args.pid (g.Q.Kernel.view c.inject_all.new.kern) before.stands
+    record {
+      stands =
+          left-nothing c.in_ok-inject_all.field-0 c.args.pid (g.Q.Kernel.view c.inject_all.new.kern) before.stands;
+    }
 
 pub returns : goal.returns
 returns g c =

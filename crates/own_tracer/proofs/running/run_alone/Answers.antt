@@ -4,7 +4,7 @@ use Rattle.own_tracer.specs.Stances.{HoldsNothing}
 use Rattle.own_tracer.proofs.running.run_alone.Goals as goal
 
 pub loop-init : goal.loop-init
-loop-init g c = goes-nowhere HoldsNothing (g.Q.Kernel.view c.args.kern.now) c.requires
+loop-init g c = goes-nowhere HoldsNothing (g.Q.Kernel.view c.args.kern.now) c.requires.stands
 
 pub returns-then-not-branch : goal.returns-then-not-branch
 returns-then-not-branch g c =
