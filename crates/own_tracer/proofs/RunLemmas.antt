@@ -29,7 +29,7 @@ use Rattle.own_tracer.specs.Calls.{open_call, was_taken}
 use Rattle.own_tracer.specs.Faults.{Injected, after_order, order_of}
 use Rattle.own_tracer.specs.Going.{AllLeaveMemory, Goes, IsTold, Stands, only_controls}
 use Rattle.own_tracer.specs.Orders.{order_call}
-use Rattle.own_tracer.specs.Running.{InHand, IsInjected, IsInjectedRun}
+use Rattle.own_tracer.specs.Running.{InHand, IsInjected, IsInjectedRun, IsKeptOut}
 use Rattle.own_tracer.specs.Stances.{HasAttached, HasLeft, Holds, HoldsNothing, Keeps, LeftIf}
 use Rattle.own_tracer.specs.declared.attaching.Grip.{Grip}
 use Rattle.own_tracer.specs.declared.faults.Faults.{Faults}
@@ -156,9 +156,16 @@ pub left-nothing : (attached : Bool) (pid : ℕ) (k : KernelView) → Stands (Le
 left-nothing true pid k stands = record { is = stands.is; holds = stands.holds.nothing }
 left-nothing false pid k stands = stands
 
-pub injected : (attached : Bool) (pid : ℕ) (a b c : KernelView) → Goes (LeftIf attached pid) a b → Goes HoldsNothing b c
+pub injected : (attached : Bool) (pid : ℕ) (a b c : KernelView)
+    → (attached ≡ false → IsKeptOut a.places a.history b.history) → Goes (LeftIf attached pid) a b → Goes HoldsNothing b c
     → IsInjected pid a c
-injected attached pid a b c before after = record { middle = b; attached = attached; before = before; after = after }
+injected attached pid a b c out before after = record {
+  middle = b;
+  attached = attached;
+  out = out;
+  before = before;
+  after = after;
+}
 
 -- ---- from the first state
 
@@ -192,7 +199,7 @@ unfolding kernel_of
 first-stands s h places nothing = record { is = record { state = s; told = refl }; holds = nothing }
 
 pub run-is : (pid : ℕ) (first : TracedState) (places : ℕ) (new : KernelView)
-    → IsInjected pid (kernel_of first [] places) new → IsInjectedRun pid first new.history
+    → IsInjected pid (kernel_of first [] places) new → IsInjectedRun pid places first new.history
 unfolding kernel_of
 run-is pid first places new i =
     let beside = i.before.entries in
@@ -212,6 +219,7 @@ run-is pid first places new i =
           (i.after.legal (state_after first beside) left));
       memory = subst AllLeaveMemory (sym parts) (memory-append beside alone i.before.memory i.after.memory);
       attached = i.attached;
+      out = λ is. subst (λ (h : List Entry). IsKeptOut places [] h) i.before.history (i.out is);
       left =
           subst (LeftIf i.attached pid)
           (told-state i.middle i.before.stands.is (state_after first beside) left) i.before.stands.holds;

@@ -27,13 +27,16 @@ own-names s limits = limits.own_names
 pub ruleset scenarios = (spawns-few, spawns-map, own-names)
 
 pub history-is : (s : Scenario) (k new : Kernel) (h : List Entry) → k.state ≡ first_of s → k.history ≡ []
+    → k.places ≡ s.turns
     → IsInjected 1 (kernel_of k.state k.history k.places) (kernel_of new.state new.history new.places)
     → h ≡ new.history → IsHistoryOf s h
 unfolding kernel_of
-history-is s k new h state history it is =
+history-is s k new h state history places it is =
     let now = kernel_of new.state new.history new.places in
     let one : IsInjected 1 (kernel_of (first_of s) k.history k.places) now =
     subst (λ (x : TracedState). IsInjected 1 (kernel_of x k.history k.places) now) state it in
     let two : IsInjected 1 (kernel_of (first_of s) [] k.places) now =
     subst (λ (x : List Entry). IsInjected 1 (kernel_of (first_of s) x k.places) now) history one in
-    subst (IsHistoryOf s) (sym is) (run-is 1 (first_of s) k.places now two)
+    let three : IsInjected 1 (kernel_of (first_of s) [] s.turns) now =
+    subst (λ (n : ℕ). IsInjected 1 (kernel_of (first_of s) [] n) now) places two in
+    subst (IsHistoryOf s) (sym is) (run-is 1 (first_of s) s.turns now three)

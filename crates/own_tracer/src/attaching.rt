@@ -1,5 +1,8 @@
 //! How the injector gets hold of a process.
-ghost use Rattle.std.specs.Prelude.{◌≡◌, ◌≢◌, ◌≤◌, ◌+◌, length, IfOk, IfSome, OnOk};
+ghost use Rattle.std.specs.Prelude.{◌≡◌, ◌≢◌, ◌≤◌, ◌+◌, None, length, IfOk, IfSome, OnOk};
+ghost use Rattle.std.specs.Option.{option_and_then};
+ghost use Rattle.pr_api.specs.Entries.{last_reply_of};
+ghost use Rattle.pr_model.specs.Replies.{opened_in};
 ghost use Rattle.own_tracer.specs.Going.{Goes, Stands};
 ghost use Rattle.own_tracer.specs.Stances.{HasAttached, HoldsNothing};
 
@@ -22,6 +25,7 @@ pub fn attach<Q: Kernel>(kern: &mut Q, alloc: Global, pid: u32) -> Result<Option
     requires pid { pid ≢ 0 }
     requires room { length (Q.view kern.old).history + 2 ≤ (Q.view kern.old).places }
     ensures goes { IfOk result (λ grip. Goes (HasAttached grip) (Q.view kern.old) (Q.view kern.new)) }
+    ensures refused { IfOk result (λ grip. grip ≡ None → option_and_then opened_in (last_reply_of (Q.view kern.new).history) ≡ None) }
     ensures pid { IfOk result (λ grip. IfSome grip (λ g. g.pid ≡ pid)) }
     ensures few { OnOk result (length (Q.view kern.new).history ≤ length (Q.view kern.old).history + 2) }
     ensures places { OnOk result ((Q.view kern.new).places ≡ (Q.view kern.old).places) }
