@@ -103,7 +103,6 @@ module _ (c : Call) (old new : KernelView) (called : IsCalled 0 c old new) (t : 
   after-it = sym (ap (after_call t.state) answered.1)
 
   pub call-goes : (R : TracedState → Type 0) → IsLawfulView new → only_controls c ≡ true → R made.state → Goes R old new
-  unfolding made
   call-goes R lawful plain holds =
       one-entry R old new t (call_entry 0 c called.reply) answered.0 called.history called.places legal-call after-it
       answered.2 (plain, tt) lawful holds
