@@ -108,8 +108,8 @@ module _ (c : Call) (old new : KernelView) (called : IsCalled 0 c old new) (t : 
       answered.2 (plain, tt) lawful holds
 
 -- a turn
-module _ (pid id : ℕ) (turned : Turned) (old new : KernelView) (lawful : IsLawfulView new) (stands : Stands IsLawful old)
-    (it : IsTurned pid id turned old new) where
+module _ (pid id : ℕ) (turned : Turned) (old new : KernelView) (lawful : IsLawfulView new)
+    (stands : Stands IsLawful old) (it : IsTurned pid id turned old new) where
   turn-made : IsTurnOf pid id turned new.machine stands.is.state
   turn-made =
       let P : Option TracedState → Type 0 = λ o. IfSome o (IsTurnOf pid id turned new.machine) in
@@ -126,16 +126,16 @@ module _ (pid id : ℕ) (turned : Turned) (old new : KernelView) (lawful : IsLaw
   pub turn-goes : Goes (Keeps old) old new
   turn-goes =
       let s = stands.is.state in
-      one-entry (Keeps old) old new stands.is (turn_entry pid id turned) (record s { system = turn-made.0 }) it.history it.places
-      legal-turn after-turn turn-made.2 (refl, tt) lawful
+      one-entry (Keeps old) old new stands.is (turn_entry pid id turned) (record s { system = turn-made.0 }) it.history
+      it.places legal-turn after-turn turn-made.2 (refl, tt) lawful
       (record {
         lawful = turn-state s pid id (record { system = turn-made.0; turned = turned }) stands.holds turn-made.1;
         opens = λ x is. ap (λ (y : TracedState). y.opens) (told-state old stands.is x is);
       })
 
 -- a tick
-module _ (old new : KernelView) (lawful : IsLawfulView new) (stands : Stands IsLawful old) (early : old.clock < clock_limit)
-    (it : IsTicked old new) where
+module _ (old new : KernelView) (lawful : IsLawfulView new) (stands : Stands IsLawful old)
+    (early : old.clock < clock_limit) (it : IsTicked old new) where
   tick-made : new.machine ≡ Some (with_system ticked stands.is.state)
   tick-made =
       let P : Option TracedState → Type 0 = λ o. IfSome o (λ s. new.machine ≡ Some (with_system ticked s)) in
@@ -200,7 +200,8 @@ goes-nowhere R k stands = record {
   stands = stands;
 }
 
-pub stands-so : (P R : TracedState → Type 0) (k : KernelView) → ((s : TracedState) → P s → R s) → Stands P k → Stands R k
+pub stands-so : (P R : TracedState → Type 0) (k : KernelView) → ((s : TracedState) → P s → R s) → Stands P k
+    → Stands R k
 stands-so P R k so stands = record { is = stands.is; holds = so stands.is.state stands.holds }
 
 pub keeps-itself : (k : KernelView) → Stands IsLawful k → Stands (Keeps k) k

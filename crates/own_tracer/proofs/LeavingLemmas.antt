@@ -52,10 +52,12 @@ module _ (g : Grip) (s : TracedState) (h : Holds g s) (o : Order) (a : Answer)
 
   row-is : (p : TracedProcess) → live_process s.system g.pid ≡ Some p
       → a ≡ controlled s
-      (message_answer s.system g.pid p at_process (message_of o) (tail_of (message_of o) (spelling (message_of o) [])) 16)
+      (message_answer s.system g.pid p at_process (message_of o)
+      (tail_of (message_of o) (spelling (message_of o) [])) 16)
   row-is p at =
       answer-is (Some p) at
-      ∙ ap (λ r. controlled s (decoded_answer s.system (gripped g.pid) p (spelling (message_of o) []) r)) (order-reads o)
+      ∙ ap (λ r. controlled s (decoded_answer s.system (gripped g.pid) p (spelling (message_of o) []) r))
+      (order-reads o)
       ∙ ap (λ b. controlled s
       (cond b (refused s.system (system_refusal (message_of o)))
       (message_answer s.system g.pid p (aim_of (gripped g.pid)) (message_of o)
@@ -179,7 +181,11 @@ module _ (g : Grip) (s : TracedState) (h : IsReady g s) (a : Answer)
 
   pub close-leaves : HasLeft g.pid a.state
   close-leaves = record {
-    nothing = record { lawful = call-state s h.holds.lawful 0 (call.Close g.control) a is; nothing = record { none = none-open } };
+    nothing =
+        record {
+          lawful = call-state s h.holds.lawful 0 (call.Close g.control) a is;
+          nothing = record { none = none-open };
+        };
     free = freed;
   }
 

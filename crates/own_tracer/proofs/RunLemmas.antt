@@ -157,8 +157,8 @@ left-nothing true pid k stands = record { is = stands.is; holds = stands.holds.n
 left-nothing false pid k stands = stands
 
 pub injected : (attached : Bool) (pid : ℕ) (a b c : KernelView)
-    → (attached ≡ false → IsKeptOut a.places a.history b.history) → Goes (LeftIf attached pid) a b → Goes HoldsNothing b c
-    → IsInjected pid a c
+    → (attached ≡ false → IsKeptOut a.places a.history b.history) → Goes (LeftIf attached pid) a b
+    → Goes HoldsNothing b c → IsInjected pid a c
 injected attached pid a b c out before after = record {
   middle = b;
   attached = attached;

@@ -30,7 +30,9 @@ after_order true f =
 pub record Injected (control : ℕ) (old new : Faults) (before now : List Entry) : Type 0 where
   pub ready : Reply
   pub answer : Reply
-  pub history : now ≡ before ++ call_entry 0 (Poll (control ∷ [])) ready ∷ call_entry 0 (order_call control (order_of old)) answer ∷ []
+  pub history : now
+      ≡ before ++ call_entry 0 (Poll (control ∷ [])) ready
+      ∷ call_entry 0 (order_call control (order_of old)) answer ∷ []
   pub counted : new ≡ after_order (was_taken (Some answer)) old
 
 -- What a move of the injector did; or nothing, where the process neither stood at the entry of a write nor had ended.

@@ -38,8 +38,8 @@ abbrev pub read_changes : Result (Message × ℕ) MsgFault → Bool
 read_changes (Ok read) = changes_memory read.0
 read_changes (Err fault) = false
 
--- Calls of a controller that change no memory, make no process and send no signal. Of a write of messages the first one is
--- done.
+-- Calls of a controller that change no memory, make no process and send no signal. Of a write of messages the first one
+-- is done.
 unfoldable pub only_controls : Call → Bool
 only_controls (call.Ctl handle bytes) = not (read_changes (first_message bytes))
 only_controls (call.Spawn program held) = false
@@ -58,8 +58,8 @@ AllLeaveMemory (e ∷ es) = (leaves_memory e.act ≡ true) × AllLeaveMemory es
 
 -- ---- going on
 
--- A kernel went on by some entries: they are legal where there is one controller, and lead from the machine's state to its
--- new one, of which something holds. No entry of a controller changes memory.
+-- A kernel went on by some entries: they are legal where there is one controller, and lead from the machine's state to
+-- its new one, of which something holds. No entry of a controller changes memory.
 pub record Goes (R : TracedState → Type 0) (old new : KernelView) : Type 0 where
   pub entries : List Entry
   pub history : new.history ≡ old.history ++ entries

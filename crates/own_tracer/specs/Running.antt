@@ -33,8 +33,9 @@ pub record IsInjected (pid : ℕ) (old new : KernelView) : Type 0 where
   pub before : Goes (LeftIf attached pid) old middle
   pub after : Goes HoldsNothing middle new
 
--- A history from this state, with so many places: it is legal, changes no memory but by turns, and at its end the injector has nothing open.
--- It has two parts: after the first one the injector has left the process, unless it was kept out.
+-- A history from this state, with so many places: it is legal, changes no memory but by turns, and at its end the
+-- injector has nothing open. It has two parts: after the first one the injector has left the process,
+-- unless it was kept out.
 pub record IsInjectedRun (pid places : ℕ) (first : TracedState) (h : List Entry) : Type 0 where
   pub beside : List Entry
   pub alone : List Entry

@@ -33,8 +33,8 @@ abbrev pub HasAttached : Option Grip → TracedState → Type 0
 HasAttached None s = HoldsNothing s
 HasAttached (Some g) s = Holds g s
 
--- Nothing open again; and of the process, if it lives, nothing is traced or watched, and no lwp of it stands on an event or
--- is directed to stop.
+-- Nothing open again; and of the process, if it lives, nothing is traced or watched, and no lwp of it stands on an
+-- event or is directed to stop.
 pub record HasLeft (pid : ℕ) (s : TracedState) : Type 0 where
   pub nothing : HoldsNothing s
   pub free : (p : TracedProcess) → live_process s.system pid ≡ Some p → IsReleased p

@@ -25,7 +25,8 @@ pub fn attach<Q: Kernel>(kern: &mut Q, alloc: Global, pid: u32) -> Result<Option
     requires pid { pid ≢ 0 }
     requires room { length (Q.view kern.old).history + 2 ≤ (Q.view kern.old).places }
     ensures goes { IfOk result (λ grip. Goes (HasAttached grip) (Q.view kern.old) (Q.view kern.new)) }
-    ensures refused { IfOk result (λ grip. grip ≡ None → option_and_then opened_in (last_reply_of (Q.view kern.new).history) ≡ None) }
+    ensures refused { IfOk result (λ grip. grip ≡ None
+        → option_and_then opened_in (last_reply_of (Q.view kern.new).history) ≡ None) }
     ensures pid { IfOk result (λ grip. IfSome grip (λ g. g.pid ≡ pid)) }
     ensures few { OnOk result (length (Q.view kern.new).history ≤ length (Q.view kern.old).history + 2) }
     ensures places { OnOk result ((Q.view kern.new).places ≡ (Q.view kern.old).places) }

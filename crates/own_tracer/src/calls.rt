@@ -67,7 +67,8 @@ pub fn open_control<Q: Kernel>(kern: &mut Q, pid: u32) -> Result<Option<u32>, No
     requires told { IsTold (Q.view kern.old) }
     requires place { length (Q.view kern.old).history < (Q.view kern.old).places }
     ensures called { OnOk result (IsCalled 0 (open_call pid) (Q.view kern.old) (Q.view kern.new)) }
-    ensures opened { IfOk result (λ control. control ≡ option_and_then opened_in (last_reply_of (Q.view kern.new).history)) }
+    ensures opened { IfOk result (λ control. control
+        ≡ option_and_then opened_in (last_reply_of (Q.view kern.new).history)) }
     ensures longer { OnOk result (length (Q.view kern.new).history ≡ length (Q.view kern.old).history + 1) }
     ensures places { OnOk result ((Q.view kern.new).places ≡ (Q.view kern.old).places) }
     ensures told { OnOk result (IsTold (Q.view kern.new)) }

@@ -33,5 +33,5 @@ returns c =
     ∙ ap (λ (spawns : List ℕ). first_state parts.programs.items (stored parts.files.items) spawns)
     c.as_slice.ensures.value in
     subst (λ (s : Scenario). IsHistoryOf s c.into_history.result.entries) c.scenario.view_is
-    (history-is _ c.in_ok-kern.kern c.run.new.kern c.into_history.result.entries state kern.history kern.places c.in_ok-run.ensures
-    c.into_history.ensures)
+    (history-is _ c.in_ok-kern.kern c.run.new.kern c.into_history.result.entries state kern.history kern.places
+    c.in_ok-run.ensures c.into_history.ensures)

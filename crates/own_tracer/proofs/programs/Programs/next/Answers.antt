@@ -8,4 +8,5 @@ returns-in-Some g c =
     (sym c.next_lwp.ensures ∙ c.in-Some.is)
 
 pub returns-in-None : goal.returns-in-None
-returns-in-None g c = if-next (g.Q.Kernel.view c.args.kern.now) None c.next_lwp-in-None.result c.next_lwp-in-None.ensures
+returns-in-None g c =
+    if-next (g.Q.Kernel.view c.args.kern.now) None c.next_lwp-in-None.result c.next_lwp-in-None.ensures
