@@ -1,5 +1,5 @@
 //! The program: a scenario is read, and the history of its run beside the injector is written.
-ghost use Rattle.std.specs.Prelude.{◌≡◌, IfOk};
+ghost use Rattle.std.specs.Prelude.{◌≡◌, ◌≢◌, IfErr, IfOk};
 ghost use Rattle.pr_scen.specs.Scenarios.{IsWithinLimits};
 ghost use Rattle.own_tracer.specs.Running.{IsHistoryOf};
 ghost use Rattle.own_tracer.specs.Telling.{Serves, Tells, WasRead};
@@ -53,6 +53,7 @@ fn tell<K: Sink>(alloc: Global, scenario: Scenario, sink: &mut K) -> u8
 /// Reads a scenario; else an exit status.
 fn read<S: Source>(alloc: Global, source: &mut S) -> Result<Scenario, u8>
     ensures limits { IfOk result (λ scenario. IsWithinLimits scenario) }
+    ensures status { IfErr result (λ status. status ≢ 0) }
     ensures read { IfOk result (λ scenario. WasRead scenario (S.left source.old) (S.left source.new)) }
 {
     let Ok(text) = read_all(alloc, source, SCENARIO_LIMIT) else {

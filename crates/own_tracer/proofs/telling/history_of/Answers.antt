@@ -29,9 +29,18 @@ pub returns : goal.returns
 returns c =
     let parts = c.scenario.inside in
     let kern = c.in_ok-kern.ensures in
+    let s : Scenario =
+    record {
+      turns = parts.turns;
+      programs = parts.programs.items;
+      files = parts.files.items;
+      spawns = parts.spawns.items;
+      controllers = parts.controllers.items;
+      schedule = parts.schedule.items;
+    } in
     let state = kern.state
     ∙ ap (λ (spawns : List ℕ). first_state parts.programs.items (stored parts.files.items) spawns)
     c.as_slice.ensures.value in
-    subst (λ (s : Scenario). IsHistoryOf s c.into_history.result.entries) c.scenario.view_is
-    (history-is _ c.in_ok-kern.kern c.run.new.kern c.into_history.result.entries state kern.history kern.places
+    subst (λ (x : Scenario). IsHistoryOf x c.into_history.result.entries) c.scenario.view_is
+    (history-is s c.in_ok-kern.kern c.run.new.kern c.into_history.result.entries state kern.history kern.places
     c.in_ok-run.ensures c.into_history.ensures)
