@@ -1,0 +1,6 @@
+pub mod GoingLemmas
+pub mod HoldingLemmas
+pub mod LeavingLemmas
+pub mod OrderLemmas
+pub mod RunLemmas
+pub mod ScenarioLemmas

@@ -1,0 +1,7 @@
+use Rattle.own_tracer.specs.Going.{Goes}
+use Rattle.own_tracer.specs.Stances.{HoldsNothing}
+use Rattle.own_tracer.proofs.running.run_alone.Given as goal
+
+-- the programs went on
+abbrev pub invariant-loop : goal.invariant-loop
+invariant-loop g l = Goes HoldsNothing (g.Q.Kernel.view l.fn.kern) (g.Q.Kernel.view l.kern)
