@@ -43,7 +43,7 @@ fn work_for(alloc: Global, given: io::Result<Args>) -> io::Result<Work>
     match given {
         Ok(arguments) => {
             let words = words_after_name(alloc, arguments)?;
-            Ok(work_of(&words))
+            work_of(alloc, &words).map_err(|_| io::Error::from(ErrorKind::OutOfMemory))
         }
         Err(error) if error.kind() == ErrorKind::OutOfMemory => Err(error),
         Err(_) => Ok(Work::Explains),
@@ -56,5 +56,5 @@ fn main(rt: HostRuntime) -> ExitCode {
     };
     let mut source = StdSource::new(rt.stdin());
     let mut sink = StdSink::new(rt.stdout());
-    ExitCode::from(number(serve(rt.alloc(), work, &mut source, &mut sink)))
+    ExitCode::from(number(serve(rt.alloc(), &work, &mut source, &mut sink)))
 }

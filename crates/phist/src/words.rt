@@ -1,19 +1,44 @@
 //! What the words after the program's name ask for.
-ghost use Rattle.std.specs.Prelude.{◌≡◌, ◌==◌, ◌<◌, length, map, position, IfSome, option_and_then, option_map, string_bytes};
-ghost use Rattle.phist.specs.Words.{cut_at, every, lwp_of, range_of, selects, with_option, with_range, with_who, work_of};
+ghost use Rattle.std.specs.Prelude.{◌≡◌, ◌==◌, ◌<◌, length, map, position, IfOk, IfSome, option_and_then, option_map, string_bytes};
+ghost use Rattle.phist.specs.Words.{asked_first, cut_at, every, joined, lwp_of, pressed, range_of, selects, whole, with_flag, with_operand, with_range, with_who, with_word, with_words, work_of};
 
-use pr_hist::{Selection, Who};
+use pr_hist::{Selection, Text, Who};
+use pr_num::{Bytes, NoMemory};
 use pr_text::{id_of, number_of};
+use std::alloc::Global;
 
 /// What words ask for.
-#[derive(Clone, Copy, Debug, PartialEq, Eq)]
+#[derive(Drop)]
 pub enum Work {
     /// The whole history is told.
     Tells,
-    /// A part of it is.
+    /// A part of it is, or all of it with all fields.
     Selects(Selection),
+    /// The bytes that this line spells are written.
+    Spells(Bytes),
     /// They ask for nothing, and get the usage line.
     Explains,
+}
+
+/// An option whose operand is still to come.
+#[derive(Clone, Copy, Debug, PartialEq, Eq)]
+pub enum Opt {
+    /// `-p`
+    Process,
+    /// `-c`
+    Controller,
+    /// `-l`
+    Lwp,
+    /// `-n`
+    Numbers,
+}
+
+/// What options ask for, as far as they were read.
+#[derive(Clone, Copy, Debug, PartialEq, Eq)]
+pub struct Asking {
+    pub selection: Selection,
+    /// The option that awaits its operand.
+    pub opt: Option<Opt>,
 }
 
 /// The place of the first byte of a kind.
@@ -58,51 +83,124 @@ fn range_of(word: &[u8]) -> Option<(u64, u64)>
 }
 
 /// Whose entries are told; once one is named, no other may be.
-fn with_who(selection: Selection, who: Option<Who>) -> Option<Selection>
+fn with_who(selection: Selection, who: Option<Who>) -> Option<Asking>
     ensures { result ≡ with_who selection who }
 {
-    match who {
-        None => None,
-        Some(who) => {
-            if selection.who.is_none() {
-                Some(Selection {
-                    who: Some(who),
-                    from: selection.from,
-                    to: selection.to,
-                })
-            } else {
-                None
-            }
-        }
+    let who = who?;
+    if selection.who.is_some() {
+        return None;
     }
+    let selection = Selection {
+        who: Some(who),
+        ..selection
+    };
+    Some(Asking {
+        selection,
+        opt: None,
+    })
 }
 
-fn with_range(selection: Selection, range: Option<(u64, u64)>) -> Option<Selection>
+fn with_range(selection: Selection, range: Option<(u64, u64)>) -> Option<Asking>
     ensures { result ≡ with_range selection range }
 {
-    match range {
-        None => None,
-        Some((from, to)) => Some(Selection {
-            who: selection.who,
-            from,
-            to,
-        }),
+    let (from, to) = range?;
+    let selection = Selection {
+        from,
+        to,
+        ..selection
+    };
+    Some(Asking {
+        selection,
+        opt: None,
+    })
+}
+
+/// An option with its operand.
+#[tactic(auto, unfolding(crate::specs::Words::with_operand))]
+fn with_operand(selection: Selection, opt: Opt, word: &[u8]) -> Option<Asking>
+    ensures { result ≡ with_operand selection opt word.now }
+{
+    match opt {
+        Opt::Process => with_who(selection, id_of(word).map(|pid| Who::Process(pid))),
+        Opt::Controller => with_who(selection, id_of(word).map(|k| Who::Controller(k))),
+        Opt::Lwp => with_who(selection, lwp_of(word)),
+        Opt::Numbers => with_range(selection, range_of(word)),
     }
 }
 
-/// A selection with one more option and its operand.
-#[tactic(auto, unfolding(crate::specs::Words::with_option))]
-fn with_option(selection: Selection, option: &[u8], operand: &[u8]) -> Option<Selection>
-    ensures { result ≡ with_option selection option.now operand.now }
+fn awaits(selection: Selection, opt: Opt) -> Option<Asking>
+    ensures { result ≡ Some (record { selection = selection; opt = Some opt }) }
 {
-    if option == b"-p".as_slice() {
-        with_who(selection, id_of(operand).map(|pid| Who::Process(pid)))
-    } else if option == b"-c".as_slice() {
-        with_who(selection, id_of(operand).map(|k| Who::Controller(k)))
-    } else if option == b"-l".as_slice() {
-        with_who(selection, lwp_of(operand))
-    } else if option == b"-n".as_slice() {
-        with_range(selection, range_of(operand))
+    Some(Asking {
+        selection,
+        opt: Some(opt),
+    })
+}
+
+/// All fields of records are told.
+fn with_all_fields(selection: Selection) -> Option<Asking>
+    ensures { result ≡ pressed selection }
+{
+    let selection = Selection {
+        full: true,
+        ..selection
+    };
+    Some(Asking {
+        selection,
+        opt: None,
+    })
+}
+
+/// An option; those but `-v` have an operand.
+#[tactic(auto, unfolding(crate::specs::Words::with_flag))]
+fn with_flag(selection: Selection, word: &[u8]) -> Option<Asking>
+    ensures { result ≡ with_flag selection word.now }
+{
+    if word == b"-v".as_slice() {
+        with_all_fields(selection)
+    } else if word == b"-p".as_slice() {
+        awaits(selection, Opt::Process)
+    } else if word == b"-c".as_slice() {
+        awaits(selection, Opt::Controller)
+    } else if word == b"-l".as_slice() {
+        awaits(selection, Opt::Lwp)
+    } else if word == b"-n".as_slice() {
+        awaits(selection, Opt::Numbers)
+    } else {
+        None
+    }
+}
+
+/// One word more.
+#[tactic(auto, unfolding(crate::specs::Words::with_word))]
+fn with_word(asking: Asking, word: &[u8]) -> Option<Asking>
+    ensures { result ≡ with_word asking word.now }
+{
+    match asking.opt {
+        None => with_flag(asking.selection, word),
+        Some(opt) => with_operand(asking.selection, opt, word),
+    }
+}
+
+/// All words of a list.
+#[tactic(auto, unfolding(crate::specs::Words::with_words))]
+fn with_words(asking: Asking, words: &[String]) -> Option<Asking>
+    ensures { result ≡ with_words asking (map string_bytes words.now) }
+{
+    let mut asking = asking;
+    for word in words {
+        asking = with_word(asking, word.as_str().as_bytes())?;
+    }
+    Some(asking)
+}
+
+/// The selection of words, the last of which is no option that awaits its operand.
+fn whole(asking: Option<Asking>) -> Option<Selection>
+    ensures { result ≡ whole asking }
+{
+    let asking = asking?;
+    if asking.opt.is_none() {
+        Some(asking.selection)
     } else {
         None
     }
@@ -116,7 +214,20 @@ fn every() -> Selection
         who: None,
         from: 0,
         to: u64::MAX,
+        full: false,
     }
+}
+
+/// The selection that options make.
+#[tactic(auto, unfolding(crate::specs::Words::asked_first))]
+fn selected_by(words: &[String]) -> Option<Selection>
+    ensures { result ≡ asked_first (map string_bytes words.now) }
+{
+    let asking = Asking {
+        selection: every(),
+        opt: None,
+    };
+    whole(with_words(asking, words))
 }
 
 fn selects(selection: Option<Selection>) -> Work
@@ -128,24 +239,37 @@ fn selects(selection: Option<Selection>) -> Work
     }
 }
 
-/// A selection by two options.
-fn by_two(option: &str, operand: &str, second: &str, operand_of_second: &str) -> Option<Selection>
-    ensures { result ≡ option_and_then (λ s. with_option s second.now operand_of_second.now)
-        (with_option every option.now operand.now) }
+/// Words on a line, each behind a blank; `+` parts words as a blank does.
+fn joined(alloc: Global, words: &[String]) -> Result<Bytes, NoMemory>
+    ensures { IfOk result (λ line. line ≡ joined (map string_bytes words.now)) }
 {
-    let selection = with_option(every(), option.as_bytes(), operand.as_bytes())?;
-    with_option(selection, second.as_bytes(), operand_of_second.as_bytes())
+    let mut line = Text::new(alloc)?;
+    for word in words {
+        line.spaced(word.as_str().as_bytes())?;
+    }
+    Ok(line.into_bytes())
+}
+
+fn spells(alloc: Global, words: &[String]) -> Result<Work, NoMemory>
+    ensures { IfOk result (λ work. work ≡ Work.Spells (joined (map string_bytes words.now))) }
+{
+    let line = joined(alloc, words)?;
+    Ok(Work::Spells(line))
 }
 
 /// What words ask for.
 #[tactic(auto, unfolding(crate::specs::Words::work_of))]
-pub fn work_of(words: &[String]) -> Work
-    ensures { result ≡ work_of (map string_bytes words.now) }
+pub fn work_of(alloc: Global, words: &[String]) -> Result<Work, NoMemory>
+    ensures { IfOk result (λ work. work ≡ work_of (map string_bytes words.now)) }
 {
     match words {
-        [] => Work::Tells,
-        [o, v] => selects(with_option(every(), o.as_str().as_bytes(), v.as_str().as_bytes())),
-        [o, v, p, w] => selects(by_two(o.as_str(), v.as_str(), p.as_str(), w.as_str())),
-        _ => Work::Explains,
+        [] => Ok(Work::Tells),
+        [first, rest @ ..] => {
+            if first.as_str().as_bytes() == b"bytes".as_slice() {
+                spells(alloc, rest)
+            } else {
+                Ok(selects(selected_by(words)))
+            }
+        }
     }
 }

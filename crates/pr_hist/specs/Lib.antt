@@ -5,11 +5,13 @@ pub mod Flags
 pub mod Laws
 pub mod Messages
 pub mod Names
+pub mod OperandWords
 pub mod Phrases
 pub mod Records
 pub mod Refusals
 pub mod Selections
 pub mod Sets
+pub mod Spellings
 pub mod Texts
 pub mod Turns
 pub mod Values

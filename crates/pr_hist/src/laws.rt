@@ -1,5 +1,5 @@
 //! What holds of histories in words.
-ghost use Rattle.std.specs.Prelude.{◌≡◌, ℕ, List, [], ◌∷◌, ◌++◌, length};
+ghost use Rattle.std.specs.Prelude.{◌≡◌, false, ℕ, List, [], ◌∷◌, ◌++◌, length};
 ghost use Rattle.pr_num.specs.ById.{IsRising};
 ghost use Rattle.pr_model.specs.declared.calls.File.{File as AnyFile};
 ghost use Rattle.pr_model.specs.declared.calls.Mode.{Mode as AnyMode};
@@ -14,7 +14,7 @@ ghost use Rattle.pr_hist.specs.Names.{Names};
 pub fn a_text_grows_by_a_block()
     ensures none { text_of [] ≡ [] }
     ensures longer { (es : List AnyEntry) (e : AnyEntry)
-        → text_of (es ++ e ∷ []) ≡ text_of es ++ words_of (length es) (names_behind [] es) e }
+        → text_of (es ++ e ∷ []) ≡ text_of es ++ words_of false (length es) (names_behind [] es) e }
 {}
 
 /// A handle is named from the open that gave it to the close that was done, whatever happens to others.

@@ -1,0 +1,7 @@
+use Rattle.std.proofs.Common.{◌≡◌, ◌++◌, take}
+use Rattle.pr_hist.specs.Pictures.{escaped}
+use Rattle.pr_hist.proofs.pictures.Text.escaped.Given as goal
+
+-- the bytes so far
+abbrev pub invariant-loop-byte : goal.invariant-loop-byte
+invariant-loop-byte l = l.self ≡ l.fn.self ++ escaped (take l.byte-index l.bytes)
