@@ -9,7 +9,7 @@ use Rattle.phist.specs.Answers.{Answered, Took, answer_to, explained, spelled}
 use Rattle.phist.specs.declared.statuses.Status.{Status}
 use Rattle.phist.specs.declared.statuses.Status.TheVariants.{Done, Usage, Refused, ReadFailed, WriteFailed, OutOfMemory}
 use Rattle.phist.specs.declared.words.Work.{Work}
-use Rattle.phist.specs.declared.words.Work.TheVariants.{Tells, Selects, Spells, Explains}
+use Rattle.phist.specs.declared.words.Work.TheVariants.{Tells, Selects, Draws, Spells, Explains}
 
 -- the number with which the process ends
 unfoldable pub number : Status → ℕ
@@ -83,5 +83,6 @@ pub record SpellsLine (line : List ℕ) (old new : Ends) (status : Status) : Typ
 abbrev pub EndsAs : Work → Ends → Ends → Status → Type 0
 EndsAs Tells old new status = TellsHistory Tells old new status
 EndsAs (Selects s) old new status = TellsHistory (Selects s) old new status
+EndsAs (Draws c s) old new status = TellsHistory (Draws c s) old new status
 EndsAs (Spells line) old new status = SpellsLine line old new status
 EndsAs Explains old new status = IsExplained old new status

@@ -3,12 +3,12 @@ ghost use Rattle.std.specs.Prelude.{◌≡◌, ◌≢◌, ◌≤◌, Err, ◌+�
 ghost use Rattle.pr_num.specs.Limits.{checked_limit};
 ghost use Rattle.pr_output.specs.Output.{refusal_text};
 ghost use Rattle.pr_plain.specs.EntryReading.{history_of};
-ghost use Rattle.phist.specs.Answers.{IsAnswerStatus, answer_of, answer_to, refused_at, spelled, spelled_or, told, told_text};
+ghost use Rattle.phist.specs.Answers.{IsAnswerStatus, answer_of, answer_to, drawn_or, in_words, refused_at, spelled, spelled_or, told, told_text};
 
 use crate::inputs::Unread;
 use crate::statuses::Status;
 use crate::words::Work;
-use pr_hist::{Text, bytes_of_line, selected_text, text_of};
+use pr_hist::{Text, bytes_of_line, chart_of, selected_text, text_of};
 use pr_model::History;
 use pr_num::{Bytes, NoMemory};
 use pr_plain::{HistRefusal, read_history};
@@ -55,14 +55,36 @@ fn told_text(alloc: Global, work: &Work, history: &History) -> Result<Bytes, NoM
     match work {
         Work::Tells => text_of(alloc, history),
         Work::Selects(selection) => selected_text(alloc, *selection, history),
-        Work::Spells(_) | Work::Explains => Ok(Bytes::new(alloc)),
+        Work::Draws(_, _) | Work::Spells(_) | Work::Explains => Ok(Bytes::new(alloc)),
+    }
+}
+
+/// A chart, or that there are too many rows for it.
+#[tactic(auto, unfolding(crate::specs::Answers::drawn_or))]
+fn drawn_or(alloc: Global, text: Option<Bytes>) -> Result<Answer, NoMemory>
+    ensures answer { IfOk result (λ a. record { status = a.status; text = a.text } ≡ drawn_or text) }
+    ensures status { IfOk result (λ a. IsAnswerStatus a.status) }
+{
+    match text {
+        None => {
+            let mut text = Text::new(alloc)?;
+            text.text(b"more than 5,000 entries: take a part by -n FROM-TO\n")?;
+            Ok(Answer {
+                status: Status::Refused,
+                text: text.into_bytes(),
+            })
+        }
+        Some(text) => Ok(Answer {
+            status: Status::Done,
+            text,
+        }),
     }
 }
 
 /// The history in words.
-#[tactic(auto, unfolding(crate::specs::Answers::told))]
-fn tell(alloc: Global, work: &Work, history: &History) -> Result<Answer, NoMemory>
-    ensures answer { IfOk result (λ a. record { status = a.status; text = a.text } ≡ told work.now history.now.entries) }
+#[tactic(auto, unfolding(crate::specs::Answers::in_words))]
+fn tell_in_words(alloc: Global, work: &Work, history: &History) -> Result<Answer, NoMemory>
+    ensures answer { IfOk result (λ a. record { status = a.status; text = a.text } ≡ in_words work.now history.now.entries) }
     ensures status { IfOk result (λ a. IsAnswerStatus a.status) }
 {
     let text = told_text(alloc, work, history)?;
@@ -70,6 +92,23 @@ fn tell(alloc: Global, work: &Work, history: &History) -> Result<Answer, NoMemor
         status: Status::Done,
         text,
     })
+}
+
+/// What is answered to a history.
+#[tactic(auto, unfolding(crate::specs::Answers::told))]
+fn tell(alloc: Global, work: &Work, history: &History) -> Result<Answer, NoMemory>
+    ensures answer { IfOk result (λ a. record { status = a.status; text = a.text } ≡ told work.now history.now.entries) }
+    ensures status { IfOk result (λ a. IsAnswerStatus a.status) }
+{
+    match work {
+        Work::Draws(chart, selection) => {
+            let text = chart_of(alloc, *chart, *selection, history)?;
+            drawn_or(alloc, text)
+        }
+        Work::Tells | Work::Selects(_) | Work::Spells(_) | Work::Explains => {
+            tell_in_words(alloc, work, history)
+        }
+    }
 }
 
 /// The answer to a text.

@@ -18,7 +18,7 @@ use std::alloc::Global;
 fn usage_line() -> &'static [u8]
     ensures { result.now ≡ usage_line }
 {
-    b"usage: phist [-v] [-p PID | -c K | -l P/L] [-n FROM-TO]\n       phist bytes TEXT\n"
+    b"usage: phist [lanes [-w WIDTH] | svg] [-v] [-p PID | -c K | -l P/L] [-n FROM-TO]\n       phist bytes INSTRUCTION | MESSAGE\n"
 }
 
 /// Writes a text, and ends with a status. Takes no memory.
@@ -108,6 +108,7 @@ pub fn serve<S: Source, K: Sink>(
     match work {
         Work::Tells => tell(alloc, work, source, sink),
         Work::Selects(_) => tell(alloc, work, source, sink),
+        Work::Draws(_, _) => tell(alloc, work, source, sink),
         Work::Spells(line) => spell(alloc, line.as_slice(), source, sink),
         Work::Explains => explain(source, sink),
     }

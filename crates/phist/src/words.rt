@@ -1,8 +1,8 @@
 //! What the words after the program's name ask for.
 ghost use Rattle.std.specs.Prelude.{◌≡◌, ◌==◌, ◌<◌, length, map, position, IfOk, IfSome, option_and_then, option_map, string_bytes};
-ghost use Rattle.phist.specs.Words.{asked_first, cut_at, every, joined, lwp_of, pressed, range_of, selects, whole, with_flag, with_operand, with_range, with_who, with_word, with_words, work_of};
+ghost use Rattle.phist.specs.Words.{asked_for, begun, cut_at, every, has_width, is_width, joined, lwp_of, operand_by, range_of, ready, waiting, with_flag, with_operand, with_range, with_who, with_width, with_word, with_words, work_of, work_with};
 
-use pr_hist::{Selection, Text, Who};
+use pr_hist::{Chart, Selection, Text, Who};
 use pr_num::{Bytes, NoMemory};
 use pr_text::{id_of, number_of};
 use std::alloc::Global;
@@ -14,6 +14,8 @@ pub enum Work {
     Tells,
     /// A part of it is, or all of it with all fields.
     Selects(Selection),
+    /// It is drawn as a chart, all of it or a part.
+    Draws(Chart, Selection),
     /// The bytes that this line spells are written.
     Spells(Bytes),
     /// They ask for nothing, and get the usage line.
@@ -31,11 +33,15 @@ pub enum Opt {
     Lwp,
     /// `-n`
     Numbers,
+    /// `-w`
+    Width,
 }
 
 /// What options ask for, as far as they were read.
 #[derive(Clone, Copy, Debug, PartialEq, Eq)]
 pub struct Asking {
+    /// The chart that is to be drawn; `None`: words are.
+    pub chart: Option<Chart>,
     pub selection: Selection,
     /// The option that awaits its operand.
     pub opt: Option<Opt>,
@@ -82,90 +88,122 @@ fn range_of(word: &[u8]) -> Option<(u64, u64)>
     Some((from, to))
 }
 
-/// Whose entries are told; once one is named, no other may be.
-fn with_who(selection: Selection, who: Option<Who>) -> Option<Asking>
-    ensures { result ≡ with_who selection who }
+/// The options so far, with this selection.
+fn ready(asking: Asking, selection: Selection) -> Option<Asking>
+    ensures { result ≡ Some (ready asking selection) }
 {
-    let who = who?;
-    if selection.who.is_some() {
-        return None;
-    }
-    let selection = Selection {
-        who: Some(who),
-        ..selection
-    };
     Some(Asking {
+        chart: asking.chart,
         selection,
         opt: None,
     })
 }
 
-fn with_range(selection: Selection, range: Option<(u64, u64)>) -> Option<Asking>
-    ensures { result ≡ with_range selection range }
+/// Whose entries are told; once one is named, no other may be.
+fn with_who(asking: Asking, who: Option<Who>) -> Option<Asking>
+    ensures { result ≡ with_who asking who }
+{
+    let who = who?;
+    if asking.selection.who.is_some() {
+        return None;
+    }
+    let selection = Selection {
+        who: Some(who),
+        ..asking.selection
+    };
+    ready(asking, selection)
+}
+
+fn with_range(asking: Asking, range: Option<(u64, u64)>) -> Option<Asking>
+    ensures { result ≡ with_range asking range }
 {
     let (from, to) = range?;
     let selection = Selection {
         from,
         to,
-        ..selection
+        ..asking.selection
     };
+    ready(asking, selection)
+}
+
+/// Whether lines may be so wide.
+#[tactic(auto, unfolding(crate::specs::Words::is_width))]
+fn is_width(width: u64) -> bool
+    ensures { result ≡ is_width width }
+{
+    20 <= width && width <= 1_000
+}
+
+fn with_width(asking: Asking, width: Option<u64>) -> Option<Asking>
+    ensures { result ≡ with_width asking width }
+{
+    let width = width?;
+    if !is_width(width) {
+        return None;
+    }
     Some(Asking {
-        selection,
+        chart: Some(Chart::Lanes(width)),
+        selection: asking.selection,
         opt: None,
     })
 }
 
 /// An option with its operand.
 #[tactic(auto, unfolding(crate::specs::Words::with_operand))]
-fn with_operand(selection: Selection, opt: Opt, word: &[u8]) -> Option<Asking>
-    ensures { result ≡ with_operand selection opt word.now }
+fn with_operand(asking: Asking, opt: Opt, word: &[u8]) -> Option<Asking>
+    ensures { result ≡ with_operand asking opt word.now }
 {
     match opt {
-        Opt::Process => with_who(selection, id_of(word).map(|pid| Who::Process(pid))),
-        Opt::Controller => with_who(selection, id_of(word).map(|k| Who::Controller(k))),
-        Opt::Lwp => with_who(selection, lwp_of(word)),
-        Opt::Numbers => with_range(selection, range_of(word)),
+        Opt::Process => with_who(asking, id_of(word).map(|pid| Who::Process(pid))),
+        Opt::Controller => with_who(asking, id_of(word).map(|k| Who::Controller(k))),
+        Opt::Lwp => with_who(asking, lwp_of(word)),
+        Opt::Numbers => with_range(asking, range_of(word)),
+        Opt::Width => with_width(asking, number_of(word)),
     }
 }
 
-fn awaits(selection: Selection, opt: Opt) -> Option<Asking>
-    ensures { result ≡ Some (record { selection = selection; opt = Some opt }) }
+fn waiting(asking: Asking, opt: Opt) -> Option<Asking>
+    ensures { result ≡ Some (waiting asking opt) }
 {
     Some(Asking {
-        selection,
+        chart: asking.chart,
+        selection: asking.selection,
         opt: Some(opt),
     })
 }
 
-/// All fields of records are told.
-fn with_all_fields(selection: Selection) -> Option<Asking>
-    ensures { result ≡ pressed selection }
+/// Whether lines are drawn, which have a width.
+fn has_width(chart: Option<Chart>) -> bool
+    ensures { result ≡ has_width chart }
 {
-    let selection = Selection {
-        full: true,
-        ..selection
-    };
-    Some(Asking {
-        selection,
-        opt: None,
-    })
+    match chart {
+        Some(Chart::Lanes(_)) => true,
+        Some(Chart::Picture) => false,
+        None => false,
+    }
 }
 
 /// An option; those but `-v` have an operand.
 #[tactic(auto, unfolding(crate::specs::Words::with_flag))]
-fn with_flag(selection: Selection, word: &[u8]) -> Option<Asking>
-    ensures { result ≡ with_flag selection word.now }
+fn with_flag(asking: Asking, word: &[u8]) -> Option<Asking>
+    ensures { result ≡ with_flag asking word.now }
 {
     if word == b"-v".as_slice() {
-        with_all_fields(selection)
+        let selection = Selection {
+            full: true,
+            ..asking.selection
+        };
+        ready(asking, selection)
     } else if word == b"-p".as_slice() {
-        awaits(selection, Opt::Process)
+        waiting(asking, Opt::Process)
     } else if word == b"-c".as_slice() {
-        awaits(selection, Opt::Controller)
+        waiting(asking, Opt::Controller)
     } else if word == b"-l".as_slice() {
-        awaits(selection, Opt::Lwp)
+        waiting(asking, Opt::Lwp)
     } else if word == b"-n".as_slice() {
-        awaits(selection, Opt::Numbers)
+        waiting(asking, Opt::Numbers)
+    } else if word == b"-w".as_slice() && has_width(asking.chart) {
+        waiting(asking, Opt::Width)
     } else {
         None
     }
@@ -177,8 +215,8 @@ fn with_word(asking: Asking, word: &[u8]) -> Option<Asking>
     ensures { result ≡ with_word asking word.now }
 {
     match asking.opt {
-        None => with_flag(asking.selection, word),
-        Some(opt) => with_operand(asking.selection, opt, word),
+        None => with_flag(asking, word),
+        Some(opt) => with_operand(asking, opt, word),
     }
 }
 
@@ -194,18 +232,6 @@ fn with_words(asking: Asking, words: &[String]) -> Option<Asking>
     Some(asking)
 }
 
-/// The selection of words, the last of which is no option that awaits its operand.
-fn whole(asking: Option<Asking>) -> Option<Selection>
-    ensures { result ≡ whole asking }
-{
-    let asking = asking?;
-    if asking.opt.is_none() {
-        Some(asking.selection)
-    } else {
-        None
-    }
-}
-
 /// Every entry.
 fn every() -> Selection
     ensures { result ≡ every }
@@ -218,25 +244,36 @@ fn every() -> Selection
     }
 }
 
-/// The selection that options make.
-#[tactic(auto, unfolding(crate::specs::Words::asked_first))]
-fn selected_by(words: &[String]) -> Option<Selection>
-    ensures { result ≡ asked_first (map string_bytes words.now) }
+fn begun(chart: Option<Chart>) -> Asking
+    ensures { result ≡ begun chart }
 {
-    let asking = Asking {
+    Asking {
+        chart,
         selection: every(),
         opt: None,
-    };
-    whole(with_words(asking, words))
+    }
 }
 
-fn selects(selection: Option<Selection>) -> Work
-    ensures { result ≡ selects selection }
+/// What options ask for, none of which may await its operand.
+fn work_with(asking: Option<Asking>) -> Work
+    ensures { result ≡ work_with asking }
 {
-    match selection {
+    match asking {
         None => Work::Explains,
-        Some(selection) => Work::Selects(selection),
+        Some(asking) => match (asking.opt, asking.chart) {
+            (Some(_), _) => Work::Explains,
+            (None, None) => Work::Selects(asking.selection),
+            (None, Some(chart)) => Work::Draws(chart, asking.selection),
+        },
     }
+}
+
+/// What options ask for, with this chart or with words.
+#[tactic(auto, unfolding(crate::specs::Words::asked_for))]
+fn asked_for(chart: Option<Chart>, words: &[String]) -> Work
+    ensures { result ≡ asked_for chart (map string_bytes words.now) }
+{
+    work_with(with_words(begun(chart), words))
 }
 
 /// Words on a line, each behind a blank; `+` parts words as a blank does.
@@ -267,8 +304,12 @@ pub fn work_of(alloc: Global, words: &[String]) -> Result<Work, NoMemory>
         [first, rest @ ..] => {
             if first.as_str().as_bytes() == b"bytes".as_slice() {
                 spells(alloc, rest)
+            } else if first.as_str().as_bytes() == b"lanes".as_slice() {
+                Ok(asked_for(Some(Chart::Lanes(80)), rest))
+            } else if first.as_str().as_bytes() == b"svg".as_slice() {
+                Ok(asked_for(Some(Chart::Picture), rest))
             } else {
-                Ok(selects(selected_by(words)))
+                Ok(asked_for(None, words))
             }
         }
     }

@@ -1,3 +1,5 @@
 pub mod BlockLemmas
 pub mod HistoryLaws
+pub mod LaneLemmas
 pub mod MessageLemmas
+pub mod StandLemmas

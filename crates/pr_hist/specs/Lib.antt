@@ -1,12 +1,17 @@
+pub mod Briefs
 pub mod Calls
+pub mod Charts
+pub mod Drawings
 pub mod Entries
 pub mod Fields
 pub mod Flags
+pub mod Lanes
 pub mod Laws
 pub mod Messages
 pub mod Names
 pub mod OperandWords
 pub mod Phrases
+pub mod Pictures
 pub mod Records
 pub mod Refusals
 pub mod Selections
