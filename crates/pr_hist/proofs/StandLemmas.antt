@@ -1,5 +1,6 @@
 -- Who stands still: a lane shows it exactly where its lwp had no turn since a stop of it.
 use Rattle.std.proofs.Common.{◌≡◌, ◌⊎◌, inl, inr, Bool, true, false, ◌&&◌, ◌||◌, not, List, [], ◌∷◌, ◌++◌, refl, sym, ap, ◌∙◌}
+use Rattle.std.proofs.lemmas.Bool.{and_parts, false≢true, or_cases}
 use Rattle.pr_model.specs.declared.events.Act.{Act}
 use Rattle.pr_model.specs.declared.events.Act.TheVariants as act
 use Rattle.pr_model.specs.declared.events.Actor.{Actor}
@@ -68,6 +69,16 @@ stands-settled Asleep = refl
 stands-settled JobStopped = refl
 stands-settled Ends = refl
 
+or-first : (a b : Bool) → a ≡ true → (a || b) ≡ true
+or-first a b is = ap (λ c. c || b) is
+
+or-second : (a b : Bool) → b ≡ true → (a || b) ≡ true
+or-second true b is = refl
+or-second false b is = is
+
+and-both : (a b : Bool) → a ≡ true → b ≡ true → (a && b) ≡ true
+and-both a b first second = ap (λ c. c && b) first ∙ second
+
 or-false : (b : Bool) → b ≡ (b || false)
 or-false true = refl
 or-false false = refl
@@ -100,31 +111,6 @@ unfolding stand_behind
 stand_behind-append a s [] fs = refl
 stand_behind-append a s (e ∷ es) fs = stand_behind-append a (stand_after e a s) es fs
 
-or-left : (a b : Bool) → a ≡ true → (a || b) ≡ true
-or-left true b is = refl
-or-left false b is = sym is ∙ sym is ∙ is
-
-or-right : (a b : Bool) → b ≡ true → (a || b) ≡ true
-or-right true b is = refl
-or-right false b is = is
-
-and-both : (a b : Bool) → a ≡ true → b ≡ true → (a && b) ≡ true
-and-both true b ai bi = bi
-and-both false b ai bi = ai
-
-and-first : (a b : Bool) → (a && b) ≡ true → a ≡ true
-and-first true b is = refl
-and-first false b is = is
-
-and-second : (a b : Bool) → (a && b) ≡ true → b ≡ true
-and-second true b is = is
-and-second false true is = refl
-and-second false false is = is
-
-or-cases : (a b : Bool) → (a || b) ≡ true → (a ≡ true) ⊎ (b ≡ true)
-or-cases true b is = inl refl
-or-cases false b is = inr is
-
 -- what stands still goes on to where each entry leaves it
 stands-left : (a : Actor) (s : Stand) (es : List Entry) → stands s ≡ true → all_leave a es ≡ true
     → stands (stand_behind a s es) ≡ true
@@ -132,9 +118,9 @@ unfolding stand_behind all_leave
 stands-left a s [] still left = still
 stands-left a s (e ∷ es) still left =
     stands-left a (stand_after e a s) es
-    (stands-after e a s ∙ or-right (is_stop e a) (leaves e a && stands s)
-    (and-both (leaves e a) (stands s) (and-first (leaves e a) (all_leave a es) left) still))
-    (and-second (leaves e a) (all_leave a es) left)
+    (stands-after e a s ∙ or-second (is_stop e a) (leaves e a && stands s)
+    (and-both (leaves e a) (stands s) (and_parts (leaves e a) (all_leave a es) left).0 still))
+    (and_parts (leaves e a) (all_leave a es) left).1
 
 pub stands-since : (a : Actor) (s : Stand) (es : List Entry) → StoodSince a es → stands (stand_behind a s es) ≡ true
 unfolding stand_behind
@@ -143,7 +129,7 @@ stands-since a s es since =
     ∙ ap stands (stand_behind-append a s since.before (since.stop ∷ since.behind))
     ∙ stands-left a (stand_after since.stop a (stand_behind a s since.before)) since.behind
     (stands-after since.stop a (stand_behind a s since.before)
-    ∙ or-left (is_stop since.stop a) (leaves since.stop a && stands (stand_behind a s since.before)) since.is)
+    ∙ or-first (is_stop since.stop a) (leaves since.stop a && stands (stand_behind a s since.before)) since.is)
     since.left
 
 later : (a : Actor) (e : Entry) (es : List Entry) → StoodSince a es → StoodSince a (e ∷ es)
@@ -167,17 +153,14 @@ since-or a s (e ∷ es) still = by_rest (since-or a (stand_after e a s) es still
         → StoodSince a (e ∷ es) ⊎ ((stands s ≡ true) × ((leaves e a && all_leave a es) ≡ true))
     by_entry left (inl is) = inl (record { before = []; stop = e; behind = es; are = refl; is = is; left = left })
     by_entry left (inr both) =
-        inr (and-second (leaves e a) (stands s) both,
-        and-both (leaves e a) (all_leave a es) (and-first (leaves e a) (stands s) both) left)
+        inr ((and_parts (leaves e a) (stands s) both).1,
+        and-both (leaves e a) (all_leave a es) (and_parts (leaves e a) (stands s) both).0 left)
 
     by_rest : StoodSince a es ⊎ ((stands (stand_after e a s) ≡ true) × (all_leave a es ≡ true))
         → StoodSince a (e ∷ es) ⊎ ((stands s ≡ true) × ((leaves e a && all_leave a es) ≡ true))
     by_rest (inl since) = inl (later a e es since)
     by_rest (inr stood) =
-        by_entry stood.1 (or-cases (is_stop e a) (leaves e a && stands s) (sym (stands-after e a s) ∙ stood.0))
-
-false-true : {X : Type 0} → false ≡ true → X
-false-true is = absurd (elim is)
+        by_entry stood.1 (or_cases (is_stop e a) (leaves e a && stands s) (sym (stands-after e a s) ∙ stood.0))
 
 pub since-stands : (a : Actor) (s : Stand) (es : List Entry) → stands s ≡ false → stands (stand_behind a s es) ≡ true
     → StoodSince a es
@@ -185,4 +168,4 @@ since-stands a s es not_yet still = by (since-or a s es still)
   where
     by : StoodSince a es ⊎ ((stands s ≡ true) × (all_leave a es ≡ true)) → StoodSince a es
     by (inl since) = since
-    by (inr stood) = false-true (sym not_yet ∙ stood.0)
+    by (inr stood) = absurd (false≢true (sym not_yet ∙ stood.0))

@@ -1,7 +1,7 @@
 -- Charts of a history: a row an entry, in it a cell a lane, and between cells the messages and the births. A row of lanes
 -- is a line of text; the picture is in Pictures.
 use Rattle.std.specs.Prelude.{ℕ, ◌==◌, ◌+◌, ◌-◌, ◌/◌, ◌&&◌, ◌||◌, not, Bool, true, false, Option, Some, None, List, [], ◌∷◌, ◌++◌, codes, decimal, length, max, min, replicate, take, if◌then◌else◌}
-use Rattle.std.specs.Char.Ascii.{is_ascii_whitespace}
+use Rattle.std.specs.Char.{is_ascii_whitespace}
 use Rattle.std.specs.List.{list_any, suffix_len}
 use Rattle.pr_num.specs.ById.{under}
 use Rattle.pr_model.specs.declared.calls.Call.{Call}

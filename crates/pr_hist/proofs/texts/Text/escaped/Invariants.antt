@@ -1,6 +1,6 @@
 use Rattle.std.proofs.Common.{◌≡◌, ◌++◌, take}
 use Rattle.pr_hist.specs.Pictures.{escaped}
-use Rattle.pr_hist.proofs.pictures.Text.escaped.Given as goal
+use Rattle.pr_hist.proofs.texts.Text.escaped.Given as goal
 
 -- the bytes so far
 abbrev pub invariant-loop-byte : goal.invariant-loop-byte
