@@ -73,7 +73,8 @@ pub record IsExplained (old new : Ends) (status : Status) : Type 0 where
   pub gives : GivesTo old new explained status
   pub unread : (new.left ≡ old.left) × (new.read_faults ≡ old.read_faults)
 
--- A line spells bytes, which are written in hex, or it is refused; nothing is read. Memory ran out: nothing was written.
+-- A line spells bytes, which are written in hex, or it is refused; nothing is read. Memory ran out: nothing was
+-- written.
 pub record SpellsLine (line : List ℕ) (old new : Ends) (status : Status) : Type 0 where
   pub gives : status ≢ OutOfMemory → GivesTo old new (spelled line) status
   pub ran_out : status ≡ OutOfMemory → IsUnwritten old new

@@ -128,11 +128,7 @@ fn answer_to_text(alloc: Global, work: &Work, text: &[u8]) -> Result<Answer, Unr
 
 /// The answer to an input.
 #[tactic(auto, unfolding(crate::specs::Answers::answer_to))]
-pub fn answer_to(
-    alloc: Global,
-    work: &Work,
-    input: Option<Bytes>,
-) -> Result<Answer, Unread>
+pub fn answer_to(alloc: Global, work: &Work, input: Option<Bytes>) -> Result<Answer, Unread>
     requires { IfSome input (λ bytes. length bytes ≤ checked_limit) }
     ensures memory { result ≢ Err Unread.Failed }
     ensures status { IfOk result (λ a. IsAnswerStatus a.status) }

@@ -35,11 +35,7 @@ fn put<K: Sink>(sink: &mut K, text: &[u8], status: Status) -> Status
 }
 
 /// The answer to what the source has.
-fn answer_source<S: Source>(
-    alloc: Global,
-    work: &Work,
-    source: &mut S,
-) -> Result<Answer, Unread>
+fn answer_source<S: Source>(alloc: Global, work: &Work, source: &mut S) -> Result<Answer, Unread>
     ensures answer { IfOk result (λ a. Answers work.now checked_limit (S.left source.old) (S.left source.new)
         (record { status = a.status; text = a.text })) }
     ensures status { IfOk result (λ a. IsAnswerStatus a.status) }
@@ -53,12 +49,7 @@ fn answer_source<S: Source>(
 }
 
 /// Tells the history of the source in words, or names the first line that is wrong.
-fn tell<S: Source, K: Sink>(
-    alloc: Global,
-    work: &Work,
-    source: &mut S,
-    sink: &mut K,
-) -> Status
+fn tell<S: Source, K: Sink>(alloc: Global, work: &Work, source: &mut S, sink: &mut K) -> Status
     ensures { TellsHistory work.now (ends_of S.left S.faults K.written K.faults source.old sink.old)
         (ends_of S.left S.faults K.written K.faults source.new sink.new) result }
 {
@@ -91,17 +82,13 @@ fn spell<S: Source, K: Sink>(alloc: Global, line: &[u8], source: &mut S, sink: &
     }
 }
 
-/// Tells the history of the source in words, all of it or a part, writes the bytes that a line spells, or writes how the
-/// program is called.
+/// Tells the history of the source in words or draws it, all of it or a part, writes the bytes that a line spells, or
+/// writes how the program is called.
 ///
 /// Status 0: it was told, a block for each entry, in their order. Status 1: the words ask for nothing. Status 2: the
-/// first line that is wrong was named, or the line spells no bytes. Status 5, 6 and 7: a read or a write failed, or memory ran out.
-pub fn serve<S: Source, K: Sink>(
-    alloc: Global,
-    work: &Work,
-    source: &mut S,
-    sink: &mut K,
-) -> Status
+/// first line that is wrong was named, there were too many entries for a picture, or the line spells no bytes. Status 5,
+/// 6 and 7: a read or a write failed, or memory ran out.
+pub fn serve<S: Source, K: Sink>(alloc: Global, work: &Work, source: &mut S, sink: &mut K) -> Status
     ensures { EndsAs work.now (ends_of S.left S.faults K.written K.faults source.old sink.old)
         (ends_of S.left S.faults K.written K.faults source.new sink.new) result }
 {

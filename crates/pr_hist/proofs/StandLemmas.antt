@@ -153,8 +153,10 @@ since-or a s (e ∷ es) still = by_rest (since-or a (stand_after e a s) es still
         → StoodSince a (e ∷ es) ⊎ ((stands s ≡ true) × ((leaves e a && all_leave a es) ≡ true))
     by_entry left (inl is) = inl (record { before = []; stop = e; behind = es; are = refl; is = is; left = left })
     by_entry left (inr both) =
-        inr ((and_parts (leaves e a) (stands s) both).1,
-        and-both (leaves e a) (all_leave a es) (and_parts (leaves e a) (stands s) both).0 left)
+        inr (
+          (and_parts (leaves e a) (stands s) both).1,
+          and-both (leaves e a) (all_leave a es) (and_parts (leaves e a) (stands s) both).0 left,
+        )
 
     by_rest : StoodSince a es ⊎ ((stands (stand_after e a s) ≡ true) × (all_leave a es ≡ true))
         → StoodSince a (e ∷ es) ⊎ ((stands s ≡ true) × ((leaves e a && all_leave a es) ≡ true))

@@ -1,5 +1,5 @@
--- Charts of a history: a row an entry, in it a cell a lane, and between cells the messages and the births. A row of lanes
--- is a line of text; the picture is in Pictures.
+-- Charts of a history: a row an entry, in it a cell a lane, and between cells the messages and the births. A row of
+-- lanes is a line of text; the picture is in Pictures.
 use Rattle.std.specs.Prelude.{ℕ, ◌==◌, ◌+◌, ◌-◌, ◌/◌, ◌&&◌, ◌||◌, not, Bool, true, false, Option, Some, None, List, [], ◌∷◌, ◌++◌, codes, decimal, length, max, min, replicate, take, if◌then◌else◌}
 use Rattle.std.specs.Char.{is_ascii_whitespace}
 use Rattle.std.specs.List.{list_any, suffix_len}
@@ -64,8 +64,8 @@ abbrev pub is_first_target : Names → Entry → List Lane → Bool
 is_first_target names e [] = false
 is_first_target names e (lane ∷ rest) = is_target names e lane
 
--- What a cell has besides how its lane stands: the words of the entry, in the lane of who acted; the arrow, from there to
--- the last lane that the entry comes to; and its tip, before each such lane. `passed`: the lane of who acted stands
+-- What a cell has besides how its lane stands: the words of the entry, in the lane of who acted; the arrow, from there
+-- to the last lane that the entry comes to; and its tip, before each such lane. `passed`: the lane of who acted stands
 -- before this one; `rest`: the lanes behind it.
 unfoldable pub marks_of : Names → Entry → Bool → Lane → List Lane → Marks
 marks_of names e passed lane rest = record {
@@ -160,7 +160,9 @@ row_text sheet full n names lanes e = by sheet.chart
 
 -- what stands above the rows, of which there are so many, and below them
 unfoldable pub legend : List ℕ
-legend = codes "| runs  + made, no turn yet  # stopped on an event  = stopped as directed" ++ codes "  z asleep  T stopped by a signal  x ends\n"
+legend =
+    codes "| runs  + made, no turn yet  # stopped on an event  = stopped on request"
+    ++ codes "  z asleep  T stopped by a signal  x ends\n"
 
 unfoldable pub head_text : Sheet → List Lane → List ℕ
 head_text sheet lanes = by sheet.chart

@@ -71,7 +71,7 @@ set_of named every (w ∷ names) =
 -- ---- flags
 
 -- a flag by name
-abbrev pub is_word : List ℕ → List ℕ → Bool
+unfoldable pub is_word : List ℕ → List ℕ → Bool
 is_word name w = bytes_eq w name
 
 -- the bit of a flag, where it is among the operands

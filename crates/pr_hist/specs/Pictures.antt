@@ -1,6 +1,6 @@
--- The picture of a history in SVG 1.1, without a script, a font or a file from elsewhere: a row an entry, each with a title
--- that says the entry in words, and in it for each lane a bar by how it stands, a dot and a few words for who acted, and
--- arrows for messages and births.
+-- The picture of a history in SVG 1.1, without a script, a font or a file from elsewhere: a row an entry, with a title
+-- that says the entry in words, and in it for each lane a bar by how it stands, a dot and a few words for who acted,
+-- and arrows for messages and births.
 use Rattle.std.specs.Prelude.{ℕ, ◌==◌, ◌+◌, ◌*◌, List, [], ◌∷◌, ◌++◌, codes, decimal, max, min, take, if◌then◌else◌}
 use Rattle.std.specs.List.{flat_map}
 use Rattle.pr_hist.specs.declared.charts.Marks.{Marks}
@@ -15,15 +15,15 @@ piece_text piece.Open = codes "<svg xmlns='http://www.w3.org/2000/svg' version='
 piece_text piece.Height = codes "' height='"
 piece_text piece.Font = codes "' font-family='monospace' font-size='11'>\n<style>\n"
 piece_text piece.StyleText = codes "text,circle{fill:#222}path{fill:none}.t{fill:#2d6a4f}\n"
-piece_text piece.StyleRuns = codes ".r{stroke:#8a8f98;stroke-width:2}.n{stroke:#8a8f98;stroke-width:2;stroke-dasharray:2 3}\n"
+piece_text piece.StyleRuns = codes ".r,.n{stroke:#8a8f98;stroke-width:2}.n{stroke-dasharray:2 3}\n"
 piece_text piece.StyleStops = codes ".e{stroke:#c0392b;stroke-width:8}.q{stroke:#e09f1f;stroke-width:8}\n"
-piece_text piece.StyleOthers = codes ".j{stroke:#7d3c98;stroke-width:8}.s{stroke:#3f7fbf;stroke-width:4;stroke-dasharray:3 3}\n"
+piece_text piece.StyleOthers = codes ".j{stroke:#7d3c98;stroke-width:8}.s{stroke:#3f7fbf;stroke-width:4}.s{stroke-dasharray:3 3}\n"
 piece_text piece.StyleEnds = codes ".x{stroke:#222;stroke-width:5;stroke-dasharray:2 2}.m{stroke:#2d6a4f}\n</style>\n"
 piece_text piece.Page = codes "<rect width='100%' height='100%' fill='#fdfcf8'/>\n"
 piece_text piece.LegendRuns = codes "<path class='r' d='M12 10v18'/><text x='22' y='23'>runs</text>\n"
 piece_text piece.LegendNew = codes "<path class='n' d='M72 10v18'/><text x='82' y='23'>made, no turn yet</text>\n"
 piece_text piece.LegendEvent = codes "<path class='e' d='M212 10v18'/><text x='222' y='23'>stopped on an event</text>\n"
-piece_text piece.LegendRequested = codes "<path class='q' d='M372 10v18'/><text x='382' y='23'>stopped as directed</text>\n"
+piece_text piece.LegendRequested = codes "<path class='q' d='M372 10v18'/><text x='382' y='23'>stopped on request</text>\n"
 piece_text piece.LegendAsleep = codes "<path class='s' d='M532 10v18'/><text x='542' y='23'>asleep</text>\n"
 piece_text piece.LegendJob = codes "<path class='j' d='M602 10v18'/><text x='612' y='23'>stopped by a signal</text>\n"
 piece_text piece.LegendEnds = codes "<path class='x' d='M762 10v18'/><text x='772' y='23'>ends</text>\n"
@@ -121,8 +121,8 @@ picture_cell row column m stand words =
 -- a row: its title, the number of the entry, and the cells
 unfoldable pub picture_row : ℕ → ℕ → List ℕ → List ℕ → List ℕ
 picture_row row n words drawn =
-    piece_text piece.RowTitle ++ (escaped words ++ (piece_text piece.RowNumber ++ (down row ++ (piece_text piece.TextOpen
-    ++ (decimal n ++ (piece_text piece.TextEnd ++ (drawn ++ piece_text piece.RowEnd)))))))
+    piece_text piece.RowTitle ++ (escaped words ++ (piece_text piece.RowNumber ++ (down row
+    ++ (piece_text piece.TextOpen ++ (decimal n ++ (piece_text piece.TextEnd ++ (drawn ++ piece_text piece.RowEnd)))))))
 
 unfoldable pub picture_name : ℕ → List ℕ → List ℕ
 picture_name column name =

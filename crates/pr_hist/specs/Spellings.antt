@@ -23,7 +23,11 @@ no_registers = 0 ∷ 0 ∷ 0 ∷ 0 ∷ 0 ∷ 0 ∷ 0 ∷ 0 ∷ 0 ∷ 0 ∷ 0 ∷
 
 -- each message once, before it has its operands
 abbrev pub forms : List Message
-forms = does.Stop ∷ does.Dstop ∷ does.Wstop ∷ does.Twstop 0 ∷ does.Run 0 ∷ does.Csig ∷ does.Cfault ∷ does.Ssig 0 ∷ does.Kill 0 ∷ does.Unkill 0 ∷ does.Shold 0 ∷ does.Strace 0 ∷ does.Sfault 0 ∷ does.Sentry 0 ∷ does.Sexit 0 ∷ does.Set 0 ∷ does.Unset 0 ∷ does.Sreg no_registers ∷ does.Svaddr 0 ∷ does.Watch 0 0 0 ∷ does.Agent no_registers ∷ does.Read 0 0 ∷ does.Write 0 0 ∷ []
+forms =
+    does.Stop ∷ does.Dstop ∷ does.Wstop ∷ does.Twstop 0 ∷ does.Run 0 ∷ does.Csig ∷ does.Cfault ∷ does.Ssig 0
+    ∷ does.Kill 0 ∷ does.Unkill 0 ∷ does.Shold 0 ∷ does.Strace 0 ∷ does.Sfault 0 ∷ does.Sentry 0 ∷ does.Sexit 0
+    ∷ does.Set 0 ∷ does.Unset 0 ∷ does.Sreg no_registers ∷ does.Svaddr 0 ∷ does.Watch 0 0 0
+    ∷ does.Agent no_registers ∷ does.Read 0 0 ∷ does.Write 0 0 ∷ []
 
 -- the message of a name
 unfoldable pub form_of : List ℕ → Option Message

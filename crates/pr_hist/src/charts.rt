@@ -7,7 +7,10 @@ use crate::briefs::write_brief;
 use crate::entries::{words_of, write_actor};
 use crate::lanes::{Lane, Stand, is_born, is_lane_of, is_lwp_of, is_same};
 use crate::names::Known;
-use crate::pictures::{write_picture_cell, write_picture_foot, write_picture_head, write_picture_name, write_picture_row};
+use crate::pictures::{
+    write_picture_cell, write_picture_foot, write_picture_head, write_picture_name,
+    write_picture_row,
+};
 use crate::texts::{Text, front};
 use pr_model::{Act, Actor, Call, Entry, Reply};
 use pr_num::{ById, NoMemory};
@@ -143,13 +146,7 @@ fn has_target(names: &ById<Known>, entry: &Entry, lanes: &[Lane]) -> bool
 
 /// What a cell has besides how its lane stands.
 #[tactic(auto, unfolding(crate::specs::Charts::marks_of))]
-fn marks_of(
-    names: &ById<Known>,
-    entry: &Entry,
-    passed: bool,
-    lane: &Lane,
-    rest: &[Lane],
-) -> Marks
+fn marks_of(names: &ById<Known>, entry: &Entry, passed: bool, lane: &Lane, rest: &[Lane]) -> Marks
     ensures { result ≡ marks_of names.now entry.now passed lane.now rest.now }
 {
     let acts = is_lane_of(entry.actor, lane);
@@ -337,12 +334,7 @@ fn write_name_cell(
 }
 
 /// The names of lanes.
-fn write_names(
-    alloc: Global,
-    text: &mut Text,
-    sheet: Sheet,
-    lanes: &[Lane],
-) -> Result<(), NoMemory>
+fn write_names(alloc: Global, text: &mut Text, sheet: Sheet, lanes: &[Lane]) -> Result<(), NoMemory>
     ensures { OnOk result (text.new ≡ text.old ++ name_cells sheet lanes.now) }
 {
     let mut left = lanes;
@@ -363,12 +355,7 @@ fn trimmed(bytes: &[u8]) -> &[u8]
 
 /// A line: its number and its cells.
 #[tactic(auto, unfolding(crate::specs::Charts::line_text))]
-fn write_line(
-    alloc: Global,
-    text: &mut Text,
-    number: &[u8],
-    drawn: &[u8],
-) -> Result<(), NoMemory>
+fn write_line(alloc: Global, text: &mut Text, number: &[u8], drawn: &[u8]) -> Result<(), NoMemory>
     ensures { OnOk result (text.new ≡ text.old ++ line_text number.now drawn.now) }
 {
     let mut line = Text::new(alloc)?;
@@ -409,7 +396,15 @@ pub fn write_row(
     let mut label = Text::new(alloc)?;
     write_brief(&mut label, names, &entry.act)?;
     let mut drawn = Text::new(alloc)?;
-    write_cells(alloc, &mut drawn, sheet, names, entry, label.as_slice(), lanes)?;
+    write_cells(
+        alloc,
+        &mut drawn,
+        sheet,
+        names,
+        entry,
+        label.as_slice(),
+        lanes,
+    )?;
     match sheet.chart {
         Chart::Lanes(_) => write_numbered(alloc, text, number, drawn.as_slice()),
         Chart::Picture => {
@@ -430,7 +425,7 @@ pub fn write_row(
 fn write_legend(text: &mut Text) -> Result<(), NoMemory>
     ensures { OnOk result (text.new ≡ text.old ++ legend) }
 {
-    text.text(b"| runs  + made, no turn yet  # stopped on an event  = stopped as directed")?;
+    text.text(b"| runs  + made, no turn yet  # stopped on an event  = stopped on request")?;
     text.text(b"  z asleep  T stopped by a signal  x ends\n")
 }
 

@@ -61,7 +61,16 @@ fn write_told(
         return Ok(());
     }
     let sheet = sheet_of(chart, row, lanes);
-    write_row(alloc, text, sheet, selection.full, number, names, lanes, entry)
+    write_row(
+        alloc,
+        text,
+        sheet,
+        selection.full,
+        number,
+        names,
+        lanes,
+        entry,
+    )
 }
 
 /// The rows of the entries that are told.

@@ -39,12 +39,7 @@ pub fn write_tick(text: &mut Text, n: u64) -> Result<(), NoMemory>
 
 /// What was done.
 #[tactic(auto, unfolding(crate::specs::Entries::act_text))]
-fn write_act(
-    text: &mut Text,
-    full: bool,
-    names: &ById<Known>,
-    act: &Act,
-) -> Result<(), NoMemory>
+fn write_act(text: &mut Text, full: bool, names: &ById<Known>, act: &Act) -> Result<(), NoMemory>
     ensures { OnOk result (text.new ≡ text.old ++ act_text full names.now act.now) }
 {
     match act {

@@ -409,7 +409,8 @@ fn add_entries(
     Ok(())
 }
 
-/// The lanes of a history before its first entry: controllers, the clock and lwps, each in the order in which they come.
+/// The lanes of a history before its first entry: controllers, the clock and lwps, each in the order in which they
+/// come.
 #[tactic(auto, unfolding(crate::specs::Lanes::lanes_of))]
 pub fn lanes_of(alloc: Global, who: Option<Who>, history: &History) -> Result<Vec<Lane>, NoMemory>
     ensures { IfOk result (λ lanes. lanes.items ≡ lanes_of who history.now.entries) }

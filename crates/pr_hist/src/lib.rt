@@ -30,7 +30,9 @@ pub use charts::Chart;
 pub use drawings::chart_of;
 pub use entries::words_of;
 pub use histories::{selected_text, text_of};
-pub use laws::{a_lane_stands_still_since_a_stop, a_text_grows_by_a_block, handles_are_named_while_open};
+pub use laws::{
+    a_lane_stands_still_since_a_stop, a_text_grows_by_a_block, handles_are_named_while_open,
+};
 pub use names::Known;
 pub use selections::{Selection, Who};
 pub use spellings::bytes_of_line;

@@ -18,7 +18,12 @@ fn is_number(word: &[u8]) -> bool
 fn all_numbers(ops: &[&[u8]]) -> bool
     ensures { result ≡ list_all is_number (map (λ op. op.now) ops.now) }
 {
-    ops.iter().all(|op| is_number(op))
+    for op in ops {
+        if !is_number(op) {
+            return false;
+        }
+    }
+    true
 }
 
 /// Whether there are so many operands, and each is a number.
@@ -122,10 +127,22 @@ pub fn set_of<T: Numbered>(ops: &[&[u8]]) -> Option<SetOf<T>>
     }
 }
 
+#[tactic(auto, unfolding(crate::specs::OperandWords::is_word))]
+fn is_word(name: &[u8], word: &[u8]) -> bool
+    ensures { result ≡ is_word name.now word.now }
+{
+    word == name
+}
+
 fn has_word(ops: &[&[u8]], name: &[u8]) -> bool
     ensures { result ≡ list_any (is_word name.now) (map (λ op. op.now) ops.now) }
 {
-    ops.iter().any(|op| *op == name)
+    for op in ops {
+        if is_word(name, op) {
+            return true;
+        }
+    }
+    false
 }
 
 /// The bit of a flag, where it is among the operands.
@@ -150,7 +167,12 @@ fn is_run_flag(word: &[u8]) -> bool
 fn all_run_flags(ops: &[&[u8]]) -> bool
     ensures { result ≡ list_all is_run_flag (map (λ op. op.now) ops.now) }
 {
-    ops.iter().all(|op| is_run_flag(op))
+    for op in ops {
+        if !is_run_flag(op) {
+            return false;
+        }
+    }
+    true
 }
 
 /// Run flags: any of them, or none.
@@ -170,14 +192,18 @@ fn is_mode(word: &[u8]) -> bool
     ensures { result ≡ is_mode word.now }
 {
     word == b"FORK".as_slice()
-        || (word == b"RLC".as_slice()
-            || (word == b"KLC".as_slice() || word == b"ASYNC".as_slice()))
+        || (word == b"RLC".as_slice() || (word == b"KLC".as_slice() || word == b"ASYNC".as_slice()))
 }
 
 fn all_modes(ops: &[&[u8]]) -> bool
     ensures { result ≡ list_all is_mode (map (λ op. op.now) ops.now) }
 {
-    ops.iter().all(|op| is_mode(op))
+    for op in ops {
+        if !is_mode(op) {
+            return false;
+        }
+    }
+    true
 }
 
 /// Modes.

@@ -56,17 +56,25 @@ fn bytes_of(piece: Piece) -> &'static [u8]
         Piece::Height => b"' height='",
         Piece::Font => b"' font-family='monospace' font-size='11'>\n<style>\n",
         Piece::StyleText => b"text,circle{fill:#222}path{fill:none}.t{fill:#2d6a4f}\n",
-        Piece::StyleRuns => b".r{stroke:#8a8f98;stroke-width:2}.n{stroke:#8a8f98;stroke-width:2;stroke-dasharray:2 3}\n",
-        Piece::StyleStops => b".e{stroke:#c0392b;stroke-width:8}.q{stroke:#e09f1f;stroke-width:8}\n",
-        Piece::StyleOthers => b".j{stroke:#7d3c98;stroke-width:8}.s{stroke:#3f7fbf;stroke-width:4;stroke-dasharray:3 3}\n",
-        Piece::StyleEnds => b".x{stroke:#222;stroke-width:5;stroke-dasharray:2 2}.m{stroke:#2d6a4f}\n</style>\n",
+        Piece::StyleRuns => b".r,.n{stroke:#8a8f98;stroke-width:2}.n{stroke-dasharray:2 3}\n",
+        Piece::StyleStops =>
+            b".e{stroke:#c0392b;stroke-width:8}.q{stroke:#e09f1f;stroke-width:8}\n",
+        Piece::StyleOthers =>
+            b".j{stroke:#7d3c98;stroke-width:8}.s{stroke:#3f7fbf;stroke-width:4}.s{stroke-dasharray:3 3}\n",
+        Piece::StyleEnds =>
+            b".x{stroke:#222;stroke-width:5;stroke-dasharray:2 2}.m{stroke:#2d6a4f}\n</style>\n",
         Piece::Page => b"<rect width='100%' height='100%' fill='#fdfcf8'/>\n",
         Piece::LegendRuns => b"<path class='r' d='M12 10v18'/><text x='22' y='23'>runs</text>\n",
-        Piece::LegendNew => b"<path class='n' d='M72 10v18'/><text x='82' y='23'>made, no turn yet</text>\n",
-        Piece::LegendEvent => b"<path class='e' d='M212 10v18'/><text x='222' y='23'>stopped on an event</text>\n",
-        Piece::LegendRequested => b"<path class='q' d='M372 10v18'/><text x='382' y='23'>stopped as directed</text>\n",
-        Piece::LegendAsleep => b"<path class='s' d='M532 10v18'/><text x='542' y='23'>asleep</text>\n",
-        Piece::LegendJob => b"<path class='j' d='M602 10v18'/><text x='612' y='23'>stopped by a signal</text>\n",
+        Piece::LegendNew =>
+            b"<path class='n' d='M72 10v18'/><text x='82' y='23'>made, no turn yet</text>\n",
+        Piece::LegendEvent =>
+            b"<path class='e' d='M212 10v18'/><text x='222' y='23'>stopped on an event</text>\n",
+        Piece::LegendRequested =>
+            b"<path class='q' d='M372 10v18'/><text x='382' y='23'>stopped on request</text>\n",
+        Piece::LegendAsleep =>
+            b"<path class='s' d='M532 10v18'/><text x='542' y='23'>asleep</text>\n",
+        Piece::LegendJob =>
+            b"<path class='j' d='M602 10v18'/><text x='612' y='23'>stopped by a signal</text>\n",
         Piece::LegendEnds => b"<path class='x' d='M762 10v18'/><text x='772' y='23'>ends</text>\n",
         Piece::Close => b"</svg>\n",
         Piece::RowTitle => b"<g><title>",

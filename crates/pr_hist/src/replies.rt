@@ -40,7 +40,13 @@ fn write_read(
     ensures { OnOk result (text.new ≡ text.old ++ read_text full names.now call.now bytes.now) }
 {
     match call {
-        Call::Read { handle, at, .. } => write_record(text, full, layout_in(names, *handle), *at, bytes),
+        Call::Read { handle, at, .. } => write_record(
+            text,
+            full,
+            layout_in(names, *handle),
+            *at,
+            bytes,
+        ),
         Call::List => write_record(text, full, Layout::List, 0, bytes),
         Call::Open { .. }
         | Call::Close { .. }

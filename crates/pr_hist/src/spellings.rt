@@ -4,7 +4,9 @@ ghost use Rattle.pr_asm.specs.Statements.{statement_of};
 ghost use Rattle.pr_hist.specs.Spellings.{alone, bytes_of_line, bytes_of_statement, bytes_with, code_bytes, form_of, if_message, message_bytes, numbered, plain_bytes, with_operands, write_bytes, write_with};
 
 use crate::messages::message_name;
-use crate::operand_words::{are_numbers, modes_of, number_at, registers_of, run_flags_of, set_of, signal_of};
+use crate::operand_words::{
+    are_numbers, modes_of, number_at, registers_of, run_flags_of, set_of, signal_of,
+};
 use pr_asm::{Statement, statement_of};
 use pr_msg::{Message, decode_one, encode, tail_length};
 use pr_num::{Bytes, Flt, NoMemory, Sig, Sysno};
@@ -79,7 +81,13 @@ fn with_operands(form: &Message, ops: &[&[u8]]) -> Option<Message>
         Message::Stop => alone(ops, Message::Stop),
         Message::Dstop => alone(ops, Message::Dstop),
         Message::Wstop => alone(ops, Message::Wstop),
-        Message::Twstop { .. } => numbered(1, ops, Message::Twstop { ms: number_at(ops, 0) }),
+        Message::Twstop { .. } => numbered(
+            1,
+            ops,
+            Message::Twstop {
+                ms: number_at(ops, 0),
+            },
+        ),
         Message::Run { .. } => run_flags_of(ops).map(|flags| Message::Run { flags }),
         Message::Csig => alone(ops, Message::Csig),
         Message::Cfault => alone(ops, Message::Cfault),
@@ -103,15 +111,33 @@ fn with_operands(form: &Message, ops: &[&[u8]]) -> Option<Message>
         }),
         Message::Set { .. } => modes_of(ops).map(|modes| Message::Set { modes }),
         Message::Unset { .. } => modes_of(ops).map(|modes| Message::Unset { modes }),
-        Message::Sreg { .. } => numbered(11, ops, Message::Sreg { regs: registers_of(ops) }),
-        Message::Svaddr { .. } => numbered(1, ops, Message::Svaddr { pc: number_at(ops, 0) }),
+        Message::Sreg { .. } => numbered(
+            11,
+            ops,
+            Message::Sreg {
+                regs: registers_of(ops),
+            },
+        ),
+        Message::Svaddr { .. } => numbered(
+            1,
+            ops,
+            Message::Svaddr {
+                pc: number_at(ops, 0),
+            },
+        ),
         Message::Watch { .. } => {
             let at = number_at(ops, 0);
             let size = number_at(ops, 1);
             let flags = number_at(ops, 2);
             numbered(3, ops, Message::Watch { at, size, flags })
         }
-        Message::Agent { .. } => numbered(11, ops, Message::Agent { regs: registers_of(ops) }),
+        Message::Agent { .. } => numbered(
+            11,
+            ops,
+            Message::Agent {
+                regs: registers_of(ops),
+            },
+        ),
         Message::Read { .. } => {
             let at = number_at(ops, 0);
             let len = number_at(ops, 1);
@@ -173,11 +199,7 @@ fn plain_bytes(alloc: Global, message: Option<Message>) -> Result<Option<Bytes>,
 
 /// The bytes of a message with these operands.
 #[tactic(auto, unfolding(crate::specs::Spellings::bytes_with))]
-fn bytes_with(
-    alloc: Global,
-    form: &Message,
-    ops: &[&[u8]],
-) -> Result<Option<Bytes>, NoMemory>
+fn bytes_with(alloc: Global, form: &Message, ops: &[&[u8]]) -> Result<Option<Bytes>, NoMemory>
     ensures { IfOk result (λ bytes. bytes ≡ bytes_with form.now (map (λ op. op.now) ops.now)) }
 {
     match form {
