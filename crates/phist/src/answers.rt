@@ -168,10 +168,11 @@ fn spelled_or(alloc: Global, bytes: Option<Bytes>) -> Result<Answer, NoMemory>
 
 /// The bytes that a line spells, in hex.
 #[tactic(auto, unfolding(crate::specs::Answers::spelled))]
-pub fn spelled(alloc: Global, line: &[u8]) -> Result<Answer, NoMemory>
+pub fn spelled(alloc: Global, line: &[u8]) -> Result<Answer, Unread>
+    ensures memory { result ≢ Err Unread.Failed }
     ensures answer { IfOk result (λ a. record { status = a.status; text = a.text } ≡ spelled line.now) }
     ensures status { IfOk result (λ a. IsAnswerStatus a.status) }
 {
     let bytes = bytes_of_line(alloc, line)?;
-    spelled_or(alloc, bytes)
+    Ok(spelled_or(alloc, bytes)?)
 }
