@@ -65,9 +65,7 @@ spelled line = spelled_or (bytes_of_line line)
 
 -- how the program is called
 unfoldable pub usage_line : List ℕ
-usage_line =
-    codes "usage: phist [lanes [-w WIDTH] | svg] [-v] [-p PID | -c K | -l P/L] [-n FROM-TO]\n"
-    ++ codes "       phist bytes INSTRUCTION | MESSAGE\n"
+usage_line = codes "usage: phist [lanes [-w WIDTH] | svg] [-v] [-p PID | -c K | -l P/L] [-n FROM-TO] | bytes TEXT\n"
 
 unfoldable pub explained : Answered
 explained = record { status = Usage; text = usage_line }

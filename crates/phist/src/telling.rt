@@ -18,7 +18,7 @@ use std::alloc::Global;
 fn usage_line() -> &'static [u8]
     ensures { result.now ≡ usage_line }
 {
-    b"usage: phist [lanes [-w WIDTH] | svg] [-v] [-p PID | -c K | -l P/L] [-n FROM-TO]\n       phist bytes INSTRUCTION | MESSAGE\n"
+    b"usage: phist [lanes [-w WIDTH] | svg] [-v] [-p PID | -c K | -l P/L] [-n FROM-TO] | bytes TEXT\n"
 }
 
 /// Writes a text, and ends with a status. Takes no memory.

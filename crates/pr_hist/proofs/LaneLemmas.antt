@@ -1,10 +1,9 @@
 -- The lanes of a history and the rows of a chart, one entry after another.
-use Rattle.std.proofs.Common.{◌≡◌, ℕ, ◌+◌, ◌≤◌, false, List, [], ◌∷◌, ◌++◌, Option, Some, length, drop, sym, ap, ◌∙◌, append_assoc}
+use Rattle.std.proofs.Common.{◌≡◌, ℕ, ◌+◌, ◌≤◌, List, ◌++◌, Option, Some, length, drop, sym, ap, ◌∙◌, append_assoc}
 use Rattle.std.proofs.lemmas.List.{append-nil}
 use Rattle.std.specs.List.{slice_get}
 use Rattle.pr_num.proofs.ListLemmas.{drop-at}
 use Rattle.pr_model.specs.declared.events.Entry.{Entry}
-use Rattle.pr_hist.specs.Charts.{cell, cells, marks_of, name_cell, name_cells}
 use Rattle.pr_hist.specs.Drawings.{row_after, rows_from, rows_text, told_row}
 use Rattle.pr_hist.specs.Lanes.{lanes_after, with_entries, with_entry}
 use Rattle.pr_hist.specs.Names.{Names, names_beyond}

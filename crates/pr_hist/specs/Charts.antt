@@ -93,7 +93,7 @@ fitted fill width t = take width t ++ replicate (width - length t) fill
 
 -- how wide a cell is where so many lanes share a line
 unfoldable pub cell_width : ℕ → ℕ → ℕ
-cell_width width lanes = if lanes == 0 then 8 else min 1000 (max 8 ((width - 8) / lanes))
+cell_width width lanes = if lanes == 0 then 8 else min (max ((width - 8) / lanes) 8) 1000
 
 -- the line of an arrow, or blanks
 unfoldable pub fill : Marks → ℕ
@@ -159,10 +159,14 @@ row_text sheet full n names lanes e = by sheet.chart
     by chart.Picture = picture_row sheet.row n (words_of full n names e) drawn
 
 -- what stands above the rows, of which there are so many, and below them
+unfoldable pub marks_above : List ℕ
+marks_above = codes "| runs  + made, no turn yet  # stopped on an event  = stopped on request"
+
+unfoldable pub marks_besides : List ℕ
+marks_besides = codes "  z asleep  T stopped by a signal  x ends\n"
+
 unfoldable pub legend : List ℕ
-legend =
-    codes "| runs  + made, no turn yet  # stopped on an event  = stopped on request"
-    ++ codes "  z asleep  T stopped by a signal  x ends\n"
+legend = marks_above ++ marks_besides
 
 unfoldable pub head_text : Sheet → List Lane → List ℕ
 head_text sheet lanes = by sheet.chart

@@ -52,7 +52,7 @@ unfoldable pub escaped_byte : ℕ → List ℕ
 escaped_byte b =
     if b == 38 then codes "&amp;" else (if b == 60 then codes "&lt;" else (if b == 62 then codes "&gt;" else b ∷ []))
 
-abbrev pub escaped : List ℕ → List ℕ
+unfoldable pub escaped : List ℕ → List ℕ
 escaped t = flat_map escaped_byte t
 
 -- ---- places
@@ -100,10 +100,14 @@ unfoldable pub dot : ℕ → ℕ → List ℕ
 dot row column =
     piece_text piece.Dot ++ (across column ++ (piece_text piece.DotRow ++ (down row ++ piece_text piece.Shut)))
 
+unfoldable pub label_place : ℕ → ℕ → List ℕ
+label_place row column = piece_text piece.Label ++ (across column ++ (piece_text piece.LabelRow ++ down row))
+
+unfoldable pub label_words : List ℕ → List ℕ
+label_words words = piece_text piece.TextOpen ++ (escaped (take 25 words) ++ piece_text piece.TextEnd)
+
 unfoldable pub label : ℕ → ℕ → List ℕ → List ℕ
-label row column words =
-    piece_text piece.Label ++ (across column ++ (piece_text piece.LabelRow ++ (down row ++ (piece_text piece.TextOpen
-    ++ (escaped (take 25 words) ++ piece_text piece.TextEnd)))))
+label row column words = label_place row column ++ label_words words
 
 unfoldable pub arrow_if : ℕ → ℕ → Marks → List ℕ
 arrow_if row column m =
@@ -119,10 +123,15 @@ picture_cell row column m stand words =
 -- ---- rows, and what stands around them
 
 -- a row: its title, the number of the entry, and the cells
+unfoldable pub row_title : List ℕ → List ℕ
+row_title words = piece_text piece.RowTitle ++ escaped words
+
+unfoldable pub row_number : ℕ → ℕ → List ℕ
+row_number row n =
+    piece_text piece.RowNumber ++ (down row ++ (piece_text piece.TextOpen ++ (decimal n ++ piece_text piece.TextEnd)))
+
 unfoldable pub picture_row : ℕ → ℕ → List ℕ → List ℕ → List ℕ
-picture_row row n words drawn =
-    piece_text piece.RowTitle ++ (escaped words ++ (piece_text piece.RowNumber ++ (down row
-    ++ (piece_text piece.TextOpen ++ (decimal n ++ (piece_text piece.TextEnd ++ (drawn ++ piece_text piece.RowEnd)))))))
+picture_row row n words drawn = row_title words ++ (row_number row n ++ (drawn ++ piece_text piece.RowEnd))
 
 unfoldable pub picture_name : ℕ → List ℕ → List ℕ
 picture_name column name =
@@ -133,17 +142,28 @@ styles =
     piece_text piece.StyleText ++ (piece_text piece.StyleRuns ++ (piece_text piece.StyleStops
     ++ (piece_text piece.StyleOthers ++ piece_text piece.StyleEnds)))
 
-unfoldable pub picture_legend : List ℕ
-picture_legend =
+unfoldable pub legend_front : List ℕ
+legend_front =
     piece_text piece.LegendRuns ++ (piece_text piece.LegendNew ++ (piece_text piece.LegendEvent
-    ++ (piece_text piece.LegendRequested ++ (piece_text piece.LegendAsleep ++ (piece_text piece.LegendJob
-    ++ piece_text piece.LegendEnds)))))
+    ++ piece_text piece.LegendRequested))
+
+unfoldable pub legend_back : List ℕ
+legend_back =
+    piece_text piece.LegendAsleep ++ (piece_text piece.LegendJob ++ piece_text piece.LegendEnds)
+
+unfoldable pub picture_legend : List ℕ
+picture_legend = legend_front ++ legend_back
 
 -- the head of a picture of so many rows and lanes
+unfoldable pub picture_size : ℕ → ℕ → List ℕ
+picture_size rows lanes =
+    piece_text piece.Open ++ (across (max lanes 4) ++ (piece_text piece.Height ++ down rows))
+
+unfoldable pub picture_page : List ℕ
+picture_page = piece_text piece.Font ++ (styles ++ (piece_text piece.Page ++ picture_legend))
+
 unfoldable pub picture_head : ℕ → ℕ → List ℕ
-picture_head rows lanes =
-    piece_text piece.Open ++ (across (max 4 lanes) ++ (piece_text piece.Height ++ (down rows ++ (piece_text piece.Font
-    ++ (styles ++ (piece_text piece.Page ++ picture_legend))))))
+picture_head rows lanes = picture_size rows lanes ++ picture_page
 
 unfoldable pub picture_foot : List ℕ
 picture_foot = piece_text piece.Close

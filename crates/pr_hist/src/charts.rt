@@ -1,7 +1,7 @@
 //! Charts of a history: a row an entry, in it a cell a lane, and between cells the messages and the births.
 ghost use Rattle.std.specs.Prelude.{◌≡◌, ◌++◌, ◌+◌, ◌≤◌, ◌<◌, ◌^◌, false, decimal, replicate, OnOk};
 ghost use Rattle.std.specs.List.{list_any};
-ghost use Rattle.pr_hist.specs.Charts.{act_aims, call_aims, cell, cell_width, cells, fill, fitted, foot_text, head_text, is_absent, is_first_target, is_refusal, is_target, known_aims, label_text, lanes_cell, legend, line_text, mark, marks_of, name_cell, name_cells, row_text, tip, trimmed};
+ghost use Rattle.pr_hist.specs.Charts.{act_aims, call_aims, cell, cell_width, cells, fill, fitted, foot_text, head_text, is_absent, is_first_target, is_refusal, is_target, known_aims, label_text, lanes_cell, legend, line_text, mark, marks_above, marks_besides, marks_of, name_cell, name_cells, row_text, tip, trimmed};
 
 use crate::briefs::write_brief;
 use crate::entries::{words_of, write_actor};
@@ -346,7 +346,7 @@ fn write_names(alloc: Global, text: &mut Text, sheet: Sheet, lanes: &[Lane]) -> 
 }
 
 /// A text without the blanks at its end.
-#[tactic(auto, unfolding(crate::specs::Charts::trimmed), using(std::proofs::lemmas::Str::Ascii::trim_ascii_end_is))]
+#[tactic(auto, unfolding(crate::specs::Charts::trimmed))]
 fn trimmed(bytes: &[u8]) -> &[u8]
     ensures { result.now ≡ trimmed bytes.now }
 {
@@ -421,12 +421,26 @@ pub fn write_row(
     }
 }
 
+#[tactic(auto, unfolding(crate::specs::Charts::marks_above))]
+fn marks_above() -> &'static [u8]
+    ensures { result.now ≡ marks_above }
+{
+    b"| runs  + made, no turn yet  # stopped on an event  = stopped on request"
+}
+
+#[tactic(auto, unfolding(crate::specs::Charts::marks_besides))]
+fn marks_besides() -> &'static [u8]
+    ensures { result.now ≡ marks_besides }
+{
+    b"  z asleep  T stopped by a signal  x ends\n"
+}
+
 #[tactic(auto, unfolding(crate::specs::Charts::legend))]
 fn write_legend(text: &mut Text) -> Result<(), NoMemory>
     ensures { OnOk result (text.new ≡ text.old ++ legend) }
 {
-    text.text(b"| runs  + made, no turn yet  # stopped on an event  = stopped on request")?;
-    text.text(b"  z asleep  T stopped by a signal  x ends\n")
+    text.text(marks_above())?;
+    text.text(marks_besides())
 }
 
 /// What stands above the rows, of which there are so many.

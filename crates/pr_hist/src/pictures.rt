@@ -1,6 +1,6 @@
 //! The picture of a history in SVG 1.1.
 ghost use Rattle.std.specs.Prelude.{◌≡◌, ◌++◌, OnOk};
-ghost use Rattle.pr_hist.specs.Pictures.{across, act_if, arrow, arrow_if, arrow_tip, bar, bar_kind, bar_of, dot, down, escaped, escaped_byte, label, picture_cell, picture_foot, picture_head, picture_legend, picture_name, picture_row, piece_text, point, styles};
+ghost use Rattle.pr_hist.specs.Pictures.{across, act_if, arrow, arrow_if, arrow_tip, bar, bar_kind, bar_of, dot, down, escaped, escaped_byte, label, label_place, label_words, legend_back, legend_front, picture_cell, picture_foot, picture_head, picture_legend, picture_name, picture_page, picture_row, picture_size, piece_text, point, row_number, row_title, styles};
 
 use crate::charts::Marks;
 use crate::lanes::Stand;
@@ -122,6 +122,7 @@ impl Text {
     }
 
     /// Appends text in XML.
+    #[tactic(auto, unfolding(crate::specs::Pictures::escaped))]
     fn escaped(&mut self, bytes: &[u8]) -> Result<(), NoMemory>
         ensures { OnOk result (self.new ≡ self.old ++ escaped bytes.now) }
     {
@@ -232,17 +233,31 @@ fn write_dot(text: &mut Text, row: u64, column: u64) -> Result<(), NoMemory>
     text.piece(Piece::Shut)
 }
 
-#[tactic(auto, unfolding(crate::specs::Pictures::label))]
-fn write_label(text: &mut Text, row: u64, column: u64, words: &[u8]) -> Result<(), NoMemory>
-    ensures { OnOk result (text.new ≡ text.old ++ label row column words.now) }
+#[tactic(auto, unfolding(crate::specs::Pictures::label_place))]
+fn write_label_place(text: &mut Text, row: u64, column: u64) -> Result<(), NoMemory>
+    ensures { OnOk result (text.new ≡ text.old ++ label_place row column) }
 {
     text.piece(Piece::Label)?;
     text.across(column)?;
     text.piece(Piece::LabelRow)?;
-    text.down(row)?;
+    text.down(row)
+}
+
+#[tactic(auto, unfolding(crate::specs::Pictures::label_words))]
+fn write_label_words(text: &mut Text, words: &[u8]) -> Result<(), NoMemory>
+    ensures { OnOk result (text.new ≡ text.old ++ label_words words.now) }
+{
     text.piece(Piece::TextOpen)?;
     text.escaped(front(words, 25))?;
     text.piece(Piece::TextEnd)
+}
+
+#[tactic(auto, unfolding(crate::specs::Pictures::label))]
+fn write_label(text: &mut Text, row: u64, column: u64, words: &[u8]) -> Result<(), NoMemory>
+    ensures { OnOk result (text.new ≡ text.old ++ label row column words.now) }
+{
+    write_label_place(text, row, column)?;
+    write_label_words(text, words)
 }
 
 #[tactic(auto, unfolding(crate::specs::Pictures::arrow_if))]
@@ -294,6 +309,25 @@ pub fn write_picture_cell(
     write_act_if(text, row, column, marks, words)
 }
 
+#[tactic(auto, unfolding(crate::specs::Pictures::row_title))]
+fn write_row_title(text: &mut Text, words: &[u8]) -> Result<(), NoMemory>
+    ensures { OnOk result (text.new ≡ text.old ++ row_title words.now) }
+{
+    text.piece(Piece::RowTitle)?;
+    text.escaped(words)
+}
+
+#[tactic(auto, unfolding(crate::specs::Pictures::row_number))]
+fn write_row_number(text: &mut Text, row: u64, number: u64) -> Result<(), NoMemory>
+    ensures { OnOk result (text.new ≡ text.old ++ row_number row number) }
+{
+    text.piece(Piece::RowNumber)?;
+    text.down(row)?;
+    text.piece(Piece::TextOpen)?;
+    text.decimal(number)?;
+    text.piece(Piece::TextEnd)
+}
+
 /// A row: its title, the number of the entry, and the cells.
 #[tactic(auto, unfolding(crate::specs::Pictures::picture_row))]
 pub fn write_picture_row(
@@ -305,13 +339,8 @@ pub fn write_picture_row(
 ) -> Result<(), NoMemory>
     ensures { OnOk result (text.new ≡ text.old ++ picture_row row number words.now drawn.now) }
 {
-    text.piece(Piece::RowTitle)?;
-    text.escaped(words)?;
-    text.piece(Piece::RowNumber)?;
-    text.down(row)?;
-    text.piece(Piece::TextOpen)?;
-    text.decimal(number)?;
-    text.piece(Piece::TextEnd)?;
+    write_row_title(text, words)?;
+    write_row_number(text, row, number)?;
     text.text(drawn)?;
     text.piece(Piece::RowEnd)
 }
@@ -339,17 +368,51 @@ fn write_styles(text: &mut Text) -> Result<(), NoMemory>
     text.piece(Piece::StyleEnds)
 }
 
-#[tactic(auto, unfolding(crate::specs::Pictures::picture_legend))]
-fn write_legend(text: &mut Text) -> Result<(), NoMemory>
-    ensures { OnOk result (text.new ≡ text.old ++ picture_legend) }
+#[tactic(auto, unfolding(crate::specs::Pictures::legend_front))]
+fn write_legend_front(text: &mut Text) -> Result<(), NoMemory>
+    ensures { OnOk result (text.new ≡ text.old ++ legend_front) }
 {
     text.piece(Piece::LegendRuns)?;
     text.piece(Piece::LegendNew)?;
     text.piece(Piece::LegendEvent)?;
-    text.piece(Piece::LegendRequested)?;
+    text.piece(Piece::LegendRequested)
+}
+
+#[tactic(auto, unfolding(crate::specs::Pictures::legend_back))]
+fn write_legend_back(text: &mut Text) -> Result<(), NoMemory>
+    ensures { OnOk result (text.new ≡ text.old ++ legend_back) }
+{
     text.piece(Piece::LegendAsleep)?;
     text.piece(Piece::LegendJob)?;
     text.piece(Piece::LegendEnds)
+}
+
+#[tactic(auto, unfolding(crate::specs::Pictures::picture_legend))]
+fn write_legend(text: &mut Text) -> Result<(), NoMemory>
+    ensures { OnOk result (text.new ≡ text.old ++ picture_legend) }
+{
+    write_legend_front(text)?;
+    write_legend_back(text)
+}
+
+#[tactic(auto, unfolding(crate::specs::Pictures::picture_size))]
+fn write_size(text: &mut Text, rows: u64, lanes: u64) -> Result<(), NoMemory>
+    ensures { OnOk result (text.new ≡ text.old ++ picture_size rows lanes) }
+{
+    text.piece(Piece::Open)?;
+    text.across(lanes.max(4))?;
+    text.piece(Piece::Height)?;
+    text.down(rows)
+}
+
+#[tactic(auto, unfolding(crate::specs::Pictures::picture_page))]
+fn write_page(text: &mut Text) -> Result<(), NoMemory>
+    ensures { OnOk result (text.new ≡ text.old ++ picture_page) }
+{
+    text.piece(Piece::Font)?;
+    write_styles(text)?;
+    text.piece(Piece::Page)?;
+    write_legend(text)
 }
 
 /// The head of a picture of so many rows and lanes.
@@ -357,14 +420,8 @@ fn write_legend(text: &mut Text) -> Result<(), NoMemory>
 pub fn write_picture_head(text: &mut Text, rows: u64, lanes: u64) -> Result<(), NoMemory>
     ensures { OnOk result (text.new ≡ text.old ++ picture_head rows lanes) }
 {
-    text.piece(Piece::Open)?;
-    text.across(lanes.max(4))?;
-    text.piece(Piece::Height)?;
-    text.down(rows)?;
-    text.piece(Piece::Font)?;
-    write_styles(text)?;
-    text.piece(Piece::Page)?;
-    write_legend(text)
+    write_size(text, rows, lanes)?;
+    write_page(text)
 }
 
 #[tactic(auto, unfolding(crate::specs::Pictures::picture_foot))]
