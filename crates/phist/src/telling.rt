@@ -83,8 +83,8 @@ fn spell<S: Source, K: Sink>(alloc: Global, line: &[u8], source: &mut S, sink: &
     }
 }
 
-/// Tells the history of the source in words or draws it, all of it or a part, writes the bytes that a line spells, or
-/// writes how the program is called.
+/// Tells the history of the source in words or draws it, all of it or a part, writes the bytes that a line spells,
+/// or writes how the program is called.
 ///
 /// Status 0: it was told, a block for each entry, in their order. Status 1: the words ask for nothing. Status 2: the
 /// first line that is wrong was named, there were too many entries for a picture, or the line spells no bytes. Status 5,

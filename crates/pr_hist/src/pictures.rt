@@ -60,7 +60,7 @@ fn bytes_of(piece: Piece) -> &'static [u8]
         Piece::StyleStops =>
             b".e{stroke:#c0392b;stroke-width:8}.q{stroke:#e09f1f;stroke-width:8}\n",
         Piece::StyleOthers =>
-            b".j{stroke:#7d3c98;stroke-width:8}.s{stroke:#3f7fbf;stroke-width:4}.s{stroke-dasharray:3 3}\n",
+            b".j{stroke:#7d3c98;stroke-width:8}.s{stroke:#3f7fbf;stroke-width:4;stroke-dasharray:3}\n",
         Piece::StyleEnds =>
             b".x{stroke:#222;stroke-width:5;stroke-dasharray:2 2}.m{stroke:#2d6a4f}\n</style>\n",
         Piece::Page => b"<rect width='100%' height='100%' fill='#fdfcf8'/>\n",
@@ -70,7 +70,7 @@ fn bytes_of(piece: Piece) -> &'static [u8]
         Piece::LegendEvent =>
             b"<path class='e' d='M212 10v18'/><text x='222' y='23'>stopped on an event</text>\n",
         Piece::LegendRequested =>
-            b"<path class='q' d='M372 10v18'/><text x='382' y='23'>stopped on request</text>\n",
+            b"<path class='q' d='M372 10v18'/><text x='382' y='23'>on request</text>\n",
         Piece::LegendAsleep =>
             b"<path class='s' d='M532 10v18'/><text x='542' y='23'>asleep</text>\n",
         Piece::LegendJob =>
