@@ -1,4 +1,5 @@
 pub mod BlockLemmas
+pub mod CellLemmas
 pub mod HistoryLaws
 pub mod LaneLemmas
 pub mod MessageLemmas

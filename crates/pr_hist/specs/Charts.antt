@@ -119,12 +119,23 @@ cell sheet m lane behind label = by sheet.chart
     by (chart.Lanes width) = lanes_cell (cell_width width sheet.lanes) m lane.stand label
     by chart.Picture = picture_cell sheet.row (sheet.lanes - (behind + 1)) m lane.stand label
 
--- the cells of lanes; `passed`: the lane of who acted stands before them
+-- the cell of the first of these lanes; `passed`: the lane of who acted stands before them
+unfoldable pub first_cell : Sheet → Names → Entry → List ℕ → Bool → List Lane → List ℕ
+first_cell sheet names e label passed [] = []
+first_cell sheet names e label passed (lane ∷ rest) =
+    cell sheet (marks_of names e passed lane rest) lane (length rest) label
+
+-- whether the lane of who acted stands before the second of these lanes
+unfoldable pub has_passed : Entry → Bool → List Lane → Bool
+has_passed e passed [] = passed
+has_passed e passed (lane ∷ rest) = passed || is_lane_of e.actor lane
+
+-- the cells of lanes
 unfoldable pub cells : Sheet → Names → Entry → List ℕ → Bool → List Lane → List ℕ
 cells sheet names e label passed [] = []
 cells sheet names e label passed (lane ∷ rest) =
-    cell sheet (marks_of names e passed lane rest) lane (length rest) label
-    ++ cells sheet names e label (passed || is_lane_of e.actor lane) rest
+    first_cell sheet names e label passed (lane ∷ rest)
+    ++ cells sheet names e label (has_passed e passed (lane ∷ rest)) rest
 
 -- the name of a lane above its cells
 unfoldable pub name_cell : Sheet → Lane → ℕ → List ℕ
@@ -134,9 +145,13 @@ name_cell sheet lane behind = by sheet.chart
     by (chart.Lanes width) = fitted 32 (cell_width width sheet.lanes) (actor_text lane.actor)
     by chart.Picture = picture_name (sheet.lanes - (behind + 1)) (actor_text lane.actor)
 
+unfoldable pub first_name : Sheet → List Lane → List ℕ
+first_name sheet [] = []
+first_name sheet (lane ∷ rest) = name_cell sheet lane (length rest)
+
 unfoldable pub name_cells : Sheet → List Lane → List ℕ
 name_cells sheet [] = []
-name_cells sheet (lane ∷ rest) = name_cell sheet lane (length rest) ++ name_cells sheet rest
+name_cells sheet (lane ∷ rest) = first_name sheet (lane ∷ rest) ++ name_cells sheet rest
 
 -- ---- rows
 

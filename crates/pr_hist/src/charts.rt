@@ -1,7 +1,7 @@
 //! Charts of a history: a row an entry, in it a cell a lane, and between cells the messages and the births.
 ghost use Rattle.std.specs.Prelude.{◌≡◌, ◌++◌, ◌+◌, ◌≤◌, ◌<◌, ◌^◌, false, decimal, replicate, OnOk};
 ghost use Rattle.std.specs.List.{list_any};
-ghost use Rattle.pr_hist.specs.Charts.{act_aims, call_aims, cell, cell_width, cells, fill, fitted, foot_text, head_text, is_absent, is_first_target, is_refusal, is_target, known_aims, label_text, lanes_cell, legend, line_text, mark, marks_above, marks_besides, marks_of, name_cell, name_cells, row_text, tip, trimmed};
+ghost use Rattle.pr_hist.specs.Charts.{act_aims, call_aims, cell, cell_width, cells, fill, first_cell, first_name, fitted, foot_text, has_passed, head_text, is_absent, is_first_target, is_refusal, is_target, known_aims, label_text, lanes_cell, legend, line_text, mark, marks_above, marks_besides, marks_of, name_cell, name_cells, row_text, tip, trimmed};
 
 use crate::briefs::write_brief;
 use crate::entries::{words_of, write_actor};
@@ -285,6 +285,41 @@ fn write_cell(
     }
 }
 
+/// The cell of the first of these lanes; `passed`: the lane of who acted stands before them.
+#[tactic(auto, unfolding(crate::specs::Charts::first_cell))]
+fn write_first_cell(
+    alloc: Global,
+    text: &mut Text,
+    sheet: Sheet,
+    names: &ById<Known>,
+    entry: &Entry,
+    label: &[u8],
+    passed: bool,
+    lanes: &[Lane],
+) -> Result<(), NoMemory>
+    ensures { OnOk result (text.new ≡ text.old
+        ++ first_cell sheet names.now entry.now label.now passed lanes.now) }
+{
+    match lanes {
+        [] => Ok(()),
+        [lane, rest @ ..] => {
+            let marks = marks_of(names, entry, passed, lane, rest);
+            write_cell(alloc, text, sheet, marks, lane, rest.len(), label)
+        }
+    }
+}
+
+/// Whether the lane of who acted stands before the second of these lanes.
+#[tactic(auto, unfolding(crate::specs::Charts::has_passed))]
+fn has_passed(entry: &Entry, passed: bool, lanes: &[Lane]) -> bool
+    ensures { result ≡ has_passed entry.now passed lanes.now }
+{
+    match lanes {
+        [] => passed,
+        [lane, ..] => passed || is_lane_of(entry.actor, lane),
+    }
+}
+
 /// The cells of lanes.
 fn write_cells(
     alloc: Global,
@@ -298,12 +333,10 @@ fn write_cells(
     ensures { OnOk result (text.new ≡ text.old ++ cells sheet names.now entry.now label.now false lanes.now) }
 {
     let mut passed = false;
-    let mut left = lanes;
-    'lanes: while let [lane, rest @ ..] = left {
-        let marks = marks_of(names, entry, passed, lane, rest);
-        write_cell(alloc, text, sheet, marks, lane, rest.len(), label)?;
-        passed = passed || is_lane_of(entry.actor, lane);
-        left = rest;
+    for at in 0..lanes.len() {
+        let left = &lanes[at..];
+        write_first_cell(alloc, text, sheet, names, entry, label, passed, left)?;
+        passed = has_passed(entry, passed, left);
     }
     Ok(())
 }
@@ -333,14 +366,28 @@ fn write_name_cell(
     }
 }
 
+/// The name of the first of these lanes.
+#[tactic(auto, unfolding(crate::specs::Charts::first_name))]
+fn write_first_name(
+    alloc: Global,
+    text: &mut Text,
+    sheet: Sheet,
+    lanes: &[Lane],
+) -> Result<(), NoMemory>
+    ensures { OnOk result (text.new ≡ text.old ++ first_name sheet lanes.now) }
+{
+    match lanes {
+        [] => Ok(()),
+        [lane, rest @ ..] => write_name_cell(alloc, text, sheet, lane, rest.len()),
+    }
+}
+
 /// The names of lanes.
 fn write_names(alloc: Global, text: &mut Text, sheet: Sheet, lanes: &[Lane]) -> Result<(), NoMemory>
     ensures { OnOk result (text.new ≡ text.old ++ name_cells sheet lanes.now) }
 {
-    let mut left = lanes;
-    'lanes: while let [lane, rest @ ..] = left {
-        write_name_cell(alloc, text, sheet, lane, rest.len())?;
-        left = rest;
+    for at in 0..lanes.len() {
+        write_first_name(alloc, text, sheet, &lanes[at..])?;
     }
     Ok(())
 }
