@@ -1,5 +1,5 @@
 //! Charts of a history: a row an entry, in it a cell a lane, and between cells the messages and the births.
-ghost use Rattle.std.specs.Prelude.{◌≡◌, ◌++◌, ◌+◌, ◌≤◌, ◌<◌, ◌^◌, false, decimal, replicate, OnOk};
+ghost use Rattle.std.specs.Prelude.{◌≡◌, ◌++◌, ◌+◌, ◌≤◌, ◌<◌, ◌^◌, false, decimal, drop, replicate, OnOk};
 ghost use Rattle.std.specs.List.{list_any};
 ghost use Rattle.pr_hist.specs.Charts.{act_aims, call_aims, cell, cell_width, cells, fill, first_cell, first_name, fitted, foot_text, has_passed, head_text, is_absent, is_first_target, is_refusal, is_target, known_aims, label_text, lanes_cell, legend, line_text, mark, marks_above, marks_besides, marks_of, name_cell, name_cells, row_text, tip, trimmed};
 
@@ -320,6 +320,14 @@ fn has_passed(entry: &Entry, passed: bool, lanes: &[Lane]) -> bool
     }
 }
 
+/// The lanes from a place on.
+#[tactic(auto, using(std::proofs::lemmas::List::drop_min))]
+fn lanes_from(lanes: &[Lane], place: usize) -> &[Lane]
+    ensures { result.now ≡ drop place lanes.now }
+{
+    &lanes[place.min(lanes.len())..]
+}
+
 /// The cells of lanes.
 fn write_cells(
     alloc: Global,
@@ -334,7 +342,7 @@ fn write_cells(
 {
     let mut passed = false;
     for at in 0..lanes.len() {
-        let left = &lanes[at..];
+        let left = lanes_from(lanes, at);
         write_first_cell(alloc, text, sheet, names, entry, label, passed, left)?;
         passed = has_passed(entry, passed, left);
     }
@@ -387,7 +395,7 @@ fn write_names(alloc: Global, text: &mut Text, sheet: Sheet, lanes: &[Lane]) -> 
     ensures { OnOk result (text.new ≡ text.old ++ name_cells sheet lanes.now) }
 {
     for at in 0..lanes.len() {
-        write_first_name(alloc, text, sheet, &lanes[at..])?;
+        write_first_name(alloc, text, sheet, lanes_from(lanes, at))?;
     }
     Ok(())
 }

@@ -13,7 +13,7 @@ loop-at-preserved c =
     record {
       told = rows_from-next c.args.selection at c.loop-at.row _ c.loop-at.names c.note.new.names h entry.now _
           here (search rules) (search rules) c.loop-at.invariant.told;
-      few = omega (arith, c.loop-at.invariant.few, c.row_after.ensures.range);
+      few = omega (arith, c.loop-at.invariant.few, c.row_after-row.ensures.range);
     }
 
 pub returns : goal.returns

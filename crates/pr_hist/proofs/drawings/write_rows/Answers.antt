@@ -14,7 +14,7 @@ loop-at-preserved c =
       told = rows_text-next c.args.chart c.args.selection at c.loop-at.row _ c.loop-at.names c.note.new.names
           c.loop-at.lanes c.move_lanes.new.lanes h entry.now c.loop-at.text c.write_told.new.text _
           here (search rules) (search rules) (search rules) (search rules) c.loop-at.invariant.told;
-      few = omega (arith, c.loop-at.invariant.few, c.row_after.ensures.range);
+      few = omega (arith, c.loop-at.invariant.few, c.row_after-row.ensures.range);
     }
 
 pub returns : goal.returns
