@@ -78,7 +78,7 @@ fn spell<S: Source, K: Sink>(alloc: Global, line: &[u8], source: &mut S, sink: &
     let _ = source;
     match spelled(alloc, line) {
         Ok(answer) => put(sink, answer.text.as_slice(), answer.status),
-        Err(Unread::Failed) => Status::ReadFailed,
+        Err(Unread::Failed) => unreachable!(),
         Err(Unread::NoMemory) => Status::OutOfMemory,
     }
 }
