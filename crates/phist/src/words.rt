@@ -1,6 +1,6 @@
 //! What the words after the program's name ask for.
-ghost use Rattle.std.specs.Prelude.{◌≡◌, ◌==◌, ◌<◌, length, map, position, IfOk, IfSome, option_and_then, option_map, string_bytes};
-ghost use Rattle.phist.specs.Words.{asked_for, begun, cut_at, every, has_width, is_width, joined, lwp_of, operand_by, range_of, ready, waiting, with_flag, with_operand, with_range, with_who, with_width, with_word, with_words, work_of, work_with};
+ghost use Rattle.std.specs.Prelude.{◌≡◌, ◌==◌, ◌<◌, length, map, position, IfOk, IfSome, option_map, string_bytes, Some};
+ghost use Rattle.phist.specs.Words.{asked_for, begun, cut_at, every, has_width, is_width, joined, lwp_of, range_of, ready, waiting, with_flag, with_operand, with_range, with_who, with_width, with_word, with_words, work_of, work_with};
 
 use pr_hist::{Chart, Selection, Text, Who};
 use pr_num::{Bytes, NoMemory};
