@@ -5,11 +5,11 @@ use Rattle.pr_io.specs.Known.{with_end}
 use Rattle.pr_io.specs.Reading.{CameWithin}
 use Rattle.pr_io.specs.Writing.{AppendsFront}
 use Rattle.pr_num.specs.Limits.{checked_limit}
-use Rattle.phist.specs.Answers.{Answered, Took, answer_to, explained}
+use Rattle.phist.specs.Answers.{Answered, Took, answer_to, explained, spelled}
 use Rattle.phist.specs.declared.statuses.Status.{Status}
 use Rattle.phist.specs.declared.statuses.Status.TheVariants.{Done, Usage, Refused, ReadFailed, WriteFailed, OutOfMemory}
 use Rattle.phist.specs.declared.words.Work.{Work}
-use Rattle.phist.specs.declared.words.Work.TheVariants.{Tells, Selects, Explains}
+use Rattle.phist.specs.declared.words.Work.TheVariants.{Tells, Selects, Draws, Spells, Explains}
 
 -- the number with which the process ends
 unfoldable pub number : Status → ℕ
@@ -73,8 +73,17 @@ pub record IsExplained (old new : Ends) (status : Status) : Type 0 where
   pub gives : GivesTo old new explained status
   pub unread : (new.left ≡ old.left) × (new.read_faults ≡ old.read_faults)
 
+-- A line spells bytes, which are written in hex, or it is refused; nothing is read. Memory ran out: nothing was
+-- written.
+pub record SpellsLine (line : List ℕ) (old new : Ends) (status : Status) : Type 0 where
+  pub gives : status ≢ OutOfMemory → GivesTo old new (spelled line) status
+  pub ran_out : status ≡ OutOfMemory → IsUnwritten old new
+  pub unread : (new.left ≡ old.left) × (new.read_faults ≡ old.read_faults)
+
 -- how a call ends that does this work
 abbrev pub EndsAs : Work → Ends → Ends → Status → Type 0
 EndsAs Tells old new status = TellsHistory Tells old new status
 EndsAs (Selects s) old new status = TellsHistory (Selects s) old new status
+EndsAs (Draws c s) old new status = TellsHistory (Draws c s) old new status
+EndsAs (Spells line) old new status = SpellsLine line old new status
 EndsAs Explains old new status = IsExplained old new status

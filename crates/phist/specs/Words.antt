@@ -1,12 +1,19 @@
 -- What the words after the program's name ask for.
-use Rattle.std.specs.Prelude.{ℕ, ◌==◌, ◌+◌, ◌-◌, ◌^◌, Option, Some, None, List, [], ◌∷◌, codes, drop, take, is_none, option_map, option_and_then, position, if◌then◌else◌}
+use Rattle.std.specs.Prelude.{ℕ, ◌==◌, ◌+◌, ◌-◌, ◌^◌, ◌&&◌, Bool, true, false, nat_le, Option, Some, None, List, [], ◌∷◌, codes, drop, take, is_some, option_map, option_and_then, position, if◌then◌else◌}
+use Rattle.std.specs.List.{flat_map}
 use Rattle.std.specs.Str.{bytes_eq}
+use Rattle.pr_hist.specs.declared.charts.Chart.{Chart}
+use Rattle.pr_hist.specs.declared.charts.Chart.TheVariants.{Lanes, Picture}
 use Rattle.pr_hist.specs.declared.selections.Selection.{Selection}
 use Rattle.pr_hist.specs.declared.selections.Who.{Who}
 use Rattle.pr_hist.specs.declared.selections.Who.TheVariants.{Controller, Process, Lwp}
 use Rattle.pr_text.specs.NumberWords.{id_of, number_of}
+use Rattle.pr_hist.specs.Texts.{spaced_text}
+use Rattle.phist.specs.declared.words.Asking.{Asking}
+use Rattle.phist.specs.declared.words.Opt.{Opt}
+use Rattle.phist.specs.declared.words.Opt.TheVariants as opt
 use Rattle.phist.specs.declared.words.Work.{Work}
-use Rattle.phist.specs.declared.words.Work.TheVariants.{Tells, Selects, Explains}
+use Rattle.phist.specs.declared.words.Work.TheVariants.{Tells, Selects, Draws, Spells, Explains}
 
 -- what stands before and behind the first byte of a kind, where there is one
 abbrev pub around : List ℕ → Option ℕ → Option (List ℕ × List ℕ)
@@ -40,35 +47,102 @@ range_by (Some ends) = range_with (number_of ends.0) (number_of ends.1)
 unfoldable pub range_of : List ℕ → Option (ℕ × ℕ)
 range_of w = range_by (cut_at 45 w)
 
+-- options, none of which awaits its operand, with this selection
+abbrev pub ready : Asking → Selection → Asking
+ready a s = record { chart = a.chart; selection = s; opt = None }
+
 -- whose entries are told; once one is named, no other may be
-abbrev pub with_who : Selection → Option Who → Option Selection
-with_who s None = None
-with_who s (Some w) = if is_none s.who then Some (record s { who = Some w }) else None
+abbrev pub with_who : Asking → Option Who → Option Asking
+with_who a None = None
+with_who a (Some w) =
+    if is_some a.selection.who then None else Some (ready a (record a.selection { who = Some w }))
 
-abbrev pub with_range : Selection → Option (ℕ × ℕ) → Option Selection
-with_range s None = None
-with_range s (Some ends) = Some (record s { from = ends.0; to = ends.1 })
+abbrev pub with_range : Asking → Option (ℕ × ℕ) → Option Asking
+with_range a None = None
+with_range a (Some ends) = Some (ready a (record a.selection { from = ends.0; to = ends.1 }))
 
--- a selection with one more option and its operand, a row an option
-unfoldable pub with_option : Selection → List ℕ → List ℕ → Option Selection
-with_option s o v =
-    if bytes_eq o (codes "-p") then with_who s (option_map Process (id_of v))
-    else (if bytes_eq o (codes "-c") then with_who s (option_map Controller (id_of v))
-    else (if bytes_eq o (codes "-l") then with_who s (lwp_of v)
-    else (if bytes_eq o (codes "-n") then with_range s (range_of v)
-    else None)))
+-- whether lines may be so wide
+unfoldable pub is_width : ℕ → Bool
+is_width n = nat_le 20 n && nat_le n 1000
+
+abbrev pub with_width : Asking → Option ℕ → Option Asking
+with_width a None = None
+with_width a (Some n) =
+    if is_width n then Some (record { chart = Some (Lanes n); selection = a.selection; opt = None }) else None
+
+-- an option with its operand, a row an option
+unfoldable pub with_operand : Asking → Opt → List ℕ → Option Asking
+with_operand a opt.Process w = with_who a (option_map Process (id_of w))
+with_operand a opt.Controller w = with_who a (option_map Controller (id_of w))
+with_operand a opt.Lwp w = with_who a (lwp_of w)
+with_operand a opt.Numbers w = with_range a (range_of w)
+with_operand a opt.Width w = with_width a (number_of w)
+
+abbrev pub waiting : Asking → Opt → Asking
+waiting a o = record { chart = a.chart; selection = a.selection; opt = Some o }
+
+-- whether lines are drawn, which have a width
+abbrev pub has_width : Option Chart → Bool
+has_width None = false
+has_width (Some (Lanes n)) = true
+has_width (Some Picture) = false
+
+-- an option; those but -v have an operand
+unfoldable pub with_flag : Asking → List ℕ → Option Asking
+with_flag a w =
+    if bytes_eq w (codes "-v") then Some (ready a (record a.selection { full = true }))
+    else (if bytes_eq w (codes "-p") then Some (waiting a opt.Process)
+    else (if bytes_eq w (codes "-c") then Some (waiting a opt.Controller)
+    else (if bytes_eq w (codes "-l") then Some (waiting a opt.Lwp)
+    else (if bytes_eq w (codes "-n") then Some (waiting a opt.Numbers)
+    else (if bytes_eq w (codes "-w") && has_width a.chart then Some (waiting a opt.Width)
+    else None)))))
+
+-- one word more
+abbrev pub word_by : Asking → List ℕ → Option Opt → Option Asking
+word_by a w None = with_flag a w
+word_by a w (Some o) = with_operand a o w
+
+unfoldable pub with_word : Asking → List ℕ → Option Asking
+with_word a w = word_by a w a.opt
+
+unfoldable pub with_words : Asking → List (List ℕ) → Option Asking
+with_words a [] = Some a
+with_words a (w ∷ ws) = option_and_then (λ b. with_words b ws) (with_word a w)
 
 -- every entry
 abbrev pub every : Selection
-every = record { who = None; from = 0; to = 2 ^ 64 - 1 }
+every = record { who = None; from = 0; to = 2 ^ 64 - 1; full = false }
 
-abbrev pub selects : Option Selection → Work
-selects None = Explains
-selects (Some s) = Selects s
+-- before the first option
+abbrev pub begun : Option Chart → Asking
+begun c = record { chart = c; selection = every; opt = None }
 
--- No words: the whole history is told. One option, or two: a part of it. Other words ask for nothing.
+-- what options ask for, none of which may await its operand
+abbrev pub work_by : Selection → Option Opt → Option Chart → Work
+work_by s (Some o) c = Explains
+work_by s None None = Selects s
+work_by s None (Some c) = Draws c s
+
+abbrev pub work_with : Option Asking → Work
+work_with None = Explains
+work_with (Some a) = work_by a.selection a.opt a.chart
+
+-- what options ask for, with this chart or with words
+unfoldable pub asked_for : Option Chart → List (List ℕ) → Work
+asked_for c ws = work_with (with_words (begun c) ws)
+
+-- words on a line, each behind a blank; + parts words as a blank does
+abbrev pub joined : List (List ℕ) → List ℕ
+joined ws = flat_map spaced_text ws
+
+-- No words: the whole history is told. `bytes` and words: the bytes that they spell. `lanes`, `svg` and options: a chart
+-- of the history or of a part of it. Options alone: a part of it, or all of it with all fields. Other words ask for
+-- nothing.
 unfoldable pub work_of : List (List ℕ) → Work
 work_of [] = Tells
-work_of (o ∷ v ∷ []) = selects (with_option every o v)
-work_of (o ∷ v ∷ p ∷ w ∷ []) = selects (option_and_then (λ s. with_option s p w) (with_option every o v))
-work_of _ = Explains
+work_of (w ∷ ws) =
+    if bytes_eq w (codes "bytes") then Spells (joined ws)
+    else (if bytes_eq w (codes "lanes") then asked_for (Some (Lanes 80)) ws
+    else (if bytes_eq w (codes "svg") then asked_for (Some Picture) ws
+    else asked_for None (w ∷ ws)))

@@ -3,12 +3,12 @@ ghost use Rattle.std.specs.Prelude.{◌≡◌, ◌≢◌, ◌≤◌, Err, ◌+�
 ghost use Rattle.pr_num.specs.Limits.{checked_limit};
 ghost use Rattle.pr_output.specs.Output.{refusal_text};
 ghost use Rattle.pr_plain.specs.EntryReading.{history_of};
-ghost use Rattle.phist.specs.Answers.{IsAnswerStatus, answer_of, answer_to, refused_at, told, told_text};
+ghost use Rattle.phist.specs.Answers.{IsAnswerStatus, answer_of, answer_to, drawn_or, in_words, refused_at, spelled, spelled_or, told, told_text};
 
 use crate::inputs::Unread;
 use crate::statuses::Status;
 use crate::words::Work;
-use pr_hist::{Text, selected_text, text_of};
+use pr_hist::{Text, bytes_of_line, chart_of, selected_text, text_of};
 use pr_model::History;
 use pr_num::{Bytes, NoMemory};
 use pr_plain::{HistRefusal, read_history};
@@ -49,20 +49,42 @@ fn refuse(alloc: Global, line: u32, kind: &[u8]) -> Result<Answer, NoMemory>
 
 /// What is told of a history.
 #[tactic(auto, unfolding(crate::specs::Answers::told_text))]
-fn told_text(alloc: Global, work: Work, history: &History) -> Result<Bytes, NoMemory>
-    ensures { IfOk result (λ text. text ≡ told_text work history.now.entries) }
+fn told_text(alloc: Global, work: &Work, history: &History) -> Result<Bytes, NoMemory>
+    ensures { IfOk result (λ text. text ≡ told_text work.now history.now.entries) }
 {
     match work {
         Work::Tells => text_of(alloc, history),
-        Work::Selects(selection) => selected_text(alloc, selection, history),
-        Work::Explains => Ok(Bytes::new(alloc)),
+        Work::Selects(selection) => selected_text(alloc, *selection, history),
+        Work::Draws(_, _) | Work::Spells(_) | Work::Explains => Ok(Bytes::new(alloc)),
+    }
+}
+
+/// A chart, or that there are too many rows for it.
+#[tactic(auto, unfolding(crate::specs::Answers::drawn_or))]
+fn drawn_or(alloc: Global, text: Option<Bytes>) -> Result<Answer, NoMemory>
+    ensures answer { IfOk result (λ a. record { status = a.status; text = a.text } ≡ drawn_or text) }
+    ensures status { IfOk result (λ a. IsAnswerStatus a.status) }
+{
+    match text {
+        None => {
+            let mut text = Text::new(alloc)?;
+            text.text(b"more than 5,000 entries: take a part by -n FROM-TO\n")?;
+            Ok(Answer {
+                status: Status::Refused,
+                text: text.into_bytes(),
+            })
+        }
+        Some(text) => Ok(Answer {
+            status: Status::Done,
+            text,
+        }),
     }
 }
 
 /// The history in words.
-#[tactic(auto, unfolding(crate::specs::Answers::told))]
-fn tell(alloc: Global, work: Work, history: &History) -> Result<Answer, NoMemory>
-    ensures answer { IfOk result (λ a. record { status = a.status; text = a.text } ≡ told work history.now.entries) }
+#[tactic(auto, unfolding(crate::specs::Answers::in_words))]
+fn tell_in_words(alloc: Global, work: &Work, history: &History) -> Result<Answer, NoMemory>
+    ensures answer { IfOk result (λ a. record { status = a.status; text = a.text } ≡ in_words work.now history.now.entries) }
     ensures status { IfOk result (λ a. IsAnswerStatus a.status) }
 {
     let text = told_text(alloc, work, history)?;
@@ -72,13 +94,30 @@ fn tell(alloc: Global, work: Work, history: &History) -> Result<Answer, NoMemory
     })
 }
 
+/// What is answered to a history.
+#[tactic(auto, unfolding(crate::specs::Answers::told))]
+fn tell(alloc: Global, work: &Work, history: &History) -> Result<Answer, NoMemory>
+    ensures answer { IfOk result (λ a. record { status = a.status; text = a.text } ≡ told work.now history.now.entries) }
+    ensures status { IfOk result (λ a. IsAnswerStatus a.status) }
+{
+    match work {
+        Work::Draws(chart, selection) => {
+            let text = chart_of(alloc, *chart, *selection, history)?;
+            drawn_or(alloc, text)
+        }
+        Work::Tells | Work::Selects(_) | Work::Spells(_) | Work::Explains => {
+            tell_in_words(alloc, work, history)
+        }
+    }
+}
+
 /// The answer to a text.
-fn answer_to_text(alloc: Global, work: Work, text: &[u8]) -> Result<Answer, Unread>
+fn answer_to_text(alloc: Global, work: &Work, text: &[u8]) -> Result<Answer, Unread>
     requires { length text.now ≤ checked_limit }
     ensures memory { result ≢ Err Unread.Failed }
     ensures status { IfOk result (λ a. IsAnswerStatus a.status) }
     ensures answer { IfOk result (λ a.
-        record { status = a.status; text = a.text } ≡ answer_of work (history_of 1 text.now)) }
+        record { status = a.status; text = a.text } ≡ answer_of work.now (history_of 1 text.now)) }
 {
     match read_history(alloc, text, 1) {
         Ok(history) => Ok(tell(alloc, work, &history)?),
@@ -89,14 +128,51 @@ fn answer_to_text(alloc: Global, work: Work, text: &[u8]) -> Result<Answer, Unre
 
 /// The answer to an input.
 #[tactic(auto, unfolding(crate::specs::Answers::answer_to))]
-pub fn answer_to(alloc: Global, work: Work, input: Option<Bytes>) -> Result<Answer, Unread>
+pub fn answer_to(alloc: Global, work: &Work, input: Option<Bytes>) -> Result<Answer, Unread>
     requires { IfSome input (λ bytes. length bytes ≤ checked_limit) }
     ensures memory { result ≢ Err Unread.Failed }
     ensures status { IfOk result (λ a. IsAnswerStatus a.status) }
-    ensures answer { IfOk result (λ a. record { status = a.status; text = a.text } ≡ answer_to work input) }
+    ensures answer { IfOk result (λ a. record { status = a.status; text = a.text } ≡ answer_to work.now input) }
 {
     match input {
         None => Ok(refuse(alloc, 0, b"TooLong")?),
         Some(bytes) => answer_to_text(alloc, work, bytes.as_slice()),
     }
+}
+
+/// The digits of bytes, or that there are none.
+#[tactic(auto, unfolding(crate::specs::Answers::spelled_or))]
+fn spelled_or(alloc: Global, bytes: Option<Bytes>) -> Result<Answer, NoMemory>
+    ensures answer { IfOk result (λ a. record { status = a.status; text = a.text } ≡ spelled_or bytes) }
+    ensures status { IfOk result (λ a. IsAnswerStatus a.status) }
+{
+    let mut text = Text::new(alloc)?;
+    match bytes {
+        None => {
+            text.text(b"neither an instruction nor a control message\n")?;
+            Ok(Answer {
+                status: Status::Refused,
+                text: text.into_bytes(),
+            })
+        }
+        Some(bytes) => {
+            text.hex_bytes(bytes.as_slice())?;
+            text.text(b"\n")?;
+            Ok(Answer {
+                status: Status::Done,
+                text: text.into_bytes(),
+            })
+        }
+    }
+}
+
+/// The bytes that a line spells, in hex.
+#[tactic(auto, unfolding(crate::specs::Answers::spelled))]
+pub fn spelled(alloc: Global, line: &[u8]) -> Result<Answer, Unread>
+    ensures memory { result ≢ Err Unread.Failed }
+    ensures answer { IfOk result (λ a. record { status = a.status; text = a.text } ≡ spelled line.now) }
+    ensures status { IfOk result (λ a. IsAnswerStatus a.status) }
+{
+    let bytes = bytes_of_line(alloc, line)?;
+    Ok(spelled_or(alloc, bytes)?)
 }

@@ -7,7 +7,7 @@ mod statuses;
 mod telling;
 mod words;
 
-ghost use Rattle.std.specs.Prelude.{◌≡◌, ◌≢◌, drop, map, string_bytes, IfOk, IfErr, IsErr};
+ghost use Rattle.std.specs.Prelude.{◌≡◌, ◌≢◌, drop, map, string_bytes, IfOk, IfErr, IfSome, None, Some};
 ghost use Rattle.std.specs.IoError.{error_kind};
 ghost use Rattle.std.specs.Vec.Iter.{into_iter_items};
 ghost use Rattle.phist.specs.Words.{work_of};
@@ -30,31 +30,29 @@ fn words_after_name(alloc: Global, arguments: Args) -> Result<Vec<String>, Alloc
     arguments.skip(1).collect(alloc)
 }
 
-// What a program is asked for that was given these arguments, or was not for this error. An argument that is no text
-// asks for nothing.
-fn work_for(alloc: Global, given: io::Result<Args>) -> io::Result<Work>
+// What a program is asked for that was given these arguments, or was not for this error; `None` where memory ran out.
+// An argument that is no text asks for nothing.
+fn work_for(alloc: Global, given: io::Result<Args>) -> Option<Work>
     ensures words { IfOk given (λ arguments.
-        IfOk result (λ work. work ≡ work_of (map string_bytes (drop 1 (into_iter_items arguments))))) }
-    ensures no_text { IfErr given (λ error.
-        error_kind error ≢ OutOfMemory → IfOk result (λ work. work ≡ Work.Explains)) }
-    ensures ran_out { IfErr given (λ error. error_kind error ≡ OutOfMemory → IsErr result) }
-    ensures memory { IfErr result (λ error. error_kind error ≡ OutOfMemory) }
+        IfSome result (λ work. work ≡ work_of (map string_bytes (drop 1 (into_iter_items arguments))))) }
+    ensures no_text { IfErr given (λ error. error_kind error ≢ OutOfMemory → result ≡ Some Work.Explains) }
+    ensures ran_out { IfErr given (λ error. error_kind error ≡ OutOfMemory → result ≡ None) }
 {
     match given {
         Ok(arguments) => {
-            let words = words_after_name(alloc, arguments)?;
-            Ok(work_of(&words))
+            let words = words_after_name(alloc, arguments).ok()?;
+            work_of(alloc, &words).ok()
         }
-        Err(error) if error.kind() == ErrorKind::OutOfMemory => Err(error),
-        Err(_) => Ok(Work::Explains),
+        Err(error) if error.kind() == ErrorKind::OutOfMemory => None,
+        Err(_) => Some(Work::Explains),
     }
 }
 
 fn main(rt: HostRuntime) -> ExitCode {
-    let Ok(work) = work_for(rt.alloc(), env::args(&rt)) else {
+    let Some(work) = work_for(rt.alloc(), env::args(&rt)) else {
         return ExitCode::from(number(Status::OutOfMemory));
     };
     let mut source = StdSource::new(rt.stdin());
     let mut sink = StdSink::new(rt.stdout());
-    ExitCode::from(number(serve(rt.alloc(), work, &mut source, &mut sink)))
+    ExitCode::from(number(serve(rt.alloc(), &work, &mut source, &mut sink)))
 }

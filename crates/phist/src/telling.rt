@@ -4,9 +4,9 @@ ghost use Rattle.pr_io.specs.Faults.{Rose};
 ghost use Rattle.pr_io.specs.Reading.{CameWithin};
 ghost use Rattle.pr_num.specs.Limits.{checked_limit};
 ghost use Rattle.phist.specs.Answers.{Answers, IsAnswerStatus, usage_line};
-ghost use Rattle.phist.specs.Telling.{EndsAs, Gives, IsExplained, TellsHistory, ends_of};
+ghost use Rattle.phist.specs.Telling.{EndsAs, Gives, IsExplained, SpellsLine, TellsHistory, ends_of};
 
-use crate::answers::{Answer, answer_to};
+use crate::answers::{Answer, answer_to, spelled};
 use crate::inputs::{Unread, take_input};
 use crate::statuses::Status;
 use crate::words::Work;
@@ -18,7 +18,7 @@ use std::alloc::Global;
 fn usage_line() -> &'static [u8]
     ensures { result.now ≡ usage_line }
 {
-    b"usage: phist [-p PID | -c K | -l P/L] [-n FROM-TO]\n"
+    b"usage: phist [lanes [-w WIDTH] | svg] [-v] [-p PID | -c K | -l P/L] [-n FROM-TO] | bytes TEXT\n"
 }
 
 /// Writes a text, and ends with a status. Takes no memory.
@@ -35,8 +35,8 @@ fn put<K: Sink>(sink: &mut K, text: &[u8], status: Status) -> Status
 }
 
 /// The answer to what the source has.
-fn answer_source<S: Source>(alloc: Global, work: Work, source: &mut S) -> Result<Answer, Unread>
-    ensures answer { IfOk result (λ a. Answers work checked_limit (S.left source.old) (S.left source.new)
+fn answer_source<S: Source>(alloc: Global, work: &Work, source: &mut S) -> Result<Answer, Unread>
+    ensures answer { IfOk result (λ a. Answers work.now checked_limit (S.left source.old) (S.left source.new)
         (record { status = a.status; text = a.text })) }
     ensures status { IfOk result (λ a. IsAnswerStatus a.status) }
     ensures failed { result ≡ Err Unread.Failed → Rose (S.faults source.old) (S.faults source.new) }
@@ -49,8 +49,8 @@ fn answer_source<S: Source>(alloc: Global, work: Work, source: &mut S) -> Result
 }
 
 /// Tells the history of the source in words, or names the first line that is wrong.
-fn tell<S: Source, K: Sink>(alloc: Global, work: Work, source: &mut S, sink: &mut K) -> Status
-    ensures { TellsHistory work (ends_of S.left S.faults K.written K.faults source.old sink.old)
+fn tell<S: Source, K: Sink>(alloc: Global, work: &Work, source: &mut S, sink: &mut K) -> Status
+    ensures { TellsHistory work.now (ends_of S.left S.faults K.written K.faults source.old sink.old)
         (ends_of S.left S.faults K.written K.faults source.new sink.new) result }
 {
     match answer_source(alloc, work, source) {
@@ -70,17 +70,34 @@ fn explain<S: Source, K: Sink>(source: &mut S, sink: &mut K) -> Status
     put(sink, usage_line(), Status::Usage)
 }
 
-/// Tells the history of the source in words, all of it or a part, or writes how the program is called.
+/// Writes the bytes that a line spells, in hex.
+fn spell<S: Source, K: Sink>(alloc: Global, line: &[u8], source: &mut S, sink: &mut K) -> Status
+    ensures { SpellsLine line.now (ends_of S.left S.faults K.written K.faults source.old sink.old)
+        (ends_of S.left S.faults K.written K.faults source.new sink.new) result }
+{
+    let _ = source;
+    match spelled(alloc, line) {
+        Ok(answer) => put(sink, answer.text.as_slice(), answer.status),
+        Err(Unread::Failed) => unreachable!(),
+        Err(Unread::NoMemory) => Status::OutOfMemory,
+    }
+}
+
+/// Tells the history of the source in words or draws it, all of it or a part, writes the bytes that a line spells,
+/// or writes how the program is called.
 ///
 /// Status 0: it was told, a block for each entry, in their order. Status 1: the words ask for nothing. Status 2: the
-/// first line that is wrong was named. Status 5, 6 and 7: a read or a write failed, or memory ran out.
-pub fn serve<S: Source, K: Sink>(alloc: Global, work: Work, source: &mut S, sink: &mut K) -> Status
-    ensures { EndsAs work (ends_of S.left S.faults K.written K.faults source.old sink.old)
+/// first line that is wrong was named, there were too many entries for a picture, or the line spells no bytes. Status 5,
+/// 6 and 7: a read or a write failed, or memory ran out.
+pub fn serve<S: Source, K: Sink>(alloc: Global, work: &Work, source: &mut S, sink: &mut K) -> Status
+    ensures { EndsAs work.now (ends_of S.left S.faults K.written K.faults source.old sink.old)
         (ends_of S.left S.faults K.written K.faults source.new sink.new) result }
 {
     match work {
         Work::Tells => tell(alloc, work, source, sink),
         Work::Selects(_) => tell(alloc, work, source, sink),
+        Work::Draws(_, _) => tell(alloc, work, source, sink),
+        Work::Spells(line) => spell(alloc, line.as_slice(), source, sink),
         Work::Explains => explain(source, sink),
     }
 }

@@ -1,19 +1,50 @@
 //! What the words after the program's name ask for.
-ghost use Rattle.std.specs.Prelude.{◌≡◌, ◌==◌, ◌<◌, length, map, position, IfSome, option_and_then, option_map, string_bytes};
-ghost use Rattle.phist.specs.Words.{cut_at, every, lwp_of, range_of, selects, with_option, with_range, with_who, work_of};
+ghost use Rattle.std.specs.Prelude.{◌≡◌, ◌==◌, ◌<◌, length, map, position, IfOk, IfSome, option_map, string_bytes, Some};
+ghost use Rattle.phist.specs.Words.{asked_for, begun, cut_at, every, has_width, is_width, joined, lwp_of, range_of, ready, waiting, with_flag, with_operand, with_range, with_who, with_width, with_word, with_words, work_of, work_with};
 
-use pr_hist::{Selection, Who};
+use pr_hist::{Chart, Selection, Text, Who};
+use pr_num::{Bytes, NoMemory};
 use pr_text::{id_of, number_of};
+use std::alloc::Global;
 
 /// What words ask for.
-#[derive(Clone, Copy, Debug, PartialEq, Eq)]
+#[derive(Drop)]
 pub enum Work {
     /// The whole history is told.
     Tells,
-    /// A part of it is.
+    /// A part of it is, or all of it with all fields.
     Selects(Selection),
+    /// It is drawn as a chart, all of it or a part.
+    Draws(Chart, Selection),
+    /// The bytes that this line spells are written.
+    Spells(Bytes),
     /// They ask for nothing, and get the usage line.
     Explains,
+}
+
+/// An option whose operand is still to come.
+#[derive(Clone, Copy, Debug, PartialEq, Eq)]
+pub enum Opt {
+    /// `-p`
+    Process,
+    /// `-c`
+    Controller,
+    /// `-l`
+    Lwp,
+    /// `-n`
+    Numbers,
+    /// `-w`
+    Width,
+}
+
+/// What options ask for, as far as they were read.
+#[derive(Clone, Copy, Debug, PartialEq, Eq)]
+pub struct Asking {
+    /// The chart that is to be drawn; `None`: words are.
+    pub chart: Option<Chart>,
+    pub selection: Selection,
+    /// The option that awaits its operand.
+    pub opt: Option<Opt>,
 }
 
 /// The place of the first byte of a kind.
@@ -57,55 +88,148 @@ fn range_of(word: &[u8]) -> Option<(u64, u64)>
     Some((from, to))
 }
 
+/// The options so far, with this selection.
+fn ready(asking: Asking, selection: Selection) -> Option<Asking>
+    ensures { result ≡ Some (ready asking selection) }
+{
+    Some(Asking {
+        chart: asking.chart,
+        selection,
+        opt: None,
+    })
+}
+
 /// Whose entries are told; once one is named, no other may be.
-fn with_who(selection: Selection, who: Option<Who>) -> Option<Selection>
-    ensures { result ≡ with_who selection who }
+fn with_who(asking: Asking, who: Option<Who>) -> Option<Asking>
+    ensures { result ≡ with_who asking who }
 {
-    match who {
-        None => None,
-        Some(who) => {
-            if selection.who.is_none() {
-                Some(Selection {
-                    who: Some(who),
-                    from: selection.from,
-                    to: selection.to,
-                })
-            } else {
-                None
-            }
-        }
+    let who = who?;
+    if asking.selection.who.is_some() {
+        return None;
+    }
+    let selection = Selection {
+        who: Some(who),
+        ..asking.selection
+    };
+    ready(asking, selection)
+}
+
+fn with_range(asking: Asking, range: Option<(u64, u64)>) -> Option<Asking>
+    ensures { result ≡ with_range asking range }
+{
+    let (from, to) = range?;
+    let selection = Selection {
+        from,
+        to,
+        ..asking.selection
+    };
+    ready(asking, selection)
+}
+
+/// Whether lines may be so wide.
+#[tactic(auto, unfolding(crate::specs::Words::is_width))]
+fn is_width(width: u64) -> bool
+    ensures { result ≡ is_width width }
+{
+    20 <= width && width <= 1_000
+}
+
+fn with_width(asking: Asking, width: Option<u64>) -> Option<Asking>
+    ensures { result ≡ with_width asking width }
+{
+    let width = width?;
+    if !is_width(width) {
+        return None;
+    }
+    Some(Asking {
+        chart: Some(Chart::Lanes(width)),
+        selection: asking.selection,
+        opt: None,
+    })
+}
+
+/// An option with its operand.
+#[tactic(auto, unfolding(crate::specs::Words::with_operand))]
+fn with_operand(asking: Asking, opt: Opt, word: &[u8]) -> Option<Asking>
+    ensures { result ≡ with_operand asking opt word.now }
+{
+    match opt {
+        Opt::Process => with_who(asking, id_of(word).map(|pid| Who::Process(pid))),
+        Opt::Controller => with_who(asking, id_of(word).map(|k| Who::Controller(k))),
+        Opt::Lwp => with_who(asking, lwp_of(word)),
+        Opt::Numbers => with_range(asking, range_of(word)),
+        Opt::Width => with_width(asking, number_of(word)),
     }
 }
 
-fn with_range(selection: Selection, range: Option<(u64, u64)>) -> Option<Selection>
-    ensures { result ≡ with_range selection range }
+fn waiting(asking: Asking, opt: Opt) -> Option<Asking>
+    ensures { result ≡ Some (waiting asking opt) }
 {
-    match range {
-        None => None,
-        Some((from, to)) => Some(Selection {
-            who: selection.who,
-            from,
-            to,
-        }),
+    Some(Asking {
+        chart: asking.chart,
+        selection: asking.selection,
+        opt: Some(opt),
+    })
+}
+
+/// Whether lines are drawn, which have a width.
+fn has_width(chart: Option<Chart>) -> bool
+    ensures { result ≡ has_width chart }
+{
+    match chart {
+        Some(Chart::Lanes(_)) => true,
+        Some(Chart::Picture) => false,
+        None => false,
     }
 }
 
-/// A selection with one more option and its operand.
-#[tactic(auto, unfolding(crate::specs::Words::with_option))]
-fn with_option(selection: Selection, option: &[u8], operand: &[u8]) -> Option<Selection>
-    ensures { result ≡ with_option selection option.now operand.now }
+/// An option; those but `-v` have an operand.
+#[tactic(auto, unfolding(crate::specs::Words::with_flag))]
+fn with_flag(asking: Asking, word: &[u8]) -> Option<Asking>
+    ensures { result ≡ with_flag asking word.now }
 {
-    if option == b"-p".as_slice() {
-        with_who(selection, id_of(operand).map(|pid| Who::Process(pid)))
-    } else if option == b"-c".as_slice() {
-        with_who(selection, id_of(operand).map(|k| Who::Controller(k)))
-    } else if option == b"-l".as_slice() {
-        with_who(selection, lwp_of(operand))
-    } else if option == b"-n".as_slice() {
-        with_range(selection, range_of(operand))
+    if word == b"-v".as_slice() {
+        let selection = Selection {
+            full: true,
+            ..asking.selection
+        };
+        ready(asking, selection)
+    } else if word == b"-p".as_slice() {
+        waiting(asking, Opt::Process)
+    } else if word == b"-c".as_slice() {
+        waiting(asking, Opt::Controller)
+    } else if word == b"-l".as_slice() {
+        waiting(asking, Opt::Lwp)
+    } else if word == b"-n".as_slice() {
+        waiting(asking, Opt::Numbers)
+    } else if word == b"-w".as_slice() && has_width(asking.chart) {
+        waiting(asking, Opt::Width)
     } else {
         None
     }
+}
+
+/// One word more.
+#[tactic(auto, unfolding(crate::specs::Words::with_word))]
+fn with_word(asking: Asking, word: &[u8]) -> Option<Asking>
+    ensures { result ≡ with_word asking word.now }
+{
+    match asking.opt {
+        None => with_flag(asking, word),
+        Some(opt) => with_operand(asking, opt, word),
+    }
+}
+
+/// All words of a list.
+#[tactic(auto, unfolding(crate::specs::Words::with_words))]
+fn with_words(asking: Asking, words: &[String]) -> Option<Asking>
+    ensures { result ≡ with_words asking (map string_bytes words.now) }
+{
+    let mut asking = asking;
+    for word in words {
+        asking = with_word(asking, word.as_str().as_bytes())?;
+    }
+    Some(asking)
 }
 
 /// Every entry.
@@ -116,36 +240,77 @@ fn every() -> Selection
         who: None,
         from: 0,
         to: u64::MAX,
+        full: false,
     }
 }
 
-fn selects(selection: Option<Selection>) -> Work
-    ensures { result ≡ selects selection }
+fn begun(chart: Option<Chart>) -> Asking
+    ensures { result ≡ begun chart }
 {
-    match selection {
+    Asking {
+        chart,
+        selection: every(),
+        opt: None,
+    }
+}
+
+/// What options ask for, none of which may await its operand.
+fn work_with(asking: Option<Asking>) -> Work
+    ensures { result ≡ work_with asking }
+{
+    match asking {
         None => Work::Explains,
-        Some(selection) => Work::Selects(selection),
+        Some(asking) => match (asking.opt, asking.chart) {
+            (Some(_), _) => Work::Explains,
+            (None, None) => Work::Selects(asking.selection),
+            (None, Some(chart)) => Work::Draws(chart, asking.selection),
+        },
     }
 }
 
-/// A selection by two options.
-fn by_two(option: &str, operand: &str, second: &str, operand_of_second: &str) -> Option<Selection>
-    ensures { result ≡ option_and_then (λ s. with_option s second.now operand_of_second.now)
-        (with_option every option.now operand.now) }
+/// What options ask for, with this chart or with words.
+#[tactic(auto, unfolding(crate::specs::Words::asked_for))]
+fn asked_for(chart: Option<Chart>, words: &[String]) -> Work
+    ensures { result ≡ asked_for chart (map string_bytes words.now) }
 {
-    let selection = with_option(every(), option.as_bytes(), operand.as_bytes())?;
-    with_option(selection, second.as_bytes(), operand_of_second.as_bytes())
+    work_with(with_words(begun(chart), words))
+}
+
+/// Words on a line, each behind a blank; `+` parts words as a blank does.
+fn joined(alloc: Global, words: &[String]) -> Result<Bytes, NoMemory>
+    ensures { IfOk result (λ line. line ≡ joined (map string_bytes words.now)) }
+{
+    let mut line = Text::new(alloc)?;
+    for word in words {
+        line.spaced(word.as_str().as_bytes())?;
+    }
+    Ok(line.into_bytes())
+}
+
+fn spells(alloc: Global, words: &[String]) -> Result<Work, NoMemory>
+    ensures { IfOk result (λ work. work ≡ Work.Spells (joined (map string_bytes words.now))) }
+{
+    let line = joined(alloc, words)?;
+    Ok(Work::Spells(line))
 }
 
 /// What words ask for.
 #[tactic(auto, unfolding(crate::specs::Words::work_of))]
-pub fn work_of(words: &[String]) -> Work
-    ensures { result ≡ work_of (map string_bytes words.now) }
+pub fn work_of(alloc: Global, words: &[String]) -> Result<Work, NoMemory>
+    ensures { IfOk result (λ work. work ≡ work_of (map string_bytes words.now)) }
 {
     match words {
-        [] => Work::Tells,
-        [o, v] => selects(with_option(every(), o.as_str().as_bytes(), v.as_str().as_bytes())),
-        [o, v, p, w] => selects(by_two(o.as_str(), v.as_str(), p.as_str(), w.as_str())),
-        _ => Work::Explains,
+        [] => Ok(Work::Tells),
+        [first, rest @ ..] => {
+            if first.as_str().as_bytes() == b"bytes".as_slice() {
+                spells(alloc, rest)
+            } else if first.as_str().as_bytes() == b"lanes".as_slice() {
+                Ok(asked_for(Some(Chart::Lanes(80)), rest))
+            } else if first.as_str().as_bytes() == b"svg".as_slice() {
+                Ok(asked_for(Some(Chart::Picture), rest))
+            } else {
+                Ok(asked_for(None, words))
+            }
+        }
     }
 }

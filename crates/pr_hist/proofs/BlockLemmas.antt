@@ -1,5 +1,5 @@
 -- The blocks of entries, told one after another.
-use Rattle.std.proofs.Common.{◌≡◌, ℕ, ◌+◌, ◌≤◌, List, [], ◌++◌, Option, Some, length, drop, Bor, sym, ap, ◌∙◌, append_assoc, arith}
+use Rattle.std.proofs.Common.{◌≡◌, ℕ, ◌+◌, ◌≤◌, false, List, [], ◌++◌, Option, Some, length, drop, Bor, sym, ap, ◌∙◌, append_assoc, arith}
 use Rattle.std.proofs.lemmas.List.{append-nil, length-drop, nil_from_length}
 use Rattle.std.specs.List.{slice_get}
 use Rattle.std.specs.Option.{option_copied}
@@ -16,23 +16,23 @@ pub entry_found : (at : Option (Bor Entry)) (h : List Entry) (i : ℕ) (e : Bor 
 entry_found at h i e is found = sym found ∙ ap option_copied is
 
 -- nothing is left from the end on
-drop-past : (i : ℕ) (h : List Entry) → length h ≤ i → drop i h ≡ []
+pub drop-past : (i : ℕ) (h : List Entry) → length h ≤ i → drop i h ≡ []
 drop-past i h past = nil_from_length (drop i h) (omega (arith, past, length-drop i h))
 
 -- from a place on: the block of the entry there, and those of the others
 blocks-more : (i : ℕ) (names : Names) (h : List Entry) (e : Entry) → slice_get h i ≡ Some e
-    → blocks i names (drop i h) ≡ words_of i names e ++ blocks (i + 1) (names_beyond names e.act) (drop (i + 1) h)
+    → blocks i names (drop i h) ≡ words_of false i names e ++ blocks (i + 1) (names_beyond names e.act) (drop (i + 1) h)
 unfolding blocks
 blocks-more i names h e here = ap (blocks i names) (drop-at h i e here)
 
 -- what was told, and the block behind it, leaves the others to be told
 pub blocks-next : (i : ℕ) (names beyond : Names) (h : List Entry) (e : Entry) (now next all : List ℕ)
-    → slice_get h i ≡ Some e → beyond ≡ names_beyond names e.act → next ≡ now ++ words_of i names e
+    → slice_get h i ≡ Some e → beyond ≡ names_beyond names e.act → next ≡ now ++ words_of false i names e
     → now ++ blocks i names (drop i h) ≡ all → next ++ blocks (i + 1) beyond (drop (i + 1) h) ≡ all
 blocks-next i names beyond h e now next all here noted is before =
     ap (λ t. t ++ blocks (i + 1) beyond (drop (i + 1) h)) is
-    ∙ ap (λ ns. now ++ words_of i names e ++ blocks (i + 1) ns (drop (i + 1) h)) noted
-    ∙ append_assoc now (words_of i names e) (blocks (i + 1) (names_beyond names e.act) (drop (i + 1) h))
+    ∙ ap (λ ns. now ++ words_of false i names e ++ blocks (i + 1) ns (drop (i + 1) h)) noted
+    ∙ append_assoc now (words_of false i names e) (blocks (i + 1) (names_beyond names e.act) (drop (i + 1) h))
     ∙ ap (λ t. now ++ t) (sym (blocks-more i names h e here))
     ∙ before
 

@@ -1,5 +1,5 @@
 -- Histories in words grow by a block an entry, and handles are named while they are open.
-use Rattle.std.proofs.Common.{◌≡◌, ℕ, ◌+◌, List, [], ◌∷◌, ◌++◌, length, refl, sym, ap, ◌∙◌, append_assoc, arith}
+use Rattle.std.proofs.Common.{◌≡◌, ℕ, ◌+◌, false, List, [], ◌∷◌, ◌++◌, length, refl, sym, ap, ◌∙◌, append_assoc, arith}
 use Rattle.std.proofs.lemmas.List.{append-nil}
 use Rattle.pr_num.specs.ById.{IsRising, without_id}
 use Rattle.pr_num.proofs.ByIdLaws.{under-inserted, under-inserted_other, under-without_id, under-without_id_other}
@@ -12,16 +12,16 @@ use Rattle.pr_hist.specs.Names.{Names, closed, named, names_after, names_beyond,
 
 -- the blocks of one entry more
 blocks-end : (n : ℕ) (names : Names) (es : List Entry) (e : Entry)
-    → blocks n names (es ++ e ∷ []) ≡ blocks n names es ++ words_of (n + length es) (names_behind names es) e
+    → blocks n names (es ++ e ∷ []) ≡ blocks n names es ++ words_of false (n + length es) (names_behind names es) e
 unfolding blocks names_behind
 blocks-end n names [] e =
-    append-nil (words_of n names e) ∙ ap (λ k. words_of k names e) {x = n} {y = n + 0} (omega arith)
+    append-nil (words_of false n names e) ∙ ap (λ k. words_of false k names e) {x = n} {y = n + 0} (omega arith)
 blocks-end n names (d ∷ es) e =
-    ap (λ t. words_of n names d ++ t) (blocks-end (n + 1) (names_beyond names d.act) es e)
-    ∙ sym (append_assoc (words_of n names d) (blocks (n + 1) (names_beyond names d.act) es)
-    (words_of (n + 1 + length es) (names_behind (names_beyond names d.act) es) e))
-    ∙ ap (λ k. words_of n names d ++ blocks (n + 1) (names_beyond names d.act) es
-    ++ words_of k (names_behind (names_beyond names d.act) es) e)
+    ap (λ t. words_of false n names d ++ t) (blocks-end (n + 1) (names_beyond names d.act) es e)
+    ∙ sym (append_assoc (words_of false n names d) (blocks (n + 1) (names_beyond names d.act) es)
+    (words_of false (n + 1 + length es) (names_behind (names_beyond names d.act) es) e))
+    ∙ ap (λ k. words_of false n names d ++ blocks (n + 1) (names_beyond names d.act) es
+    ++ words_of false k (names_behind (names_beyond names d.act) es) e)
     {x = n + 1 + length es} {y = n + length (d ∷ es)} (omega arith)
 
 pub text_of-none : text_of [] ≡ []
@@ -29,9 +29,9 @@ unfolding blocks
 text_of-none = refl
 
 pub text_of-end : (es : List Entry) (e : Entry)
-    → text_of (es ++ e ∷ []) ≡ text_of es ++ words_of (length es) (names_behind [] es) e
+    → text_of (es ++ e ∷ []) ≡ text_of es ++ words_of false (length es) (names_behind [] es) e
 text_of-end es e =
-    blocks-end 0 [] es e ∙ ap (λ k. text_of es ++ words_of k (names_behind [] es) e)
+    blocks-end 0 [] es e ∙ ap (λ k. text_of es ++ words_of false k (names_behind [] es) e)
     {x = 0 + length es} {y = length es} (omega arith)
 
 pub opens-named : (names : Names) (pid lwp : ℕ) (file : File) (mode : Mode) (h : ℕ)

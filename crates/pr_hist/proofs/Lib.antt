@@ -1,3 +1,6 @@
 pub mod BlockLemmas
+pub mod CellLemmas
 pub mod HistoryLaws
+pub mod LaneLemmas
 pub mod MessageLemmas
+pub mod StandLemmas

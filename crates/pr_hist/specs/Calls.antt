@@ -79,25 +79,26 @@ answering (reply.Ready h) = codes "ready: "
 answering (reply.Fail e) = []
 
 -- what was read: of a file, of the list of processes, or of memory by PCREAD
-unfoldable pub read_text : Names → Call → List ℕ → List ℕ
-read_text names (call.Read h at len) bytes = record_text (layout_in names h) at bytes
-read_text names call.List bytes = record_text layout.List 0 bytes
-read_text names _ bytes = raw_text bytes
+unfoldable pub read_text : Bool → Names → Call → List ℕ → List ℕ
+read_text full names (call.Read h at len) bytes = record_text full (layout_in names h) at bytes
+read_text full names call.List bytes = record_text full layout.List 0 bytes
+read_text full names _ bytes = raw_text bytes
 
-unfoldable pub bytes_answer : Names → Call → List ℕ → List ℕ
-bytes_answer names c bytes = size_text (length bytes) ++ read_text names c bytes
+unfoldable pub bytes_answer : Bool → Names → Call → List ℕ → List ℕ
+bytes_answer full names c bytes = size_text (length bytes) ++ read_text full names c bytes
 
 -- what comes with the answer, a row an answer
-unfoldable pub answer_text : Names → Call → Reply → List ℕ
-answer_text names c (reply.Handle h) = decimal h
-answer_text names c reply.Done = []
-answer_text names c (reply.Used n) = size_text n
-answer_text names c (reply.Half n) = until_text n
-answer_text names c (reply.Bytes bytes) = bytes_answer names c bytes
-answer_text names c (reply.Pid p) = decimal p
-answer_text names c (reply.Ready h) = handle_text names h
-answer_text names c (reply.Fail e) = refusal_text c e
+unfoldable pub answer_text : Bool → Names → Call → Reply → List ℕ
+answer_text full names c (reply.Handle h) = decimal h
+answer_text full names c reply.Done = []
+answer_text full names c (reply.Used n) = size_text n
+answer_text full names c (reply.Half n) = until_text n
+answer_text full names c (reply.Bytes bytes) = bytes_answer full names c bytes
+answer_text full names c (reply.Pid p) = decimal p
+answer_text full names c (reply.Ready h) = handle_text names h
+answer_text full names c (reply.Fail e) = refusal_text c e
 
 -- a call and its answer
-unfoldable pub call_text : Names → Call → Reply → List ℕ
-call_text names c r = calling c ++ (operands_text names c ++ (codes " -> " ++ (answering r ++ answer_text names c r)))
+unfoldable pub call_text : Bool → Names → Call → Reply → List ℕ
+call_text full names c r =
+    calling c ++ (operands_text names c ++ (codes " -> " ++ (answering r ++ answer_text full names c r)))

@@ -1,6 +1,6 @@
 -- Entries of a history in words, each in a block of its own, in their order: the number of the entry, who acted, and
 -- what that was. The first line of a block begins with the number, and any other line with blanks.
-use Rattle.std.specs.Prelude.{ℕ, ◌+◌, List, [], ◌∷◌, ◌++◌, codes, decimal}
+use Rattle.std.specs.Prelude.{ℕ, ◌+◌, Bool, false, List, [], ◌∷◌, ◌++◌, codes, decimal}
 use Rattle.pr_model.specs.declared.events.Act.{Act}
 use Rattle.pr_model.specs.declared.events.Act.TheVariants as act
 use Rattle.pr_model.specs.declared.events.Entry.{Entry}
@@ -15,20 +15,21 @@ unfoldable pub tick_text : ℕ → List ℕ
 tick_text n = codes "comes to " ++ time_text n
 
 -- what was done
-unfoldable pub act_text : Names → Act → List ℕ
-act_text names (act.Call c r) = call_text names c r
-act_text names (act.Turn t) = turn_text t
-act_text names (act.Tick n) = tick_text n
+unfoldable pub act_text : Bool → Names → Act → List ℕ
+act_text full names (act.Call c r) = call_text full names c r
+act_text full names (act.Turn t) = turn_text t
+act_text full names (act.Tick n) = tick_text n
 
--- The block of the entry of a number, where these handles are open before it.
-unfoldable pub words_of : ℕ → Names → Entry → List ℕ
-words_of n names e =
-    decimal n ++ (codes " " ++ (actor_text e.actor ++ (codes " " ++ (act_text names e.act ++ codes "\n"))))
+-- The block of the entry of a number, where these handles are open before it: of a record that was read with all
+-- fields, or with those that say something.
+unfoldable pub words_of : Bool → ℕ → Names → Entry → List ℕ
+words_of full n names e =
+    decimal n ++ (codes " " ++ (actor_text e.actor ++ (codes " " ++ (act_text full names e.act ++ codes "\n"))))
 
 -- the blocks of entries that count from a number
 unfoldable pub blocks : ℕ → Names → List Entry → List ℕ
 blocks n names [] = []
-blocks n names (e ∷ es) = words_of n names e ++ blocks (n + 1) (names_beyond names e.act) es
+blocks n names (e ∷ es) = words_of false n names e ++ blocks (n + 1) (names_beyond names e.act) es
 
 -- a history in words: no handle is open before it
 abbrev pub text_of : List Entry → List ℕ

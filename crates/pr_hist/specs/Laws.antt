@@ -1,12 +1,21 @@
 -- What holds of histories in words, said of entries and handles alone.
-use Rattle.std.specs.Prelude.{◌≡◌, ◌≢◌, ℕ, List, [], ◌∷◌, Some, None}
+use Rattle.std.specs.Prelude.{◌≡◌, ◌≢◌, ◌&&◌, ◌||◌, not, Bool, true, false, ℕ, List, [], ◌∷◌, ◌++◌, Some, None}
 use Rattle.pr_num.specs.ById.{under}
 use Rattle.pr_model.specs.declared.calls.Call.TheVariants as call
 use Rattle.pr_model.specs.declared.calls.File.{File}
 use Rattle.pr_model.specs.declared.calls.Mode.{Mode}
 use Rattle.pr_model.specs.declared.calls.Reply.TheVariants as reply
+use Rattle.pr_model.specs.declared.events.Act.{Act}
+use Rattle.pr_model.specs.declared.events.Act.TheVariants as act
+use Rattle.pr_model.specs.declared.events.Actor.{Actor}
+use Rattle.pr_model.specs.declared.events.Did.{Did}
+use Rattle.pr_model.specs.declared.events.Did.TheVariants.{Stopped, Acted}
 use Rattle.pr_model.specs.declared.events.Entry.{Entry}
+use Rattle.pr_model.specs.declared.events.How.TheVariants.{JobStop}
+use Rattle.pr_hist.specs.Lanes.{born, is_ended, is_same, is_some_same, stand_after}
 use Rattle.pr_hist.specs.Names.{Names, names_after, names_beyond}
+use Rattle.pr_hist.specs.declared.lanes.Stand.{Stand}
+use Rattle.pr_hist.specs.declared.lanes.Stand.TheVariants.{OnEvent, Requested, JobStopped}
 
 -- the handles that are open after entries, where these were open before them
 unfoldable pub names_behind : Names → List Entry → Names
@@ -24,3 +33,49 @@ pub record NamesOpened (names : Names) (pid lwp : ℕ) (file : File) (mode : Mod
 pub record NamesClosed (names : Names) (h : ℕ) : Type 0 where
   pub its_own : under h (names_after names (call.Close h) reply.Done) ≡ None
   pub others : (other : ℕ) → h ≢ other → under other (names_after names (call.Close h) reply.Done) ≡ under other names
+
+-- ---- who stands still
+
+-- whether a lane shows that its lwp stands still
+unfoldable pub stands : Stand → Bool
+stands OnEvent = true
+stands Requested = true
+stands JobStopped = true
+stands _ = false
+
+-- how an actor stands behind entries, before which it stood so
+unfoldable pub stand_behind : Actor → Stand → List Entry → Stand
+stand_behind a s [] = s
+stand_behind a s (e ∷ es) = stand_behind a (stand_after e a s) es
+
+-- whether an lwp stops in a turn: as it was directed to, or by a signal; or on what is traced
+unfoldable pub stops : Did → Bool
+stops Stopped = true
+stops (Acted s JobStop) = true
+stops _ = false
+
+abbrev pub stops_by : Act → Bool
+stops_by (act.Call c r) = false
+stops_by (act.Turn t) = t.stop || stops t.did
+stops_by (act.Tick n) = false
+
+-- whether an entry is a stop of an lwp: a turn of its own in which it stopped
+unfoldable pub is_stop : Entry → Actor → Bool
+is_stop e a = is_same e.actor a && stops_by e.act
+
+-- whether an entry leaves an lwp as it stands: it is no turn of its own, and neither makes nor ends it
+unfoldable pub leaves : Entry → Actor → Bool
+leaves e a = not (is_same e.actor a) && (not (is_some_same (born e) a) && not (is_ended e a))
+
+unfoldable pub all_leave : Actor → List Entry → Bool
+all_leave a [] = true
+all_leave a (e ∷ es) = leaves e a && all_leave a es
+
+-- An lwp stands still behind entries: one of them is a stop of it, and each one behind that leaves it so.
+pub record StoodSince (a : Actor) (es : List Entry) : Type 0 where
+  pub before : List Entry
+  pub stop : Entry
+  pub behind : List Entry
+  pub are : es ≡ before ++ stop ∷ behind
+  pub is : is_stop stop a ≡ true
+  pub left : all_leave a behind ≡ true

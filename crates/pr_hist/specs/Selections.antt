@@ -85,7 +85,7 @@ is_told s n names e = nat_le s.from n && (nat_le n s.to && is_of_any s.who names
 
 -- its block, where it is told
 unfoldable pub selected : Selection → ℕ → Names → Entry → List ℕ
-selected s n names e = if is_told s n names e then words_of n names e else []
+selected s n names e = if is_told s n names e then words_of s.full n names e else []
 
 -- the blocks of those entries that are told, which count from a number
 unfoldable pub selected_blocks : Selection → ℕ → Names → List Entry → List ℕ

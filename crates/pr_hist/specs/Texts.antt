@@ -1,5 +1,6 @@
 -- Numbers and bytes in words.
-use Rattle.std.specs.Prelude.{ℕ, ◌==◌, List, [], ◌++◌, codes, decimal, length, take, nat_lt, false, if◌then◌else◌}
+use Rattle.std.specs.Prelude.{ℕ, ◌==◌, List, [], ◌∷◌, ◌++◌, codes, decimal, length, take, nat_lt, false, if◌then◌else◌}
+use Rattle.std.specs.List.{flat_map}
 use Rattle.pr_num.specs.Limits.{shown_limit}
 use Rattle.pr_text.specs.HexWords.{digits_of_bytes}
 use Rattle.pr_text.specs.Numerals.{hex_text}
@@ -21,6 +22,13 @@ size_text n = decimal n ++ (if n == 1 then codes " byte" else codes " bytes")
 unfoldable pub digits_text : List ℕ → List ℕ
 digits_text bytes =
     digits_of_bytes (take shown_limit bytes) ++ (if nat_lt shown_limit (length bytes) then codes ".." else [])
+
+-- a word behind a blank; + parts it as a blank does
+unfoldable pub plus_as_blank : ℕ → List ℕ
+plus_as_blank b = if b == 43 then 32 ∷ [] else b ∷ []
+
+unfoldable pub spaced_text : List ℕ → List ℕ
+spaced_text word = codes " " ++ flat_map plus_as_blank word
 
 -- bytes in hex and as text
 unfoldable pub bytes_text : List ℕ → List ℕ

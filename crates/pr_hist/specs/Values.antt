@@ -1,5 +1,5 @@
 -- What a word of a record says, by its kind, with a blank before it.
-use Rattle.std.specs.Prelude.{ℕ, ◌==◌, not, Bool, true, false, Option, Some, None, List, [], ◌++◌, codes, decimal, take, if◌then◌else◌}
+use Rattle.std.specs.Prelude.{ℕ, ◌==◌, ◌||◌, not, Bool, true, false, Option, Some, None, List, [], ◌++◌, codes, decimal, take, if◌then◌else◌}
 use Rattle.std.specs.List.{before_first}
 use Rattle.pr_num.specs.Errnos.{errno_name, errno_of_number}
 use Rattle.pr_num.specs.Faults.{fault_name, fault_of_number}
@@ -139,3 +139,8 @@ says_something Place w = true
 says_something Access w = true
 says_something Rest w = false
 says_something _ w = not (w == 0)
+
+-- whether a word is told: where it says something, or where all fields are; what belongs to a name before it never is
+unfoldable pub is_shown : Bool → Kind → ℕ → Bool
+is_shown full Rest w = false
+is_shown full kind w = full || says_something kind w

@@ -12,7 +12,7 @@ use pr_num::{ById, NoMemory};
 
 /// Who acted.
 #[tactic(auto, unfolding(pr_plain::specs::HistoryText::actor_text, pr_text::specs::LwpWords::lwp_text))]
-fn write_actor(text: &mut Text, actor: Actor) -> Result<(), NoMemory>
+pub fn write_actor(text: &mut Text, actor: Actor) -> Result<(), NoMemory>
     ensures { OnOk result (text.new ≡ text.old ++ actor_text actor) }
 {
     match actor {
@@ -30,7 +30,7 @@ fn write_actor(text: &mut Text, actor: Actor) -> Result<(), NoMemory>
 }
 
 #[tactic(auto, unfolding(crate::specs::Entries::tick_text))]
-fn write_tick(text: &mut Text, n: u64) -> Result<(), NoMemory>
+pub fn write_tick(text: &mut Text, n: u64) -> Result<(), NoMemory>
     ensures { OnOk result (text.new ≡ text.old ++ tick_text n) }
 {
     text.text(b"comes to ")?;
@@ -39,33 +39,34 @@ fn write_tick(text: &mut Text, n: u64) -> Result<(), NoMemory>
 
 /// What was done.
 #[tactic(auto, unfolding(crate::specs::Entries::act_text))]
-fn write_act(text: &mut Text, names: &ById<Known>, act: &Act) -> Result<(), NoMemory>
-    ensures { OnOk result (text.new ≡ text.old ++ act_text names.now act.now) }
+fn write_act(text: &mut Text, full: bool, names: &ById<Known>, act: &Act) -> Result<(), NoMemory>
+    ensures { OnOk result (text.new ≡ text.old ++ act_text full names.now act.now) }
 {
     match act {
-        Act::Call(call, reply) => write_call(text, names, call, reply),
+        Act::Call(call, reply) => write_call(text, full, names, call, reply),
         Act::Turn(turned) => write_turn(text, *turned),
         Act::Tick(n) => write_tick(text, *n),
     }
 }
 
 /// Appends the block of the entry of a number, which counts from 0. `names` has the handles that are open before the
-/// entry, each with what it stands for.
+/// entry, each with what it stands for. `full`: all fields of a record are told, also those that say nothing.
 ///
 /// Any entry is told, also one that no machine makes.
 #[tactic(auto, unfolding(crate::specs::Entries::words_of))]
 pub fn words_of(
     text: &mut Text,
+    full: bool,
     names: &ById<Known>,
     number: usize,
     entry: &Entry,
 ) -> Result<(), NoMemory>
-    ensures { OnOk result (text.new ≡ text.old ++ words_of number names.now entry.now) }
+    ensures { OnOk result (text.new ≡ text.old ++ words_of full number names.now entry.now) }
 {
     text.decimal(number as u64)?;
     text.text(b" ")?;
     write_actor(text, entry.actor)?;
     text.text(b" ")?;
-    write_act(text, names, &entry.act)?;
+    write_act(text, full, names, &entry.act)?;
     text.text(b"\n")
 }

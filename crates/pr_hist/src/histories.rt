@@ -28,7 +28,7 @@ fn write_history(alloc: Global, text: &mut Text, history: &History) -> Result<()
     let mut names: ById<Known> = ById::new(alloc);
     for at in 0..history.len() {
         let entry = history.get(at).unwrap();
-        words_of(text, &names, at, entry)?;
+        words_of(text, false, &names, at, entry)?;
         note(&mut names, &entry.act)?;
     }
     Ok(())

@@ -1,12 +1,14 @@
 //! What holds of histories in words.
-ghost use Rattle.std.specs.Prelude.{◌≡◌, ℕ, List, [], ◌∷◌, ◌++◌, length};
+ghost use Rattle.std.specs.Prelude.{◌≡◌, ◌↔◌, true, false, ℕ, List, [], ◌∷◌, ◌++◌, length};
 ghost use Rattle.pr_num.specs.ById.{IsRising};
 ghost use Rattle.pr_model.specs.declared.calls.File.{File as AnyFile};
 ghost use Rattle.pr_model.specs.declared.calls.Mode.{Mode as AnyMode};
+ghost use Rattle.pr_model.specs.declared.events.Actor.{Actor as AnyActor};
 ghost use Rattle.pr_model.specs.declared.events.Entry.{Entry as AnyEntry};
 ghost use Rattle.pr_hist.specs.Entries.{text_of, words_of};
-ghost use Rattle.pr_hist.specs.Laws.{NamesClosed, NamesOpened, names_behind};
+ghost use Rattle.pr_hist.specs.Laws.{NamesClosed, NamesOpened, StoodSince, names_behind, stand_behind, stands};
 ghost use Rattle.pr_hist.specs.Names.{Names};
+ghost use Rattle.pr_hist.specs.declared.lanes.Stand.{Stand as AnyStand};
 
 /// A history of one entry more has one block more, at its end: so there is a block for each entry, in their order. The
 /// block is that of the entry's number, and of the handles that are open before it.
@@ -14,7 +16,7 @@ ghost use Rattle.pr_hist.specs.Names.{Names};
 pub fn a_text_grows_by_a_block()
     ensures none { text_of [] ≡ [] }
     ensures longer { (es : List AnyEntry) (e : AnyEntry)
-        → text_of (es ++ e ∷ []) ≡ text_of es ++ words_of (length es) (names_behind [] es) e }
+        → text_of (es ++ e ∷ []) ≡ text_of es ++ words_of false (length es) (names_behind [] es) e }
 {}
 
 /// A handle is named from the open that gave it to the close that was done, whatever happens to others.
@@ -22,4 +24,11 @@ pub fn handles_are_named_while_open()
     ensures opened { (names : Names) (pid lwp : ℕ) (file : AnyFile) (mode : AnyMode) (h : ℕ)
         → NamesOpened names pid lwp file mode h }
     ensures closed { (names : Names) (h : ℕ) → IsRising names → NamesClosed names h }
+{}
+
+/// A lane that shows nothing still at first shows that its lwp stands still exactly where one of the entries is a stop
+/// of it, and none behind that is a turn of its own, or makes it anew, or ends it.
+pub fn a_lane_stands_still_since_a_stop()
+    ensures { (a : AnyActor) (s : AnyStand) (es : List AnyEntry) → stands s ≡ false
+        → (stands (stand_behind a s es) ≡ true) ↔ StoodSince a es }
 {}

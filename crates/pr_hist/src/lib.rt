@@ -1,27 +1,39 @@
 //! Histories in words: each entry is told as users of truss(1) and proc(4) would tell it.
 #![tactic(auto)]
 
+mod briefs;
 mod calls;
+mod charts;
+mod drawings;
 mod entries;
 mod fields;
 mod flags;
 mod histories;
+mod lanes;
 mod laws;
 mod messages;
 mod names;
+mod operand_words;
 mod phrases;
+mod pictures;
 mod records;
 mod refusals;
 mod replies;
 mod selections;
 mod sets;
+mod spellings;
 mod texts;
 mod turns;
 mod values;
 
+pub use charts::Chart;
+pub use drawings::chart_of;
 pub use entries::words_of;
 pub use histories::{selected_text, text_of};
-pub use laws::{a_text_grows_by_a_block, handles_are_named_while_open};
+pub use laws::{
+    a_lane_stands_still_since_a_stop, a_text_grows_by_a_block, handles_are_named_while_open,
+};
 pub use names::Known;
 pub use selections::{Selection, Who};
+pub use spellings::bytes_of_line;
 pub use texts::Text;

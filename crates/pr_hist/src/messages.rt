@@ -11,7 +11,7 @@ use pr_num::{Flt, NoMemory, Sig, Sysno};
 
 /// The name of a message.
 #[tactic(auto, unfolding(crate::specs::Messages::message_name))]
-fn message_name(message: &Message) -> &'static [u8]
+pub fn message_name(message: &Message) -> &'static [u8]
     ensures { result.now ≡ message_name message.now }
 {
     match message {

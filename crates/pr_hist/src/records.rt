@@ -5,7 +5,7 @@ ghost use Rattle.pr_hist.specs.Records.{field_text, has_fields, is_raw, line_sta
 
 use crate::fields::{Kind, Layout, field_kind, field_name, starts_record};
 use crate::texts::{Text, behind};
-use crate::values::{says_something, write_value};
+use crate::values::{is_shown, write_value};
 use pr_codec::{WORD, word};
 use pr_num::NoMemory;
 
@@ -18,19 +18,20 @@ fn nth_word(bytes: &[u8], place: usize) -> u64
     word(bytes, WORD * place).unwrap()
 }
 
-/// A field by name, where its word says something.
+/// A field by name, where its word says something, or all fields are told.
 #[tactic(auto, unfolding(crate::specs::Records::field_text))]
 fn write_field(
     text: &mut Text,
+    full: bool,
     name: &[u8],
     kind: Kind,
     before: u64,
     w: u64,
     bytes: &[u8],
 ) -> Result<(), NoMemory>
-    ensures { OnOk result (text.new ≡ text.old ++ field_text name.now kind before w bytes.now) }
+    ensures { OnOk result (text.new ≡ text.old ++ field_text full name.now kind before w bytes.now) }
 {
-    if says_something(kind, w) {
+    if is_shown(full, kind, w) {
         text.text(b" ")?;
         text.text(name)?;
         write_value(text, kind, before, w, bytes)?;
@@ -61,6 +62,7 @@ fn word_before(bytes: &[u8], i: usize) -> u64
 #[tactic(auto, unfolding(crate::specs::Records::word_text))]
 fn write_word(
     text: &mut Text,
+    full: bool,
     layout: Layout,
     from: u64,
     bytes: &[u8],
@@ -68,12 +70,13 @@ fn write_word(
 ) -> Result<(), NoMemory>
     requires within { 8 * i + 8 ≤ length bytes.now }
     requires place { from + i < 2 ^ 62 }
-    ensures { OnOk result (text.new ≡ text.old ++ word_text layout from bytes.now i) }
+    ensures { OnOk result (text.new ≡ text.old ++ word_text full layout from bytes.now i) }
 {
     let place = from + i as u64;
     write_line_start(text, i == 0 || starts_record(layout, place))?;
     write_field(
         text,
+        full,
         field_name(layout, place),
         field_kind(layout, place),
         word_before(bytes, i),
@@ -85,6 +88,7 @@ fn write_word(
 /// The words of what was read.
 fn write_words(
     text: &mut Text,
+    full: bool,
     layout: Layout,
     from: u64,
     bytes: &[u8],
@@ -92,10 +96,10 @@ fn write_words(
 ) -> Result<(), NoMemory>
     requires within { 8 * count ≤ length bytes.now }
     requires place { from + count < 2 ^ 62 }
-    ensures { OnOk result (text.new ≡ text.old ++ words_text layout from bytes.now count) }
+    ensures { OnOk result (text.new ≡ text.old ++ words_text full layout from bytes.now count) }
 {
     for i in 0..count {
-        write_word(text, layout, from, bytes, i)?;
+        write_word(text, full, layout, from, bytes, i)?;
     }
     Ok(())
 }
@@ -140,11 +144,17 @@ fn has_fields(layout: Layout, at: u64, bytes: &[u8]) -> bool
 
 /// What was read of a file from a byte on.
 #[tactic(auto, unfolding(crate::specs::Records::record_text))]
-pub fn write_record(text: &mut Text, layout: Layout, at: u64, bytes: &[u8]) -> Result<(), NoMemory>
-    ensures { OnOk result (text.new ≡ text.old ++ record_text layout at bytes.now) }
+pub fn write_record(
+    text: &mut Text,
+    full: bool,
+    layout: Layout,
+    at: u64,
+    bytes: &[u8],
+) -> Result<(), NoMemory>
+    ensures { OnOk result (text.new ≡ text.old ++ record_text full layout at bytes.now) }
 {
     if has_fields(layout, at, bytes) {
-        write_words(text, layout, at / 8, bytes, bytes.len() / 8)
+        write_words(text, full, layout, at / 8, bytes, bytes.len() / 8)
     } else {
         write_raw(text, bytes)
     }

@@ -32,15 +32,22 @@ fn answering(reply: &Reply) -> &'static [u8]
 #[tactic(auto, unfolding(crate::specs::Calls::read_text))]
 fn write_read(
     text: &mut Text,
+    full: bool,
     names: &ById<Known>,
     call: &Call,
     bytes: &[u8],
 ) -> Result<(), NoMemory>
-    ensures { OnOk result (text.new ≡ text.old ++ read_text names.now call.now bytes.now) }
+    ensures { OnOk result (text.new ≡ text.old ++ read_text full names.now call.now bytes.now) }
 {
     match call {
-        Call::Read { handle, at, .. } => write_record(text, layout_in(names, *handle), *at, bytes),
-        Call::List => write_record(text, Layout::List, 0, bytes),
+        Call::Read { handle, at, .. } => write_record(
+            text,
+            full,
+            layout_in(names, *handle),
+            *at,
+            bytes,
+        ),
+        Call::List => write_record(text, full, Layout::List, 0, bytes),
         Call::Open { .. }
         | Call::Close { .. }
         | Call::Ctl { .. }
@@ -56,32 +63,34 @@ fn write_read(
 #[tactic(auto, unfolding(crate::specs::Calls::bytes_answer))]
 fn write_bytes(
     text: &mut Text,
+    full: bool,
     names: &ById<Known>,
     call: &Call,
     bytes: &[u8],
 ) -> Result<(), NoMemory>
-    ensures { OnOk result (text.new ≡ text.old ++ bytes_answer names.now call.now bytes.now) }
+    ensures { OnOk result (text.new ≡ text.old ++ bytes_answer full names.now call.now bytes.now) }
 {
     text.size(bytes.len() as u64)?;
-    write_read(text, names, call, bytes)
+    write_read(text, full, names, call, bytes)
 }
 
 /// What comes with the answer.
 #[tactic(auto, unfolding(crate::specs::Calls::answer_text))]
 fn write_answer(
     text: &mut Text,
+    full: bool,
     names: &ById<Known>,
     call: &Call,
     reply: &Reply,
 ) -> Result<(), NoMemory>
-    ensures { OnOk result (text.new ≡ text.old ++ answer_text names.now call.now reply.now) }
+    ensures { OnOk result (text.new ≡ text.old ++ answer_text full names.now call.now reply.now) }
 {
     match reply {
         Reply::Handle(handle) => text.decimal(u64::from(*handle)),
         Reply::Done => Ok(()),
         Reply::Used(n) => text.size(*n),
         Reply::Half(until) => write_until(text, *until),
-        Reply::Bytes(bytes) => write_bytes(text, names, call, bytes.as_slice()),
+        Reply::Bytes(bytes) => write_bytes(text, full, names, call, bytes.as_slice()),
         Reply::Pid(pid) => text.decimal(u64::from(*pid)),
         Reply::Ready(handle) => write_handle(text, names, *handle),
         Reply::Fail(errno) => write_refusal(text, call, *errno),
@@ -92,15 +101,16 @@ fn write_answer(
 #[tactic(auto, unfolding(crate::specs::Calls::call_text))]
 pub fn write_call(
     text: &mut Text,
+    full: bool,
     names: &ById<Known>,
     call: &Call,
     reply: &Reply,
 ) -> Result<(), NoMemory>
-    ensures { OnOk result (text.new ≡ text.old ++ call_text names.now call.now reply.now) }
+    ensures { OnOk result (text.new ≡ text.old ++ call_text full names.now call.now reply.now) }
 {
     text.text(calling(call))?;
     write_operands(text, names, call)?;
     text.text(b" -> ")?;
     text.text(answering(reply))?;
-    write_answer(text, names, call, reply)
+    write_answer(text, full, names, call, reply)
 }

@@ -29,6 +29,8 @@ pub struct Selection {
     pub from: u64,
     /// Up to and with the entry of this number.
     pub to: u64,
+    /// Whether all fields of a record are told, also those that say nothing.
+    pub full: bool,
 }
 
 /// Whether a handle stands for a file of a process or of its lwps.
@@ -151,7 +153,7 @@ fn is_of_any(who: Option<Who>, names: &ById<Known>, entry: &Entry) -> bool
 
 /// Whether an entry is told.
 #[tactic(auto, unfolding(crate::specs::Selections::is_told))]
-fn is_told(selection: Selection, number: usize, names: &ById<Known>, entry: &Entry) -> bool
+pub fn is_told(selection: Selection, number: usize, names: &ById<Known>, entry: &Entry) -> bool
     ensures { result ≡ is_told selection number names.now entry.now }
 {
     selection.from <= number as u64
@@ -170,7 +172,7 @@ pub fn write_selected(
     ensures { OnOk result (text.new ≡ text.old ++ selected selection number names.now entry.now) }
 {
     if is_told(selection, number, names, entry) {
-        words_of(text, names, number, entry)
+        words_of(text, selection.full, names, number, entry)
     } else {
         Ok(())
     }

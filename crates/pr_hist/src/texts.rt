@@ -1,10 +1,11 @@
 //! A text that is being written.
 ghost use Rattle.std.specs.Prelude.{◌≡◌, ◌++◌, [], false, decimal, drop, take, IfOk, OnOk};
+ghost use Rattle.std.specs.List.{flat_map};
 ghost use Rattle.pr_num.specs.Limits.{shown_limit};
 ghost use Rattle.pr_text.specs.HexWords.{byte_digits, digits_of_bytes};
 ghost use Rattle.pr_text.specs.Numerals.{hex_text};
 ghost use Rattle.pr_text.specs.Quotes.{quoted_text};
-ghost use Rattle.pr_hist.specs.Texts.{bytes_text, digits_text, number_text, size_text, time_text};
+ghost use Rattle.pr_hist.specs.Texts.{bytes_text, digits_text, number_text, plus_as_blank, size_text, spaced_text, time_text};
 
 use pr_num::limits::SHOWN_LIMIT;
 use pr_num::{Bytes, NoMemory};
@@ -71,6 +72,13 @@ impl Text {
         ensures { result ≡ self }
     {
         Bytes::from_vec(self.bytes)
+    }
+
+    /// The bytes so far.
+    pub fn as_slice(&self) -> &[u8]
+        ensures { result.now ≡ self.now }
+    {
+        &self.bytes
     }
 
     /// Appends bytes as they are.
@@ -157,13 +165,43 @@ impl Text {
     }
 
     /// Appends bytes in hex.
-    fn hex_bytes(&mut self, bytes: &[u8]) -> Result<(), NoMemory>
+    pub fn hex_bytes(&mut self, bytes: &[u8]) -> Result<(), NoMemory>
         ensures { OnOk result (self.new ≡ self.old ++ digits_of_bytes bytes.now) }
     {
         for byte in bytes {
             self.hex_byte(*byte)?;
         }
         Ok(())
+    }
+
+    /// Appends a byte of a word.
+    #[tactic(auto, unfolding(crate::specs::Texts::plus_as_blank))]
+    fn plus_as_blank(&mut self, byte: u8) -> Result<(), NoMemory>
+        ensures { OnOk result (self.new ≡ self.old ++ plus_as_blank byte) }
+    {
+        if byte == b'+' {
+            self.text(b" ")
+        } else {
+            self.text(&[byte])
+        }
+    }
+
+    fn plus_as_blanks(&mut self, bytes: &[u8]) -> Result<(), NoMemory>
+        ensures { OnOk result (self.new ≡ self.old ++ flat_map plus_as_blank bytes.now) }
+    {
+        for byte in bytes {
+            self.plus_as_blank(*byte)?;
+        }
+        Ok(())
+    }
+
+    /// Appends a word behind a blank; `+` parts it as a blank does.
+    #[tactic(auto, unfolding(crate::specs::Texts::spaced_text))]
+    pub fn spaced(&mut self, word: &[u8]) -> Result<(), NoMemory>
+        ensures { OnOk result (self.new ≡ self.old ++ spaced_text word.now) }
+    {
+        self.text(b" ")?;
+        self.plus_as_blanks(word)
     }
 
     /// Appends bytes in hex, as many as a quoted text shows.

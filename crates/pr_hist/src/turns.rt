@@ -22,7 +22,7 @@ fn acting(how: How) -> &'static [u8]
 
 /// What an lwp does in a turn.
 #[tactic(auto, unfolding(crate::specs::Turns::doing))]
-fn doing(did: Did) -> &'static [u8]
+pub fn doing(did: Did) -> &'static [u8]
     ensures { result.now ≡ doing did }
 {
     match did {
@@ -42,7 +42,7 @@ fn doing(did: Did) -> &'static [u8]
 
 /// To what: a system call, a fault or a signal by name.
 #[tactic(auto, unfolding(crate::specs::Turns::object))]
-fn object(did: Did) -> &'static [u8]
+pub fn object(did: Did) -> &'static [u8]
     ensures { result.now ≡ object did }
 {
     match did {
@@ -80,7 +80,7 @@ fn write_result(text: &mut Text, res: Res) -> Result<(), NoMemory>
 
 /// What came of a turn.
 #[tactic(auto, unfolding(crate::specs::Turns::outcome_text))]
-fn write_outcome(text: &mut Text, did: Did) -> Result<(), NoMemory>
+pub fn write_outcome(text: &mut Text, did: Did) -> Result<(), NoMemory>
     ensures { OnOk result (text.new ≡ text.old ++ outcome_text did) }
 {
     match did {

@@ -2,7 +2,7 @@
 ghost use Rattle.std.specs.Prelude.{◌≡◌, ◌++◌, OnOk};
 ghost use Rattle.std.specs.List.{before_first};
 ghost use Rattle.pr_num.specs.Padding.{is_zero};
-ghost use Rattle.pr_hist.specs.Values.{access_text, call_text, count_text, descriptor_text, disposition_text, errno_text, fault_text, handler_text, mapping_text, name_text, origin_text, plain_text, says_something, value_text, what_for, what_text, why_text};
+ghost use Rattle.pr_hist.specs.Values.{access_text, call_text, count_text, descriptor_text, disposition_text, errno_text, fault_text, handler_text, is_shown, mapping_text, name_text, origin_text, plain_text, says_something, value_text, what_for, what_text, why_text};
 
 use crate::fields::Kind;
 use crate::flags::{lwp_flags, process_flags, protection, watch_flags};
@@ -233,7 +233,7 @@ pub fn write_value(
 
 /// Whether a word says something.
 #[tactic(auto, unfolding(crate::specs::Values::says_something))]
-pub fn says_something(kind: Kind, w: u64) -> bool
+fn says_something(kind: Kind, w: u64) -> bool
     ensures { result ≡ says_something kind w }
 {
     match kind {
@@ -261,5 +261,39 @@ pub fn says_something(kind: Kind, w: u64) -> bool
         | Kind::MappingKind
         | Kind::DescriptorKind
         | Kind::Name => w != 0,
+    }
+}
+
+/// Whether a word is told: where it says something, or where all fields are.
+#[tactic(auto, unfolding(crate::specs::Values::is_shown))]
+pub fn is_shown(full: bool, kind: Kind, w: u64) -> bool
+    ensures { result ≡ is_shown full kind w }
+{
+    match kind {
+        Kind::Rest => false,
+        Kind::Place
+        | Kind::Access
+        | Kind::Count
+        | Kind::Number
+        | Kind::Address
+        | Kind::LwpFlags
+        | Kind::ProcessFlags
+        | Kind::WatchFlags
+        | Kind::Protection
+        | Kind::Why
+        | Kind::What
+        | Kind::Signal
+        | Kind::Fault
+        | Kind::Call
+        | Kind::Errno
+        | Kind::Signals
+        | Kind::Faults
+        | Kind::Calls
+        | Kind::Disposition
+        | Kind::Handler
+        | Kind::Origin
+        | Kind::MappingKind
+        | Kind::DescriptorKind
+        | Kind::Name => full || says_something(kind, w),
     }
 }

@@ -4,4 +4,4 @@ use Rattle.pr_hist.proofs.records.write_words.Given as goal
 
 -- the words so far
 abbrev pub invariant-loop-i : goal.invariant-loop-i
-invariant-loop-i l = l.text ≡ l.fn.text ++ words_text l.layout l.from l.bytes l.i
+invariant-loop-i l = l.text ≡ l.fn.text ++ words_text l.full l.layout l.from l.bytes l.i

@@ -1,0 +1,9 @@
+use Rattle.std.proofs.Common.{◌≡◌, map, drop}
+use Rattle.std.specs.List.{list_all}
+use Rattle.pr_hist.specs.OperandWords.{is_number}
+use Rattle.pr_hist.proofs.operand_words.all_numbers.Given as goal
+
+-- the operands so far are such
+abbrev pub invariant-loop-op : goal.invariant-loop-op
+invariant-loop-op l =
+    list_all is_number (map (λ op. op.now) (drop l.op-index l.ops)) ≡ list_all is_number (map (λ op. op.now) l.ops)

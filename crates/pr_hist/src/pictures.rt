@@ -1,0 +1,432 @@
+//! The picture of a history in SVG 1.1.
+ghost use Rattle.std.specs.Prelude.{◌≡◌, ◌++◌, OnOk};
+ghost use Rattle.pr_hist.specs.Pictures.{across, act_if, arrow, arrow_if, arrow_tip, bar, bar_kind, bar_of, dot, down, escaped, escaped_byte, label, label_place, label_words, legend_back, legend_front, picture_cell, picture_foot, picture_head, picture_legend, picture_name, picture_page, picture_row, picture_size, piece_text, point, row_number, row_title, styles};
+
+use crate::charts::Marks;
+use crate::lanes::Stand;
+use crate::texts::{Text, front};
+use pr_num::NoMemory;
+
+/// A fixed text between what is drawn, by its name.
+#[derive(Clone, Copy, Debug, PartialEq, Eq)]
+pub enum Piece {
+    Open,
+    Height,
+    Font,
+    StyleText,
+    StyleRuns,
+    StyleStops,
+    StyleOthers,
+    StyleEnds,
+    Page,
+    LegendRuns,
+    LegendNew,
+    LegendEvent,
+    LegendRequested,
+    LegendAsleep,
+    LegendJob,
+    LegendEnds,
+    Close,
+    RowTitle,
+    RowNumber,
+    RowEnd,
+    Bar,
+    From,
+    Down,
+    Arrow,
+    Across,
+    Tip,
+    Head,
+    Dot,
+    DotRow,
+    Shut,
+    Label,
+    LabelRow,
+    TextOpen,
+    TextEnd,
+    Name,
+}
+
+#[tactic(auto, unfolding(crate::specs::Pictures::piece_text))]
+fn bytes_of(piece: Piece) -> &'static [u8]
+    ensures { result.now ≡ piece_text piece }
+{
+    match piece {
+        Piece::Open => b"<svg xmlns='http://www.w3.org/2000/svg' version='1.1' width='",
+        Piece::Height => b"' height='",
+        Piece::Font => b"' font-family='monospace' font-size='11'>\n<style>\n",
+        Piece::StyleText => b"text,circle{fill:#222}path{fill:none}.t{fill:#2d6a4f}\n",
+        Piece::StyleRuns => b".r,.n{stroke:#8a8f98;stroke-width:2}.n{stroke-dasharray:2 3}\n",
+        Piece::StyleStops =>
+            b".e{stroke:#c0392b;stroke-width:8}.q{stroke:#e09f1f;stroke-width:8}\n",
+        Piece::StyleOthers =>
+            b".j{stroke:#7d3c98;stroke-width:8}.s{stroke:#3f7fbf;stroke-width:4;stroke-dasharray:3}\n",
+        Piece::StyleEnds =>
+            b".x{stroke:#222;stroke-width:5;stroke-dasharray:2 2}.m{stroke:#2d6a4f}\n</style>\n",
+        Piece::Page => b"<rect width='100%' height='100%' fill='#fdfcf8'/>\n",
+        Piece::LegendRuns => b"<path class='r' d='M12 10v18'/><text x='22' y='23'>runs</text>\n",
+        Piece::LegendNew =>
+            b"<path class='n' d='M72 10v18'/><text x='82' y='23'>made, no turn yet</text>\n",
+        Piece::LegendEvent =>
+            b"<path class='e' d='M212 10v18'/><text x='222' y='23'>stopped on an event</text>\n",
+        Piece::LegendRequested =>
+            b"<path class='q' d='M372 10v18'/><text x='382' y='23'>on request</text>\n",
+        Piece::LegendAsleep =>
+            b"<path class='s' d='M532 10v18'/><text x='542' y='23'>asleep</text>\n",
+        Piece::LegendJob =>
+            b"<path class='j' d='M602 10v18'/><text x='612' y='23'>stopped by a signal</text>\n",
+        Piece::LegendEnds => b"<path class='x' d='M762 10v18'/><text x='772' y='23'>ends</text>\n",
+        Piece::Close => b"</svg>\n",
+        Piece::RowTitle => b"<g><title>",
+        Piece::RowNumber => b"</title><text x='8' dy='4' y='",
+        Piece::RowEnd => b"</g>\n",
+        Piece::Bar => b"<path class='",
+        Piece::From => b"' d='M",
+        Piece::Down => b"v22'/>",
+        Piece::Arrow => b"<path class='m' d='M",
+        Piece::Across => b"h180'/>",
+        Piece::Tip => b"<path class='t' d='M",
+        Piece::Head => b"m176 0l-9-4v8z'/>",
+        Piece::Dot => b"<circle r='4' cx='",
+        Piece::DotRow => b"' cy='",
+        Piece::Shut => b"'/>",
+        Piece::Label => b"<text dx='9' dy='-4' x='",
+        Piece::LabelRow => b"' y='",
+        Piece::TextOpen => b"'>",
+        Piece::TextEnd => b"</text>",
+        Piece::Name => b"<text y='58' font-weight='bold' text-anchor='middle' x='",
+    }
+}
+
+impl Text {
+    /// Appends a fixed text.
+    fn piece(&mut self, piece: Piece) -> Result<(), NoMemory>
+        ensures { OnOk result (self.new ≡ self.old ++ piece_text piece) }
+    {
+        self.text(bytes_of(piece))
+    }
+
+    #[tactic(auto, unfolding(crate::specs::Pictures::escaped_byte))]
+    fn escaped_byte(&mut self, byte: u8) -> Result<(), NoMemory>
+        ensures { OnOk result (self.new ≡ self.old ++ escaped_byte byte) }
+    {
+        if byte == b'&' {
+            self.text(b"&amp;")
+        } else if byte == b'<' {
+            self.text(b"&lt;")
+        } else if byte == b'>' {
+            self.text(b"&gt;")
+        } else {
+            self.text(&[byte])
+        }
+    }
+
+    /// Appends text in XML.
+    #[tactic(auto, unfolding(crate::specs::Pictures::escaped))]
+    fn escaped(&mut self, bytes: &[u8]) -> Result<(), NoMemory>
+        ensures { OnOk result (self.new ≡ self.old ++ escaped bytes.now) }
+    {
+        for byte in bytes {
+            self.escaped_byte(*byte)?;
+        }
+        Ok(())
+    }
+
+    /// Appends where a column stands.
+    #[tactic(auto, unfolding(crate::specs::Pictures::across))]
+    fn across(&mut self, column: u64) -> Result<(), NoMemory>
+        ensures { OnOk result (self.new ≡ self.old ++ across column) }
+    {
+        self.decimal(80 + 180 * column.min(10_000))
+    }
+
+    /// Appends where a row stands.
+    #[tactic(auto, unfolding(crate::specs::Pictures::down))]
+    fn down(&mut self, row: u64) -> Result<(), NoMemory>
+        ensures { OnOk result (self.new ≡ self.old ++ down row) }
+    {
+        self.decimal(84 + 22 * row.min(5_000))
+    }
+
+    #[tactic(auto, unfolding(crate::specs::Pictures::point))]
+    fn point(&mut self, row: u64, column: u64) -> Result<(), NoMemory>
+        ensures { OnOk result (self.new ≡ self.old ++ point row column) }
+    {
+        self.across(column)?;
+        self.text(b" ")?;
+        self.down(row)
+    }
+}
+
+/// The kind of a bar, by how its lane stands.
+#[tactic(auto, unfolding(crate::specs::Pictures::bar_kind))]
+fn bar_kind(stand: Stand) -> &'static [u8]
+    ensures { result.now ≡ bar_kind stand }
+{
+    match stand {
+        Stand::Absent => b"",
+        Stand::New => b"n",
+        Stand::Runs => b"r",
+        Stand::OnEvent => b"e",
+        Stand::Requested => b"q",
+        Stand::Asleep => b"s",
+        Stand::JobStopped => b"j",
+        Stand::Ends => b"x",
+    }
+}
+
+#[tactic(auto, unfolding(crate::specs::Pictures::bar_of))]
+fn write_bar_of(text: &mut Text, row: u64, column: u64, kind: &[u8]) -> Result<(), NoMemory>
+    ensures { OnOk result (text.new ≡ text.old ++ bar_of row column kind.now) }
+{
+    text.piece(Piece::Bar)?;
+    text.text(kind)?;
+    text.piece(Piece::From)?;
+    text.point(row, column)?;
+    text.piece(Piece::Down)
+}
+
+/// A bar, where there is an lwp.
+#[tactic(auto, unfolding(crate::specs::Pictures::bar))]
+fn write_bar(text: &mut Text, row: u64, column: u64, stand: Stand) -> Result<(), NoMemory>
+    ensures { OnOk result (text.new ≡ text.old ++ bar row column stand) }
+{
+    match stand {
+        Stand::Absent => Ok(()),
+        Stand::New
+        | Stand::Runs
+        | Stand::OnEvent
+        | Stand::Requested
+        | Stand::Asleep
+        | Stand::JobStopped
+        | Stand::Ends => write_bar_of(text, row, column, bar_kind(stand)),
+    }
+}
+
+/// The part of an arrow behind a lane.
+#[tactic(auto, unfolding(crate::specs::Pictures::arrow))]
+fn write_arrow(text: &mut Text, row: u64, column: u64) -> Result<(), NoMemory>
+    ensures { OnOk result (text.new ≡ text.old ++ arrow row column) }
+{
+    text.piece(Piece::Arrow)?;
+    text.point(row, column)?;
+    text.piece(Piece::Across)
+}
+
+#[tactic(auto, unfolding(crate::specs::Pictures::arrow_tip))]
+fn write_arrow_tip(text: &mut Text, row: u64, column: u64) -> Result<(), NoMemory>
+    ensures { OnOk result (text.new ≡ text.old ++ arrow_tip row column) }
+{
+    text.piece(Piece::Tip)?;
+    text.point(row, column)?;
+    text.piece(Piece::Head)
+}
+
+#[tactic(auto, unfolding(crate::specs::Pictures::dot))]
+fn write_dot(text: &mut Text, row: u64, column: u64) -> Result<(), NoMemory>
+    ensures { OnOk result (text.new ≡ text.old ++ dot row column) }
+{
+    text.piece(Piece::Dot)?;
+    text.across(column)?;
+    text.piece(Piece::DotRow)?;
+    text.down(row)?;
+    text.piece(Piece::Shut)
+}
+
+#[tactic(auto, unfolding(crate::specs::Pictures::label_place))]
+fn write_label_place(text: &mut Text, row: u64, column: u64) -> Result<(), NoMemory>
+    ensures { OnOk result (text.new ≡ text.old ++ label_place row column) }
+{
+    text.piece(Piece::Label)?;
+    text.across(column)?;
+    text.piece(Piece::LabelRow)?;
+    text.down(row)
+}
+
+#[tactic(auto, unfolding(crate::specs::Pictures::label_words))]
+fn write_label_words(text: &mut Text, words: &[u8]) -> Result<(), NoMemory>
+    ensures { OnOk result (text.new ≡ text.old ++ label_words words.now) }
+{
+    text.piece(Piece::TextOpen)?;
+    text.escaped(front(words, 25))?;
+    text.piece(Piece::TextEnd)
+}
+
+#[tactic(auto, unfolding(crate::specs::Pictures::label))]
+fn write_label(text: &mut Text, row: u64, column: u64, words: &[u8]) -> Result<(), NoMemory>
+    ensures { OnOk result (text.new ≡ text.old ++ label row column words.now) }
+{
+    write_label_place(text, row, column)?;
+    write_label_words(text, words)
+}
+
+#[tactic(auto, unfolding(crate::specs::Pictures::arrow_if))]
+fn write_arrow_if(text: &mut Text, row: u64, column: u64, marks: Marks) -> Result<(), NoMemory>
+    ensures { OnOk result (text.new ≡ text.old ++ arrow_if row column marks) }
+{
+    if !marks.arrow {
+        return Ok(());
+    }
+    write_arrow(text, row, column)?;
+    if marks.tip {
+        write_arrow_tip(text, row, column)
+    } else {
+        Ok(())
+    }
+}
+
+#[tactic(auto, unfolding(crate::specs::Pictures::act_if))]
+fn write_act_if(
+    text: &mut Text,
+    row: u64,
+    column: u64,
+    marks: Marks,
+    words: &[u8],
+) -> Result<(), NoMemory>
+    ensures { OnOk result (text.new ≡ text.old ++ act_if row column marks words.now) }
+{
+    if !marks.acts {
+        return Ok(());
+    }
+    write_dot(text, row, column)?;
+    write_label(text, row, column, words)
+}
+
+/// A cell: a bar by how its lane stands, a part of an arrow, and who acted.
+#[tactic(auto, unfolding(crate::specs::Pictures::picture_cell))]
+pub fn write_picture_cell(
+    text: &mut Text,
+    row: u64,
+    column: u64,
+    marks: Marks,
+    stand: Stand,
+    words: &[u8],
+) -> Result<(), NoMemory>
+    ensures { OnOk result (text.new ≡ text.old ++ picture_cell row column marks stand words.now) }
+{
+    write_bar(text, row, column, stand)?;
+    write_arrow_if(text, row, column, marks)?;
+    write_act_if(text, row, column, marks, words)
+}
+
+#[tactic(auto, unfolding(crate::specs::Pictures::row_title))]
+fn write_row_title(text: &mut Text, words: &[u8]) -> Result<(), NoMemory>
+    ensures { OnOk result (text.new ≡ text.old ++ row_title words.now) }
+{
+    text.piece(Piece::RowTitle)?;
+    text.escaped(words)
+}
+
+#[tactic(auto, unfolding(crate::specs::Pictures::row_number))]
+fn write_row_number(text: &mut Text, row: u64, number: u64) -> Result<(), NoMemory>
+    ensures { OnOk result (text.new ≡ text.old ++ row_number row number) }
+{
+    text.piece(Piece::RowNumber)?;
+    text.down(row)?;
+    text.piece(Piece::TextOpen)?;
+    text.decimal(number)?;
+    text.piece(Piece::TextEnd)
+}
+
+/// A row: its title, the number of the entry, and the cells.
+#[tactic(auto, unfolding(crate::specs::Pictures::picture_row))]
+pub fn write_picture_row(
+    text: &mut Text,
+    row: u64,
+    number: u64,
+    words: &[u8],
+    drawn: &[u8],
+) -> Result<(), NoMemory>
+    ensures { OnOk result (text.new ≡ text.old ++ picture_row row number words.now drawn.now) }
+{
+    write_row_title(text, words)?;
+    write_row_number(text, row, number)?;
+    text.text(drawn)?;
+    text.piece(Piece::RowEnd)
+}
+
+/// The name of a lane.
+#[tactic(auto, unfolding(crate::specs::Pictures::picture_name))]
+pub fn write_picture_name(text: &mut Text, column: u64, name: &[u8]) -> Result<(), NoMemory>
+    ensures { OnOk result (text.new ≡ text.old ++ picture_name column name.now) }
+{
+    text.piece(Piece::Name)?;
+    text.across(column)?;
+    text.piece(Piece::TextOpen)?;
+    text.text(name)?;
+    text.piece(Piece::TextEnd)
+}
+
+#[tactic(auto, unfolding(crate::specs::Pictures::styles))]
+fn write_styles(text: &mut Text) -> Result<(), NoMemory>
+    ensures { OnOk result (text.new ≡ text.old ++ styles) }
+{
+    text.piece(Piece::StyleText)?;
+    text.piece(Piece::StyleRuns)?;
+    text.piece(Piece::StyleStops)?;
+    text.piece(Piece::StyleOthers)?;
+    text.piece(Piece::StyleEnds)
+}
+
+#[tactic(auto, unfolding(crate::specs::Pictures::legend_front))]
+fn write_legend_front(text: &mut Text) -> Result<(), NoMemory>
+    ensures { OnOk result (text.new ≡ text.old ++ legend_front) }
+{
+    text.piece(Piece::LegendRuns)?;
+    text.piece(Piece::LegendNew)?;
+    text.piece(Piece::LegendEvent)?;
+    text.piece(Piece::LegendRequested)
+}
+
+#[tactic(auto, unfolding(crate::specs::Pictures::legend_back))]
+fn write_legend_back(text: &mut Text) -> Result<(), NoMemory>
+    ensures { OnOk result (text.new ≡ text.old ++ legend_back) }
+{
+    text.piece(Piece::LegendAsleep)?;
+    text.piece(Piece::LegendJob)?;
+    text.piece(Piece::LegendEnds)
+}
+
+#[tactic(auto, unfolding(crate::specs::Pictures::picture_legend))]
+fn write_legend(text: &mut Text) -> Result<(), NoMemory>
+    ensures { OnOk result (text.new ≡ text.old ++ picture_legend) }
+{
+    write_legend_front(text)?;
+    write_legend_back(text)
+}
+
+#[tactic(auto, unfolding(crate::specs::Pictures::picture_size))]
+fn write_size(text: &mut Text, rows: u64, lanes: u64) -> Result<(), NoMemory>
+    ensures { OnOk result (text.new ≡ text.old ++ picture_size rows lanes) }
+{
+    text.piece(Piece::Open)?;
+    text.across(lanes.max(4))?;
+    text.piece(Piece::Height)?;
+    text.down(rows)
+}
+
+#[tactic(auto, unfolding(crate::specs::Pictures::picture_page))]
+fn write_page(text: &mut Text) -> Result<(), NoMemory>
+    ensures { OnOk result (text.new ≡ text.old ++ picture_page) }
+{
+    text.piece(Piece::Font)?;
+    write_styles(text)?;
+    text.piece(Piece::Page)?;
+    write_legend(text)
+}
+
+/// The head of a picture of so many rows and lanes.
+#[tactic(auto, unfolding(crate::specs::Pictures::picture_head))]
+pub fn write_picture_head(text: &mut Text, rows: u64, lanes: u64) -> Result<(), NoMemory>
+    ensures { OnOk result (text.new ≡ text.old ++ picture_head rows lanes) }
+{
+    write_size(text, rows, lanes)?;
+    write_page(text)
+}
+
+#[tactic(auto, unfolding(crate::specs::Pictures::picture_foot))]
+pub fn write_picture_foot(text: &mut Text) -> Result<(), NoMemory>
+    ensures { OnOk result (text.new ≡ text.old ++ picture_foot) }
+{
+    text.piece(Piece::Close)
+}
